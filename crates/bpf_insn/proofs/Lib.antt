@@ -1,0 +1,4 @@
+pub mod Places
+pub mod DddLemmas
+pub mod DigitLemmas
+pub mod PieceLemmas

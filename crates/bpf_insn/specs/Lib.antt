@@ -1,0 +1,5 @@
+pub mod Texts
+pub mod Table
+pub mod Program
+pub mod Ddd
+pub mod Parts

@@ -1,0 +1,166 @@
+//! The decimal text of a program, as `tcpdump -ddd` writes it.
+
+ghost use Rattle.std.specs.Prelude.{◌≡◌, ◌≢◌, ◌≤◌, ◌<◌, ◌+◌, ◌^◌, ◌⊎◌, ◌∷◌, [], ℕ, List, Some, length, min, IfOk, IfErr, MatchOption};
+ghost use Rattle.std.specs.Option.{option_copied};
+ghost use Rattle.bpf_insn.specs.Ddd.{Ddd, Faults, IsInsn, IsPieces, SpellsCount, SpellsInsn};
+ghost use Rattle.bpf_insn.specs.Parts.{IsBadAt, SpellsFirst, StartsWithNumber, parts_of};
+ghost use Rattle.bpf_insn.specs.Texts.{number_of, words_of};
+
+use crate::Insn;
+use crate::number::{HUGE, number};
+use crate::pieces::{first_piece, first_word};
+use std::alloc::{AllocError, AllocFailed, Global};
+
+/// The most instructions that a program has.
+const MOST: u64 = 4096;
+
+/// Why a text spells no program.
+#[derive(Clone, Copy, Debug, PartialEq, Eq)]
+pub enum TextFault {
+    /// The piece at this place is not what the format wants there.
+    BadNumber(u32),
+    /// The count differs from the number of instructions.
+    CountMismatch,
+    /// The count is above the limit.
+    TooLong,
+    /// Memory ran out.
+    NoMemory,
+}
+
+impl From<AllocError> for TextFault {
+    ghost use Rattle.bpf_insn.specs.declared.ddd.TextFault.TheVariants.{NoMemory};
+
+    ghost from_gives = { λ _ e. e ≡ NoMemory };
+
+    fn from(_error: AllocError) -> TextFault {
+        TextFault::NoMemory
+    }
+}
+
+impl<T: Drop> From<AllocFailed<T>> for TextFault {
+    ghost use Rattle.bpf_insn.specs.declared.ddd.TextFault.TheVariants.{NoMemory};
+
+    ghost from_gives = { λ _ e. e ≡ NoMemory };
+
+    fn from(_error: AllocFailed<T>) -> TextFault {
+        TextFault::NoMemory
+    }
+}
+
+/// The program that a decimal text spells.
+pub fn read_ddd(alloc: Global, text: &[u8]) -> Result<Vec<Insn>, TextFault>
+    ensures spelled { IfOk result (λ program. Ddd text.now program.items) }
+    ensures fault { IfErr result (λ fault. (fault ≡ TextFault.NoMemory) ⊎ Faults text.now fault) }
+{
+    let number = piece_count(text);
+    if number == 0 {
+        return Err(TextFault::BadNumber(0));
+    }
+    let (first, rest) = first_piece(text);
+    let count = count_of(first).ok_or(TextFault::BadNumber(0))?;
+    if count > MOST {
+        return Err(TextFault::TooLong);
+    }
+    if count as usize != number - 1 {
+        return Err(TextFault::CountMismatch);
+    }
+    match read_insns(alloc, rest, number - 1) {
+        Ok(program) => Ok(program),
+        Err(fault) => Err(fault),
+    }
+}
+
+/// The instructions in the next pieces, the first of which is piece 1.
+fn read_insns(alloc: Global, rest: Option<&[u8]>, count: usize) -> Result<Vec<Insn>, TextFault>
+    requires within { count ≤ length (parts_of (option_copied rest)) }
+    requires short { count ≤ 4096 }
+    ensures spelled { IfOk result (λ program. SpellsFirst (parts_of (option_copied rest.entry)) count program.items) }
+    ensures fault { IfErr result (λ fault. (fault ≡ TextFault.NoMemory)
+        ⊎ ((place : ℕ) × (fault ≡ TextFault.BadNumber place) × IsBadAt (parts_of (option_copied rest.entry)) count place)) }
+{
+    let mut program = Vec::with_capacity(alloc, count)?;
+    let mut left = rest;
+    for place in 0..count {
+        let Some(text) = left else { unreachable!() };
+        let (piece, more) = first_piece(text);
+        left = more;
+        match insn_of(piece) {
+            Some(insn) => program.push(insn)?,
+            None => return Err(TextFault::BadNumber(place as u32 + 1)),
+        }
+    }
+    Ok(program)
+}
+
+/// How many pieces a text has, without the empty ones at its end.
+fn piece_count(text: &[u8]) -> usize
+    ensures { (pieces : List (List (List ℕ))) × IsPieces text.now pieces × (length pieces ≡ result) }
+{
+    let mut count = 0;
+    let mut place = 0;
+    let mut left = text;
+    loop {
+        let (piece, more) = first_piece(left);
+        count = counted(piece, place, count);
+        match more {
+            Some(rest) => left = rest,
+            None => return count,
+        }
+        place += 1;
+    }
+}
+
+/// The number of pieces after one more, where the empty ones at the end don't count.
+fn counted(piece: &[u8], place: usize, count: usize) -> usize
+    requires { place + length piece.now < 2 ^ 64 }
+    ensures { ((words_of piece.now ≡ []) × (result ≡ count)) ⊎ ((words_of piece.now ≢ []) × (result ≡ place + 1)) }
+{
+    if piece.is_empty() {
+        return count;
+    }
+    match first_word(piece) {
+        Some(_) => place + 1,
+        None => count,
+    }
+}
+
+/// The count that stands alone in a piece.
+fn count_of(piece: &[u8]) -> Option<u64>
+    ensures { MatchOption result ((n : ℕ) → ¬ (SpellsCount (words_of piece.now) n))
+        (λ count. (n : ℕ) × SpellsCount (words_of piece.now) n × (count ≡ min n HUGE)) }
+{
+    let (count, rest) = first_number(piece)?;
+    if first_word(rest).is_some() {
+        return None;
+    }
+    Some(count)
+}
+
+/// The instruction that a piece spells.
+fn insn_of(piece: &[u8]) -> Option<Insn>
+    ensures { MatchOption result (¬ (IsInsn (words_of piece.now))) (SpellsInsn (words_of piece.now)) }
+{
+    let (code, rest) = first_number(piece)?;
+    let (jt, rest) = first_number(rest)?;
+    let (jf, rest) = first_number(rest)?;
+    let (k, rest) = first_number(rest)?;
+    if first_word(rest).is_some() {
+        return None;
+    }
+    Some(Insn {
+        code: u16::try_from(code).ok()?,
+        jt: u8::try_from(jt).ok()?,
+        jf: u8::try_from(jf).ok()?,
+        k: u32::try_from(k).ok()?,
+    })
+}
+
+/// The number that the first word of a piece writes, and what stands after the word.
+fn first_number(piece: &[u8]) -> Option<(u64, &[u8])>
+    ensures { MatchOption result (¬ (StartsWithNumber (words_of piece.now)))
+        (λ found. (word : List ℕ) × (n : ℕ) × (words_of piece.now ≡ word ∷ words_of found.1.now)
+        × (number_of word ≡ Some n) × (found.0 ≡ min n HUGE)) }
+{
+    let (word, rest) = first_word(piece)?;
+    Some((number(word)?, rest))
+}

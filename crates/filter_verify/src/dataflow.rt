@@ -1,0 +1,169 @@
+//! Which scratch words are written before each instruction, over all paths.
+
+ghost use Rattle.std.specs.Prelude.{◌≡◌, ℕ, ◌+◌, ◌<◌, ◌≤◌, ◌⊎◌, ◌↔◌, ◌∷◌, [], List, Some, length, vec_len, IsTrue, OnOk, IfOk, IfErr};
+ghost use Rattle.bpf_insn.specs.Program.{FormAt, LeadsTo};
+ghost use Rattle.filter_verify.specs.Exits.{StoresForm};
+ghost use Rattle.filter_verify.specs.Kept.{IsKept};
+ghost use Rattle.filter_verify.specs.Flows.{Flows, IsAfter, IsSettled, LacksAt, Narrows, PassesBy};
+ghost use Rattle.filter_verify.specs.Paths.{IsUnwritten, LoadsWord, StoresWord, Successor};
+ghost use Rattle.filter_verify.specs.Rules.{IsWellShaped, Refuses};
+ghost use Rattle.filter_verify.specs.Words.{HasWord, LacksWord};
+
+use crate::flow::{Exit, exit_of, loaded_word, stored_word, stores};
+use crate::path::Places;
+use crate::rules::Refusal;
+use crate::words::Words;
+use bpf_insn::{Form, Insn};
+use std::alloc::{AllocError, Global};
+
+/// Keeps at a place only the words that the set has.
+fn narrow(written: &mut [Words], place: usize, words: Words)
+    requires { place < length written.old }
+    ensures { Narrows place words written.old written.new }
+{
+    written[place] = written[place].meet(words);
+}
+
+/// The words that are written after an instruction of that form, from those before it.
+fn words_after(before: Words, form: Form) -> Words
+    requires { (word : ℕ) → StoresForm form word → word < 16 }
+    ensures { IsAfter before form result }
+{
+    match stored_word(form) {
+        Some(word) => before.with(word),
+        None => before,
+    }
+}
+
+/// Takes into account the effect of the instruction of that form at a place.
+fn flow_through(written: &mut [Words], pc: usize, form: Form)
+    requires inside { pc < length written.old }
+    requires limited { pc ≤ 4096 }
+    requires words { (word : ℕ) → StoresForm form word → word < 16 }
+    requires targets { (to : ℕ) → LeadsTo pc form to → to < length written.old }
+    ensures { Flows pc form written.old written.new }
+{
+    let after = words_after(written[pc], form);
+    match exit_of(form, pc) {
+        Exit::On => narrow(written, pc + 1, after),
+        Exit::To(place) => narrow(written, place, after),
+        Exit::Either(place, other) => {
+            narrow(written, place, after);
+            narrow(written, other, after);
+        }
+        Exit::Nowhere => {}
+    }
+}
+
+/// Whether control may go from an instruction of that form at a place to another place.
+fn leads_to(form: Form, pc: usize, to: usize) -> bool
+    requires { pc ≤ 4096 }
+    ensures { IsTrue result ↔ LeadsTo pc form to }
+{
+    match exit_of(form, pc) {
+        Exit::On => to == pc + 1,
+        Exit::To(place) => to == place,
+        Exit::Either(place, other) => to == place || to == other,
+        Exit::Nowhere => false,
+    }
+}
+
+/// Whether an instruction of that form at a place leads to another with a word still unwritten.
+fn lets_pass(form: Form, pc: usize, before: Words, to: usize, word: u32) -> bool
+    requires limited { pc ≤ 4096 }
+    requires word { word < 16 }
+    ensures yes { IsTrue result → LeadsTo pc form to × LacksWord before word × (StoresForm form word → ⊥) }
+    ensures no { (IsTrue result → ⊥) → LeadsTo pc form to → LacksWord before word → (StoresForm form word → ⊥) → ⊥ }
+{
+    leads_to(form, pc, to) && !before.contains(word) && !stores(form, word)
+}
+
+/// Whether a place leads to another with a word still unwritten.
+fn passes_by(code: &[Insn], written: &[Words], pc: usize, to: usize, word: u32) -> bool
+    requires inside { pc < length code.now }
+    requires limited { length code.now ≤ 4096 }
+    requires same_length { length written.now ≡ length code.now }
+    requires word { word < 16 }
+    ensures yes { IsTrue result → PassesBy code.now written.now pc to word }
+    ensures no { (IsTrue result → ⊥) → PassesBy code.now written.now pc to word → ⊥ }
+{
+    match code[pc].form() {
+        Some(form) => lets_pass(form, pc, written[pc], to, word),
+        None => false,
+    }
+}
+
+/// A path to a load of a word that may be unwritten there, on which no earlier place stores the word.
+fn path_to(
+    alloc: Global,
+    code: &[Insn],
+    written: &[Words],
+    pc: usize,
+    word: u32,
+) -> Result<Places, AllocError>
+    requires inside { pc < length code.now }
+    requires limited { length code.now ≤ 4096 }
+    requires settled { IsSettled code.now pc written.now }
+    requires word { word < 16 }
+    requires loads { LoadsWord code.now pc word }
+    requires lacks { LacksAt written.now pc word }
+    ensures { IfOk result (λ path. IsUnwritten code.now pc word path) }
+{
+    let mut path = Vec::new(alloc);
+    path.push(pc as u32)?;
+    let mut next = pc;
+    'back: for place in (0..pc).rev() {
+        if passes_by(code, written, place, next, word) {
+            path.push(place as u32)?;
+            next = place;
+        }
+    }
+    path.reverse();
+    Ok(Places::from_vec(path))
+}
+
+/// The form at a place of a program whose instructions break no rule.
+fn form_there(code: &[Insn], pc: usize) -> Form
+    requires shaped { IsWellShaped code.now }
+    requires inside { pc < length code.now }
+    ensures { FormAt code.now pc result }
+{
+    code[pc].form().unwrap()
+}
+
+/// Goes over the instruction at a place, or says why its load is refused.
+fn go_over(alloc: Global, code: &[Insn], written: &mut [Words], pc: usize) -> Result<(), Refusal>
+    requires shaped { IsWellShaped code.now }
+    requires inside { pc < length code.now }
+    requires settled { IsSettled code.now pc written.old }
+    ensures ok { OnOk result (IsSettled code.now (pc + 1) written.new) }
+    ensures err { IfErr result (λ refusal. (refusal ≡ Refusal.NoMemory → ⊥) → Refuses code.now refusal) }
+{
+    let form = form_there(code, pc);
+    if let Some(word) = loaded_word(form) {
+        if !written[pc].contains(word) {
+            let path = path_to(alloc, code, written, pc, word)?;
+            return Err(Refusal::Unwritten {
+                pc: pc as u32,
+                word,
+                path,
+            });
+        }
+    }
+    flow_through(written, pc, form);
+    Ok(())
+}
+
+/// Accepts a program that loads only scratch words that are written on each path, or says where a path breaks that.
+pub fn check_words(alloc: Global, code: &[Insn]) -> Result<(), Refusal>
+    requires { IsWellShaped code.now }
+    ensures ok { OnOk result (IsKept code.now) }
+    ensures err { IfErr result (λ refusal. (refusal ≡ Refusal.NoMemory → ⊥) → Refuses code.now refusal) }
+{
+    let mut written = vec![in alloc; Words::all(); code.len()]?;
+    written[0] = Words::none();
+    'pass: for pc in 0..code.len() {
+        go_over(alloc, code, written.as_mut_slice(), pc)?;
+    }
+    Ok(())
+}

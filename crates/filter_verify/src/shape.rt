@@ -1,0 +1,120 @@
+//! The rules on a program's size, on each instruction, and on its end.
+
+ghost use Rattle.std.specs.Prelude.{◌≡◌, ℕ, ◌<◌, ◌≤◌, ◌⊎◌, length, IfErr, OnOk, IsTrue};
+ghost use Rattle.bpf_insn.specs.Program.{FormAt, form_at, JumpsTo};
+ghost use Rattle.filter_verify.specs.Rules.{BreaksAt, EndsInReturn, IsFine, IsReturn, IsWellShaped, Refuses};
+
+use crate::flow::{Exit, exit_of};
+use crate::rules::Refusal;
+use bpf_insn::{AluOp, Form, Insn};
+
+/// How many instructions a program may have.
+pub const MAX_INSNS: usize = 4096;
+
+/// How many scratch words there are.
+const WORDS: u32 = 16;
+
+/// The first place of an absolute load that stands for ancillary data.
+const ANCILLARY: u32 = 0x8000_0000;
+
+/// Whether a jump of that form at a place has a target outside a program of `len` instructions.
+fn jumps_out(form: Form, pc: usize, len: usize) -> bool
+    requires { pc ≤ 4096 }
+    ensures out { IsTrue result → (to : ℕ) × JumpsTo pc form to × (len ≤ to) }
+    ensures inside { (IsTrue result → ⊥) → (to : ℕ) → JumpsTo pc form to → to < len }
+{
+    match exit_of(form, pc) {
+        Exit::On => false,
+        Exit::To(place) => place >= len,
+        Exit::Either(place, other) => place >= len || other >= len,
+        Exit::Nowhere => false,
+    }
+}
+
+/// Refuses an instruction of that form at a place, if it breaks a rule.
+fn check_form(code: &[Insn], pc: usize, form: Form) -> Result<(), Refusal>
+    requires inside { pc < length code.now }
+    requires limited { length code.now ≤ 4096 }
+    requires form { FormAt code.now pc form }
+    ensures ok { OnOk result (IsFine code.now pc) }
+    ensures err { IfErr result (λ refusal. BreaksAt code.now pc refusal) }
+{
+    let at = pc as u32;
+    match form {
+        Form::AluK {
+            op: AluOp::Div,
+            k: 0,
+        } => Err(Refusal::ZeroDivisor(at)),
+        Form::AluK {
+            op: AluOp::Mod,
+            k: 0,
+        } => Err(Refusal::ZeroDivisor(at)),
+        Form::AluK { op: AluOp::Lsh, k } if k >= 32 => Err(Refusal::BadShift(at)),
+        Form::AluK { op: AluOp::Rsh, k } if k >= 32 => Err(Refusal::BadShift(at)),
+        Form::LdMem { k } if k >= WORDS => Err(Refusal::BadWord(at)),
+        Form::LdxMem { k } if k >= WORDS => Err(Refusal::BadWord(at)),
+        Form::St { k } if k >= WORDS => Err(Refusal::BadWord(at)),
+        Form::Stx { k } if k >= WORDS => Err(Refusal::BadWord(at)),
+        Form::LdAbs { k, .. } if k >= ANCILLARY => Err(Refusal::Ancillary(at)),
+        _ if jumps_out(form, pc, code.len()) => Err(Refusal::JumpOut(at)),
+        _ => Ok(()),
+    }
+}
+
+/// Refuses the instruction at a place, if it breaks a rule.
+fn check_insn(code: &[Insn], pc: usize) -> Result<(), Refusal>
+    requires inside { pc < length code.now }
+    requires limited { length code.now ≤ 4096 }
+    ensures ok { OnOk result (IsFine code.now pc) }
+    ensures err { IfErr result (λ refusal. BreaksAt code.now pc refusal) }
+{
+    match code[pc].form() {
+        Some(form) => check_form(code, pc, form),
+        None => Err(Refusal::BadCode(pc as u32)),
+    }
+}
+
+/// Whether the form is a return.
+fn is_return(form: Form) -> bool
+    ensures yes { IsTrue result → IsReturn form }
+    ensures no { (IsTrue result → ⊥) → IsReturn form → ⊥ }
+{
+    match form {
+        Form::RetK { .. } => true,
+        Form::RetA => true,
+        _ => false,
+    }
+}
+
+/// Whether the last instruction is a return.
+fn ends_in_return(code: &[Insn]) -> bool
+    requires { 0 < length code.now }
+    ensures ends { IsTrue result → EndsInReturn code.now }
+    ensures no { (IsTrue result → ⊥) → EndsInReturn code.now → ⊥ }
+{
+    match code[code.len() - 1].form() {
+        Some(form) => is_return(form),
+        None => false,
+    }
+}
+
+/// Refuses a program that breaks a rule on its size, its instructions in order, or its end.
+pub fn check_shape(code: &[Insn]) -> Result<(), Refusal>
+    ensures ok { OnOk result (IsWellShaped code.now) }
+    ensures err { IfErr result (λ refusal. Refuses code.now refusal) }
+{
+    if code.is_empty() {
+        return Err(Refusal::Empty);
+    }
+    if code.len() > MAX_INSNS {
+        return Err(Refusal::TooLong);
+    }
+    'places: for pc in 0..code.len() {
+        check_insn(code, pc)?;
+    }
+    if ends_in_return(code) {
+        Ok(())
+    } else {
+        Err(Refusal::NoReturn)
+    }
+}
