@@ -1,0 +1,4 @@
+pub mod KnownBytesLemmas
+pub mod LineLemmas
+pub mod MatchingLemmas
+pub mod CodeLemmas

@@ -1,0 +1,133 @@
+-- What `match` has shown after some of its lines.
+use Rattle.std.proofs.Common.{◌≡◌, ℕ, ◌+◌, List, [], ◌∷◌, ◌++◌, ◌<◌, length, Option, Some, None, refl, ap, sym, ◌∙◌, append_assoc, arith, length-append, inl, inr, IsErr, flat_map}
+use Rattle.std.specs.List.{AllZip}
+use Rattle.std.specs.Io.KnownBytes.{Appends, Consumes, IsAtEnd}
+use Rattle.std.proofs.lemmas.List.{append-nil}
+use Rattle.hex.specs.Hex.{decode_of}
+use Rattle.bpf_insn.specs.declared.insn.Insn.{Insn}
+use Rattle.filter_vm.specs.declared.machine.Outcome.{Outcome}
+use Rattle.console.specs.Reading.{IsInput}
+use Rattle.console.specs.Matching.{Answers, ShowsLines, ShowsFirst, outcome_line, bad_line}
+use Rattle.console.proofs.KnownBytesLemmas.{appends-then, appends-nothing}
+
+-- all is lines that were answered and the rest, and the answers are written but for what is kept back
+pub record SoFar (program : List Insn) (all rest : List (List ℕ)) (number : ℕ) (old new : Option (List ℕ)) (kept : List ℕ) : Type 0 where
+  pub good : List (List ℕ)
+  pub outcomes : List Outcome
+  pub written : List ℕ
+  pub front : all ≡ good ++ rest
+  pub ran : AllZip (Answers program) good outcomes
+  pub count : number ≡ length good
+  pub appended : Appends old new written
+  pub printed : written ++ kept ≡ flat_map outcome_line outcomes
+
+pub so_far_start : (program : List Insn) (all : List (List ℕ)) (known : Option (List ℕ)) → SoFar program all all 0 known known []
+so_far_start program all known = record {
+  good = [];
+  outcomes = [];
+  written = [];
+  front = refl;
+  ran = tt;
+  count = refl;
+  appended = appends-nothing known;
+  printed = refl;
+}
+
+-- one more pair at the end
+AllZip-push : {A B : Type 0} (R : A → B → Type 0) (xs : List A) (ys : List B) (x : A) (y : B) → AllZip R xs ys → R x y → AllZip R (xs ++ x ∷ []) (ys ++ y ∷ [])
+AllZip-push R [] [] x y each last = (last, tt)
+AllZip-push R [] (b ∷ ys) x y each last = absurd each
+AllZip-push R (a ∷ xs) [] x y each last = absurd each
+AllZip-push R (a ∷ xs) (b ∷ ys) x y each last = (each.0, AllZip-push R xs ys x y each.1 last)
+
+flat_map-push : {A B : Type 0} (f : A → List B) (xs : List A) (x : A) → flat_map f (xs ++ x ∷ []) ≡ flat_map f xs ++ f x
+flat_map-push f [] x = append-nil (f x)
+flat_map-push f (a ∷ xs) x = ap (λ t. f a ++ t) (flat_map-push f xs x) ∙ sym (append_assoc (f a) (flat_map f xs) (f x))
+
+pub so_far_next : (program : List Insn) (all : List (List ℕ)) (line : List ℕ) (rest : List (List ℕ)) (n m : ℕ) (old new : Option (List ℕ)) (kept kept' : List ℕ) (o : Outcome)
+    → (left : List (List ℕ)) → left ≡ line ∷ rest → SoFar program all left n old new kept → Answers program line o → kept' ≡ kept ++ outcome_line o → m ≡ n + 1 → SoFar program all rest m old new kept'
+so_far_next program all line rest n m old new kept kept' o left first so ran text one = record {
+  good = so.good ++ line ∷ [];
+  outcomes = so.outcomes ++ o ∷ [];
+  written = so.written;
+  front = so.front ∙ ap (λ t. so.good ++ t) first ∙ sym (append_assoc so.good (line ∷ []) rest);
+  ran = AllZip-push (Answers program) so.good so.outcomes line o so.ran ran;
+  count = simp length-append (omega (arith, so.count));
+  appended = so.appended;
+  printed = ap (λ t. so.written ++ t) text ∙ sym (append_assoc so.written kept (outcome_line o)) ∙ ap (λ t. t ++ outcome_line o) so.printed ∙ sym (flat_map-push outcome_line so.outcomes o);
+}
+
+-- what was kept back is written
+pub so_far_written : (program : List Insn) (all rest : List (List ℕ)) (n : ℕ) (old new last : Option (List ℕ)) (kept : List ℕ)
+    → SoFar program all rest n old new kept → Appends new last kept → SoFar program all rest n old last []
+so_far_written program all rest n old new last kept so more = record {
+  good = so.good;
+  outcomes = so.outcomes;
+  written = so.written ++ kept;
+  front = so.front;
+  ran = so.ran;
+  count = so.count;
+  appended = appends-then old new last so.written kept so.appended more;
+  printed = append-nil (so.written ++ kept) ∙ so.printed;
+}
+
+-- at the end of the lines
+pub so_far_end : (program : List Insn) (all : List (List ℕ)) (n : ℕ) (old new last : Option (List ℕ)) (kept : List ℕ)
+    → (left : List (List ℕ)) → left ≡ [] → SoFar program all left n old new kept → Appends new last kept → (text : List ℕ) × ShowsLines program all 0 text × Appends old last text
+so_far_end program all n old new last kept left none so more = (
+  so.written ++ kept,
+  record {
+    good = so.good;
+    outcomes = so.outcomes;
+    complaint = [];
+    ran = so.ran;
+    stops = inl (so.front ∙ ap (λ t. so.good ++ t) none ∙ append-nil so.good, refl, refl);
+    printed = so.printed ∙ sym (append-nil (flat_map outcome_line so.outcomes));
+  },
+  appends-then old new last so.written kept so.appended more,
+)
+
+-- at a line that spells no packet
+pub so_far_bad : (program : List Insn) (all : List (List ℕ)) (bad : List ℕ) (rest : List (List ℕ)) (n m : ℕ) (old new last : Option (List ℕ)) (kept kept' : List ℕ)
+    → (left : List (List ℕ)) → left ≡ bad ∷ rest → SoFar program all left n old new kept → IsErr (decode_of bad) → kept' ≡ kept ++ bad_line m → m ≡ n + 1 → Appends new last kept' → (text : List ℕ) × ShowsLines program all 1 text × Appends old last text
+so_far_bad program all bad rest n m old new last kept kept' left first so err text one more = (
+  so.written ++ kept',
+  record {
+    good = so.good;
+    outcomes = so.outcomes;
+    complaint = bad_line m;
+    ran = so.ran;
+    stops = inr (bad, rest, so.front ∙ ap (λ t. so.good ++ t) first, err, refl, ap bad_line (one ∙ ap (λ k. k + 1) so.count));
+    printed = ap (λ t. so.written ++ t) text ∙ sym (append_assoc so.written kept (bad_line m)) ∙ ap (λ t. t ++ bad_line m) so.printed;
+  },
+  appends-then old new last so.written kept' so.appended more,
+)
+
+-- where memory ran out
+pub so_far_part : (program : List Insn) (all rest : List (List ℕ)) (n : ℕ) (old new : Option (List ℕ)) (kept : List ℕ)
+    → SoFar program all rest n old new kept → (text : List ℕ) × ShowsFirst program all text × Appends old new text
+so_far_part program all rest n old new kept so = (
+  so.written,
+  record {
+    good = so.good;
+    left = rest;
+    outcomes = so.outcomes;
+    more = kept;
+    front = so.front;
+    ran = so.ran;
+    printed = so.printed;
+  },
+  so.appended,
+)
+
+-- a reader that lost more than so many bytes had more
+pub long_input : (old new : Option (List ℕ)) (given : List ℕ) (n : ℕ) → Consumes old new given → n < length given → (input : List ℕ) × IsInput old input × (n < length input)
+long_input None new given n lost long = (given, tt, long)
+long_input (Some xs) None given n lost long = absurd lost
+long_input (Some xs) (Some ys) given n lost long = (xs, refl, omega (arith, ap length lost, length-append given ys))
+
+-- a reader that lost these bytes and then was at its end had just these
+pub whole_input : (old new : Option (List ℕ)) (held : List ℕ) → Consumes old new held → IsAtEnd new → IsInput old held
+whole_input None new held lost end = tt
+whole_input (Some xs) None held lost end = absurd lost
+whole_input (Some xs) (Some ys) held lost end = sym (lost ∙ ap (λ rest. held ++ rest) end ∙ append-nil held)

@@ -1,0 +1,25 @@
+-- What an engine was given to read, where the bytes of its reader are known.
+use Rattle.std.specs.Prelude.{◌≡◌, ℕ, ◌<◌, ◌≤◌, ◌⊎◌, List, length, Option, Some, None, ⊤}
+use Rattle.std.specs.Io.KnownBytes.{Consumes, IsAtEnd}
+use Rattle.console.specs.declared.input.Input.{Input}
+use Rattle.console.specs.declared.input.Input.TheVariants.{Whole, TooLong}
+use Rattle.console.specs.declared.fault.EngineFault.{EngineFault}
+use Rattle.console.specs.declared.fault.EngineFault.TheVariants.{ReadFailed, NoMemory}
+
+-- a reader lost just these bytes, and then was at its end, or it lost more than the limit
+abbrev pub Gave : Option (List ℕ) → Option (List ℕ) → ℕ → Input → Type 0
+Gave old new most (Whole held) = Consumes old new held.items × IsAtEnd new × (length held.items ≤ most)
+Gave old new most TooLong = (given : List ℕ) × Consumes old new given × (most < length given)
+
+-- a reader lost some bytes at its front, or none
+abbrev pub LosesSome : Option (List ℕ) → Option (List ℕ) → Type 0
+LosesSome old new = (given : List ℕ) × Consumes old new given
+
+-- what can go wrong while an input is read
+abbrev pub IsReadFault : EngineFault → Type 0
+IsReadFault e = (e ≡ ReadFailed) ⊎ (e ≡ NoMemory)
+
+-- the input of an engine: what its reader had, where that is known
+abbrev pub IsInput : Option (List ℕ) → List ℕ → Type 0
+IsInput None input = ⊤
+IsInput (Some bytes) input = input ≡ bytes
