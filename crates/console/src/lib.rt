@@ -3,6 +3,7 @@
 
 mod code;
 mod fault;
+mod hexadecimal;
 mod input;
 mod lines;
 mod matching;

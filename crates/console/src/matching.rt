@@ -11,6 +11,7 @@ ghost use Rattle.console.specs.Matching.{Answers, IsEngineFault, IsPrintFault, S
 
 use crate::EngineFault;
 use crate::code::read_code;
+use crate::hexadecimal;
 use crate::input::{INPUT_BYTES, INPUT_READS, Input, read_bounded};
 use crate::lines::first_line;
 use crate::output::{BLOCK, write_text};
@@ -119,9 +120,10 @@ fn outcome_of(
         buffer.resize(length, 0)?;
     }
     let packet = &mut buffer.as_mut_slice()[..length];
-    match hex::decode_to_slice(line, packet) {
-        Ok(()) => Ok(Some(run(program, packet, length as u32))),
-        Err(_) => Ok(None),
+    if hexadecimal::decode(line, packet) {
+        Ok(Some(run(program, packet, length as u32)))
+    } else {
+        Ok(None)
     }
 }
 

@@ -1,0 +1,43 @@
+//! Packets in hexadecimal digits.
+
+ghost use Rattle.std.specs.Prelude.{◌≡◌, ◌≢◌, ◌/◌, ◌<◌, length, Ok, IsErr, unwrap_or};
+ghost use Rattle.std.specs.Bool.{MatchBool};
+ghost use Rattle.hex.specs.Hex.{decode_of, hex_digit_value};
+
+/// What stands for a byte that is no digit.
+const NO_DIGIT: u8 = 255;
+
+/// The value of a hexadecimal digit of either case, or `NO_DIGIT`.
+#[inline(always)]
+fn digit_value(digit: u8) -> u8
+    ensures { result ≡ unwrap_or (hex_digit_value digit) 255 }
+{
+    match digit {
+        b'A'..=b'F' => digit - b'A' + 10,
+        b'a'..=b'f' => digit - b'a' + 10,
+        b'0'..=b'9' => digit - b'0',
+        _ => NO_DIGIT,
+    }
+}
+
+/// Writes the bytes that a line of digits spells, and says whether it spells any; where it doesn't, what is written means
+/// nothing.
+///
+/// It looks at each digit and asks at the end whether all were digits: a loop without a way out in its middle, which the
+/// compiler turns into vector instructions.
+pub fn decode(line: &[u8], packet: &mut [u8]) -> bool
+    requires { length packet.old ≡ length line.now / 2 }
+    ensures { MatchBool result (decode_of line.now ≡ Ok packet.new) (IsErr (decode_of line.now)) }
+{
+    if line.len() % 2 != 0 {
+        return false;
+    }
+    let mut most = 0u8;
+    'bytes: for i in 0..packet.len() {
+        let high = digit_value(line[2 * i]);
+        let low = digit_value(line[2 * i + 1]);
+        most = most.max(high).max(low);
+        packet[i] = high.wrapping_mul(16).wrapping_add(low);
+    }
+    most != NO_DIGIT
+}

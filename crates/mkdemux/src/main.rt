@@ -1,0 +1,83 @@
+//! `mkdemux`: runs classic BPF filters on packets.
+//!
+//! The exit status is 0; 1 for a refused input, whose line is on standard output; 2 for a fault of the command line; and 3
+//! for memory or a device, with one line on standard error.
+#![tactic(auto)]
+
+mod command_line;
+
+use clap::error::ErrorKind;
+use clap::{ArgMatches, Error};
+use console::{EngineFault, run_match};
+use std::io;
+use std::process::ExitCode;
+
+/// The exit status for a fault of the command line.
+const USAGE: u8 = 2;
+
+/// The exit status for memory or a device.
+const FAILED: u8 = 3;
+
+fn main(rt: HostRuntime) -> ExitCode {
+    ExitCode::from(status(&rt))
+}
+
+/// Does what the command line says, and answers the exit status.
+fn status(rt: &HostRuntime) -> u8 {
+    let words = match words(rt) {
+        Ok(words) => words,
+        Err(error) if error.kind() == io::ErrorKind::InvalidData => {
+            let _ = eprintln!(rt; "error: an argument is not UTF-8");
+            return USAGE;
+        }
+        Err(_) => return failed(rt, EngineFault::NoMemory),
+    };
+    let Ok(command) = command_line::command(rt.alloc()) else {
+        return failed(rt, EngineFault::NoMemory);
+    };
+    match command.try_get_matches_from(words.as_slice()) {
+        Ok(matches) => dispatch(rt, &matches),
+        Err(error) => not_a_command(rt, &error),
+    }
+}
+
+/// The words of the command line.
+fn words(rt: &HostRuntime) -> io::Result<Vec<String>> {
+    Ok(std::env::args(rt)?.collect(rt.alloc())?)
+}
+
+/// Runs the engine of the command that was given.
+fn dispatch(rt: &HostRuntime, matches: &ArgMatches) -> u8 {
+    let Some(("match", found)) = matches.subcommand() else {
+        return USAGE;
+    };
+    let code = found.get_str("code").unwrap_or("");
+    let answer = run_match(
+        rt.alloc(),
+        code.as_bytes(),
+        &mut rt.stdin(),
+        &mut rt.stdout(),
+    );
+    match answer {
+        Ok(status) => status,
+        Err(fault) => failed(rt, fault),
+    }
+}
+
+/// Prints help, the version or what is wrong with the command line.
+fn not_a_command(rt: &HostRuntime, error: &Error) -> u8 {
+    if let ErrorKind::OutOfMemory = error.kind() {
+        return failed(rt, EngineFault::NoMemory);
+    }
+    match (error.print(rt), error.exit_code()) {
+        (Ok(()), 0) => 0,
+        (Err(_), 0) => failed(rt, EngineFault::WriteFailed),
+        _ => USAGE,
+    }
+}
+
+/// Says on standard error why an engine ended early.
+fn failed(rt: &HostRuntime, fault: EngineFault) -> u8 {
+    let _ = eprintln!(rt; "mkdemux: {fault}");
+    FAILED
+}
