@@ -46,5 +46,5 @@ newline_first bs None nowhere =
 newline_first bs (Some i) found = (
   found.0.high,
   position_or_len_is (λ b. b == 10) bs i 0 (omega (arith, found.0.high))
-  (λ k low. not_true (get_or bs k 0 == 10) (found.0.before k (omega arith) low)) (λ _. found.1),
+      (λ k low. not_true (get_or bs k 0 == 10) (found.0.before k (omega arith) low)) (λ _. found.1),
 )

@@ -12,11 +12,17 @@ const NO_DIGIT: u8 = 255;
 fn digit_value(digit: u8) -> u8
     ensures { result ≡ unwrap_or (hex_digit_value digit) 255 }
 {
-    match digit {
-        b'A'..=b'F' => digit - b'A' + 10,
-        b'a'..=b'f' => digit - b'a' + 10,
-        b'0'..=b'9' => digit - b'0',
-        _ => NO_DIGIT,
+    let number = digit.wrapping_sub(b'0');
+    let upper = digit.wrapping_sub(b'A');
+    let lower = digit.wrapping_sub(b'a');
+    if number < 10 {
+        number
+    } else if upper < 6 {
+        upper + 10
+    } else if lower < 6 {
+        lower + 10
+    } else {
+        NO_DIGIT
     }
 }
 

@@ -9,12 +9,11 @@ ghost use Rattle.console.specs.Code.{IsGoodCode, ShowsBadCode};
 ghost use Rattle.console.specs.Reading.{IsInput};
 ghost use Rattle.console.specs.Matching.{Answers, IsEngineFault, IsPrintFault, ShowsFirst, ShowsGoodCode, ShowsLines, ShowsPart, bad_line, outcome_line};
 
-use crate::EngineFault;
 use crate::code::read_code;
-use crate::hexadecimal;
 use crate::input::{INPUT_BYTES, INPUT_READS, Input, read_bounded};
 use crate::lines::first_line;
 use crate::output::{BLOCK, write_text};
+use crate::{EngineFault, hexadecimal};
 use filter_verify::Verified;
 use filter_vm::{Outcome, run};
 use std::alloc::{AllocError, Global};

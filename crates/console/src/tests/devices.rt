@@ -1,0 +1,163 @@
+//! Readers and writers that give or take little at a time, and fail when they are told to.
+
+use crate::{EngineFault, Input, read_bounded, run_match};
+use std::alloc::Global;
+use std::io;
+use std::io::{ErrorKind, Read, Write};
+use std::test::Fail;
+
+/// A reader that gives at most `step` bytes a read, and fails at one of its reads: 0 for none.
+#[derive(Drop)]
+pub struct Pieces<'a> {
+    rest: &'a [u8],
+    step: usize,
+    reads: u32,
+    fails_at: u32,
+}
+
+impl<'a> Pieces<'a> {
+    pub fn new(rest: &'a [u8], step: usize, fails_at: u32) -> Pieces<'a> {
+        Pieces {
+            rest,
+            step,
+            reads: 0,
+            fails_at,
+        }
+    }
+}
+
+impl Read for Pieces<'_> {
+    fn read(&mut self, buf: &mut [u8]) -> io::Result<usize> {
+        self.reads = self.reads.saturating_add(1);
+        if self.reads == self.fails_at {
+            return Err(io::Error::from(ErrorKind::PermissionDenied));
+        }
+        let count = self.step.min(self.rest.len()).min(buf.len());
+        buf[..count].copy_from_slice(&self.rest[..count]);
+        self.rest = &self.rest[count..];
+        Ok(count)
+    }
+}
+
+/// A writer that takes one byte a write, and fails at one of its writes: 0 for none.
+#[derive(Drop)]
+struct Sink {
+    taken: u32,
+    writes: u32,
+    fails_at: u32,
+}
+
+impl Write for Sink {
+    fn write(&mut self, buf: &[u8]) -> io::Result<usize> {
+        self.writes = self.writes.saturating_add(1);
+        if self.writes == self.fails_at {
+            return Err(io::Error::from(ErrorKind::PermissionDenied));
+        }
+        let count = buf.len().min(1);
+        self.taken = self.taken.saturating_add(count as u32);
+        Ok(count)
+    }
+
+    fn flush(&mut self) -> io::Result<()> {
+        Ok(())
+    }
+}
+
+/// A reader whose first read is interrupted.
+#[derive(Drop)]
+struct Interrupted<'a> {
+    inner: Pieces<'a>,
+    told: bool,
+}
+
+impl Read for Interrupted<'_> {
+    fn read(&mut self, buf: &mut [u8]) -> io::Result<usize> {
+        if self.told {
+            return self.inner.read(buf);
+        }
+        self.told = true;
+        Err(io::Error::from(ErrorKind::Interrupted))
+    }
+}
+
+const ARP: &[u8] = b"4,40 0 0 12,21 0 1 2054,6 0 0 4294967295,6 0 0 0";
+
+const PACKETS: &[u8] = b"ffffffffffff0011223344550806\nffffffffffff00112233445508\n";
+
+/// What is shown of `ARP` and `PACKETS`, in bytes.
+const SHOWN: u32 = 17;
+
+fn with_reader(alloc: Global, fails_at: u32) -> (Result<u8, EngineFault>, usize) {
+    let mut out = Vec::new(alloc);
+    let answer = run_match(alloc, ARP, &mut Pieces::new(PACKETS, 1, fails_at), &mut out);
+    (answer, out.len())
+}
+
+#[test]
+fn a_read_that_fails_leaves_nothing_written(rt: HostRuntime) {
+    // One read for each byte, and one that finds the end.
+    for fails_at in 1..58 {
+        let (answer, written) = with_reader(rt.alloc(), fails_at);
+        assert_eq!(rt; answer, Err(EngineFault::ReadFailed), "read {fails_at}");
+        assert_eq!(rt; written, 0);
+    }
+    let (answer, written) = with_reader(rt.alloc(), 58);
+    assert_eq!(rt; answer, Ok(0));
+    assert_eq!(rt; written, SHOWN as usize);
+}
+
+#[test]
+fn a_write_that_fails_is_reported(rt: HostRuntime) {
+    for fails_at in 1..SHOWN + 2 {
+        let mut sink = Sink {
+            taken: 0,
+            writes: 0,
+            fails_at,
+        };
+        let answer = run_match(rt.alloc(), ARP, &mut Pieces::new(PACKETS, 64, 0), &mut sink);
+        if fails_at <= SHOWN {
+            assert_eq!(rt; answer, Err(EngineFault::WriteFailed), "write {fails_at}");
+            assert_eq!(rt; sink.taken, fails_at.saturating_sub(1));
+        } else {
+            assert_eq!(rt; answer, Ok(0));
+            assert_eq!(rt; sink.taken, SHOWN);
+        }
+    }
+}
+
+#[test]
+fn reading_stops_at_its_limits(rt: HostRuntime) -> Result<(), Fail> {
+    let rows: [(usize, u64, u64, &str); 5] = [
+        (5, 4, 99, "too long"),
+        (3, 9, 3, "read failed"),
+        (2, 9, 3, "whole"),
+        (4, 4, 5, "whole"),
+        (0, 0, 0, "read failed"),
+    ];
+    for (length, bytes, reads, want) in rows {
+        let mut reader = Pieces::new(&[7; 5][..length], 1, 0);
+        let got = match read_bounded(rt.alloc(), &mut reader, bytes, reads) {
+            Ok(Input::Whole(held)) => {
+                assert_eq!(rt; held.len(), length);
+                "whole"
+            }
+            Ok(Input::TooLong) => "too long",
+            Err(EngineFault::ReadFailed) => "read failed",
+            Err(_) => "another fault",
+        };
+        assert_eq!(rt; got, want, "{length} bytes");
+    }
+    Ok(())
+}
+
+#[test]
+fn an_interrupted_read_is_tried_again_and_counts(rt: HostRuntime) {
+    for (reads, whole) in [(3, false), (4, true)] {
+        let mut reader = Interrupted {
+            inner: Pieces::new(&[7; 2], 1, 0),
+            told: false,
+        };
+        let answer = read_bounded(rt.alloc(), &mut reader, 9, reads);
+        assert_eq!(rt; answer.is_ok(), whole);
+    }
+}
