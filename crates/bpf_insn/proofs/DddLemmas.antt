@@ -5,10 +5,9 @@ use Rattle.std.proofs.lemmas.List.{append-nil}
 use Rattle.std.proofs.lemmas.List.Elements.{All-append}
 use Rattle.std.proofs.Math.Seq.{take-append_seam}
 use Rattle.bpf_insn.specs.declared.ddd.TextFault.TheVariants.{BadNumber}
-use Rattle.std.proofs.lemmas.Grind.{common_steps}
 use Rattle.bpf_insn.specs.declared.insn.Insn.{Insn}
-use Rattle.bpf_insn.specs.Ddd.{Ddd, Faults, IsPieces, SpellsCount, IsTrimmed, SpellsInsn, IsInsn}
-use Rattle.bpf_insn.specs.Parts.{SpellsFirst, IsBadAt}
+use Rattle.bpf_insn.specs.Ddd.{Ddd, Faults, cuts, IsTrimmed, SpellsInsn, IsInsn}
+use Rattle.bpf_insn.specs.Parts.{SpellsFirst, IsBadAt, IsCountedText}
 
 -- cut is a front, whose pieces are counted, and the rest
 pub record CountSoFar (cut left : List (List (List ℕ))) (place count : ℕ) : Type 0 where
@@ -77,7 +76,7 @@ AllZip-push R (a ∷ xs) [] x y each last = absurd each
 AllZip-push R (a ∷ xs) (b ∷ ys) x y each last = (each.0, AllZip-push R xs ys x y each.1 last)
 
 -- what is paired with an instruction spells one
-spelled_at : (good : List (List (List ℕ))) (program : List Insn) → AllZip SpellsInsn good program → (k : ℕ) (d : List (List ℕ)) → k < length good → IsInsn (get_or good k d)
+pub spelled_at : (good : List (List (List ℕ))) (program : List Insn) → AllZip SpellsInsn good program → (k : ℕ) (d : List (List ℕ)) → k < length good → IsInsn (get_or good k d)
 spelled_at [] program each k d within = absurd (omega arith)
 spelled_at (w ∷ good) [] each k d within = absurd each
 spelled_at (w ∷ good) (i ∷ program) each zero d within = (i, each.0)
@@ -121,7 +120,7 @@ pub first_left : (all left : List (List (List ℕ))) (place count : ℕ) (progra
 first_left all left place count program so low high none = absurd (omega (arith, so.at, ap length (so.parts ∙ ap (λ t. so.good ++ t) none ∙ append-nil so.good)))
 
 -- of two cuts of one list, the fronts that are as long are the same
-fronts_same : (xs ys more rest : List (List (List ℕ))) → xs ++ more ≡ ys ++ rest → length xs ≡ length ys → xs ≡ ys
+pub fronts_same : (xs ys more rest : List (List (List ℕ))) → xs ++ more ≡ ys ++ rest → length xs ≡ length ys → xs ≡ ys
 fronts_same xs ys more rest e same = sym (take-append_seam xs more) ∙ ap (take (length xs)) e ∙ ap (λ n. take n (ys ++ rest)) same ∙ take-append_seam ys rest
 
 -- and a front that is shorter goes on into the longer one
@@ -151,45 +150,43 @@ has_first cut (p ∷ ps) rest first trimmed e some = record {
 }
 
 -- paired lists are as long
-as_long : {A B : Type 0} (R : A → B → Type 0) (xs : List A) (ys : List B) → AllZip R xs ys → length xs ≡ length ys
+pub as_long : {A B : Type 0} (R : A → B → Type 0) (xs : List A) (ys : List B) → AllZip R xs ys → length xs ≡ length ys
 as_long R [] [] each = refl
 as_long R [] (b ∷ ys) each = absurd each
 as_long R (a ∷ xs) [] each = absurd each
 as_long R (a ∷ xs) (b ∷ ys) each = ap suc (as_long R xs ys each.1)
 
 -- what was read is what the text spells
-pub spelled : (text : List ℕ) (pieces rest : List (List (List ℕ))) (first : List (List ℕ)) (n : ℕ) (program : List Insn)
-    → IsPieces text pieces → HasFirst pieces rest first → SpellsCount first n → length pieces ≡ n + 1 → n ≤ 4096 → SpellsFirst rest n program → Ddd text program
-spelled text pieces rest first n program trimmed has count number short read =
-    let same : read.good ≡ has.others = fronts_same read.good has.others read.left has.gap (sym read.parts ∙ has.goes_on) (omega (arith, read.at, ap length has.begins, number)) in
+pub spelled : (text : List ℕ) (n : ℕ) (rest : List (List (List ℕ))) (program : List Insn) → IsCountedText text n rest → SpellsFirst rest n program → Ddd text program
+spelled text n rest program so read =
+    let has = has_first (cuts text) so.pieces rest so.first so.trimmed so.begins (omega (arith, so.counted.number)) in
+    let same : read.good ≡ has.others = fronts_same read.good has.others read.left has.gap (sym read.parts ∙ has.goes_on) (omega (arith, read.at, ap length has.begins, so.counted.number)) in
     let each : AllZip SpellsInsn has.others program = rw same at read.each in
     let long : length program ≡ n = sym (as_long SpellsInsn read.good program read.each) ∙ read.at in
     record {
-      first = first;
+      first = so.first;
       rest = has.others;
-      pieces = rw has.begins at trimmed;
-      count = rw (sym long) at count;
-      short = omega arith;
+      pieces = rw has.begins at so.trimmed;
+      count = rw (has.begins, sym long) at so.counted.count;
+      short = omega (arith, so.counted.short);
       each = each;
     }
 
-pub fault_at : (text : List ℕ) (pieces rest : List (List (List ℕ))) (first : List (List ℕ)) (n place : ℕ)
-    → IsPieces text pieces → HasFirst pieces rest first → SpellsCount first n → length pieces ≡ n + 1 → n ≤ 4096 → IsBadAt rest n place → Faults text (BadNumber place)
-fault_at text pieces rest first n place trimmed has count number short bad =
-    let found = front_shorter bad.good has.others bad.bad bad.more has.gap (sym bad.parts ∙ has.goes_on) (omega (arith, bad.at, bad.within, ap length has.begins, number)) in (
-      pieces,
-      trimmed,
+pub fault_at : (text : List ℕ) (n : ℕ) (rest : List (List (List ℕ))) (place : ℕ) → IsCountedText text n rest → IsBadAt rest n place → Faults text (BadNumber place)
+fault_at text n rest place so bad =
+    let has = has_first (cuts text) so.pieces rest so.first so.trimmed so.begins (omega (arith, so.counted.number)) in
+    let found = front_shorter bad.good has.others bad.bad bad.more has.gap (sym bad.parts ∙ has.goes_on) (omega (arith, bad.at, bad.within, ap length has.begins, so.counted.number)) in (
+      so.pieces,
+      so.trimmed,
       inr (
         n,
-        rw has.begins count,
-        short,
-        number,
+        so.counted,
         record {
-          first = first;
+          first = so.first;
           good = bad.good;
           bad = bad.bad;
           more = found.0;
-          parts = has.begins ∙ ap (λ t. first ∷ t) found.1;
+          parts = has.begins ∙ ap (λ t. so.first ∷ t) found.1;
           at = bad.at;
           before = bad.before;
           here = bad.here;

@@ -1,4 +1,5 @@
 pub mod Places
 pub mod DddLemmas
+pub mod DddLaws
 pub mod DigitLemmas
 pub mod PieceLemmas

@@ -70,6 +70,12 @@ abbrev pub Counts : List (List (List ℕ)) → ℕ → Type 0
 Counts [] n = ⊥
 Counts (first ∷ rest) n = SpellsCount first n
 
+-- the count is right: the first piece is the number n, at most 4096, and n pieces follow it
+pub record IsCounted (pieces : List (List (List ℕ))) (n : ℕ) : Type 0 where
+  pub count : Counts pieces n
+  pub short : n ≤ 4096
+  pub number : length pieces ≡ n + 1
+
 -- piece number place is the first after the count that spells no instruction
 pub record IsFirstBad (pieces : List (List (List ℕ))) (place : ℕ) : Type 0 where
   pub first : List (List ℕ)
@@ -85,7 +91,7 @@ pub record IsFirstBad (pieces : List (List (List ℕ))) (place : ℕ) : Type 0 w
 -- piece that is no instruction; want of memory is no fault of a text
 abbrev pub HasFault : List (List (List ℕ)) → TextFault → Type 0
 HasFault pieces (BadNumber place) = ((place ≡ 0) × ((n : ℕ) → ¬ (Counts pieces n)))
-    ⊎ ((n : ℕ) × Counts pieces n × (n ≤ 4096) × (length pieces ≡ n + 1) × IsFirstBad pieces place)
+    ⊎ ((n : ℕ) × IsCounted pieces n × IsFirstBad pieces place)
 HasFault pieces TooLong = (n : ℕ) × Counts pieces n × (4096 < n)
 HasFault pieces CountMismatch = (n : ℕ) × Counts pieces n × (n ≤ 4096) × (length pieces ≢ n + 1)
 HasFault pieces NoMemory = ⊥
@@ -93,3 +99,7 @@ HasFault pieces NoMemory = ⊥
 -- the first fault of a text
 abbrev pub Faults : List ℕ → TextFault → Type 0
 Faults text fault = (pieces : List (List (List ℕ))) × IsPieces text pieces × HasFault pieces fault
+
+-- the count of a text is right
+abbrev pub IsCountRight : List ℕ → Type 0
+IsCountRight text = (pieces : List (List (List ℕ))) × (n : ℕ) × IsPieces text pieces × IsCounted pieces n

@@ -4,12 +4,20 @@ use Rattle.std.specs.Prelude.{◌≡◌, ℕ, ◌+◌, ◌≤◌, List, [], ◌�
 use Rattle.std.specs.List.{AllZip}
 use Rattle.bpf_insn.specs.declared.insn.Insn.{Insn}
 use Rattle.bpf_insn.specs.Texts.{number_of}
-use Rattle.bpf_insn.specs.Ddd.{cuts, SpellsInsn, IsInsn}
+use Rattle.bpf_insn.specs.Ddd.{cuts, IsPieces, IsCounted, SpellsInsn, IsInsn}
 
 -- the pieces of the rest of a text, where there is a rest
 abbrev pub parts_of : Option (List ℕ) → List (List (List ℕ))
 parts_of None = []
 parts_of (Some text) = cuts text
+
+-- the count n of the text is right, and these are its pieces after the first, the empty ones at the end too
+pub record IsCountedText (text : List ℕ) (n : ℕ) (rest : List (List (List ℕ))) : Type 0 where
+  pub first : List (List ℕ)
+  pub pieces : List (List (List ℕ))
+  pub trimmed : IsPieces text pieces
+  pub counted : IsCounted pieces n
+  pub begins : cuts text ≡ first ∷ rest
 
 -- the first so many of these pieces spell a program
 pub record SpellsFirst (all : List (List (List ℕ))) (count : ℕ) (program : List Insn) : Type 0 where

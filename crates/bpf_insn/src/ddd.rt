@@ -1,9 +1,9 @@
-//! The decimal text of a program, as `tcpdump -ddd` writes it.
+//! The decimal text of a program.
 
-ghost use Rattle.std.specs.Prelude.{◌≡◌, ◌≢◌, ◌≤◌, ◌<◌, ◌+◌, ◌^◌, ◌⊎◌, ◌∷◌, [], ℕ, List, Some, length, min, IfOk, IfErr, MatchOption};
+ghost use Rattle.std.specs.Prelude.{◌≡◌, ◌≢◌, ◌≤◌, ◌<◌, ◌+◌, ◌^◌, ◌⊎◌, ◌∷◌, [], ℕ, List, Some, length, min, IfOk, IfErr, IsErrAnd, MatchOption, MatchResult};
 ghost use Rattle.std.specs.Option.{option_copied};
-ghost use Rattle.bpf_insn.specs.Ddd.{Ddd, Faults, IsInsn, IsPieces, SpellsCount, SpellsInsn};
-ghost use Rattle.bpf_insn.specs.Parts.{IsBadAt, SpellsFirst, StartsWithNumber, parts_of};
+ghost use Rattle.bpf_insn.specs.Ddd.{Ddd, Faults, IsCountRight, IsInsn, IsPieces, SpellsCount, SpellsInsn};
+ghost use Rattle.bpf_insn.specs.Parts.{IsBadAt, IsCountedText, SpellsFirst, StartsWithNumber, parts_of};
 ghost use Rattle.bpf_insn.specs.Texts.{number_of, words_of};
 
 use crate::Insn;
@@ -14,16 +14,18 @@ use std::alloc::{AllocError, AllocFailed, Global};
 /// The most instructions that a program has.
 const MOST: u64 = 4096;
 
-/// Why a text spells no program.
+/// Why a text spells no program. The first that applies is reported: the count, then its bound, then the number of
+/// instructions, then the instructions in order.
 #[derive(Clone, Copy, Debug, PartialEq, Eq)]
 pub enum TextFault {
-    /// The piece at this place is not what the format wants there.
+    /// The piece at this place is not what belongs there: at 0, the count, or at N, the four numbers of the Nth
+    /// instruction, each in the range of its field.
     BadNumber(u32),
-    /// The count differs from the number of instructions.
+    /// The count isn't the number of instructions that follow it.
     CountMismatch,
-    /// The count is above the limit.
+    /// The count is above 4096.
     TooLong,
-    /// Memory ran out.
+    /// Memory ran out. This says nothing of the text but that its count is right.
     NoMemory,
 }
 
@@ -47,10 +49,34 @@ impl<T: Drop> From<AllocFailed<T>> for TextFault {
     }
 }
 
-/// The program that a decimal text spells.
+/// The program that a decimal text spells: the number of instructions, then for each its code, jt, jf and k.
+///
+/// Commas and line feeds part the count and the instructions from one another, and spaces, tabs and carriage returns
+/// the numbers of one. What is empty at the end doesn't count, and numbers may have leading zeros. So this reads what
+/// `tcpdump -ddd` writes, line by line, and what `bpf_asm` writes and the bpf match of iptables takes, with commas.
+///
+/// At most 4096 instructions are read. Whether they make a program that can run isn't looked at.
 pub fn read_ddd(alloc: Global, text: &[u8]) -> Result<Vec<Insn>, TextFault>
     ensures spelled { IfOk result (λ program. Ddd text.now program.items) }
     ensures fault { IfErr result (λ fault. (fault ≡ TextFault.NoMemory) ⊎ Faults text.now fault) }
+
+    // A text stands for one program at most, or for one fault.
+    ensures only { (program : List Insn) → Ddd text.now program
+        → MatchResult result (λ found. found.items ≡ program) (λ fault. fault ≡ TextFault.NoMemory) }
+    ensures first { (fault : TextFault) → Faults text.now fault
+        → IsErrAnd result (λ found. (found ≡ TextFault.NoMemory) ⊎ (found ≡ fault)) }
+
+    // Want of memory never stands in the place of a wrong count.
+    ensures memory { result ≡ Err TextFault.NoMemory → IsCountRight text.now }
+{
+    let (count, rest) = read_count(text)?;
+    read_insns(alloc, rest, count)
+}
+
+/// The number of instructions that a text announces and has, and what stands after its first piece.
+fn read_count(text: &[u8]) -> Result<(usize, Option<&[u8]>), TextFault>
+    ensures counted { IfOk result (λ found. IsCountedText text.now found.0 (parts_of (option_copied found.1))) }
+    ensures fault { IfErr result (Faults text.now) }
 {
     let number = piece_count(text);
     if number == 0 {
@@ -64,10 +90,7 @@ pub fn read_ddd(alloc: Global, text: &[u8]) -> Result<Vec<Insn>, TextFault>
     if count as usize != number - 1 {
         return Err(TextFault::CountMismatch);
     }
-    match read_insns(alloc, rest, number - 1) {
-        Ok(program) => Ok(program),
-        Err(fault) => Err(fault),
-    }
+    Ok((number - 1, rest))
 }
 
 /// The instructions in the next pieces, the first of which is piece 1.

@@ -1,5 +1,9 @@
-//! Instructions of the classic BPF machine: records of four numbers, the 49 forms that they stand for, and their
-//! decimal text.
+//! Instructions of the classic BPF machine: the records of four numbers in which programs are stored, the 49 operation
+//! codes and the forms that they stand for, and the decimal text in which packet filters are passed around.
+//!
+//! The machine is that of McCanne and Jacobson, "The BSD Packet Filter: A New Architecture for User-level Packet
+//! Capture" (USENIX, winter 1993), section 3; the codes and the text are those of Linux
+//! Documentation/networking/filter and of `tcpdump -ddd`.
 #![tactic(auto)]
 
 mod ddd;
@@ -7,6 +11,8 @@ mod form;
 mod insn;
 mod number;
 mod pieces;
+#[cfg(test)]
+mod tests;
 
 pub use ddd::{TextFault, read_ddd};
 pub use form::{AluOp, Form, Size, Test};

@@ -1,8 +1,8 @@
-use Rattle.std.proofs.Common.{◌+◌, sym, ◌∙◌, arith, ◌<◌, length}
+use Rattle.std.proofs.Common.{◌+◌, sym, ◌∙◌, arith}
 use Rattle.std.proofs.lemmas.List.{take_rest}
 use Rattle.std.proofs.lemmas.List.Quantifiers.{position-Some}
 use Rattle.bpf_insn.specs.Texts.{is_blank}
-use Rattle.bpf_insn.proofs.PieceLemmas.{words_skip, words_take, words_empty, words_last}
+use Rattle.bpf_insn.proofs.PieceLemmas.{words_take, words_last}
 use Rattle.bpf_insn.proofs.pieces.first_word.Goals as goal
 
 pub overflow_add-rest : goal.overflow_add-rest
