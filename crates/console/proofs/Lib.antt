@@ -3,3 +3,7 @@ pub mod LineLemmas
 pub mod MatchingLemmas
 pub mod CodeLemmas
 pub mod HexLemmas
+pub mod FeedingLemmas
+pub mod PrintingLemmas
+pub mod DumpingLemmas
+pub mod CaptureLemmas

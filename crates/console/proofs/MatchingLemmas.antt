@@ -1,28 +1,35 @@
 -- What `match` has shown after some of its lines.
-use Rattle.std.proofs.Common.{◌≡◌, ℕ, ◌+◌, List, [], ◌∷◌, ◌++◌, ◌<◌, length, Option, Some, None, refl, ap, sym, ◌∙◌, append_assoc, arith, length-append, inl, inr, IsErr, flat_map}
+use Rattle.std.proofs.Common.{Result, Ok, Err, IfOk, ◌⊎◌, Bool, ◌≡◌, ℕ, ◌+◌, List, [], ◌∷◌, ◌++◌, ◌<◌, length, Option, Some, None, refl, ap, sym, ◌∙◌, append_assoc, arith, length-append, inl, inr, IsErr, flat_map}
 use Rattle.std.specs.List.{AllZip}
 use Rattle.std.specs.Io.KnownBytes.{Appends, Consumes, IsAtEnd}
-use Rattle.std.proofs.lemmas.List.{append-nil}
+use Rattle.std.proofs.lemmas.List.{append-nil, nil_from_length}
 use Rattle.hex.specs.Hex.{decode_of}
 use Rattle.bpf_insn.specs.declared.insn.Insn.{Insn}
 use Rattle.filter_vm.specs.declared.machine.Outcome.{Outcome}
+use Rattle.std.specs.Result.{IsErrOf}
+use Rattle.console.specs.declared.fault.EngineFault.{EngineFault}
+use Rattle.console.specs.declared.fault.EngineFault.TheVariants.{NoMemory}
+use Rattle.console.specs.Code.{IsGoodCode, ShowsBadCode}
 use Rattle.console.specs.Reading.{IsInput}
-use Rattle.console.specs.Matching.{Answers, ShowsLines, ShowsFirst, outcome_line, bad_line}
+use Rattle.pcap_reader.specs.declared.capture.Packet.{Packet as Captured}
+use Rattle.pcap_reader.specs.declared.capture.CaptureFault.{CaptureFault}
+use Rattle.console.specs.Faults.{fault_text}
+use Rattle.console.specs.Matching.{Answers, AnswersCaptured, ShowsLines, ShowsCapture, ShowsFirst, ShowsGoodCode, ShowsInput, ShowsPart, ShowsRead, outcome_line, bad_line}
 use Rattle.console.proofs.KnownBytesLemmas.{appends-then, appends-nothing}
 
 -- all is lines that were answered and the rest, and the answers are written but for what is kept back
-pub record SoFar (program : List Insn) (all rest : List (List ℕ)) (number : ℕ) (old new : Option (List ℕ)) (kept : List ℕ) : Type 0 where
-  pub good : List (List ℕ)
+pub record SoFar {A : Type 0} (Gives : A → Outcome → Type 0) (all rest : List A) (number : ℕ) (old new : Option (List ℕ)) (kept : List ℕ) : Type 0 where
+  pub good : List A
   pub outcomes : List Outcome
   pub written : List ℕ
   pub front : all ≡ good ++ rest
-  pub ran : AllZip (Answers program) good outcomes
+  pub ran : AllZip Gives good outcomes
   pub count : number ≡ length good
   pub appended : Appends old new written
   pub printed : written ++ kept ≡ flat_map outcome_line outcomes
 
-pub so_far_start : (program : List Insn) (all : List (List ℕ)) (known : Option (List ℕ)) → SoFar program all all 0 known known []
-so_far_start program all known = record {
+pub so_far_start : {A : Type 0} (Gives : A → Outcome → Type 0) (all : List A) (known : Option (List ℕ)) → SoFar Gives all all 0 known known []
+so_far_start Gives all known = record {
   good = [];
   outcomes = [];
   written = [];
@@ -44,23 +51,23 @@ flat_map-push : {A B : Type 0} (f : A → List B) (xs : List A) (x : A) → flat
 flat_map-push f [] x = append-nil (f x)
 flat_map-push f (a ∷ xs) x = ap (λ t. f a ++ t) (flat_map-push f xs x) ∙ sym (append_assoc (f a) (flat_map f xs) (f x))
 
-pub so_far_next : (program : List Insn) (all : List (List ℕ)) (line : List ℕ) (rest : List (List ℕ)) (n m : ℕ) (old new : Option (List ℕ)) (kept kept' : List ℕ) (o : Outcome)
-    → (left : List (List ℕ)) → left ≡ line ∷ rest → SoFar program all left n old new kept → Answers program line o → kept' ≡ kept ++ outcome_line o → m ≡ n + 1 → SoFar program all rest m old new kept'
-so_far_next program all line rest n m old new kept kept' o left first so ran text one = record {
+pub so_far_next : {A : Type 0} (Gives : A → Outcome → Type 0) (all : List A) (line : A) (rest : List A) (n m : ℕ) (old new : Option (List ℕ)) (kept kept' : List ℕ) (o : Outcome)
+    → (left : List A) → left ≡ line ∷ rest → SoFar Gives all left n old new kept → Gives line o → kept' ≡ kept ++ outcome_line o → m ≡ n + 1 → SoFar Gives all rest m old new kept'
+so_far_next Gives all line rest n m old new kept kept' o left first so ran text one = record {
   good = so.good ++ line ∷ [];
   outcomes = so.outcomes ++ o ∷ [];
   written = so.written;
   front = so.front ∙ ap (λ t. so.good ++ t) first ∙ sym (append_assoc so.good (line ∷ []) rest);
-  ran = AllZip-push (Answers program) so.good so.outcomes line o so.ran ran;
+  ran = AllZip-push Gives so.good so.outcomes line o so.ran ran;
   count = simp length-append (omega (arith, so.count));
   appended = so.appended;
   printed = ap (λ t. so.written ++ t) text ∙ sym (append_assoc so.written kept (outcome_line o)) ∙ ap (λ t. t ++ outcome_line o) so.printed ∙ sym (flat_map-push outcome_line so.outcomes o);
 }
 
 -- what was kept back is written
-pub so_far_written : (program : List Insn) (all rest : List (List ℕ)) (n : ℕ) (old new last : Option (List ℕ)) (kept : List ℕ)
-    → SoFar program all rest n old new kept → Appends new last kept → SoFar program all rest n old last []
-so_far_written program all rest n old new last kept so more = record {
+pub so_far_written : {A : Type 0} (Gives : A → Outcome → Type 0) (all rest : List A) (n : ℕ) (old new last : Option (List ℕ)) (kept : List ℕ)
+    → SoFar Gives all rest n old new kept → Appends new last kept → SoFar Gives all rest n old last []
+so_far_written Gives all rest n old new last kept so more = record {
   good = so.good;
   outcomes = so.outcomes;
   written = so.written ++ kept;
@@ -73,7 +80,7 @@ so_far_written program all rest n old new last kept so more = record {
 
 -- at the end of the lines
 pub so_far_end : (program : List Insn) (all : List (List ℕ)) (n : ℕ) (old new last : Option (List ℕ)) (kept : List ℕ)
-    → (left : List (List ℕ)) → left ≡ [] → SoFar program all left n old new kept → Appends new last kept → (text : List ℕ) × ShowsLines program all 0 text × Appends old last text
+    → (left : List (List ℕ)) → left ≡ [] → SoFar (Answers program) all left n old new kept → Appends new last kept → (text : List ℕ) × ShowsLines program all 0 text × Appends old last text
 so_far_end program all n old new last kept left none so more = (
   so.written ++ kept,
   record {
@@ -89,7 +96,7 @@ so_far_end program all n old new last kept left none so more = (
 
 -- at a line that spells no packet
 pub so_far_bad : (program : List Insn) (all : List (List ℕ)) (bad : List ℕ) (rest : List (List ℕ)) (n m : ℕ) (old new last : Option (List ℕ)) (kept kept' : List ℕ)
-    → (left : List (List ℕ)) → left ≡ bad ∷ rest → SoFar program all left n old new kept → IsErr (decode_of bad) → kept' ≡ kept ++ bad_line m → m ≡ n + 1 → Appends new last kept' → (text : List ℕ) × ShowsLines program all 1 text × Appends old last text
+    → (left : List (List ℕ)) → left ≡ bad ∷ rest → SoFar (Answers program) all left n old new kept → IsErr (decode_of bad) → kept' ≡ kept ++ bad_line m → m ≡ n + 1 → Appends new last kept' → (text : List ℕ) × ShowsLines program all 1 text × Appends old last text
 so_far_bad program all bad rest n m old new last kept kept' left first so err text one more = (
   so.written ++ kept',
   record {
@@ -103,10 +110,24 @@ so_far_bad program all bad rest n m old new last kept kept' left first so err te
   appends-then old new last so.written kept' so.appended more,
 )
 
+-- at the end of a capture's packets
+pub so_far_capture : (program : List Insn) (packets : List Captured) (fault : Option CaptureFault) (n : ℕ) (old new last : Option (List ℕ)) (kept kept' : List ℕ)
+    → (left : List Captured) → length left ≡ 0 → SoFar (AnswersCaptured program) packets left n old new kept → kept' ≡ kept ++ fault_text fault → Appends new last kept'
+    → (text : List ℕ) × ShowsCapture program packets fault text × Appends old last text
+so_far_capture program packets fault n old new last kept kept' left none so text more = (
+  so.written ++ kept',
+  record {
+    outcomes = so.outcomes;
+    ran = let whole : packets ≡ so.good = so.front ∙ ap (λ t. so.good ++ t) (nil_from_length left none) ∙ append-nil so.good in rw whole so.ran;
+    printed = ap (λ t. so.written ++ t) text ∙ sym (append_assoc so.written kept (fault_text fault)) ∙ ap (λ t. t ++ fault_text fault) so.printed;
+  },
+  appends-then old new last so.written kept' so.appended more,
+)
+
 -- where memory ran out
-pub so_far_part : (program : List Insn) (all rest : List (List ℕ)) (n : ℕ) (old new : Option (List ℕ)) (kept : List ℕ)
-    → SoFar program all rest n old new kept → (text : List ℕ) × ShowsFirst program all text × Appends old new text
-so_far_part program all rest n old new kept so = (
+pub so_far_part : {A : Type 0} (Gives : A → Outcome → Type 0) (all rest : List A) (n : ℕ) (old new : Option (List ℕ)) (kept : List ℕ)
+    → SoFar Gives all rest n old new kept → (text : List ℕ) × ShowsFirst Gives all text × Appends old new text
+so_far_part Gives all rest n old new kept so = (
   so.written,
   record {
     good = so.good;
@@ -131,3 +152,16 @@ pub whole_input : (old new : Option (List ℕ)) (held : List ℕ) → Consumes o
 whole_input None new held lost end = tt
 whole_input (Some xs) None held lost end = absurd lost
 whole_input (Some xs) (Some ys) held lost end = sym (lost ∙ ap (λ rest. held ++ rest) end ∙ append-nil held)
+
+-- what is shown of a good code is what is shown of its program
+pub shown_of : (r : Result ℕ EngineFault) (code : List ℕ) (program : List Insn) (pcap : Bool) (known old new : Option (List ℕ)) → IsGoodCode code program
+    → IfOk r (λ status. (text : List ℕ) × Appends old new text × ((input : List ℕ) × IsInput known input × ShowsInput program pcap input status text))
+    → IfOk r (λ status. (text : List ℕ) × Appends old new text
+    × ((ShowsBadCode code text × (status ≡ 1)) ⊎ ((input : List ℕ) × IsInput known input × ShowsGoodCode code pcap input status text)))
+shown_of (Ok status) code program pcap known old new good s = (s.0, s.1, inr (s.2.0, s.2.1, (program, good, s.2.2)))
+shown_of (Err fault) code program pcap known old new good s = tt
+
+pub part_of : (r : Result ℕ EngineFault) (code : List ℕ) (program : List Insn) (pcap : Bool) (known left old new : Option (List ℕ)) → IsGoodCode code program
+    → (IsErrOf r NoMemory → (text : List ℕ) × ShowsRead program pcap known left text × Appends old new text)
+    → IsErrOf r NoMemory → (text : List ℕ) × ShowsPart code pcap known left text × Appends old new text
+part_of r code program pcap known left old new good part = λ memory. let p = part memory in (p.0, inr (program, good, p.1), p.2)

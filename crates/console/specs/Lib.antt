@@ -1,3 +1,5 @@
 pub mod Reading
 pub mod Code
+pub mod Faults
 pub mod Matching
+pub mod Dumping

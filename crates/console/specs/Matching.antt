@@ -1,5 +1,5 @@
--- What `match` shows: a line for each packet, up to the first input line that spells none.
-use Rattle.std.specs.Prelude.{◌≡◌, ℕ, ◌+◌, ◌<◌, ◌≤◌, ◌⊎◌, List, [], ◌∷◌, ◌++◌, length, codes, Ok, flat_map, Option, IsErr}
+-- What `match` shows: a line for each packet, up to the first input line that spells none, or to the fault of a capture.
+use Rattle.std.specs.Prelude.{◌≡◌, ℕ, ◌+◌, ◌<◌, ◌≤◌, ◌⊎◌, List, [], ◌∷◌, ◌++◌, length, codes, Ok, flat_map, Option, Bool, true, false, IsErr}
 use Rattle.std.specs.List.{AllZip}
 use Rattle.std.specs.Fmt.{decimal}
 use Rattle.std.specs.Str.Lines.{lines}
@@ -8,8 +8,12 @@ use Rattle.hex.specs.Hex.{decode_of}
 use Rattle.bpf_insn.specs.declared.insn.Insn.{Insn}
 use Rattle.filter_vm.specs.declared.machine.Outcome.{Outcome}
 use Rattle.filter_vm.specs.Machine.{Packet, Ends}
-use Rattle.console.specs.Code.{IsGoodCode, ShowsBadCode}
-use Rattle.console.specs.Reading.{IsInput}
+use Rattle.pcap_reader.specs.declared.capture.Header.{Header}
+use Rattle.pcap_reader.specs.declared.capture.Packet.{Packet as Captured}
+use Rattle.pcap_reader.specs.declared.capture.CaptureFault.{CaptureFault}
+use Rattle.pcap_reader.specs.Savefile.{Reads}
+use Rattle.console.specs.Code.{IsGoodCode}
+use Rattle.console.specs.Faults.{fault_status, fault_text}
 use Rattle.console.specs.declared.fault.EngineFault.{EngineFault}
 use Rattle.console.specs.declared.fault.EngineFault.TheVariants.{ReadFailed, WriteFailed, NoMemory}
 
@@ -21,6 +25,11 @@ Hex line packet = (decode_of line ≡ Ok packet.bytes) × (packet.original ≡ l
 -- the program ends on the packet that a line spells with this outcome
 abbrev pub Answers : List Insn → List ℕ → Outcome → Type 0
 Answers program line outcome = (packet : Packet) × Hex line packet × Ends program packet outcome.verdict outcome.steps
+
+-- the program ends on a packet of a capture with this outcome
+abbrev pub AnswersCaptured : List Insn → Captured → Outcome → Type 0
+AnswersCaptured program packet outcome =
+    Ends program (record { bytes = packet.bytes; original = packet.original }) outcome.verdict outcome.steps
 
 -- the verdict and the steps of an outcome, on a line
 abbrev pub outcome_line : Outcome → List ℕ
@@ -46,31 +55,56 @@ pub record ShowsLines (program : List Insn) (all : List (List ℕ)) (status : �
   pub stops : Stops all good status complaint
   pub printed : text ≡ flat_map outcome_line outcomes ++ complaint
 
--- what is shown of an input: its lines, where it isn't too long
-abbrev pub ShowsInput : List Insn → List ℕ → ℕ → List ℕ → Type 0
-ShowsInput program input status text =
-    ((length input ≤ 67108864) × ShowsLines program (lines input) status text)
+-- what is shown of these packets of a capture, and of the fault behind them
+pub record ShowsCapture (program : List Insn) (packets : List Captured) (fault : Option CaptureFault) (text : List ℕ) : Type 0 where
+  pub outcomes : List Outcome
+  pub ran : AllZip (AnswersCaptured program) packets outcomes
+  pub printed : text ≡ flat_map outcome_line outcomes ++ fault_text fault
+
+-- what is shown of bytes: of their lines, or of the capture that they hold
+abbrev pub ShowsBytes : List Insn → Bool → List ℕ → ℕ → List ℕ → Type 0
+ShowsBytes program false input status text = ShowsLines program (lines input) status text
+ShowsBytes program true input status text =
+    (header : Option Header) × (packets : List Captured) × (fault : Option CaptureFault)
+    × Reads input header packets fault × ShowsCapture program packets fault text × (status ≡ fault_status fault)
+
+-- what is shown of an input, where it isn't too long
+abbrev pub ShowsInput : List Insn → Bool → List ℕ → ℕ → List ℕ → Type 0
+ShowsInput program pcap input status text =
+    ((length input ≤ 67108864) × ShowsBytes program pcap input status text)
     ⊎ ((67108864 < length input) × (status ≡ 1) × (text ≡ codes "fault InputTooLong\n"))
 
 -- what `match` shows of a good code and an input
-abbrev pub ShowsGoodCode : List ℕ → List ℕ → ℕ → List ℕ → Type 0
-ShowsGoodCode code input status text = (program : List Insn) × IsGoodCode code program × ShowsInput program input status text
+abbrev pub ShowsGoodCode : List ℕ → Bool → List ℕ → ℕ → List ℕ → Type 0
+ShowsGoodCode code pcap input status text =
+    (program : List Insn) × IsGoodCode code program × ShowsInput program pcap input status text
 
--- text is a front of what is shown of the first lines
-pub record ShowsFirst (program : List Insn) (all : List (List ℕ)) (text : List ℕ) : Type 0 where
-  pub good : List (List ℕ)
-  pub left : List (List ℕ)
+-- text is a front of what is shown of the first of these lines or packets
+pub record ShowsFirst {A : Type 0} (Gives : A → Outcome → Type 0) (all : List A) (text : List ℕ) : Type 0 where
+  pub good : List A
+  pub left : List A
   pub outcomes : List Outcome
   pub more : List ℕ
   pub front : all ≡ good ++ left
-  pub ran : AllZip (Answers program) good outcomes
+  pub ran : AllZip Gives good outcomes
   pub printed : text ++ more ≡ flat_map outcome_line outcomes
 
--- text is a front of what is shown of a good code and of the bytes that the reader lost, which aren't too many
-abbrev pub ShowsPart : List ℕ → Option (List ℕ) → Option (List ℕ) → List ℕ → Type 0
-ShowsPart code old new text = (text ≡ [])
-    ⊎ ((input : List ℕ) × Consumes old new input × (length input ≤ 67108864)
-    × (program : List Insn) × IsGoodCode code program × ShowsFirst program (lines input) text)
+-- text is a front of what is shown of bytes
+abbrev pub ShowsFront : List Insn → Bool → List ℕ → List ℕ → Type 0
+ShowsFront program false input text = ShowsFirst (Answers program) (lines input) text
+ShowsFront program true input text =
+    (header : Option Header) × (packets : List Captured) × (fault : Option CaptureFault)
+    × Reads input header packets fault × ShowsFirst (AnswersCaptured program) packets text
+
+-- text is nothing, or a front of what is shown of the bytes that the reader lost, which aren't too many
+abbrev pub ShowsRead : List Insn → Bool → Option (List ℕ) → Option (List ℕ) → List ℕ → Type 0
+ShowsRead program pcap old new text = (text ≡ [])
+    ⊎ ((input : List ℕ) × Consumes old new input × (length input ≤ 67108864) × ShowsFront program pcap input text)
+
+-- text is nothing, or such a front for a good code
+abbrev pub ShowsPart : List ℕ → Bool → Option (List ℕ) → Option (List ℕ) → List ℕ → Type 0
+ShowsPart code pcap old new text = (text ≡ [])
+    ⊎ ((program : List Insn) × IsGoodCode code program × ShowsRead program pcap old new text)
 
 -- what can go wrong while text is printed
 abbrev pub IsPrintFault : EngineFault → Type 0

@@ -1,6 +1,9 @@
 -- What an engine was given to read, where the bytes of its reader are known.
-use Rattle.std.specs.Prelude.{◌≡◌, ℕ, ◌<◌, ◌≤◌, ◌⊎◌, List, length, Option, Some, None, ⊤}
+use Rattle.std.specs.Prelude.{◌≡◌, ℕ, ◌++◌, ◌<◌, ◌≤◌, ◌⊎◌, List, length, Option, Some, None, ⊤, Bool, true, false}
 use Rattle.std.specs.Io.KnownBytes.{Consumes, IsAtEnd}
+use Rattle.pcap_reader.specs.declared.capture.CaptureFault.{CaptureFault}
+use Rattle.pcap_reader.specs.declared.feed.Feed.{Feed}
+use Rattle.pcap_reader.specs.Held.{Holds, held_fault}
 use Rattle.console.specs.declared.input.Input.{Input}
 use Rattle.console.specs.declared.input.Input.TheVariants.{Whole, TooLong}
 use Rattle.console.specs.declared.fault.EngineFault.{EngineFault}
@@ -10,6 +13,15 @@ use Rattle.console.specs.declared.fault.EngineFault.TheVariants.{ReadFailed, NoM
 abbrev pub Gave : Option (List ℕ) → Option (List ℕ) → ℕ → Input → Type 0
 Gave old new most (Whole held) = Consumes old new held.items × IsAtEnd new × (length held.items ≤ most)
 Gave old new most TooLong = (given : List ℕ) × Consumes old new given × (most < length given)
+
+-- a reader lost just these bytes, which a feed holds, and then was at its end, or it lost more than the limit
+abbrev pub Fed : Option (List ℕ) → Option (List ℕ) → ℕ → Feed → Bool → Type 0
+Fed old new most feed true = (given : List ℕ) × Consumes old new given × Holds given feed × IsAtEnd new × (length given ≤ most)
+Fed old new most feed false = (given : List ℕ) × Consumes old new given × (most < length given)
+
+-- a feed has met a fault, so it takes nothing more
+abbrev pub HasStopped : Feed → Type 0
+HasStopped feed = (fault : CaptureFault) × (held_fault feed ≡ Some fault)
 
 -- a reader lost some bytes at its front, or none
 abbrev pub LosesSome : Option (List ℕ) → Option (List ℕ) → Type 0
@@ -23,3 +35,7 @@ IsReadFault e = (e ≡ ReadFailed) ⊎ (e ≡ NoMemory)
 abbrev pub IsInput : Option (List ℕ) → List ℕ → Type 0
 IsInput None input = ⊤
 IsInput (Some bytes) input = input ≡ bytes
+
+-- whole begins with text
+abbrev pub BeginsWith : List ℕ → List ℕ → Type 0
+BeginsWith text whole = (more : List ℕ) × (whole ≡ text ++ more)

@@ -1,10 +1,12 @@
-//! Reading an input whole, up to a limit.
+//! Reading an input to its end, up to a limit: whole, or handed on in pieces.
 
-ghost use Rattle.std.specs.Prelude.{IfOk, IfErr};
-ghost use Rattle.console.specs.Reading.{Gave, IsReadFault, LosesSome};
+ghost use Rattle.std.specs.Prelude.{◌<◌, ◌^◌, ◌++◌, ℕ, List, [], length, IfOk, IfErr, OnOk, IsTrue};
+ghost use Rattle.pcap_reader.specs.Held.{Holds};
+ghost use Rattle.console.specs.Reading.{Fed, Gave, HasStopped, IsReadFault, LosesSome};
 
 use crate::EngineFault;
-use std::alloc::Global;
+use pcap_reader::{CaptureFault, Feed};
+use std::alloc::{AllocError, Global};
 use std::io::{ErrorKind, Read};
 
 /// The most bytes of one input: 64 MiB.
@@ -59,4 +61,58 @@ pub fn read_bounded<R: Read>(
         }
     }
     Err(EngineFault::ReadFailed)
+}
+
+/// Reads to the end and feeds what each read gave, at most 65,536 bytes a read; false where more than `bytes` bytes came.
+///
+/// The reads count as those of `read_bounded`. After a fault of the capture it reads on without feeding, so that an input
+/// that is too long is told all the same. `feed` was given nothing before.
+pub fn feed_bounded<R: Read>(
+    reader: &mut R,
+    feed: &mut Feed,
+    bytes: u64,
+    reads: u64,
+) -> Result<bool, EngineFault>
+    requires { Holds [] feed.old }
+    ensures fed { IfOk result (Fed (R.remaining reader.old) (R.remaining reader.new) bytes feed.new) }
+    ensures fault { IfErr result IsReadFault }
+    ensures taken { LosesSome (R.remaining reader.old) (R.remaining reader.new) }
+{
+    let mut taken: u64 = 0;
+    let mut stopped = false;
+    let mut block = [0u8; BLOCK];
+    for _ in 0..reads {
+        match reader.read(&mut block) {
+            Ok(0) => return Ok(true),
+            Ok(count) => {
+                if count as u64 > bytes - taken {
+                    return Ok(false);
+                }
+                taken += count as u64;
+                stopped = hand_on(feed, stopped, &block[..count])?;
+            }
+            Err(error) => {
+                if error.kind() != ErrorKind::Interrupted {
+                    return Err(EngineFault::ReadFailed);
+                }
+            }
+        }
+    }
+    Err(EngineFault::ReadFailed)
+}
+
+/// Feeds a piece unless the capture has a fault, and says whether it has one then.
+fn hand_on(feed: &mut Feed, stopped: bool, piece: &[u8]) -> Result<bool, AllocError>
+    requires { IsTrue stopped → HasStopped feed.old }
+    ensures stopped { IfOk result (λ now. IsTrue now → HasStopped feed.new) }
+    ensures holds { OnOk result ((fed : List ℕ) → Holds fed feed.old → length (fed ++ piece.now) < 2 ^ 64 → Holds (fed ++ piece.now) feed.new) }
+{
+    if stopped {
+        return Ok(true);
+    }
+    match feed.piece(piece) {
+        Ok(()) => Ok(false),
+        Err(CaptureFault::NoMemory) => Err(AllocError),
+        Err(_) => Ok(true),
+    }
 }

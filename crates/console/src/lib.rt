@@ -1,16 +1,22 @@
 //! The engines behind the commands of `mkdemux`, over any reader and any writer.
 #![tactic(auto)]
 
+mod capture_fault;
 mod code;
+mod dumping;
 mod fault;
 mod hexadecimal;
 mod input;
 mod lines;
+mod match_capture;
+mod match_lines;
 mod matching;
+mod outcome;
 mod output;
 
+pub use dumping::run_dump;
 pub use fault::EngineFault;
-pub use input::{Input, read_bounded};
+pub use input::{Input, feed_bounded, read_bounded};
 pub use matching::run_match;
 
 #[cfg(test)]

@@ -1,50 +1,47 @@
 //! `match`: runs a filter on packets.
 
-ghost use Rattle.std.specs.Prelude.{◌≡◌, ◌+◌, ◌<◌, ◌++◌, ◌⊎◌, ◌^◌, ℕ, List, length, IfOk, IfErr, IsErr, IsErrOf, OnOk, MatchOption, string_bytes};
+ghost use Rattle.std.specs.Prelude.{◌≡◌, ◌⊎◌, ℕ, List, IfOk, IfErr, IsErrOf};
 ghost use Rattle.std.specs.Io.KnownBytes.{Appends};
-ghost use Rattle.std.specs.Str.Lines.{lines};
-ghost use Rattle.hex.specs.Hex.{decode_of};
 ghost use Rattle.bpf_insn.specs.declared.insn.Insn.{Insn};
 ghost use Rattle.console.specs.Code.{IsGoodCode, ShowsBadCode};
 ghost use Rattle.console.specs.Reading.{IsInput};
-ghost use Rattle.console.specs.Matching.{Answers, IsEngineFault, IsPrintFault, ShowsFirst, ShowsGoodCode, ShowsLines, ShowsPart, bad_line, outcome_line};
+ghost use Rattle.console.specs.Matching.{IsEngineFault, ShowsGoodCode, ShowsPart};
 
 use crate::code::read_code;
-use crate::input::{INPUT_BYTES, INPUT_READS, Input, read_bounded};
-use crate::lines::first_line;
-use crate::output::{BLOCK, write_text};
-use crate::{EngineFault, hexadecimal};
-use filter_verify::Verified;
-use filter_vm::{Outcome, run};
-use std::alloc::{AllocError, Global};
-use std::fmt::Write as FmtWrite;
+use crate::output::write_text;
+use crate::{EngineFault, match_capture, match_lines};
+use std::alloc::Global;
 use std::io::{Read, Write};
 
-/// Runs the filter that `code` spells, in decimal text, on the packet of each line of the input, and answers the
-/// status.
+/// Runs the filter that `code` spells, in decimal text, on packets of the input, and answers the status.
 ///
-/// A line is an even number of hexadecimal digits of either case. For each it writes the verdict and the number of
-/// instructions that ran, as `VERDICT STEPS`, with status 0; at the first line that is no packet it writes
-/// `line N: BadHex`, N counting from 1, and ends with status 1. An input of more than 64 MiB is not run at all:
-/// `fault InputTooLong`, status 1. For a code that is no program, or that the verifier refuses, it writes one line that
-/// says why, with status 1, and reads nothing.
+/// For each packet it writes the verdict and the number of instructions that ran, as `VERDICT STEPS`, with status 0.
+///
+/// - Where `pcap` is false a packet is a line with an even number of hexadecimal digits of either case. At the first line
+///   that is no packet it writes `line N: BadHex`, N counting from 1, and ends with status 1.
+/// - Where `pcap` is true the input is a capture. What stands before a fault of the capture is written, then
+///   `fault NAME`, with the fault's offset where it has one, and the status is 1.
+///
+/// An input of more than 64 MiB is not run at all: `fault InputTooLong`, status 1. For a code that is no program, or that
+/// the verifier refuses, it writes one line that says why, with status 1, and reads nothing.
 ///
 /// Answers `ReadFailed`, with nothing written, where a read fails; `WriteFailed`; and `NoMemory`, where a front of the
 /// text may have been written.
 pub fn run_match<R: Read, W: Write>(
     alloc: Global,
     code: &[u8],
+    pcap: bool,
     reader: &mut R,
     writer: &mut W,
 ) -> Result<u8, EngineFault>
     ensures shown { IfOk result (λ status. (text : List ℕ) × Appends (W.contents writer.old) (W.contents writer.new) text
         × ((ShowsBadCode code.now text × (status ≡ 1))
-        ⊎ ((input : List ℕ) × IsInput (R.remaining reader.old) input × ShowsGoodCode code.now input status text))) }
+        ⊎ ((input : List ℕ) × IsInput (R.remaining reader.old) input × ShowsGoodCode code.now pcap input status text))) }
     ensures unread { ((program : List Insn) → IsGoodCode code.now program → ⊥) → reader.new ≡ reader.old }
     ensures fault { IfErr result IsEngineFault }
     ensures silent { IsErrOf result EngineFault.ReadFailed → writer.new ≡ writer.old }
     ensures part { IsErrOf result EngineFault.NoMemory → (text : List ℕ)
-        × ShowsPart code.now (R.remaining reader.old) (R.remaining reader.new) text
+        × ShowsPart code.now pcap (R.remaining reader.old) (R.remaining reader.new) text
         × Appends (W.contents writer.old) (W.contents writer.new) text }
 {
     let program = match read_code(alloc, code)? {
@@ -54,88 +51,9 @@ pub fn run_match<R: Read, W: Write>(
             return Ok(1);
         }
     };
-    match read_bounded(alloc, reader, INPUT_BYTES, INPUT_READS)? {
-        Input::TooLong => {
-            write_text(writer, "fault InputTooLong\n")?;
-            Ok(1)
-        }
-        Input::Whole(input) => {
-            let status = match_lines(alloc, &program, input.as_slice(), writer)?;
-            Ok(status)
-        }
-    }
-}
-
-/// Runs the filter on the packet of each line, up to the first line that spells none.
-fn match_lines<W: Write>(
-    alloc: Global,
-    program: &Verified,
-    input: &[u8],
-    writer: &mut W,
-) -> Result<u8, EngineFault>
-    requires { length input.now < 2 ^ 32 }
-    ensures shown { IfOk result (λ status. (text : List ℕ) × ShowsLines program.now (lines input.now) status text
-        × Appends (W.contents writer.old) (W.contents writer.new) text) }
-    ensures part { IsErrOf result EngineFault.NoMemory → (text : List ℕ) × ShowsFirst program.now (lines input.now) text
-        × Appends (W.contents writer.old) (W.contents writer.new) text }
-    ensures fault { IfErr result IsPrintFault }
-{
-    let mut text = String::new(alloc);
-    let mut packet = Vec::new(alloc);
-    let mut rest = input;
-    let mut number: u32 = 0;
-    while let Some((line, more)) = first_line(rest) {
-        rest = more;
-        number += 1;
-        match outcome_of(program, line, &mut packet)? {
-            Some(outcome) => push_outcome(&mut text, outcome)?,
-            None => {
-                push_bad_line(&mut text, number)?;
-                write_text(writer, text.as_str())?;
-                return Ok(1);
-            }
-        }
-        if text.len() >= BLOCK {
-            write_text(writer, text.as_str())?;
-            text.clear();
-        }
-    }
-    write_text(writer, text.as_str())?;
-    Ok(0)
-}
-
-/// The outcome on the packet that a line spells, if it spells one. The packet is put into a buffer that is kept from
-/// line to line.
-fn outcome_of(
-    program: &Verified,
-    line: &[u8],
-    buffer: &mut Vec<u8>,
-) -> Result<Option<Outcome>, AllocError>
-    requires { length line.now < 2 ^ 32 }
-    ensures { IfOk result (λ found. MatchOption found (IsErr (decode_of line.now)) (Answers program.now line.now)) }
-{
-    let length = line.len() / 2;
-    if buffer.len() < length {
-        buffer.resize(length, 0)?;
-    }
-    let packet = &mut buffer.as_mut_slice()[..length];
-    if hexadecimal::decode(line, packet) {
-        Ok(Some(run(program, packet, length as u32)))
+    if pcap {
+        match_capture::match_input(alloc, &program, reader, writer)
     } else {
-        Ok(None)
+        match_lines::match_input(alloc, &program, reader, writer)
     }
-}
-
-/// Prints an outcome.
-fn push_outcome(text: &mut String, outcome: Outcome) -> Result<(), AllocError>
-    ensures { OnOk result (string_bytes text.new ≡ string_bytes text.old ++ outcome_line outcome) }
-{
-    writeln!(text, "{} {}", outcome.verdict, outcome.steps)
-}
-
-/// Prints the complaint about a line.
-fn push_bad_line(text: &mut String, number: u32) -> Result<(), AllocError>
-    ensures { OnOk result (string_bytes text.new ≡ string_bytes text.old ++ bad_line number) }
-{
-    writeln!(text, "line {number}: BadHex")
 }

@@ -1,4 +1,5 @@
 //! The engines over readers and writers in memory, some of which fail.
 
+mod captures;
 mod devices;
 mod matches;

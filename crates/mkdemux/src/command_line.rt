@@ -1,9 +1,10 @@
 //! The commands of the program, and their help.
 
-use clap::{Arg, Command};
+use clap::{Arg, ArgAction, Command};
 use std::alloc::{AllocError, Global};
 
-const ABOUT: &str = "Run classic BPF filters on packets, by a verifier and a machine that are proved";
+const ABOUT: &str =
+    "Run classic BPF filters on packets, by a verifier and a machine that are proved";
 
 const EXIT_STATUS: &str = "\
 Exit status:
@@ -12,7 +13,7 @@ Exit status:
   2  a fault of the command line
   3  out of memory, or a device failed: one line is on standard error";
 
-const MATCH_ABOUT: &str = "Run a filter on the packets of standard input, one line of hexadecimal digits each";
+const MATCH_ABOUT: &str = "Run a filter on the packets of standard input";
 
 const MATCH_DETAILS: &str = "\
 Run a filter on the packets of standard input.
@@ -24,6 +25,10 @@ empty packet. For each packet one line is printed:
 
 the number of bytes that the filter keeps (0: not accepted) and the number of instructions that ran. At the first line
 that is no packet, `line N: BadHex` is printed and the command ends with status 1.
+
+With --pcap standard input is a capture: a classic pcap savefile, version 2.4, of either byte order, with micro- or
+nanoseconds. The packets before a fault of the capture are run, then `fault NAME` is printed, with the fault's place in the
+file where it has one, and the status is 1.
 
 The filter is verified first: each accepted filter ends on each packet, within as many steps as it has instructions. A
 CODE that is no filter, or that the verifier refuses, prints one line that says why, and nothing is read.";
@@ -40,9 +45,31 @@ Example: which of these packets are ARP?
 
 Filters as tcpdump and bpf_asm write them are taken as they are:
 
-    $ mkdemux match \"$(tcpdump -ddd -y EN10MB arp)\" < packets.hex";
+    $ mkdemux match \"$(tcpdump -ddd -y EN10MB arp)\" --pcap < packets.pcap";
 
-const CODE_HELP: &str = "The filter in decimal text: the number of instructions, then CODE JT JF K for each, parted by commas or newlines";
+const CODE_HELP: &str =
+    "The filter in decimal text: the number of instructions, then CODE JT JF K for each, parted by commas or newlines";
+
+const PCAP_HELP: &str = "Read a capture in place of hexadecimal lines";
+
+const DUMP_ABOUT: &str = "Print the header and the packets of a capture";
+
+const DUMP_DETAILS: &str = "\
+Print the header and the packets of the capture on standard input.
+
+A capture is a classic pcap savefile, version 2.4, of either byte order, with micro- or nanoseconds. Its header and each
+packet are a line, and a fault, if there is one, is the last line, with status 1:
+
+    pcap little|big micro|nano snaplen N network N
+    N captured C original O HEX
+    fault NAME [PLACE]
+
+A packet's HEX is what `match` reads; it is `-` where no bytes were captured.";
+
+const DUMP_EXAMPLE: &str = "\
+Example: the packets of a capture as lines for `match`
+
+    $ mkdemux dump < packets.pcap | sed -n 's/.* original [0-9]* //p' | sed 's/^-$//' > packets.hex";
 
 /// The command line of the program.
 pub fn command<'a>(alloc: Global) -> Result<Command<'a>, AllocError> {
@@ -50,15 +77,25 @@ pub fn command<'a>(alloc: Global) -> Result<Command<'a>, AllocError> {
         .value_name("CODE")
         .help(CODE_HELP)
         .required(true);
+    let pcap = Arg::new(alloc, "pcap")
+        .long("pcap")
+        .help(PCAP_HELP)
+        .action(ArgAction::SetTrue);
     let matching = Command::new(alloc, "match")
         .about(MATCH_ABOUT)
         .long_about(MATCH_DETAILS)
         .after_help(MATCH_EXAMPLE)
-        .arg(code)?;
+        .arg(code)?
+        .arg(pcap)?;
+    let dump = Command::new(alloc, "dump")
+        .about(DUMP_ABOUT)
+        .long_about(DUMP_DETAILS)
+        .after_help(DUMP_EXAMPLE);
     Command::new(alloc, "mkdemux")
         .version("0.1.0")
         .about(ABOUT)
         .after_help(EXIT_STATUS)
         .subcommand_required(true)
-        .subcommand(matching)
+        .subcommand(matching)?
+        .subcommand(dump)
 }

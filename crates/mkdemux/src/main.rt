@@ -8,7 +8,7 @@ mod command_line;
 
 use clap::error::ErrorKind;
 use clap::{ArgMatches, Error};
-use console::{EngineFault, run_match};
+use console::{EngineFault, run_dump, run_match};
 use std::io;
 use std::process::ExitCode;
 
@@ -48,16 +48,20 @@ fn words(rt: &HostRuntime) -> io::Result<Vec<String>> {
 
 /// Runs the engine of the command that was given.
 fn dispatch(rt: &HostRuntime, matches: &ArgMatches) -> u8 {
-    let Some(("match", found)) = matches.subcommand() else {
-        return USAGE;
+    let answer = match matches.subcommand() {
+        Some(("match", found)) => {
+            let code = found.get_str("code").unwrap_or("");
+            run_match(
+                rt.alloc(),
+                code.as_bytes(),
+                found.get_flag("pcap"),
+                &mut rt.stdin(),
+                &mut rt.stdout(),
+            )
+        }
+        Some(("dump", _)) => run_dump(rt.alloc(), &mut rt.stdin(), &mut rt.stdout()),
+        _ => return USAGE,
     };
-    let code = found.get_str("code").unwrap_or("");
-    let answer = run_match(
-        rt.alloc(),
-        code.as_bytes(),
-        &mut rt.stdin(),
-        &mut rt.stdout(),
-    );
     match answer {
         Ok(status) => status,
         Err(fault) => failed(rt, fault),

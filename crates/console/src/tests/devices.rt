@@ -1,6 +1,7 @@
 //! Readers and writers that give or take little at a time, and fail when they are told to.
 
-use crate::{EngineFault, Input, read_bounded, run_match};
+use crate::{EngineFault, Input, feed_bounded, read_bounded, run_dump, run_match};
+use pcap_reader::Feed;
 use std::alloc::Global;
 use std::io;
 use std::io::{ErrorKind, Read, Write};
@@ -89,7 +90,13 @@ const SHOWN: u32 = 17;
 
 fn with_reader(alloc: Global, fails_at: u32) -> (Result<u8, EngineFault>, usize) {
     let mut out = Vec::new(alloc);
-    let answer = run_match(alloc, ARP, &mut Pieces::new(PACKETS, 1, fails_at), &mut out);
+    let answer = run_match(
+        alloc,
+        ARP,
+        false,
+        &mut Pieces::new(PACKETS, 1, fails_at),
+        &mut out,
+    );
     (answer, out.len())
 }
 
@@ -114,7 +121,13 @@ fn a_write_that_fails_is_reported(rt: HostRuntime) {
             writes: 0,
             fails_at,
         };
-        let answer = run_match(rt.alloc(), ARP, &mut Pieces::new(PACKETS, 64, 0), &mut sink);
+        let answer = run_match(
+            rt.alloc(),
+            ARP,
+            false,
+            &mut Pieces::new(PACKETS, 64, 0),
+            &mut sink,
+        );
         if fails_at <= SHOWN {
             assert_eq!(rt; answer, Err(EngineFault::WriteFailed), "write {fails_at}");
             assert_eq!(rt; sink.taken, fails_at.saturating_sub(1));
@@ -148,6 +161,44 @@ fn reading_stops_at_its_limits(rt: HostRuntime) -> Result<(), Fail> {
         assert_eq!(rt; got, want, "{length} bytes");
     }
     Ok(())
+}
+
+#[test]
+fn a_dump_that_fails_to_be_written_is_reported(rt: HostRuntime) {
+    let capture =
+        b"\xd4\xc3\xb2\xa1\x02\0\x04\0\0\0\0\0\0\0\0\0\xff\xff\0\0\x01\0\0\0\0\0\0\0\0\0\0\0\x02\0\0\0\x02\0\0\0\xab\xcd\0\0\0\0\0";
+    // The header's line has 42 bytes, the packet's 29 and the fault's 25.
+    for fails_at in 1..98 {
+        let mut sink = Sink {
+            taken: 0,
+            writes: 0,
+            fails_at,
+        };
+        let mut reader = Pieces::new(capture, 64, 0);
+        let answer = run_dump(rt.alloc(), &mut reader, &mut sink);
+        if fails_at <= 96 {
+            assert_eq!(rt; answer, Err(EngineFault::WriteFailed), "write {fails_at}");
+        } else {
+            assert_eq!(rt; answer, Ok(1));
+            assert_eq!(rt; sink.taken, 96);
+        }
+    }
+}
+
+#[test]
+fn feeding_stops_at_its_limits(rt: HostRuntime) {
+    let rows: [(usize, u64, u64, Result<bool, EngineFault>); 4] = [
+        (5, 4, 99, Ok(false)),
+        (3, 9, 3, Err(EngineFault::ReadFailed)),
+        (2, 9, 3, Ok(true)),
+        (4, 4, 5, Ok(true)),
+    ];
+    for (length, bytes, reads, want) in rows {
+        let mut feed = Feed::new(rt.alloc());
+        let mut reader = Pieces::new(&[7; 5][..length], 1, 0);
+        let got = feed_bounded(&mut reader, &mut feed, bytes, reads);
+        assert_eq!(rt; got, want, "{length} bytes");
+    }
 }
 
 #[test]

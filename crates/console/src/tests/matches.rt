@@ -10,7 +10,7 @@ use std::test::Fail;
 fn run(alloc: Global, code: &str, input: &str) -> (Result<u8, EngineFault>, Vec<u8>) {
     let mut out = Vec::new(alloc);
     let mut reader = Pieces::new(input.as_bytes(), 65_536, 0);
-    let answer = run_match(alloc, code.as_bytes(), &mut reader, &mut out);
+    let answer = run_match(alloc, code.as_bytes(), false, &mut reader, &mut out);
     (answer, out)
 }
 
@@ -79,7 +79,7 @@ fn codes_that_are_no_filters(rt: HostRuntime) {
         // A reader that fails at its first read: nothing is read.
         let mut out = Vec::new(rt.alloc());
         let mut reader = Pieces::new(b"05\n", 1, 1);
-        let answer = run_match(rt.alloc(), code.as_bytes(), &mut reader, &mut out);
+        let answer = run_match(rt.alloc(), code.as_bytes(), false, &mut reader, &mut out);
         assert_eq!(rt; answer, Ok(1), "{code}");
         assert_eq!(rt; out.as_slice(), shown.as_bytes(), "{code}");
     }
@@ -149,7 +149,7 @@ impl std::io::Read for Endless {
 #[test]
 fn an_input_above_its_limit_is_told_alone(rt: HostRuntime) {
     let mut out = Vec::new(rt.alloc());
-    let answer = run_match(rt.alloc(), b"1,6 0 0 5", &mut Endless, &mut out);
+    let answer = run_match(rt.alloc(), b"1,6 0 0 5", false, &mut Endless, &mut out);
     assert_eq!(rt; answer, Ok(1));
     assert_eq!(rt; out.as_slice(), b"fault InputTooLong\n".as_slice());
 }

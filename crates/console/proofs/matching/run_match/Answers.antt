@@ -1,5 +1,5 @@
-use Rattle.std.proofs.Common.{arith, sym, refl, inl, inr, ◌∙◌}
-use Rattle.console.proofs.MatchingLemmas.{long_input, whole_input}
+use Rattle.std.proofs.Common.{refl, inl, true, false}
+use Rattle.console.proofs.MatchingLemmas.{shown_of, part_of}
 use Rattle.console.proofs.matching.run_match.Goals as goal
 
 pub returns-in-Err-clause-shown : goal.returns-in-Err-clause-shown
@@ -9,24 +9,14 @@ returns-in-Err-clause-shown g c = (
   inl (rw c.in-Err.is at c.in_ok-program.ensures, refl),
 )
 
-pub returns-in-TooLong-clause-shown : goal.returns-in-TooLong-clause-shown
-returns-in-TooLong-clause-shown g c =
-    let given = rw c.in-TooLong.is at c.in_ok-read_bounded.ensures.input in
-    let input = long_input _ _ given.0 _ given.1 given.2 in (
-      _,
-      c.in_ok-write_text-in-TooLong.ensures.written,
-      inr (input.0, input.1, (c.in-Ok.program, rw c.in-Ok.is at c.in_ok-program.ensures, inr (input.2, refl, refl))),
-    )
+pub returns-then-pcap-clause-shown : goal.returns-then-pcap-clause-shown
+returns-then-pcap-clause-shown g c = rw c.if-pcap.true (shown_of _ _ c.in-Ok.program true _ _ _ (rw c.in-Ok.is at c.in_ok-program.ensures) c.match_input.ensures.shown)
+
+pub returns-then-pcap-clause-part : goal.returns-then-pcap-clause-part
+returns-then-pcap-clause-part g c = rw c.if-pcap.true (part_of _ _ c.in-Ok.program true _ _ _ _ (rw c.in-Ok.is at c.in_ok-program.ensures) c.match_input.ensures.part)
 
 pub returns-clause-shown : goal.returns-clause-shown
-returns-clause-shown g c =
-    let gave = rw c.in-Whole.is at c.in_ok-read_bounded.ensures.input in
-    let shown = rw (c.as_slice.ensures.value) at c.in_ok-status-in-Whole.ensures.shown in (
-      shown.0,
-      shown.2,
-      inr (
-        c.in-Whole.input.items,
-        whole_input _ _ _ gave.0 gave.1,
-        (c.in-Ok.program, rw c.in-Ok.is at c.in_ok-program.ensures, inl (gave.2, shown.1)),
-      ),
-    )
+returns-clause-shown g c = rw c.if-pcap.false (shown_of _ _ c.in-Ok.program false _ _ _ (rw c.in-Ok.is at c.in_ok-program.ensures) c.match_input-else-pcap.ensures.shown)
+
+pub returns-clause-part : goal.returns-clause-part
+returns-clause-part g c = rw c.if-pcap.false (part_of _ _ c.in-Ok.program false _ _ _ _ (rw c.in-Ok.is at c.in_ok-program.ensures) c.match_input-else-pcap.ensures.part)

@@ -1,6 +1,6 @@
 use Rattle.std.proofs.Common.{arith, sym, refl}
 use Rattle.console.proofs.MatchingLemmas.{so_far_start, so_far_next, so_far_written, so_far_end, so_far_bad}
-use Rattle.console.proofs.matching.match_lines.Goals as goal
+use Rattle.console.proofs.match_lines.match_lines.Goals as goal
 
 pub loop-line-init : goal.loop-line-init
 loop-line-init g c = record { room = omega arith; so_far = rw c.new-text.ensures.bytes (so_far_start _ _ _) }

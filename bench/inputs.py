@@ -1,0 +1,45 @@
+"""Writes what the programs are measured on: lines of hexadecimal digits, and captures. Usage: inputs.py FOLDER"""
+import random
+import struct
+import sys
+
+random.seed(7)
+folder = sys.argv[1]
+
+
+def packet(size, number):
+    """A packet of random bytes; every third is ARP by its type."""
+    made = bytearray(random.randbytes(size))
+    if number % 3 == 0 and size >= 14:
+        made[12:14] = b"\x08\x06"
+    return bytes(made)
+
+
+def lines(name, size, total):
+    """Lines of about 2 * size digits."""
+    made = [packet(size + random.randint(-10, 10), i).hex().encode() + b"\n" for i in range(5000)]
+    with open(f"{folder}/{name}", "wb") as out:
+        written = number = 0
+        while written < total:
+            out.write(made[number % len(made)])
+            written += len(made[number % len(made)])
+            number += 1
+
+
+def capture(name, size, total=0, count=0):
+    """A little-endian capture with microseconds, of packets of one size."""
+    made = [struct.pack("<IIII", i, 0, size, size) + packet(size, i) for i in range(1000)]
+    with open(f"{folder}/{name}", "wb") as out:
+        out.write(struct.pack("<IHHiIII", 0xA1B2C3D4, 2, 4, 0, 0, 262144, 1))
+        written = number = 0
+        while written < total or number < count:
+            out.write(made[number % len(made)])
+            written += len(made[number % len(made)])
+            number += 1
+
+
+lines("lines400.hex", 200, 60_000_000)
+lines("lines120.hex", 60, 60_000_000)
+capture("packets60.pcap", 60, total=60_000_000)
+capture("packets1500.pcap", 1500, total=60_000_000)
+capture("packets200.pcap", 200, count=200_000)

@@ -1,0 +1,55 @@
+-- A text that is printed bit by bit: what is written, what is kept back, and what is left to print.
+use Rattle.std.proofs.Common.{◌≡◌, ℕ, ◌+◌, List, [], ◌∷◌, ◌++◌, length, Option, Some, None, refl, ap, sym, ◌∙◌, append_assoc}
+use Rattle.std.specs.Io.KnownBytes.{Appends}
+use Rattle.std.proofs.lemmas.List.{append-nil}
+use Rattle.pcap_reader.specs.declared.capture.Header.{Header}
+use Rattle.pcap_reader.specs.declared.capture.Packet.{Packet}
+use Rattle.pcap_reader.specs.declared.capture.CaptureFault.{CaptureFault}
+use Rattle.console.specs.Reading.{BeginsWith}
+use Rattle.console.specs.Faults.{fault_text}
+use Rattle.console.specs.Dumping.{header_line, packet_line, packet_lines, dump_text}
+use Rattle.console.proofs.KnownBytesLemmas.{appends-then, appends-nothing}
+
+pub record Printing (whole left : List ℕ) (old new : Option (List ℕ)) (kept : List ℕ) : Type 0 where
+  pub written : List ℕ
+  pub appended : Appends old new written
+  pub parts : whole ≡ written ++ (kept ++ left)
+
+pub printing_start : (whole left kept : List ℕ) (known : Option (List ℕ)) → whole ≡ kept ++ left → Printing whole left known known kept
+printing_start whole left kept known parts = record { written = []; appended = appends-nothing known; parts = parts }
+
+pub printing_next : (whole left left' line kept kept' : List ℕ) (old new : Option (List ℕ)) → Printing whole left old new kept → left ≡ line ++ left' → kept' ≡ kept ++ line → Printing whole left' old new kept'
+printing_next whole left left' line kept kept' old new so first text = record {
+  written = so.written;
+  appended = so.appended;
+  parts = so.parts ∙ ap (λ t. so.written ++ t) (ap (λ t. kept ++ t) first ∙ sym (append_assoc kept line left') ∙ ap (λ t. t ++ left') (sym text));
+}
+
+pub printing_written : (whole left kept kept' : List ℕ) (old new last : Option (List ℕ)) → Printing whole left old new kept → Appends new last kept → kept' ≡ [] → Printing whole left old last kept'
+printing_written whole left kept kept' old new last so more none = record {
+  written = so.written ++ kept;
+  appended = appends-then old new last so.written kept so.appended more;
+  parts = so.parts ∙ sym (append_assoc so.written kept left) ∙ ap (λ t. (so.written ++ kept) ++ (t ++ left)) (sym none);
+}
+
+pub printing_end : (whole left kept : List ℕ) (old new last : Option (List ℕ)) → Printing whole left old new kept → left ≡ [] → Appends new last kept → Appends old last whole
+printing_end whole left kept old new last so none more =
+    let all : whole ≡ so.written ++ kept = so.parts ∙ ap (λ t. so.written ++ (kept ++ t)) none ∙ ap (λ t. so.written ++ t) (append-nil kept) in
+    rw all (appends-then old new last so.written kept so.appended more)
+
+pub printing_part : (whole left kept : List ℕ) (old new : Option (List ℕ)) → Printing whole left old new kept → (text : List ℕ) × BeginsWith text whole × Appends old new text
+printing_part whole left kept old new so = (so.written, (kept ++ left, so.parts), so.appended)
+
+-- the lines that are left of a dump
+abbrev pub left_lines : ℕ → List Packet → Option CaptureFault → List ℕ
+left_lines number rest fault = packet_lines (number + 1) rest ++ fault_text fault
+
+pub left_first : (number : ℕ) (rest more : List Packet) (p : Packet) (fault : Option CaptureFault) → rest ≡ p ∷ more
+    → left_lines number rest fault ≡ packet_line (number + 1) p ++ left_lines (number + 1) more fault
+left_first number rest more p fault first = ap (λ r. left_lines number r fault) first ∙ append_assoc (packet_line (number + 1) p) (packet_lines (number + 1 + 1) more) (fault_text fault)
+
+pub left_none : (number : ℕ) (rest : List Packet) → rest ≡ [] → left_lines number rest None ≡ []
+left_none number rest none = ap (λ r. left_lines number r None) none
+
+pub left_fault : (number : ℕ) (rest : List Packet) (fault : CaptureFault) → rest ≡ [] → left_lines number rest (Some fault) ≡ fault_text (Some fault) ++ []
+left_fault number rest fault none = ap (λ r. left_lines number r (Some fault)) none ∙ sym (append-nil (fault_text (Some fault)))

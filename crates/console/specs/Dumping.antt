@@ -1,0 +1,53 @@
+-- What `dump` shows: a line for the header, a line for each packet, and a line for the fault.
+use Rattle.std.specs.Prelude.{◌≡◌, ℕ, ◌+◌, ◌<◌, ◌≤◌, ◌⊎◌, List, [], ◌∷◌, ◌++◌, length, codes, Option, Some, None, Bool, true, false}
+use Rattle.std.specs.Fmt.{decimal}
+use Rattle.hex.specs.Hex.{encode_lower}
+use Rattle.pcap_reader.specs.declared.capture.Header.{Header}
+use Rattle.pcap_reader.specs.declared.capture.Packet.{Packet}
+use Rattle.pcap_reader.specs.declared.capture.CaptureFault.{CaptureFault}
+use Rattle.pcap_reader.specs.Savefile.{Reads}
+use Rattle.console.specs.Faults.{fault_status, fault_text}
+use Rattle.console.specs.Reading.{BeginsWith, IsInput}
+
+abbrev pub order_name : Bool → List ℕ
+order_name true = codes "big"
+order_name false = codes "little"
+
+abbrev pub unit_name : Bool → List ℕ
+unit_name true = codes "nano"
+unit_name false = codes "micro"
+
+-- the line for a header, if there is one
+abbrev pub header_line : Option Header → List ℕ
+header_line None = []
+header_line (Some h) = codes "pcap " ++ order_name h.big ++ codes " " ++ unit_name h.nano ++ codes " snaplen " ++ decimal h.snaplen ++ codes " network " ++ decimal h.network ++ codes "\n"
+
+-- captured bytes in hexadecimal digits, where there are any
+abbrev pub digits : List ℕ → List ℕ
+digits [] = codes "-"
+digits (b ∷ bytes) = encode_lower (b ∷ bytes)
+
+-- the line for packet number n
+abbrev pub packet_line : ℕ → Packet → List ℕ
+packet_line n p = decimal n ++ codes " captured " ++ decimal (length p.bytes) ++ codes " original " ++ decimal p.original ++ codes " " ++ digits p.bytes ++ codes "\n"
+
+-- the lines for packets from number n
+abbrev pub packet_lines : ℕ → List Packet → List ℕ
+packet_lines n [] = []
+packet_lines n (p ∷ packets) = packet_line n p ++ packet_lines (n + 1) packets
+
+-- the lines for a header, packets and a fault
+abbrev pub dump_text : Option Header → List Packet → Option CaptureFault → List ℕ
+dump_text header packets fault = header_line header ++ (packet_lines 1 packets ++ fault_text fault)
+
+-- what `dump` shows of an input, whose length has a limit
+abbrev pub ShowsDump : List ℕ → ℕ → List ℕ → Type 0
+ShowsDump input status text =
+    ((length input ≤ 67108864) × (header : Option Header) × (packets : List Packet) × (fault : Option CaptureFault)
+    × Reads input header packets fault × (text ≡ dump_text header packets fault) × (status ≡ fault_status fault))
+    ⊎ ((67108864 < length input) × (status ≡ 1) × (text ≡ codes "fault InputTooLong\n"))
+
+-- text is nothing, or a front of what `dump` shows of the input
+abbrev pub ShowsDumpPart : Option (List ℕ) → List ℕ → Type 0
+ShowsDumpPart known text = (text ≡ [])
+    ⊎ ((input : List ℕ) × (status : ℕ) × (whole : List ℕ) × IsInput known input × ShowsDump input status whole × BeginsWith text whole)

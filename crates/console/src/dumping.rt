@@ -1,0 +1,148 @@
+//! `dump`: prints what a capture holds.
+
+ghost use Rattle.std.specs.Prelude.{◌≡◌, ◌≢◌, ◌++◌, ℕ, List, [], Option, Some, None, IfOk, IfErr, IsErrOf, OnOk, string_bytes};
+ghost use Rattle.std.specs.Io.KnownBytes.{Appends};
+ghost use Rattle.console.specs.Reading.{BeginsWith, IsInput};
+ghost use Rattle.console.specs.Faults.{fault_line, fault_status};
+ghost use Rattle.console.specs.Matching.{IsEngineFault, IsPrintFault};
+ghost use Rattle.console.specs.Dumping.{ShowsDump, ShowsDumpPart, digits, dump_text, header_line, packet_line};
+
+use crate::EngineFault;
+use crate::capture_fault::push_fault;
+use crate::input::{INPUT_BYTES, INPUT_READS, feed_bounded};
+use crate::output::{BLOCK, write_text};
+use pcap_reader::{CaptureFault, Feed, Header, Packet};
+use std::alloc::{AllocError, Global};
+use std::fmt::Write as FmtWrite;
+use std::io::{Read, Write};
+
+/// Prints the header and each packet of a capture, and answers the status.
+///
+/// The header's line is `pcap little|big micro|nano snaplen N network N`; a packet's, counted from 1, is
+/// `N captured C original O HEX`, with `-` for no bytes. What stands before a fault of the capture is printed, then
+/// `fault NAME` with the fault's offset where it has one, and the status is 1. Of an input of more than 64 MiB only
+/// `fault InputTooLong` is printed, status 1.
+///
+/// The capture is read in pieces and its packets are kept; the input as a whole is not. Answers `ReadFailed`, with nothing
+/// written, where a read fails; `WriteFailed`; and `NoMemory`, where a front of the text may have been written.
+pub fn run_dump<R: Read, W: Write>(
+    alloc: Global,
+    reader: &mut R,
+    writer: &mut W,
+) -> Result<u8, EngineFault>
+    ensures shown { IfOk result (λ status. (text : List ℕ) × Appends (W.contents writer.old) (W.contents writer.new) text
+        × ((input : List ℕ) × IsInput (R.remaining reader.old) input × ShowsDump input status text)) }
+    ensures fault { IfErr result IsEngineFault }
+    ensures silent { IsErrOf result EngineFault.ReadFailed → writer.new ≡ writer.old }
+    ensures part { IsErrOf result EngineFault.NoMemory → (text : List ℕ)
+        × ShowsDumpPart (R.remaining reader.old) text × Appends (W.contents writer.old) (W.contents writer.new) text }
+{
+    let mut feed = Feed::new(alloc);
+    let whole = feed_bounded(reader, &mut feed, INPUT_BYTES, INPUT_READS)?;
+    if !whole {
+        write_text(writer, "fault InputTooLong\n")?;
+        return Ok(1);
+    }
+    match feed.finish() {
+        Ok(capture) => {
+            let packets = capture.packets.as_slice();
+            let status = dump(alloc, Some(capture.header), packets, None, writer)?;
+            Ok(status)
+        }
+        Err(stop) => match stop.fault {
+            CaptureFault::NoMemory => Err(EngineFault::NoMemory),
+            fault => {
+                let packets = stop.before.as_slice();
+                let status = dump(alloc, stop.header, packets, Some(fault), writer)?;
+                Ok(status)
+            }
+        },
+    }
+}
+
+/// Prints a header, packets and a fault.
+fn dump<W: Write>(
+    alloc: Global,
+    header: Option<Header>,
+    packets: &[Packet],
+    fault: Option<CaptureFault>,
+    writer: &mut W,
+) -> Result<u8, EngineFault>
+    ensures shown { IfOk result (λ status. Appends (W.contents writer.old) (W.contents writer.new) (dump_text header packets.now fault)
+        × (status ≡ fault_status fault)) }
+    ensures part { IsErrOf result EngineFault.NoMemory → (text : List ℕ)
+        × BeginsWith text (dump_text header packets.now fault) × Appends (W.contents writer.old) (W.contents writer.new) text }
+    ensures fault { IfErr result IsPrintFault }
+{
+    let mut text = header_text(alloc, header)?;
+    let mut rest = packets;
+    let mut number: usize = 0;
+    while let Some((packet, more)) = rest.split_first() {
+        rest = more;
+        number += 1;
+        push_packet(alloc, &mut text, number, packet)?;
+        if text.len() >= BLOCK {
+            write_text(writer, text.as_str())?;
+            text.clear();
+        }
+    }
+    match fault {
+        None => {
+            write_text(writer, text.as_str())?;
+            Ok(0)
+        }
+        Some(fault) => {
+            push_fault(&mut text, fault)?;
+            write_text(writer, text.as_str())?;
+            Ok(1)
+        }
+    }
+}
+
+/// The line for a header, if there is one.
+fn header_text(alloc: Global, header: Option<Header>) -> Result<String, AllocError>
+    ensures { IfOk result (λ text. string_bytes text ≡ header_line header) }
+{
+    let mut text = String::new(alloc);
+    if let Some(header) = header {
+        let order = if header.big { "big" } else { "little" };
+        let unit = if header.nano { "nano" } else { "micro" };
+        writeln!(
+            text,
+            "pcap {order} {unit} snaplen {} network {}",
+            header.snaplen, header.network
+        )?;
+    }
+    Ok(text)
+}
+
+/// Prints the line for a packet.
+fn push_packet(
+    alloc: Global,
+    text: &mut String,
+    number: usize,
+    packet: &Packet,
+) -> Result<(), AllocError>
+    ensures { OnOk result (string_bytes text.new ≡ string_bytes text.old ++ packet_line number packet.now) }
+{
+    let bytes = packet.bytes.as_slice();
+    let digits = digits_of(alloc, bytes)?;
+    writeln!(
+        text,
+        "{number} captured {} original {} {}",
+        bytes.len(),
+        packet.original,
+        digits.as_str()
+    )
+}
+
+/// Captured bytes in hexadecimal digits.
+fn digits_of(alloc: Global, bytes: &[u8]) -> Result<String, AllocError>
+    ensures { IfOk result (λ text. string_bytes text ≡ digits bytes.now) }
+{
+    if bytes.is_empty() {
+        String::from_str(alloc, "-")
+    } else {
+        hex::encode(alloc, bytes)
+    }
+}

@@ -1,0 +1,113 @@
+//! `match` over lines of hexadecimal digits.
+
+ghost use Rattle.std.specs.Prelude.{◌≡◌, ◌+◌, ◌<◌, ◌++◌, ◌⊎◌, ◌^◌, ℕ, List, false, length, IfOk, IfErr, IsErr, IsErrOf, OnOk, MatchOption, string_bytes};
+ghost use Rattle.std.specs.Io.KnownBytes.{Appends};
+ghost use Rattle.std.specs.Str.Lines.{lines};
+ghost use Rattle.hex.specs.Hex.{decode_of};
+ghost use Rattle.console.specs.Reading.{IsInput};
+ghost use Rattle.console.specs.Matching.{Answers, IsEngineFault, IsPrintFault, ShowsFirst, ShowsInput, ShowsLines, ShowsRead, bad_line};
+
+use crate::input::{INPUT_BYTES, INPUT_READS, Input, read_bounded};
+use crate::lines::first_line;
+use crate::outcome::push_outcome;
+use crate::output::{BLOCK, write_text};
+use crate::{EngineFault, hexadecimal};
+use filter_verify::Verified;
+use filter_vm::{Outcome, run};
+use std::alloc::{AllocError, Global};
+use std::fmt::Write as FmtWrite;
+use std::io::{Read, Write};
+
+/// Reads lines, runs the filter on the packet of each, and answers the status.
+pub fn match_input<R: Read, W: Write>(
+    alloc: Global,
+    program: &Verified,
+    reader: &mut R,
+    writer: &mut W,
+) -> Result<u8, EngineFault>
+    ensures shown { IfOk result (λ status. (text : List ℕ) × Appends (W.contents writer.old) (W.contents writer.new) text
+        × ((input : List ℕ) × IsInput (R.remaining reader.old) input × ShowsInput program.now false input status text)) }
+    ensures fault { IfErr result IsEngineFault }
+    ensures silent { IsErrOf result EngineFault.ReadFailed → writer.new ≡ writer.old }
+    ensures part { IsErrOf result EngineFault.NoMemory → (text : List ℕ)
+        × ShowsRead program.now false (R.remaining reader.old) (R.remaining reader.new) text
+        × Appends (W.contents writer.old) (W.contents writer.new) text }
+{
+    match read_bounded(alloc, reader, INPUT_BYTES, INPUT_READS)? {
+        Input::TooLong => {
+            write_text(writer, "fault InputTooLong\n")?;
+            Ok(1)
+        }
+        Input::Whole(input) => {
+            let status = match_lines(alloc, program, input.as_slice(), writer)?;
+            Ok(status)
+        }
+    }
+}
+
+/// Runs the filter on the packet of each line, up to the first line that spells none.
+fn match_lines<W: Write>(
+    alloc: Global,
+    program: &Verified,
+    input: &[u8],
+    writer: &mut W,
+) -> Result<u8, EngineFault>
+    requires { length input.now < 2 ^ 32 }
+    ensures shown { IfOk result (λ status. (text : List ℕ) × ShowsLines program.now (lines input.now) status text
+        × Appends (W.contents writer.old) (W.contents writer.new) text) }
+    ensures part { IsErrOf result EngineFault.NoMemory → (text : List ℕ) × ShowsFirst (Answers program.now) (lines input.now) text
+        × Appends (W.contents writer.old) (W.contents writer.new) text }
+    ensures fault { IfErr result IsPrintFault }
+{
+    let mut text = String::new(alloc);
+    let mut packet = Vec::new(alloc);
+    let mut rest = input;
+    let mut number: u32 = 0;
+    while let Some((line, more)) = first_line(rest) {
+        rest = more;
+        number += 1;
+        match outcome_of(program, line, &mut packet)? {
+            Some(outcome) => push_outcome(&mut text, outcome)?,
+            None => {
+                push_bad_line(&mut text, number)?;
+                write_text(writer, text.as_str())?;
+                return Ok(1);
+            }
+        }
+        if text.len() >= BLOCK {
+            write_text(writer, text.as_str())?;
+            text.clear();
+        }
+    }
+    write_text(writer, text.as_str())?;
+    Ok(0)
+}
+
+/// The outcome on the packet that a line spells, if it spells one. The packet is put into a buffer that is kept from
+/// line to line.
+fn outcome_of(
+    program: &Verified,
+    line: &[u8],
+    buffer: &mut Vec<u8>,
+) -> Result<Option<Outcome>, AllocError>
+    requires { length line.now < 2 ^ 32 }
+    ensures { IfOk result (λ found. MatchOption found (IsErr (decode_of line.now)) (Answers program.now line.now)) }
+{
+    let length = line.len() / 2;
+    if buffer.len() < length {
+        buffer.resize(length, 0)?;
+    }
+    let packet = &mut buffer.as_mut_slice()[..length];
+    if hexadecimal::decode(line, packet) {
+        Ok(Some(run(program, packet, length as u32)))
+    } else {
+        Ok(None)
+    }
+}
+
+/// Prints the complaint about a line.
+fn push_bad_line(text: &mut String, number: u32) -> Result<(), AllocError>
+    ensures { OnOk result (string_bytes text.new ≡ string_bytes text.old ++ bad_line number) }
+{
+    writeln!(text, "line {number}: BadHex")
+}

@@ -1,0 +1,5 @@
+pub mod Fronts
+pub mod FeedLemmas
+pub mod LawLemmas
+pub mod AnswerLemmas
+pub mod ReadingLemmas

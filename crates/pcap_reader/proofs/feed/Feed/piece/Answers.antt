@@ -1,0 +1,27 @@
+use Rattle.pcap_reader.proofs.AnswerLemmas.{tells}
+use Rattle.pcap_reader.proofs.FeedLemmas.{are_bytes, holds-on, holds_next}
+use Rattle.std.proofs.Common.{◌++◌, Some, None, Ok, Err, refl, arith}
+use Rattle.pcap_reader.proofs.feed.Feed.piece.Goals as goal
+
+pub returns-in-Some-clause-holds : goal.returns-in-Some-clause-holds
+returns-in-Some-clause-holds c = λ fed held short.
+    holds-on fed c.args.bytes.now c.args.self.now c.in-Some.fault (are_bytes _ (λ i. omega (arith, c.type_inv.bytes i))) c.in-Some.is held
+
+pub returns-in-Some-clause-tells : goal.returns-in-Some-clause-tells
+returns-in-Some-clause-tells c = λ fed held short.
+    tells (fed ++ c.args.bytes.now) c.args.self.now (Err c.in-Some.fault)
+    (holds-on fed c.args.bytes.now c.args.self.now c.in-Some.fault (are_bytes _ (λ i. omega (arith, c.type_inv.bytes i))) c.in-Some.is held) c.in-Some.is
+
+pub returns-in-Ok-clause-holds : goal.returns-in-Ok-clause-holds
+returns-in-Ok-clause-holds c = λ fed held short.
+    holds_next fed c.args.bytes.now c.take.new.self None held.0 (are_bytes _ (λ i. omega (arith, c.type_inv.bytes i))) c.take.ensures.same (c.in-Ok.ensures.grown fed held short)
+
+pub returns-in-Ok-clause-tells : goal.returns-in-Ok-clause-tells
+returns-in-Ok-clause-tells c = λ fed held short.
+    tells (fed ++ c.args.bytes.now) c.take.new.self (Ok tt)
+    (holds_next fed c.args.bytes.now c.take.new.self None held.0 (are_bytes _ (λ i. omega (arith, c.type_inv.bytes i))) c.take.ensures.same (c.in-Ok.ensures.grown fed held short)) c.take.ensures.same
+
+pub returns-in-Err-clause-holds : goal.returns-in-Err-clause-holds
+returns-in-Err-clause-holds c = λ fed held short.
+    holds_next fed c.args.bytes.now (record c.take.new.self { fault = Some c.in-Err.fault }) (Some c.in-Err.fault) held.0 (are_bytes _ (λ i. omega (arith, c.type_inv.bytes i))) refl
+    (c.in-Err.ensures.grown fed held short)

@@ -1,0 +1,43 @@
+-- A feed between two looks at its part. No public clause cites these.
+use Rattle.std.specs.Prelude.{◌≡◌, ℕ, ◌+◌, ◌-◌, ◌<◌, ◌≤◌, ◌⊎◌, Bool, List, [], length, drop, Option, Some, None, Result, Ok, Err}
+use Rattle.pcap_reader.specs.Savefile.{number, captured}
+use Rattle.pcap_reader.specs.Held.{Keeps, HoldsAt}
+use Rattle.pcap_reader.specs.declared.capture.Header.{Header}
+use Rattle.pcap_reader.specs.declared.capture.Packet.{Packet}
+use Rattle.pcap_reader.specs.declared.feed.Feed.{Feed}
+use Rattle.pcap_reader.specs.declared.capture.CaptureFault.{CaptureFault}
+
+-- after more bytes a feed is still open, or this fault stands in them
+abbrev pub GoesOn : List ℕ → Feed → Result (Unit {0}) CaptureFault → Type 0
+GoesOn fed feed (Ok done) = HoldsAt fed feed None
+GoesOn fed feed (Err fault) = HoldsAt fed feed (Some fault)
+
+-- how many bytes a part lacks to be looked at again
+abbrev pub IsWanted : Option Header → List ℕ → ℕ → Type 0
+IsWanted None part n = n ≡ 24 - length part
+IsWanted (Some h) part n =
+    ((length part < 16) × (n ≡ 16 - length part))
+    ⊎ ((16 ≤ length part) × (n ≡ 16 + captured h.big part - length part))
+
+-- a record that isn't whole yet
+abbrev pub IsShort : Bool → List ℕ → Type 0
+IsShort big part = (length part < 16) ⊎ ((captured big part ≤ 262144) × (length part < 16 + captured big part))
+
+-- bytes that have a whole record in front, with n captured bytes
+abbrev pub IsWhole : Bool → List ℕ → ℕ → Type 0
+IsWhole big part n = (n ≡ captured big part) × (n ≤ 262144) × (16 + n ≤ length part)
+
+-- the packet of a record
+abbrev pub IsPacket : Bool → List ℕ → Packet → Type 0
+IsPacket big part p = (p.bytes ≡ drop 16 part) × (p.original ≡ number big 4 (drop 12 part))
+
+-- a part with more bytes at its end, up to the place where it is looked at
+abbrev pub IsGrownTo : List ℕ → Option Header → List Packet → ℕ → List ℕ → Type 0
+IsGrownTo fed None packets offset part = (part ≡ fed) × (packets ≡ []) × (offset ≡ 24) × (length part ≤ 24)
+IsGrownTo fed (Some h) packets offset part =
+    Keeps fed h packets offset part × (0 < length part)
+    × ((length part ≤ 16) ⊎ ((captured h.big part ≤ 262144) × (length part ≤ 16 + captured h.big part)))
+
+-- a feed whose part has grown
+abbrev pub IsGrown : List ℕ → Feed → Type 0
+IsGrown fed feed = IsGrownTo fed feed.header feed.packets.items feed.offset feed.part.items

@@ -1,0 +1,4 @@
+pub mod Savefile
+pub mod Answers
+pub mod Held
+pub mod Growth
