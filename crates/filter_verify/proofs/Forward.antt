@@ -1,9 +1,9 @@
 -- Control goes forward.
 use Rattle.bpf_insn.specs.Program.{JumpsTo, LeadsTo}
-use Rattle.std.proofs.Common.{◌≡◌, ℕ, ◌+◌, ◌<◌, ◌⊎◌, List, inl, inr, arith}
+use Rattle.std.proofs.Common.{ℕ, ◌<◌, List, inl, inr, arith}
 use Rattle.bpf_insn.specs.declared.insn.Insn.{Insn}
 use Rattle.bpf_insn.specs.declared.form.Form.{Form}
-use Rattle.bpf_insn.specs.declared.form.Form.TheVariants.{LdImm, LdAbs, LdInd, LdMem, LdLen, LdxImm, LdxMem, LdxLen, LdxMsh, St, Stx, AluK, AluX, Neg, Ja, JmpK, JmpX, RetK, RetA, Tax, Txa}
+use Rattle.bpf_insn.specs.declared.form.Form.TheVariants.{Ja, JmpK, JmpX, RetK, RetA}
 use Rattle.filter_verify.specs.Paths.{Successor}
 
 -- a jump's target is after it

@@ -1,15 +1,14 @@
 -- The pass that finds the written words.
-use Rattle.std.proofs.Common.{◌≡◌, ℕ, ◌+◌, ◌-◌, ◌<◌, ◌≤◌, ◌⊎◌, List, [], ◌∷◌, ◌++◌, length, slice_index_or, inl, inr, arith, sym, subst, refl, ◌∙◌, ap, reverse}
+use Rattle.std.proofs.Common.{◌≡◌, ℕ, ◌-◌, ◌<◌, ◌≤◌, List, [], ◌∷◌, ◌++◌, length, slice_index_or, inl, inr, arith, sym, subst, refl, ◌∙◌, ap, reverse}
 use Rattle.std.proofs.lemmas.List.{reverse-append}
 use Rattle.std.proofs.lemmas.Bool.{cases_eq}
 use Rattle.bpf_insn.specs.declared.insn.Insn.{Insn}
 use Rattle.bpf_insn.specs.declared.form.Form.{Form}
-use Rattle.filter_verify.proofs.Forward.{JumpsTo-later, LeadsTo-later}
-use Rattle.bpf_insn.specs.Program.{FormAt, JumpsTo, LeadsTo}
-use Rattle.bpf_insn.proofs.Places.{FormAt-same, FormAt-inside}
+use Rattle.filter_verify.proofs.Forward.{JumpsTo-later}
+use Rattle.bpf_insn.specs.Program.{FormAt, LeadsTo}
+use Rattle.bpf_insn.proofs.Places.{FormAt-same}
 use Rattle.filter_verify.specs.declared.words.Words.{Words}
 use Rattle.filter_verify.specs.declared.flow.Exit.TheVariants.{Either}
-use Rattle.filter_verify.specs.Words.{HasWord, LacksWord}
 use Rattle.filter_verify.specs.Exits.{IsExit, StoresForm}
 use Rattle.filter_verify.specs.Paths.{LoadsWord, StoresWord, Successor, IsWalk, Path, IsStoredOn, IsUnwritten}
 use Rattle.filter_verify.specs.Flows.{HasAt, LacksAt, Flows, IsAfter, Narrows, IsSettled, PassesBy}

@@ -1,15 +1,14 @@
 -- What a program keeps whose instructions break no rule.
-use Rattle.std.proofs.Common.{◌≡◌, ℕ, ◌+◌, ◌-◌, ◌<◌, ◌≤◌, ◌⊎◌, List, length, Option, Some, None, inl, inr, arith, refl, subst, sym}
+use Rattle.std.proofs.Common.{◌≡◌, ℕ, ◌+◌, ◌-◌, ◌<◌, ◌⊎◌, List, length, None, inl, inr, arith, refl, subst, sym}
 use Rattle.std.proofs.lemmas.Bool.{cases_lt}
 use Rattle.bpf_insn.specs.declared.insn.Insn.{Insn}
 use Rattle.bpf_insn.specs.declared.form.Form.{Form}
-use Rattle.bpf_insn.specs.declared.form.Form.TheVariants.{LdImm, LdAbs, LdInd, LdMem, LdLen, LdxImm, LdxMem, LdxLen, LdxMsh, St, Stx, AluK, AluX, Neg, Ja, JmpK, JmpX, RetK, RetA, Tax, Txa}
+use Rattle.bpf_insn.specs.declared.form.Form.TheVariants.{Ja, JmpK, JmpX, RetK, RetA}
 use Rattle.bpf_insn.specs.Program.{form_at, FormAt, JumpsTo, LeadsTo}
 use Rattle.bpf_insn.proofs.Places.{FormAt-same, FormAt-inside}
 use Rattle.filter_verify.specs.declared.rules.Refusal.TheVariants.{BadCode, BadWord, JumpOut}
 use Rattle.filter_verify.specs.Paths.{LoadsWord, StoresWord}
-use Rattle.filter_verify.specs.Rules.{IsWellShaped, IsReturn, EndsInReturn}
-use Rattle.filter_verify.proofs.Forward.{LeadsTo-later}
+use Rattle.filter_verify.specs.Rules.{IsWellShaped, IsReturn}
 
 -- control goes on by a jump, or to the next place after no return
 leads_on : (pc : ℕ) (form : Form) (to : ℕ) → LeadsTo pc form to → JumpsTo pc form to ⊎ ((to ≡ pc + 1) × (IsReturn form → ⊥))

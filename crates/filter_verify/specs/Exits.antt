@@ -1,4 +1,5 @@
 -- What an instruction's form says of places and words.
+-- No public clause cites these.
 use Rattle.bpf_insn.specs.Program.{JumpsTo, LeadsTo}
 use Rattle.std.specs.Prelude.{◌≡◌, ℕ, ◌⊎◌}
 use Rattle.bpf_insn.specs.declared.form.Form.{Form}

@@ -1,4 +1,5 @@
 -- Sets of written words at the places of a program, as one pass over it finds them.
+-- No public clause cites these.
 use Rattle.bpf_insn.specs.Program.{LeadsTo}
 use Rattle.std.specs.Prelude.{◌≡◌, ℕ, ◌+◌, ◌<◌, ◌⊎◌, List, length, slice_index_or}
 use Rattle.bpf_insn.specs.declared.insn.Insn.{Insn}

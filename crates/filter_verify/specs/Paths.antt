@@ -1,6 +1,6 @@
--- The paths that control may take through a program, and the scratch words on them.
+-- The paths that control may take through a program, whatever the packet, and the scratch words on them.
 -- McCanne and Jacobson 1993, section 3.3: a jump's distance counts from the next instruction, and is never negative.
-use Rattle.std.specs.Prelude.{◌≡◌, ℕ, ◌+◌, ◌⊎◌, List, [], ◌∷◌, ◌++◌}
+use Rattle.std.specs.Prelude.{◌≡◌, ℕ, ◌⊎◌, List, [], ◌∷◌, ◌++◌}
 use Rattle.bpf_insn.specs.declared.insn.Insn.{Insn}
 use Rattle.bpf_insn.specs.declared.form.Form.{Form}
 use Rattle.bpf_insn.specs.declared.form.Form.TheVariants.{LdMem, LdxMem, St, Stx}

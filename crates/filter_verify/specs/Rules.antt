@@ -1,11 +1,14 @@
 -- What the verifier accepts, and why it refuses the rest.
--- Linux Documentation/networking/filter, "Kernel internals": the checks of sk_chk_filter / bpf_check_classic.
-use Rattle.std.specs.Prelude.{◌≡◌, ◌≢◌, ℕ, ◌+◌, ◌-◌, ◌<◌, ◌≤◌, ◌⊎◌, List, [], ◌∷◌, ◌++◌, length, Option, Some, None}
+-- Linux, net/core/filter.c: bpf_check_classic (size, codes, constants, words, jumps, the end) and check_load_and_stores
+-- (unwritten words), with two rules that differ. The kernel takes absolute loads at places of 2 ^ 31 and above, as its
+-- ancillary data or offsets from its headers: here all of them are refused. The kernel finds unwritten words by one pass,
+-- in which the words of a return flow on to the next instruction: here the rule is about paths, and a return ends them.
+use Rattle.std.specs.Prelude.{◌≡◌, ℕ, ◌-◌, ◌<◌, ◌≤◌, ◌⊎◌, List, length, None}
 use Rattle.bpf_insn.specs.declared.insn.Insn.{Insn}
 use Rattle.bpf_insn.specs.declared.form.Size.{Size}
 use Rattle.bpf_insn.specs.declared.form.AluOp.TheVariants.{Div, Lsh, Rsh, Mod}
 use Rattle.bpf_insn.specs.declared.form.Form.{Form}
-use Rattle.bpf_insn.specs.declared.form.Form.TheVariants.{LdImm, LdAbs, LdInd, LdMem, LdLen, LdxImm, LdxMem, LdxLen, LdxMsh, St, Stx, AluK, AluX, Neg, Ja, JmpK, JmpX, RetK, RetA, Tax, Txa}
+use Rattle.bpf_insn.specs.declared.form.Form.TheVariants.{LdAbs, AluK, RetK, RetA}
 use Rattle.bpf_insn.specs.Program.{FormAt, form_at, JumpsTo}
 use Rattle.filter_verify.specs.declared.rules.Refusal.{Refusal}
 use Rattle.filter_verify.specs.declared.rules.Refusal.TheVariants.{Empty, TooLong, BadCode, ZeroDivisor, BadShift, BadWord, JumpOut, Ancillary, NoReturn, Unwritten, NoMemory}

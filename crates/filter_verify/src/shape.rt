@@ -8,7 +8,7 @@ use crate::flow::{Exit, exit_of};
 use crate::rules::Refusal;
 use bpf_insn::{AluOp, Form, Insn};
 
-/// How many instructions a program may have.
+/// How many instructions a program may have, as in the Linux kernel.
 pub const MAX_INSNS: usize = 4096;
 
 /// How many scratch words there are.
@@ -42,19 +42,16 @@ fn check_form(code: &[Insn], pc: usize, form: Form) -> Result<(), Refusal>
     let at = pc as u32;
     match form {
         Form::AluK {
-            op: AluOp::Div,
+            op: AluOp::Div | AluOp::Mod,
             k: 0,
         } => Err(Refusal::ZeroDivisor(at)),
         Form::AluK {
-            op: AluOp::Mod,
-            k: 0,
-        } => Err(Refusal::ZeroDivisor(at)),
-        Form::AluK { op: AluOp::Lsh, k } if k >= 32 => Err(Refusal::BadShift(at)),
-        Form::AluK { op: AluOp::Rsh, k } if k >= 32 => Err(Refusal::BadShift(at)),
-        Form::LdMem { k } if k >= WORDS => Err(Refusal::BadWord(at)),
-        Form::LdxMem { k } if k >= WORDS => Err(Refusal::BadWord(at)),
-        Form::St { k } if k >= WORDS => Err(Refusal::BadWord(at)),
-        Form::Stx { k } if k >= WORDS => Err(Refusal::BadWord(at)),
+            op: AluOp::Lsh | AluOp::Rsh,
+            k: 32..,
+        } => Err(Refusal::BadShift(at)),
+        Form::LdMem { k } | Form::LdxMem { k } | Form::St { k } | Form::Stx { k } if k >= WORDS => {
+            Err(Refusal::BadWord(at))
+        }
         Form::LdAbs { k, .. } if k >= ANCILLARY => Err(Refusal::Ancillary(at)),
         _ if jumps_out(form, pc, code.len()) => Err(Refusal::JumpOut(at)),
         _ => Ok(()),
@@ -79,11 +76,7 @@ fn is_return(form: Form) -> bool
     ensures yes { IsTrue result → IsReturn form }
     ensures no { (IsTrue result → ⊥) → IsReturn form → ⊥ }
 {
-    match form {
-        Form::RetK { .. } => true,
-        Form::RetA => true,
-        _ => false,
-    }
+    matches!(form, Form::RetK { .. } | Form::RetA)
 }
 
 /// Whether the last instruction is a return.

@@ -1,0 +1,26 @@
+#!/bin/sh
+# Builds the proved crates into a static library, links it and libpcap into one C program, and runs it.
+# Usage: bench/machine.sh [FOLDER]. FOLDER, by default a new one, is where it builds; it keeps what was proved for the next run.
+# Needs rt, clang and git on the path, and libpcap's header and static library (Debian: libpcap-dev).
+set -e
+here=$(cd "$(dirname "$0")" && pwd)
+work=${1:-$(mktemp -d)}
+kit=${KIT:-$(dirname "$(rt doc)")}
+mkdir -p "$work/crates"
+[ -d "$work/.git" ] || git init -q "$work"
+for name in bpf_insn filter_verify filter_vm; do
+    mkdir -p "$work/crates/$name"
+    rm -rf "$work/crates/$name/src" "$work/crates/$name/specs" "$work/crates/$name/proofs"
+    (cd "$here/../crates/$name" && tar cf - --exclude=./out .) | tar xf - -C "$work/crates/$name"
+done
+mkdir -p "$work/crates/filter_bench/src"
+cp "$here/exports.rattle" "$work/crates/filter_bench/src/lib.rt"
+cat > "$work/crates.txt" <<'LIST'
+bpf_insn:
+filter_verify: bpf_insn
+filter_vm: bpf_insn filter_verify
+filter_bench staticlib: bpf_insn filter_verify filter_vm
+LIST
+(cd "$work/crates/filter_bench" && rt lib > "$work/lib.log" 2>&1) || { tail -20 "$work/lib.log"; exit 1; }
+clang -O2 -o "$work/bench" "$here/machine.c" "$work/crates/filter_bench/out/libfilter_bench.a" "$kit/c/liblibc_c.a" -l:libpcap.a
+"$work/bench" "$here"/filters/*.ddd
