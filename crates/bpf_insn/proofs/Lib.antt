@@ -1,5 +1,7 @@
 pub mod Places
 pub mod DddLemmas
 pub mod DddLaws
+pub mod DddTextLemmas
+pub mod PrintsLemmas
 pub mod DigitLemmas
 pub mod PieceLemmas

@@ -3,3 +3,5 @@ pub mod Table
 pub mod Program
 pub mod Ddd
 pub mod Parts
+pub mod DddText
+pub mod AsmText

@@ -11,8 +11,8 @@ use crate::number::{HUGE, number};
 use crate::pieces::{first_piece, first_word};
 use std::alloc::{AllocError, AllocFailed, Global};
 
-/// The most instructions that a program has.
-const MOST: u64 = 4096;
+/// The most instructions that a text may spell.
+pub const MOST: u64 = 4096;
 
 /// Why a text spells no program. The first that applies is reported: the count, then its bound, then the number of
 /// instructions, then the instructions in order.

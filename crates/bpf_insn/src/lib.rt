@@ -1,9 +1,10 @@
 //! Instructions of the classic BPF machine: the records of four numbers in which programs are stored, the 49 operation
-//! codes and the forms that they stand for, and the decimal text in which packet filters are passed around.
+//! codes and the forms that they stand for, and the texts in which packet filters are passed around: decimal text, which
+//! is read and written, and assembler text, which is written here.
 //!
 //! The machine is that of McCanne and Jacobson, "The BSD Packet Filter: A New Architecture for User-level Packet
-//! Capture" (USENIX, winter 1993), section 3; the codes and the text are those of Linux
-//! Documentation/networking/filter and of `tcpdump -ddd`.
+//! Capture" (USENIX, winter 1993), section 3. The codes and the assembler text are those of Linux
+//! Documentation/networking/filter, and the decimal text is that of `tcpdump -ddd`.
 #![tactic(auto)]
 
 mod ddd;
@@ -11,9 +12,11 @@ mod form;
 mod insn;
 mod number;
 mod pieces;
+mod printing;
 #[cfg(test)]
 mod tests;
 
 pub use ddd::{TextFault, read_ddd};
 pub use form::{AluOp, Form, Size, Test};
 pub use insn::Insn;
+pub use printing::{printable, write_asm, write_ddd};

@@ -1,6 +1,6 @@
-//! Decimal texts, and codes and bytes of instructions.
+//! Decimal texts, codes and bytes of instructions, and assembler texts.
 
-use crate::{AluOp, Form, Insn, Size, Test, TextFault, read_ddd};
+use crate::{AluOp, Form, Insn, Size, Test, TextFault, printable, read_ddd, write_asm, write_ddd};
 use std::alloc::{AllocError, Global};
 use std::process::Abort;
 use std::test::Fail;
@@ -22,32 +22,15 @@ fn fault(alloc: Global, text: &[u8]) -> Option<TextFault> {
     read_ddd(alloc, text).err()
 }
 
-const ARP: [Insn; 4] = [
-    Insn {
-        code: 40,
-        jt: 0,
-        jf: 0,
-        k: 12,
-    },
-    Insn {
-        code: 21,
-        jt: 0,
-        jf: 1,
-        k: 2054,
-    },
-    Insn {
-        code: 6,
-        jt: 0,
-        jf: 0,
-        k: 4294967295,
-    },
-    Insn {
-        code: 6,
-        jt: 0,
-        jf: 0,
-        k: 0,
-    },
-];
+/// The filter of ARP packets over Ethernet.
+fn arp() -> [Insn; 4] {
+    [
+        insn(40, 0, 0, 12),
+        insn(21, 0, 1, 2054),
+        insn(6, 0, 0, 4294967295),
+        insn(6, 0, 0, 0),
+    ]
+}
 
 #[test]
 fn texts_of_programs(rt: HostRuntime) {
@@ -61,7 +44,7 @@ fn texts_of_programs(rt: HostRuntime) {
     let zeros: &[u8] =
         b"0004,00040 00 000 012,021 0 01 02054,6 0 0 000000000000004294967295,06 0 0 00";
     for text in [comma, comma_at_end, lines, dos_lines, blanks, zeros] {
-        assert!(rt; spells(alloc, text, &ARP), "{text:?}");
+        assert!(rt; spells(alloc, text, &arp()), "{text:?}");
     }
     assert!(rt; spells(alloc, b"1,6 0 0 5,", &[insn(6, 0, 0, 5)]));
     assert!(rt;
@@ -167,65 +150,18 @@ fn the_longest_program(rt: HostRuntime) -> Result<(), Fail> {
                 assert_eq!(rt; *one, insn(6, 0, 0, 5));
             }
         }
-        Err(fault) => assert!(rt; false, "{fault:?}"),
+        Err(fault) => panic!(rt; "{fault:?}"),
     }
     let longer = returns(alloc, 4097)?;
     assert_eq!(rt; fault(alloc, longer.as_bytes()), Some(TextFault::TooLong));
     Ok(())
 }
 
-const LOADS_AND_STORES: [(u16, Form); 15] = [
-    (0x00, Form::LdImm { k: 7 }),
-    (
-        0x20,
-        Form::LdAbs {
-            size: Size::Word,
-            k: 7,
-        },
-    ),
-    (
-        0x28,
-        Form::LdAbs {
-            size: Size::Half,
-            k: 7,
-        },
-    ),
-    (
-        0x30,
-        Form::LdAbs {
-            size: Size::Byte,
-            k: 7,
-        },
-    ),
-    (
-        0x40,
-        Form::LdInd {
-            size: Size::Word,
-            k: 7,
-        },
-    ),
-    (
-        0x48,
-        Form::LdInd {
-            size: Size::Half,
-            k: 7,
-        },
-    ),
-    (
-        0x50,
-        Form::LdInd {
-            size: Size::Byte,
-            k: 7,
-        },
-    ),
-    (0x60, Form::LdMem { k: 7 }),
-    (0x80, Form::LdLen),
-    (0x01, Form::LdxImm { k: 7 }),
-    (0x61, Form::LdxMem { k: 7 }),
-    (0x81, Form::LdxLen),
-    (0xb1, Form::LdxMsh { k: 7 }),
-    (0x02, Form::St { k: 7 }),
-    (0x03, Form::Stx { k: 7 }),
+/// The codes of the loads from the packet, at a fixed place and at one from the index register on.
+const LOADS: [(u16, u16, Size); 3] = [
+    (0x20, 0x40, Size::Word),
+    (0x28, 0x48, Size::Half),
+    (0x30, 0x50, Size::Byte),
 ];
 
 /// The codes of the operations, with a constant and with the index register.
@@ -250,7 +186,16 @@ const TESTS: [(u16, u16, Test); 4] = [
     (0x45, 0x4d, Test::AnyBit),
 ];
 
-const OTHERS: [(u16, Form); 6] = [
+const OTHERS: [(u16, Form); 15] = [
+    (0x00, Form::LdImm { k: 7 }),
+    (0x60, Form::LdMem { k: 7 }),
+    (0x80, Form::LdLen),
+    (0x01, Form::LdxImm { k: 7 }),
+    (0x61, Form::LdxMem { k: 7 }),
+    (0x81, Form::LdxLen),
+    (0xb1, Form::LdxMsh { k: 7 }),
+    (0x02, Form::St { k: 7 }),
+    (0x03, Form::Stx { k: 7 }),
     (0x84, Form::Neg),
     (0x05, Form::Ja { k: 7 }),
     (0x06, Form::RetK { k: 7 }),
@@ -265,8 +210,9 @@ fn has_form(rt: &impl Abort, code: u16, form: Form) {
 
 #[test]
 fn codes_of_forms(rt: HostRuntime) {
-    for (code, form) in LOADS_AND_STORES {
-        has_form(&rt, code, form);
+    for (fixed, indexed, size) in LOADS {
+        has_form(&rt, fixed, Form::LdAbs { size, k: 7 });
+        has_form(&rt, indexed, Form::LdInd { size, k: 7 });
     }
     for (constant, index, op) in OPERATIONS {
         has_form(&rt, constant, Form::AluK { op, k: 7 });
@@ -300,7 +246,132 @@ fn bytes_of_instructions(rt: HostRuntime) {
     let bytes = [0x34, 0x12, 0x56, 0x78, 0xf0, 0xde, 0xbc, 0x9a];
     assert_eq!(rt; one.to_bytes(), bytes);
     assert_eq!(rt; Insn::from_bytes(bytes), one);
-    for one in ARP {
+    for one in arp() {
         assert_eq!(rt; Insn::from_bytes(one.to_bytes()), one);
     }
+}
+
+#[test]
+fn decimal_texts_written(rt: HostRuntime) -> Result<(), Fail> {
+    let alloc = rt.alloc();
+    let written = write_ddd(alloc, &arp())?;
+    let lines: &[u8] = b"4\n40 0 0 12\n21 0 1 2054\n6 0 0 4294967295\n6 0 0 0\n";
+    assert!(rt; written.as_slice() == lines);
+    assert!(rt; spells(alloc, lines, &arp()));
+    let nothing = write_ddd(alloc, &[])?;
+    assert!(rt; nothing.as_slice() == b"0\n".as_slice());
+    let any = [
+        insn(65535, 255, 255, 4294967295),
+        insn(0, 10, 200, 1000000000),
+    ];
+    let text = write_ddd(alloc, &any)?;
+    assert!(rt;
+        text.as_slice() == b"2\n65535 255 255 4294967295\n0 10 200 1000000000\n".as_slice()
+    );
+    assert!(rt; spells(alloc, text.as_slice(), &any));
+    Ok(())
+}
+
+/// Whether a program has this assembler text.
+fn prints_as(alloc: Global, program: &[Insn], want: &str) -> bool {
+    if !printable(program) {
+        return false;
+    }
+    match write_asm(alloc, program) {
+        Ok(text) => text.as_slice() == want.as_bytes(),
+        Err(_) => false,
+    }
+}
+
+/// Each code, and the text at place 0 of its instruction with 1, 2 and 7 in its fields.
+const TEXTS: [(u16, &str); 49] = [
+    (0x00, "ldi #7"),
+    (0x20, "ld [7]"),
+    (0x28, "ldh [7]"),
+    (0x30, "ldb [7]"),
+    (0x40, "ld [x + 7]"),
+    (0x48, "ldh [x + 7]"),
+    (0x50, "ldb [x + 7]"),
+    (0x60, "ld M[7]"),
+    (0x80, "ld #len"),
+    (0x01, "ldxi #7"),
+    (0x61, "ldx M[7]"),
+    (0x81, "ldx #len"),
+    (0xb1, "ldxb 4*([7]&0xf)"),
+    (0x02, "st M[7]"),
+    (0x03, "stx M[7]"),
+    (0x04, "add #7"),
+    (0x14, "sub #7"),
+    (0x24, "mul #7"),
+    (0x34, "div #7"),
+    (0x44, "or #7"),
+    (0x54, "and #7"),
+    (0x64, "lsh #7"),
+    (0x74, "rsh #7"),
+    (0x94, "mod #7"),
+    (0xa4, "xor #7"),
+    (0x0c, "add x"),
+    (0x1c, "sub x"),
+    (0x2c, "mul x"),
+    (0x3c, "div x"),
+    (0x4c, "or x"),
+    (0x5c, "and x"),
+    (0x6c, "lsh x"),
+    (0x7c, "rsh x"),
+    (0x9c, "mod x"),
+    (0xac, "xor x"),
+    (0x84, "neg"),
+    (0x05, "jmp l8"),
+    (0x15, "jeq #7, l2, l3"),
+    (0x25, "jgt #7, l2, l3"),
+    (0x35, "jge #7, l2, l3"),
+    (0x45, "jset #7, l2, l3"),
+    (0x1d, "jeq x, l2, l3"),
+    (0x2d, "jgt x, l2, l3"),
+    (0x3d, "jge x, l2, l3"),
+    (0x4d, "jset x, l2, l3"),
+    (0x06, "ret #7"),
+    (0x16, "ret a"),
+    (0x07, "tax"),
+    (0x87, "txa"),
+];
+
+#[test]
+fn assembler_texts(rt: HostRuntime) -> Result<(), Fail> {
+    let alloc = rt.alloc();
+    let lines = "l0: ldh [12]\nl1: jeq #2054, l2, l3\nl2: ret #4294967295\nl3: ret #0\n";
+    assert!(rt; prints_as(alloc, &arp(), lines));
+    assert!(rt; prints_as(alloc, &[], ""));
+    let rest =
+        "l1: ret #0\nl2: ret #0\nl3: ret #0\nl4: ret #0\nl5: ret #0\nl6: ret #0\nl7: ret #0\nl8: ret #0\n";
+    for (code, want) in TEXTS {
+        let mut program = [insn(6, 0, 0, 0); 9];
+        program[0] = insn(code, 1, 2, 7);
+        let text = format!(in alloc; "l0: {want}\n{rest}")?;
+        assert!(rt; prints_as(alloc, &program, text.as_str()), "{want}");
+    }
+    Ok(())
+}
+
+#[test]
+fn what_is_printable(rt: HostRuntime) -> Result<(), Fail> {
+    let alloc = rt.alloc();
+    assert!(rt; printable(&[]));
+    assert!(rt; printable(&arp()));
+    let end = insn(6, 0, 0, 0);
+    assert!(rt; !printable(&[insn(5, 0, 0, 0)]));
+    assert!(rt; !printable(&[insn(5, 0, 0, 1), end]));
+    assert!(rt; printable(&[insn(5, 0, 0, 0), end]));
+    assert!(rt; !printable(&[insn(5, 0, 0, 4294967295), end]));
+    assert!(rt; !printable(&[insn(0x15, 1, 0, 0), end]));
+    assert!(rt; !printable(&[insn(0x15, 0, 1, 0), end]));
+    assert!(rt; printable(&[insn(0x15, 0, 0, 0), end]));
+    assert!(rt; !printable(&[insn(0x1d, 1, 0, 0), end]));
+    assert!(rt; !printable(&[insn(0x1d, 0, 1, 0), end]));
+    assert!(rt; !printable(&[insn(0x0e, 0, 0, 0), end]));
+    let longest = vec![in alloc; end; 4096]?;
+    assert!(rt; printable(&longest));
+    let longer = vec![in alloc; end; 4097]?;
+    assert!(rt; !printable(&longer));
+    Ok(())
 }
