@@ -343,3 +343,49 @@ fn refused_memory(rt: HostRuntime) -> Result<(), Fail> {
     }
     Ok(())
 }
+
+/// A number of four bytes in the byte order of a header.
+fn number_of(big: bool, number: u32) -> [u8; 4] {
+    if big {
+        number.to_be_bytes()
+    } else {
+        number.to_le_bytes()
+    }
+}
+
+/// Packet number `i` of a made capture: `i` modulo 97 bytes, each `i` modulo 251, of an original length of 3 times `i`.
+fn made_packet(alloc: Global, i: u32) -> Result<Packet, AllocError> {
+    let bytes = vec![in alloc; (i % 251) as u8; (i % 97) as usize]?;
+    Ok(Packet {
+        bytes: Bytes::from_vec(bytes),
+        original: i.wrapping_mul(3),
+    })
+}
+
+/// How many packets a made capture has.
+const MADE: u32 = 300;
+
+#[test]
+fn several_hundred_packets_in_each_kind(rt: HostRuntime) -> Result<(), Fail> {
+    for (front, header) in &HEADERS {
+        let big = header.big;
+        let mut capture = Vec::from_slice(rt.alloc(), front)?;
+        let mut packets = Vec::new(rt.alloc());
+        for i in 0..MADE {
+            let packet = made_packet(rt.alloc(), i)?;
+            capture.extend_from_slice(&number_of(big, i))?;
+            capture.extend_from_slice(&number_of(big, 999_999))?;
+            capture.extend_from_slice(&number_of(big, i % 97))?;
+            capture.extend_from_slice(&number_of(big, packet.original))?;
+            capture.extend_from_slice(packet.bytes.as_slice())?;
+            packets.push(packet)?;
+        }
+        let want = Reading {
+            header: Some(*header),
+            packets,
+            fault: None,
+        };
+        check(&rt, rt.alloc(), capture.as_slice(), &want);
+    }
+    Ok(())
+}
