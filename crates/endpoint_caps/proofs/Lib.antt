@@ -1,0 +1,5 @@
+pub mod Rows
+pub mod Derivation
+pub mod Keeping
+pub mod Pass
+pub mod Revoked

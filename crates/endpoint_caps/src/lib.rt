@@ -1,0 +1,93 @@
+//! Capabilities over endpoints: who may receive at an endpoint, and who may hand that right on to others.
+//!
+//! Capabilities are derived and revoked as in Dennis and Van Horn, "Programming Semantics for Multiprogrammed
+//! Computations" (1966), and in seL4 (Reference Manual, "Capability derivation").
+#![tactic(auto)]
+
+ghost use Rattle.std.specs.Prelude.{◌≡◌};
+ghost use Rattle.endpoint_caps.specs.Capabilities.{has_right, is_within};
+
+mod table;
+#[cfg(test)]
+mod tests;
+
+pub use table::Caps;
+
+/// What a capability lets its holder do.
+#[derive(Clone, Copy, PartialEq, Eq, Debug)]
+pub enum Rights {
+    /// Receive packets at the endpoint.
+    R,
+    /// Mint further capabilities of the endpoint.
+    M,
+    /// Both.
+    Rm,
+}
+
+impl Rights {
+    /// Whether the right is among these.
+    pub fn has(self, right: Right) -> bool
+        ensures { result ≡ has_right self right }
+    {
+        match (self, right) {
+            (Rights::Rm, _) | (Rights::R, Right::Receive) | (Rights::M, Right::Mint) => true,
+            (Rights::R, Right::Mint) | (Rights::M, Right::Receive) => false,
+        }
+    }
+
+    /// Whether each of these rights is one of the others.
+    pub fn is_within(self, others: Rights) -> bool
+        ensures { result ≡ is_within self others }
+    {
+        match self {
+            Rights::R => others.has(Right::Receive),
+            Rights::M => others.has(Right::Mint),
+            Rights::Rm => others.has(Right::Receive) && others.has(Right::Mint),
+        }
+    }
+}
+
+/// One thing that a capability may be asked for.
+#[derive(Clone, Copy, PartialEq, Eq, Debug)]
+pub enum Right {
+    /// Receive packets at the endpoint.
+    Receive,
+    /// Mint further capabilities of the endpoint.
+    Mint,
+}
+
+/// A capability.
+#[derive(Clone, Copy, PartialEq, Eq, Debug)]
+pub struct Cap {
+    /// Its number, which no other capability ever has.
+    pub id: u32,
+    /// The endpoint whose packets it is about.
+    pub endpoint: u16,
+    /// The domain that holds it.
+    pub holder: u16,
+    /// What the holder may do.
+    pub rights: Rights,
+    /// The capability that it was minted from, if it was.
+    pub parent: Option<u32>,
+}
+
+/// Why an operation on capabilities is refused.
+#[derive(Clone, Copy, PartialEq, Eq, Debug, Drop)]
+pub enum CapFault {
+    /// No capability of that id is held.
+    NoCap,
+    /// Another domain holds it.
+    NotHolder,
+    /// It lacks the right that is asked for.
+    NoRight,
+    /// The rights asked for are not within its own.
+    RightsExceed,
+    /// A capability of that endpoint is held.
+    EndpointTaken,
+    /// As many capabilities are held as may be.
+    CapsFull,
+    /// The last id has been given out.
+    IdsSpent,
+    /// There was no memory.
+    NoMemory,
+}

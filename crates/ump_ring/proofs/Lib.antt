@@ -1,0 +1,11 @@
+pub mod Counts
+pub mod Extents
+pub mod Fits
+pub mod Following
+pub mod Joining
+pub mod Laws
+pub mod Prefixes
+pub mod Reading
+pub mod Receiving
+pub mod Sending
+pub mod Windows

@@ -1,0 +1,46 @@
+use Rattle.std.proofs.Common.{ap, sym, ◌∙◌, rules}
+use Rattle.rtrb.specs.Ring.{received}
+use Rattle.ump_ring.specs.Receivers.{messages_taken, messages_of}
+use Rattle.ump_ring.specs.Reading.{sound_lines}
+use Rattle.ump_ring.specs.Lines.{messages_in}
+use Rattle.ump_ring.proofs.Prefixes.{prefix-more}
+use Rattle.ump_ring.proofs.Receiving.{pulled}
+use Rattle.ump_ring.proofs.receiver.Receiver.pull.Goals as goal
+
+pub invariant_of-self-then-branch : goal.invariant_of-self-then-branch
+invariant_of-self-then-branch c = record {
+  receiving = (pulled c.loop.self.joiner c.line.new.self (received c.loop.self.consumer) (received c.pop.new.self) c.in-Ok.line c.in_ok-line.field-0 c.loop.self.kept (messages_taken c.args.self.now)
+      c.loop.invariant.sound c.loop.self.receiving c.in-Ok.ensures.ok.0 c.in_ok-line.ensures.read c.in_ok-line.ensures.ok.1 c.loop.invariant.none_kept c.loop.invariant.taken).0;
+  keeps = λ e. c.in_ok-line.ensures.ok.1.0 c.if-branch.true;
+}
+
+pub returns-then-branch-clause-taken : goal.returns-then-branch-clause-taken
+returns-then-branch-clause-taken c =
+    ap (λ k. messages_of k (messages_in (sound_lines c.line.new.self.fault (received c.pop.new.self)))) (sym c.if-branch.true)
+    ∙ (pulled c.loop.self.joiner c.line.new.self (received c.loop.self.consumer) (received c.pop.new.self) c.in-Ok.line c.in_ok-line.field-0 c.loop.self.kept (messages_taken c.args.self.now)
+    c.loop.invariant.sound c.loop.self.receiving c.in-Ok.ensures.ok.0 c.in_ok-line.ensures.read c.in_ok-line.ensures.ok.1 c.loop.invariant.none_kept c.loop.invariant.taken).1
+
+pub invariant_of-self-else-branch : goal.invariant_of-self-else-branch
+invariant_of-self-else-branch c = record {
+  receiving = (pulled c.loop.self.joiner c.line.new.self (received c.loop.self.consumer) (received c.pop.new.self) c.in-Ok.line c.in_ok-line.field-0 c.loop.self.kept (messages_taken c.args.self.now)
+      c.loop.invariant.sound c.loop.self.receiving c.in-Ok.ensures.ok.0 c.in_ok-line.ensures.read c.in_ok-line.ensures.ok.1 c.loop.invariant.none_kept c.loop.invariant.taken).0;
+  keeps = λ e. let f = c.loop.invariant.none_kept in absurd (cc (e, f));
+}
+
+pub loop-preserved : goal.loop-preserved
+loop-preserved c = record {
+  ring = search rules;
+  lines = prefix-more _ _ _ _ c.loop.invariant.lines c.in-Ok.ensures.ok.0;
+  none_before = c.loop.invariant.none_before;
+  taken = ap (λ k. messages_of k (messages_in (sound_lines c.line.new.self.fault (received c.pop.new.self)))) (c.loop.invariant.none_kept ∙ sym c.if-branch.false)
+      ∙ (pulled c.loop.self.joiner c.line.new.self (received c.loop.self.consumer) (received c.pop.new.self) c.in-Ok.line c.in_ok-line.field-0 c.loop.self.kept (messages_taken c.args.self.now)
+      c.loop.invariant.sound c.loop.self.receiving c.in-Ok.ensures.ok.0 c.in_ok-line.ensures.read c.in_ok-line.ensures.ok.1 c.loop.invariant.none_kept c.loop.invariant.taken).1;
+  sound = search rules;
+  none_kept = search rules;
+}
+
+pub returns-in_err-line-clause-lines : goal.returns-in_err-line-clause-lines
+returns-in_err-line-clause-lines c = prefix-more _ _ _ _ c.loop.invariant.lines c.in-Ok.ensures.ok.0
+
+pub returns-then-branch-clause-lines : goal.returns-then-branch-clause-lines
+returns-then-branch-clause-lines c = prefix-more _ _ _ _ c.loop.invariant.lines c.in-Ok.ensures.ok.0

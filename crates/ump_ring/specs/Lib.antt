@@ -1,0 +1,10 @@
+pub mod Ends
+pub mod Joiners
+pub mod Lending
+pub mod Lines
+pub mod Offered
+pub mod Reading
+pub mod Receivers
+pub mod Receiving
+pub mod Senders
+pub mod Sending

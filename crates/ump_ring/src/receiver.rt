@@ -1,0 +1,135 @@
+//! The end of a ring that receives.
+ghost use Rattle.std.specs.Prelude.{◌≡◌, IsTrue, None};
+ghost use Rattle.rtrb.specs.Ring.{received};
+ghost use Rattle.ump_ring.specs.Joiners.{message_shown, fault_of};
+ghost use Rattle.ump_ring.specs.Receiving.{IsReceiving, KeepsMessage};
+
+use crate::fault::LineFault;
+use crate::joiner::Joiner;
+use crate::line::Line;
+use rtrb::Consumer;
+
+/// The end of a ring that receives messages, one at a time.
+#[derive(Drop)]
+pub struct Receiver {
+    pub(crate) consumer: Consumer<Line>,
+    joiner: Joiner,
+    // A whole message was read and is not given up.
+    kept: bool,
+    ghost receiving: { IsReceiving joiner (received consumer) },
+    ghost keeps: { KeepsMessage kept joiner },
+}
+
+// A message has at most so many lines.
+const LINES_MOST: u32 = 587;
+
+impl Receiver {
+    ghost use Rattle.std.specs.Prelude.{◌≡◌, ◌≢◌, ◌↔◌, ◌++◌, ◌∷◌, [], None, Some, Err, IsTrue, IsFalse, IfOk, IfErr, OnOk, MatchOption};
+    ghost use mathlib.Core.List.{IsPrefix};
+    ghost use Rattle.rtrb.specs.Ring.{received};
+    ghost use Rattle.ump_ring.specs.Lines.{messages_in};
+    ghost use Rattle.ump_ring.specs.Reading.{StopsAt};
+    ghost use Rattle.ump_ring.specs.Joiners.{AfterLines, shown_items, shown_list};
+    ghost use Rattle.std.specs.Borrow.{sem};
+    ghost use Rattle.ump_ring.specs.Lending.{LendsLook, LendsTake};
+    ghost use Rattle.ump_ring.specs.Receivers.{lines_received, messages_taken, message_kept, stopped, SameReceiver, message_last};
+
+    // The receiving end of a ring of which nothing was received.
+    pub(crate) fn new(consumer: Consumer<Line>, joiner: Joiner) -> Receiver
+        requires consumer { received consumer ≡ [] }
+        requires joiner { AfterLines joiner [] }
+        ensures ring { result.consumer ≡ consumer }
+        ensures taken { (messages_taken result ≡ []) × (message_kept result ≡ None) }
+        ensures stopped { stopped result ≡ None }
+    {
+        Receiver {
+            consumer,
+            joiner,
+            kept: false,
+        }
+    }
+
+    // Receives lines until a whole message is kept, or there are none.
+    fn pull(&mut self) -> Result<(), LineFault>
+        ensures ring { SameReceiver self.old self.new }
+        ensures lines { IsPrefix (lines_received self.old) (lines_received self.new) }
+        ensures taken { messages_taken self.new ≡ messages_taken self.old }
+        ensures stays { stopped self.old ≢ None → stopped self.new ≡ stopped self.old }
+        ensures kept { message_kept self.old ≢ None → message_kept self.new ≡ message_kept self.old }
+        ensures ok { OnOk result (stopped self.new ≡ None) }
+        ensures err { IfErr result (λ fault. (stopped self.new ≡ Some fault) × StopsAt fault (lines_received self.new)) }
+    {
+        if let Some(fault) = self.joiner.fault() {
+            return Err(fault);
+        }
+        if self.kept {
+            return Ok(());
+        }
+        for _ in 0..LINES_MOST {
+            let Ok(line) = self.consumer.pop() else {
+                break;
+            };
+            if self.joiner.line(&line)? {
+                self.kept = true;
+                return Ok(());
+            }
+        }
+        Ok(())
+    }
+
+    // The message that is kept.
+    fn shown(&self) -> Option<&[u8]>
+        ensures kept { shown_items result ≡ message_kept self.now }
+        ensures all { stopped self.now ≡ None → messages_taken self.now ++ shown_list (message_kept self.now) ≡ messages_in (lines_received self.now) }
+    {
+        if self.kept {
+            self.joiner.message()
+        } else {
+            None
+        }
+    }
+
+    // Gives the kept message up, and says whether there was one. It stays in the joiner until the next line.
+    fn give_up(&mut self) -> bool
+        ensures ring { SameReceiver self.old self.new }
+        ensures lines { lines_received self.new ≡ lines_received self.old }
+        ensures none { IsFalse result → message_kept self.old ≡ None }
+        ensures kept { message_kept self.new ≡ None }
+        ensures stopped { stopped self.new ≡ stopped self.old }
+        ensures taken { messages_taken self.new ≡ messages_taken self.old ++ shown_list (message_kept self.old) }
+        ensures all { stopped self.old ≡ None → messages_taken self.new ≡ messages_in (lines_received self.new) }
+        ensures last { IsTrue result → message_last self.new ≡ message_kept self.old }
+    {
+        let kept = self.kept;
+        self.kept = false;
+        kept
+    }
+
+    // The message that was read last.
+    fn last(&self) -> Option<&[u8]>
+        ensures { shown_items result ≡ message_last self.now }
+    {
+        self.joiner.message()
+    }
+
+    /// Lends the first whole message, and keeps it. After a fault every call answers the same. Takes no
+    /// memory.
+    pub fn look(&mut self) -> Result<Option<&[u8]>, LineFault>
+        ensures* looked { sem 𝓛 (LendsLook self.entry result) }
+    {
+        self.pull()?;
+        Ok(self.shown())
+    }
+
+    /// Lends the first whole message, and gives it up. After a fault every call answers the same. Takes
+    /// no memory.
+    pub fn take(&mut self) -> Result<Option<&[u8]>, LineFault>
+        ensures* taken { sem 𝓛 (LendsTake self.entry result) }
+    {
+        self.pull()?;
+        if !self.give_up() {
+            return Ok(None);
+        }
+        Ok(self.last())
+    }
+}

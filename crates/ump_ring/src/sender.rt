@@ -1,0 +1,133 @@
+//! The end of a ring that sends.
+ghost use Rattle.std.specs.Prelude.{◌≡◌, ◌+◌, ◌<◌, ◌≤◌, ◌++◌, ℕ, List, length};
+ghost use mathlib.Core.List.{IsPrefix};
+ghost use Rattle.ump_ring.specs.Lines.{line_count, lines_below, number_after};
+ghost use Rattle.ump_ring.specs.Sending.{IsSending};
+ghost use Rattle.rtrb.specs.Ring.{sent, SameProducer};
+
+use crate::line::{Line, MESSAGE_MOST, line_at};
+use rtrb::{Producer, PushError};
+
+/// The end of a ring that sends messages, one at a time.
+#[derive(Drop)]
+pub struct Sender {
+    pub(crate) producer: Producer<Line>,
+    // The message that goes out, or nothing.
+    message: Option<Vec<u8>>,
+    // How many of its lines are out.
+    out: u32,
+    // The number of the next line.
+    number: u32,
+    ghost sending: { IsSending message out number (sent producer) },
+}
+
+/// A message is still going out. The new one is handed back.
+#[derive(Drop)]
+pub struct Busy(pub Vec<u8>);
+
+/// How far the sender got.
+#[derive(Clone, Copy, PartialEq, Eq, Debug)]
+pub struct Pushed {
+    /// The lines that it pushed.
+    pub lines: u32,
+    /// Whether nothing is left to push.
+    pub whole: bool,
+}
+
+// Pushes the lines of a message from a place on, as far as the ring takes them. The result is how many.
+fn push_lines(producer: &mut Producer<Line>, message: &[u8], out: u32, number: u32) -> u32
+    requires length { length message.now ≤ MESSAGE_MOST }
+    requires out { out ≤ line_count (length message.now) }
+    requires number { number ≡ number_after (length (sent producer.old)) }
+    ensures ring { SameProducer producer.old producer.new }
+    ensures out { out + result ≤ line_count (length message.now) }
+    ensures grown { IsPrefix (sent producer.old) (sent producer.new) }
+    ensures pushed { length (sent producer.new) ≡ length (sent producer.old) + result }
+    ensures lines { (before : List (List ℕ)) → sent producer.old ≡ before ++ lines_below (length message.now) message.now (length before) out → sent producer.new ≡ before ++ lines_below (length message.now) message.now (length before) (out + result) }
+{
+    let count = message.len().div_ceil(56) as u32;
+    let mut pushed = 0u32;
+    let mut next = number;
+    for place in out..count {
+        if producer.push(line_at(message, next, place)).is_err() {
+            break;
+        }
+        next = next.wrapping_add(1);
+        pushed += 1;
+    }
+    pushed
+}
+
+impl Sender {
+    ghost use Rattle.std.specs.Prelude.{◌≡◌, ◌+◌, ◌<◌, ◌≤◌, ◌↔◌, ◌≢◌, ◌++◌, ◌∷◌, ℕ, List, [], length, vec_len, IsTrue, IsFalse, OnOk, OnErr, IfErr, None, Some};
+    ghost use mathlib.Core.List.{IsPrefix};
+    ghost use Rattle.rtrb.specs.Ring.{sent};
+    ghost use Rattle.ump_ring.specs.Lines.{stream};
+    ghost use Rattle.ump_ring.specs.Senders.{lines_sent, current, messages_offered, SameSender};
+
+    // The sending end of a ring to which nothing was pushed.
+    pub(crate) fn new(producer: Producer<Line>) -> Sender
+        requires { sent producer ≡ [] }
+        ensures ring { result.producer ≡ producer }
+        ensures offered { messages_offered result ≡ [] }
+        ensures current { current result ≡ None }
+    {
+        Sender {
+            producer,
+            message: None,
+            out: 0,
+            number: 0,
+        }
+    }
+
+    /// Whether no message is going out. Takes no memory.
+    pub fn idle(&self) -> bool
+        ensures { IsTrue result ↔ (current self.now ≡ None) }
+    {
+        self.message.is_none()
+    }
+
+    /// Takes a message to be sent, of 1 to 32,832 bytes, or hands it back where one is still going out. Takes no
+    /// memory.
+    pub fn offer(&mut self, message: Vec<u8>) -> Result<(), Busy>
+        requires length { (1 ≤ vec_len message) × (vec_len message ≤ 32832) }
+        ensures ring { SameSender self.old self.new × (lines_sent self.new ≡ lines_sent self.old) }
+        ensures ok { OnOk result ((current self.old ≡ None) × (current self.new ≡ Some message) × (messages_offered self.new ≡ messages_offered self.old ++ message.items ∷ [])) }
+        ensures busy { IfErr result (λ e. (e.0 ≡ message) × (current self.old ≢ None) × (current self.new ≡ current self.old) × (messages_offered self.new ≡ messages_offered self.old)) }
+    {
+        if self.message.is_some() {
+            return Err(Busy(message));
+        }
+        self.message = Some(message);
+        self.out = 0;
+        Ok(())
+    }
+
+    /// Pushes lines until the message is out or the ring takes no more. Takes no memory.
+    pub fn push_some(&mut self) -> Pushed
+        ensures ring { SameSender self.old self.new }
+        ensures offered { messages_offered self.new ≡ messages_offered self.old }
+        ensures pushed { length (lines_sent self.new) ≡ length (lines_sent self.old) + result.lines }
+        ensures grown { IsPrefix (lines_sent self.old) (lines_sent self.new) }
+        ensures lines { IsPrefix (lines_sent self.new) (stream 0 (messages_offered self.new)) }
+        ensures all { IsTrue result.whole → lines_sent self.new ≡ stream 0 (messages_offered self.new) }
+        ensures whole { IsTrue result.whole ↔ (current self.new ≡ None) }
+    {
+        let Some(message) = &self.message else {
+            return Pushed {
+                lines: 0,
+                whole: true,
+            };
+        };
+        let count = message.len().div_ceil(56) as u32;
+        let lines = push_lines(&mut self.producer, message, self.out, self.number);
+        self.out += lines;
+        self.number = self.number.wrapping_add(lines);
+        let whole = self.out == count;
+        if whole {
+            self.message = None;
+            self.out = 0;
+        }
+        Pushed { lines, whole }
+    }
+}
