@@ -7,3 +7,4 @@ pub mod FeedingLemmas
 pub mod PrintingLemmas
 pub mod DumpingLemmas
 pub mod CaptureLemmas
+pub mod CheckingLemmas

@@ -3,3 +3,4 @@ pub mod Code
 pub mod Faults
 pub mod Matching
 pub mod Dumping
+pub mod Checking

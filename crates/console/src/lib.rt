@@ -2,6 +2,7 @@
 #![tactic(auto)]
 
 mod capture_fault;
+mod checking;
 mod code;
 mod dumping;
 mod fault;
@@ -14,6 +15,7 @@ mod matching;
 mod outcome;
 mod output;
 
+pub use checking::run_check;
 pub use dumping::run_dump;
 pub use fault::EngineFault;
 pub use input::{Input, feed_bounded, read_bounded};

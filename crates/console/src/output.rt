@@ -14,7 +14,15 @@ pub fn write_text<W: Write>(writer: &mut W, text: &str) -> Result<(), EngineFaul
     ensures written { OnOk result (Appends (W.contents writer.old) (W.contents writer.new) text.now) }
     ensures fault { IfErr result (λ e. e ≡ EngineFault.WriteFailed) }
 {
-    match writer.write_all(text.as_bytes()) {
+    write_bytes(writer, text.as_bytes())
+}
+
+/// Writes bytes.
+pub fn write_bytes<W: Write>(writer: &mut W, bytes: &[u8]) -> Result<(), EngineFault>
+    ensures written { OnOk result (Appends (W.contents writer.old) (W.contents writer.new) bytes.now) }
+    ensures fault { IfErr result (λ e. e ≡ EngineFault.WriteFailed) }
+{
+    match writer.write_all(bytes) {
         Ok(()) => Ok(()),
         Err(_) => Err(EngineFault::WriteFailed),
     }

@@ -1,5 +1,6 @@
 //! The engines over readers and writers in memory, some of which fail.
 
 mod captures;
+mod checks;
 mod devices;
 mod matches;

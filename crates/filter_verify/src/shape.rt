@@ -18,7 +18,7 @@ const WORDS: u32 = 16;
 const ANCILLARY: u32 = 0x8000_0000;
 
 /// Whether a jump of that form at a place has a target outside a program of `len` instructions.
-fn jumps_out(form: Form, pc: usize, len: usize) -> bool
+pub fn jumps_out(form: Form, pc: usize, len: usize) -> bool
     requires { pc ≤ 4096 }
     ensures out { IsTrue result → (to : ℕ) × JumpsTo pc form to × (len ≤ to) }
     ensures inside { (IsTrue result → ⊥) → (to : ℕ) → JumpsTo pc form to → to < len }

@@ -52,6 +52,41 @@ const CODE_HELP: &str =
 
 const PCAP_HELP: &str = "Read a capture in place of hexadecimal lines";
 
+const CHECK_ABOUT: &str = "Assemble a filter";
+
+const CHECK_DETAILS: &str = "\
+Assemble the filter on standard input, and print it as the decimal text that `match` takes.
+
+The filter is written in the mnemonics of Linux's bpf_asm: a line has any number of labels, `name:`, and one instruction at
+most; `;` begins a comment. At the first fault `line N: NAME` is printed, with status 1:
+
+    Mnemonic    no known mnemonic stands where one should
+    Operand     the operands fit no shape of the mnemonic
+    Number      a number is out of range, or none
+    TwiceLabel  a label is defined a second time
+    TooLong     there are more than 4096 instructions
+    NoLabel     a jump names a label that isn't defined
+    Backward    a jump doesn't go forward
+    TooFar      a conditional jump passes over more than 255 instructions
+
+The filter is not verified: `match` does that.
+
+With --asm it is printed as assembler text, a labelled line for each instruction. A filter with a jump to the place after
+its end has none: `refused JumpOut pc P` is printed, with status 1.";
+
+const CHECK_EXAMPLE: &str = "\
+Example: write a filter and run it
+
+    $ cat > arp.asm <<END
+          ldh [12]
+          jne #0x806, drop
+          ret #-1
+    drop: ret #0
+    END
+    $ mkdemux match \"$(mkdemux check < arp.asm)\" < packets.hex";
+
+const ASM_HELP: &str = "Print assembler text in place of decimal text";
+
 const DUMP_ABOUT: &str = "Print the header and the packets of a capture";
 
 const DUMP_DETAILS: &str = "\
@@ -87,6 +122,15 @@ pub fn command<'a>(alloc: Global) -> Result<Command<'a>, AllocError> {
         .after_help(MATCH_EXAMPLE)
         .arg(code)?
         .arg(pcap)?;
+    let asm = Arg::new(alloc, "asm")
+        .long("asm")
+        .help(ASM_HELP)
+        .action(ArgAction::SetTrue);
+    let check = Command::new(alloc, "check")
+        .about(CHECK_ABOUT)
+        .long_about(CHECK_DETAILS)
+        .after_help(CHECK_EXAMPLE)
+        .arg(asm)?;
     let dump = Command::new(alloc, "dump")
         .about(DUMP_ABOUT)
         .long_about(DUMP_DETAILS)
@@ -97,5 +141,6 @@ pub fn command<'a>(alloc: Global) -> Result<Command<'a>, AllocError> {
         .after_help(EXIT_STATUS)
         .subcommand_required(true)
         .subcommand(matching)?
+        .subcommand(check)?
         .subcommand(dump)
 }

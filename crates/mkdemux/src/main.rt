@@ -8,7 +8,7 @@ mod command_line;
 
 use clap::error::ErrorKind;
 use clap::{ArgMatches, Error};
-use console::{EngineFault, run_dump, run_match};
+use console::{EngineFault, run_check, run_dump, run_match};
 use std::io;
 use std::process::ExitCode;
 
@@ -59,6 +59,12 @@ fn dispatch(rt: &HostRuntime, matches: &ArgMatches) -> u8 {
                 &mut rt.stdout(),
             )
         }
+        Some(("check", found)) => run_check(
+            rt.alloc(),
+            found.get_flag("asm"),
+            &mut rt.stdin(),
+            &mut rt.stdout(),
+        ),
         Some(("dump", _)) => run_dump(rt.alloc(), &mut rt.stdin(), &mut rt.stdout()),
         _ => return USAGE,
     };

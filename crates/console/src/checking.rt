@@ -1,0 +1,159 @@
+//! `check`: assembles a filter.
+
+ghost use Rattle.std.specs.Prelude.{◌≡◌, ◌≢◌, ◌<◌, ◌≤◌, ◌^◌, ◌⊎◌, ℕ, List, length, IfOk, IfErr, Err, IsTrue, MatchOption, string_bytes};
+ghost use Rattle.std.specs.Io.KnownBytes.{Appends};
+ghost use Rattle.bpf_insn.specs.declared.form.Form.{Form as AnyForm};
+ghost use Rattle.bpf_insn.specs.Program.{FormAt};
+ghost use Rattle.filter_asm.specs.declared.fault.AsmFaultKind.TheVariants.{NoMemory};
+ghost use Rattle.filter_verify.specs.declared.rules.Refusal.TheVariants.{JumpOut};
+ghost use Rattle.filter_verify.specs.Rules.{BreaksAt};
+ghost use Rattle.console.specs.Checking.{IsFirstOut, ShowsAsm, ShowsCheck, ShowsProgram, asm_fault_line, fault_name};
+ghost use Rattle.console.specs.Matching.{IsEngineFault};
+ghost use Rattle.console.specs.Reading.{IsInput};
+
+use crate::EngineFault;
+use crate::input::{INPUT_BYTES, INPUT_READS, Input, read_bounded};
+use crate::output::{write_bytes, write_text};
+use bpf_insn::{Insn, write_asm, write_ddd};
+use filter_asm::{AsmFaultKind, assemble};
+use filter_verify::jumps_out;
+use std::alloc::{AllocError, Global};
+use std::io::{Read, Write};
+
+/// Assembles the filter of the input, prints it, and answers the status.
+///
+/// The input is assembler text in the mnemonics of Linux's `bpf_asm`. Where `asm` is false the program is printed as the
+/// decimal text that `match` takes, and where it is true as assembler text, a labelled line for each instruction; a program
+/// with a jump to the place after its end has none, and `refused JumpOut pc P`, P the least such place, is printed with
+/// status 1. So is the first fault of the text, as `line N: NAME`. The program is not verified. Of an input of more than
+/// 64 MiB only `fault InputTooLong` is printed, status 1.
+///
+/// Answers `ReadFailed` or `NoMemory`, with nothing written, or `WriteFailed`.
+pub fn run_check<R: Read, W: Write>(
+    alloc: Global,
+    asm: bool,
+    reader: &mut R,
+    writer: &mut W,
+) -> Result<u8, EngineFault>
+    ensures shown { IfOk result (λ status. (text : List ℕ) × Appends (W.contents writer.old) (W.contents writer.new) text
+        × ((input : List ℕ) × IsInput (R.remaining reader.old) input × ShowsCheck asm input status text)) }
+    ensures fault { IfErr result IsEngineFault }
+    ensures silent { (result ≡ Err EngineFault.ReadFailed) ⊎ (result ≡ Err EngineFault.NoMemory) → writer.new ≡ writer.old }
+{
+    match read_bounded(alloc, reader, INPUT_BYTES, INPUT_READS)? {
+        Input::TooLong => {
+            write_text(writer, "fault InputTooLong\n")?;
+            Ok(1)
+        }
+        Input::Whole(input) => {
+            let shown = check_text(alloc, asm, input.as_slice())?;
+            write_bytes(writer, shown.text.as_slice())?;
+            Ok(shown.status)
+        }
+    }
+}
+
+/// What is shown of a text, and the status that goes with it.
+#[derive(Drop)]
+struct Shown {
+    text: Vec<u8>,
+    status: u8,
+}
+
+/// What is shown of an assembler text.
+fn check_text(alloc: Global, asm: bool, text: &[u8]) -> Result<Shown, AllocError>
+    requires { length text.now < 2 ^ 32 }
+    ensures { IfOk result (λ shown. ShowsAsm asm text.now shown.status shown.text.items) }
+{
+    match assemble(alloc, text) {
+        Ok(program) => {
+            let shown = show_program(alloc, asm, program.as_slice())?;
+            Ok(shown)
+        }
+        Err(fault) => {
+            let line = fault_line(alloc, fault.line, fault.kind)?;
+            Ok(Shown {
+                text: line.into_bytes(),
+                status: 1,
+            })
+        }
+    }
+}
+
+/// What is shown of an assembled program.
+fn show_program(alloc: Global, asm: bool, program: &[Insn]) -> Result<Shown, AllocError>
+    requires short { length program.now ≤ 4096 }
+    requires formed { (pc : ℕ) → pc < length program.now → (form : AnyForm) × FormAt program.now pc form }
+    ensures { IfOk result (λ shown. ShowsProgram asm program.now shown.status shown.text.items) }
+{
+    if !asm {
+        return Ok(Shown {
+            text: write_ddd(alloc, program)?,
+            status: 0,
+        });
+    }
+    match first_jump_out(program) {
+        None => Ok(Shown {
+            text: write_asm(alloc, program)?,
+            status: 0,
+        }),
+        Some(pc) => Ok(Shown {
+            text: format!(in alloc; "refused JumpOut pc {pc}\n")?.into_bytes(),
+            status: 1,
+        }),
+    }
+}
+
+/// The least place of a jump that leads outside.
+fn first_jump_out(program: &[Insn]) -> Option<usize>
+    requires { length program.now ≤ 4096 }
+    ensures { MatchOption result ((pc : ℕ) → BreaksAt program.now pc (JumpOut pc) → ⊥) (IsFirstOut program.now) }
+{
+    for pc in 0..program.len() {
+        if jumps_out_at(program, pc) {
+            return Some(pc);
+        }
+    }
+    None
+}
+
+/// Whether a jump at a place leads outside.
+fn jumps_out_at(program: &[Insn], pc: usize) -> bool
+    requires short { length program.now ≤ 4096 }
+    requires inside { pc < length program.now }
+    ensures out { IsTrue result → BreaksAt program.now pc (JumpOut pc) }
+    ensures stays { (IsTrue result → ⊥) → BreaksAt program.now pc (JumpOut pc) → ⊥ }
+{
+    match program[pc].form() {
+        Some(form) => jumps_out(form, pc, program.len()),
+        None => false,
+    }
+}
+
+/// The line for the first fault of a text.
+fn fault_line(alloc: Global, line: u32, kind: AsmFaultKind) -> Result<String, AllocError>
+    ensures { IfOk result (λ text. (kind ≢ NoMemory) × (string_bytes text ≡ asm_fault_line (record { line = line; kind = kind }))) }
+{
+    let Some(name) = name_of(kind) else {
+        return Err(AllocError);
+    };
+    let text = format!(in alloc; "line {line}: {name}\n")?;
+    Ok(text)
+}
+
+/// The name of a fault; want of memory is none of a text.
+fn name_of(kind: AsmFaultKind) -> Option<&'static str>
+    ensures { MatchOption result (kind ≡ NoMemory) (λ name. (kind ≢ NoMemory) × (name.now ≡ fault_name kind)) }
+{
+    match kind {
+        AsmFaultKind::Mnemonic => Some("Mnemonic"),
+        AsmFaultKind::Operand => Some("Operand"),
+        AsmFaultKind::Number => Some("Number"),
+        AsmFaultKind::NoLabel => Some("NoLabel"),
+        AsmFaultKind::TwiceLabel => Some("TwiceLabel"),
+        AsmFaultKind::Backward => Some("Backward"),
+        AsmFaultKind::TooFar => Some("TooFar"),
+        AsmFaultKind::TooLong => Some("TooLong"),
+        AsmFaultKind::NoMemory => None,
+    }
+}
