@@ -42,4 +42,5 @@ lines("lines400.hex", 200, 60_000_000)
 lines("lines120.hex", 60, 60_000_000)
 capture("packets60.pcap", 60, total=60_000_000)
 capture("packets1500.pcap", 1500, total=60_000_000)
-capture("packets200.pcap", 200, count=200_000)
+for size in (60, 100, 200):
+    capture(f"many{size}.pcap", size, count=200_000)

@@ -40,9 +40,7 @@ compare("`match`, lines of 400 digits", "lines400.hex", [mkdemux, "match", ARP],
 compare("`match`, lines of 120 digits", "lines120.hex", [mkdemux, "match", ARP], [f"{folder}/match_peer", ARP])
 compare("`dump`, packets of 60 bytes", "packets60.pcap", [mkdemux, "dump"], [f"{folder}/dump_peer"])
 compare("`dump`, packets of 1,500 bytes", "packets1500.pcap", [mkdemux, "dump"], [f"{folder}/dump_peer"])
-compare(
-    "`match --pcap`, 200,000 packets",
-    "packets200.pcap",
-    [mkdemux, "match", ARP, "--pcap"],
-    [f"{folder}/capture_peer", ARP, f"{folder}/packets200.pcap"],
-)
+for size in (60, 100, 200):
+    name = f"many{size}.pcap"
+    peer = [f"{folder}/capture_peer", ARP, f"{folder}/{name}"]
+    compare(f"`match --pcap`, 200,000 packets of {size} bytes", name, [mkdemux, "match", ARP, "--pcap"], peer)

@@ -1,5 +1,5 @@
 #!/bin/sh
-# Builds the C peers, writes the inputs (220 MB) and measures mkdemux against the peers. Usage: bench/programs.sh [FOLDER]
+# Builds the C peers, writes the inputs (320 MB) and measures mkdemux against the peers. Usage: bench/programs.sh [FOLDER]
 # Needs a C compiler, python3 and libpcap's header and library (Debian: libpcap-dev).
 set -e
 here=$(cd "$(dirname "$0")" && pwd)
@@ -9,5 +9,5 @@ mkdir -p "$work"
 for peer in match_peer dump_peer capture_peer; do
     cc -O2 -o "$work/$peer" "$here/$peer.c" -lpcap
 done
-[ -f "$work/packets200.pcap" ] || python3 "$here/inputs.py" "$work"
+[ -f "$work/many200.pcap" ] || python3 "$here/inputs.py" "$work"
 python3 "$here/programs.py" "$here/../crates/mkdemux/out/mkdemux" "$work"
