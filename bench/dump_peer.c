@@ -1,23 +1,7 @@
 /* The C peer of `mkdemux dump`: the whole input is read, then a line is printed for the header and for each packet into a
  * large buffer, with hexadecimal digits by a table. Little-endian captures with microseconds only. Usage: dump_peer < capture */
-#include <stdint.h>
-#include <stdio.h>
-#include <stdlib.h>
-#include <string.h>
-#include <unistd.h>
-
-static char out[1 << 20];
-static size_t used;
-
-static void flush(void) {
-  size_t done = 0;
-  while (done < used) {
-    ssize_t n = write(1, out + done, used - done);
-    if (n <= 0) exit(3);
-    done += (size_t)n;
-  }
-  used = 0;
-}
+#define OUT_BYTES (1 << 20)
+#include "peer.h"
 
 static uint32_t word(const unsigned char *b) {
   return (uint32_t)b[0] | (uint32_t)b[1] << 8 | (uint32_t)b[2] << 16 | (uint32_t)b[3] << 24;
@@ -25,15 +9,8 @@ static uint32_t word(const unsigned char *b) {
 
 int main(void) {
   static const char digits[] = "0123456789abcdef";
-  size_t size = 0, room = 1 << 20;
-  unsigned char *input = malloc(room);
-  for (;;) {
-    if (size == room) input = realloc(input, room *= 2);
-    ssize_t n = read(0, input + size, room - size);
-    if (n < 0) return 3;
-    if (n == 0) break;
-    size += (size_t)n;
-  }
+  size_t size;
+  unsigned char *input = read_whole(&size);
   if (size < 24 || word(input) != 0xa1b2c3d4) return 1;
   used += (size_t)sprintf(out, "pcap little micro snaplen %u network %u\n", word(input + 16), word(input + 20));
   size_t at = 24;

@@ -44,3 +44,11 @@ capture("packets60.pcap", 60, total=60_000_000)
 capture("packets1500.pcap", 1500, total=60_000_000)
 for size in (60, 100, 200):
     capture(f"many{size}.pcap", size, count=200_000)
+
+# Assembler texts: 4,096 instructions with a label each, a jump to the next label every fourth, and a comment of 60 MB.
+with open(f"{folder}/labels.asm", "w") as out:
+    for place in range(4095):
+        out.write(f"label_{place}: " + (f"jeq #{place}, label_{place + 1}\n" if place % 4 == 0 else f"ld #{place}\n"))
+    out.write("label_4095: ret #0\n")
+with open(f"{folder}/comment.asm", "w") as out:
+    out.write("; " + "a comment of many words; " * 2_400_000 + "\nret #0\n")

@@ -1,28 +1,11 @@
 /* The C peer of `mkdemux match`: the whole input is read, hexadecimal digits go through a table, packets through
  * libpcap's portable bpf_filter, and numbers are printed by hand into a large buffer.
  * Usage: match_peer 'DECIMAL TEXT OF A FILTER' < lines. It prints verdicts without steps, which bpf_filter does not count. */
-#include <fcntl.h>
-#include <pcap/pcap.h>
-#include <stdint.h>
-#include <stdio.h>
-#include <stdlib.h>
-#include <string.h>
-#include <sys/stat.h>
-#include <unistd.h>
+#define OUT_BYTES (1 << 16)
+#include "filter.h"
+#include "peer.h"
 
 static signed char digit[256];
-static char out[1 << 16];
-static size_t used;
-
-static void flush(void) {
-  size_t done = 0;
-  while (done < used) {
-    ssize_t n = write(1, out + done, used - done);
-    if (n <= 0) exit(3);
-    done += (size_t)n;
-  }
-  used = 0;
-}
 
 static void print_number(uint32_t n, char end) {
   char text[11];
@@ -43,27 +26,10 @@ int main(int argc, char **argv) {
   for (int i = 0; i < 10; i++) digit['0' + i] = (signed char)i;
   for (int i = 0; i < 6; i++) digit['a' + i] = digit['A' + i] = (signed char)(10 + i);
 
-  char *at = argv[1];
-  unsigned count = (unsigned)strtoul(at, &at, 10);
-  struct bpf_insn *code = calloc(count, sizeof *code);
-  for (unsigned i = 0; i < count; i++) {
-    at++;
-    code[i].code = (u_short)strtoul(at, &at, 10);
-    code[i].jt = (u_char)strtoul(at, &at, 10);
-    code[i].jf = (u_char)strtoul(at, &at, 10);
-    code[i].k = (bpf_u_int32)strtoul(at, &at, 10);
-  }
-  if (!bpf_validate(code, (int)count)) return 1;
+  struct bpf_insn *code = read_filter(argv[1]);
 
-  size_t size = 0, room = 1 << 20;
-  unsigned char *input = malloc(room);
-  for (;;) {
-    if (size == room) input = realloc(input, room *= 2);
-    ssize_t n = read(0, input + size, room - size);
-    if (n < 0) return 3;
-    if (n == 0) break;
-    size += (size_t)n;
-  }
+  size_t size;
+  unsigned char *input = read_whole(&size);
 
   unsigned char *packet = malloc(size / 2 + 1);
   const unsigned char *line = input, *end = input + size;

@@ -1,6 +1,6 @@
 """Measures mkdemux against its C peers: wall time, processor time and peak memory, each best of ROUNDS runs by turns.
 
-Usage: programs.py MKDEMUX FOLDER [ROUNDS]. FOLDER has the inputs of inputs.py, and match_peer, dump_peer and capture_peer.
+Usage: programs.py MKDEMUX FOLDER [ROUNDS]. FOLDER has the inputs of inputs.py, and the peers.
 """
 import os
 import resource
@@ -44,3 +44,5 @@ for size in (60, 100, 200):
     name = f"many{size}.pcap"
     peer = [f"{folder}/capture_peer", ARP, f"{folder}/{name}"]
     compare(f"`match --pcap`, 200,000 packets of {size} bytes", name, [mkdemux, "match", ARP, "--pcap"], peer)
+compare("`check`, a comment of 60 MB", "comment.asm", [mkdemux, "check"], [f"{folder}/text_peer"])
+compare("`check`, 4,096 instructions and labels", "labels.asm", [mkdemux, "check"], [f"{folder}/text_peer"])

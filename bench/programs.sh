@@ -1,13 +1,13 @@
 #!/bin/sh
-# Builds the C peers, writes the inputs (320 MB) and measures mkdemux against the peers. Usage: bench/programs.sh [FOLDER]
+# Builds the C peers, writes the inputs (380 MB) and measures mkdemux against the peers. Usage: bench/programs.sh [FOLDER]
 # Needs a C compiler, python3 and libpcap's header and library (Debian: libpcap-dev).
 set -e
 here=$(cd "$(dirname "$0")" && pwd)
 work=${1:-$(mktemp -d)}
 mkdir -p "$work"
 "$here/../mkdemux" --version > /dev/null
-for peer in match_peer dump_peer capture_peer; do
+for peer in match_peer dump_peer capture_peer text_peer; do
     cc -O2 -o "$work/$peer" "$here/$peer.c" -lpcap
 done
-[ -f "$work/many200.pcap" ] || python3 "$here/inputs.py" "$work"
+[ -f "$work/comment.asm" ] || python3 "$here/inputs.py" "$work"
 python3 "$here/programs.py" "$here/../crates/mkdemux/out/mkdemux" "$work"

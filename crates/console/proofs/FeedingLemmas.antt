@@ -1,5 +1,5 @@
 -- What a feed was given, while a reader is read.
-use Rattle.std.proofs.Common.{◌≡◌, ℕ, ◌+◌, ◌≤◌, ◌<◌, List, [], ◌++◌, length, Option, Some, None, arith, refl, length-append, slice_index}
+use Rattle.std.proofs.Common.{◌≡◌, ℕ, ◌+◌, ◌<◌, List, [], ◌++◌, length, Option, Some, None, arith, refl, length-append, slice_index}
 use Rattle.std.specs.Io.KnownBytes.{Consumes, Keeps}
 use Rattle.pcap_reader.specs.declared.feed.Feed.{Feed}
 use Rattle.pcap_reader.specs.Held.{Holds}

@@ -5,6 +5,7 @@ pub mod CodeLemmas
 pub mod HexLemmas
 pub mod FeedingLemmas
 pub mod PrintingLemmas
+pub mod CapturedLemmas
 pub mod DumpingLemmas
 pub mod CaptureLemmas
 pub mod CheckingLemmas

@@ -13,7 +13,7 @@ use Rattle.console.specs.Code.{IsGoodCode, ShowsBadCode}
 use Rattle.console.specs.Reading.{IsInput}
 use Rattle.pcap_reader.specs.declared.capture.Packet.{Packet as Captured}
 use Rattle.pcap_reader.specs.declared.capture.CaptureFault.{CaptureFault}
-use Rattle.console.specs.Faults.{fault_text}
+use Rattle.console.specs.Faults.{fault_status, fault_text}
 use Rattle.console.specs.Matching.{Answers, AnswersCaptured, ShowsLines, ShowsCapture, ShowsFirst, ShowsGoodCode, ShowsInput, ShowsPart, ShowsRead, outcome_line, bad_line}
 use Rattle.console.proofs.KnownBytesLemmas.{appends-then, appends-nothing}
 
@@ -111,18 +111,27 @@ so_far_bad program all bad rest n m old new last kept kept' left first so err te
 )
 
 -- at the end of a capture's packets
-pub so_far_capture : (program : List Insn) (packets : List Captured) (fault : Option CaptureFault) (n : ℕ) (old new last : Option (List ℕ)) (kept kept' : List ℕ)
-    → (left : List Captured) → length left ≡ 0 → SoFar (AnswersCaptured program) packets left n old new kept → kept' ≡ kept ++ fault_text fault → Appends new last kept'
+pub so_far_capture : (program : List Insn) (packets : List Captured) (fault : Option CaptureFault) (n : ℕ) (old new last : Option (List ℕ)) (kept : List ℕ)
+    → (left : List Captured) → length left ≡ 0 → SoFar (AnswersCaptured program) packets left n old new kept → Appends new last (kept ++ fault_text fault)
     → (text : List ℕ) × ShowsCapture program packets fault text × Appends old last text
-so_far_capture program packets fault n old new last kept kept' left none so text more = (
-  so.written ++ kept',
+so_far_capture program packets fault n old new last kept left none so more = (
+  so.written ++ (kept ++ fault_text fault),
   record {
     outcomes = so.outcomes;
     ran = let whole : packets ≡ so.good = so.front ∙ ap (λ t. so.good ++ t) (nil_from_length left none) ∙ append-nil so.good in rw whole so.ran;
-    printed = ap (λ t. so.written ++ t) text ∙ sym (append_assoc so.written kept (fault_text fault)) ∙ ap (λ t. t ++ fault_text fault) so.printed;
+    printed = sym (append_assoc so.written kept (fault_text fault)) ∙ ap (λ t. t ++ fault_text fault) so.printed;
   },
-  appends-then old new last so.written kept' so.appended more,
+  appends-then old new last so.written (kept ++ fault_text fault) so.appended more,
 )
+
+-- where the end was written with the fault behind it
+pub so_far_ended : (r : Result ℕ EngineFault) (program : List Insn) (packets : List Captured) (fault : Option CaptureFault) (n : ℕ) (old new last : Option (List ℕ)) (kept : List ℕ)
+    → (left : List Captured) → length left ≡ 0 → SoFar (AnswersCaptured program) packets left n old new kept
+    → IfOk r (λ status. (status ≡ fault_status fault) × Appends new last (kept ++ fault_text fault))
+    → IfOk r (λ status. (status ≡ fault_status fault) × (text : List ℕ) × ShowsCapture program packets fault text × Appends old last text)
+so_far_ended (Ok status) program packets fault n old new last kept left none so ended =
+    let shown = so_far_capture program packets fault n old new last kept left none so ended.1 in (ended.0, shown.0, shown.1, shown.2)
+so_far_ended (Err e) program packets fault n old new last kept left none so ended = tt
 
 -- where memory ran out
 pub so_far_part : {A : Type 0} (Gives : A → Outcome → Type 0) (all rest : List A) (n : ℕ) (old new : Option (List ℕ)) (kept : List ℕ)

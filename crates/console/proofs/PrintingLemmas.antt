@@ -1,13 +1,11 @@
 -- A text that is printed bit by bit: what is written, what is kept back, and what is left to print.
-use Rattle.std.proofs.Common.{◌≡◌, ℕ, ◌+◌, List, [], ◌∷◌, ◌++◌, length, Option, Some, None, refl, ap, sym, ◌∙◌, append_assoc}
+use Rattle.std.proofs.Common.{◌≡◌, ℕ, ◌+◌, List, [], ◌∷◌, ◌++◌, Option, ap, sym, ◌∙◌, append_assoc}
 use Rattle.std.specs.Io.KnownBytes.{Appends}
-use Rattle.std.proofs.lemmas.List.{append-nil}
-use Rattle.pcap_reader.specs.declared.capture.Header.{Header}
 use Rattle.pcap_reader.specs.declared.capture.Packet.{Packet}
 use Rattle.pcap_reader.specs.declared.capture.CaptureFault.{CaptureFault}
 use Rattle.console.specs.Reading.{BeginsWith}
 use Rattle.console.specs.Faults.{fault_text}
-use Rattle.console.specs.Dumping.{header_line, packet_line, packet_lines, dump_text}
+use Rattle.console.specs.Dumping.{packet_line, packet_lines}
 use Rattle.console.proofs.KnownBytesLemmas.{appends-then, appends-nothing}
 
 pub record Printing (whole left : List ℕ) (old new : Option (List ℕ)) (kept : List ℕ) : Type 0 where
@@ -32,10 +30,11 @@ printing_written whole left kept kept' old new last so more none = record {
   parts = so.parts ∙ sym (append_assoc so.written kept left) ∙ ap (λ t. (so.written ++ kept) ++ (t ++ left)) (sym none);
 }
 
-pub printing_end : (whole left kept : List ℕ) (old new last : Option (List ℕ)) → Printing whole left old new kept → left ≡ [] → Appends new last kept → Appends old last whole
-printing_end whole left kept old new last so none more =
-    let all : whole ≡ so.written ++ kept = so.parts ∙ ap (λ t. so.written ++ (kept ++ t)) none ∙ ap (λ t. so.written ++ t) (append-nil kept) in
-    rw all (appends-then old new last so.written kept so.appended more)
+-- the text ends with what was kept back and what was left
+pub printing_end : (whole left ending kept : List ℕ) (old new last : Option (List ℕ)) → Printing whole left old new kept → left ≡ ending → Appends new last (kept ++ ending) → Appends old last whole
+printing_end whole left ending kept old new last so same more =
+    let all : whole ≡ so.written ++ (kept ++ ending) = so.parts ∙ ap (λ t. so.written ++ (kept ++ t)) same in
+    rw all (appends-then old new last so.written (kept ++ ending) so.appended more)
 
 pub printing_part : (whole left kept : List ℕ) (old new : Option (List ℕ)) → Printing whole left old new kept → (text : List ℕ) × BeginsWith text whole × Appends old new text
 printing_part whole left kept old new so = (so.written, (kept ++ left, so.parts), so.appended)
@@ -48,8 +47,5 @@ pub left_first : (number : ℕ) (rest more : List Packet) (p : Packet) (fault : 
     → left_lines number rest fault ≡ packet_line (number + 1) p ++ left_lines (number + 1) more fault
 left_first number rest more p fault first = ap (λ r. left_lines number r fault) first ∙ append_assoc (packet_line (number + 1) p) (packet_lines (number + 1 + 1) more) (fault_text fault)
 
-pub left_none : (number : ℕ) (rest : List Packet) → rest ≡ [] → left_lines number rest None ≡ []
-left_none number rest none = ap (λ r. left_lines number r None) none
-
-pub left_fault : (number : ℕ) (rest : List Packet) (fault : CaptureFault) → rest ≡ [] → left_lines number rest (Some fault) ≡ fault_text (Some fault) ++ []
-left_fault number rest fault none = ap (λ r. left_lines number r (Some fault)) none ∙ sym (append-nil (fault_text (Some fault)))
+pub left_none : (number : ℕ) (rest : List Packet) (fault : Option CaptureFault) → rest ≡ [] → left_lines number rest fault ≡ fault_text fault
+left_none number rest fault none = ap (λ r. left_lines number r fault) none

@@ -4,6 +4,8 @@ use Rattle.std.specs.Io.KnownBytes.{Consumes, IsAtEnd}
 use Rattle.pcap_reader.specs.declared.capture.CaptureFault.{CaptureFault}
 use Rattle.pcap_reader.specs.declared.feed.Feed.{Feed}
 use Rattle.pcap_reader.specs.Held.{Holds, held_fault}
+use Rattle.pcap_reader.specs.Savefile.{Reads}
+use Rattle.console.specs.declared.captured.Captured.{Captured}
 use Rattle.console.specs.declared.input.Input.{Input}
 use Rattle.console.specs.declared.input.Input.TheVariants.{Whole, TooLong}
 use Rattle.console.specs.declared.fault.EngineFault.{EngineFault}
@@ -18,6 +20,12 @@ Gave old new most TooLong = (given : List ℕ) × Consumes old new given × (mos
 abbrev pub Fed : Option (List ℕ) → Option (List ℕ) → ℕ → Feed → Bool → Type 0
 Fed old new most feed true = (given : List ℕ) × Consumes old new given × Holds given feed × IsAtEnd new × (length given ≤ most)
 Fed old new most feed false = (given : List ℕ) × Consumes old new given × (most < length given)
+
+-- a reader lost just these bytes, which hold this capture, and then was at its end, or it lost more than 64 MiB
+abbrev pub GaveCapture : Option (List ℕ) → Option (List ℕ) → Option Captured → Type 0
+GaveCapture old new (Some c) =
+    (given : List ℕ) × Consumes old new given × IsAtEnd new × (length given ≤ 67108864) × Reads given c.header c.packets c.fault
+GaveCapture old new None = (given : List ℕ) × Consumes old new given × (67108864 < length given)
 
 -- a feed has met a fault, so it takes nothing more
 abbrev pub HasStopped : Feed → Type 0

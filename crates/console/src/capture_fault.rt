@@ -1,14 +1,39 @@
-//! The line for a fault of a capture.
+//! The end of what is shown of a capture: the line for its fault, and the status.
 
-ghost use Rattle.std.specs.Prelude.{◌≡◌, ◌++◌, OnOk, string_bytes};
-ghost use Rattle.console.specs.Faults.{fault_line};
+ghost use Rattle.std.specs.Prelude.{◌≡◌, ◌++◌, IfOk, IfErr, IsErrOf, OnOk, string_bytes};
+ghost use Rattle.std.specs.Io.KnownBytes.{Appends};
+ghost use Rattle.console.specs.Faults.{fault_line, fault_status, fault_text};
+ghost use Rattle.console.specs.Matching.{IsPrintFault};
 
+use crate::EngineFault;
+use crate::output::write_text;
 use pcap_reader::CaptureFault;
 use std::alloc::AllocError;
-use std::fmt::Write;
+use std::fmt::Write as FmtWrite;
+use std::io::Write;
+
+/// Writes what was kept back of a text, and the line for the fault behind it if there is one, and answers the status.
+pub fn write_ending<W: Write>(
+    mut text: String,
+    fault: Option<CaptureFault>,
+    writer: &mut W,
+) -> Result<u8, EngineFault>
+    ensures shown { IfOk result (λ status. (status ≡ fault_status fault)
+        × Appends (W.contents writer.old) (W.contents writer.new) (string_bytes text ++ fault_text fault)) }
+    ensures part { IsErrOf result EngineFault.NoMemory → writer.new ≡ writer.old }
+    ensures fault { IfErr result IsPrintFault }
+{
+    let mut status = 0;
+    if let Some(fault) = fault {
+        push_fault(&mut text, fault)?;
+        status = 1;
+    }
+    write_text(writer, text.as_str())?;
+    Ok(status)
+}
 
 /// Prints the line for a fault.
-pub fn push_fault(text: &mut String, fault: CaptureFault) -> Result<(), AllocError>
+fn push_fault(text: &mut String, fault: CaptureFault) -> Result<(), AllocError>
     ensures { OnOk result (string_bytes text.new ≡ string_bytes text.old ++ fault_line fault) }
 {
     match fault {

@@ -8,10 +8,10 @@ ghost use Rattle.console.specs.Matching.{IsEngineFault, IsPrintFault};
 ghost use Rattle.console.specs.Dumping.{ShowsDump, ShowsDumpPart, digits, dump_text, header_line, packet_line};
 
 use crate::EngineFault;
-use crate::capture_fault::push_fault;
-use crate::input::{INPUT_BYTES, INPUT_READS, feed_bounded};
+use crate::capture_fault::write_ending;
+use crate::captured::read_packets;
 use crate::output::{BLOCK, write_text};
-use pcap_reader::{CaptureFault, Feed, Header, Packet};
+use pcap_reader::{CaptureFault, Header, Packet};
 use std::alloc::{AllocError, Global};
 use std::fmt::Write as FmtWrite;
 use std::io::{Read, Write};
@@ -37,27 +37,12 @@ pub fn run_dump<R: Read, W: Write>(
     ensures part { IsErrOf result EngineFault.NoMemory → (text : List ℕ)
         × ShowsDumpPart (R.remaining reader.old) text × Appends (W.contents writer.old) (W.contents writer.new) text }
 {
-    let mut feed = Feed::new(alloc);
-    let whole = feed_bounded(reader, &mut feed, INPUT_BYTES, INPUT_READS)?;
-    if !whole {
+    let Some(captured) = read_packets(alloc, reader)? else {
         write_text(writer, "fault InputTooLong\n")?;
         return Ok(1);
-    }
-    match feed.finish() {
-        Ok(capture) => {
-            let packets = capture.packets.as_slice();
-            let status = dump(alloc, Some(capture.header), packets, None, writer)?;
-            Ok(status)
-        }
-        Err(stop) => match stop.fault {
-            CaptureFault::NoMemory => Err(EngineFault::NoMemory),
-            fault => {
-                let packets = stop.before.as_slice();
-                let status = dump(alloc, stop.header, packets, Some(fault), writer)?;
-                Ok(status)
-            }
-        },
-    }
+    };
+    let packets = captured.packets.as_slice();
+    dump(alloc, captured.header, packets, captured.fault, writer)
 }
 
 /// Prints a header, packets and a fault.
@@ -86,17 +71,7 @@ fn dump<W: Write>(
             text.clear();
         }
     }
-    match fault {
-        None => {
-            write_text(writer, text.as_str())?;
-            Ok(0)
-        }
-        Some(fault) => {
-            push_fault(&mut text, fault)?;
-            write_text(writer, text.as_str())?;
-            Ok(1)
-        }
-    }
+    write_ending(text, fault, writer)
 }
 
 /// The line for a header, if there is one.

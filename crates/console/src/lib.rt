@@ -2,6 +2,7 @@
 #![tactic(auto)]
 
 mod capture_fault;
+mod captured;
 mod checking;
 mod code;
 mod dumping;

@@ -7,13 +7,13 @@ ghost use Rattle.console.specs.Reading.{IsInput};
 ghost use Rattle.console.specs.Matching.{AnswersCaptured, IsEngineFault, IsPrintFault, ShowsCapture, ShowsFirst, ShowsInput, ShowsRead};
 
 use crate::EngineFault;
-use crate::capture_fault::push_fault;
-use crate::input::{INPUT_BYTES, INPUT_READS, feed_bounded};
+use crate::capture_fault::write_ending;
+use crate::captured::read_packets;
 use crate::outcome::push_outcome;
 use crate::output::{BLOCK, write_text};
 use filter_verify::Verified;
 use filter_vm::run;
-use pcap_reader::{CaptureFault, Feed, Packet};
+use pcap_reader::{CaptureFault, Packet};
 use std::alloc::Global;
 use std::io::{Read, Write};
 
@@ -32,26 +32,12 @@ pub fn match_input<R: Read, W: Write>(
         × ShowsRead program.now true (R.remaining reader.old) (R.remaining reader.new) text
         × Appends (W.contents writer.old) (W.contents writer.new) text }
 {
-    let mut feed = Feed::new(alloc);
-    let whole = feed_bounded(reader, &mut feed, INPUT_BYTES, INPUT_READS)?;
-    if !whole {
+    let Some(captured) = read_packets(alloc, reader)? else {
         write_text(writer, "fault InputTooLong\n")?;
         return Ok(1);
-    }
-    match feed.finish() {
-        Ok(capture) => {
-            let status = match_packets(alloc, program, capture.packets.as_slice(), None, writer)?;
-            Ok(status)
-        }
-        Err(stop) => match stop.fault {
-            CaptureFault::NoMemory => Err(EngineFault::NoMemory),
-            fault => {
-                let before = stop.before.as_slice();
-                let status = match_packets(alloc, program, before, Some(fault), writer)?;
-                Ok(status)
-            }
-        },
-    }
+    };
+    let packets = captured.packets.as_slice();
+    match_packets(alloc, program, packets, captured.fault, writer)
 }
 
 /// Runs the filter on each packet, and prints the fault that stands behind them, if there is one.
@@ -79,15 +65,5 @@ fn match_packets<W: Write>(
             text.clear();
         }
     }
-    match fault {
-        None => {
-            write_text(writer, text.as_str())?;
-            Ok(0)
-        }
-        Some(fault) => {
-            push_fault(&mut text, fault)?;
-            write_text(writer, text.as_str())?;
-            Ok(1)
-        }
-    }
+    write_ending(text, fault, writer)
 }

@@ -1,7 +1,7 @@
 //! `check` with one text after another, and exactly what it shows.
 
-use super::devices::Pieces;
-use crate::{EngineFault, run_check};
+use super::devices::{Pieces, Sink};
+use crate::{EngineFault, run_check, run_match};
 use std::alloc::{AllocError, Global};
 use std::test::Fail;
 
@@ -105,4 +105,71 @@ fn a_text_that_fails_to_be_read_leaves_nothing_written(rt: HostRuntime) {
         assert_eq!(rt; answer, Err(EngineFault::ReadFailed), "read {fails_at}");
         assert!(rt; out.is_empty());
     }
+}
+
+#[test]
+fn a_check_that_fails_to_be_written_is_reported(rt: HostRuntime) {
+    let rows: [(bool, &str, u8, u32); 4] = [
+        (false, ARP, 0, 49),
+        (true, ARP, 0, 66),
+        (true, "jmp e\ne:\n", 1, 21),
+        (false, "ldq [0]\n", 1, 17),
+    ];
+    for (asm, input, status, length) in rows {
+        for fails_at in 1..length + 2 {
+            let mut sink = Sink::new(fails_at);
+            let mut reader = Pieces::new(input.as_bytes(), 64, 0);
+            let answer = run_check(rt.alloc(), asm, &mut reader, &mut sink);
+            if fails_at <= length {
+                assert_eq!(rt;
+                    answer,
+                    Err(EngineFault::WriteFailed),
+                    "{input} write {fails_at}"
+                );
+                assert_eq!(rt; sink.taken, fails_at.saturating_sub(1));
+            } else {
+                assert_eq!(rt; answer, Ok(status), "{input}");
+                assert_eq!(rt; sink.taken, length);
+            }
+        }
+    }
+}
+
+/// The examples of the Linux documentation's page on filters that use no extension, the last without its comments.
+const DOCUMENTED: [&str; 3] = [
+    ARP,
+    "ldh [12]\njne #0x800, drop\nldb [23]\njneq #6, drop\nret #-1\ndrop: ret #0\n",
+    "  ld [4]\n  jne #0xc000003e, bad\n  ld [0]\n  jeq #15, good\n  jeq #231, good\n  jeq #60, good\n  jeq #0, good
+  jeq #1, good\n  jeq #5, good\n  jeq #9, good\n  jeq #14, good\n  jeq #13, good\n  jeq #35, good\n  bad: ret #0
+  good: ret #0x7fff0000\n",
+];
+
+#[test]
+fn filters_of_the_linux_documentation_on_packets(rt: HostRuntime) -> Result<(), Fail> {
+    let rows: [(&str, &str); 3] = [
+        (
+            "ffffffffffff0011223344550806\nffffffffffff0011223344550800\n",
+            "4294967295 3\n0 3\n",
+        ),
+        // TCP, UDP, ARP.
+        (
+            "ffffffffffff00112233445508004500001400000000ff06\nffffffffffff00112233445508004500001400000000ff11\nffffffffffff0011223344550806\n",
+            "4294967295 5\n0 5\n0 3\n",
+        ),
+        // Call 1 is good and call 2 isn't; then call 1 of another architecture.
+        (
+            "00000001c000003e\n00000002c000003e\n0000000140000003\n",
+            "2147418112 9\n0 14\n0 3\n",
+        ),
+    ];
+    for (text, (packets, shown)) in DOCUMENTED.iter().zip(rows) {
+        let (assembled, code) = run(rt.alloc(), false, text);
+        assert_eq!(rt; assembled, Ok(0), "{text}");
+        let mut out = Vec::new(rt.alloc());
+        let mut reader = Pieces::new(packets.as_bytes(), 64, 0);
+        let answer = run_match(rt.alloc(), code.as_slice(), false, &mut reader, &mut out);
+        assert_eq!(rt; answer, Ok(0), "{text}");
+        assert_eq!(rt; out.as_slice(), shown.as_bytes(), "{text}");
+    }
+    Ok(())
 }

@@ -42,10 +42,20 @@ impl Read for Pieces<'_> {
 
 /// A writer that takes one byte a write, and fails at one of its writes: 0 for none.
 #[derive(Drop)]
-struct Sink {
-    taken: u32,
+pub struct Sink {
+    pub taken: u32,
     writes: u32,
     fails_at: u32,
+}
+
+impl Sink {
+    pub fn new(fails_at: u32) -> Sink {
+        Sink {
+            taken: 0,
+            writes: 0,
+            fails_at,
+        }
+    }
 }
 
 impl Write for Sink {
@@ -116,11 +126,7 @@ fn a_read_that_fails_leaves_nothing_written(rt: HostRuntime) {
 #[test]
 fn a_write_that_fails_is_reported(rt: HostRuntime) {
     for fails_at in 1..SHOWN + 2 {
-        let mut sink = Sink {
-            taken: 0,
-            writes: 0,
-            fails_at,
-        };
+        let mut sink = Sink::new(fails_at);
         let answer = run_match(
             rt.alloc(),
             ARP,
@@ -169,11 +175,7 @@ fn a_dump_that_fails_to_be_written_is_reported(rt: HostRuntime) {
         b"\xd4\xc3\xb2\xa1\x02\0\x04\0\0\0\0\0\0\0\0\0\xff\xff\0\0\x01\0\0\0\0\0\0\0\0\0\0\0\x02\0\0\0\x02\0\0\0\xab\xcd\0\0\0\0\0";
     // The header's line has 42 bytes, the packet's 29 and the fault's 25.
     for fails_at in 1..98 {
-        let mut sink = Sink {
-            taken: 0,
-            writes: 0,
-            fails_at,
-        };
+        let mut sink = Sink::new(fails_at);
         let mut reader = Pieces::new(capture, 64, 0);
         let answer = run_dump(rt.alloc(), &mut reader, &mut sink);
         if fails_at <= 96 {

@@ -1,4 +1,4 @@
-use Rattle.std.proofs.Common.{refl, inl, inr, ◌∙◌, rules}
+use Rattle.std.proofs.Common.{refl, inl, inr, rules}
 use Rattle.filter_asm.proofs.FormedLemmas.{assembled_formed}
 use Rattle.console.proofs.checking.check_text.Goals as goal
 

@@ -1,4 +1,4 @@
-use Rattle.std.proofs.Common.{◌≡◌, ◌∙◌, refl, subst, arith, None, length, ◌≤◌, ◌<◌}
+use Rattle.std.proofs.Common.{◌≡◌, ◌∙◌, refl, subst, arith, None}
 use Rattle.bpf_insn.specs.Program.{form_at, JumpsTo}
 use Rattle.bpf_insn.proofs.Places.{form_at_is, FormAt-same}
 use Rattle.console.proofs.checking.jumps_out_at.Goals as goal

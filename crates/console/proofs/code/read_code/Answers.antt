@@ -1,4 +1,4 @@
-use Rattle.std.proofs.Common.{inl, inr, ap}
+use Rattle.std.proofs.Common.{inr}
 use Rattle.console.proofs.code.read_code.Goals as goal
 
 pub returns-in-Ok : goal.returns-in-Ok

@@ -1,4 +1,4 @@
-use Rattle.std.proofs.Common.{arith, ◌++◌, ◌+◌, ◌≡◌, ◌<◌, ℕ, take, length, length-append, length-take-le}
+use Rattle.std.proofs.Common.{arith, ◌++◌, take, length-append, length-take-le}
 use Rattle.console.proofs.KnownBytesLemmas.{consumes-then}
 use Rattle.console.proofs.FeedingLemmas.{so_fed_next, so_fed_kept}
 use Rattle.console.proofs.input.feed_bounded.Goals.{in-Ok+else-count-bytes+in_ok-stopped-in-Ok, in-Err+else-ne}

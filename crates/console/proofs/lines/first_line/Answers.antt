@@ -1,5 +1,4 @@
-use Rattle.std.proofs.Common.{◌≡◌, ◌<◌, length, ◌+◌, arith, sym}
-use Rattle.std.specs.Str.Lines.{lines}
+use Rattle.std.proofs.Common.{◌+◌, arith}
 use Rattle.std.proofs.lemmas.List.{take_rest}
 use Rattle.console.proofs.LineLemmas.{lines_first, lines_last}
 use Rattle.console.proofs.lines.first_line.Goals as goal

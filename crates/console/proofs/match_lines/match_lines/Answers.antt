@@ -1,4 +1,4 @@
-use Rattle.std.proofs.Common.{arith, sym, refl}
+use Rattle.std.proofs.Common.{arith, refl}
 use Rattle.console.proofs.MatchingLemmas.{so_far_start, so_far_next, so_far_written, so_far_end, so_far_bad}
 use Rattle.console.proofs.match_lines.match_lines.Goals as goal
 
