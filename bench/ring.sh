@@ -1,0 +1,24 @@
+#!/bin/sh
+# Builds the proved ring into a program, and the C11 ring beside it, and runs both. The machine is otherwise idle.
+# Usage: bench/ring.sh [FOLDER]. FOLDER, by default a new one, is where it builds; it keeps what was proved for the next run.
+# Needs rt, clang and git on the path.
+set -e
+here=$(cd "$(dirname "$0")" && pwd)
+work=${1:-$(mktemp -d)}
+mkdir -p "$work/crates/ump_ring" "$work/crates/ring_bench/src"
+[ -d "$work/.git" ] || git init -q "$work"
+echo 'Handles allowed: Threads, Wait.' > "$work/HANDLES"
+rm -rf "$work/crates/ump_ring/src" "$work/crates/ump_ring/specs" "$work/crates/ump_ring/proofs"
+(cd "$here/../crates/ump_ring" && tar cf - --exclude=./out .) | tar xf - -C "$work/crates/ump_ring"
+cp "$here/ring.rattle" "$work/crates/ring_bench/src/main.rt"
+cat > "$work/crates.txt" <<'LIST'
+ump_ring: rtrb
+ring_bench may_wait=3: ump_ring rtrb
+LIST
+clang -O2 -o "$work/ring_peer" "$here/ring_peer.c" -lpthread
+(cd "$work/crates/ring_bench" && rt run > "$work/build.log" 2>&1) || { tail -20 "$work/build.log"; exit 1; }
+for round in 1 2 3 4 5 6 7 8 9; do
+    "$work/ring_peer" 24 8000000
+    "$work/ring_peer" 32786 20000
+    "$work/crates/ring_bench/out/ring_bench"
+done
