@@ -1,0 +1,9 @@
+pub mod Tables
+pub mod Lists
+pub mod Changes
+pub mod Shared
+pub mod Chains
+pub mod Moves
+pub mod Places
+pub mod Receivers
+pub mod Soundness

@@ -1,0 +1,9 @@
+pub mod Listed
+pub mod Lent
+pub mod Keeping
+pub mod Tables
+pub mod Staging
+pub mod Shown
+pub mod Replicas
+pub mod Receiving
+pub mod Soundness

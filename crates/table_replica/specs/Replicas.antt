@@ -1,0 +1,25 @@
+-- How a replica keeps what is staged.
+-- No public clause cites these.
+use Rattle.std.specs.Prelude.{◌≡◌, ◌≤◌, ℕ, Option, Some, None, List}
+use Rattle.bpf_insn.specs.declared.insn.Insn.{Insn}
+use Rattle.table_replica.specs.declared.Op.{Op}
+use Rattle.table_replica.specs.declared.StageFault.{StageFault}
+use Rattle.table_replica.specs.declared.StageFault.TheVariants.{NoMemory}
+use Rattle.table_replica.specs.declared.replica.Staged.{Staged}
+use Rattle.table_replica.specs.Soundness.{IsSoundTable}
+use Rattle.table_replica.specs.Tables.{State, after, made, instructions_of, Verifies}
+
+abbrev pub staged_op : Option Staged → Option Op
+staged_op None = None
+staged_op (Some staged) = Some staged.op.value
+
+-- the table that stands beside the shown one is the one after the staged operation
+abbrev pub IsStaged : ℕ → State → Option Staged → Type 0
+IsStaged budget shown None = Unit {0}
+IsStaged budget shown (Some staged) =
+    (staged.next ≡ after shown staged.op.value) × (staged.made ≡ made shown staged.op.value) × (instructions_of staged.next.filters ≤ budget) × IsSoundTable staged.next
+
+-- why a program is not verified: the verifier's refusal, or want of memory
+abbrev pub RefusesAs : Option (List Insn) → StageFault → Type 0
+RefusesAs program NoMemory = Unit {0}
+RefusesAs program fault = Verifies program (Some fault)

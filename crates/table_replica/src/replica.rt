@@ -1,0 +1,215 @@
+//! The replica of a core: the table that it shows, and the one that is staged beside it.
+ghost use Rattle.std.specs.Prelude.{◌≡◌, ◌≤◌, ℕ, [], None, Some, IsSome, is_some, IfOk, IfErr, OnOk, OnErr};
+ghost use Rattle.table_replica.specs.Tables.{Accepting, Allowed, after, instructions, instructions_of, made};
+ghost use Rattle.table_replica.specs.Lent.{AreDifferent};
+ghost use Rattle.table_replica.specs.Staging.{CannotStage};
+ghost use Rattle.table_replica.specs.Soundness.{IsSoundTable, IdsGrow};
+ghost use Rattle.table_replica.specs.declared.Op.{Op as GhostOp};
+
+use crate::{Contents, FilterIter, Kept, Made, NothingStaged, Op, StageFault};
+use endpoint_caps::Caps;
+use std::alloc::{AllocError, Global};
+use std::marker::Model;
+use std::snapshot::Snapshot;
+
+/// The table after an operation, not shown yet.
+#[derive(Drop)]
+struct Staged {
+    next: Contents,
+    made: Made,
+    op: Snapshot<Op>,
+}
+
+/// A replica of the table: a budget of instructions, the table that is shown, and the operation that is staged, if one is.
+#[derive(Drop)]
+pub struct Replica {
+    budget: u32,
+    shown: Contents,
+    staged: Option<Staged>,
+}
+
+impl Model for Replica {
+    ghost use Rattle.std.specs.Prelude.{◌≤◌};
+    ghost use Rattle.table_replica.specs.Shown.{ReplicaState};
+    ghost use Rattle.table_replica.specs.Tables.{instructions_of};
+
+    ghost Value = { ReplicaState };
+
+    ghost use Rattle.table_replica.specs.Replicas.{staged_op, IsStaged};
+    ghost use Rattle.table_replica.specs.Soundness.{IsSoundTable};
+
+    ghost view = { λ a. record { budget = a.budget; shown = a.shown; staged = staged_op a.staged } };
+
+    ghost invariant = { λ a. (instructions_of a.shown.filters ≤ a.budget) × IsSoundTable a.shown × IsStaged a.budget a.shown a.staged };
+}
+
+impl Replica {
+    /// An empty replica at version 0 whose filters may have `budget` instructions together; the first ids are 1. Nothing is
+    /// allocated yet.
+    pub fn new(alloc: Global, budget: u32) -> Result<Replica, AllocError>
+        ensures { IfOk result (λ replica. replica ≡ record { budget = budget; shown = record { version = 0; caps = record { held = []; next = 1 }; filters = []; next_filter = 1 }; staged = None }) }
+    {
+        Replica::resume(alloc, budget, 0, 1, 1)
+    }
+
+    /// An empty replica at a version, with the next ids of a capability and of a filter.
+    #[tactic(auto, using(crate::proofs::Soundness::sound_empty))]
+    pub fn resume(
+        alloc: Global,
+        budget: u32,
+        version: u64,
+        next_cap: u32,
+        next_filter: u32,
+    ) -> Result<Replica, AllocError>
+        ensures { IfOk result (λ replica. replica ≡ record { budget = budget; shown = record { version = version; caps = record { held = []; next = next_cap }; filters = []; next_filter = next_filter }; staged = None }) }
+    {
+        let shown = Contents::resume(alloc, version, next_cap, next_filter)?;
+        Ok(Replica {
+            budget,
+            shown,
+            staged: None,
+        })
+    }
+
+    /// The version of the table.
+    pub fn version(&self) -> u64
+        ensures { result ≡ self.now.shown.version }
+    {
+        self.shown.version()
+    }
+
+    /// How many instructions the filters may have.
+    pub fn budget(&self) -> u32
+        ensures { result ≡ self.now.budget }
+    {
+        self.budget
+    }
+
+    /// The instructions of all filters.
+    pub fn total_instructions(&self) -> u32
+        ensures { result ≡ instructions_of self.now.shown.filters }
+    {
+        self.shown.filters().instructions()
+    }
+
+    /// How many different programs the listed filters have.
+    pub fn distinct_programs(&self) -> usize
+        ensures { AreDifferent self.now.shown.filters result }
+    {
+        self.shown.filters().distinct_programs()
+    }
+
+    /// Whether an operation is staged.
+    pub fn staged(&self) -> bool
+        ensures { result ≡ is_some self.now.staged }
+    {
+        self.staged.is_some()
+    }
+
+    /// The capabilities.
+    pub fn caps(&self) -> &Caps
+        ensures { result.now ≡ self.now.shown.caps }
+    {
+        self.shown.caps()
+    }
+
+    /// The filters of the shown table, in order of installation. Whenever this is asked, the table is sound: ids increase and
+    /// lie below the next one, a filter's program is sound, and while its capability is held, its owner holds it, for its
+    /// endpoint and with the right to receive.
+    pub fn filters(&self) -> FilterIter<'_>
+        ensures filters { result ≡ self.now.shown.filters }
+        ensures sound { IsSoundTable self.now.shown }
+    {
+        self.shown.filters().iter()
+    }
+
+    /// The endpoints that get a packet by the shown table: those of the listed filters that accept it and whose capability
+    /// is held. They come in increasing order, each with the number of bytes that it keeps, the greatest verdict's and at
+    /// most the captured ones. `original` is the packet's length before it was captured.
+    pub fn accepting(
+        &self,
+        alloc: Global,
+        bytes: &[u8],
+        original: u32,
+    ) -> Result<Vec<Kept>, AllocError>
+        ensures { IfOk result (λ kept. Accepting self.now.shown (record { bytes = bytes.now; original = original }) kept.items) }
+    {
+        self.shown.accepting(alloc, bytes, original)
+    }
+
+    /// What `stage` would answer, memory aside. Nothing changes.
+    pub fn check(&self, alloc: Global, op: &Op) -> Result<(), StageFault>
+        ensures ok { OnOk result (Allowed self.now.shown self.now.budget op.now None) }
+        ensures nothing_staged { OnOk result (self.now.staged ≡ None) }
+        ensures err { IfErr result (CannotStage self.now.shown self.now.budget op.now self.now.staged) }
+        ensures fits { instructions_of self.now.shown.filters ≤ self.now.budget }
+    {
+        let _ = &self.shown;
+        if self.staged.is_some() {
+            return Err(StageFault::AlreadyStaged);
+        }
+        self.shown.check(alloc, self.budget, op)
+    }
+
+    /// Makes the table after the operation, beside the one that is shown, so that `commit` and `abort` take no memory.
+    pub fn stage(&mut self, alloc: Global, op: &Op) -> Result<(), StageFault>
+        ensures ok { OnOk result (Allowed self.old.shown self.old.budget op.now None) }
+        ensures nothing_staged { OnOk result (self.old.staged ≡ None) }
+        ensures now_staged { OnOk result (self.new.staged ≡ Some op.now) }
+        ensures err { IfErr result (CannotStage self.old.shown self.old.budget op.now self.old.staged) }
+        ensures same { OnErr result (self.new.staged ≡ self.old.staged) }
+        ensures shown { self.new.shown ≡ self.old.shown }
+        ensures budget { self.new.budget ≡ self.old.budget }
+        ensures fits { instructions_of self.old.shown.filters ≤ self.old.budget }
+    {
+        if self.staged.is_some() {
+            return Err(StageFault::AlreadyStaged);
+        }
+        let next = self.shown.after(alloc, self.budget, op)?;
+        let made = self.shown.made(op);
+        self.staged = Some(Staged {
+            next,
+            made,
+            op: Snapshot::of(op),
+        });
+        Ok(())
+    }
+
+    /// Shows the table that is staged, and answers what its operation made. Takes no memory.
+    #[tactic(auto, using(crate::proofs::Soundness::ids_stay))]
+    pub fn commit(&mut self) -> Result<Made, NothingStaged>
+        ensures ok { IfOk result (λ id. (op : GhostOp) × (self.old.staged ≡ Some op) × (self.new.shown ≡ after self.old.shown op) × (id ≡ made self.old.shown op)) }
+        ensures err { OnErr result (self.old.staged ≡ None) }
+        ensures unchanged { OnErr result (self.new.shown ≡ self.old.shown) }
+        ensures none_staged { self.new.staged ≡ None }
+        ensures budget { self.new.budget ≡ self.old.budget }
+        ensures ids { IdsGrow self.old.shown self.new.shown }
+    {
+        match self.staged.take() {
+            None => Err(NothingStaged),
+            Some(staged) => {
+                let Staged {
+                    next,
+                    made,
+                    op: _op,
+                } = staged;
+                self.shown = next;
+                Ok(made)
+            }
+        }
+    }
+
+    /// Drops what is staged. Takes no memory.
+    pub fn abort(&mut self) -> Result<(), NothingStaged>
+        ensures err { OnErr result (self.old.staged ≡ None) }
+        ensures ok { OnOk result (IsSome self.old.staged) }
+        ensures shown { self.new.shown ≡ self.old.shown }
+        ensures none_staged { self.new.staged ≡ None }
+        ensures budget { self.new.budget ≡ self.old.budget }
+    {
+        match self.staged.take() {
+            None => Err(NothingStaged),
+            Some(_) => Ok(()),
+        }
+    }
+}
