@@ -6,13 +6,8 @@ set -e
 here=$(cd "$(dirname "$0")" && pwd)
 work=${1:-$(mktemp -d)}
 kit=${KIT:-$(dirname "$(rt doc)")}
-mkdir -p "$work/crates"
-[ -d "$work/.git" ] || git init -q "$work"
-for name in bpf_insn filter_verify filter_vm; do
-    mkdir -p "$work/crates/$name"
-    rm -rf "$work/crates/$name/src" "$work/crates/$name/specs" "$work/crates/$name/proofs"
-    (cd "$here/../crates/$name" && tar cf - --exclude=./out .) | tar xf - -C "$work/crates/$name"
-done
+. "$here/crates.sh"
+take_crates "$work" bpf_insn filter_verify filter_vm
 mkdir -p "$work/crates/filter_bench/src"
 cp "$here/exports.rattle" "$work/crates/filter_bench/src/lib.rt"
 cat > "$work/crates.txt" <<'LIST'
@@ -21,6 +16,6 @@ filter_verify: bpf_insn
 filter_vm: bpf_insn filter_verify
 filter_bench staticlib: bpf_insn filter_verify filter_vm
 LIST
-(cd "$work/crates/filter_bench" && rt lib > "$work/lib.log" 2>&1) || { tail -20 "$work/lib.log"; exit 1; }
+build_library "$work" filter_bench
 clang -O2 -o "$work/bench" "$here/machine.c" "$work/crates/filter_bench/out/libfilter_bench.a" "$kit/c/liblibc_c.a" -l:libpcap.a
 "$work/bench" "$here"/filters/*.ddd

@@ -5,11 +5,10 @@
 set -e
 here=$(cd "$(dirname "$0")" && pwd)
 work=${1:-$(mktemp -d)}
-mkdir -p "$work/crates/ump_ring" "$work/crates/ring_bench/src"
-[ -d "$work/.git" ] || git init -q "$work"
+. "$here/crates.sh"
+take_crates "$work" ump_ring
+mkdir -p "$work/crates/ring_bench/src"
 echo 'Handles allowed: Threads, Wait.' > "$work/HANDLES"
-rm -rf "$work/crates/ump_ring/src" "$work/crates/ump_ring/specs" "$work/crates/ump_ring/proofs"
-(cd "$here/../crates/ump_ring" && tar cf - --exclude=./out .) | tar xf - -C "$work/crates/ump_ring"
 cp "$here/ring.rattle" "$work/crates/ring_bench/src/main.rt"
 cat > "$work/crates.txt" <<'LIST'
 ump_ring: rtrb

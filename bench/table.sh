@@ -1,0 +1,23 @@
+#!/bin/sh
+# Builds the replicated table and what it stands on into a static library, links it into a C program, and runs that.
+# Usage: bench/table.sh [FOLDER]. FOLDER, by default a new one, is where it builds; it keeps what was proved for the next run.
+# Needs rt, clang and git on the path.
+set -e
+here=$(cd "$(dirname "$0")" && pwd)
+work=${1:-$(mktemp -d)}
+kit=${KIT:-$(dirname "$(rt doc)")}
+. "$here/crates.sh"
+take_crates "$work" bpf_insn filter_verify filter_vm endpoint_caps table_replica
+mkdir -p "$work/crates/table_bench/src"
+cp "$here/table.rattle" "$work/crates/table_bench/src/lib.rt"
+cat > "$work/crates.txt" <<'LIST'
+bpf_insn:
+filter_verify: bpf_insn
+filter_vm: bpf_insn filter_verify
+endpoint_caps: indexmap
+table_replica: bpf_insn endpoint_caps filter_verify filter_vm
+table_bench staticlib: bpf_insn filter_verify filter_vm endpoint_caps table_replica
+LIST
+build_library "$work" table_bench
+clang -O2 -o "$work/table" "$here/table.c" "$work/crates/table_bench/out/libtable_bench.a" "$kit/c/liblibc_c.a"
+"$work/table"
