@@ -1,0 +1,44 @@
+-- What a replica that was asked to stage an operation lets a core say of it.
+use Rattle.std.proofs.Common.{◌≡◌, ◌+◌, ◌<◌, ◌≤◌, ℕ, Bool, false, true, Option, Some, None, refl, ap, ◌∙◌}
+use Rattle.endpoint_caps.specs.Capabilities.{first}
+use Rattle.table_replica.specs.declared.Op.{Op}
+use Rattle.table_replica.specs.declared.Made.{Made}
+use Rattle.table_replica.specs.declared.StageFault.{StageFault}
+use Rattle.table_replica.specs.declared.StageFault.TheVariants as stage_fault
+use Rattle.table_replica.specs.Staging.{CannotStage}
+use Rattle.table_replica.specs.Shown.{ReplicaState}
+use Rattle.table_replica.specs.Tables.{State, after, made, instructions, instructions_of, tests, Allowed}
+use Rattle.table_replica.proofs.Tables.{allowed_tests, allowed_fits, tests_fit, version-after}
+use Rattle.monitor_messages.specs.declared.message.Vote.TheVariants.{Yes, NoMemory}
+use Rattle.monitor_messages.specs.declared.message.Decision.{Decision}
+use Rattle.monitor_messages.specs.declared.message.Decision.TheVariants.{Committed}
+use Rattle.monitor_2pc.specs.declared.step.Say.{Say}
+use Rattle.monitor_2pc.specs.declared.step.Step.{Step}
+use Rattle.monitor_2pc.specs.Participants.{Casts}
+use Rattle.monitor_2pc.specs.Coordinators.{step}
+
+within : (s : State) (budget : ℕ) → instructions_of s.filters ≤ budget → instructions s ≤ budget
+unfolding instructions
+within s budget h = h
+
+-- it was staged
+pub casts_yes : (short : Bool) (s : State) (budget : ℕ) (op : Op) → short ≡ false → Allowed s budget op None → instructions_of s.filters ≤ budget → Casts short s budget op Yes
+casts_yes short s budget op is allowed h = (allowed, allowed_fits s budget op allowed (within s budget h), is)
+
+-- it could be staged, if there were memory
+pub casts_short : (short : Bool) (s : State) (budget : ℕ) (op : Op) → Allowed s budget op None → instructions_of s.filters ≤ budget → Casts short s budget op NoMemory
+casts_short short s budget op allowed h = (allowed_tests s budget op allowed, allowed_fits s budget op allowed (within s budget h))
+
+-- memory was refused
+pub casts_unstaged : (short : Bool) (s : State) (budget : ℕ) (op : Op) (staged : Option Op) (fault : StageFault) → fault ≡ stage_fault.NoMemory → CannotStage s budget op staged fault → instructions_of s.filters ≤ budget → Casts short s budget op NoMemory
+casts_unstaged short s budget op staged fault is refused h = let r = rw is at refused in (r.1, tests_fit s budget op r.1 (within s budget h))
+
+-- what was staged is shown
+pub told_committed : (txn : ℕ) (said : Option Say) (s s' : State) (op : Op) (version : ℕ) (id : Made) → s' ≡ after s op → version ≡ s'.version → id ≡ made s op
+    → ◌≡◌ {A = Step} (record { txn = txn; say = said; decided = Some (Committed version id); reply = None }) (step txn said (Some (Committed (s.version + 1) (made s op))))
+told_committed txn said s s' op version id shown v i =
+    let numbered : version ≡ s.version + 1 = v ∙ ap (λ (t : State). t.version) shown ∙ version-after s op in
+    rw (numbered, i) refl
+
+pub replica_is : (r : ReplicaState) (budget : ℕ) (shown : State) (staged : Option Op) → r.budget ≡ budget → r.shown ≡ shown → r.staged ≡ staged → r ≡ record { budget = budget; shown = shown; staged = staged }
+replica_is r budget shown staged b s t = rw (← b, ← s, ← t) refl

@@ -1,0 +1,3 @@
+pub mod Ballots
+pub mod Starts
+pub mod Votes

@@ -1,0 +1,178 @@
+-- How a request comes in, and how it is begun.
+use Rattle.std.proofs.Common.{◌≡◌, ◌≢◌, ◌+◌, ◌-◌, ◌<◌, ◌≤◌, ◌++◌, ℕ, zero, suc, Bool, true, false, Option, Some, None, List, length, take, drop, slice_get, slice_set, refl, sym, ap, subst, ◌∙◌, arith}
+use Rattle.std.specs.List.{refill}
+use Rattle.std.specs.Prelude.{◌==◌}
+use Rattle.std.specs.Option.{option_eq}
+use Rattle.std.proofs.lemmas.List.{take_at, length-set}
+use Rattle.std.proofs.lemmas.Bool.Decides.{nat_tests}
+use Rattle.table_replica.specs.declared.Op.{Op}
+use Rattle.table_replica.specs.declared.StageFault.{StageFault}
+use Rattle.table_replica.specs.declared.StageFault.TheVariants as stage_fault
+use Rattle.table_replica.specs.Shown.{ReplicaState}
+use Rattle.table_replica.specs.Staging.{CannotStage}
+use Rattle.table_replica.specs.Tables.{State, after, made, Allowed}
+use Rattle.monitor_messages.specs.declared.message.Veto.{Veto}
+use Rattle.monitor_messages.specs.declared.message.Decision.{Decision}
+use Rattle.monitor_messages.specs.declared.message.Decision.TheVariants.{Committed, Refused}
+use Rattle.monitor_messages.specs.declared.message.Vote.{Vote}
+use Rattle.monitor_2pc.specs.declared.coordinator.Wait.{Wait}
+use Rattle.monitor_2pc.specs.declared.coordinator.Wait.TheVariants.{Nothing, Votes, Acks}
+use Rattle.monitor_2pc.specs.declared.step.Step.{Step}
+use Rattle.monitor_2pc.specs.Waiting.{phase_of, KeepsDecided}
+use Rattle.monitor_2pc.specs.Places.{after_commit}
+use Rattle.monitor_2pc.specs.Coordinators.{Phase, Idle, CoordinatorPlace, CoordinatorState, Requests, coordinator_place, CanSubmit, with_waiting, Starts, refused, unstaged, alone, prepared, StartsFor, reply_to, asker_after, step, veto_of}
+
+-- what a slice of the elements had is what they have then
+pub refilled : {X : Type 0} (xs ws : List X) → length ws ≡ length xs → refill (length xs) xs ws ≡ ws
+refilled xs ws e = take_at ws (drop (length ws) xs) (length xs) e
+
+-- a write of one of them
+pub refilled_set : {X : Type 0} (xs lent ws : List X) (i : ℕ) (x : X) → lent ≡ xs → ws ≡ slice_set lent i x → refill (length xs) xs ws ≡ slice_set xs i x
+refilled_set xs lent ws i x l e =
+    let is : ws ≡ slice_set xs i x = rw l at e in
+    refilled xs ws (ap length is ∙ length-set xs i x) ∙ is
+
+-- Requests that wait
+
+not_asker : (asker : Option ℕ) (from : ℕ) → option_eq ◌==◌ asker (Some from) ≡ false → asker ≢ Some from
+not_asker None from e a = cc
+not_asker (Some core) from e a = let is : core ≡ from = cc in grind (arith, nat_tests, e, is)
+
+-- what the fields of core 0 show
+abbrev pub shown_by : ℕ → Phase → List (Option Op) → Option ℕ → Option Decision → CoordinatorState
+shown_by last phase waiting asker decided = record { others = length waiting; last = last; phase = phase; requests = record { waiting = waiting; asker = asker; decided = decided } }
+
+pub keeps : (last : ℕ) (phase : Phase) (waiting : List (Option Op)) (asker : Option ℕ) (decided : Option Decision) (own : CoordinatorState) (from at : ℕ) (op : Op) (lent new : List (Option Op))
+    → shown_by last phase waiting asker decided ≡ own → 0 < from → at ≡ from → lent ≡ waiting → option_eq ◌==◌ asker (Some from) ≡ false
+    → slice_get lent (at - 1) ≡ Some None → new ≡ slice_set lent (at - 1) (Some op)
+    → (entry : ℕ) × (from ≡ suc entry) × CanSubmit own.requests entry × (shown_by last phase (refill (length waiting) waiting new) asker decided ≡ record own { requests = with_waiting own.requests entry op })
+keeps last phase waiting asker decided own from at op lent new view above place lends other free kept =
+    let entry_is : from ≡ suc (at - 1) = omega arith in
+    let here : slice_get waiting (at - 1) ≡ Some None = rw lends at free in
+    let under : asker ≢ Some (suc (at - 1)) = subst (λ (n : ℕ). asker ≢ Some n) entry_is (not_asker asker from other) in
+    let full : refill (length waiting) waiting new ≡ slice_set waiting (at - 1) (Some op) = refilled_set waiting lent new (at - 1) (Some op) lends kept in
+    let same : shown_by last phase (refill (length waiting) waiting new) asker decided ≡ record (shown_by last phase waiting asker decided) { requests = with_waiting (shown_by last phase waiting asker decided).requests (at - 1) op } =
+    rw (full, length-set waiting (at - 1) (Some op)) refl in (
+      at - 1,
+      entry_is,
+      subst (λ (o : CoordinatorState). CanSubmit o.requests (at - 1)) view (record { none_waiting = here; none_under_way = under }),
+      subst (λ (o : CoordinatorState). shown_by last phase (refill (length waiting) waiting new) asker decided ≡ record o { requests = with_waiting o.requests (at - 1) op }) view same,
+    )
+
+-- Requests that are begun
+
+pub starts_refused : (others : ℕ) (s : State) (budget : ℕ) (op : Op) (staged : Option Op) (fault : StageFault) (place place' : CoordinatorPlace) (why : Veto) (txn : ℕ)
+    → staged ≡ None → CannotStage s budget op staged fault → place' ≡ place → why ≡ veto_of fault → txn ≡ place.last
+    → Starts others s budget place op place' None (record { txn = txn; say = None; decided = Some (Refused 0 why); reply = None })
+starts_refused others s budget op staged stage_fault.AlreadyStaged place place' why txn free cannot same because number = absurd (let h = rw free at cannot in cc)
+starts_refused others s budget op staged (stage_fault.Rule fault) place place' why txn free cannot same because number = refused (stage_fault.Rule fault) cannot.1 same refl (rw (because, number) refl)
+starts_refused others s budget op staged stage_fault.Budget place place' why txn free cannot same because number = refused stage_fault.Budget cannot.1 same refl (rw (because, number) refl)
+starts_refused others s budget op staged stage_fault.NoMemory place place' why txn free cannot same because number = unstaged cannot.1 same refl (rw (because, number) refl)
+
+-- the step that commits what is staged, and the replica then
+abbrev pub CommitsStep : ℕ → ReplicaState → Step → ReplicaState → Type 0
+CommitsStep txn r told r' =
+    (op : Op) × (r.staged ≡ Some op) × (told ≡ step txn None (Some (Committed (r.shown.version + 1) (made r.shown op))))
+    × (r' ≡ record { budget = r.budget; shown = after r.shown op; staged = None })
+
+abbrev pub placed : ℕ → Phase → Option Op → CoordinatorPlace
+placed last phase staged = record { last = last; phase = phase; staged = staged }
+
+pub starts_alone : (others : ℕ) (s : State) (budget last : ℕ) (op : Op) (place place' : CoordinatorPlace) (r r' : ReplicaState) (told : Step)
+    → Allowed s budget op None → others ≡ 0 → r.shown ≡ s → r.staged ≡ Some op → last ≡ place.last
+    → place' ≡ record { last = last + 1; phase = Idle; staged = r'.staged } → CommitsStep (last + 1) r told r'
+    → (committed : Option Op) × Starts others s budget place op place' committed told × (r'.shown ≡ after_commit s committed)
+starts_alone others s budget last op place place' r r' told allowed one shown staged number next commits =
+    let same : commits.0 ≡ op = cc (commits.1, staged) in
+    let gone : r'.staged ≡ None = ap (λ (x : ReplicaState). x.staged) commits.3 in
+    let new : r'.shown ≡ after s op = ap (λ (x : ReplicaState). x.shown) commits.3 ∙ rw (same, shown) refl in
+    let tells : told ≡ step (place.last + 1) None (Some (Committed (s.version + 1) (made s op))) = commits.2 ∙ rw (same, shown, number) refl in
+    let place_is : place' ≡ record { last = place.last + 1; phase = Idle; staged = None } = next ∙ rw (gone, number) refl in
+    (Some op, alone allowed one place_is refl tells, new)
+
+-- Requests of other cores that are begun
+
+at_rest : (wait : Wait) (votes : List (Option Vote)) (acks : List Bool) (asker : Option ℕ) (decided : Option Decision) → phase_of wait votes acks ≡ Idle → KeepsDecided wait asker decided → (asker ≡ None) × (decided ≡ None)
+at_rest Nothing votes acks asker decided idle keeps = keeps
+at_rest Votes votes acks asker decided idle keeps = absurd cc
+at_rest Acks votes acks asker decided idle keeps = absurd cc
+
+no_reply : (others : ℕ) (s : State) (budget : ℕ) (place : CoordinatorPlace) (op : Op) (place' : CoordinatorPlace) (committed : Option Op) (told : Step) → Starts others s budget place op place' committed told → told.reply ≡ None
+no_reply others s budget place op place' committed told (refused fault allowed same none tells) = ap (λ (t : Step). t.reply) tells
+no_reply others s budget place op place' committed told (unstaged passed same none tells) = ap (λ (t : Step). t.reply) tells
+no_reply others s budget place op place' committed told (alone allowed one same none tells) = ap (λ (t : Step). t.reply) tells
+no_reply others s budget place op place' committed told (prepared allowed more same none tells) = ap (λ (t : Step). t.reply) tells
+
+-- what core 0 keeps once the operation has left the waiting list
+abbrev pub left : List (Option Op) → Option ℕ → Requests
+left waiting asker = record { waiting = waiting; asker = asker; decided = None }
+
+abbrev pub replying : Step → Option (ℕ × Decision) → Step
+replying begun reply = record begun { reply = reply }
+
+starts_for : (s : State) (budget last : ℕ) (phase : Phase) (waiting lent taken : List (Option Op)) (asker : Option ℕ) (decided : Option Decision) (own : CoordinatorState) (staged : Option Op) (from at : ℕ) (op : Op) (place' : CoordinatorPlace) (requests' : Requests) (committed : Option Op) (begun told : Step)
+    → shown_by last phase waiting asker decided ≡ own → 0 < from → at ≡ from → lent ≡ waiting
+    → slice_get lent (at - 1) ≡ Some (Some op) → taken ≡ slice_set lent (at - 1) None
+    → Starts (length (refill (length waiting) waiting taken)) s budget (placed last phase staged) op place' committed begun
+    → requests' ≡ left (refill (length waiting) waiting taken) (asker_after from begun.decided)
+    → told ≡ replying begun (reply_to from begun.decided)
+    → (entry : ℕ) × (from ≡ suc entry) × StartsFor own.others s budget (coordinator_place own staged) own.requests entry place' requests' committed told
+starts_for s budget last phase waiting lent taken asker decided own staged from at op place' requests' committed begun told view above place lends here out starts next tells =
+    let entry_is : from ≡ suc (at - 1) = omega arith in
+    let there : slice_get waiting (at - 1) ≡ Some (Some op) = rw lends at here in
+    let full : refill (length waiting) waiting taken ≡ slice_set waiting (at - 1) None = refilled_set waiting lent taken (at - 1) None lends out in
+    let many : length (refill (length waiting) waiting taken) ≡ length waiting = ap length full ∙ length-set waiting (at - 1) None in
+    let begins : Starts (length waiting) s budget (placed last phase staged) op place' committed begun = subst (λ (n : ℕ). Starts n s budget (placed last phase staged) op place' committed begun) many starts in
+    let for_fields : StartsFor (length waiting) s budget (placed last phase staged) (record { waiting = waiting; asker = asker; decided = decided }) (at - 1) place' requests' committed told = record {
+      op = op;
+      is_waiting = there;
+      begun = begun;
+      starts = begins;
+      next = next ∙ (ap (λ (w : List (Option Op)). left w (asker_after from begun.decided)) full ∙ ap (λ (n : ℕ). left (slice_set waiting (at - 1) None) (asker_after n begun.decided)) entry_is);
+      tells = tells ∙ ap (λ (n : ℕ). replying begun (reply_to n begun.decided)) entry_is;
+    } in
+    (at - 1, entry_is, subst (λ (o : CoordinatorState). StartsFor o.others s budget (coordinator_place o staged) o.requests (at - 1) place' requests' committed told) view for_fields)
+
+-- what begin tells, of core 0 whose waiting list lacks the operation already
+abbrev pub Begins : State → ℕ → ℕ → Phase → List (Option Op) → Option Op → Op → CoordinatorState → Option Op → Step → State → Type 0
+Begins s budget last phase waiting staged op new staged' begun shown' =
+    (committed : Option Op) × Starts (length waiting) s budget (placed last phase staged) op (coordinator_place new staged') committed begun × (shown' ≡ after_commit s committed)
+
+abbrev pub StartsForSome : State → ℕ → CoordinatorState → Option Op → ℕ → CoordinatorState → Option Op → Step → State → Type 0
+StartsForSome s budget own staged from own' staged' told shown' =
+    (entry : ℕ) × (committed : Option Op) × (from ≡ suc entry) × StartsFor own.others s budget (coordinator_place own staged) own.requests entry (coordinator_place own' staged') own'.requests committed told × (shown' ≡ after_commit s committed)
+
+-- a decision at once goes to the core
+pub starts_for_decided : (s : State) (budget last : ℕ) (wait : Wait) (votes : List (Option Vote)) (acks : List Bool) (waiting lent taken : List (Option Op)) (asker : Option ℕ) (decided : Option Decision) (own new own' : CoordinatorState) (staged staged' : Option Op) (from at : ℕ) (op : Op) (begun told : Step) (shown' : State) (decision : Decision)
+    → shown_by last (phase_of wait votes acks) waiting asker decided ≡ own → own.phase ≡ Idle → KeepsDecided wait asker decided → 0 < from → at ≡ from → lent ≡ waiting
+    → slice_get lent (at - 1) ≡ Some (Some op) → taken ≡ slice_set lent (at - 1) None
+    → Begins s budget last (phase_of wait votes acks) (refill (length waiting) waiting taken) staged op new staged' begun shown'
+    → new.requests ≡ record { waiting = refill (length waiting) waiting taken; asker = asker; decided = decided }
+    → begun.decided ≡ Some decision → told ≡ replying begun (Some (from, decision)) → own' ≡ new
+    → StartsForSome s budget own staged from own' staged' told shown'
+starts_for_decided s budget last wait votes acks waiting lent taken asker decided own new own' staged staged' from at op begun told shown' decision view idle kept above place lends here out begins same now tells is =
+    let rest = at_rest wait votes acks asker decided (ap (λ (o : CoordinatorState). o.phase) view ∙ idle) kept in
+    let next : new.requests ≡ left (refill (length waiting) waiting taken) (asker_after from begun.decided) = same ∙ rw (rest.0, rest.1, now) refl in
+    let r = starts_for s budget last (phase_of wait votes acks) waiting lent taken asker decided own staged from at op (coordinator_place new staged') new.requests begins.0 begun told view above place lends here out begins.1 next (tells ∙ rw now refl) in
+    subst (λ (o : CoordinatorState). StartsForSome s budget own staged from o staged' told shown') (sym is) (r.0, begins.0, r.1, r.2, begins.2)
+
+-- else the operation is under way for it
+pub starts_for_asked : (s : State) (budget last : ℕ) (wait : Wait) (votes : List (Option Vote)) (acks : List Bool) (waiting lent taken : List (Option Op)) (asker : Option ℕ) (decided : Option Decision) (own new own' : CoordinatorState) (staged staged' : Option Op) (from at : ℕ) (op : Op) (begun told : Step) (shown' : State)
+    (last2 : ℕ) (phase2 : Phase) (waiting2 : List (Option Op)) (asker2 : Option ℕ) (decided2 : Option Decision)
+    → shown_by last (phase_of wait votes acks) waiting asker decided ≡ own → own.phase ≡ Idle → KeepsDecided wait asker decided → 0 < from → at ≡ from → lent ≡ waiting
+    → slice_get lent (at - 1) ≡ Some (Some op) → taken ≡ slice_set lent (at - 1) None
+    → Begins s budget last (phase_of wait votes acks) (refill (length waiting) waiting taken) staged op new staged' begun shown'
+    → new.requests ≡ record { waiting = refill (length waiting) waiting taken; asker = asker; decided = decided }
+    → begun.decided ≡ None → told ≡ begun → shown_by last2 phase2 waiting2 asker2 decided2 ≡ new → own' ≡ shown_by last2 phase2 waiting2 (Some from) decided2
+    → StartsForSome s budget own staged from own' staged' told shown'
+starts_for_asked s budget last wait votes acks waiting lent taken asker decided own new own' staged staged' from at op begun told shown' last2 phase2 waiting2 asker2 decided2 view idle kept above place lends here out begins same now tells view2 is =
+    let rest = at_rest wait votes acks asker decided (ap (λ (o : CoordinatorState). o.phase) view ∙ idle) kept in
+    let silent : begun.reply ≡ None = no_reply _ _ _ _ _ _ _ _ begins.1 in
+    let waits : waiting2 ≡ refill (length waiting) waiting taken = ap (λ (o : CoordinatorState). o.requests.waiting) view2 ∙ ap (λ (r : Requests). r.waiting) same in
+    let undecided : decided2 ≡ None = ap (λ (o : CoordinatorState). o.requests.decided) view2 ∙ (ap (λ (r : Requests). r.decided) same ∙ rest.1) in
+    let next : record { waiting = waiting2; asker = Some from; decided = decided2 } ≡ left (refill (length waiting) waiting taken) (asker_after from begun.decided) = rw (waits, undecided, now) refl in
+    let told_is : told ≡ replying begun (reply_to from begun.decided) = tells ∙ rw now (sym (rw silent refl)) in
+    let r = starts_for s budget last (phase_of wait votes acks) waiting lent taken asker decided own staged from at op (coordinator_place new staged') (record { waiting = waiting2; asker = Some from; decided = decided2 }) begins.0 begun told view above place lends here out begins.1 next told_is in
+    let place_is : coordinator_place new staged' ≡ coordinator_place (shown_by last2 phase2 waiting2 (Some from) decided2) staged' = sym (ap (λ (o : CoordinatorState). coordinator_place o staged') view2) in
+    subst (λ (o : CoordinatorState). StartsForSome s budget own staged from o staged' told shown') (sym is)
+    (r.0, begins.0, r.1, subst (λ (p : CoordinatorPlace). StartsFor own.others s budget (coordinator_place own staged) own.requests r.0 p (record { waiting = waiting2; asker = Some from; decided = decided2 }) begins.0 told) place_is r.2, begins.2)

@@ -1,0 +1,6 @@
+pub mod Places
+pub mod Participants
+pub mod Coordinators
+pub mod Starting
+pub mod Tallying
+pub mod Waiting

@@ -1,0 +1,9 @@
+-- What the two parts of the protocol share.
+use Rattle.std.specs.Prelude.{Option, None, Some}
+use Rattle.table_replica.specs.declared.Op.{Op}
+use Rattle.table_replica.specs.Tables.{State, after}
+
+-- the table once this is committed, if anything is
+abbrev pub after_commit : State → Option Op → State
+after_commit s None = s
+after_commit s (Some op) = after s op

@@ -1,0 +1,411 @@
+//! Core 0 in the protocol.
+
+ghost use Rattle.std.specs.Prelude.{◌≡◌, ◌+◌, ◌-◌, ◌<◌, ◌≤◌, ◌↔◌, ℕ, suc, true, false, Option, None, Some, IsSome, IsTrue, IsFalse, IfOk, IfErr, OnOk, OnErr, IfSome, OnSome, IfNone, slice_get, slice_set};
+ghost use Rattle.std.proofs.Common.{replicate};
+ghost use Rattle.table_replica.specs.declared.Op.{Op as GhostOp};
+ghost use Rattle.table_replica.specs.Tables.{after, made};
+ghost use Rattle.monitor_messages.specs.declared.message.Decision.TheVariants.{Committed, Refused};
+ghost use Rattle.monitor_2pc.specs.declared.step.Say.TheVariants.{Abort};
+ghost use Rattle.monitor_2pc.specs.Places.{after_commit};
+ghost use Rattle.monitor_2pc.specs.Coordinators.{CoordinatorState, Idle, Acking, coordinator_place, no_requests, StagedByPhase, CanStart, Starts, StartsFor, CanSubmit, with_waiting, AwaitsVote, Hears, with_decided, AwaitsAck, HearsAck, reply_of, reply_to, asker_after, veto_of, veto_by, step};
+ghost use Rattle.monitor_2pc.specs.Starting.{CannotStart, CannotStartFor};
+
+use crate::step::{Say, StartFault, Step, Stranger};
+use crate::tally::{Tally, cast, clear, mark, unmark};
+use arrayvec::ArrayVec;
+use monitor_messages::{Decision, Veto, Vote};
+use std::alloc::Global;
+use std::marker::Model;
+use table_replica::{Op, Replica, StageFault};
+
+/// What core 0 waits for.
+#[derive(Clone, Copy, PartialEq, Eq, Debug)]
+enum Wait {
+    Nothing,
+    Votes,
+    Acks,
+}
+
+/// Core 0 in the protocol: its last number, the votes or acknowledgements so far, the request that each other core has waiting,
+/// the core whose request is under way, and what was decided of it.
+#[derive(Drop)]
+pub struct Coordinator {
+    last: u64,
+    wait: Wait,
+    // Core c's are at entry c - 1, one for each core.
+    votes: ArrayVec<Option<Vote>, 7>,
+    acks: ArrayVec<bool, 7>,
+    waiting: ArrayVec<Option<Op>, 7>,
+    asker: Option<u16>,
+    decided: Option<Decision>,
+}
+
+impl Model for Coordinator {
+    ghost use Rattle.std.specs.Prelude.{◌≡◌, length};
+    ghost use Rattle.monitor_2pc.specs.Coordinators.{CoordinatorState};
+    ghost use Rattle.monitor_2pc.specs.Waiting.{phase_of, KeepsDecided};
+
+    ghost Value = { CoordinatorState };
+
+    ghost view = { λ c. record { others = length c.waiting.items; last = c.last; phase = phase_of c.wait c.votes.items c.acks.items; requests = record { waiting = c.waiting.items; asker = c.asker; decided = c.decided } } };
+
+    ghost invariant = { λ c. (length c.votes.items ≡ length c.waiting.items) × (length c.acks.items ≡ length c.waiting.items) × KeepsDecided c.wait c.asker c.decided };
+}
+
+impl Coordinator {
+    /// Idle after this number, with nothing waiting, among so many cores, core 0 included.
+    pub fn new(cores: u16, last: u64) -> Coordinator
+        requires least { 1 ≤ cores }
+        requires most { cores ≤ 8 }
+        ensures { result ≡ record { others = cores - 1; last = last; phase = Idle; requests = no_requests (cores - 1) } }
+    {
+        let mut votes = ArrayVec::new();
+        let mut acks = ArrayVec::new();
+        let mut waiting = ArrayVec::new();
+        for _ in 1..cores {
+            votes.push(None);
+            acks.push(false);
+            waiting.push(None);
+        }
+        Coordinator {
+            last,
+            wait: Wait::Nothing,
+            votes,
+            acks,
+            waiting,
+            asker: None,
+            decided: None,
+        }
+    }
+
+    /// Whether no request is under way.
+    pub fn idle(&self) -> bool
+        ensures { IsTrue result ↔ (self.now.phase ≡ Idle) }
+    {
+        self.wait == Wait::Nothing
+    }
+
+    /// The last number.
+    pub fn last(&self) -> u64
+        ensures { result ≡ self.now.last }
+    {
+        self.last
+    }
+
+    /// The request that the core has waiting.
+    pub fn waiting(&self, from: u16) -> Option<&Op>
+        ensures some { IfSome result (λ op. (entry : ℕ) × (from ≡ suc entry) × (slice_get self.now.requests.waiting entry ≡ Some (Some op.now))) }
+        ensures none { IfNone result ((entry : ℕ) (op : GhostOp) → from ≡ suc entry → slice_get self.now.requests.waiting entry ≡ Some (Some op) → ⊥) }
+    {
+        let entry = usize::from(from).checked_sub(1)?;
+        self.waiting.as_slice().get(entry)?.as_ref()
+    }
+
+    /// Keeps a request of another core as waiting. A stranger changes nothing.
+    pub fn submit(&mut self, from: u16, op: Op) -> Result<(), Stranger>
+        ensures kept { OnOk result ((entry : ℕ) × (from ≡ suc entry) × CanSubmit self.old.requests entry × (self.new ≡ record self.old { requests = with_waiting self.old.requests entry op })) }
+        ensures stranger { OnErr result ((entry : ℕ) → from ≡ suc entry → CanSubmit self.old.requests entry → ⊥) }
+        ensures same { OnErr result (self.new ≡ self.old) }
+    {
+        if from == 0 || self.asker == Some(from) {
+            return Err(Stranger);
+        }
+        if !keep(self.waiting.as_mut_slice(), usize::from(from) - 1, op) {
+            return Err(Stranger);
+        }
+        Ok(())
+    }
+
+    /// Starts a request. A fault changes nothing.
+    pub fn start(
+        &mut self,
+        alloc: Global,
+        replica: &mut Replica,
+        op: &Op,
+    ) -> Result<Step, StartFault>
+        requires { StagedByPhase self.old.phase replica.old.staged }
+        ensures can { OnOk result (CanStart (coordinator_place self.old replica.old.staged)) }
+        ensures starts { IfOk result (λ told. (committed : Option GhostOp)
+            × Starts self.old.others replica.old.shown replica.old.budget (coordinator_place self.old replica.old.staged) op.now (coordinator_place self.new replica.new.staged) committed told
+            × (replica.new.shown ≡ after_commit replica.old.shown committed)) }
+        ensures same_requests { self.new.requests ≡ self.old.requests }
+        ensures fault { IfErr result (CannotStart self.old) }
+        ensures same { OnErr result (self.new ≡ self.old) }
+        ensures same_replica { OnErr result (replica.new ≡ replica.old) }
+        ensures others { self.new.others ≡ self.old.others }
+        ensures budget { replica.new.budget ≡ replica.old.budget }
+        ensures staged { StagedByPhase self.new.phase replica.new.staged }
+    {
+        self.ready()?;
+        Ok(self.begin(alloc, replica, op))
+    }
+
+    /// Starts the request that the core has waiting; a decision at once goes to it as Reply. A fault changes nothing.
+    pub fn start_for(
+        &mut self,
+        alloc: Global,
+        replica: &mut Replica,
+        from: u16,
+    ) -> Result<Step, StartFault>
+        requires { StagedByPhase self.old.phase replica.old.staged }
+        ensures can { OnOk result (CanStart (coordinator_place self.old replica.old.staged)) }
+        ensures starts { IfOk result (λ told. (entry : ℕ) × (committed : Option GhostOp) × (from ≡ suc entry)
+            × StartsFor self.old.others replica.old.shown replica.old.budget (coordinator_place self.old replica.old.staged) self.old.requests entry (coordinator_place self.new replica.new.staged) self.new.requests committed told
+            × (replica.new.shown ≡ after_commit replica.old.shown committed)) }
+        ensures fault { IfErr result (CannotStartFor self.old from) }
+        ensures same { OnErr result (self.new ≡ self.old) }
+        ensures same_replica { OnErr result (replica.new ≡ replica.old) }
+        ensures others { self.new.others ≡ self.old.others }
+        ensures budget { replica.new.budget ≡ replica.old.budget }
+        ensures staged { StagedByPhase self.new.phase replica.new.staged }
+    {
+        self.ready()?;
+        if from == 0 {
+            return Err(StartFault::NoneWaiting);
+        }
+        let entry = usize::from(from) - 1;
+        let Some(op) = take_out(self.waiting.as_mut_slice(), entry) else {
+            return Err(StartFault::NoneWaiting);
+        };
+        let mut begun = self.begin(alloc, replica, &op);
+        match begun.decided {
+            Some(decision) => begun.reply = Some((from, decision)),
+            None => self.asker = Some(from),
+        }
+        Ok(begun)
+    }
+
+    // Whether a request can be started.
+    fn ready(&self) -> Result<(), StartFault>
+        ensures idle { OnOk result (self.now.phase ≡ Idle) }
+        ensures unspent { OnOk result (self.now.last < 18446744073709551615) }
+        ensures fault { IfErr result (CannotStart self.now) }
+    {
+        if self.wait != Wait::Nothing {
+            return Err(StartFault::NotIdle);
+        }
+        if self.last == u64::MAX {
+            return Err(StartFault::Spent);
+        }
+        Ok(())
+    }
+
+    // Stages the request, and asks the other cores, if there are any.
+    fn begin(&mut self, alloc: Global, replica: &mut Replica, op: &Op) -> Step
+        requires can { CanStart (coordinator_place self.old replica.old.staged) }
+        requires staged { replica.old.staged ≡ None }
+        ensures starts { (committed : Option GhostOp)
+            × Starts self.old.others replica.old.shown replica.old.budget (coordinator_place self.old replica.old.staged) op.now (coordinator_place self.new replica.new.staged) committed result
+            × (replica.new.shown ≡ after_commit replica.old.shown committed) }
+        ensures same_requests { self.new.requests ≡ self.old.requests }
+        ensures others { self.new.others ≡ self.old.others }
+        ensures budget { replica.new.budget ≡ replica.old.budget }
+        ensures staged { StagedByPhase self.new.phase replica.new.staged }
+    {
+        if let Err(fault) = replica.stage(alloc, op) {
+            return Step {
+                txn: self.last,
+                say: None,
+                decided: Some(Decision::Refused {
+                    core: 0,
+                    why: veto_of(fault),
+                }),
+                reply: None,
+            };
+        }
+        self.last += 1;
+        if self.waiting.is_empty() {
+            return committed_step(self.last, None, replica);
+        }
+        clear(self.votes.as_mut_slice());
+        self.wait = Wait::Votes;
+        Step {
+            txn: self.last,
+            say: Some(Say::Prepare),
+            decided: None,
+            reply: None,
+        }
+    }
+
+    /// Takes a vote. With the last one the operation is decided. A stranger changes nothing. Takes no memory.
+    pub fn vote(
+        &mut self,
+        replica: &mut Replica,
+        from: u16,
+        txn: u64,
+        vote: Vote,
+    ) -> Result<Step, Stranger>
+        requires { StagedByPhase self.old.phase replica.old.staged }
+        ensures heard { IfOk result (λ told. (entry : ℕ) × (committed : Option GhostOp) × (from ≡ suc entry)
+            × Hears replica.old.shown (coordinator_place self.old replica.old.staged) entry txn vote (coordinator_place self.new replica.new.staged) committed told
+            × (replica.new.shown ≡ after_commit replica.old.shown committed)) }
+        ensures requests { IfOk result (λ told. self.new.requests ≡ with_decided self.old.requests told.decided) }
+        ensures stranger { OnErr result (AwaitsVote self.old from txn → ⊥) }
+        ensures same { OnErr result (self.new ≡ self.old) }
+        ensures same_replica { OnErr result (replica.new ≡ replica.old) }
+        ensures others { self.new.others ≡ self.old.others }
+        ensures budget { replica.new.budget ≡ replica.old.budget }
+        ensures staged { StagedByPhase self.new.phase replica.new.staged }
+    {
+        if self.wait != Wait::Votes || txn != self.last || from == 0 {
+            return Err(Stranger);
+        }
+        match cast(self.votes.as_mut_slice(), usize::from(from) - 1, vote) {
+            None => Err(Stranger),
+            Some(Tally::Open) => Ok(Step {
+                txn,
+                say: None,
+                decided: None,
+                reply: None,
+            }),
+            Some(Tally::AllYes) => {
+                let told = committed_step(txn, Some(Say::Commit), replica);
+                self.decide(told.decided);
+                Ok(told)
+            }
+            Some(Tally::Against(core, against)) => {
+                let told = aborted_step(txn, core, against, replica);
+                self.decide(told.decided);
+                Ok(told)
+            }
+        }
+    }
+
+    // Waits until every other core has acknowledged the decision.
+    fn decide(&mut self, decided: Option<Decision>)
+        ensures { self.new ≡ record self.old { phase = Acking (replicate self.old.others false); requests = with_decided self.old.requests decided } }
+    {
+        unmark(self.acks.as_mut_slice());
+        self.wait = Wait::Acks;
+        self.decided = decided;
+    }
+
+    /// Takes an acknowledgement; the last one sends the decision to the core that asked. A stranger changes nothing. Takes no
+    /// memory.
+    pub fn ack(&mut self, from: u16, txn: u64) -> Result<Step, Stranger>
+        ensures heard { IfOk result (λ told. (entry : ℕ) × (from ≡ suc entry)
+            × HearsAck (coordinator_place self.old None) self.old.requests entry txn (coordinator_place self.new None) self.new.requests told) }
+        ensures others { self.new.others ≡ self.old.others }
+        ensures staged { (staged : Option GhostOp) → StagedByPhase self.old.phase staged → StagedByPhase self.new.phase staged }
+        ensures stranger { OnErr result (AwaitsAck (coordinator_place self.old None) from txn → ⊥) }
+        ensures same { OnErr result (self.new ≡ self.old) }
+    {
+        if self.wait != Wait::Acks || txn != self.last || from == 0 {
+            return Err(Stranger);
+        }
+        match mark(self.acks.as_mut_slice(), usize::from(from) - 1) {
+            Some(true) => {
+                self.wait = Wait::Nothing;
+                Ok(Step {
+                    txn,
+                    say: None,
+                    decided: None,
+                    reply: reply_of(self.asker.take(), self.decided.take()),
+                })
+            }
+            Some(false) => Ok(Step {
+                txn,
+                say: None,
+                decided: None,
+                reply: None,
+            }),
+            None => Err(Stranger),
+        }
+    }
+}
+
+// Puts a request where none is waiting, and tells whether it did.
+fn keep(waiting: &mut [Option<Op>], entry: usize, op: Op) -> bool
+    ensures free { IsTrue result → slice_get waiting.old entry ≡ Some None }
+    ensures kept { IsTrue result → waiting.new ≡ slice_set waiting.old entry (Some op) }
+    ensures not_free { IsFalse result → slice_get waiting.old entry ≡ Some None → ⊥ }
+    ensures same { IsFalse result → waiting.new ≡ waiting.old }
+{
+    if entry >= waiting.len() || waiting[entry].is_some() {
+        return false;
+    }
+    waiting[entry] = Some(op);
+    true
+}
+
+// Takes the waiting request out.
+fn take_out(waiting: &mut [Option<Op>], entry: usize) -> Option<Op>
+    ensures was { IfSome result (λ op. slice_get waiting.old entry ≡ Some (Some op)) }
+    ensures out { OnSome result (waiting.new ≡ slice_set waiting.old entry None) }
+    ensures none { IfNone result ((op : GhostOp) → slice_get waiting.old entry ≡ Some (Some op) → ⊥) }
+    ensures same { IfNone result (waiting.new ≡ waiting.old) }
+{
+    if entry >= waiting.len() {
+        return None;
+    }
+    waiting[entry].take()
+}
+
+// The decision for the core that asked.
+fn reply_of(asker: Option<u16>, decided: Option<Decision>) -> Option<(u16, Decision)>
+    ensures { result ≡ reply_of asker decided }
+{
+    match (asker, decided) {
+        (Some(core), Some(decision)) => Some((core, decision)),
+        _ => None,
+    }
+}
+
+// Why core 0 refuses what it can't stage.
+fn veto_of(fault: StageFault) -> Veto
+    ensures { result ≡ veto_of fault }
+{
+    match fault {
+        StageFault::Rule(fault) => Veto::Rule(fault),
+        StageFault::Budget => Veto::Budget,
+        StageFault::AlreadyStaged | StageFault::NoMemory => Veto::NoMemory,
+    }
+}
+
+// Why a core refuses that voted so.
+fn veto_by(vote: Vote) -> Veto
+    ensures { result ≡ veto_by vote }
+{
+    match vote {
+        Vote::Budget => Veto::Budget,
+        Vote::Yes | Vote::NoMemory => Veto::NoMemory,
+    }
+}
+
+// Commits what is staged, and tells so.
+fn committed_step(txn: u64, say: Option<Say>, replica: &mut Replica) -> Step
+    requires { IsSome replica.old.staged }
+    ensures { (op : GhostOp) × (replica.old.staged ≡ Some op) × (result ≡ step txn say (Some (Committed (replica.old.shown.version + 1) (made replica.old.shown op))))
+        × (replica.new ≡ record { budget = replica.old.budget; shown = after replica.old.shown op; staged = None }) }
+{
+    let decided = match replica.commit() {
+        Ok(made) => Some(Decision::Committed {
+            version: replica.version(),
+            made,
+        }),
+        Err(_) => None,
+    };
+    Step {
+        txn,
+        say,
+        decided,
+        reply: None,
+    }
+}
+
+// Gives up what is staged, and tells so.
+fn aborted_step(txn: u64, core: u16, against: Vote, replica: &mut Replica) -> Step
+    ensures told { result ≡ step txn (Some Abort) (Some (Refused core (veto_by against))) }
+    ensures replica { replica.new ≡ record replica.old { staged = None } }
+{
+    let _ = replica.abort();
+    Step {
+        txn,
+        say: Some(Say::Abort),
+        decided: Some(Decision::Refused {
+            core,
+            why: veto_by(against),
+        }),
+        reply: None,
+    }
+}

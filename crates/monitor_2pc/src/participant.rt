@@ -1,0 +1,209 @@
+//! A core other than core 0 in the protocol.
+
+ghost use Rattle.std.specs.Prelude.{◌≡◌, true, false, None, Some, IfErr, IfOk, OnOk, OnErr};
+ghost use Rattle.table_replica.specs.Tables.{Allowed};
+ghost use Rattle.table_replica.specs.declared.StageFault.TheVariants.{Rule};
+ghost use Rattle.table_replica.specs.declared.OpFault.{OpFault as GhostFault};
+ghost use Rattle.monitor_messages.specs.declared.message.Message.TheVariants.{Prepare, Commit, Abort, Submit};
+ghost use Rattle.monitor_2pc.specs.Participants.{ParticipantState, Casts, staged_by, place_of, StagedByVote, Answers, commits, Fits};
+ghost use Rattle.monitor_2pc.specs.Places.{after_commit};
+
+use crate::step::Stranger;
+use monitor_messages::{Decision, Message, Vote};
+use std::alloc::Global;
+use std::marker::Model;
+use table_replica::{Op, Replica, StageFault};
+
+/// A core other than core 0 in the protocol: its last number, its vote while it awaits the outcome, and whether it has a
+/// request outstanding.
+#[derive(Drop)]
+pub struct Participant {
+    last: u64,
+    voted: Option<Vote>,
+    outstanding: bool,
+}
+
+impl Model for Participant {
+    ghost Value = { ParticipantState };
+
+    ghost view = { λ p. record { last = p.last; voted = p.voted; outstanding = p.outstanding } };
+}
+
+impl Participant {
+    /// At rest after this number.
+    pub fn new(last: u64) -> Participant
+        ensures { result ≡ record { last = last; voted = None; outstanding = false } }
+    {
+        Participant {
+            last,
+            voted: None,
+            outstanding: false,
+        }
+    }
+
+    /// Makes the message that sends a request to core 0, and hands the request back where one is outstanding.
+    pub fn submit(&mut self, op: Op) -> Result<Message, Op>
+        ensures free { OnOk result (self.old.outstanding ≡ false) }
+        ensures sent { IfOk result (λ sent. sent ≡ Submit op) }
+        ensures now_outstanding { OnOk result (self.new ≡ record self.old { outstanding = true }) }
+        ensures outstanding { OnErr result (self.old.outstanding ≡ true) }
+        ensures handed_back { IfErr result (λ back. back ≡ op) }
+        ensures same { OnErr result (self.new ≡ self.old) }
+    {
+        if self.outstanding {
+            return Err(op);
+        }
+        self.outstanding = true;
+        Ok(Message::Submit { op })
+    }
+
+    /// Takes the decision of the request that is outstanding. A stranger changes nothing.
+    pub fn reply(&mut self, _decision: &Decision) -> Result<(), Stranger>
+        ensures was_outstanding { OnOk result (self.old.outstanding ≡ true) }
+        ensures now_free { OnOk result (self.new ≡ record self.old { outstanding = false }) }
+        ensures stranger { OnErr result (self.old.outstanding ≡ false) }
+        ensures same { OnErr result (self.new ≡ self.old) }
+    {
+        if !self.outstanding {
+            return Err(Stranger);
+        }
+        self.outstanding = false;
+        Ok(())
+    }
+
+    /// Whether a request of this core is outstanding.
+    pub fn outstanding(&self) -> bool
+        ensures { result ≡ self.now.outstanding }
+    {
+        self.outstanding
+    }
+
+    /// Takes a message of core 0 and gives the vote or the acknowledgement to send back; where `short` is true, the core acts
+    /// as if it had no memory for an operation. A stranger changes nothing. Takes no memory on Commit or Abort.
+    pub fn answer(
+        &mut self,
+        alloc: Global,
+        replica: &mut Replica,
+        message: &Message,
+        short: bool,
+    ) -> Result<Message, Stranger>
+        requires { StagedByVote self.old.voted replica.old.staged }
+        ensures answered { IfOk result (Answers short replica.old.shown replica.old.budget (place_of self.old replica.old.staged) message.now (place_of self.new replica.new.staged)) }
+        ensures shown { OnOk result (replica.new.shown ≡ after_commit replica.old.shown (commits (place_of self.old replica.old.staged) message.now)) }
+        ensures budget { replica.new.budget ≡ replica.old.budget }
+        ensures staged { StagedByVote self.new.voted replica.new.staged }
+        ensures outstanding { self.new.outstanding ≡ self.old.outstanding }
+        ensures stranger { OnErr result (Fits replica.old.shown replica.old.budget (place_of self.old replica.old.staged) message.now → ⊥) }
+        ensures same_place { OnErr result (self.new ≡ self.old) }
+        ensures same_replica { OnErr result (replica.new ≡ replica.old) }
+    {
+        match message {
+            Message::Prepare { txn, op } => self.prepare(alloc, replica, *txn, op, short),
+            Message::Commit { txn } => self.commit(replica, *txn),
+            Message::Abort { txn } => self.abort(replica, *txn),
+            Message::Vote { .. }
+            | Message::Ack { .. }
+            | Message::Submit { .. }
+            | Message::Reply { .. } => Err(Stranger),
+        }
+    }
+
+    fn prepare(
+        &mut self,
+        alloc: Global,
+        replica: &mut Replica,
+        txn: u64,
+        op: &Op,
+        short: bool,
+    ) -> Result<Message, Stranger>
+        requires { StagedByVote self.old.voted replica.old.staged }
+        ensures answered { IfOk result (Answers short replica.old.shown replica.old.budget (place_of self.old replica.old.staged) (Prepare txn op.now) (place_of self.new replica.new.staged)) }
+        ensures shown { replica.new.shown ≡ replica.old.shown }
+        ensures budget { replica.new.budget ≡ replica.old.budget }
+        ensures staged { StagedByVote self.new.voted replica.new.staged }
+        ensures outstanding { self.new.outstanding ≡ self.old.outstanding }
+        ensures stranger { OnErr result (Fits replica.old.shown replica.old.budget (place_of self.old replica.old.staged) (Prepare txn op.now) → ⊥) }
+        ensures same_place { OnErr result (self.new ≡ self.old) }
+        ensures same_staged { OnErr result (replica.new.staged ≡ replica.old.staged) }
+    {
+        if self.voted.is_some() || self.last == u64::MAX || txn != self.last + 1 {
+            return Err(Stranger);
+        }
+        let vote = ballot(alloc, replica, op, short)?;
+        self.last = txn;
+        self.voted = Some(vote);
+        Ok(Message::Vote { txn, vote })
+    }
+
+    fn commit(&mut self, replica: &mut Replica, txn: u64) -> Result<Message, Stranger>
+        requires { StagedByVote self.old.voted replica.old.staged }
+        ensures answered { IfOk result (Answers false replica.old.shown replica.old.budget (place_of self.old replica.old.staged) (Commit txn) (place_of self.new replica.new.staged)) }
+        ensures shown { OnOk result (replica.new.shown ≡ after_commit replica.old.shown replica.old.staged) }
+        ensures budget { replica.new.budget ≡ replica.old.budget }
+        ensures staged { StagedByVote self.new.voted replica.new.staged }
+        ensures outstanding { self.new.outstanding ≡ self.old.outstanding }
+        ensures stranger { OnErr result (Fits replica.old.shown replica.old.budget (place_of self.old replica.old.staged) (Commit txn) → ⊥) }
+        ensures same_place { OnErr result (self.new ≡ self.old) }
+        ensures same_replica { OnErr result (replica.new ≡ replica.old) }
+    {
+        if self.voted != Some(Vote::Yes) || txn != self.last {
+            return Err(Stranger);
+        }
+        match replica.commit() {
+            Ok(_) => {
+                self.voted = None;
+                Ok(Message::Ack { txn })
+            }
+            Err(_) => Err(Stranger),
+        }
+    }
+
+    fn abort(&mut self, replica: &mut Replica, txn: u64) -> Result<Message, Stranger>
+        requires { StagedByVote self.old.voted replica.old.staged }
+        ensures answered { IfOk result (Answers false replica.old.shown replica.old.budget (place_of self.old replica.old.staged) (Abort txn) (place_of self.new replica.new.staged)) }
+        ensures shown { replica.new.shown ≡ replica.old.shown }
+        ensures budget { replica.new.budget ≡ replica.old.budget }
+        ensures staged { StagedByVote self.new.voted replica.new.staged }
+        ensures outstanding { self.new.outstanding ≡ self.old.outstanding }
+        ensures stranger { OnErr result (Fits replica.old.shown replica.old.budget (place_of self.old replica.old.staged) (Abort txn) → ⊥) }
+        ensures same_place { OnErr result (self.new ≡ self.old) }
+        ensures same_staged { OnErr result (replica.new.staged ≡ replica.old.staged) }
+    {
+        if self.voted.is_none() || txn != self.last {
+            return Err(Stranger);
+        }
+        let _ = replica.abort();
+        self.voted = None;
+        Ok(Message::Ack { txn })
+    }
+}
+
+// The vote on an operation, which stays staged where it is Yes. A rule that refuses it makes it a stranger.
+#[tactic(auto, using(table_replica::proofs::Tables::over_budget))]
+fn ballot(alloc: Global, replica: &mut Replica, op: &Op, short: bool) -> Result<Vote, Stranger>
+    requires { replica.old.staged ≡ None }
+    ensures casts { IfOk result (Casts short replica.old.shown replica.old.budget op.now) }
+    ensures staged { IfOk result (λ vote. replica.new.staged ≡ staged_by vote op.now) }
+    ensures refused { OnErr result ((fault : GhostFault) × Allowed replica.old.shown replica.old.budget op.now (Some (Rule fault))) }
+    ensures same { OnErr result (replica.new.staged ≡ None) }
+    ensures shown { replica.new.shown ≡ replica.old.shown }
+    ensures budget { replica.new.budget ≡ replica.old.budget }
+{
+    if short {
+        match replica.check(alloc, op) {
+            Ok(()) => Ok(Vote::NoMemory),
+            Err(StageFault::Rule(_)) => Err(Stranger),
+            Err(StageFault::Budget) => Ok(Vote::Budget),
+            Err(StageFault::NoMemory) => Ok(Vote::NoMemory),
+            Err(StageFault::AlreadyStaged) => Err(Stranger),
+        }
+    } else {
+        match replica.stage(alloc, op) {
+            Ok(()) => Ok(Vote::Yes),
+            Err(StageFault::Rule(_)) => Err(Stranger),
+            Err(StageFault::Budget) => Ok(Vote::Budget),
+            Err(StageFault::NoMemory) => Ok(Vote::NoMemory),
+            Err(StageFault::AlreadyStaged) => Err(Stranger),
+        }
+    }
+}

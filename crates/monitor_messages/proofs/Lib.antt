@@ -1,0 +1,7 @@
+pub mod Loop
+pub mod Programs
+pub mod Numbers
+pub mod Operations
+pub mod Decisions
+pub mod Messages
+pub mod Lengths

@@ -1,0 +1,251 @@
+//! Messages written as bytes.
+
+ghost use Rattle.std.specs.Prelude.{◌≡◌, ◌<◌, ◌≤◌, ◌++◌, ◌∷◌, length, All, IfOk, OnOk};
+ghost use Rattle.std.specs.Int.{w16, w32, w64, to_le_bytes};
+ghost use Rattle.bpf_insn.specs.Table.{InRange, bytes_of};
+ghost use Rattle.monitor_messages.specs.Coding.{fault_number, fault_bytes, made_bytes, veto_bytes, decision_bytes, rights_number, vote_number, program_bytes, op_bytes, coded, Coded, IsShort, HasShortProgram, IsNumbered, IsOp, IsMade, IsFault, IsVeto, IsDecision, IsMessage};
+
+use crate::message::{Decision, Message, Veto, Vote};
+use bpf_insn::Insn;
+use endpoint_caps::Rights;
+use std::alloc::{AllocError, Global};
+use table_replica::{Made, Op, OpFault, Program};
+
+/// The bytes of a message that is sent under this stamp.
+pub fn encode(alloc: Global, stamp: u64, message: &Message) -> Result<Vec<u8>, AllocError>
+    requires { IsShort message.now }
+    ensures bytes { IfOk result (λ v. v.items ≡ coded stamp message.now) }
+    ensures coded { IfOk result (λ v. IsNumbered message.now → Coded v.items stamp message.now) }
+    ensures length { IfOk result (λ v. (0 < length v.items) × (length v.items ≤ 32832)) }
+{
+    let mut out = Vec::new(alloc);
+    put_message(&mut out, stamp, message)?;
+    Ok(out)
+}
+
+fn put_message(out: &mut Vec<u8>, stamp: u64, message: &Message) -> Result<(), AllocError>
+    requires { IsShort message.now }
+    ensures bytes { OnOk result (out.new.items ≡ out.old.items ++ coded stamp message.now) }
+    ensures fits { OnOk result (IsMessage message.now) }
+{
+    match message {
+        Message::Prepare { txn, op } => {
+            put_numbered(out, 1, stamp, *txn)?;
+            put_op(out, op)
+        }
+        Message::Vote { txn, vote } => {
+            put_numbered(out, 2, stamp, *txn)?;
+            out.push(number_of_vote(*vote))?;
+            Ok(())
+        }
+        Message::Commit { txn } => put_numbered(out, 3, stamp, *txn),
+        Message::Abort { txn } => put_numbered(out, 4, stamp, *txn),
+        Message::Ack { txn } => put_numbered(out, 5, stamp, *txn),
+        Message::Submit { op } => {
+            put_head(out, 6, stamp)?;
+            put_op(out, op)
+        }
+        Message::Reply { decision } => {
+            put_head(out, 7, stamp)?;
+            put_decision(out, decision)
+        }
+    }
+}
+
+// The kind of a message and its stamp.
+fn put_head(out: &mut Vec<u8>, kind: u8, stamp: u64) -> Result<(), AllocError>
+    ensures { OnOk result (out.new.items ≡ out.old.items ++ (kind ∷ to_le_bytes w64 stamp)) }
+{
+    out.push(kind)?;
+    out.extend_from_slice(&stamp.to_le_bytes())
+}
+
+// The kind of a message, its stamp, and the number of what it is about.
+fn put_numbered(out: &mut Vec<u8>, kind: u8, stamp: u64, txn: u64) -> Result<(), AllocError>
+    ensures { OnOk result (out.new.items ≡ out.old.items ++ (kind ∷ to_le_bytes w64 stamp ++ to_le_bytes w64 txn)) }
+{
+    out.push(kind)?;
+    out.extend_from_slice(&stamp.to_le_bytes())?;
+    out.extend_from_slice(&txn.to_le_bytes())
+}
+
+fn number_of_vote(vote: Vote) -> u8
+    ensures { result ≡ vote_number vote }
+{
+    match vote {
+        Vote::Yes => 0,
+        Vote::Budget => 1,
+        Vote::NoMemory => 2,
+    }
+}
+
+fn number_of_rights(rights: Rights) -> u8
+    ensures { result ≡ rights_number rights }
+{
+    match rights {
+        Rights::R => 1,
+        Rights::M => 2,
+        Rights::Rm => 3,
+    }
+}
+
+fn put_op(out: &mut Vec<u8>, op: &Op) -> Result<(), AllocError>
+    requires { HasShortProgram op.now }
+    ensures bytes { OnOk result (out.new.items ≡ out.old.items ++ op_bytes op.now) }
+    ensures fits { OnOk result (IsOp op.now) }
+{
+    match op {
+        Op::Create { domain, endpoint } => {
+            out.push(1)?;
+            out.extend_from_slice(&domain.to_le_bytes())?;
+            out.extend_from_slice(&endpoint.to_le_bytes())
+        }
+        Op::Mint {
+            domain,
+            cap,
+            to,
+            rights,
+        } => {
+            out.push(2)?;
+            out.extend_from_slice(&domain.to_le_bytes())?;
+            out.extend_from_slice(&cap.to_le_bytes())?;
+            out.extend_from_slice(&to.to_le_bytes())?;
+            out.push(number_of_rights(*rights))?;
+            Ok(())
+        }
+        Op::Revoke { domain, cap } => put_ids(out, 3, *domain, *cap),
+        Op::DropCap { domain, cap } => put_ids(out, 4, *domain, *cap),
+        Op::Install {
+            domain,
+            cap,
+            program,
+        } => {
+            put_ids(out, 5, *domain, *cap)?;
+            put_program(out, program)
+        }
+        Op::Remove { domain, filter } => put_ids(out, 6, *domain, *filter),
+        Op::Replace {
+            domain,
+            filter,
+            program,
+        } => {
+            put_ids(out, 7, *domain, *filter)?;
+            put_program(out, program)
+        }
+    }
+}
+
+// The kind of an operation, the domain, and the id of what it is about.
+fn put_ids(out: &mut Vec<u8>, kind: u8, domain: u16, id: u32) -> Result<(), AllocError>
+    ensures { OnOk result (out.new.items ≡ out.old.items ++ (kind ∷ to_le_bytes w16 domain ++ to_le_bytes w32 id)) }
+{
+    out.push(kind)?;
+    out.extend_from_slice(&domain.to_le_bytes())?;
+    out.extend_from_slice(&id.to_le_bytes())
+}
+
+fn put_program(out: &mut Vec<u8>, program: &Program) -> Result<(), AllocError>
+    requires { length program.now ≤ 4096 }
+    ensures bytes { OnOk result (out.new.items ≡ out.old.items ++ program_bytes program.now) }
+    ensures fits { OnOk result (All InRange program.now) }
+{
+    let code = program.as_slice();
+    out.extend_from_slice(&(code.len() as u16).to_le_bytes())?;
+    for insn in code {
+        put_insn(out, *insn)?;
+    }
+    Ok(())
+}
+
+fn put_insn(out: &mut Vec<u8>, insn: Insn) -> Result<(), AllocError>
+    ensures bytes { OnOk result (out.new.items ≡ out.old.items ++ bytes_of insn) }
+    ensures fits { InRange insn }
+{
+    out.extend_from_slice(&insn.to_bytes())
+}
+
+fn put_decision(out: &mut Vec<u8>, decision: &Decision) -> Result<(), AllocError>
+    ensures bytes { OnOk result (out.new.items ≡ out.old.items ++ decision_bytes decision.now) }
+    ensures fits { OnOk result (IsDecision decision.now) }
+{
+    match *decision {
+        Decision::Committed { version, made } => {
+            out.push(0)?;
+            out.extend_from_slice(&version.to_le_bytes())?;
+            put_made(out, made)
+        }
+        Decision::Refused { core, why } => {
+            out.push(1)?;
+            out.extend_from_slice(&core.to_le_bytes())?;
+            put_veto(out, why)
+        }
+    }
+}
+
+fn put_made(out: &mut Vec<u8>, made: Made) -> Result<(), AllocError>
+    ensures bytes { OnOk result (out.new.items ≡ out.old.items ++ made_bytes made) }
+    ensures fits { OnOk result (IsMade made) }
+{
+    match made {
+        Made::Nothing => {
+            out.push(0)?;
+            Ok(())
+        }
+        Made::Cap(id) => {
+            out.push(1)?;
+            out.extend_from_slice(&id.to_le_bytes())
+        }
+        Made::Filter(id) => {
+            out.push(2)?;
+            out.extend_from_slice(&id.to_le_bytes())
+        }
+    }
+}
+
+fn put_veto(out: &mut Vec<u8>, why: Veto) -> Result<(), AllocError>
+    ensures bytes { OnOk result (out.new.items ≡ out.old.items ++ veto_bytes why) }
+    ensures fits { OnOk result (IsVeto why) }
+{
+    match why {
+        Veto::Budget => out.push(0)?,
+        Veto::NoMemory => out.push(1)?,
+        Veto::Rule(fault) => {
+            out.push(2)?;
+            put_fault(out, fault)?;
+        }
+    }
+    Ok(())
+}
+
+fn put_fault(out: &mut Vec<u8>, fault: OpFault) -> Result<(), AllocError>
+    ensures bytes { OnOk result (out.new.items ≡ out.old.items ++ fault_bytes fault) }
+    ensures fits { OnOk result (IsFault fault) }
+{
+    if let OpFault::BadProgram { rule, pc } = fault {
+        out.push(17)?;
+        out.push(rule)?;
+        return out.extend_from_slice(&pc.to_le_bytes());
+    }
+    out.push(number_of_fault(fault))?;
+    Ok(())
+}
+
+fn number_of_fault(fault: OpFault) -> u8
+    ensures { fault_number fault ≡ result }
+{
+    match fault {
+        OpFault::NoCap => 1,
+        OpFault::NotHolder => 2,
+        OpFault::NoRight => 3,
+        OpFault::RightsExceed => 4,
+        OpFault::EndpointTaken => 5,
+        OpFault::CapsFull => 6,
+        OpFault::IdsSpent => 7,
+        OpFault::NoFilter => 11,
+        OpFault::NotOwner => 12,
+        OpFault::TableFull => 13,
+        OpFault::FilterIdsSpent => 14,
+        OpFault::BadProgram { .. } => 17,
+        OpFault::VersionsSpent => 18,
+    }
+}

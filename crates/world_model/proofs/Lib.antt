@@ -1,0 +1,11 @@
+pub mod Lists
+pub mod Invariant
+pub mod Steps
+pub mod Submissions
+pub mod Runs
+pub mod Agreement
+pub mod Moves
+pub mod Known
+pub mod Followed
+pub mod Decisions
+pub mod RunLaws

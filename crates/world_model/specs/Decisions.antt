@@ -1,0 +1,133 @@
+-- What is right of the answers in a run: of packets, decisions and replies.
+use Rattle.std.specs.Prelude.{◌≡◌, ◌+◌, ◌<◌, ◌≤◌, ◌⊎◌, ℕ, suc, Option, Some, None, List, [], ◌∷◌, ◌++◌, length, map, slice_get, slice_set}
+use Rattle.std.proofs.Common.{replicate}
+use Rattle.endpoint_caps.specs.Capabilities.{first}
+use Rattle.table_replica.specs.declared.Op.{Op}
+use Rattle.table_replica.specs.declared.Kept.{Kept}
+use Rattle.table_replica.specs.declared.Made.{Made}
+use Rattle.table_replica.specs.declared.StageFault.{StageFault}
+use Rattle.table_replica.specs.Tables.{after, made, table, instructions, tests, Allowed, Accepting}
+use Rattle.monitor_messages.specs.declared.message.Message.TheVariants as message
+use Rattle.monitor_messages.specs.declared.message.Vote.{Vote}
+use Rattle.monitor_messages.specs.declared.message.Vote.TheVariants as vote
+use Rattle.monitor_messages.specs.declared.message.Veto.{Veto}
+use Rattle.monitor_messages.specs.declared.message.Veto.TheVariants as veto
+use Rattle.monitor_messages.specs.declared.message.Decision.{Decision}
+use Rattle.monitor_messages.specs.declared.message.Decision.TheVariants.{Committed, Refused}
+use Rattle.monitor_2pc.specs.Coordinators.{Requests, Voting, veto_of}
+use Rattle.world_model.specs.declared.event.Event.{Event}
+use Rattle.world_model.specs.declared.event.Event.TheVariants.{Start, StartFor, Take, Rx}
+use Rattle.world_model.specs.declared.event.Answer.{Answer}
+use Rattle.world_model.specs.declared.event.Answer.TheVariants.{Prepared, Decided, TookVote, TookReply, Delivered}
+use Rattle.world_model.specs.declared.event.Done.{Done}
+use Rattle.world_model.specs.Cases.{to_one, captured}
+use Rattle.world_model.specs.Worlds.{World, newest, version_at, budget_at, send, sent_out}
+use Rattle.world_model.specs.Readings.{version_of, vote_of, sent, settled, request_of, Begun}
+
+-- Packets
+
+-- a packet is handed to the endpoints that accept it at the version that its core had reached with the events before, by this log
+abbrev pub DeliversBy : List Op → List Done → Event → Answer → Type 0
+DeliversBy log before (Rx core number packet floor) answer =
+    (kept : List Kept) × (answer ≡ Delivered (version_of core before) kept) × (floor ≤ version_of core before) × (version_of core before ≤ length log)
+    × Accepting (table log (version_of core before)) (captured packet) kept
+DeliversBy log before event answer = Unit {0}
+
+abbrev pub Delivers : List Op → List Done → Type 0
+Delivers log events = (before after : List Done) (done : Done) → events ≡ before ++ done ∷ after → DeliversBy log before done.event done.answer
+
+-- Decisions
+
+-- the operation is the next entry of the log, with its version and the id that it makes
+pub record CommitsNext (w : World) (op : Op) (w' : World) (version : ℕ) (id : Made) : Type 0 where
+  pub entry : w'.log ≡ w.log ++ op ∷ []
+  pub is_version : version ≡ length w.log + 1
+  pub is_made : id ≡ made (newest w) op
+
+-- core 0 refuses at once: by the first refusal that stands, or, where no test but the verifier's is left, for want of memory
+abbrev pub HasReason : World → Op → Veto → Type 0
+HasReason w op why =
+    ((why ≡ veto.NoMemory) × (first (tests (newest w) w.budget op) ≡ None))
+    ⊎ ((fault : StageFault) × Allowed (newest w) w.budget op (Some fault) × (why ≡ veto_of fault))
+
+-- every other core is asked, under a number that no operation had before
+pub record Prepares (events : List Done) (w : World) (op : Op) (requests : Requests) (w' : World) (txn : ℕ) : Type 0 where
+  pub allowed : Allowed (newest w) w.budget op None
+  pub next_number : txn ≡ w.place.last + 1
+  pub new_number : (core : ℕ) (old : Op) → Begun events txn core old → ⊥
+  pub asked : w' ≡ record w {
+    place = record { last = txn; phase = Voting (replicate (length w.peers) None); staged = Some op };
+    requests = requests;
+    peers = map (send (message.Prepare txn op)) w.peers;
+  }
+
+-- the operation that core 0 has waiting for the core with this entry is that of the core's last request
+pub record IsWaiting (events : List Done) (w : World) (entry : ℕ) (op : Op) : Type 0 where
+  pub waits : slice_get w.requests.waiting entry ≡ Some (Some op)
+  pub is_sent : request_of (suc entry) events ≡ sent op
+
+abbrev pub requests_without : World → ℕ → Option ℕ → Requests
+requests_without w entry asker = record { waiting = slice_set w.requests.waiting entry None; asker = asker; decided = None }
+
+-- a waiting request is refused at once, and its core is told so
+abbrev pub RepliesAtOnce : World → ℕ → Op → World → Decision → Type 0
+RepliesAtOnce w entry op w' (Committed version id) = ⊥
+RepliesAtOnce w entry op w' (Refused core why) = (core ≡ 0) × HasReason w op why
+    × (w' ≡ record w { requests = requests_without w entry None; peers = sent_out w.peers (to_one entry (message.Reply (Refused core why))) })
+
+-- another core's veto: it is the least core that did not vote Yes, and its vote gives the reason
+pub record HasVeto (events : List Done) (w : World) (txn : ℕ) (op : Op) (core : ℕ) (why : Veto) : Type 0 where
+  pub entry : ℕ
+  pub is_core : core ≡ suc entry
+  pub yes_before : (i : ℕ) → i < entry → vote_of (suc i) txn events ≡ Some vote.Yes
+  pub against : Vote
+  pub voted : vote_of core txn events ≡ Some against
+  pub budget : ℕ
+  pub is_budget : budget_at w core ≡ Some budget
+  pub reason : ((against ≡ vote.NoMemory) × (why ≡ veto.NoMemory)) ⊎ ((against ≡ vote.Budget) × (why ≡ veto.Budget) × (budget < instructions (after (newest w) op)))
+
+-- the votes decide: all are Yes, or one is a veto
+abbrev pub VotesDecide : List Done → World → ℕ → Op → World → Decision → Type 0
+VotesDecide events w txn op w' (Committed version id) = CommitsNext w op w' version id × ((i : ℕ) → i < length w.peers → vote_of (suc i) txn events ≡ Some vote.Yes)
+VotesDecide events w txn op w' (Refused core why) = HasVeto events w txn op core why × (w'.log ≡ w.log) × ((c : ℕ) → version_at w' c ≡ version_at w c)
+
+-- some core's vote has not come
+pub record AwaitsVotes (w : World) : Type 0 where
+  pub votes : List (Option Vote)
+  pub entry : ℕ
+  pub voting : w.place.phase ≡ Voting votes
+  pub missing : slice_get votes entry ≡ Some None
+
+-- What is decided of a request after these events holds.
+abbrev pub DecidesRightly : List Done → World → Event → World → Answer → Type 0
+DecidesRightly events w (Start op) w' (Prepared txn) = Prepares events w op w.requests w' txn
+DecidesRightly events w (Start op) w' (Decided (Committed version id)) = CommitsNext w op w' version id
+DecidesRightly events w (Start op) w' (Decided (Refused core why)) = (w' ≡ w) × (core ≡ 0) × HasReason w op why
+DecidesRightly events w (StartFor (suc entry)) w' (Prepared txn) = (op : Op) × IsWaiting events w entry op × Prepares events w op (requests_without w entry (Some (suc entry))) w' txn
+DecidesRightly events w (StartFor (suc entry)) w' (Decided decision) = (op : Op) × IsWaiting events w entry op × RepliesAtOnce w entry op w' decision
+DecidesRightly events w event w' (TookVote txn v None) = AwaitsVotes w' × (w'.log ≡ w.log)
+DecidesRightly events w event w' (TookVote txn v (Some decision)) = (core : ℕ) × (op : Op) × Begun events txn core op × VotesDecide events w txn op w' decision
+DecidesRightly events w event w' answer = Unit {0}
+
+-- Replies
+
+-- the version that a decision names is this one
+abbrev pub StandsAt : ℕ → Decision → Type 0
+StandsAt version (Committed named id) = version ≡ named
+StandsAt version (Refused core why) = Unit {0}
+
+-- a committed operation is the entry of the log that the decision names, with its id
+abbrev pub IsEntered : List Op → Op → Decision → Type 0
+IsEntered log op (Committed version id) = (k : ℕ) × (version ≡ k + 1) × (slice_get log k ≡ Some op) × (id ≡ made (table log k) op)
+IsEntered log op (Refused core why) = Unit {0}
+
+-- A core that takes a Reply after these events takes the decision of its one request; where that is committed, the request is
+-- that entry of the log, and the core stands exactly at its version.
+abbrev pub RepliesRightly : List Done → World → Event → Answer → Type 0
+RepliesRightly events w (Take (suc entry) from short) (TookReply decision) = (op : Op) × (request_of (suc entry) events ≡ settled op decision) × IsEntered w.log op decision
+    × ((version : ℕ) → version_at w (suc entry) ≡ Some version → StandsAt version decision)
+RepliesRightly events w event answer = Unit {0}
+
+-- what core 0 has waiting for a core is the operation of its last request
+abbrev pub WaitsRightly : List Done → World → Type 0
+WaitsRightly events w = (entry : ℕ) (op : Op) → slice_get w.requests.waiting entry ≡ Some (Some op) → request_of (suc entry) events ≡ sent op

@@ -1,0 +1,5 @@
+pub mod Cases
+pub mod Worlds
+pub mod Readings
+pub mod Agreement
+pub mod Decisions

@@ -1,0 +1,39 @@
+//! What holds of every run: laws, each the contract of a function that does nothing.
+
+ghost use Rattle.std.specs.Prelude.{◌≡◌, ◌∷◌, List, ℕ};
+ghost use Rattle.world_model.specs.Worlds.{World, Run, Happens};
+ghost use Rattle.world_model.specs.Agreement.{Agrees, Grows, NoStranger};
+ghost use Rattle.world_model.specs.Decisions.{Delivers, DecidesRightly, RepliesRightly, WaitsRightly};
+ghost use Rattle.world_model.specs.declared.event.Answer.{Answer};
+ghost use Rattle.world_model.specs.declared.event.Done.{Done};
+ghost use Rattle.world_model.specs.declared.event.Event.{Event};
+
+/// In every run the replicas agree within the budgets, no core meets a message that it does not wait for, and versions and log
+/// only grow.
+pub fn replicas_agree()
+    ensures agree { (budget : ℕ) (budgets : List ℕ) (events : List Done) (w : World) → Run budget budgets events w → Agrees budget budgets w }
+    ensures no_stranger { (budget : ℕ) (budgets : List ℕ) (events : List Done) (w : World) → Run budget budgets events w → NoStranger w }
+    ensures growing { (budget : ℕ) (budgets : List ℕ) (events : List Done) (w w' : World) (event : Event) (answer : Answer) →
+        Run budget budgets events w → Happens w event w' answer → Grows w w' }
+{}
+
+/// In every run each packet is handed to the endpoints that accept it at the version that its core had.
+pub fn packets_are_delivered()
+    ensures { (budget : ℕ) (budgets : List ℕ) (events : List Done) (w : World) → Run budget budgets events w → Delivers w.log events }
+{}
+
+/// In every run each decision is right: a commit is the next entry of the log, by the votes of all, and a refusal has a reason
+/// that holds, or is the veto of the least core that voted against.
+pub fn decisions_are_right()
+    ensures { (budget : ℕ) (budgets : List ℕ) (events : List Done) (w w' : World) (event : Event) (answer : Answer) →
+        Run budget budgets events w → Happens w event w' answer → DecidesRightly events w event w' answer }
+{}
+
+/// In every run a Reply carries the decision of the one request that it answers; where that is committed, the request is the
+/// named entry of the log, and the core that takes the Reply stands exactly at its version. What waits on core 0 is the
+/// operation of its core's last request.
+pub fn replies_are_right()
+    ensures replies { (budget : ℕ) (budgets : List ℕ) (events : List Done) (w w' : World) (event : Event) (answer : Answer) →
+        Run budget budgets events w → Happens w event w' answer → RepliesRightly events w event answer }
+    ensures waits { (budget : ℕ) (budgets : List ℕ) (events : List Done) (w : World) → Run budget budgets events w → WaitsRightly events w }
+{}
