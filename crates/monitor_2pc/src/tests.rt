@@ -1,9 +1,17 @@
 //! Worked calls of the protocol.
+ghost use Rattle.std.specs.Prelude.{◌≡◌, Option, None};
+ghost use Rattle.table_replica.specs.declared.Op.{Op as GhostOp};
+ghost use Rattle.monitor_2pc.specs.Participants.{StagedByVote};
+ghost use Rattle.monitor_2pc.specs.Coordinators.{StagedByPhase};
+
 use crate::{
     Coordinator, Decision, Message, Participant, Say, StartFault, Step, Stranger, Veto, Vote,
 };
+use bpf_insn::Insn;
+use std::alloc::Global;
+use std::process::Abort;
 use std::test::Fail;
-use table_replica::{Made, Op, OpFault, Replica};
+use table_replica::{Made, Op, OpFault, Program, Replica};
 
 fn create(endpoint: u16) -> Op {
     Op::Create {
@@ -148,4 +156,313 @@ fn a_reply_ends_the_request(rt: HostRuntime) {
     assert!(rt; core.reply(&decision).is_ok());
     assert_eq!(rt; core.outstanding(), false);
     assert!(rt; core.reply(&decision).is_err());
+}
+
+#[test]
+fn strangers_among_votes(rt: HostRuntime) -> Result<(), Fail> {
+    let mut replica = Replica::new(rt.alloc(), 9)?;
+    let mut core = Coordinator::new(3, 0);
+    let begun = core.start(rt.alloc(), &mut replica, &create(7));
+    assert_eq!(rt; begun, Ok(told(1, Some(Say::Prepare), None)));
+    votes_of_strangers(&rt, &mut core, &mut replica);
+    let again = core.start(rt.alloc(), &mut replica, &create(8));
+    assert_eq!(rt; again, Err(StartFault::NotIdle));
+    Ok(())
+}
+
+fn votes_of_strangers(rt: &impl Abort, core: &mut Coordinator, replica: &mut Replica)
+    requires { StagedByPhase core.old.phase replica.old.staged }
+    ensures { StagedByPhase core.new.phase replica.new.staged }
+{
+    let first = core.vote(replica, 1, 1, Vote::Yes);
+    assert_eq!(rt; first, Ok(told(1, None, None)));
+    let twice = core.vote(replica, 1, 1, Vote::Yes);
+    assert_eq!(rt; twice, Err(Stranger));
+    let other_number = core.vote(replica, 2, 2, Vote::Yes);
+    assert_eq!(rt; other_number, Err(Stranger));
+    let no_core = core.vote(replica, 3, 1, Vote::Yes);
+    assert_eq!(rt; no_core, Err(Stranger));
+    assert_eq!(rt; core.ack(1, 1), Err(Stranger));
+}
+
+#[test]
+fn strangers_among_acknowledgements(rt: HostRuntime) -> Result<(), Fail> {
+    let mut replica = Replica::new(rt.alloc(), 9)?;
+    let mut core = Coordinator::new(3, 0);
+    assert!(rt; core.start(rt.alloc(), &mut replica, &create(7)).is_ok());
+    assert!(rt; core.vote(&mut replica, 2, 1, Vote::Yes).is_ok());
+    let last = core.vote(&mut replica, 1, 1, Vote::Yes);
+    let decision = committed(1, Made::Cap(1));
+    assert_eq!(rt; last, Ok(told(1, Some(Say::Commit), Some(decision))));
+    acknowledgements_of_strangers(&rt, &mut core);
+    Ok(())
+}
+
+fn acknowledgements_of_strangers(rt: &impl Abort, core: &mut Coordinator) {
+    assert_eq!(rt; core.ack(2, 1), Ok(told(1, None, None)));
+    assert_eq!(rt; core.idle(), false);
+    assert_eq!(rt; core.ack(2, 1), Err(Stranger));
+    assert_eq!(rt; core.ack(1, 2), Err(Stranger));
+    assert_eq!(rt; core.ack(0, 1), Err(Stranger));
+    assert_eq!(rt; core.ack(1, 1), Ok(told(1, None, None)));
+    assert_eq!(rt; core.idle(), true);
+    assert_eq!(rt; core.last(), 1);
+}
+
+#[test]
+fn strangers_to_another_core(rt: HostRuntime) -> Result<(), Fail> {
+    let mut replica = Replica::new(rt.alloc(), 9)?;
+    let mut core = Participant::new(0);
+    is_stranger(
+        &rt,
+        rt.alloc(),
+        &mut core,
+        &mut replica,
+        &Message::Commit { txn: 1 },
+    );
+    is_stranger(
+        &rt,
+        rt.alloc(),
+        &mut core,
+        &mut replica,
+        &prepare(2, create(7)),
+    );
+    let program = Program::from_vec(Vec::new(rt.alloc()));
+    let refused = Op::Install {
+        domain: 1,
+        cap: 9,
+        program,
+    };
+    is_stranger(
+        &rt,
+        rt.alloc(),
+        &mut core,
+        &mut replica,
+        &prepare(1, refused),
+    );
+    let vote = core.answer(rt.alloc(), &mut replica, &prepare(1, create(7)), false);
+    assert!(rt;
+        matches!(
+            vote,
+            Ok(Message::Vote {
+                txn: 1,
+                vote: Vote::Yes
+            })
+        )
+    );
+    is_stranger(
+        &rt,
+        rt.alloc(),
+        &mut core,
+        &mut replica,
+        &prepare(2, create(8)),
+    );
+    let ack = core.answer(rt.alloc(), &mut replica, &Message::Abort { txn: 1 }, false);
+    assert!(rt; matches!(ack, Ok(Message::Ack { txn: 1 })));
+    Ok(())
+}
+
+fn prepare(txn: u64, op: Op) -> Message {
+    Message::Prepare { txn, op }
+}
+
+fn is_stranger(
+    rt: &impl Abort,
+    alloc: Global,
+    core: &mut Participant,
+    replica: &mut Replica,
+    message: &Message,
+)
+    requires { StagedByVote core.old.voted replica.old.staged }
+    ensures { StagedByVote core.new.voted replica.new.staged }
+{
+    assert!(rt; core.answer(alloc, replica, message, false).is_err());
+}
+
+/// An Install under a capability of so many instructions that return 64.
+fn install(alloc: Global, cap: u32, count: u16) -> Result<Op, Fail> {
+    let mut code = Vec::new(alloc);
+    for _ in 0..count {
+        code.push(Insn {
+            code: 6,
+            jt: 0,
+            jf: 0,
+            k: 64,
+        })?;
+    }
+    Ok(Op::Install {
+        domain: 1,
+        cap,
+        program: Program::from_vec(code),
+    })
+}
+
+/// The other core answers Prepare, and core 0 hears its vote.
+fn voted(
+    alloc: Global,
+    first: &mut Coordinator,
+    table: &mut Replica,
+    second: &mut Participant,
+    other: &mut Replica,
+    op: Op,
+    short: bool,
+) -> Result<Step, Fail>
+    requires first { StagedByPhase first.old.phase table.old.staged }
+    requires second { StagedByVote second.old.voted other.old.staged }
+    ensures first { StagedByPhase first.new.phase table.new.staged }
+    ensures second { StagedByVote second.new.voted other.new.staged }
+{
+    let message = Message::Prepare {
+        txn: first.last(),
+        op,
+    };
+    match second.answer(alloc, other, &message, short)? {
+        Message::Vote { txn, vote } => Ok(first.vote(table, 1, txn, vote)?),
+        _ => Err(Fail::from("a vote")),
+    }
+}
+
+/// The other core commits or aborts, and core 0 hears that it has.
+fn acknowledged(
+    alloc: Global,
+    first: &mut Coordinator,
+    second: &mut Participant,
+    other: &mut Replica,
+    message: &Message,
+) -> Result<Step, Fail>
+    requires { StagedByVote second.old.voted other.old.staged }
+    ensures second { StagedByVote second.new.voted other.new.staged }
+    ensures first { (staged : Option GhostOp) → StagedByPhase first.old.phase staged → StagedByPhase first.new.phase staged }
+{
+    match second.answer(alloc, other, message, false)? {
+        Message::Ack { txn } => Ok(first.ack(1, txn)?),
+        _ => Err(Fail::from("an acknowledgement")),
+    }
+}
+
+/// Core 0 starts a request and the other core votes on it, so; core 0 then says and decides this, and is idle after the last
+/// acknowledgement.
+fn decides(
+    rt: &impl Abort,
+    alloc: Global,
+    first: &mut Coordinator,
+    table: &mut Replica,
+    second: &mut Participant,
+    other: &mut Replica,
+    op: Op,
+    short: bool,
+    wanted: Step,
+) -> Result<(), Fail>
+    requires first { StagedByPhase first.old.phase table.old.staged }
+    requires second { StagedByVote second.old.voted other.old.staged }
+    ensures first { StagedByPhase first.new.phase table.new.staged }
+    ensures second { StagedByVote second.new.voted other.new.staged }
+{
+    first.start(alloc, table, &op)?;
+    let heard = voted(alloc, first, table, second, other, op, short)?;
+    assert_eq!(rt; heard, wanted);
+    let txn = heard.txn;
+    let outcome = if heard.say == Some(Say::Commit) {
+        Message::Commit { txn }
+    } else {
+        Message::Abort { txn }
+    };
+    let ended = acknowledged(alloc, first, second, other, &outcome)?;
+    assert_eq!(rt; ended, told(txn, None, None));
+    assert!(rt; first.idle());
+    Ok(())
+}
+
+/// The decisions on requests that the other core has room for, and on one that its budget or its memory refuses.
+fn decisions(
+    rt: &impl Abort,
+    alloc: Global,
+    first: &mut Coordinator,
+    table: &mut Replica,
+    second: &mut Participant,
+    other: &mut Replica,
+) -> Result<(), Fail>
+    requires first { StagedByPhase first.old.phase table.old.staged }
+    requires second { StagedByVote second.old.voted other.old.staged }
+{
+    let done = told(1, Some(Say::Commit), Some(committed(1, Made::Cap(1))));
+    decides(
+        rt,
+        alloc,
+        first,
+        table,
+        second,
+        other,
+        create(7),
+        false,
+        done,
+    )?;
+    let over = told(
+        2,
+        Some(Say::Abort),
+        Some(Decision::Refused {
+            core: 1,
+            why: Veto::Budget,
+        }),
+    );
+    decides(
+        rt,
+        alloc,
+        first,
+        table,
+        second,
+        other,
+        install(alloc, 1, 4)?,
+        false,
+        over,
+    )?;
+    let short = told(
+        3,
+        Some(Say::Abort),
+        Some(Decision::Refused {
+            core: 1,
+            why: Veto::NoMemory,
+        }),
+    );
+    decides(
+        rt,
+        alloc,
+        first,
+        table,
+        second,
+        other,
+        install(alloc, 1, 3)?,
+        true,
+        short,
+    )?;
+    let fits = told(4, Some(Say::Commit), Some(committed(2, Made::Filter(1))));
+    decides(
+        rt,
+        alloc,
+        first,
+        table,
+        second,
+        other,
+        install(alloc, 1, 3)?,
+        false,
+        fits,
+    )?;
+    assert_eq!(rt; (table.version(), other.version()), (2, 2));
+    Ok(())
+}
+
+#[test]
+fn a_budget_and_want_of_memory_veto(rt: HostRuntime) -> Result<(), Fail> {
+    let mut table = Replica::new(rt.alloc(), 100)?;
+    let mut other = Replica::new(rt.alloc(), 3)?;
+    let mut first = Coordinator::new(2, 0);
+    let mut second = Participant::new(0);
+    decisions(
+        &rt,
+        rt.alloc(),
+        &mut first,
+        &mut table,
+        &mut second,
+        &mut other,
+    )
 }
