@@ -27,7 +27,7 @@ mod sender;
 
 pub use fault::LineFault;
 pub use joiner::Joiner;
-pub use line::{Line, MESSAGE_MOST};
+pub use line::{Line, MESSAGE_MOST, line_at};
 pub use receiver::Receiver;
 pub use rings::{beside, ring};
 pub use sender::{Busy, Pushed, Sender};

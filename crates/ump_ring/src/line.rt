@@ -50,8 +50,8 @@ fn word_at(bytes: &[u8], at: usize) -> u64
     ])
 }
 
-/// The line of a message at a place, under a number.
-pub(crate) fn line_at(bytes: &[u8], number: u32, place: u32) -> Line
+/// The line at a place of a message of at most 32,832 bytes, under a number. Takes no memory.
+pub fn line_at(bytes: &[u8], number: u32, place: u32) -> Line
     requires place { place < 1000 }
     requires length { length bytes.now ≤ MESSAGE_MOST }
     ensures { result ≡ spec.line_at (length bytes.now) bytes.now number place }
