@@ -15,7 +15,7 @@ bpf_insn:
 filter_verify: bpf_insn
 filter_vm: bpf_insn filter_verify
 endpoint_caps: indexmap
-table_replica: bpf_insn endpoint_caps filter_verify filter_vm
+table_replica: bpf_insn endpoint_caps filter_verify filter_vm indexmap
 table_bench staticlib: bpf_insn filter_verify filter_vm endpoint_caps table_replica
 LIST
 build_library "$work" table_bench

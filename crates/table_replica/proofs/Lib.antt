@@ -2,6 +2,7 @@ pub mod Tables
 pub mod Lists
 pub mod Changes
 pub mod Shared
+pub mod SamePrograms
 pub mod Chains
 pub mod Moves
 pub mod Places

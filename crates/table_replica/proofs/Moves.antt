@@ -1,5 +1,5 @@
 -- Filters that are built again, with the programs that they have.
-use Rattle.std.proofs.Common.{◌≡◌, ◌≢◌, ◌<◌, ◌≤◌, ◌+◌, ◌==◌, ◌⊎◌, inl, inr, ℕ, zero, suc, Bool, true, false, not, Some, List, [], ◌∷◌, ◌++◌, filter, map, take, length, slice_get, get_or, set, refl, ap, sym, ◌∙◌, subst, arith, length-append}
+use Rattle.std.proofs.Common.{◌≡◌, ◌≢◌, ◌<◌, ◌≤◌, ◌+◌, ◌==◌, ◌⊎◌, inl, inr, ℕ, zero, suc, Bool, true, false, not, Option, None, Some, List, [], ◌∷◌, ◌++◌, filter, map, take, length, slice_get, get_or, set, refl, ap, sym, ◌∙◌, subst, arith, length-append}
 use Rattle.std.proofs.lemmas.Bool.Decides.{nat_tests}
 use Rattle.std.proofs.lemmas.List.{get_or-set_same, get_or-set_other}
 use Rattle.std.specs.Prelude.{Result, Ok, Err, IfOk}
@@ -8,7 +8,8 @@ use Rattle.bpf_insn.specs.declared.insn.Insn.{Insn}
 use Rattle.table_replica.specs.Listed.{ListedFilter}
 use Rattle.table_replica.specs.declared.filters.Row.{Row}
 use Rattle.table_replica.specs.declared.filters.Rebuilding.{Rebuilding}
-use Rattle.table_replica.specs.Keeping.{listed_row, ArePlaced, AreDistinct, Keeps, there, added, placed_row, AreMoved, MovesTo, before, now, IsKept, IsRebuilt, with_last, after_last}
+use Rattle.table_replica.specs.Distinct.{AreDistinct}
+use Rattle.table_replica.specs.Keeping.{sources, listed_row, ArePlaced, Keeps, there, added, placed_row, AreMoved, MovesTo, before, now, IsKept, IsRebuilt, with_last, after_last}
 use Rattle.table_replica.specs.Lent.{IsIn}
 use Rattle.table_replica.specs.Tables.{instructions_of, replaced}
 use Rattle.table_replica.proofs.Lists.{fits_at, take_at, map-append'}
@@ -81,16 +82,16 @@ module _ (from programs : List (List Insn)) (moved : List ℕ) (old : ℕ) (prog
   same_some : (a b : List Insn) → Some a ≡ Some b → a ≡ b
   same_some a b e = cc
 
+  pub not_moved : get_or moved old 0 ≡ 0 → IsIn programs program → ⊥
+  not_moved none has =
+      let source = h.back has.0 program has.1 in
+      let here : source.0 ≡ old = distinct source.0 old program source.2 at in
+      let number = ap (λ (p : ℕ). get_or moved p 0) here in
+      omega (arith, source.1, none, number)
+
   pub moves_keep : (after : List (List Insn)) (moved' : List ℕ) (place : ℕ) → MovesTo programs moved old program after moved' place → Keeps programs program after place
   moves_keep after moved' place (before is same same') = there same (h.to old place program is at)
-  moves_keep after moved' place (now none is same same') = added same is fresh
-    where
-      fresh : IsIn programs program → ⊥
-      fresh has =
-          let source = h.back has.0 program has.1 in
-          let here : source.0 ≡ old = distinct source.0 old program source.2 at in
-          let number = ap (λ (p : ℕ). get_or moved p 0) here in
-          omega (arith, source.1, none, number)
+  moves_keep after moved' place (now none is same same') = added same is (not_moved none)
 
   pub moves_on : (after : List (List Insn)) (moved' : List ℕ) (place : ℕ) → MovesTo programs moved old program after moved' place → AreMoved from after moved'
   moves_on after moved' place (before is same same') = subst (λ (ps : List (List Insn)). AreMoved from ps moved') (sym same) (subst (AreMoved from programs) (sym same') h)
@@ -146,21 +147,25 @@ built_fits from programs rows done i total row program at source sum same =
 
 pub one_built : (from : List (List Insn)) (rows : List Row) (i place : ℕ) (row : Row) (program : List Insn) (built built' : Rebuilding) (lasts1 : List ℕ)
     → AreDistinct from → slice_get rows i ≡ Some row → slice_get from row.program ≡ Some program → IsRebuilt from (take i rows) built
-    → MovesTo built.programs.items built.moved.items row.program program built'.programs.items built'.moved.items place → lasts1 ≡ with_last built.lasts.items place
+    → MovesTo built.programs built.moved.items row.program program built'.programs built'.moved.items place → lasts1 ≡ with_last built.lasts.items place
     → built'.rows.items ≡ built.rows.items ++ after_last (record row { program = place }) lasts1 ∷ [] → built'.lasts.items ≡ set lasts1 place (length built.rows.items + 1)
     → built'.instructions ≡ built.instructions + length program → IsRebuilt from (take (i + 1) rows) built'
 one_built from rows i place row program built built' lasts1 distinct at source h moves placed pushed written counted = record {
-  kept = kept_after built.rows.items built.programs.items built.lasts.items built.instructions program built'.programs.items (record row { program = place }) h.kept keeps
+  kept = kept_after built.rows.items built.programs built.lasts.items built.instructions program built'.programs (record row { program = place }) h.kept keeps
       lasts1 built'.rows.items placed pushed built'.lasts.items built'.instructions written counted;
-  moved = moves_on from built.programs.items built.moved.items row.program program distinct h.moved source built'.programs.items built'.moved.items place moves;
-  same = view_after built.rows.items built.programs.items built.lasts.items built.instructions program built'.programs.items (record row { program = place }) h.kept keeps
+  moved = moves_on from built.programs built.moved.items row.program program distinct h.moved source built'.programs built'.moved.items place moves;
+  same = view_after built.rows.items built.programs built.lasts.items built.instructions program built'.programs (record row { program = place }) h.kept keeps
       lasts1 built'.rows.items placed pushed
       ∙ (ap (λ (fs : List ListedFilter). fs ++ record { id = row.id; owner = row.owner; cap = row.cap; endpoint = row.endpoint; program = program } ∷ []) h.same
       ∙ (rw source refl ∙ sym (ap (map (listed_row from)) (take_at rows i row at) ∙ map-append' (listed_row from) (take i rows) (row ∷ []))));
 }
   where
-    keeps : Keeps built.programs.items program built'.programs.items place
-    keeps = moves_keep from built.programs.items built.moved.items row.program program distinct h.moved source built'.programs.items built'.moved.items place moves
+    keeps : Keeps built.programs program built'.programs place
+    keeps = moves_keep from built.programs built.moved.items row.program program distinct h.moved source built'.programs built'.moved.items place moves
+
+pub sources_few : (programs : List (List Insn)) (new : Option (List Insn)) → length (sources programs new) ≤ length programs + 1
+sources_few programs None = omega arith
+sources_few programs (Some program) = omega (arith, length-append programs (program ∷ []))
 
 -- The rows that are left, or replaced, as lists of their own
 

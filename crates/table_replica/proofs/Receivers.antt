@@ -13,7 +13,6 @@ use Rattle.table_replica.specs.Receiving.{at_endpoint, raised, handed, handed_ba
 use Rattle.table_replica.specs.declared.filters.Row.{Row}
 use Rattle.table_replica.specs.Keeping.{listed_row, or_nothing, IsLast, IsChained}
 use Rattle.table_replica.proofs.Lists.{drop_at}
-use Rattle.table_replica.proofs.Shared.{get_is}
 use Rattle.std.specs.List.Sorted.{IsSearchInRange, IsBinarySearchResult, IsNonDecreasingBy}
 use Rattle.std.specs.Ordering.{nat_cmp, ordering_index}
 use Rattle.std.proofs.lemmas.Cmp.{ranked}
@@ -699,10 +698,10 @@ module _ (caps : List Cap) (packet : Packet) (programs : List (List Insn)) where
       subst (λ (rs : List Row). AreReceivers caps (shown rs) packet kept) (ap (λ (m : ℕ). filter (λ row. ltb row.program m) rows) is ∙ all_placed rows (length programs) placed) so_far.are
 
 -- the verdict that a run gives is that of the program at its place
-pub run_verdict : (programs : List (List Insn)) (place : ℕ) (program : List Insn) (packet : Packet) (verdict steps : ℕ) → place < length programs → program ≡ get_or programs place program
+pub run_verdict : (programs : List (List Insn)) (place : ℕ) (program : List Insn) (packet : Packet) (verdict steps : ℕ) → slice_get programs place ≡ Some program
     → Ends program packet verdict steps → ((v s : ℕ) → Ends program packet v s → (v ≡ verdict) × (s ≡ steps)) → VerdictAt programs place packet verdict
-run_verdict programs place program packet verdict steps inside is ends only other at =
-    let same : program ≡ other = by_some (sym (get_is programs place program inside is) ∙ at) in
+run_verdict programs place program packet verdict steps is ends only other at =
+    let same : program ≡ other = by_some (sym is ∙ at) in
     subst (λ (p : List Insn). IsVerdict p packet verdict) same (record { steps = steps; ends = ends; only = λ v s e. (only v s e).0 })
   where
     by_some : Some program ≡ Some other → program ≡ other

@@ -8,7 +8,7 @@ use Rattle.filter_verify.specs.Rules.{Sound}
 use Rattle.endpoint_caps.specs.declared.Cap.{Cap}
 use Rattle.endpoint_caps.specs.declared.Rights.{Rights}
 use Rattle.endpoint_caps.specs.declared.Right.TheVariants.{Receive}
-use Rattle.endpoint_caps.specs.Capabilities.{CapTable, IdsBetween, ParentsHeld, cap_at, has_right, is_under, is_some_and, child_of, first}
+use Rattle.endpoint_caps.specs.Capabilities.{CapTable, IdsBetween, ParentsHeld, cap_at, has_right, is_under, is_some_and, child_of}
 use Rattle.endpoint_caps.specs.Keeping.{entries_of, caps_of, IsKept}
 use Rattle.endpoint_caps.proofs.Keeping.{caps-entries, entries-append, at-append, at-filter, between-filter, none-after, parents-filter, kept-push, stays_above}
 use Rattle.table_replica.specs.Listed.{ListedFilter}

@@ -5,6 +5,7 @@ use Rattle.bpf_insn.specs.declared.insn.Insn.{Insn}
 use Rattle.table_replica.specs.Listed.{ListedFilter}
 use Rattle.table_replica.specs.declared.filters.Row.{Row}
 use Rattle.table_replica.specs.declared.filters.Rebuilding.{Rebuilding}
+use Rattle.table_replica.specs.Distinct.{AreDistinct}
 use Rattle.table_replica.specs.Lent.{IsIn}
 use Rattle.table_replica.specs.Tables.{instructions_of}
 
@@ -18,10 +19,6 @@ listed_row programs row = record { id = row.id; owner = row.owner; cap = row.cap
 -- the programs of the rows have places below a number
 abbrev pub ArePlaced : List Row → ℕ → Type 0
 ArePlaced rows places = (k : ℕ) (row : Row) → slice_get rows k ≡ Some row → row.program < places
-
--- no program comes twice
-abbrev pub AreDistinct : List (List Insn) → Type 0
-AreDistinct programs = (i j : ℕ) (program : List Insn) → slice_get programs i ≡ Some program → slice_get programs j ≡ Some program → i ≡ j
 
 pub record IsShared (rows : List Row) (programs : List (List Insn)) (instructions : ℕ) : Type 0 where
   pub total : instructions ≡ instructions_of (map (listed_row programs) rows)
@@ -82,6 +79,6 @@ pub data MovesTo (programs : List (List Insn)) (moved : List ℕ) (old : ℕ) (p
 
 -- what has been built shows these rows, and is kept as it should be
 pub record IsRebuilt (from : List (List Insn)) (rows : List Row) (built : Rebuilding) : Type 0 where
-  pub kept : IsKept built.rows.items built.programs.items built.lasts.items built.instructions
-  pub moved : AreMoved from built.programs.items built.moved.items
-  pub same : map (listed_row built.programs.items) built.rows.items ≡ map (listed_row from) rows
+  pub kept : IsKept built.rows.items built.programs built.lasts.items built.instructions
+  pub moved : AreMoved from built.programs built.moved.items
+  pub same : map (listed_row built.programs) built.rows.items ≡ map (listed_row from) rows

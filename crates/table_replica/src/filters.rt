@@ -1,12 +1,13 @@
 //! The filters of a table.
 ghost use Rattle.std.specs.Prelude.{◌≡◌, ◌==◌, ◌+◌, ◌<◌, ◌≤◌, ◌++◌, ℕ, [], ◌∷◌, length, filter, not, Some, slice_get, IfOk};
-ghost use Rattle.table_replica.specs.Keeping.{Keeps, ArePlaced, AreDistinct, IsChained, MovesTo, IsRebuilt, sources, placed_row, with_last, after_last};
-ghost use Rattle.std.specs.Prelude.{List, take, slice_set};
+ghost use Rattle.table_replica.specs.Distinct.{AreDistinct};
+ghost use Rattle.table_replica.specs.Keeping.{Keeps, ArePlaced, IsChained, MovesTo, IsRebuilt, sources, placed_row, with_last, after_last};
+ghost use Rattle.std.specs.Prelude.{List, take, slice_set, slice_index_or};
 ghost use Rattle.std.specs.Option.{option_copied};
 ghost use Rattle.bpf_insn.specs.declared.insn.Insn.{Insn as GhostInsn};
 ghost use Rattle.table_replica.specs.Lent.{shown_filter, IsIn, AreDifferent};
 ghost use Rattle.table_replica.specs.Tables.{instructions_of, replaced, filter_at};
-ghost use Rattle.std.specs.Prelude.{leb, MatchOption, IsTrue, ◌↔◌};
+ghost use Rattle.std.specs.Prelude.{leb};
 ghost use Rattle.std.specs.Iterator.{YieldsFirstBy, item_count};
 ghost use Rattle.std.specs.Prelude.{map, min, cond, OnOk, MatchResult};
 ghost use Rattle.std.specs.Option.{option_map};
@@ -15,6 +16,7 @@ ghost use Rattle.table_replica.specs.Tables.{AreReceivers, IsIncreasing};
 ghost use Rattle.table_replica.specs.Receiving.{raised, handed, handed_back, IsAt, IsGap};
 
 use crate::Kept;
+use crate::programs::{Programs, Shared};
 use bpf_insn::Insn;
 use endpoint_caps::Caps;
 use filter_verify::Verified;
@@ -53,7 +55,7 @@ struct Row {
 #[derive(Drop)]
 pub(crate) struct Filters {
     rows: Vec<Row>,
-    programs: Vec<Verified>,
+    programs: Programs,
     /// Of each program the last row that has it, counted from 1.
     lasts: Vec<usize>,
     instructions: u32,
@@ -66,9 +68,9 @@ impl Model for Filters {
 
     ghost Value = { List ListedFilter };
 
-    ghost view = { λ a. map (listed_row a.programs.items) a.rows.items };
+    ghost view = { λ a. map (listed_row a.programs) a.rows.items };
 
-    ghost invariant = { λ a. IsKept a.rows.items a.programs.items a.lasts.items a.instructions };
+    ghost invariant = { λ a. IsKept a.rows.items a.programs a.lasts.items a.instructions };
 }
 
 impl Filters {
@@ -78,7 +80,7 @@ impl Filters {
     {
         Filters {
             rows: Vec::new(alloc),
-            programs: Vec::new(alloc),
+            programs: Programs::new(alloc),
             lasts: Vec::new(alloc),
             instructions: 0,
         }
@@ -109,7 +111,7 @@ impl Filters {
             owner: row.owner,
             cap: row.cap,
             endpoint: row.endpoint,
-            program: &self.programs[row.program],
+            program: self.programs.at(row.program).verified(),
         }
     }
 
@@ -211,7 +213,7 @@ impl Filters {
     {
         let instructions = self.instructions;
         let rows = Vec::from_slice(alloc, self.rows.as_slice())?;
-        let programs = copies(alloc, self.programs.as_slice())?;
+        let programs = self.programs.copy(alloc)?;
         let lasts = Vec::from_slice(alloc, self.lasts.as_slice())?;
         Ok(Filters {
             rows,
@@ -250,7 +252,15 @@ impl Filters {
         requires { instructions_of (replaced self.now id program.now) < 4294967296 }
         ensures { IfOk result (λ filters. filters ≡ replaced self.now id program.now) }
     {
-        match place_of(&self.programs, program) {
+        let program = Shared::new(alloc, program.copy(alloc)?)?;
+        self.sharing(alloc, id, &program)
+    }
+
+    fn sharing(&self, alloc: Global, id: u32, program: &Shared) -> Result<Filters, AllocError>
+        requires { instructions_of (replaced self.now id program.now) < 4294967296 }
+        ensures { IfOk result (λ filters. filters ≡ replaced self.now id program.now) }
+    {
+        match self.programs.place_of(program) {
             Some(place) => {
                 let rows = rows_with(alloc, &self.rows, id, place)?;
                 rebuilt(alloc, &rows, &self.programs, None)
@@ -296,17 +306,6 @@ impl<'a> Iterator for FilterIter<'a> {
     }
 }
 
-/// Equal programs.
-fn copies(alloc: Global, programs: &[Verified]) -> Result<Vec<Verified>, AllocError>
-    ensures { IfOk result (λ copies. copies.items ≡ programs.now) }
-{
-    let mut copies = Vec::with_capacity(alloc, programs.len())?;
-    for program in programs {
-        copies.push(program.copy(alloc)?)?;
-    }
-    Ok(copies)
-}
-
 /// The rows but those of one filter.
 fn rows_without(alloc: Global, rows: &[Row], id: u32) -> Result<Vec<Row>, AllocError>
     ensures { IfOk result (λ left. left.items ≡ filter (λ row. not (row.id == id)) rows.now) }
@@ -349,7 +348,7 @@ fn row_with(row: Row, id: u32, place: usize) -> Row
 #[derive(Drop)]
 struct Rebuilding {
     rows: Vec<Row>,
-    programs: Vec<Verified>,
+    programs: Programs,
     lasts: Vec<usize>,
     instructions: u32,
     /// Of each old place the new one, counted from 1; 0 where no row so far has the program.
@@ -361,8 +360,8 @@ struct Rebuilding {
 fn rebuilt(
     alloc: Global,
     rows: &[Row],
-    programs: &[Verified],
-    new: Option<&Verified>,
+    programs: &Programs,
+    new: Option<&Shared>,
 ) -> Result<Filters, AllocError>
     requires distinct { AreDistinct (sources programs.now (option_copied new)) }
     requires placed { ArePlaced rows.now (length (sources programs.now (option_copied new))) }
@@ -394,7 +393,7 @@ fn nothing_built(alloc: Global, rows: usize, places: usize) -> Result<Rebuilding
 {
     Ok(Rebuilding {
         rows: Vec::with_capacity(alloc, rows)?,
-        programs: Vec::new(alloc),
+        programs: Programs::new(alloc),
         lasts: Vec::new(alloc),
         instructions: 0,
         moved: vec![in alloc; 0; places]?,
@@ -407,8 +406,8 @@ fn with_moved(
     built: Rebuilding,
     rows: &[Row],
     index: usize,
-    old: &[Verified],
-    new: Option<&Verified>,
+    old: &Programs,
+    new: Option<&Shared>,
 ) -> Result<Rebuilding, AllocError>
     requires index { index < length rows.now }
     requires built { IsRebuilt (sources old.now (option_copied new)) (take index rows.now) built }
@@ -426,8 +425,8 @@ fn with_moved(
     } = built;
     let row = rows[index];
     let program = source(old, new, row.program);
-    let (programs, moved, place) = move_to(alloc, programs, moved, row.program, program)?;
-    let instructions = instructions + program.code().len() as u32;
+    let (programs, moved, place) = move_to(programs, moved, row.program, program)?;
+    let instructions = instructions + program.verified().code().len() as u32;
     let lasts = with_place(lasts, place)?;
     let (rows, lasts) = with_row(
         done,
@@ -447,12 +446,12 @@ fn with_moved(
 }
 
 /// The program at a place.
-fn source<'a>(programs: &'a [Verified], new: Option<&'a Verified>, place: usize) -> &'a Verified
+fn source<'a>(programs: &'a Programs, new: Option<&'a Shared>, place: usize) -> &'a Shared
     requires { place < length (sources programs.now (option_copied new)) }
     ensures { slice_get (sources programs.now (option_copied new.entry)) place ≡ Some result.now }
 {
     if place < programs.len() {
-        return &programs[place];
+        return programs.at(place);
     }
     match new {
         Some(program) => program,
@@ -460,23 +459,23 @@ fn source<'a>(programs: &'a [Verified], new: Option<&'a Verified>, place: usize)
     }
 }
 
-/// The new place of a program, which is copied where it has none yet.
+/// The new place of a program, which goes last where it has none yet.
 fn move_to(
-    alloc: Global,
-    mut programs: Vec<Verified>,
+    mut programs: Programs,
     mut moved: Vec<usize>,
     old: usize,
-    program: &Verified,
-) -> Result<(Vec<Verified>, Vec<usize>, usize), AllocError>
-    requires { old < length moved.items }
-    ensures { IfOk result (λ r. MovesTo programs.items moved.items old program.now r.0.items r.1.items r.2) }
+    program: &Shared,
+) -> Result<(Programs, Vec<usize>, usize), AllocError>
+    requires old { old < length moved.items }
+    requires new { slice_index_or moved.items old 0 ≡ 0 → IsIn programs program.now → ⊥ }
+    ensures { IfOk result (λ r. MovesTo programs moved.items old program.now r.0 r.1.items r.2) }
 {
     if moved[old] > 0 {
         let place = moved[old] - 1;
         return Ok((programs, moved, place));
     }
     let place = programs.len();
-    programs.push(program.copy(alloc)?)?;
+    programs.push(program.share()?)?;
     moved[old] = programs.len();
     Ok((programs, moved, place))
 }
@@ -513,7 +512,7 @@ fn with_row(
 fn receivers(
     alloc: Global,
     rows: &[Row],
-    programs: &[Verified],
+    programs: &Programs,
     lasts: &[usize],
     caps: &Caps,
     bytes: &[u8],
@@ -526,7 +525,7 @@ fn receivers(
 {
     let mut kept = Vec::new(alloc);
     for place in 0..programs.len() {
-        let verdict = run(&programs[place], bytes, original).verdict;
+        let verdict = run(programs.at(place).verified(), bytes, original).verdict;
         hand_on(&mut kept, caps, rows, lasts, place, verdict, bytes.len())?;
     }
     Ok(kept)
@@ -607,36 +606,18 @@ fn search(kept: &[Kept], endpoint: u16) -> Result<usize, usize>
 /// The place of a program among those that are kept, and these with it.
 fn keep(
     alloc: Global,
-    mut programs: Vec<Verified>,
+    mut programs: Programs,
     program: &Verified,
-) -> Result<(Vec<Verified>, usize), AllocError>
-    ensures { IfOk result (λ kept. Keeps programs.items program.now kept.0.items kept.1) }
+) -> Result<(Programs, usize), AllocError>
+    ensures { IfOk result (λ kept. Keeps programs program.now kept.0 kept.1) }
 {
-    match place_of(&programs, program) {
+    let program = Shared::new(alloc, program.copy(alloc)?)?;
+    match programs.place_of(&program) {
         Some(place) => Ok((programs, place)),
         None => {
             let place = programs.len();
-            programs.push(program.copy(alloc)?)?;
+            programs.push(program)?;
             Ok((programs, place))
         }
     }
-}
-
-/// The place of a program.
-fn place_of(programs: &[Verified], program: &Verified) -> Option<usize>
-    ensures { MatchOption result (IsIn programs.now program.now → ⊥) (λ place. slice_get programs.now place ≡ Some program.now) }
-{
-    for (place, kept) in programs.iter().enumerate() {
-        if same_code(kept.code(), program.code()) {
-            return Some(place);
-        }
-    }
-    None
-}
-
-/// Whether two programs have equal instructions.
-fn same_code(code: &[Insn], other: &[Insn]) -> bool
-    ensures { IsTrue result ↔ (code.now ≡ other.now) }
-{
-    code == other
 }

@@ -9,6 +9,7 @@ ghost use Rattle.std.specs.Prelude.{◌≡◌, IfOk};
 mod contents;
 mod filters;
 mod program;
+mod programs;
 mod replica;
 #[cfg(test)]
 mod tests;

@@ -1,4 +1,5 @@
-use Rattle.std.proofs.Common.{arith}
+use Rattle.std.proofs.Common.{arith, ap, sym, ◌∙◌, Some, List}
+use Rattle.bpf_insn.specs.declared.insn.Insn.{Insn}
 use Rattle.table_replica.proofs.Receivers.{none_done, place_done, all_done, run_verdict}
 use Rattle.table_replica.proofs.filters.receivers.Goals as goal
 
@@ -11,9 +12,9 @@ hand_on-requires c = record { place = omega (arith, c.loop-place-test.true, c.re
 pub loop-place-preserved : goal.loop-place-preserved
 loop-place-preserved c =
     place_done c.args.caps.now.held (record { bytes = c.args.bytes.now; original = c.args.original }) c.args.programs.now c.args.rows.now
-    c.loop-place.place c.run-verdict.result.verdict c.loop-place.kept.items _ c.loop-place-test.true
-    (run_verdict c.args.programs.now c.loop-place.place c.index-programs-place.result (record { bytes = c.args.bytes.now; original = c.args.original })
-    c.run-verdict.result.verdict c.run-verdict.result.steps c.loop-place-test.true c.index-programs-place.is c.run-verdict.ensures.ends c.run-verdict.ensures.only)
+    c.loop-place.place c.run-verdict.result.verdict c.loop-place.kept.items _ (omega (arith, c.loop-place-test.true, c.len-place-end.ensures.count))
+    (run_verdict c.args.programs.now c.loop-place.place c.verified.result.now (record { bytes = c.args.bytes.now; original = c.args.original })
+    c.run-verdict.result.verdict c.run-verdict.result.steps (c.at.ensures ∙ ap (λ (p : List Insn). Some p) (sym c.verified.ensures)) c.run-verdict.ensures.ends c.run-verdict.ensures.only)
     c.loop-place.invariant c.in_ok-hand_on.ensures
 
 pub returns : goal.returns

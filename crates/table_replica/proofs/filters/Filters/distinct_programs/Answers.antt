@@ -1,4 +1,4 @@
-use Rattle.std.proofs.Common.{ℕ, sym, subst, List, ◌∙◌, map}
+use Rattle.std.proofs.Common.{ℕ, sym, subst, List, map}
 use Rattle.table_replica.specs.Listed.{ListedFilter}
 use Rattle.table_replica.specs.Keeping.{listed_row}
 use Rattle.table_replica.specs.Lent.{AreDifferent}
@@ -8,5 +8,5 @@ use Rattle.table_replica.proofs.filters.Filters.distinct_programs.Goals as goal
 pub returns : goal.returns
 returns c =
     subst (λ (fs : List ListedFilter). AreDifferent fs c.len.result) c.self.view_is
-    (subst (λ (n : ℕ). AreDifferent (map (listed_row c.self.inside.programs.items) c.self.inside.rows.items) n) (sym (c.len.ensures ∙ c.self.inside.programs.ok.0))
-    (different c.self.inside.rows.items c.self.inside.programs.items c.self.inside.instructions c.self.invariant.shared))
+    (subst (λ (n : ℕ). AreDifferent (map (listed_row c.self.inside.programs) c.self.inside.rows.items) n) (sym c.len.ensures.count)
+    (different c.self.inside.rows.items c.self.inside.programs c.self.inside.instructions c.self.invariant.shared))

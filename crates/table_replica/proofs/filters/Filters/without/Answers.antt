@@ -1,4 +1,4 @@
-use Rattle.std.proofs.Common.{◌==◌, ◌∙◌, ap, filter, not, arith}
+use Rattle.std.proofs.Common.{refl, ◌==◌, ◌∙◌, ap, filter, not, arith}
 use Rattle.table_replica.specs.Listed.{ListedFilter}
 use Rattle.table_replica.specs.declared.filters.Row.{Row}
 use Rattle.table_replica.specs.Tables.{instructions_of}
@@ -7,12 +7,12 @@ use Rattle.table_replica.proofs.filters.Filters.without.Goals as goal
 
 pub rebuilt-requires-clause-placed : goal.rebuilt-requires-clause-placed
 rebuilt-requires-clause-placed c =
-    without_placed c.self.inside.rows.items c.self.inside.programs.items c.self.inside.lasts.items c.self.inside.instructions c.self.invariant c.args.id c.deref-2.result.now c.deref-3.result.now c.deref-3.ensures.value
+    without_placed c.self.inside.rows.items c.self.inside.programs c.self.inside.lasts.items c.self.inside.instructions c.self.invariant c.args.id c.deref-2.result.now c.self.inside.programs refl
     (c.deref-2.ensures.value ∙ (c.in_ok-rows.ensures ∙ ap (filter (λ (row : Row). not (row.id == c.args.id))) c.deref.ensures.value))
 
 pub rebuilt-requires-clause-fits : goal.rebuilt-requires-clause-fits
 rebuilt-requires-clause-fits c =
-    let less = without_fits c.self.inside.rows.items c.self.inside.programs.items c.self.inside.lasts.items c.self.inside.instructions c.self.invariant c.args.id c.deref-2.result.now c.deref-3.result.now c.deref-3.ensures.value
+    let less = without_fits c.self.inside.rows.items c.self.inside.programs c.self.inside.lasts.items c.self.inside.instructions c.self.invariant c.args.id c.deref-2.result.now c.self.inside.programs refl
     (c.deref-2.ensures.value ∙ (c.in_ok-rows.ensures ∙ ap (filter (λ (row : Row). not (row.id == c.args.id))) c.deref.ensures.value)) in
     let same = ap instructions_of c.self.view_is in
     omega (arith, less, same, c.instructions-total.ensures)
@@ -20,7 +20,7 @@ rebuilt-requires-clause-fits c =
 pub returns : goal.returns
 returns c =
     shows_ok c.rebuilt.result _ _
-    (without_shows c.self.inside.rows.items c.self.inside.programs.items c.self.inside.lasts.items c.self.inside.instructions c.self.invariant c.args.id c.deref-2.result.now c.deref-3.result.now c.deref-3.ensures.value
+    (without_shows c.self.inside.rows.items c.self.inside.programs c.self.inside.lasts.items c.self.inside.instructions c.self.invariant c.args.id c.deref-2.result.now c.self.inside.programs refl
     (c.deref-2.ensures.value ∙ (c.in_ok-rows.ensures ∙ ap (filter (λ (row : Row). not (row.id == c.args.id))) c.deref.ensures.value))
     ∙ ap (filter (λ (f : ListedFilter). not (f.id == c.args.id))) c.self.view_is)
     c.rebuilt.ensures
