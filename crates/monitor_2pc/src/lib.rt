@@ -18,6 +18,8 @@
 
 mod coordinator;
 mod participant;
+#[cfg(test)]
+mod rounds;
 mod step;
 mod tally;
 #[cfg(test)]
