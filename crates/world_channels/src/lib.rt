@@ -1,0 +1,10 @@
+//! Channels that carry messages from one core to another: what a channel is, by law, and the two kinds there are.
+#![tactic(auto)]
+
+mod channel;
+mod lines;
+#[cfg(test)]
+mod tests;
+
+pub use channel::{Channel, Messages};
+pub use lines::{Lines, MessageLines};

@@ -1,0 +1,178 @@
+//! Messages through channels of both kinds.
+
+ghost use Rattle.std.specs.Prelude.{◌≡◌, ◌≤◌, ℕ, vec_len, length, Some, IfOk, IfSome};
+
+use crate::{Channel, Lines, Messages};
+use bpf_insn::Insn;
+use monitor_messages::{Decision, Message, Veto, Vote};
+use std::alloc::{AllocError, Global};
+use std::process::Abort;
+use std::test::Fail;
+use table_replica::{Made, Op, OpFault, Program};
+
+fn program(alloc: Global, count: usize) -> Result<Program, AllocError>
+    ensures { IfOk result (λ program. length program ≡ count) }
+{
+    let mut code = Vec::with_capacity(alloc, count)?;
+    for k in 0..count {
+        code.push(Insn {
+            code: 6,
+            jt: 0,
+            jf: 0,
+            k: (k % 1000) as u32,
+        })?;
+    }
+    Ok(Program::from_vec(code))
+}
+
+fn in_order<C: Channel>(rt: &impl Abort, alloc: Global) -> Result<(), Fail> {
+    let mut channel = C::new(alloc)?;
+    assert!(rt; channel.first()?.is_none());
+    channel.drop_first();
+    assert!(rt; channel.first()?.is_none());
+    let prepare = Message::Prepare {
+        txn: 1,
+        op: Op::Create {
+            domain: 1,
+            endpoint: 7,
+        },
+    };
+    let piece = channel.prepare(&prepare)?;
+    channel.put(piece);
+    let decision = Decision::Committed {
+        version: 1,
+        made: Made::Cap(1),
+    };
+    let piece = channel.prepare(&Message::Reply { decision })?;
+    channel.put(piece);
+    let piece = channel.prepare(&Message::Commit { txn: 2 })?;
+    channel.put(piece);
+    assert!(rt;
+        matches!(
+            channel.first()?,
+            Some(Message::Prepare {
+                txn: 1,
+                op: Op::Create {
+                    domain: 1,
+                    endpoint: 7
+                }
+            })
+        )
+    );
+    channel.drop_first();
+    let Some(Message::Reply { decision: read }) = channel.first()? else {
+        rt.abort()
+    };
+    assert_eq!(rt; read, decision);
+    channel.drop_first();
+    assert!(rt; matches!(channel.first()?, Some(Message::Commit { txn: 2 })));
+    channel.drop_first();
+    assert!(rt; channel.first()?.is_none());
+    Ok(())
+}
+
+fn one_of_three<C: Channel>(rt: &impl Abort, alloc: Global) -> Result<(), Fail> {
+    let mut channel = C::new(alloc)?;
+    let _yes = channel.prepare(&Message::Vote {
+        txn: 5,
+        vote: Vote::Yes,
+    })?;
+    let budget = channel.prepare(&Message::Vote {
+        txn: 5,
+        vote: Vote::Budget,
+    })?;
+    let _memory = channel.prepare(&Message::Vote {
+        txn: 5,
+        vote: Vote::NoMemory,
+    })?;
+    channel.put(budget);
+    let vote = Vote::Budget;
+    let Some(Message::Vote { txn, vote: read }) = channel.first()? else {
+        rt.abort()
+    };
+    assert_eq!(rt; txn, 5);
+    assert_eq!(rt; read, vote);
+    channel.drop_first();
+    assert!(rt; channel.first()?.is_none());
+    Ok(())
+}
+
+fn refusals<C: Channel>(rt: &impl Abort, alloc: Global) -> Result<(), Fail> {
+    let mut channel = C::new(alloc)?;
+    let why = Veto::Rule(OpFault::BadProgram { rule: 10, pc: 4095 });
+    let decision = Decision::Refused { core: 0, why };
+    let piece = channel.prepare(&Message::Reply { decision })?;
+    channel.put(piece);
+    let Some(Message::Reply { decision: read }) = channel.first()? else {
+        rt.abort()
+    };
+    assert_eq!(rt; read, decision);
+    Ok(())
+}
+
+fn longest<C: Channel>(rt: &impl Abort, alloc: Global) -> Result<(), Fail> {
+    let mut channel = C::new(alloc)?;
+    for txn in 1..4 {
+        let op = Op::Install {
+            domain: 1,
+            cap: 2,
+            program: program(alloc, 4096)?,
+        };
+        let piece = channel.prepare(&Message::Prepare { txn, op })?;
+        channel.put(piece);
+        let piece = channel.prepare(&Message::Abort { txn })?;
+        channel.put(piece);
+    }
+    for wanted in 1..4 {
+        let Some(
+            Message::Prepare {
+                txn,
+                op: Op::Install {
+                    domain,
+                    cap,
+                    program,
+                },
+            },
+        ) = channel.first()?
+        else {
+            rt.abort()
+        };
+        assert_eq!(rt; (txn, domain, cap), (wanted, 1, 2));
+        assert_eq!(rt; program.as_slice().len(), 4096);
+        for (k, insn) in program.as_slice().iter().enumerate() {
+            assert_eq!(rt; insn.k as usize, k % 1000);
+        }
+        channel.drop_first();
+        let Some(Message::Abort { txn }) = channel.first()? else {
+            rt.abort()
+        };
+        assert_eq!(rt; txn, wanted);
+        channel.drop_first();
+    }
+    assert!(rt; channel.first()?.is_none());
+    Ok(())
+}
+
+#[test]
+fn messages_in_order(rt: HostRuntime) -> Result<(), Fail> {
+    in_order::<Messages>(&rt, rt.alloc())?;
+    in_order::<Lines>(&rt, rt.alloc())
+}
+
+#[test]
+fn one_piece_of_three(rt: HostRuntime) -> Result<(), Fail> {
+    one_of_three::<Messages>(&rt, rt.alloc())?;
+    one_of_three::<Lines>(&rt, rt.alloc())
+}
+
+#[test]
+fn a_refused_program(rt: HostRuntime) -> Result<(), Fail> {
+    refusals::<Messages>(&rt, rt.alloc())?;
+    refusals::<Lines>(&rt, rt.alloc())
+}
+
+#[test]
+fn the_longest_messages(rt: HostRuntime) -> Result<(), Fail> {
+    longest::<Messages>(&rt, rt.alloc())?;
+    longest::<Lines>(&rt, rt.alloc())
+}

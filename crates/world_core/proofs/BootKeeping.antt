@@ -1,0 +1,64 @@
+-- The world as it begins.
+use Rattle.std.proofs.Common.{◌≡◌, ◌∙◌, ◌++◌, ◌∷◌, ◌+◌, ◌≤◌, ◌<◌, ℕ, None, Some, List, [], All, length, map, take, get_or, slice_get, refl, ap, sym, subst, arith}
+use Rattle.std.proofs.lemmas.List.{length-map, map-append, take_more}
+use Rattle.std.proofs.lemmas.List.Elements.{All-push}
+use Rattle.std.proofs.lemmas.Option.{get_or_from_slice_get}
+use Rattle.table_replica.specs.Tables.{opening, table}
+use Rattle.table_replica.specs.Shown.{ReplicaState}
+use Rattle.monitor_messages.specs.declared.message.Message.{Message}
+use Rattle.monitor_2pc.specs.Coordinators.{CoordinatorState, Idle, no_requests}
+use Rattle.world_core.specs.declared.home.Home.{Home}
+use Rattle.world_core.specs.declared.peer.Peer.{Peer}
+use Rattle.world_model.specs.Worlds as worlds
+use Rattle.world_core.specs.Keeping.{seen_peer, seen_world, PeerIsKept, WorldIsKept}
+use Rattle.world_model.proofs.Lists.{get_within}
+use Rattle.world_core.proofs.Keeping.{table_opening}
+
+all_at : {A : Type 0} (P : A → Type 0) (xs : List A) (i : ℕ) (x : A) → All P xs → slice_get xs i ≡ Some x → P x
+all_at P xs i x all at = subst P (get_or_from_slice_get xs i x x at) (all i x (get_within xs i x at))
+
+-- core 0 and the others, as they begin
+pub record Begins {C Piece : Type 0} (messages : C → List Message) (home : Home) (peers : List (Peer C Piece)) (budget : ℕ) (budgets : List ℕ) : Type 0 where
+  pub log : home.log.items ≡ []
+  pub replica : home.replica ≡ record { budget = budget; shown = opening; staged = None }
+  pub coordinator : home.coordinator ≡ record { others = length budgets; last = 0; phase = Idle; requests = no_requests (length budgets) }
+  pub begun : home.begun ≡ None
+  pub asker : home.asker ≡ None
+  pub decided : home.decided ≡ None
+  pub seen : map (seen_peer messages) peers ≡ map worlds.new_peer budgets
+  pub kept : All (PeerIsKept []) peers
+  pub few : length budgets ≤ 7
+
+pub boot_seen : {C Piece : Type 0} (messages : C → List Message) (home : Home) (peers : List (Peer C Piece)) (budget : ℕ) (budgets : List ℕ) → Begins messages home peers budget budgets → seen_world messages home peers ≡ worlds.boot budget budgets
+boot_seen messages home peers budget budgets b = rw (b.log, b.replica, b.coordinator, b.seen) refl
+
+pub boot_kept : {C Piece : Type 0} (messages : C → List Message) (home : Home) (peers : List (Peer C Piece)) (budget : ℕ) (budgets : List ℕ) → Begins messages home peers budget budgets → WorldIsKept messages home peers
+boot_kept messages home peers budget budgets b = record {
+  home_kept = record {
+    shown = ap (λ (r : ReplicaState). r.shown) b.replica ∙ (sym table_opening ∙ ap (λ log. table log (length log)) (sym b.log));
+    staged = rw (b.coordinator, b.replica) refl;
+    begun = b.begun ∙ sym (ap (λ (r : ReplicaState). r.staged) b.replica);
+    asker = b.asker ∙ sym (ap (λ (x : CoordinatorState). x.requests.asker) b.coordinator);
+    decided = b.decided ∙ sym (ap (λ (x : CoordinatorState). x.requests.decided) b.coordinator);
+    sendable = rw b.decided tt;
+  };
+  others = ap (λ (x : CoordinatorState). x.others) b.coordinator ∙ sym long;
+  peers_kept = λ i p at. rw b.log (all_at (PeerIsKept []) peers i p b.kept at);
+  few = omega (arith, long, b.few);
+  budget = budget;
+  budgets = budgets;
+  events = [];
+  run = boot_seen messages home peers budget budgets b;
+}
+  where
+    long : length peers ≡ length budgets
+    long = sym (length-map peers (seen_peer messages)) ∙ (ap length b.seen ∙ length-map budgets worlds.new_peer)
+
+-- one core more
+pub seen_more : {A : Type 0} (f : A → worlds.Peer) (xs ys : List A) (x : A) (budgets : List ℕ) (i d : ℕ) → ys ≡ xs ++ x ∷ [] → map f xs ≡ map worlds.new_peer (take i budgets) → f x ≡ worlds.new_peer (get_or budgets i d) → i < length budgets
+    → map f ys ≡ map worlds.new_peer (take (i + 1) budgets)
+seen_more f xs ys x budgets i d more so_far here lt =
+    ap (map f) more ∙ (map-append f xs (x ∷ []) ∙ (rw (so_far, here) (sym (ap (map worlds.new_peer) (take_more budgets i d lt) ∙ map-append worlds.new_peer (take i budgets) (get_or budgets i d ∷ [])))))
+
+pub all_more : {A : Type 0} (P : A → Type 0) (xs ys : List A) (x : A) → ys ≡ xs ++ x ∷ [] → All P xs → P x → All P ys
+all_more P xs ys x more all here = subst (All P) (sym more) (All-push P xs x all here)

@@ -1,0 +1,250 @@
+-- What the calls of the world answer, from what its cores do.
+use Rattle.std.proofs.Common.{◌≡◌, ◌≢◌, ◌∙◌, ◌-◌, ◌≤◌, ◌<◌, ◌∷◌, [], ℕ, suc, Bool, true, Option, None, Some, List, Result, Ok, Err, length, slice_get, slice_set, refl, ap, sym, subst, arith}
+use Rattle.std.specs.Prelude.{option_map, option_and_then, IfOk, IfErr, IsErrAnd, OnErr}
+use Rattle.table_replica.specs.declared.Op.{Op}
+use Rattle.table_replica.specs.declared.Kept.{Kept}
+use Rattle.table_replica.specs.Tables.{Accepting}
+use Rattle.table_replica.specs.Shown.{ReplicaState}
+use Rattle.monitor_messages.specs.declared.message.Message.{Message}
+use Rattle.pcap_reader.specs.declared.capture.Packet.{Packet}
+use Rattle.world_model.specs.declared.event.Event.{Event}
+use Rattle.world_model.specs.declared.event.Event.TheVariants.{Submit, StartFor, Take, Rx}
+use Rattle.world_model.specs.declared.event.Answer.{Answer}
+use Rattle.world_model.specs.declared.event.Answer.TheVariants.{Delivered}
+use Rattle.world_core.specs.declared.fault.WorldFault.{WorldFault}
+use Rattle.world_core.specs.declared.fault.WorldFault.TheVariants.{NoSuchCore, Nothing, NotReady, NotIdle, Spent, Outstanding, NoneWaiting, NoMemory}
+use Rattle.world_core.specs.declared.home.Home.{Home}
+use Rattle.world_core.specs.declared.peer.Peer.{Peer}
+use Rattle.world_model.specs.Cases.{captured}
+use Rattle.world_model.specs.Worlds as worlds
+use Rattle.world_channels.specs.Channels.{first_of}
+use Rattle.monitor_2pc.specs.Coordinators.{Idle}
+use Rattle.world_core.specs.Refusals.{channel, StandsFirst, WorldRefuses, StartForRefuses}
+use Rattle.world_core.specs.Keeping.{seen_peer, seen_world, WorldIsKept, PeerCannotSubmit, PeerCannotTake, ChangesOne, Submits, Takes, ReadyToTake}
+use Rattle.world_core.specs.Shown.{ShowsReplica}
+use Rattle.world_model.proofs.Lists.{map_get, get_at, beyond}
+use Rattle.world_core.proofs.WorldKeeping.{peer_shows, no_version, no_core}
+use Rattle.world_core.proofs.PeerKeeping.{seen_same, submit_happens, submit_kept, awaits_oldest, take_happens, take_kept}
+
+-- Entries
+
+pub entry_shows : {C Piece : Type 0} (messages : C → List Message) (home : Home) (peers : List (Peer C Piece)) (w : worlds.World) (core : ℕ) (p : Peer C Piece) → WorldIsKept messages home peers → seen_world messages home peers ≡ w → core ≢ 0
+    → slice_get peers (core - 1) ≡ Some p → ShowsReplica w core p.replica
+entry_shows messages home peers w core p k view ne at =
+    let e : suc (core - 1) ≡ core = omega (arith, ne) in
+    subst (λ (x : worlds.World). ShowsReplica x core p.replica) view (subst (λ (n : ℕ). ShowsReplica (seen_world messages home peers) n p.replica) e (peer_shows messages home peers (core - 1) p k at))
+
+pub entry_none : {C Piece : Type 0} (messages : C → List Message) (home : Home) (peers : List (Peer C Piece)) (w : worlds.World) (core : ℕ) → seen_world messages home peers ≡ w → core ≢ 0 → slice_get peers (core - 1) ≡ None → worlds.version_at w core ≡ None
+entry_none messages home peers w core view ne at =
+    let e : suc (core - 1) ≡ core = omega (arith, ne) in
+    subst (λ (x : worlds.World). worlds.version_at x core ≡ None) view (subst (λ (n : ℕ). worlds.version_at (seen_world messages home peers) n ≡ None) e (no_version messages home peers (core - 1) at))
+
+-- Packets
+
+pub rx_happens : (w : worlds.World) (core number floor : ℕ) (packet : Packet) (kept : List Kept) (r : ReplicaState) → ShowsReplica w core r → floor ≤ r.shown.version → Accepting r.shown (captured packet) kept
+    → worlds.Happens w (Rx core number packet floor) w (Delivered r.shown.version kept)
+rx_happens w core number floor packet kept r s le accepting = record {
+  version = s.version;
+  is_version = s.is_version;
+  here = record { kept = kept; above_floor = rw (← s.numbered) le; accepting = rw (← s.shown) accepting; is_answer = ap (λ (v : ℕ). Delivered v kept) s.numbered };
+  next = refl;
+}
+
+pub rx_not_ready : (w : worlds.World) (core number floor : ℕ) (packet : Packet) (r : ReplicaState) → ShowsReplica w core r → r.shown.version < floor → WorldRefuses w (Rx core number packet floor) NotReady
+rx_not_ready w core number floor packet r s lt = (s.version, s.is_version, rw (← s.numbered) lt)
+
+pub rx_no_memory : (w : worlds.World) (core number floor : ℕ) (packet : Packet) (r : ReplicaState) → ShowsReplica w core r → floor ≤ r.shown.version → WorldRefuses w (Rx core number packet floor) NoMemory
+rx_no_memory w core number floor packet r s le NoSuchCore h = cc (s.is_version, h)
+rx_no_memory w core number floor packet r s le NotReady h = let e : h.0 ≡ s.version = cc (h.1, s.is_version) in omega (arith, e, h.2, le, s.numbered)
+rx_no_memory w core number floor packet r s le Nothing h = h
+rx_no_memory w core number floor packet r s le NotIdle h = h
+rx_no_memory w core number floor packet r s le Spent h = h
+rx_no_memory w core number floor packet r s le Outstanding h = h
+rx_no_memory w core number floor packet r s le NoneWaiting h = h
+rx_no_memory w core number floor packet r s le NoMemory h = h
+
+-- A core's own events
+
+-- what a call answers for this event
+pub record Answered {C Piece : Type 0} (messages : C → List Message) (home : Home) (w : worlds.World) (event : Event) (peers' : List (Peer C Piece)) (w' : worlds.World) (r : Result Answer WorldFault) : Type 0 where
+  pub happens : IfOk r (worlds.Happens w event w')
+  pub fault : IfErr r (WorldRefuses w event)
+  pub same : OnErr r (w' ≡ w)
+  pub kept : WorldIsKept messages home peers'
+
+submit_refuses : (w : worlds.World) (entry : ℕ) (peer : worlds.Peer) (op : Op) (fault : WorldFault) → slice_get w.peers entry ≡ Some peer → PeerCannotSubmit peer fault → WorldRefuses w (Submit (suc entry) op) fault
+submit_refuses w entry peer op Outstanding at h = (entry, peer, refl, at, h)
+submit_refuses w entry peer op NoMemory at h = none
+  where
+    none : (fault : WorldFault) → StandsFirst w (Submit (suc entry) op) fault → ⊥
+    none NoSuchCore s = let x : option_map (λ (p : worlds.Peer). p.up) (slice_get w.peers entry) ≡ Some peer.up = ap (option_map (λ (p : worlds.Peer). p.up)) at in cc
+    none Outstanding s = let e : entry ≡ s.0 = omega (arith, s.2) in let there : slice_get w.peers entry ≡ Some s.1 = subst (λ (n : ℕ). slice_get w.peers n ≡ Some s.1) (sym e) s.3 in let same : peer ≡ s.1 = cc in
+        let out : peer.outstanding ≡ true = ap (λ (p : worlds.Peer). p.outstanding) same ∙ s.4 in cc (out, h)
+    none Nothing s = s
+    none NotReady s = s
+    none NotIdle s = s
+    none Spent s = s
+    none NoneWaiting s = s
+    none NoMemory s = s
+submit_refuses w entry peer op fault at h = absurd h
+
+pub submit_answered : {C Piece : Type 0} (messages : C → List Message) (home : Home) (peers peers' : List (Peer C Piece)) (w w' : worlds.World) (core entry : ℕ) (op : Op) (r : Result Answer WorldFault) → WorldIsKept messages home peers
+    → seen_world messages home peers ≡ w → seen_world messages home peers' ≡ w' → core ≡ suc entry → ChangesOne peers entry peers' (Submits messages op r) → Answered messages home w (Submit core op) peers' w' r
+submit_answered messages home peers peers' w w' core entry op r k view view' e c =
+    rw (e, ← view, ← view', c.changed) (by_result r c.related)
+  where
+    by_result : (r : Result Answer WorldFault) → Submits messages op r c.before c.after
+        → Answered messages home (seen_world messages home peers) (Submit (suc entry) op) (slice_set peers entry c.after) (seen_world messages home (slice_set peers entry c.after)) r
+    by_result (Ok answer) s = record {
+      happens = submit_happens messages home peers entry c.before c.after op answer c.there s.done;
+      fault = tt;
+      same = tt;
+      kept = submit_kept messages home peers entry c.before c.after op (Ok answer) k c.there s;
+    }
+    by_result (Err fault) s = record {
+      happens = tt;
+      fault = submit_refuses (seen_world messages home peers) entry (seen_peer messages c.before) op fault (map_get (seen_peer messages) peers entry c.before c.there) s.fault;
+      same = seen_same messages home peers entry c.before c.after c.there s.same;
+      kept = submit_kept messages home peers entry c.before c.after op (Err fault) k c.there s;
+    }
+
+take_refuses : (w : worlds.World) (entry : ℕ) (peer : worlds.Peer) (short : Bool) (fault : WorldFault) → slice_get w.peers entry ≡ Some peer → PeerCannotTake peer fault → WorldRefuses w (Take (suc entry) 0 short) fault
+take_refuses w entry peer short Nothing at h = ap (option_map (λ (p : worlds.Peer). p.down)) at ∙ ap (λ (ms : List Message). Some ms) h
+take_refuses w entry peer short NoMemory at h = none
+  where
+    there : channel w (suc entry) 0 ≡ Some peer.down
+    there = ap (option_map (λ (p : worlds.Peer). p.down)) at
+
+    none : (fault : WorldFault) → StandsFirst w (Take (suc entry) 0 short) fault → ⊥
+    none NoSuchCore s = cc (there, s)
+    none Nothing s = h (let x = there in let y = s in cc)
+    none Outstanding s = s
+    none NotReady s = s
+    none NotIdle s = s
+    none Spent s = s
+    none NoneWaiting s = s
+    none NoMemory s = s
+take_refuses w entry peer short fault at h = absurd h
+
+pub take_answered : {C Piece : Type 0} (messages : C → List Message) (home : Home) (peers peers' : List (Peer C Piece)) (w w' : worlds.World) (core entry : ℕ) (short : Bool) (r : Result Answer WorldFault) → WorldIsKept messages home peers
+    → seen_world messages home peers ≡ w → seen_world messages home peers' ≡ w' → core ≡ suc entry → ChangesOne peers entry peers' (Takes messages short r) → Answered messages home w (Take core 0 short) peers' w' r
+take_answered messages home peers peers' w w' core entry short r k view view' e c =
+    rw (e, ← view, ← view', c.changed) (by_result r c.related)
+  where
+    by_result : (r : Result Answer WorldFault) → Takes messages short r c.before c.after
+        → Answered messages home (seen_world messages home peers) (Take (suc entry) 0 short) (slice_set peers entry c.after) (seen_world messages home (slice_set peers entry c.after)) r
+    by_result (Ok answer) s = record {
+      happens = take_happens messages home peers entry c.before c.after short answer k c.there s.done;
+      fault = tt;
+      same = tt;
+      kept = take_kept messages home peers entry c.before c.after short (Ok answer) k c.there s;
+    }
+    by_result (Err fault) s = record {
+      happens = tt;
+      fault = take_refuses (seen_world messages home peers) entry (seen_peer messages c.before) short fault (map_get (seen_peer messages) peers entry c.before c.there) s.fault;
+      same = seen_same messages home peers entry c.before c.after c.there s.same;
+      kept = take_kept messages home peers entry c.before c.after short (Err fault) k c.there s;
+    }
+
+pub take_ready : {C Piece : Type 0} (messages : C → List Message) (home : Home) (peers : List (Peer C Piece)) (entry : ℕ) → WorldIsKept messages home peers → (p : Peer C Piece) → slice_get peers entry ≡ Some p → ReadyToTake messages p
+take_ready messages home peers entry k p at = record { staged = (k.peers_kept entry p at).staged; awaits = awaits_oldest messages home peers entry p k at }
+
+-- no such core
+pub no_channel_up : {C Piece : Type 0} (messages : C → List Message) (home : Home) (peers : List (Peer C Piece)) (w : worlds.World) (core : ℕ) → seen_world messages home peers ≡ w → core ≢ 0 → length peers < core → channel w 0 core ≡ None
+no_channel_up messages home peers w core view ne long =
+    let e : suc (core - 1) ≡ core = omega (arith, ne) in
+    subst (λ (x : worlds.World). channel x 0 core ≡ None) view (subst (λ (n : ℕ). channel (seen_world messages home peers) 0 n ≡ None) e
+    (ap (option_map (λ (p : worlds.Peer). p.up)) (no_core messages peers (core - 1) (beyond peers (core - 1) (omega (arith, long))))))
+
+pub no_channel_down : {C Piece : Type 0} (messages : C → List Message) (home : Home) (peers : List (Peer C Piece)) (w : worlds.World) (core : ℕ) → seen_world messages home peers ≡ w → core ≢ 0 → length peers < core → channel w core 0 ≡ None
+no_channel_down messages home peers w core view ne long =
+    let e : suc (core - 1) ≡ core = omega (arith, ne) in
+    subst (λ (x : worlds.World). channel x core 0 ≡ None) view (subst (λ (n : ℕ). channel (seen_world messages home peers) n 0 ≡ None) e
+    (ap (option_map (λ (p : worlds.Peer). p.down)) (no_core messages peers (core - 1) (beyond peers (core - 1) (omega (arith, long))))))
+
+-- What a call tells
+
+pub told_no_memory : (r : Result Answer WorldFault) (P : WorldFault → Type 0) → IsErrAnd r (λ fault. fault ≡ NoMemory) → P NoMemory → IfErr r P
+told_no_memory (Ok answer) P h p = tt
+told_no_memory (Err fault) P h p = subst P (sym h) p
+
+pub done_as : (r : Result Answer WorldFault) (P Q : Answer → Type 0) → ((answer : Answer) → P answer → Q answer) → IfOk r P → IfOk r Q
+done_as (Ok answer) P Q as' h = as' answer h
+done_as (Err fault) P Q as' h = tt
+
+pub told_as : (r : Result Answer WorldFault) (P Q : WorldFault → Type 0) → ((fault : WorldFault) → P fault → Q fault) → IfErr r P → IfErr r Q
+told_as (Ok answer) P Q as' h = tt
+told_as (Err fault) P Q as' h = as' fault h
+
+-- Core 0's takes
+
+-- the messages to core 0
+channel_up : {C Piece : Type 0} (messages : C → List Message) (home : Home) (peers : List (Peer C Piece)) (core entry : ℕ) (p : Peer C Piece) → core ≡ suc entry → slice_get peers entry ≡ Some p → channel (seen_world messages home peers) 0 core ≡ Some (messages p.up)
+channel_up messages home peers core entry p e at = rw e (ap (option_map (λ (x : worlds.Peer). x.up)) (map_get (seen_peer messages) peers entry p at))
+
+none_first : (ms : List Message) → first_of ms ≡ None → ms ≡ []
+none_first [] e = refl
+none_first (m ∷ ms) e = absurd cc
+
+pub up_oldest : {C Piece : Type 0} (messages : C → List Message) (home : Home) (peers : List (Peer C Piece)) (core entry : ℕ) (m : Message) → core ≡ suc entry → entry < length peers → option_map (λ (p : Peer C Piece). first_of (messages p.up)) (slice_get peers entry) ≡ Some (Some m)
+    → option_and_then first_of (channel (seen_world messages home peers) 0 core) ≡ Some m
+up_oldest {C} {Piece} messages home peers core entry m e inside first =
+    let p = get_at peers entry inside in
+    let f : first_of (messages p.0.up) ≡ Some m = (let x = first in let y = ap (option_map (λ (q : Peer C Piece). first_of (messages q.up))) p.1 in cc) in
+    rw (channel_up messages home peers core entry p.0 e p.1) f
+
+pub up_nothing : {C Piece : Type 0} (messages : C → List Message) (home : Home) (peers : List (Peer C Piece)) (core entry : ℕ) → core ≡ suc entry → entry < length peers → option_map (λ (p : Peer C Piece). first_of (messages p.up)) (slice_get peers entry) ≡ Some None
+    → channel (seen_world messages home peers) 0 core ≡ Some []
+up_nothing {C} {Piece} messages home peers core entry e inside first =
+    let p = get_at peers entry inside in
+    let f : first_of (messages p.0.up) ≡ None = (let x = first in let y = ap (option_map (λ (q : Peer C Piece). first_of (messages q.up))) p.1 in cc) in
+    channel_up messages home peers core entry p.0 e p.1 ∙ ap (λ (ms : List Message). Some ms) (none_first (messages p.0.up) f)
+
+up_refuses : (w : worlds.World) (core : ℕ) (short : Bool) (ms : List Message) → channel w 0 core ≡ Some ms → ms ≢ [] → WorldRefuses w (Take 0 core short) NoMemory
+up_refuses w core short ms there some NoSuchCore h = cc (there, h)
+up_refuses w core short ms there some Nothing h = some (let x = there in let y = h in cc)
+up_refuses w core short ms there some Outstanding h = h
+up_refuses w core short ms there some NotReady h = h
+up_refuses w core short ms there some NotIdle h = h
+up_refuses w core short ms there some Spent h = h
+up_refuses w core short ms there some NoneWaiting h = h
+up_refuses w core short ms there some NoMemory h = h
+
+pub up_no_memory : {C Piece : Type 0} (messages : C → List Message) (home : Home) (peers : List (Peer C Piece)) (core entry : ℕ) (short : Bool) → core ≡ suc entry → entry < length peers → option_map (λ (p : Peer C Piece). messages p.up) (slice_get peers entry) ≢ Some []
+    → WorldRefuses (seen_world messages home peers) (Take 0 core short) NoMemory
+up_no_memory {C} {Piece} messages home peers core entry short e inside some =
+    let p = get_at peers entry inside in
+    up_refuses (seen_world messages home peers) core short (messages p.0.up) (channel_up messages home peers core entry p.0 e p.1)
+    (λ none. some (ap (option_map (λ (q : Peer C Piece). messages q.up)) p.1 ∙ ap (λ (ms : List Message). Some ms) none))
+
+-- a message that core 0 has no memory to take
+pub heard_no_memory : (w : worlds.World) (core : ℕ) (m : Message) (short : Bool) → option_and_then first_of (channel w 0 core) ≡ Some m → WorldRefuses w (Take 0 core short) NoMemory
+heard_no_memory w core m short first = by_channel (channel w 0 core) refl
+  where
+    by_channel : (o : Option (List Message)) → channel w 0 core ≡ o → WorldRefuses w (Take 0 core short) NoMemory
+    by_channel None e = absurd (let x = rw e at first in cc)
+    by_channel (Some []) e = absurd (let x = rw e at first in cc)
+    by_channel (Some (n ∷ ms)) e = up_refuses w core short (n ∷ ms) e (λ x. cc)
+
+-- A StartFor
+
+pub start_for_refuses : (w : worlds.World) (core : ℕ) (fault : WorldFault) → channel w 0 core ≢ None → w.place.phase ≡ Idle → w.place.last ≢ 18446744073709551615 → StartForRefuses w core fault → WorldRefuses w (StartFor core) fault
+start_for_refuses w core NoneWaiting there idle unspent h = (there, idle, unspent, h)
+start_for_refuses w core NoMemory there idle unspent h = none
+  where
+    none : (fault : WorldFault) → StandsFirst w (StartFor core) fault → ⊥
+    none NoSuchCore s = there s
+    none NotIdle s = s.1 idle
+    none Spent s = unspent (s.2)
+    none NoneWaiting s = h (s.3)
+    none Nothing s = s
+    none NotReady s = s
+    none Outstanding s = s
+    none NoMemory s = s
+start_for_refuses w core fault there idle unspent h = absurd h
+
+pub has_channel : {C Piece : Type 0} (messages : C → List Message) (home : Home) (peers : List (Peer C Piece)) (core entry : ℕ) → core ≡ suc entry → entry < length peers → channel (seen_world messages home peers) 0 core ≢ None
+has_channel messages home peers core entry e inside none =
+    let p = get_at peers entry inside in
+    let there = channel_up messages home peers core entry p.0 e p.1 in
+    cc (there, none)

@@ -1,0 +1,14 @@
+pub mod Keeping
+pub mod WorldKeeping
+pub mod PeerKeeping
+pub mod EventKeeping
+pub mod BootKeeping
+pub mod HomeKeeping
+pub mod Sending
+pub mod Starts
+pub mod Begin
+pub mod Moving
+pub mod Verdicts
+pub mod Asking
+pub mod Loads
+pub mod Settled

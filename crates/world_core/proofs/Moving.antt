@@ -1,0 +1,188 @@
+-- What an event of core 0 leaves of the other cores, and of the world.
+use Rattle.std.proofs.Common.{◌≡◌, ◌∙◌, ◌++◌, ◌∷◌, ◌≤◌, ◌⊎◌, inl, inr, ℕ, suc, Bool, Option, None, Some, List, [], length, map, slice_get, refl, ap, sym, subst, arith, false}
+use Rattle.table_replica.specs.declared.Op.{Op}
+use Rattle.table_replica.specs.Tables.{State, table}
+use Rattle.table_replica.specs.Shown.{ReplicaState}
+use Rattle.table_replica.proofs.Tables.{table_front}
+use Rattle.monitor_messages.specs.declared.message.Message.{Message}
+use Rattle.monitor_2pc.specs.declared.step.Step.{Step}
+use Rattle.monitor_2pc.specs.Participants.{ParticipantState, StagedByVote}
+use Rattle.world_model.specs.declared.event.Event.{Event}
+use Rattle.world_model.specs.declared.event.Event.TheVariants.{Take}
+use Rattle.world_model.specs.declared.event.Answer.{Answer}
+use Rattle.world_model.specs.Cases.{Outgoing, nothing, to_all, to_one, outgoing, joined, raised, TakesUpAt}
+use Rattle.world_model.specs.Worlds as worlds
+use Rattle.world_model.proofs.Lists.{map_get, get_within, get_at, length-slice_set}
+use Rattle.world_model.proofs.Runs.{runs_more}
+use Rattle.world_model.proofs.Agreement.{run_inv}
+use Rattle.world_core.specs.declared.home.Home.{Home}
+use Rattle.world_core.specs.declared.peer.Peer.{Peer}
+use Rattle.world_core.specs.Keeping.{seen_peer, seen_world, PeerIsKept, WorldIsKept, EachMatches, ChangesOne, Readied, IsSent, GivesUp, HasRoom, RoomAt, RoomFrom}
+use Rattle.world_core.specs.Moves.{home_place, HomeMoves, SentOut}
+use Rattle.world_core.proofs.Keeping.{version_commit}
+use Rattle.world_core.proofs.PeerKeeping.{map-slice_set}
+use Rattle.world_core.proofs.HomeKeeping.{Oldest, seen_gives_up}
+use Rattle.world_core.proofs.Sending.{set_at, sent_seen}
+use Rattle.world_core.proofs.WorldKeeping.{no_core}
+
+-- Lists that match at each place
+
+pub matches_self : {P : Type 0} (R : P → P → Type 0) (xs : List P) → ((p : P) → R p p) → EachMatches R xs xs
+matches_self R xs self = (refl, λ k p p' a b. (let e : p ≡ p' = cc in subst (λ q. R p q) e (self p)))
+
+pub matches_then : {P : Type 0} (R : P → P → Type 0) (xs ys zs : List P) → ((p q r : P) → R p q → R q r → R p r) → EachMatches R xs ys → EachMatches R ys zs → EachMatches R xs zs
+matches_then R xs ys zs both a b = (
+  b.0 ∙ a.0,
+  λ k p r at at'.
+      let q = get_at ys k (omega (arith, b.0, get_within zs k r at')) in
+      both p q.0 r (a.1 k p q.0 at q.1) (b.1 k q.0 r q.1 at'),
+)
+
+matches_as : {P : Type 0} (R S : P → P → Type 0) (xs ys : List P) → ((p q : P) → R p q → S p q) → EachMatches R xs ys → EachMatches S xs ys
+matches_as R S xs ys as' m = (m.0, λ k p q a b. as' p q (m.1 k p q a b))
+
+matches_one : {P : Type 0} (R S : P → P → Type 0) (xs ys : List P) (i : ℕ) → ((p : P) → S p p) → ((p q : P) → R p q → S p q) → ChangesOne xs i ys R → EachMatches S xs ys
+matches_one {P} R S xs ys i self as' c = rw c.changed (length-slice_set xs i c.after, λ k p q a b. by_place k p q a (set_at xs i k c.after q (get_within xs i c.before c.there) b))
+  where
+    by_place : (k : ℕ) (p q : P) → slice_get xs k ≡ Some p → (((i ≡ k) × (q ≡ c.after)) ⊎ ((i ≡ k → ⊥) × (slice_get xs k ≡ Some q))) → S p q
+    by_place k p q a (inl e) =
+        let there : slice_get xs k ≡ Some c.before = subst (λ (n : ℕ). slice_get xs n ≡ Some c.before) e.0 c.there in
+        let before : c.before ≡ p = cc in
+        rw (e.1, ← before) (as' c.before c.after c.related)
+    by_place k p q a (inr e) = let same : p ≡ q = (let x = e.1 in cc) in rw (← same) (self p)
+
+-- the core keeps its replica and its place
+pub record Alike {C Piece : Type 0} (p p' : Peer C Piece) : Type 0 where
+  pub replica : p'.replica ≡ p.replica
+  pub participant : p'.participant ≡ p.participant
+
+alike_self : {C Piece : Type 0} (p : Peer C Piece) → Alike p p
+alike_self p = record { replica = refl; participant = refl }
+
+alike_then : {C Piece : Type 0} (p q r : Peer C Piece) → Alike p q → Alike q r → Alike p r
+alike_then p q r a b = record { replica = b.replica ∙ a.replica; participant = b.participant ∙ a.participant }
+
+pub alike_given : {C Piece : Type 0} (messages : C → List Message) (peers peers' : List (Peer C Piece)) (i : ℕ) → ChangesOne peers i peers' (GivesUp messages) → EachMatches Alike peers peers'
+alike_given messages peers peers' i c = matches_one (GivesUp messages) Alike peers peers' i alike_self (λ p q g. record { replica = g.replica; participant = g.participant }) c
+
+pub alike_sent : {C Piece : Type 0} (messages : C → List Message) (peers peers' : List (Peer C Piece)) (out : Outgoing) → SentOut messages peers out peers' → EachMatches Alike peers peers'
+alike_sent messages peers peers' nothing s = rw s (matches_self Alike peers alike_self)
+alike_sent messages peers peers' (to_all m) s = matches_as (IsSent messages m) Alike peers peers' (λ p q g. record { replica = g.replica; participant = g.participant }) s
+alike_sent messages peers peers' (to_one entry m) (inl c) = matches_one (IsSent messages m) Alike peers peers' entry alike_self (λ p q g. record { replica = g.replica; participant = g.participant }) c
+alike_sent messages peers peers' (to_one entry m) (inr s) = rw (s.1) (matches_self Alike peers alike_self)
+
+pub alike_both : {C Piece : Type 0} (peers mid peers' : List (Peer C Piece)) → EachMatches Alike peers mid → EachMatches Alike mid peers' → EachMatches Alike peers peers'
+alike_both peers mid peers' a b = matches_then Alike peers mid peers' alike_then a b
+
+readied_then : {C Piece : Type 0} (messages : C → List Message) (p q r : Peer C Piece) → Readied messages p q → Readied messages q r → Readied messages p r
+readied_then messages p q r a b = record { replica = b.replica ∙ a.replica; participant = b.participant ∙ a.participant; down = b.down ∙ a.down; up = b.up ∙ a.up }
+
+pub readied_both : {C Piece : Type 0} (messages : C → List Message) (peers mid peers' : List (Peer C Piece)) → EachMatches (Readied messages) peers mid → EachMatches (Readied messages) mid peers' → EachMatches (Readied messages) peers peers'
+readied_both messages peers mid peers' a b = matches_then (Readied messages) peers mid peers' (readied_then messages) a b
+
+-- What is sent shows
+
+sent_one_seen : {C Piece : Type 0} (messages : C → List Message) (m : Message) (peers peers' : List (Peer C Piece)) (entry : ℕ) → ChangesOne peers entry peers' (IsSent messages m)
+    → map (seen_peer messages) peers' ≡ worlds.sent_to_one (map (seen_peer messages) peers) entry m (slice_get (map (seen_peer messages) peers) entry)
+sent_one_seen messages m peers peers' entry c =
+    let there = map_get (seen_peer messages) peers entry c.before c.there in
+    let r = c.related in
+    rw (c.changed, map-slice_set (seen_peer messages) peers entry c.after, there, r.replica, r.participant, r.down, r.up) refl
+
+sent_out_seen : {C Piece : Type 0} (messages : C → List Message) (peers peers' : List (Peer C Piece)) (out : Outgoing) → SentOut messages peers out peers' → map (seen_peer messages) peers' ≡ worlds.sent_out (map (seen_peer messages) peers) out
+sent_out_seen messages peers peers' nothing s = ap (map (seen_peer messages)) s
+sent_out_seen messages peers peers' (to_all m) s = sent_seen messages m peers peers' s
+sent_out_seen messages peers peers' (to_one entry m) (inl c) = sent_one_seen messages m peers peers' entry c
+sent_out_seen messages peers peers' (to_one entry m) (inr s) = rw (s.1, no_core messages peers entry (s.0)) refl
+
+-- the world after core 0 has moved and sent
+pub moved_seen : {C Piece : Type 0} (messages : C → List Message) (home home' : Home) (peers peers' : List (Peer C Piece)) (committed : Option Op) (out : Outgoing) → HomeMoves home committed home' → SentOut messages peers out peers'
+    → seen_world messages home' peers' ≡ worlds.core0_moves (seen_world messages home peers) (home_place home') home'.coordinator.requests committed out
+moved_seen messages home home' peers peers' committed out h sent =
+    let version : home'.replica.shown.version ≡ raised home.replica.shown.version committed = ap (λ (s : State). s.version) h.shown_next ∙ version_commit home.replica.shown committed in
+    rw (h.log_next, h.same_budget, version, sent_out_seen messages peers peers' out sent) refl
+
+-- The world is kept
+
+peer_moved : {C Piece : Type 0} (log : List Op) (committed : Option Op) (p p' : Peer C Piece) → p.replica.shown.version ≤ length log → Alike p p' → PeerIsKept log p → PeerIsKept (joined log committed) p'
+peer_moved log committed p p' le a k = record {
+  shown = subst (λ (x : ReplicaState). x.shown ≡ table (joined log committed) x.shown.version) (sym a.replica) (k.shown ∙ sym (front committed));
+  staged = subst (λ (x : ParticipantState). StagedByVote x.voted p'.replica.staged) (sym a.participant) (subst (λ (x : ReplicaState). StagedByVote p.participant.voted x.staged) (sym a.replica) k.staged);
+}
+  where
+    front : (o : Option Op) → table (joined log o) p.replica.shown.version ≡ table log p.replica.shown.version
+    front None = refl
+    front (Some op) = table_front log (op ∷ []) p.replica.shown.version le
+
+pub moved_kept : {C Piece : Type 0} (messages : C → List Message) (home home' : Home) (peers peers' : List (Peer C Piece)) (committed : Option Op) (event : Event) (answer : Answer) → WorldIsKept messages home peers → HomeMoves home committed home' → EachMatches Alike peers peers'
+    → worlds.Happens (seen_world messages home peers) event (seen_world messages home' peers') answer → WorldIsKept messages home' peers'
+moved_kept messages home home' peers peers' committed event answer k h m happens = record {
+  home_kept = h.kept;
+  others = h.same_others ∙ (k.others ∙ sym (m.0));
+  peers_kept = λ i p at.
+      let old = get_at peers i (omega (arith, m.0, get_within peers' i p at)) in
+      let within = (run_inv k.budget k.budgets k.events (seen_world messages home peers) k.run).within i (seen_peer messages old.0) (map_get (seen_peer messages) peers i old.0 old.1) in
+      rw h.log_next (peer_moved home.log.items committed old.0 p within.not_ahead (m.1 i old.0 p old.1 at) (k.peers_kept i old.0 old.1));
+  few = rw (m.0) k.few;
+  budget = k.budget;
+  budgets = k.budgets;
+  events = k.events ++ record { event = event; answer = answer } ∷ [];
+  run = runs_more _ (seen_world messages home peers) (seen_world messages home' peers') k.events (record { event = event; answer = answer }) k.run happens;
+}
+
+-- Core 0 takes a message
+
+seen_gave : {C Piece : Type 0} (messages : C → List Message) (home : Home) (peers mid : List (Peer C Piece)) (core entry : ℕ) (m : Message) → (o : Oldest messages peers core m) → entry ≡ o.entry → ChangesOne peers entry mid (GivesUp messages)
+    → seen_world messages home mid ≡ worlds.gave (seen_world messages home peers) o.entry (seen_peer messages o.peer) o.rest
+seen_gave messages home peers mid core entry m o same c =
+    let there : slice_get peers o.entry ≡ Some c.before = subst (λ (n : ℕ). slice_get peers n ≡ Some c.before) same c.there in
+    let before : c.before ≡ o.peer = (let x = there in let y = o.there in cc) in
+    let gives : GivesUp messages o.peer c.after = rw (← before) c.related in
+    rw (c.changed, same, map-slice_set (seen_peer messages) peers o.entry c.after, seen_gives_up messages o.peer c.after o.rest gives o.dropped) refl
+
+-- core 0 has taken the oldest message of the core
+pub record UpDone {C Piece : Type 0} (messages : C → List Message) (home' : Home) (peers' : List (Peer C Piece)) (w : worlds.World) (core : ℕ) (answer : Answer) : Type 0 where
+  pub happens : (short : Bool) → worlds.Happens w (Take 0 core short) (seen_world messages home' peers') answer
+  pub kept : WorldIsKept messages home' peers'
+
+pub up_done : {C Piece : Type 0} (messages : C → List Message) (home home' : Home) (peers mid peers' : List (Peer C Piece)) (w : worlds.World) (core entry : ℕ) (m : Message) (committed : Option Op) (told : Step) (answer : Answer) → WorldIsKept messages home peers
+    → seen_world messages home peers ≡ w → (o : Oldest messages peers core m) → entry ≡ o.entry → HomeMoves home committed home' → ChangesOne peers entry mid (GivesUp messages) → SentOut messages mid (outgoing told (home_place home')) peers'
+    → TakesUpAt home.replica.shown (home_place home) home.coordinator.requests o.entry m (home_place home') home'.coordinator.requests committed told answer → UpDone messages home' peers' w core answer
+up_done messages home home' peers mid peers' w core entry m committed told answer k view o same h gives sent here =
+    let happens : (short : Bool) → worlds.Happens (seen_world messages home peers) (Take 0 (suc o.entry) short) (seen_world messages home' peers') answer = λ short. record {
+      peer = seen_peer messages o.peer;
+      is_peer = map_get (seen_peer messages) peers o.entry o.peer o.there;
+      m = m;
+      rest = o.rest;
+      oldest = o.oldest;
+      place = home_place home';
+      requests = home'.coordinator.requests;
+      committed = committed;
+      told = told;
+      here = subst (λ (s : State). TakesUpAt s (home_place home) home.coordinator.requests o.entry m (home_place home') home'.coordinator.requests committed told answer) k.home_kept.shown here;
+      next = moved_seen messages home home' mid peers' committed (outgoing told (home_place home')) h sent
+          ∙ ap (λ (x : worlds.World). worlds.core0_moves x (home_place home') home'.coordinator.requests committed (outgoing told (home_place home'))) (seen_gave messages home peers mid core entry m o same gives);
+    } in
+    record {
+      happens = λ short. rw (o.is_core, ← view) (happens short);
+      kept = moved_kept messages home home' peers peers' committed (Take 0 (suc o.entry) false) answer k h (alike_both peers mid peers' (alike_given messages peers mid entry gives) (alike_sent messages mid peers' (outgoing told (home_place home')) sent)) (happens false);
+    }
+
+-- a core that gave up a message can still be sent one
+pub room_given : {C Piece : Type 0} (spare : C → ℕ) (messages : C → List Message) (peers mid : List (Peer C Piece)) (i : ℕ) → ChangesOne peers i mid (GivesUp messages) → RoomFrom spare peers 0 → RoomFrom spare mid 0
+room_given {C} {Piece} spare messages peers mid i c room k p le at = by_place (set_at peers i k c.after p (get_within peers i c.before c.there) (subst (λ (ps : List (Peer C Piece)). slice_get ps k ≡ Some p) c.changed at))
+  where
+    by_place : (((i ≡ k) × (p ≡ c.after)) ⊎ ((i ≡ k → ⊥) × (slice_get peers k ≡ Some p))) → HasRoom spare p
+    by_place (inl e) =
+        let before : HasRoom spare c.before = room i c.before (omega arith) c.there in
+        rw (e.1, c.related.down) before
+    by_place (inr e) = room k p le (e.1)
+
+pub room_at_given : {C Piece : Type 0} (spare : C → ℕ) (messages : C → List Message) (peers mid : List (Peer C Piece)) (i entry : ℕ) → ChangesOne peers i mid (GivesUp messages) → RoomAt spare peers entry → RoomAt spare mid entry
+room_at_given {C} {Piece} spare messages peers mid i entry c room p at = by_place (set_at peers i entry c.after p (get_within peers i c.before c.there) (subst (λ (ps : List (Peer C Piece)). slice_get ps entry ≡ Some p) c.changed at))
+  where
+    by_place : (((i ≡ entry) × (p ≡ c.after)) ⊎ ((i ≡ entry → ⊥) × (slice_get peers entry ≡ Some p))) → HasRoom spare p
+    by_place (inl e) =
+        let before : HasRoom spare c.before = room c.before (subst (λ (n : ℕ). slice_get peers n ≡ Some c.before) e.0 c.there) in
+        rw (e.1, c.related.down) before
+    by_place (inr e) = room p (e.1)

@@ -1,0 +1,62 @@
+-- The world that is kept is the one that is shown.
+use Rattle.std.proofs.Common.{◌≡◌, ◌∙◌, ◌∷◌, ℕ, zero, suc, Option, None, Some, List, [], map, slice_get, refl, ap, sym}
+use Rattle.std.specs.Prelude.{option_map, option_and_then}
+use Rattle.table_replica.specs.declared.Op.{Op}
+use Rattle.table_replica.specs.Tables.{table}
+use Rattle.monitor_messages.specs.declared.message.Message.{Message}
+use Rattle.world_core.specs.declared.home.Home.{Home}
+use Rattle.world_core.specs.declared.peer.Peer.{Peer}
+use Rattle.world_model.specs.Worlds as worlds
+use Rattle.world_model.specs.Agreement.{Agrees}
+use Rattle.world_core.specs.Refusals.{waiting_at}
+use Rattle.world_core.specs.Keeping.{seen_peer, seen_world, WorldIsKept}
+use Rattle.world_core.specs.Shown.{ShowsReplica}
+use Rattle.world_model.proofs.Lists.{map_get}
+use Rattle.world_model.proofs.RunLaws.{run_agrees}
+
+agreed : {C Piece : Type 0} (messages : C → List Message) (home : Home) (peers : List (Peer C Piece)) → (k : WorldIsKept messages home peers) → Agrees k.budget k.budgets (seen_world messages home peers)
+agreed messages home peers k = run_agrees k.budget k.budgets k.events (seen_world messages home peers) k.run
+
+pub home_shows : {C Piece : Type 0} (messages : C → List Message) (home : Home) (peers : List (Peer C Piece)) → WorldIsKept messages home peers → ShowsReplica (seen_world messages home peers) 0 home.replica
+home_shows messages home peers k = record {
+  version = home.replica.shown.version;
+  is_version = refl;
+  numbered = refl;
+  shown = k.home_kept.shown ∙ ap (table home.log.items) (sym (agreed messages home peers k).core0);
+  is_budget = refl;
+  is_staged = refl;
+}
+
+pub peer_shows : {C Piece : Type 0} (messages : C → List Message) (home : Home) (peers : List (Peer C Piece)) (i : ℕ) (p : Peer C Piece) → WorldIsKept messages home peers → slice_get peers i ≡ Some p → ShowsReplica (seen_world messages home peers) (suc i) p.replica
+peer_shows messages home peers i p k at =
+    let there = map_get (seen_peer messages) peers i p at in
+    record {
+      version = p.replica.shown.version;
+      is_version = ap (option_map (λ (x : worlds.Peer). x.version)) there;
+      numbered = refl;
+      shown = (k.peers_kept i p at).shown;
+      is_budget = ap (option_map (λ (x : worlds.Peer). x.budget)) there;
+      is_staged = ap (option_map (λ (x : worlds.Peer). x.place.staged)) there;
+    }
+
+pub no_core : {C Piece : Type 0} (messages : C → List Message) (peers : List (Peer C Piece)) (i : ℕ) → slice_get peers i ≡ None → slice_get (map (seen_peer messages) peers) i ≡ None
+no_core messages [] i at = refl
+no_core messages (p ∷ peers) zero at = absurd cc
+no_core messages (p ∷ peers) (suc i) at = no_core messages peers i at
+
+pub no_version : {C Piece : Type 0} (messages : C → List Message) (home : Home) (peers : List (Peer C Piece)) (i : ℕ) → slice_get peers i ≡ None → worlds.version_at (seen_world messages home peers) (suc i) ≡ None
+no_version messages home peers i at = ap (option_map (λ (x : worlds.Peer). x.version)) (no_core messages peers i at)
+
+-- What waits
+
+pub waits_some : (w : worlds.World) (core entry : ℕ) (op : Op) → core ≡ suc entry → slice_get w.requests.waiting entry ≡ Some (Some op) → waiting_at w core ≡ Some op
+waits_some w core entry op e at = rw (e, at) refl
+
+pub waits_none : (w : worlds.World) (core : ℕ) → ((entry : ℕ) (op : Op) → core ≡ suc entry → slice_get w.requests.waiting entry ≡ Some (Some op) → ⊥) → waiting_at w core ≡ None
+waits_none w zero none = refl
+waits_none w (suc entry) none = by_entry (slice_get w.requests.waiting entry) refl
+  where
+    by_entry : (o : Option (Option Op)) → slice_get w.requests.waiting entry ≡ o → option_and_then (λ (x : Option Op). x) o ≡ None
+    by_entry None e = refl
+    by_entry (Some None) e = refl
+    by_entry (Some (Some op)) e = absurd (none entry op refl e)

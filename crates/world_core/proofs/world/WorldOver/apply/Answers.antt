@@ -1,0 +1,26 @@
+use Rattle.world_model.proofs.Runs.{runs_more}
+use Rattle.world_model.proofs.RunLaws.{run_agrees, run_no_stranger, run_grows, run_delivers, run_replies}
+use Rattle.world_model.proofs.Decisions.{run_decides}
+use Rattle.world_core.proofs.EventKeeping.{done_as}
+use Rattle.world_core.proofs.world.WorldOver.apply.Goals as goal
+
+pub returns-clause-extends : goal.returns-clause-extends
+returns-clause-extends g c = done_as c.perform.result _ _ (λ answer h budget budgets events run. runs_more _ c.args.self.now c.perform.new.self events (record { event = c.args.event.now; answer = answer }) run h) c.perform.ensures.happens
+
+pub returns-clause-agrees : goal.returns-clause-agrees
+returns-clause-agrees g c = λ budget budgets events run. run_agrees budget budgets events c.perform.new.self run
+
+pub returns-clause-delivers : goal.returns-clause-delivers
+returns-clause-delivers g c = λ budget budgets events run. run_delivers budget budgets events c.perform.new.self run
+
+pub returns-clause-decides : goal.returns-clause-decides
+returns-clause-decides g c = done_as c.perform.result _ _ (λ answer h budget budgets events run. run_decides budget budgets events c.args.self.now c.perform.new.self c.args.event.now answer run h) c.perform.ensures.happens
+
+pub returns-clause-replies : goal.returns-clause-replies
+returns-clause-replies g c = done_as c.perform.result _ _ (λ answer h budget budgets events run. run_replies budget budgets events c.args.self.now c.perform.new.self c.args.event.now answer run h) c.perform.ensures.happens
+
+pub returns-clause-grows : goal.returns-clause-grows
+returns-clause-grows g c = done_as c.perform.result _ _ (λ answer h budget budgets events run. run_grows budget budgets events c.args.self.now c.perform.new.self c.args.event.now answer run h) c.perform.ensures.happens
+
+pub returns-clause-no_stranger : goal.returns-clause-no_stranger
+returns-clause-no_stranger g c = λ budget budgets events run. run_no_stranger budget budgets events c.perform.new.self run

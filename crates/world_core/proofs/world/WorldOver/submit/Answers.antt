@@ -1,0 +1,55 @@
+use Rattle.std.proofs.Common.{◌≡◌, ◌∙◌, ◌-◌, suc, length, refl, ap, sym, arith}
+use Rattle.std.specs.Vec.{with_items}
+use Rattle.std.proofs.lemmas.List.{with_items_is}
+use Rattle.world_core.specs.Keeping.{ChangesOne, Submits}
+use Rattle.world_model.proofs.Lists.{length-slice_set}
+use Rattle.world_core.proofs.EventKeeping.{submit_answered}
+use Rattle.world_core.proofs.world.WorldOver.submit.Goals as goal
+
+pub invariant_of-self : goal.invariant_of-self
+invariant_of-self g c =
+    let is : (with_items c.self.inside.peers c.submit_at.new.peers).items ≡ c.submit_at.new.peers =
+    with_items_is c.self.inside.peers c.submit_at.new.peers
+    (ap length c.submit_at.ensures.changed ∙ (length-slice_set _ _ _ ∙ (ap length c.deref_mut.ensures.value ∙ sym c.self.inside.peers.ok.0))) in
+    let change : ChangesOne c.self.inside.peers.items (c.from-entry.result - 1) (with_items c.self.inside.peers c.submit_at.new.peers).items (Submits g.C.Channel.messages c.args.op.now c.submit_at.result) =
+    rw (is, ← c.deref_mut.ensures.value) c.submit_at.ensures in
+    let core_is : c.args.core ≡ suc (c.from-entry.result - 1) = omega (arith, c.from-entry.ensures, c.if-core-eq0.false) in
+    let answered = submit_answered g.C.Channel.messages c.self.inside.home c.self.inside.peers.items (with_items c.self.inside.peers c.submit_at.new.peers).items c.args.self.now _ c.args.core (c.from-entry.result - 1) c.args.op.now c.submit_at.result
+    c.self.invariant c.self.view_is refl core_is change in
+    answered.kept
+
+pub returns-clause-happens : goal.returns-clause-happens
+returns-clause-happens g c =
+    let is : (with_items c.self.inside.peers c.submit_at.new.peers).items ≡ c.submit_at.new.peers =
+    with_items_is c.self.inside.peers c.submit_at.new.peers
+    (ap length c.submit_at.ensures.changed ∙ (length-slice_set _ _ _ ∙ (ap length c.deref_mut.ensures.value ∙ sym c.self.inside.peers.ok.0))) in
+    let change : ChangesOne c.self.inside.peers.items (c.from-entry.result - 1) (with_items c.self.inside.peers c.submit_at.new.peers).items (Submits g.C.Channel.messages c.args.op.now c.submit_at.result) =
+    rw (is, ← c.deref_mut.ensures.value) c.submit_at.ensures in
+    let core_is : c.args.core ≡ suc (c.from-entry.result - 1) = omega (arith, c.from-entry.ensures, c.if-core-eq0.false) in
+    let answered = submit_answered g.C.Channel.messages c.self.inside.home c.self.inside.peers.items (with_items c.self.inside.peers c.submit_at.new.peers).items c.args.self.now _ c.args.core (c.from-entry.result - 1) c.args.op.now c.submit_at.result
+    c.self.invariant c.self.view_is refl core_is change in
+    answered.happens
+
+pub returns-clause-fault : goal.returns-clause-fault
+returns-clause-fault g c =
+    let is : (with_items c.self.inside.peers c.submit_at.new.peers).items ≡ c.submit_at.new.peers =
+    with_items_is c.self.inside.peers c.submit_at.new.peers
+    (ap length c.submit_at.ensures.changed ∙ (length-slice_set _ _ _ ∙ (ap length c.deref_mut.ensures.value ∙ sym c.self.inside.peers.ok.0))) in
+    let change : ChangesOne c.self.inside.peers.items (c.from-entry.result - 1) (with_items c.self.inside.peers c.submit_at.new.peers).items (Submits g.C.Channel.messages c.args.op.now c.submit_at.result) =
+    rw (is, ← c.deref_mut.ensures.value) c.submit_at.ensures in
+    let core_is : c.args.core ≡ suc (c.from-entry.result - 1) = omega (arith, c.from-entry.ensures, c.if-core-eq0.false) in
+    let answered = submit_answered g.C.Channel.messages c.self.inside.home c.self.inside.peers.items (with_items c.self.inside.peers c.submit_at.new.peers).items c.args.self.now _ c.args.core (c.from-entry.result - 1) c.args.op.now c.submit_at.result
+    c.self.invariant c.self.view_is refl core_is change in
+    answered.fault
+
+pub returns-clause-same : goal.returns-clause-same
+returns-clause-same g c =
+    let is : (with_items c.self.inside.peers c.submit_at.new.peers).items ≡ c.submit_at.new.peers =
+    with_items_is c.self.inside.peers c.submit_at.new.peers
+    (ap length c.submit_at.ensures.changed ∙ (length-slice_set _ _ _ ∙ (ap length c.deref_mut.ensures.value ∙ sym c.self.inside.peers.ok.0))) in
+    let change : ChangesOne c.self.inside.peers.items (c.from-entry.result - 1) (with_items c.self.inside.peers c.submit_at.new.peers).items (Submits g.C.Channel.messages c.args.op.now c.submit_at.result) =
+    rw (is, ← c.deref_mut.ensures.value) c.submit_at.ensures in
+    let core_is : c.args.core ≡ suc (c.from-entry.result - 1) = omega (arith, c.from-entry.ensures, c.if-core-eq0.false) in
+    let answered = submit_answered g.C.Channel.messages c.self.inside.home c.self.inside.peers.items (with_items c.self.inside.peers c.submit_at.new.peers).items c.args.self.now _ c.args.core (c.from-entry.result - 1) c.args.op.now c.submit_at.result
+    c.self.invariant c.self.view_is refl core_is change in
+    answered.same

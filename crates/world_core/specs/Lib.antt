@@ -1,0 +1,5 @@
+pub mod Keeping
+pub mod Moves
+pub mod Refusals
+pub mod Shown
+pub mod Settling

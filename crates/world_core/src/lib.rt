@@ -1,0 +1,20 @@
+//! The machine as one list of events: in each, one core starts or submits a request, takes a message or receives a packet.
+//!
+//! Core 0 and every other core are joined by two channels. A `World` has all cores with their replicas of the table, their
+//! places in the protocol and the messages under way, and does one event after another, in any order.
+#![tactic(auto)]
+
+mod fault;
+mod hearing;
+mod home;
+mod peer;
+mod settling;
+mod starting;
+#[cfg(test)]
+mod tests;
+mod world;
+
+pub use fault::{BootFault, WorldFault};
+pub use world::{World, WorldOver};
+pub use world_channels::{Channel, Lines, MessageLines, Messages};
+pub use world_model::{Answer, Done, Event, KeptList};

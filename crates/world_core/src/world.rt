@@ -1,0 +1,302 @@
+//! The world of the cores.
+
+ghost use Rattle.std.specs.Prelude.{◌≡◌, ◌≢◌, ◌+◌, ◌++◌, ◌∷◌, [], ℕ, Bool, None, Some, IfSome, IfNone, IfOk, IfErr, OnOk, OnErr, List, ◌<◌, ◌≤◌, All, length, map, slice_get, option_and_then, option_map};
+ghost use Rattle.monitor_messages.specs.declared.message.Message.{Message as GhostMessage};
+ghost use Rattle.world_channels.specs.Channels.{first_of};
+ghost use Rattle.world_model.specs.Worlds.{new_peer};
+ghost use Rattle.world_core.specs.Keeping.{seen_peer, PeerIsKept};
+ghost use Rattle.std.specs.Option.{option_copied};
+
+use crate::fault::{BootFault, WorldFault};
+use crate::hearing::hear;
+use crate::home::Home;
+use crate::peer::{Peer, submit_at, take_at};
+use crate::starting::{begin, begin_for};
+use monitor_2pc::Message;
+use pcap_reader::Packet;
+use std::alloc::{AllocError, Global};
+use std::marker::Model;
+use table_replica::{Op, Replica};
+use world_channels::{Channel, Messages};
+use world_model::{Answer, Event, KeptList};
+
+/// The most cores.
+const CORES: usize = 8;
+
+/// The world of the cores over channels of one kind, seen as the log, the place of each core in the protocol and the messages
+/// under way.
+#[derive(Drop)]
+pub struct WorldOver<C: Channel> {
+    alloc: Global,
+    home: Home,
+    peers: Vec<Peer<C>>,
+}
+
+/// The world over channels that keep messages.
+pub type World = WorldOver<Messages>;
+
+impl<C: Channel> Model for WorldOver<C> {
+    ghost use Rattle.world_model.specs.Worlds as worlds;
+    ghost use Rattle.world_core.specs.Keeping.{seen_world, WorldIsKept};
+
+    ghost Value = { worlds.World };
+
+    ghost view = { λ w. seen_world C.messages w.home w.peers.items };
+
+    ghost invariant = { λ w. WorldIsKept C.messages w.home w.peers.items };
+}
+
+impl<C: Channel> WorldOver<C> {
+    ghost use Rattle.world_model.specs.Worlds as worlds;
+    ghost use Rattle.monitor_messages.specs.Coding.{HasShortProgram};
+    ghost use Rattle.world_model.specs.declared.event.Event.TheVariants.{Start, Submit, StartFor, Take, Rx};
+    ghost use Rattle.world_core.specs.Refusals.{WorldRefuses, BootRefuses, HasCores, Reached, IsShortEvent, waiting_at};
+    ghost use Rattle.world_model.specs.Agreement.{Agrees, Grows, NoStranger};
+    ghost use Rattle.world_model.specs.Decisions.{Delivers, DecidesRightly, RepliesRightly};
+    ghost use Rattle.world_model.specs.declared.event.Done.{Done as GhostDone};
+    ghost use Rattle.world_core.specs.Shown.{ShowsReplica};
+
+    /// The cores of a machine, with these budgets, core 0's first. Nothing has happened yet.
+    pub fn boot(alloc: Global, budgets: &[u32]) -> Result<WorldOver<C>, BootFault>
+        ensures boots { IfOk result (λ world. (budget : ℕ) × (others : List ℕ) × (budgets.now ≡ budget ∷ others) × (world ≡ worlds.boot budget others)) }
+        ensures count { OnOk result (HasCores budgets.now) }
+        ensures fault { IfErr result (BootRefuses budgets.now) }
+    {
+        let [budget, others @ ..] = budgets else {
+            return Err(BootFault::CoreCount);
+        };
+        if others.len() >= CORES {
+            return Err(BootFault::CoreCount);
+        }
+        Ok(WorldOver::assemble(alloc, *budget, others)?)
+    }
+
+    // Core 0 with this budget, and the others with theirs.
+    fn assemble(alloc: Global, budget: u32, others: &[u32]) -> Result<WorldOver<C>, AllocError>
+        requires { length others.now ≤ 7 }
+        ensures { IfOk result (λ world. world ≡ worlds.boot budget others.now) }
+    {
+        let home = Home::new(alloc, budget, others.len() as u16)?;
+        let peers = new_peers(alloc, others)?;
+        Ok(WorldOver { alloc, home, peers })
+    }
+
+    /// How many cores there are. Some run of a machine led here.
+    pub(crate) fn cores(&self) -> u16
+        ensures count { result ≡ length self.now.peers + 1 }
+        ensures reached { (budget : ℕ) × (budgets : List ℕ) × Reached budget budgets self.now }
+    {
+        self.peers.len() as u16 + 1
+    }
+
+    /// The replica of a core, if there is such a core.
+    pub fn replica(&self, core: u16) -> Option<&Replica>
+        ensures some { IfSome result (λ replica. ShowsReplica self.now core replica.now) }
+        ensures none { IfNone result (worlds.version_at self.now core ≡ None) }
+    {
+        if core == 0 {
+            return Some(&self.home.replica);
+        }
+        match peer_at(&self.peers, usize::from(core) - 1) {
+            Some(peer) => Some(&peer.replica),
+            None => None,
+        }
+    }
+
+    /// The request that core 0 has waiting for a core.
+    pub fn waiting(&self, core: u16) -> Option<&Op>
+        ensures some { IfSome result (λ op. waiting_at self.now core ≡ Some op.now) }
+        ensures none { IfNone result (waiting_at self.now core ≡ None) }
+    {
+        self.home.coordinator.waiting(core)
+    }
+
+    /// Does one event, and answers what its core tells. A fault changes nothing.
+    ///
+    /// The faults, in the order in which they are looked for:
+    ///
+    /// - of a Take, `NoSuchCore` and `Nothing`;
+    /// - of an Rx, `NoSuchCore` and `NotReady`;
+    /// - of a Start, `NotIdle` and `Spent`;
+    /// - of a Submit, `NoSuchCore` (of core 0 too) and `Outstanding`;
+    /// - of a StartFor, `NoSuchCore` (of core 0 too), `NotIdle`, `Spent` and `NoneWaiting`.
+    ///
+    /// `NoMemory` is told where none of them stands. All memory that the event needs is taken before anything changes. The
+    /// program of a submitted request has at most 4,096 instructions.
+    pub fn apply(&mut self, event: &Event) -> Result<Answer, WorldFault>
+        requires { IsShortEvent event.now }
+        ensures happens { IfOk result (worlds.Happens self.old event.now self.new) }
+        ensures fault { IfErr result (WorldRefuses self.old event.now) }
+        ensures same { OnErr result (self.new ≡ self.old) }
+        ensures extends { IfOk result (λ answer. (budget : ℕ) (budgets : List ℕ) (events : List GhostDone) → worlds.Run budget budgets events self.old
+            → worlds.Run budget budgets (events ++ record { event = event.now; answer = answer } ∷ []) self.new) }
+        ensures grows { IfOk result (λ _. (budget : ℕ) (budgets : List ℕ) (events : List GhostDone) → worlds.Run budget budgets events self.old → Grows self.old self.new) }
+        ensures agrees { (budget : ℕ) (budgets : List ℕ) (events : List GhostDone) → worlds.Run budget budgets events self.new → Agrees budget budgets self.new }
+        ensures no_stranger { (budget : ℕ) (budgets : List ℕ) (events : List GhostDone) → worlds.Run budget budgets events self.new → NoStranger self.new }
+        ensures delivers { (budget : ℕ) (budgets : List ℕ) (events : List GhostDone) → worlds.Run budget budgets events self.new → Delivers self.new.log events }
+        ensures decides { IfOk result (λ answer. (budget : ℕ) (budgets : List ℕ) (events : List GhostDone) → worlds.Run budget budgets events self.old → DecidesRightly events self.old event.now self.new answer) }
+        ensures replies { IfOk result (λ answer. (budget : ℕ) (budgets : List ℕ) (events : List GhostDone) → worlds.Run budget budgets events self.old → RepliesRightly events self.old event.now answer) }
+    {
+        self.perform(event)
+    }
+
+    // Does one event.
+    fn perform(&mut self, event: &Event) -> Result<Answer, WorldFault>
+        requires { IsShortEvent event.now }
+        ensures happens { IfOk result (worlds.Happens self.old event.now self.new) }
+        ensures fault { IfErr result (WorldRefuses self.old event.now) }
+        ensures same { OnErr result (self.new ≡ self.old) }
+    {
+        match event {
+            Event::Start { op } => self.start(op),
+            Event::Submit { core, op } => self.submit(*core, op),
+            Event::StartFor { core } => self.start_for(*core),
+            Event::Take { to, from, short } => self.take(*to, *from, *short),
+            Event::Rx {
+                core,
+                packet,
+                floor,
+                ..
+            } => self.receive(*core, packet, *floor),
+        }
+    }
+
+    // Core 0 starts a request of its own.
+    fn start(&mut self, op: &Op) -> Result<Answer, WorldFault>
+        ensures happens { IfOk result (worlds.Happens self.old (Start op.now) self.new) }
+        ensures fault { IfErr result (WorldRefuses self.old (Start op.now)) }
+        ensures same { OnErr result (self.new ≡ self.old) }
+    {
+        if !self.home.coordinator.idle() {
+            return Err(WorldFault::NotIdle);
+        }
+        if self.home.coordinator.last() == u64::MAX {
+            return Err(WorldFault::Spent);
+        }
+        Ok(begin(&mut self.home, &mut self.peers, self.alloc, op)?)
+    }
+
+    // Core 0 starts the request that another core has waiting.
+    fn start_for(&mut self, core: u16) -> Result<Answer, WorldFault>
+        ensures happens { IfOk result (worlds.Happens self.old (StartFor core) self.new) }
+        ensures fault { IfErr result (WorldRefuses self.old (StartFor core)) }
+        ensures same { OnErr result (self.new ≡ self.old) }
+    {
+        if core == 0 || usize::from(core) > self.peers.len() {
+            return Err(WorldFault::NoSuchCore);
+        }
+        if !self.home.coordinator.idle() {
+            return Err(WorldFault::NotIdle);
+        }
+        if self.home.coordinator.last() == u64::MAX {
+            return Err(WorldFault::Spent);
+        }
+        begin_for(&mut self.home, &mut self.peers, self.alloc, core)
+    }
+
+    // A core receives a packet.
+    fn receive(&self, core: u16, packet: &Packet, floor: u64) -> Result<Answer, WorldFault>
+        ensures happens { (number : ℕ) → IfOk result (worlds.Happens self.now (Rx core number packet.now floor) self.now) }
+        ensures fault { (number : ℕ) → IfErr result (WorldRefuses self.now (Rx core number packet.now floor)) }
+    {
+        let Some(replica) = self.replica(core) else {
+            return Err(WorldFault::NoSuchCore);
+        };
+        let version = replica.version();
+        if version < floor {
+            return Err(WorldFault::NotReady);
+        }
+        let bytes = packet.bytes.as_slice();
+        let kept = replica.accepting(self.alloc, bytes, packet.original)?;
+        Ok(Answer::Delivered {
+            version,
+            kept: KeptList::from_vec(kept),
+        })
+    }
+
+    // Another core than core 0 submits a request.
+    fn submit(&mut self, core: u16, op: &Op) -> Result<Answer, WorldFault>
+        requires { HasShortProgram op.now }
+        ensures happens { IfOk result (worlds.Happens self.old (Submit core op.now) self.new) }
+        ensures fault { IfErr result (WorldRefuses self.old (Submit core op.now)) }
+        ensures same { OnErr result (self.new ≡ self.old) }
+    {
+        if core == 0 || usize::from(core) > self.peers.len() {
+            return Err(WorldFault::NoSuchCore);
+        }
+        let entry = usize::from(core) - 1;
+        submit_at(&mut self.peers, self.alloc, entry, op)
+    }
+
+    // A core takes its oldest message from another.
+    fn take(&mut self, to: u16, from: u16, short: bool) -> Result<Answer, WorldFault>
+        ensures happens { IfOk result (worlds.Happens self.old (Take to from short) self.new) }
+        ensures fault { IfErr result (WorldRefuses self.old (Take to from short)) }
+        ensures same { OnErr result (self.new ≡ self.old) }
+    {
+        if to == 0 {
+            self.take_up(from)
+        } else if from == 0 {
+            self.take_down(to, short)
+        } else {
+            Err(WorldFault::NoSuchCore)
+        }
+    }
+
+    // Another core than core 0 takes its oldest message.
+    pub(crate) fn take_down(&mut self, core: u16, short: bool) -> Result<Answer, WorldFault>
+        ensures happens { IfOk result (worlds.Happens self.old (Take core 0 short) self.new) }
+        ensures fault { IfErr result (WorldRefuses self.old (Take core 0 short)) }
+        ensures same { OnErr result (self.new ≡ self.old) }
+    {
+        if core == 0 || usize::from(core) > self.peers.len() {
+            return Err(WorldFault::NoSuchCore);
+        }
+        let entry = usize::from(core) - 1;
+        take_at(&mut self.peers, self.alloc, entry, short)
+    }
+
+    // Core 0 takes the oldest message of another core.
+    pub(crate) fn take_up(&mut self, core: u16) -> Result<Answer, WorldFault>
+        ensures happens { (short : Bool) → IfOk result (worlds.Happens self.old (Take 0 core short) self.new) }
+        ensures fault { (short : Bool) → IfErr result (WorldRefuses self.old (Take 0 core short)) }
+        ensures same { OnErr result (self.new ≡ self.old) }
+    {
+        if core == 0 || usize::from(core) > self.peers.len() {
+            return Err(WorldFault::NoSuchCore);
+        }
+        let entry = usize::from(core) - 1;
+        match oldest_at(&self.peers, entry)? {
+            None => Err(WorldFault::Nothing),
+            Some(message) => Ok(hear(&mut self.home, &mut self.peers, self.alloc, core, message)?),
+        }
+    }
+}
+
+// Cores other than core 0 that have done nothing yet.
+fn new_peers<C: Channel>(alloc: Global, budgets: &[u32]) -> Result<Vec<Peer<C>>, AllocError>
+    ensures seen { IfOk result (λ peers. map (seen_peer C.messages) peers.items ≡ map new_peer budgets.now) }
+    ensures kept { IfOk result (λ peers. All (PeerIsKept []) peers.items) }
+{
+    let mut peers = Vec::with_capacity(alloc, budgets.len())?;
+    for budget in budgets {
+        peers.push(Peer::new(alloc, *budget)?)?;
+    }
+    Ok(peers)
+}
+
+// The core with this entry.
+fn peer_at<C: Channel>(peers: &[Peer<C>], entry: usize) -> Option<&Peer<C>>
+    ensures { option_copied result ≡ slice_get peers.now entry }
+{
+    peers.get(entry)
+}
+
+// A copy of the oldest message of the core with this entry, if there is one.
+fn oldest_at<C: Channel>(peers: &[Peer<C>], entry: usize) -> Result<Option<Message>, AllocError>
+    requires { entry < length peers.now }
+    ensures ok { IfOk result (λ message. option_map (λ peer. first_of (C.messages peer.up)) (slice_get peers.now entry) ≡ Some message) }
+    ensures err { OnErr result (option_map (λ peer. C.messages peer.up) (slice_get peers.now entry) ≢ Some []) }
+{
+    peers[entry].up.first()
+}
