@@ -1,0 +1,11 @@
+pub mod DigitLemmas
+pub mod BlockLemmas
+pub mod PieceLemmas
+pub mod NumbersLemmas
+pub mod ReplayLemmas
+pub mod ChangeLemmas
+pub mod WordLemmas
+pub mod RowLemmas
+pub mod ReaderLemmas
+pub mod FileLemmas
+pub mod LawLemmas

@@ -1,0 +1,48 @@
+-- What a statement means once its body is read: the program of an assembler or a decimal text, the packets of a capture.
+use Rattle.std.specs.Prelude.{◌≡◌, ◌⊎◌, ℕ, List, Option, Some, None, Result, Ok, Err}
+use Rattle.bpf_insn.specs.Ddd.{Ddd, Faults}
+use Rattle.bpf_insn.specs.declared.insn.Insn.{Insn}
+use Rattle.bpf_insn.specs.declared.ddd.TextFault.{TextFault}
+use Rattle.filter_asm.specs.Program.{Asm, Assembles}
+use Rattle.filter_asm.specs.Faults.{fault_of}
+use Rattle.filter_asm.specs.declared.fault.AsmFault.{AsmFault}
+use Rattle.pcap_reader.specs.Savefile.{Reads}
+use Rattle.pcap_reader.specs.declared.capture.Header.{Header}
+use Rattle.pcap_reader.specs.declared.capture.Packet.{Packet}
+use Rattle.pcap_reader.specs.declared.capture.CaptureFault.{CaptureFault}
+use Rattle.mk_script.specs.declared.fault.BodyFault.TheVariants as body
+use Rattle.mk_script.specs.declared.fault.ScriptFaultKind.{ScriptFaultKind}
+use Rattle.mk_script.specs.declared.fault.ScriptFaultKind.TheVariants.{BadBody}
+use Rattle.mk_script.specs.Meanings.{Meaning, NamedProgram, NamedCapture, Known}
+use Rattle.mk_script.specs.Statements.{Statement}
+use Rattle.mk_script.specs.Drafts.{Draft, Whole, Assembler, Decimal, Savefile, Settings, draft_of, file_of}
+
+-- a program by a relation between texts and programs
+abbrev pub MeansAssembled : List ℕ → List ℕ → Result Meaning ScriptFaultKind → Type 0
+MeansAssembled name text outcome =
+    ((program : List Insn) × Asm text program × (outcome ≡ Ok (NamedProgram name program)))
+    ⊎ ((fault : AsmFault) × Assembles text (Err (fault_of fault)) × (outcome ≡ Err (BadBody (body.Asm fault))))
+
+abbrev pub MeansDecimal : List ℕ → List ℕ → Result Meaning ScriptFaultKind → Type 0
+MeansDecimal name text outcome =
+    ((program : List Insn) × Ddd text program × (outcome ≡ Ok (NamedProgram name program)))
+    ⊎ ((fault : TextFault) × Faults text fault × (outcome ≡ Err (BadBody (body.Ddd fault))))
+
+abbrev pub MeansCaptured : List ℕ → List ℕ → Result Meaning ScriptFaultKind → Type 0
+MeansCaptured name bytes outcome =
+    ((header : Option Header) × (packets : List Packet) × Reads bytes header packets None × (outcome ≡ Ok (NamedCapture name packets)))
+    ⊎ ((header : Option Header) × (packets : List Packet) × (fault : CaptureFault) × Reads bytes header packets (Some fault) × (outcome ≡ Err (BadBody (body.Capture fault))))
+
+abbrev pub DraftMeans : Settings → Draft → Result Meaning ScriptFaultKind → Type 0
+DraftMeans settings (Whole meaning) outcome = outcome ≡ Ok meaning
+DraftMeans settings (Assembler name text) outcome = MeansAssembled name text outcome
+DraftMeans settings (Decimal name text) outcome = MeansDecimal name text outcome
+DraftMeans settings (Savefile name number) outcome = MeansCaptured name (file_of settings number) outcome
+
+abbrev pub DraftedMeans : Settings → Result Draft ScriptFaultKind → Result Meaning ScriptFaultKind → Type 0
+DraftedMeans settings (Ok draft) outcome = DraftMeans settings draft outcome
+DraftedMeans settings (Err fault) outcome = outcome ≡ Err fault
+
+-- a statement means this behind what is known, or has this fault first
+abbrev pub Means : Settings → Known → Statement → Result Meaning ScriptFaultKind → Type 0
+Means settings k statement outcome = DraftedMeans settings (draft_of settings k statement) outcome

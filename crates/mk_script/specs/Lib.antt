@@ -1,0 +1,16 @@
+pub mod Words
+pub mod Rows
+pub mod Statements
+pub mod Meanings
+pub mod Drafts
+pub mod Bodies
+pub mod Scripts
+pub mod Views
+pub mod Names
+pub mod RowViews
+pub mod Pieces
+pub mod DraftViews
+pub mod Homes
+pub mod BodyViews
+pub mod Changes
+pub mod Reading

@@ -1,0 +1,148 @@
+//! What the words of a command ask for.
+
+ghost use Rattle.std.specs.Prelude.{◌≡◌, ◌≤◌, ◌<◌, ◌==◌, ◌^◌, ℕ, not, List, [], ◌∷◌, drop, length, map, Option, option_map, Result, Ok, Err, IfOk, IfErr, is_some, vec_len, nat_lt, if◌then◌else◌};
+ghost use Rattle.std.specs.Option.{option_copied};
+ghost use Rattle.mk_script.specs.Drafts as spec;
+ghost use Rattle.mk_script.specs.DraftViews.{Answered, known_of, settings_of, identity};
+ghost use Rattle.mk_script.specs.Views.{texts};
+ghost use Rattle.mk_script.specs.Words.{check};
+
+use crate::fault::{BodyFault, ScriptFaultKind};
+use crate::number::{number, number16, number16_below, number32, number64};
+use crate::reading::Reading;
+use crate::rows::{Command, before_dot};
+use crate::words::{find, word_at};
+use endpoint_caps::Rights;
+use pcap_reader::{Bytes, Packet};
+use std::alloc::Global;
+use table_replica::{Op, Program};
+use world_model::Event;
+
+/// A fault where a test fails.
+pub(crate) fn check(passes: bool, fault: ScriptFaultKind) -> Result<(), ScriptFaultKind>
+    ensures { result ≡ check passes fault }
+{
+    if passes { Ok(()) } else { Err(fault) }
+}
+
+fn rights_of(word: &[u8]) -> Rights
+    ensures { result ≡ spec.rights_of word.now }
+{
+    if word == b"r".as_slice() {
+        Rights::R
+    } else if word == b"m".as_slice() {
+        Rights::M
+    } else {
+        Rights::Rm
+    }
+}
+
+#[tactic(auto, unfolding(crate::specs::Drafts::create_op))]
+fn create(words: &[&[u8]]) -> Result<Op, ScriptFaultKind>
+    ensures { result ≡ spec.create_op (texts words.now) }
+{
+    let domain = number16(word_at(words, 1))?;
+    let endpoint = number16(word_at(words, 2))?;
+    Ok(Op::Create { domain, endpoint })
+}
+
+#[tactic(auto, unfolding(crate::specs::Drafts::mint_op))]
+fn mint(words: &[&[u8]]) -> Result<Op, ScriptFaultKind>
+    ensures { result ≡ spec.mint_op (texts words.now) }
+{
+    let domain = number16(word_at(words, 1))?;
+    let cap = number32(word_at(words, 2))?;
+    let to = number16(word_at(words, 3))?;
+    let rights = rights_of(word_at(words, 4));
+    Ok(Op::Mint {
+        domain,
+        cap,
+        to,
+        rights,
+    })
+}
+
+/// A domain, and a capability or a filter.
+#[tactic(auto, unfolding(crate::specs::Drafts::held))]
+fn held(words: &[&[u8]]) -> Result<(u16, u32), ScriptFaultKind>
+    ensures { result ≡ spec.held (texts words.now) }
+{
+    let domain = number16(word_at(words, 1))?;
+    let id = number32(word_at(words, 2))?;
+    Ok((domain, id))
+}
+
+/// A domain, a capability or a filter, and a program by its name.
+#[tactic(auto, unfolding(crate::specs::Drafts::held_program))]
+fn held_program<'a>(
+    alloc: Global,
+    reading: &Reading<'a>,
+    words: &[&'a [u8]],
+) -> Result<(u16, u32, Program), ScriptFaultKind>
+    ensures { Answered identity result (spec.held_program (known_of reading.now) (texts words.now)) }
+{
+    let (domain, id) = held(words)?;
+    let Some(program) = reading.programs.get(word_at(words, 3)) else {
+        return Err(ScriptFaultKind::NoName);
+    };
+    let program = program.copy(alloc)?;
+    Ok((domain, id, program))
+}
+
+/// The operation that a command asks for.
+pub(crate) fn op_of<'a>(
+    alloc: Global,
+    reading: &Reading<'a>,
+    words: &[&'a [u8]],
+    command: Command,
+) -> Result<Op, ScriptFaultKind>
+    ensures { Answered identity result (spec.op_of (known_of reading.now) (texts words.now) command) }
+{
+    match command {
+        Command::Create => create(words),
+        Command::Mint => mint(words),
+        Command::Revoke => {
+            let (domain, cap) = held(words)?;
+            Ok(Op::Revoke { domain, cap })
+        }
+        Command::DropCap => {
+            let (domain, cap) = held(words)?;
+            Ok(Op::DropCap { domain, cap })
+        }
+        Command::Install => {
+            let (domain, cap, program) = held_program(alloc, reading, words)?;
+            Ok(Op::Install {
+                domain,
+                cap,
+                program,
+            })
+        }
+        Command::Remove => {
+            let (domain, filter) = held(words)?;
+            Ok(Op::Remove { domain, filter })
+        }
+        Command::Replace => {
+            let (domain, filter, program) = held_program(alloc, reading, words)?;
+            Ok(Op::Replace {
+                domain,
+                filter,
+                program,
+            })
+        }
+        _ => Err(ScriptFaultKind::BadLine),
+    }
+}
+
+pub(crate) fn domain_of(op: &Op) -> u16
+    ensures { result ≡ spec.domain_of op.now }
+{
+    match op {
+        Op::Create { domain, .. }
+        | Op::Mint { domain, .. }
+        | Op::Revoke { domain, .. }
+        | Op::DropCap { domain, .. }
+        | Op::Install { domain, .. }
+        | Op::Remove { domain, .. }
+        | Op::Replace { domain, .. } => *domain,
+    }
+}

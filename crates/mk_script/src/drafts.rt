@@ -1,0 +1,433 @@
+//! What the statements of a script ask for.
+
+ghost use Rattle.std.specs.Prelude.{◌≡◌, ◌≤◌, ◌<◌, ◌==◌, ◌+◌, ◌⊎◌, ◌^◌, ℕ, not, false, List, [], ◌∷◌, ◌++◌, drop, length, map, Option, Some, None, option_map, Result, Ok, Err, true, IfOk, IfErr, IfSome, OnOk, is_some, vec_len, min, nat_lt, if◌then◌else◌};
+ghost use Rattle.std.specs.Option.{option_copied};
+ghost use Rattle.std.specs.Result.{result_map_both};
+ghost use Rattle.std.specs.List.{list_any, before_first, after_first};
+ghost use Rattle.bpf_insn.specs.Texts.{number_of};
+ghost use Rattle.mk_script.specs.Drafts as spec;
+ghost use Rattle.mk_script.specs.Meanings as meanings;
+ghost use Rattle.mk_script.specs.Changes.{DraftFollows};
+ghost use Rattle.mk_script.specs.declared.reading.Reading.{Reading};
+ghost use Rattle.mk_script.specs.declared.rows.Command.{Command};
+ghost use Rattle.mk_script.specs.DraftViews.{Answered, draft_of, known_of, settings_of, identity};
+ghost use Rattle.mk_script.specs.Views.{texts};
+ghost use Rattle.mk_script.specs.Words as words_spec;
+ghost use Rattle.mk_script.specs.declared.fault.ScriptFaultKind.TheVariants.{NoMemory};
+
+use crate::commands::{check, domain_of, op_of};
+use crate::fault::{BodyFault, ScriptFaultKind};
+use crate::meaning::{Draft, Meaning};
+use crate::number::{number, number16, number16_below, number32, number64};
+use crate::reading::Reading;
+use crate::rows::{Command, command_of};
+use crate::script::Item;
+use crate::settings::Settings;
+use crate::words::{behind_word, cut, word_at};
+use pcap_reader::{Bytes, Packet};
+use std::alloc::Global;
+use world_model::Event;
+
+/// The numbers of words, as budgets are written.
+fn budgets(alloc: Global, words: &[&[u8]]) -> Result<Vec<u32>, ScriptFaultKind>
+    ensures numbers { Answered (λ v. v.items) result (spec.numbers_below (2 ^ 32) (texts words.now)) }
+    ensures len { IfOk result (λ v. vec_len v ≡ length words.now) }
+{
+    let mut budgets = Vec::new(alloc);
+    for word in words {
+        budgets.push(number32(word)?)?;
+    }
+    Ok(budgets)
+}
+
+#[tactic(auto, unfolding(crate::specs::Drafts::cores_draft))]
+fn cores<'a>(
+    alloc: Global,
+    reading: &Reading<'a>,
+    words: &[&'a [u8]],
+) -> Result<Draft<'a>, ScriptFaultKind>
+    requires some { 1 ≤ length words.now }
+    requires few { length words.now ≤ 9 }
+    ensures drafts { Answered draft_of result (spec.cores_draft (known_of reading.now) (texts words.now)) }
+    ensures follows { IfOk result (λ d. DraftFollows reading.now d) }
+{
+    let budgets = budgets(alloc, &words[1..])?;
+    check(reading.budgets.is_empty(), ScriptFaultKind::Twice)?;
+    Ok(Draft::Whole(Meaning::Budgets(budgets)))
+}
+
+#[tactic(auto, unfolding(crate::specs::Drafts::asm_draft))]
+fn asm<'a>(
+    reading: &Reading<'a>,
+    words: &[&'a [u8]],
+    block: Option<&'a [u8]>,
+) -> Result<Draft<'a>, ScriptFaultKind>
+    requires { IfSome block (λ text. length text.now < 2 ^ 32) }
+    ensures drafts { Answered draft_of result (spec.asm_draft (known_of reading.now) (texts words.now) (option_copied block.entry)) }
+    ensures follows { IfOk result (λ d. DraftFollows reading.now d) }
+{
+    let name = word_at(words, 1);
+    check(reading.programs.get(name).is_none(), ScriptFaultKind::Twice)?;
+    let text = match block {
+        Some(text) => text,
+        None => &[],
+    };
+    Ok(Draft::Assembler(name, text))
+}
+
+#[tactic(auto, unfolding(crate::specs::Drafts::ddd_draft))]
+fn ddd<'a>(
+    reading: &Reading<'a>,
+    words: &[&'a [u8]],
+    line: &'a [u8],
+) -> Result<Draft<'a>, ScriptFaultKind>
+    ensures drafts { Answered draft_of result (spec.ddd_draft (known_of reading.now) (texts words.now) line.now) }
+    ensures follows { IfOk result (λ d. DraftFollows reading.now d) }
+{
+    let name = word_at(words, 1);
+    check(reading.programs.get(name).is_none(), ScriptFaultKind::Twice)?;
+    Ok(Draft::Decimal(name, behind_word(behind_word(line))))
+}
+
+/// The number of an optional word.
+fn optional32(words: &[&[u8]], place: usize) -> Result<Option<u32>, ScriptFaultKind>
+    ensures { result ≡ spec.optional_below (2 ^ 32) (texts words.now) place }
+{
+    if place < words.len() {
+        Ok(Some(number32(word_at(words, place))?))
+    } else {
+        Ok(None)
+    }
+}
+
+/// The floor of receptions, or 0.
+fn floor_at(words: &[&[u8]], place: usize) -> Result<u64, ScriptFaultKind>
+    ensures { result ≡ spec.floor_at (texts words.now) place }
+{
+    if place < words.len() {
+        number64(word_at(words, place))
+    } else {
+        Ok(0)
+    }
+}
+
+/// The bytes that hexadecimal digits write.
+fn hex_bytes(alloc: Global, word: &[u8]) -> Result<Vec<u8>, ScriptFaultKind>
+    ensures bytes { Answered (λ v. v.items) result (spec.hex_bytes word.now) }
+    ensures short { IfOk result (λ v. vec_len v ≤ length word.now) }
+{
+    if word == b"-".as_slice() {
+        return Ok(Vec::new(alloc));
+    }
+    match hex::decode(alloc, word) {
+        Ok(bytes) => Ok(bytes),
+        Err(hex::FromHexError::OutOfMemory) => Err(ScriptFaultKind::NoMemory),
+        Err(_) => Err(ScriptFaultKind::BadBody(BodyFault::Hex)),
+    }
+}
+
+#[tactic(auto, unfolding(crate::specs::Drafts::packet_draft))]
+fn packet<'a>(
+    alloc: Global,
+    reading: &Reading<'a>,
+    words: &[&'a [u8]],
+) -> Result<Draft<'a>, ScriptFaultKind>
+    requires { length (words_spec.word_at (texts words.now) 2) < 2 ^ 32 }
+    ensures drafts { Answered draft_of result (spec.packet_draft (known_of reading.now) (texts words.now)) }
+    ensures follows { IfOk result (λ d. DraftFollows reading.now d) }
+{
+    let name = word_at(words, 1);
+    let original = optional32(words, 3)?;
+    check(reading.packets.get(name).is_none(), ScriptFaultKind::Twice)?;
+    let bytes = hex_bytes(alloc, word_at(words, 2))?;
+    let original = original.unwrap_or(bytes.len() as u32);
+    let packet = Packet {
+        bytes: Bytes::from_vec(bytes),
+        original,
+    };
+    Ok(Draft::Whole(Meaning::NamedPacket(name, packet)))
+}
+
+/// A number of any length.
+fn whole_number(word: &[u8]) -> Result<u128, ScriptFaultKind>
+    ensures ok { IfOk result (λ n. (m : ℕ) × (words_spec.whole_number word.now ≡ Ok m) × (n ≡ min m 18446744073709551616)) }
+    ensures err { IfErr result (λ fault. words_spec.whole_number word.now ≡ Err fault) }
+{
+    number(word).ok_or(ScriptFaultKind::BadNumber)
+}
+
+#[tactic(auto, unfolding(crate::specs::Drafts::capture_draft))]
+fn capture<'a>(
+    settings: Settings<'a>,
+    reading: &Reading<'a>,
+    words: &[&'a [u8]],
+) -> Result<Draft<'a>, ScriptFaultKind>
+    ensures drafts { Answered draft_of result (spec.capture_draft (settings_of settings.entry) (known_of reading.now) (texts words.now)) }
+    ensures follows { IfOk result (λ d. DraftFollows reading.now d) }
+{
+    let name = word_at(words, 1);
+    let number = whole_number(word_at(words, 2))?;
+    check(reading.captures.get(name).is_none(), ScriptFaultKind::Twice)?;
+    if number == 0 || number > settings.files.len() as u128 {
+        return Err(ScriptFaultKind::NoName);
+    }
+    Ok(Draft::Savefile(name, number as usize))
+}
+
+/// The element at a place that is counted from 1.
+pub(crate) fn counted<T>(elements: &[T], number: u128) -> Option<&T>
+    ensures { (m : ℕ) → number ≡ min m 18446744073709551616 → option_copied result ≡ spec.counted elements.now m }
+{
+    if number == 0 || number > elements.len() as u128 {
+        return None;
+    }
+    elements.get(number as usize - 1)
+}
+
+#[tactic(auto, unfolding(crate::specs::Drafts::home_draft))]
+fn home<'a>(reading: &Reading<'a>, words: &[&'a [u8]]) -> Result<Draft<'a>, ScriptFaultKind>
+    ensures drafts { Answered draft_of result (spec.home_draft (known_of reading.now) (texts words.now)) }
+    ensures follows { IfOk result (λ d. DraftFollows reading.now d) }
+{
+    let domain = number16(word_at(words, 1))?;
+    let core = number16_below(reading.budgets.len() as u32, word_at(words, 2))?;
+    Ok(Draft::Whole(Meaning::Home(domain, core)))
+}
+
+/// A request with the core at which it enters.
+#[tactic(auto, unfolding(crate::specs::Drafts::request_draft))]
+fn request<'a>(
+    alloc: Global,
+    reading: &Reading<'a>,
+    words: &[&'a [u8]],
+    command: Command,
+) -> Result<Draft<'a>, ScriptFaultKind>
+    ensures drafts { Answered draft_of result (spec.request_draft (known_of reading.now) (texts words.now) command) }
+    ensures follows { IfOk result (λ d. DraftFollows reading.now d) }
+{
+    let op = op_of(alloc, reading, words, command)?;
+    let core = reading.homes.get(domain_of(&op));
+    Ok(Draft::Whole(Meaning::Does(Item::Ask(core, op))))
+}
+
+pub(crate) fn act<'a>(item: Item) -> Draft<'a>
+    ensures drafts { draft_of result ≡ spec.Whole (meanings.Does item) }
+    ensures follows { (r : Reading) → DraftFollows r result }
+{
+    Draft::Whole(Meaning::Does(item))
+}
+
+/// A message that is taken.
+#[tactic(auto, unfolding(crate::specs::Drafts::take_draft))]
+pub(crate) fn take<'a>(words: &[&[u8]], short: bool) -> Result<Draft<'a>, ScriptFaultKind>
+    ensures drafts { Answered draft_of result (spec.take_draft (texts words.now) short) }
+    ensures follows { (r : Reading) → IfOk result (λ d. DraftFollows r d) }
+{
+    let to = number16(word_at(words, 1))?;
+    let from = number16(word_at(words, 2))?;
+    Ok(act(Item::Apply(Event::Take { to, from, short })))
+}
+
+/// Whether the word has a `.`, as `C.I` has.
+fn is_dotted(word: &[u8]) -> bool
+    ensures { result ≡ spec.is_dotted word.now }
+{
+    word.contains(&b'.')
+}
+
+/// The packet of a name, or of a capture by its number.
+#[tactic(auto, unfolding(crate::specs::Drafts::packet_at))]
+fn packet_at<'r, 'a>(
+    reading: &'r Reading<'a>,
+    word: &'a [u8],
+) -> Result<&'r Packet, ScriptFaultKind>
+    ensures { Answered (λ p. p.now) result (spec.packet_at (known_of reading.now) word.now) }
+{
+    if !is_dotted(word) {
+        return reading.packets.get(word).ok_or(ScriptFaultKind::NoName);
+    }
+    let (name, number) = cut(b'.', word);
+    let number = whole_number(number)?;
+    let Some(packets) = reading.captures.get(name) else {
+        return Err(ScriptFaultKind::NoName);
+    };
+    counted(packets.as_slice(), number).ok_or(ScriptFaultKind::NoName)
+}
+
+/// A core, which is one of the script's where it is for threads.
+fn core_at(
+    settings: Settings<'_>,
+    reading: &Reading<'_>,
+    word: &[u8],
+) -> Result<u16, ScriptFaultKind>
+    ensures { result ≡ words_spec.number_below (spec.core_limit (settings_of settings.entry) (known_of reading.now)) word.now }
+{
+    if settings.threads {
+        number16_below(reading.budgets.len() as u32, word)
+    } else {
+        number16(word)
+    }
+}
+
+/// A packet that is received.
+#[tactic(auto, unfolding(crate::specs::Drafts::rx_draft))]
+fn rx<'a>(
+    alloc: Global,
+    settings: Settings<'a>,
+    reading: &Reading<'a>,
+    words: &[&'a [u8]],
+) -> Result<Draft<'a>, ScriptFaultKind>
+    requires { reading.now.jobs ≡ None }
+    ensures drafts { Answered draft_of result (spec.rx_draft (settings_of settings.entry) (known_of reading.now) reading.now.received (texts words.now)) }
+    ensures follows { IfOk result (λ d. DraftFollows reading.now d) }
+{
+    let core = core_at(settings, reading, word_at(words, 1))?;
+    let floor = floor_at(words, 3)?;
+    let packet = packet_at(reading, word_at(words, 2))?.copy(alloc)?;
+    let mut events = Vec::new(alloc);
+    events.push(Event::Rx {
+        core,
+        number: reading.received + 1,
+        packet,
+        floor,
+    })?;
+    Ok(Draft::Whole(Meaning::Receives(events)))
+}
+
+/// The packets of a capture, each received at the core of its place.
+fn replayed(
+    alloc: Global,
+    cores: usize,
+    received: u64,
+    floor: u64,
+    packets: &[Packet],
+) -> Result<Vec<Event>, ScriptFaultKind>
+    requires some { 0 < cores }
+    requires few { cores ≤ 8 }
+    requires room { received < 2 ^ 63 }
+    ensures ok { IfOk result (λ v. v.items ≡ spec.replayed cores received floor 0 packets.now) }
+    ensures err { IfErr result (λ fault. fault ≡ NoMemory) }
+{
+    let mut events = Vec::new(alloc);
+    for (place, packet) in packets.iter().enumerate() {
+        let packet = packet.copy(alloc)?;
+        events.push(Event::Rx {
+            core: (place % cores) as u16,
+            number: received + place as u64 + 1,
+            packet,
+            floor,
+        })?;
+    }
+    Ok(events)
+}
+
+#[tactic(auto, unfolding(crate::specs::Drafts::replay_draft))]
+fn replay<'a>(
+    alloc: Global,
+    reading: &Reading<'a>,
+    words: &[&'a [u8]],
+) -> Result<Draft<'a>, ScriptFaultKind>
+    requires some { 0 < vec_len reading.now.budgets }
+    requires untraced { reading.now.jobs ≡ None }
+    ensures drafts { Answered draft_of result (spec.replay_draft (known_of reading.now) reading.now.received (texts words.now)) }
+    ensures follows { IfOk result (λ d. DraftFollows reading.now d) }
+{
+    let floor = floor_at(words, 2)?;
+    let Some(packets) = reading.captures.get(word_at(words, 1)) else {
+        return Err(ScriptFaultKind::NoName);
+    };
+    let events = replayed(
+        alloc,
+        reading.budgets.len(),
+        reading.received,
+        floor,
+        packets.as_slice(),
+    )?;
+    Ok(Draft::Whole(Meaning::Receives(events)))
+}
+
+/// What stands on a line by its command.
+#[tactic(auto, unfolding(crate::specs::Drafts::core_draft))]
+fn draft_by<'a>(
+    alloc: Global,
+    settings: Settings<'a>,
+    reading: &Reading<'a>,
+    words: &[&'a [u8]],
+    line: &'a [u8],
+    block: Option<&'a [u8]>,
+    command: Command,
+) -> Result<Draft<'a>, ScriptFaultKind>
+    requires some { 1 ≤ length words.now }
+    requires short { length (words_spec.word_at (texts words.now) 2) < 2 ^ 32 }
+    requires ready { spec.is_cores command ≡ false → 0 < vec_len reading.now.budgets }
+    requires few { spec.is_cores command ≡ true → length words.now ≤ 9 }
+    requires block_short { IfSome block (λ text. length text.now < 2 ^ 32) }
+    requires stands { spec.may_stand reading.now.acted (option_copied block) command ≡ true }
+    requires untraced { reading.now.jobs ≡ None }
+    ensures drafts { Answered draft_of result (spec.draft_by (settings_of settings.entry) (known_of reading.now) reading.now.received (texts words.now) line.now (option_copied block.entry) command) }
+    ensures follows { IfOk result (λ d. DraftFollows reading.now d) }
+{
+    match command {
+        Command::Cores => cores(alloc, reading, words),
+        Command::Asm => asm(reading, words, block),
+        Command::Ddd => ddd(reading, words, line),
+        Command::Packet => packet(alloc, reading, words),
+        Command::Capture => capture(settings, reading, words),
+        Command::Home => home(reading, words),
+        Command::Start => Ok(act(Item::Begin)),
+        Command::Submit => Ok(act(Item::Submit(number16(word_at(words, 1))?))),
+        Command::StartFor => Ok(act(Item::StartFor(number16(word_at(words, 1))?))),
+        Command::Take => take(words, words.len() > 3),
+        Command::Rx => rx(alloc, settings, reading, words),
+        Command::Replay => replay(alloc, reading, words),
+        Command::Settle => Ok(act(Item::Settle)),
+        Command::Show => Ok(act(Item::Show(number16(word_at(words, 1))?))),
+        Command::Trace => Ok(Draft::Whole(Meaning::Trace)),
+        _ => request(alloc, reading, words, command),
+    }
+}
+
+fn may_stand(acted: bool, block: Option<&[u8]>, command: Command) -> bool
+    ensures { result ≡ spec.may_stand acted (option_copied block.entry) command }
+{
+    match command {
+        Command::Asm => block.is_some(),
+        Command::Trace => !acted,
+        _ => true,
+    }
+}
+
+fn is_cores(command: Command) -> bool
+    ensures { result ≡ spec.is_cores command }
+{
+    matches!(command, Command::Cores)
+}
+
+/// What a line of a script asks for, by its words and by what is known; not behind `trace`.
+#[tactic(auto, unfolding(crate::specs::Drafts::script_draft))]
+pub(crate) fn script_line<'a>(
+    alloc: Global,
+    settings: Settings<'a>,
+    reading: &Reading<'a>,
+    words: &[&'a [u8]],
+    line: &'a [u8],
+    block: Option<&'a [u8]>,
+) -> Result<Draft<'a>, ScriptFaultKind>
+    requires some { 1 ≤ length words.now }
+    requires short { length (words_spec.word_at (texts words.now) 2) < 2 ^ 32 }
+    requires block_short { IfSome block (λ text. length text.now < 2 ^ 32) }
+    requires untraced { reading.now.jobs ≡ None }
+    ensures drafts { Answered draft_of result (spec.script_draft (settings_of settings.entry) (known_of reading.now) reading.now.received (texts words.now) line.now (option_copied block.entry)) }
+    ensures follows { IfOk result (λ d. DraftFollows reading.now d) }
+{
+    let command = command_of(settings.threads, words).ok_or(ScriptFaultKind::BadLine)?;
+    check(
+        may_stand(reading.acted, block, command),
+        ScriptFaultKind::BadLine,
+    )?;
+    check(
+        is_cores(command) || !reading.budgets.is_empty(),
+        ScriptFaultKind::NoCores,
+    )?;
+    draft_by(alloc, settings, reading, words, line, block, command)
+}

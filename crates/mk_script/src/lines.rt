@@ -1,0 +1,127 @@
+//! The lines of a script, and the statements that they make.
+
+ghost use Rattle.std.specs.Prelude.{◌≡◌, ℕ, ◌==◌, ◌+◌, ◌<◌, ◌≤◌, ◌^◌, List, length, IfOk};
+ghost use Rattle.std.specs.List.{before_first, after_first};
+ghost use Rattle.bpf_insn.specs.Texts.{words_of};
+ghost use Rattle.mk_script.specs.Pieces.{BlockIs, PieceIs};
+ghost use Rattle.mk_script.specs.Statements as spec;
+ghost use Rattle.mk_script.specs.Views.{texts};
+
+use crate::words::{cut, words};
+use std::alloc::{AllocError, Global};
+
+/// The first line, and what stands behind its LF.
+fn split_line(text: &[u8]) -> (&[u8], &[u8])
+    ensures line { result.0.now ≡ before_first (λ b. b == 10) text.now }
+    ensures rest { result.1.now ≡ after_first (λ b. b == 10) text.now }
+{
+    cut(b'\n', text)
+}
+
+/// Whether a line of these words is skipped.
+pub(crate) fn is_skipped(words: &[&[u8]]) -> bool
+    ensures { result ≡ spec.is_skipped (texts words.now) }
+{
+    let Some((word, _)) = words.split_first() else {
+        return true;
+    };
+    let Some((first, _)) = word.split_first() else {
+        return false;
+    };
+    *first == b'#'
+}
+
+fn opens_block(words: &[&[u8]]) -> bool
+    ensures { result ≡ spec.opens_block (texts words.now) }
+{
+    let Some((word, _)) = words.split_first() else {
+        return false;
+    };
+    *word == b"asm".as_slice()
+}
+
+fn is_end(words: &[&[u8]]) -> bool
+    ensures { result ≡ spec.is_end (texts words.now) }
+{
+    let Some((word, words)) = words.split_first() else {
+        return false;
+    };
+    words.is_empty() && *word == b"end".as_slice()
+}
+
+/// The lines of an `asm` block to its `end`: their text, how many lines they are with `end`, and what stands behind it.
+#[derive(Drop)]
+struct Block<'a> {
+    text: &'a [u8],
+    lines: u32,
+    rest: &'a [u8],
+}
+
+/// The block at the front of a text, where it has an end.
+fn block_at(alloc: Global, text: &[u8]) -> Result<Option<Block<'_>>, AllocError>
+    requires { length text.now < 2 ^ 32 }
+    ensures { IfOk result (λ found. BlockIs text.now found) }
+{
+    let mut rest = text;
+    let mut lines = 0;
+    while !rest.is_empty() {
+        let (line, after) = split_line(rest);
+        lines += 1;
+        if is_end(&words(alloc, line)?) {
+            return Ok(Some(Block {
+                text: &text[..text.len() - rest.len()],
+                lines,
+                rest: after,
+            }));
+        }
+        rest = after;
+    }
+    Ok(None)
+}
+
+/// A line, with what belongs to it: the words, and the block where it is that of `asm` and has one.
+#[derive(Drop)]
+pub(crate) struct Piece<'a> {
+    pub words: Vec<&'a [u8]>,
+    pub line: &'a [u8],
+    pub block: Option<&'a [u8]>,
+    /// How many lines these are.
+    pub lines: u32,
+    /// What stands behind them.
+    pub rest: &'a [u8],
+}
+
+/// The first piece of a text.
+pub(crate) fn first_piece(alloc: Global, text: &[u8]) -> Result<Piece<'_>, AllocError>
+    requires some { 0 < length text.now }
+    requires short { length text.now < 2 ^ 32 }
+    ensures { IfOk result (λ piece. PieceIs text.now piece) }
+{
+    let (line, rest) = split_line(text);
+    let words = words(alloc, line)?;
+    if !opens_block(&words) {
+        return Ok(Piece {
+            words,
+            line,
+            block: None,
+            lines: 1,
+            rest,
+        });
+    }
+    match block_at(alloc, rest)? {
+        Some(block) => Ok(Piece {
+            words,
+            line,
+            block: Some(block.text),
+            lines: block.lines + 1,
+            rest: block.rest,
+        }),
+        None => Ok(Piece {
+            words,
+            line,
+            block: None,
+            lines: 1,
+            rest: &[],
+        }),
+    }
+}

@@ -1,0 +1,39 @@
+//! What a line means.
+
+ghost use Rattle.std.specs.Prelude.{◌≡◌};
+
+use crate::script::Item;
+use pcap_reader::{Packet, Packets};
+use table_replica::Program;
+use world_model::Event;
+
+/// What a line means.
+#[derive(Drop)]
+pub(crate) enum Meaning<'a> {
+    /// The budgets of the cores.
+    Budgets(Vec<u32>),
+    NamedProgram(&'a [u8], Program),
+    NamedPacket(&'a [u8], Packet),
+    NamedCapture(&'a [u8], Packets),
+    /// A domain, and the core at which its requests enter from now on.
+    Home(u16, u16),
+    Does(Item),
+    /// Packets that are received.
+    Receives(Vec<Event>),
+    /// The events of a run follow.
+    Trace,
+    /// A line of a trace that tells of no event.
+    Nothing,
+}
+
+/// What a line asks for: its meaning, or a name with the body that is to be read.
+#[derive(Drop)]
+pub(crate) enum Draft<'a> {
+    Whole(Meaning<'a>),
+    /// The text of a program for the assembler.
+    Assembler(&'a [u8], &'a [u8]),
+    /// The decimal text of a program.
+    Decimal(&'a [u8], &'a [u8]),
+    /// The number of the file of a capture, from 1.
+    Savefile(&'a [u8], usize),
+}

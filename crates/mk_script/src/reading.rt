@@ -1,0 +1,30 @@
+//! What is known of a script that was read so far.
+
+ghost use Rattle.std.specs.Prelude.{◌≤◌, vec_len};
+
+use crate::homes::Homes;
+use crate::names::Names;
+use crate::script::Item;
+use pcap_reader::{Packet, Packets};
+use table_replica::Program;
+use world_model::Event;
+
+/// What the lines so far mean for those behind them, and what they have done.
+#[derive(Drop)]
+pub(crate) struct Reading<'a> {
+    /// None before `cores`.
+    pub budgets: Vec<u32>,
+    pub programs: Names<'a, Program>,
+    pub packets: Names<'a, Packet>,
+    pub captures: Names<'a, Packets>,
+    pub homes: Homes,
+    /// How many packets were received; 0 behind `trace`.
+    pub received: u64,
+    /// Whether something was done that only a simulation does.
+    pub acted: bool,
+    /// Behind `trace`, the receptions before it.
+    pub jobs: Option<Vec<Event>>,
+    pub items: Vec<Item>,
+    ghost counted: { received ≤ vec_len items },
+    ghost few: { vec_len budgets ≤ 8 },
+}

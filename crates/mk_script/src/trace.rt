@@ -1,0 +1,117 @@
+//! The lines behind `trace`: the events of a run.
+
+ghost use Rattle.std.specs.Prelude.{◌≡◌, ◌==◌, ◌<◌, ◌^◌, ℕ, List, [], ◌∷◌, length, option_map, map, IfOk};
+ghost use Rattle.std.specs.List.{list_any};
+ghost use Rattle.std.specs.Option.{option_copied};
+ghost use Rattle.mk_script.specs.Drafts as spec;
+ghost use Rattle.mk_script.specs.Changes.{DraftFollows};
+ghost use Rattle.mk_script.specs.declared.reading.Reading.{Reading};
+ghost use Rattle.mk_script.specs.DraftViews.{Answered, draft_of};
+ghost use Rattle.mk_script.specs.Views.{texts};
+
+use crate::drafts::{act, counted, take};
+use crate::fault::ScriptFaultKind;
+use crate::meaning::{Draft, Meaning};
+use crate::number::{number, number16, number64};
+use crate::rows::{Command, event_of};
+use crate::script::Item;
+use crate::words::{cut, word_at, words};
+use std::alloc::Global;
+use world_model::Event;
+
+fn is_number(word: &[u8]) -> bool
+    ensures { result ≡ spec.is_number word.now }
+{
+    number(word).is_some()
+}
+
+/// Whether these are the words of a line `left C N`.
+fn is_left(words: &[&[u8]]) -> bool
+    ensures { result ≡ spec.is_left (texts words.now) }
+{
+    match words {
+        [word, core, number] => {
+            *word == b"left".as_slice() && is_number(core) && is_number(number)
+        }
+        _ => false,
+    }
+}
+
+/// Whether the words behind the colon tell of a vote for want of memory.
+fn is_short(words: &[&[u8]]) -> bool
+    ensures { result ≡ spec.is_short (texts words.now) }
+{
+    word_at(words, 0) == b"prepare".as_slice()
+        && word_at(words, words.len().saturating_sub(1)) == b"NoMemory".as_slice()
+}
+
+fn is_rx_at(core: u16, event: &Event) -> bool
+    ensures { result ≡ spec.is_rx_at core event.now }
+{
+    match event {
+        Event::Rx { core: c, .. } => *c == core,
+        _ => false,
+    }
+}
+
+/// The job that an event names by its core and its number.
+#[tactic(auto, unfolding(crate::specs::Drafts::job_draft))]
+fn job<'a>(alloc: Global, jobs: &[Event], words: &[&[u8]]) -> Result<Draft<'a>, ScriptFaultKind>
+    ensures drafts { Answered draft_of result (spec.job_draft jobs.now (texts words.now)) }
+    ensures follows { (r : Reading) → IfOk result (λ d. DraftFollows r d) }
+{
+    let core = number16(word_at(words, 1))?;
+    let number = number64(word_at(words, 2))?;
+    let Some(event) = counted(jobs, u128::from(number)) else {
+        return Err(ScriptFaultKind::NoName);
+    };
+    if !is_rx_at(core, event) {
+        return Err(ScriptFaultKind::NoName);
+    }
+    let event = event.copy(alloc)?;
+    Ok(act(Item::Apply(event)))
+}
+
+/// The event of these words before a colon, with those behind it.
+#[tactic(auto, unfolding(crate::specs::Drafts::event_draft, crate::specs::Drafts::core_draft))]
+fn event<'a>(
+    alloc: Global,
+    jobs: &[Event],
+    words: &[&[u8]],
+    rest: &[&[u8]],
+) -> Result<Draft<'a>, ScriptFaultKind>
+    ensures drafts { Answered draft_of result (spec.event_draft jobs.now (texts words.now) (texts rest.now)) }
+    ensures follows { (r : Reading) → IfOk result (λ d. DraftFollows r d) }
+{
+    match event_of(words).ok_or(ScriptFaultKind::BadLine)? {
+        Command::Start => Ok(act(Item::Begin)),
+        Command::Submit => Ok(act(Item::Submit(number16(word_at(words, 1))?))),
+        Command::StartFor => Ok(act(Item::StartFor(number16(word_at(words, 1))?))),
+        Command::Take => take(words, is_short(rest)),
+        Command::Rx => job(alloc, jobs, words),
+        _ => Err(ScriptFaultKind::BadLine),
+    }
+}
+
+/// What a line behind `trace` asks for.
+pub(crate) fn trace_line<'a>(
+    alloc: Global,
+    jobs: &[Event],
+    line: &[u8],
+) -> Result<Draft<'a>, ScriptFaultKind>
+    ensures drafts { Answered draft_of result (spec.trace_draft jobs.now line.now) }
+    ensures follows { (r : Reading) → IfOk result (λ d. DraftFollows r d) }
+{
+    if line.contains(&b':') {
+        let (before, behind) = cut(b':', line);
+        let before = words(alloc, before)?;
+        let behind = words(alloc, behind)?;
+        return event(alloc, jobs, &before, &behind);
+    }
+    let words = words(alloc, line)?;
+    if is_left(&words) {
+        Ok(Draft::Whole(Meaning::Nothing))
+    } else {
+        Err(ScriptFaultKind::BadLine)
+    }
+}
