@@ -19,8 +19,9 @@ mod output;
 pub use checking::run_check;
 pub use dumping::run_dump;
 pub use fault::EngineFault;
-pub use input::{Input, feed_bounded, read_bounded};
+pub use input::{INPUT_BYTES, INPUT_READS, Input, feed_bounded, read_bounded};
 pub use matching::run_match;
+pub use output::{BLOCK, write_bytes, write_text};
 
 #[cfg(test)]
 mod tests;

@@ -1,0 +1,5 @@
+pub mod Places
+pub mod Begin
+pub mod Settle
+pub mod Printed
+pub mod Inputs

@@ -1,0 +1,69 @@
+-- A script's items, of whose text a front is written.
+use Rattle.std.proofs.Common.{◌≡◌, ◌+◌, zero, suc, arith, take, drop, slice_get, ℕ, Option, Some, None, List, [], ◌∷◌, ◌++◌, refl, ap, sym, ◌∙◌, subst}
+use Rattle.std.proofs.lemmas.List.{append_assoc, append-nil}
+use Rattle.std.specs.Io.KnownBytes.{Appends}
+use Rattle.std.specs.Prelude.{Result, Ok, Err, OnOk}
+use Rattle.world_model.specs.Worlds.{World}
+use Rattle.sim_engine.specs.declared.requests.Request.{Request}
+use Rattle.mk_script.specs.declared.script.Item.{Item}
+use Rattle.sim_engine.specs.Simulations.{Simulation, Does, Performs}
+use Rattle.sim_engine.specs.Writing.{Wrote}
+
+abbrev pub the_sim : World → List Request → Simulation
+the_sim w rs = record { world = w; pending = rs }
+
+pub on_ok : {A E P Q : Type 0} (r : Result A E) → OnOk r P → (P → Q) → OnOk r Q
+on_ok (Ok a) p f = f p
+on_ok (Err e) p f = p
+
+pub record Printed (s : Simulation) (done : List Item) (s' : Simulation) (old now : Option (List ℕ)) (kept : List ℕ) : Type 0 where
+  pub written : List ℕ
+  pub performs : Performs s done s' (written ++ kept)
+  pub appends : Appends old now written
+
+performs_one : (s s1 s2 : Simulation) (done : List Item) (item : Item) (text line : List ℕ) → Performs s done s1 text → Does s1 item s2 line → Performs s (done ++ item ∷ []) s2 (text ++ line)
+performs_one s s1 s2 [] item text line performs does =
+    (s2, line, [], subst (λ (x : Simulation). Does x item s2 line) performs.0 does, (refl, refl), ap (λ (t : List ℕ). t ++ line) performs.1 ∙ sym (append-nil line))
+performs_one s s1 s2 (first ∷ done) item text line performs does =
+    (performs.0, performs.1, performs.2 ++ line, performs.3, performs_one performs.0 s1 s2 done item performs.2 line performs.4 does, ap (λ (t : List ℕ). t ++ line) performs.5 ∙ append_assoc performs.1 performs.2 line)
+
+pub printed_one : (s s1 s2 : Simulation) (done : List Item) (item : Item) (old now : Option (List ℕ)) (kept kept' line : List ℕ) → Printed s done s1 old now kept → Does s1 item s2 line → kept' ≡ kept ++ line
+    → Printed s (done ++ item ∷ []) s2 old now kept'
+printed_one s s1 s2 done item old now kept kept' line printed does is = record {
+  written = printed.written;
+  performs = subst (Performs s (done ++ item ∷ []) s2) (append_assoc printed.written kept line ∙ ap (λ (t : List ℕ). printed.written ++ t) (sym is)) (performs_one s s1 s2 done item (printed.written ++ kept) line printed.performs does);
+  appends = printed.appends;
+}
+
+-- a writer that gains bytes and then others gains them all
+pub appends-then : (old mid new : Option (List ℕ)) (bs more : List ℕ) → Appends old mid bs → Appends mid new more → Appends old new (bs ++ more)
+appends-then None mid new bs more first next = cc
+appends-then (Some xs) None new bs more first next = absurd first
+appends-then (Some xs) (Some ys) None bs more first next = absurd next
+appends-then (Some xs) (Some ys) (Some zs) bs more first next = next ∙ ap (λ front. front ++ more) first ∙ append_assoc xs bs more
+
+-- a writer that is left alone gains nothing
+pub appends-nothing : (known : Option (List ℕ)) → Appends known known []
+appends-nothing None = cc
+appends-nothing (Some xs) = sym (append-nil xs)
+
+pub printed_wrote : (s s' : Simulation) (done : List Item) (old now now' : Option (List ℕ)) (kept kept' : List ℕ) → Printed s done s' old now kept → Wrote now now' kept kept' → Printed s done s' old now' kept'
+printed_wrote s s' done old now now' kept kept' printed wrote = record {
+  written = printed.written ++ wrote.front;
+  performs = subst (Performs s done s') (ap (λ (t : List ℕ). printed.written ++ t) wrote.whole ∙ sym (append_assoc printed.written wrote.front kept')) printed.performs;
+  appends = appends-then old now now' printed.written wrote.front printed.appends wrote.appends;
+}
+
+pub printed_first : (s : Simulation) (known : Option (List ℕ)) → Printed s [] s known known []
+printed_first s known = record { written = []; performs = (refl, refl); appends = appends-nothing known }
+
+pub take_one : {A : Type 0} (xs : List A) (i : ℕ) (x : A) → slice_get xs i ≡ Some x → take (i + 1) xs ≡ take i xs ++ x ∷ []
+take_one [] i x h = absurd cc
+take_one (y ∷ xs) zero x h = cc h
+take_one {A} (y ∷ xs) (suc i) x h = let e : suc i + 1 ≡ suc (i + 1) = omega arith in ap (λ (n : ℕ). take n (y ∷ xs)) e ∙ ap (λ (ys : List A). y ∷ ys) (take_one xs i x h)
+
+pub halves : {A : Type 0} (xs : List A) (i : ℕ) → xs ≡ take i xs ++ drop i xs
+halves [] zero = refl
+halves [] (suc i) = refl
+halves (y ∷ xs) zero = refl
+halves {A} (y ∷ xs) (suc i) = ap (λ (ys : List A). y ∷ ys) (halves xs i)

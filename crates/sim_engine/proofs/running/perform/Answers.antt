@@ -1,0 +1,26 @@
+use Rattle.std.proofs.Common.{◌∙◌, ◌++◌, ◌∷◌, [], List, ap, refl, sym}
+use Rattle.std.proofs.lemmas.List.{append-nil}
+use Rattle.sim_engine.specs.declared.requests.Request.{Request}
+use Rattle.sim_engine.specs.Pending.{left}
+use Rattle.sim_engine.specs.Simulations.{sim}
+use Rattle.table_replica.specs.declared.Op.{Op}
+use Rattle.sim_engine.proofs.Places.{left_push}
+use Rattle.sim_engine.proofs.Printed.{the_sim}
+use Rattle.sim_engine.proofs.running.perform.Goals as goal
+
+pub returns-in_ok-push-in-Ask : goal.returns-in_ok-push-in-Ask
+returns-in_ok-push-in-Ask g c = rw c.in-Ask.is (
+  [],
+  (
+    ap (sim c.args.world.now) c.in_ok-push-in-Ask.ensures ∙ ap (λ (rs : List Request). the_sim c.args.world.now rs)
+        (left_push c.args.requests.now (record { home = c.in-Ask.home; op = c.in_ok-op-in-Ask.op }) ∙ ap (λ (op : Op). left c.args.requests.now ++ record { home = c.in-Ask.home; op = op } ∷ []) c.in_ok-op-in-Ask.ensures),
+    refl,
+  ),
+  sym (append-nil c.args.text.now.items),
+)
+
+pub returns-in-Begin : goal.returns-in-Begin
+returns-in-Begin g c = rw c.in-Begin.is c.begin.ensures
+
+pub returns-in-Submit : goal.returns-in-Submit
+returns-in-Submit g c = rw c.in-Submit.is c.begin-in-Submit.ensures

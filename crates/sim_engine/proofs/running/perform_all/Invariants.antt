@@ -1,0 +1,7 @@
+use Rattle.std.proofs.Common.{take}
+use Rattle.sim_engine.specs.Simulations.{just, sim}
+use Rattle.sim_engine.proofs.Printed.{Printed}
+use Rattle.sim_engine.proofs.running.perform_all.Given as goal
+
+abbrev pub invariant-loop-item : goal.invariant-loop-item
+invariant-loop-item g l = Printed (just l.initial.world) (take l.item-index l.items) (sim l.world l.requests) (g.W.Write.contents l.initial.writer) (g.W.Write.contents l.writer) l.text.items

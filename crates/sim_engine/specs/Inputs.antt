@@ -1,0 +1,31 @@
+-- What was read of a script's files.
+use Rattle.std.specs.Prelude.{◌≡◌, ◌<◌, ◌≤◌, ◌++◌, ◌∷◌, [], ℕ, ⊤, Bool, true, false, Option, Some, List, length, slice_get}
+use Rattle.console.specs.Reading.{IsInput}
+
+-- these are what the readers had, as far as that is known
+abbrev pub AreInputs : List (Option (List ℕ)) → List (List ℕ) → Type 0
+AreInputs [] [] = ⊤
+AreInputs (known ∷ others) (input ∷ inputs) = IsInput known input × AreInputs others inputs
+AreInputs others inputs = ⊥
+
+-- each is within 64 MiB
+abbrev pub AllWithin : List (List ℕ) → Type 0
+AllWithin [] = ⊤
+AllWithin (input ∷ inputs) = (length input ≤ 67108864) × AllWithin inputs
+
+-- one is longer
+abbrev pub OneLonger : List (List ℕ) → Type 0
+OneLonger inputs = (k : ℕ) × (input : List ℕ) × (slice_get inputs k ≡ Some input) × (67108864 < length input)
+
+abbrev pub LongAmong : List (Option (List ℕ)) → Type 0
+LongAmong known = (inputs : List (List ℕ)) × AreInputs known inputs × OneLonger inputs
+
+-- a reader's input was kept last, or it is too long
+abbrev pub Kept : Option (List ℕ) → List (List ℕ) → List (List ℕ) → Bool → Type 0
+Kept known held held' true = (input : List ℕ) × (held' ≡ held ++ input ∷ []) × IsInput known input × (length input ≤ 67108864)
+Kept known held held' false = (held' ≡ held) × ((input : List ℕ) × IsInput known input × (67108864 < length input))
+
+-- so far all were kept, or one is too long
+abbrev pub ReadSo : List (Option (List ℕ)) → List (List ℕ) → Bool → Type 0
+ReadSo known held false = AreInputs known held × AllWithin held
+ReadSo known held true = LongAmong known

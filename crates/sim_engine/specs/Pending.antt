@@ -1,0 +1,28 @@
+-- The requests of a script that wait to be begun.
+use Rattle.std.specs.Prelude.{Bool, true, false, ◌≡◌, ◌≢◌, ℕ, Some, None, Option, List, [], ◌∷◌, ◌++◌, ⊤}
+use Rattle.sim_engine.specs.declared.requests.Request.{Request}
+
+-- those that are still there
+abbrev pub left : List (Option Request) → List Request
+left [] = []
+left (None ∷ places) = left places
+left (Some request ∷ places) = request ∷ left places
+
+-- none enters at the core
+abbrev pub NoneAt : ℕ → List Request → Type 0
+NoneAt home [] = ⊤
+NoneAt home (request ∷ pending) = (request.home ≢ home) × NoneAt home pending
+
+-- the first request that enters at the core, and what is left without it
+pub record FirstAt (home : ℕ) (pending : List Request) (first : Request) (rest : List Request) : Type 0 where
+  pub earlier : List Request
+  pub later : List Request
+  pub is : pending ≡ earlier ++ first ∷ later
+  pub at_home : first.home ≡ home
+  pub none_earlier : NoneAt home earlier
+  pub without : rest ≡ earlier ++ later
+
+-- all are left, or once one was begun the rest
+abbrev pub IsLeft : Bool → List Request → List Request → List Request → Type 0
+IsLeft true all rest now = now ≡ rest
+IsLeft false all rest now = now ≡ all

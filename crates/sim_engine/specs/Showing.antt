@@ -1,0 +1,41 @@
+-- What `sim` shows of a script and its files.
+use Rattle.std.specs.Prelude.{◌≡◌, ◌<◌, ◌≤◌, ◌⊎◌, ◌++◌, ◌∷◌, ℕ, false, List, Ok, Err, codes, length, Option}
+use Rattle.world_model.specs.Worlds.{boot}
+use Rattle.mk_script.specs.declared.script.Item.{Item}
+use Rattle.mk_script.specs.declared.script.Script.{Script}
+use Rattle.mk_script.specs.declared.fault.ScriptFault.{ScriptFault}
+use Rattle.mk_script.specs.Drafts.{Settings}
+use Rattle.mk_script.specs.Scripts.{Stands}
+use Rattle.sim_engine.specs.Faults.{script_fault_line}
+use Rattle.sim_engine.specs.Inputs.{AllWithin, AreInputs, OneLonger}
+use Rattle.sim_engine.specs.Simulations.{Simulation, Performs, just}
+use Rattle.console.specs.Reading.{IsInput}
+
+abbrev pub for_sim : List (List ℕ) → Settings
+for_sim files = record { files = files; threads = false }
+
+-- what the script's items print, on cores with its budgets
+abbrev pub ShowsItems : List ℕ → List Item → List ℕ → Type 0
+ShowsItems budgets items text = (budget : ℕ) × (others : List ℕ) × (budgets ≡ budget ∷ others) × ((s' : Simulation) × Performs (just (boot budget others)) items s' text)
+
+-- what the script prints, or the line of its first fault
+abbrev pub ShowsScript : List (List ℕ) → List ℕ → ℕ → List ℕ → Type 0
+ShowsScript files input status text =
+    ((script : Script) × Stands (for_sim files) input (Ok script) × (status ≡ 0) × ShowsItems script.budgets script.items text)
+    ⊎ ((fault : ScriptFault) × Stands (for_sim files) input (Err fault) × (status ≡ 1) × (text ≡ script_fault_line fault))
+
+-- the script and each file have a limit
+abbrev pub ShowsSim : List (List ℕ) → List ℕ → ℕ → List ℕ → Type 0
+ShowsSim files input status text =
+    ((length input ≤ 67108864) × AllWithin files × ShowsScript files input status text)
+    ⊎ (((67108864 < length input) ⊎ OneLonger files) × (status ≡ 1) × (text ≡ codes "fault InputTooLong\n"))
+
+-- a front of what the first of the script's items print
+abbrev pub ShowsPart : List (List ℕ) → List ℕ → List ℕ → Type 0
+ShowsPart files input text =
+    (script : Script) × Stands (for_sim files) input (Ok script) × (done rest : List Item) × (script.items ≡ done ++ rest) × (more : List ℕ)
+    × ShowsItems script.budgets done (text ++ more)
+
+-- the inputs of `sim`, as far as they are known
+abbrev pub AreSimInputs : Option (List ℕ) → List (Option (List ℕ)) → List ℕ → List (List ℕ) → Type 0
+AreSimInputs known others input files = IsInput known input × AreInputs others files

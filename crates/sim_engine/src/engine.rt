@@ -1,0 +1,127 @@
+//! `sim`: runs a script.
+
+ghost use Rattle.std.specs.Prelude.{◌≡◌, ◌≢◌, ◌<◌, ◌^◌, ◌++◌, ◌⊎◌, length, codes, ℕ, List, map, IfOk, IfErr, IsErrOf, OnOk};
+ghost use Rattle.std.specs.Io.KnownBytes.{Appends};
+ghost use Rattle.console.specs.Matching.{IsEngineFault, IsPrintFault};
+ghost use Rattle.mk_script.specs.declared.script.Item.{Item as GhostItem};
+ghost use Rattle.sim_engine.specs.Faults.{script_fault_line};
+ghost use Rattle.sim_engine.specs.Showing.{AreSimInputs, ShowsSim, ShowsPart, ShowsItems, ShowsScript};
+
+use crate::faults::fault_line;
+use crate::files::read_files;
+use crate::running::perform_all;
+use console::{
+    EngineFault, INPUT_BYTES, INPUT_READS, Input, read_bounded, write_bytes, write_text,
+};
+use mk_script::{Script, ScriptFault, ScriptFaultKind, read_script};
+use std::alloc::Global;
+use std::io::{Read, Write};
+use world_core::{BootFault, Channel, Messages, WorldOver};
+
+/// Runs a script on the world of the cores, prints a line for each event and the tables that are shown, and answers the status.
+///
+/// The script is read to its end, then each file in order; the script is read whole before its first event. Its first fault is
+/// printed as `line N: NAME`, status 1. Of a script or a file of more than 64 MiB only `fault InputTooLong` is printed, status
+/// 1. Messages go through lists.
+///
+/// Answers `ReadFailed`, with nothing written; `WriteFailed`; and `NoMemory`, where a front of the text may have been written.
+pub fn run_sim<R: Read, F: Read + Drop, W: Write>(
+    alloc: Global,
+    files: Vec<F>,
+    reader: &mut R,
+    writer: &mut W,
+) -> Result<u8, EngineFault>
+    ensures shown { IfOk result (λ status. (text : List ℕ) × Appends (W.contents writer.old) (W.contents writer.new) text
+        × ((input : List ℕ) × (inputs : List (List ℕ)) × AreSimInputs (R.remaining reader.old) (map F.remaining files.items) input inputs × ShowsSim inputs input status text)) }
+    ensures fault { IfErr result IsEngineFault }
+    ensures silent { IsErrOf result EngineFault.ReadFailed → writer.new ≡ writer.old }
+    ensures part { IsErrOf result EngineFault.NoMemory → (writer.new ≡ writer.old) ⊎ ((text : List ℕ) × Appends (W.contents writer.old) (W.contents writer.new) text
+        × ((input : List ℕ) × (inputs : List (List ℕ)) × AreSimInputs (R.remaining reader.old) (map F.remaining files.items) input inputs × ShowsPart inputs input text)) }
+{
+    run_sim_over::<Messages, R, F, W>(alloc, files, reader, writer)
+}
+
+/// Runs a script as `run_sim` does, over channels of one kind.
+pub fn run_sim_over<C: Channel, R: Read, F: Read + Drop, W: Write>(
+    alloc: Global,
+    files: Vec<F>,
+    reader: &mut R,
+    writer: &mut W,
+) -> Result<u8, EngineFault>
+    ensures shown { IfOk result (λ status. (text : List ℕ) × Appends (W.contents writer.old) (W.contents writer.new) text
+        × ((input : List ℕ) × (inputs : List (List ℕ)) × AreSimInputs (R.remaining reader.old) (map F.remaining files.items) input inputs × ShowsSim inputs input status text)) }
+    ensures fault { IfErr result IsEngineFault }
+    ensures silent { IsErrOf result EngineFault.ReadFailed → writer.new ≡ writer.old }
+    ensures part { IsErrOf result EngineFault.NoMemory → (writer.new ≡ writer.old) ⊎ ((text : List ℕ) × Appends (W.contents writer.old) (W.contents writer.new) text
+        × ((input : List ℕ) × (inputs : List (List ℕ)) × AreSimInputs (R.remaining reader.old) (map F.remaining files.items) input inputs × ShowsPart inputs input text)) }
+{
+    let input = match read_bounded(alloc, reader, INPUT_BYTES, INPUT_READS)? {
+        Input::Whole(input) => input,
+        Input::TooLong => return too_long(writer),
+    };
+    let Some(inputs) = read_files(alloc, files)? else {
+        return too_long(writer);
+    };
+    run_text::<C, W>(alloc, input.as_slice(), inputs.as_slice(), writer)
+}
+
+// Says that an input is too long.
+fn too_long<W: Write>(writer: &mut W) -> Result<u8, EngineFault>
+    ensures shown { IfOk result (λ status. (status ≡ 1) × Appends (W.contents writer.old) (W.contents writer.new) (codes "fault InputTooLong\n")) }
+    ensures fault { IfErr result (λ e. e ≡ EngineFault.WriteFailed) }
+{
+    write_text(writer, "fault InputTooLong\n")?;
+    Ok(1)
+}
+
+// Runs a script that was read, with its files.
+fn run_text<C: Channel, W: Write>(
+    alloc: Global,
+    input: &[u8],
+    inputs: &[Vec<u8>],
+    writer: &mut W,
+) -> Result<u8, EngineFault>
+    requires { length input.now < 2 ^ 32 }
+    ensures shown { IfOk result (λ status. (text : List ℕ) × Appends (W.contents writer.old) (W.contents writer.new) text × ShowsScript (map (λ v. v.items) inputs.now) input.now status text) }
+    ensures fault { IfErr result IsPrintFault }
+    ensures part { IsErrOf result EngineFault.NoMemory → (writer.new ≡ writer.old) ⊎ ((text : List ℕ) × Appends (W.contents writer.old) (W.contents writer.new) text
+        × ShowsPart (map (λ v. v.items) inputs.now) input.now text) }
+{
+    match read_script(alloc, input, inputs, false) {
+        Ok(script) => run_script::<C, W>(alloc, &script, writer),
+        Err(fault) => refuse(alloc, fault, writer),
+    }
+}
+
+// Prints the line for a script's fault.
+fn refuse<W: Write>(alloc: Global, fault: ScriptFault, writer: &mut W) -> Result<u8, EngineFault>
+    ensures shown { IfOk result (λ status. (status ≡ 1) × (fault.kind ≢ ScriptFaultKind.NoMemory) × Appends (W.contents writer.old) (W.contents writer.new) (script_fault_line fault)) }
+    ensures fault { IfErr result IsPrintFault }
+    ensures part { IsErrOf result EngineFault.NoMemory → writer.new ≡ writer.old }
+{
+    if let ScriptFaultKind::NoMemory = fault.kind {
+        return Err(EngineFault::NoMemory);
+    }
+    let line = fault_line(alloc, fault)?;
+    write_bytes(writer, line.as_bytes())?;
+    Ok(1)
+}
+
+// Does what a script asks for.
+fn run_script<C: Channel, W: Write>(
+    alloc: Global,
+    script: &Script,
+    writer: &mut W,
+) -> Result<u8, EngineFault>
+    ensures shown { IfOk result (λ status. (status ≡ 0) × ((text : List ℕ) × Appends (W.contents writer.old) (W.contents writer.new) text × ShowsItems script.now.budgets script.now.items text)) }
+    ensures fault { IfErr result IsPrintFault }
+    ensures part { IsErrOf result EngineFault.NoMemory → (writer.new ≡ writer.old) ⊎ ((done rest : List GhostItem) × (script.now.items ≡ done ++ rest) × (text more : List ℕ)
+        × ShowsItems script.now.budgets done (text ++ more) × Appends (W.contents writer.old) (W.contents writer.new) text) }
+{
+    let mut world = match WorldOver::<C>::boot(alloc, script.budgets.as_slice()) {
+        Ok(world) => world,
+        Err(BootFault::CoreCount | BootFault::NoMemory) => return Err(EngineFault::NoMemory),
+    };
+    perform_all(alloc, &mut world, script.items.as_slice(), writer)?;
+    Ok(0)
+}

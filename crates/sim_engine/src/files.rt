@@ -1,0 +1,66 @@
+//! Reading a script's files.
+
+ghost use Rattle.std.specs.Prelude.{◌≡◌, ◌++◌, ◌∷◌, [], OnOk, Option, List, ℕ, map, IfOk, IfErr, MatchOption};
+ghost use Rattle.console.specs.Reading.{IsReadFault};
+ghost use Rattle.sim_engine.specs.Inputs.{AllWithin, AreInputs, Kept, LongAmong, ReadSo};
+
+use console::{EngineFault, INPUT_BYTES, INPUT_READS, Input, read_bounded};
+use std::alloc::{AllocError, Global};
+use std::io::Read;
+
+/// What the files hold, in order, or `None` where one is too long; those behind it are not read.
+pub(crate) fn read_files<F: Read + Drop>(
+    alloc: Global,
+    files: Vec<F>,
+) -> Result<Option<Vec<Vec<u8>>>, EngineFault>
+    ensures read { IfOk result (λ read. MatchOption read (LongAmong (map F.remaining files.items))
+        (λ held. AreInputs (map F.remaining files.items) (map (λ v. v.items) held.items) × AllWithin (map (λ v. v.items) held.items))) }
+    ensures fault { IfErr result IsReadFault }
+{
+    let mut held = Vec::new(alloc);
+    let mut long = false;
+    for mut file in files {
+        long = keep_unless(alloc, long, &mut file, &mut held)?;
+    }
+    if long { Ok(None) } else { Ok(Some(held)) }
+}
+
+// Reads one file, unless one before it is too long, and tells whether one is now.
+fn keep_unless<F: Read>(
+    alloc: Global,
+    long: bool,
+    file: &mut F,
+    held: &mut Vec<Vec<u8>>,
+) -> Result<bool, EngineFault>
+    ensures read { IfOk result (λ now. (known : List (Option (List ℕ))) → ReadSo known (map (λ v. v.items) held.old.items) long
+        → ReadSo (known ++ F.remaining file.old ∷ []) (map (λ v. v.items) held.new.items) now) }
+    ensures fault { IfErr result IsReadFault }
+{
+    if long {
+        return Ok(true);
+    }
+    let whole = keep(alloc, file, held)?;
+    Ok(!whole)
+}
+
+// Reads one file, and tells whether it was not too long.
+fn keep<F: Read>(alloc: Global, file: &mut F, held: &mut Vec<Vec<u8>>) -> Result<bool, EngineFault>
+    ensures kept { IfOk result (Kept (F.remaining file.old) (map (λ v. v.items) held.old.items) (map (λ v. v.items) held.new.items)) }
+    ensures fault { IfErr result IsReadFault }
+{
+    match read_bounded(alloc, file, INPUT_BYTES, INPUT_READS)? {
+        Input::Whole(bytes) => {
+            push(held, bytes)?;
+            Ok(true)
+        }
+        Input::TooLong => Ok(false),
+    }
+}
+
+// Keeps what a file holds.
+fn push(held: &mut Vec<Vec<u8>>, bytes: Vec<u8>) -> Result<(), AllocError>
+    ensures { OnOk result (held.new.items ≡ held.old.items ++ bytes ∷ []) }
+{
+    held.push(bytes)?;
+    Ok(())
+}

@@ -1,0 +1,14 @@
+//! The engine of `sim`: runs a script on the world of the cores, and prints what each does.
+#![tactic(auto)]
+
+mod engine;
+mod faults;
+mod files;
+mod requests;
+mod running;
+mod simulation;
+#[cfg(test)]
+mod tests;
+mod way;
+
+pub use engine::{run_sim, run_sim_over};

@@ -1,0 +1,102 @@
+//! A script's items, one after the other.
+
+ghost use Rattle.std.specs.Prelude.{◌≡◌, ◌≢◌, ◌++◌, [], ℕ, List, OnOk, IfErr, IsErrOf};
+ghost use Rattle.std.specs.Io.KnownBytes.{Appends};
+ghost use Rattle.console.specs.Matching.{IsPrintFault};
+ghost use Rattle.mk_script.specs.declared.script.Item.{Item as GhostItem};
+ghost use Rattle.sim_engine.specs.declared.requests.Request.{Request as GhostRequest};
+ghost use Rattle.sim_engine.specs.Writing.{Wrote};
+ghost use Rattle.sim_engine.specs.Simulations.{Applies, Does, Performs, Simulation, sim, just};
+
+use crate::requests::{Request, Requests};
+use crate::simulation::{begin, settle, show, tell};
+use crate::way::{Way, is_short_event};
+use console::{BLOCK, EngineFault, write_bytes};
+use mk_script::Item;
+use std::alloc::Global;
+use std::io::Write;
+use world_core::{Channel, WorldOver};
+use world_model::Event;
+
+/// Does a script's items in order, and writes what they print.
+pub(crate) fn perform_all<C: Channel, W: Write>(
+    alloc: Global,
+    world: &mut WorldOver<C>,
+    items: &[Item],
+    writer: &mut W,
+) -> Result<(), EngineFault>
+    ensures shown { OnOk result ((s' : Simulation) × (text : List ℕ) × Performs (just world.old) items.now s' text
+        × Appends (W.contents writer.old) (W.contents writer.new) text) }
+    ensures fault { IfErr result IsPrintFault }
+    ensures part { IsErrOf result EngineFault.NoMemory → (done rest : List GhostItem) × (items.now ≡ done ++ rest) × (s' : Simulation) × (text more : List ℕ)
+        × Performs (just world.old) done s' (text ++ more) × Appends (W.contents writer.old) (W.contents writer.new) text }
+{
+    let mut requests = Requests::new(alloc)?;
+    let mut text = Vec::new(alloc);
+    for item in items {
+        // Nothing else fails before it is written.
+        let Ok(()) = perform(alloc, world, &mut requests, item, &mut text) else {
+            return Err(EngineFault::NoMemory);
+        };
+        write_block(writer, &mut text)?;
+    }
+    write_bytes(writer, text.as_slice())
+}
+
+// Writes the text that was kept back, once there is much of it.
+fn write_block<W: Write>(writer: &mut W, text: &mut Vec<u8>) -> Result<(), EngineFault>
+    ensures written { OnOk result (Wrote (W.contents writer.old) (W.contents writer.new) text.old.items text.new.items) }
+    ensures fault { IfErr result (λ e. e ≡ EngineFault.WriteFailed) }
+{
+    if text.len() >= BLOCK {
+        write_bytes(writer, text.as_slice())?;
+        text.clear();
+    }
+    Ok(())
+}
+
+// Does an item, and adds what it prints to the text.
+fn perform<C: Channel>(
+    alloc: Global,
+    world: &mut WorldOver<C>,
+    requests: &mut Requests,
+    item: &Item,
+    text: &mut Vec<u8>,
+) -> Result<(), EngineFault>
+    ensures { OnOk result ((lines : List ℕ) × Does (sim world.old requests.old) item.now (sim world.new requests.new) lines
+        × (text.new.items ≡ text.old.items ++ lines)) }
+{
+    match item {
+        Item::Ask(home, op) => {
+            let op = op.copy(alloc)?;
+            requests.push(Request { home: *home, op })?;
+            Ok(())
+        }
+        Item::Begin => begin(alloc, world, requests, Way::Start, text),
+        Item::Submit(core) => begin(alloc, world, requests, Way::Submit(*core), text),
+        Item::StartFor(core) => apply(alloc, world, &Event::StartFor { core: *core }, text),
+        Item::Apply(event) => apply(alloc, world, event, text),
+        Item::Settle => settle(alloc, world, requests, text),
+        Item::Show(core) => {
+            show(alloc, world, *core, text)?;
+            Ok(())
+        }
+    }
+}
+
+// Does an event, or says why it is not done.
+fn apply<C: Channel>(
+    alloc: Global,
+    world: &mut WorldOver<C>,
+    event: &Event,
+    text: &mut Vec<u8>,
+) -> Result<(), EngineFault>
+    ensures { OnOk result ((lines : List ℕ) × ((pending : List GhostRequest) → Applies (record { world = world.old; pending = pending }) event.now (record { world = world.new; pending = pending }) lines)
+        × (text.new.items ≡ text.old.items ++ lines)) }
+{
+    if !is_short_event(event) {
+        return Err(EngineFault::NoMemory);
+    }
+    tell(alloc, world, event, text)?;
+    Ok(())
+}
