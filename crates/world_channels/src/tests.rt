@@ -1,14 +1,15 @@
 //! Messages through channels of both kinds.
 
-ghost use Rattle.std.specs.Prelude.{◌≡◌, ◌≤◌, ℕ, vec_len, length, Some, IfOk, IfSome};
+ghost use Rattle.std.specs.Prelude.{◌≡◌, ◌<◌, ◌≤◌, ℕ, vec_len, length, Some, IfOk, IfSome};
 
 use crate::{Channel, Lines, Messages};
 use bpf_insn::Insn;
-use monitor_messages::{Decision, Message, Veto, Vote};
+use monitor_messages::{Decision, Message, Veto, Vote, encode};
 use std::alloc::{AllocError, Global};
 use std::process::Abort;
 use std::test::Fail;
 use table_replica::{Made, Op, OpFault, Program};
+use ump_ring::{Joiner, LineFault, Receiver, Sender, line_at, ring};
 
 fn program(alloc: Global, count: usize) -> Result<Program, AllocError>
     ensures { IfOk result (λ program. length program ≡ count) }
@@ -175,4 +176,65 @@ fn a_refused_program(rt: HostRuntime) -> Result<(), Fail> {
 fn the_longest_messages(rt: HostRuntime) -> Result<(), Fail> {
     longest::<Messages>(&rt, rt.alloc())?;
     longest::<Lines>(&rt, rt.alloc())
+}
+
+/// The bytes of a Prepare of an Install of 4,096 instructions.
+fn long_prepare(alloc: Global) -> Result<Vec<u8>, Fail>
+    ensures { IfOk result (λ bytes. (0 < vec_len bytes) × (vec_len bytes ≤ 32832)) }
+{
+    let op = Op::Install {
+        domain: 1,
+        cap: 2,
+        program: program(alloc, 4096)?,
+    };
+    Ok(encode(alloc, 1, &Message::Prepare { txn: 1, op })?)
+}
+
+/// Whether the receiver has neither a fault nor a whole message.
+fn shows_nothing(receiver: &mut Receiver) -> bool {
+    matches!(receiver.look(), Ok(None))
+}
+
+/// Pushes and looks by turns until the receiver shows something. Gives the lines and the turns.
+fn by_turns(sender: &mut Sender, receiver: &mut Receiver) -> (u64, u32) {
+    let mut lines = 0u64;
+    for turn in 1..600 {
+        lines = lines.wrapping_add(u64::from(sender.push_some().lines));
+        if !shows_nothing(receiver) {
+            return (lines, turn);
+        }
+    }
+    (lines, 600)
+}
+
+/// Nine full rings and ten lines, and then the message, which is taken once.
+fn through_a_ring(rt: &impl Abort, sender: &mut Sender, receiver: &mut Receiver, wanted: &[u8]) {
+    assert_eq!(rt; by_turns(sender, receiver), (586, 10));
+    assert!(rt; sender.idle());
+    assert!(rt; receiver.look() == Ok(Some(wanted)));
+    assert!(rt; receiver.take() == Ok(Some(wanted)));
+    assert!(rt; shows_nothing(receiver));
+}
+
+/// Line 1 comes twice.
+fn one_line_twice(rt: &impl Abort, joiner: &mut Joiner, bytes: &[u8])
+    requires { length bytes.now ≤ 32832 }
+{
+    let again = line_at(bytes, 1, 1);
+    assert_eq!(rt; joiner.line(&line_at(bytes, 0, 0)), Ok(false));
+    assert_eq!(rt; joiner.line(&again), Ok(false));
+    assert_eq!(rt; joiner.line(&again), Err(LineFault::OutOfSequence));
+    assert!(rt; joiner.message().is_none());
+}
+
+#[test]
+fn the_longest_message_through_a_ring(rt: HostRuntime) -> Result<(), Fail> {
+    let bytes = long_prepare(rt.alloc())?;
+    assert_eq!(rt; bytes.len(), 32_794);
+    let (mut sender, mut receiver) = ring(rt.alloc(), 64)?;
+    assert!(rt; sender.offer(long_prepare(rt.alloc())?).is_ok());
+    through_a_ring(&rt, &mut sender, &mut receiver, &bytes);
+    let mut joiner = Joiner::new(rt.alloc())?;
+    one_line_twice(&rt, &mut joiner, &bytes);
+    Ok(())
 }
