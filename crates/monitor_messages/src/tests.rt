@@ -1,4 +1,5 @@
 //! Worked bytes of messages.
+ghost use Rattle.std.specs.Prelude.{◌≤◌, length};
 ghost use Rattle.monitor_messages.specs.Coding.{IsShort};
 
 use crate::{Decision, DecodeFault, Message, Veto, Vote, decode, encode};
@@ -222,61 +223,27 @@ fn the_longest_message(rt: HostRuntime) -> Result<(), Fail> {
 }
 
 #[test]
-fn no_messages(rt: HostRuntime) -> Result<(), Fail> {
-    let alloc = rt.alloc();
-    bad(&rt, alloc, &[]);
-    // no kind, and one too many
-    bad(
-        &rt,
-        alloc,
-        &[0, 1, 0, 0, 0, 0, 0, 0, 0, 1, 0, 0, 0, 0, 0, 0, 0],
-    );
-    bad(
-        &rt,
-        alloc,
-        &[8, 1, 0, 0, 0, 0, 0, 0, 0, 1, 0, 0, 0, 0, 0, 0, 0],
-    );
-    // a vote
-    bad(
-        &rt,
-        alloc,
-        &[2, 1, 0, 0, 0, 0, 0, 0, 0, 1, 0, 0, 0, 0, 0, 0, 0, 3],
-    );
-    // an operation, and rights
-    bad(&rt, alloc, &[6, 1, 0, 0, 0, 0, 0, 0, 0, 0, 1, 0, 7, 0]);
-    bad(
-        &rt,
-        alloc,
-        &[6, 1, 0, 0, 0, 0, 0, 0, 0, 8, 1, 0, 7, 0, 0, 0],
-    );
-    bad(
-        &rt,
-        alloc,
-        &[6, 1, 0, 0, 0, 0, 0, 0, 0, 2, 1, 0, 2, 0, 0, 0, 5, 0, 0],
-    );
-    bad(
-        &rt,
-        alloc,
-        &[6, 1, 0, 0, 0, 0, 0, 0, 0, 2, 1, 0, 2, 0, 0, 0, 5, 0, 4],
-    );
-    // a decision, what was made, and why
-    bad(&rt, alloc, &[7, 1, 0, 0, 0, 0, 0, 0, 0, 2, 0, 0, 0]);
-    bad(
-        &rt,
-        alloc,
-        &[7, 1, 0, 0, 0, 0, 0, 0, 0, 0, 1, 0, 0, 0, 0, 0, 0, 0, 3],
-    );
-    bad(&rt, alloc, &[7, 1, 0, 0, 0, 0, 0, 0, 0, 1, 0, 0, 3]);
-    // a rule, and a refusal of the verifier
-    for number in [0, 8, 10, 15, 16, 17, 19] {
-        bad(&rt, alloc, &[7, 1, 0, 0, 0, 0, 0, 0, 0, 1, 0, 0, 2, number]);
+fn no_messages(rt: HostRuntime) {
+    // nothing, no kind, and one too many
+    bad(&rt, rt.alloc(), &[]);
+    for kind in [0, 8] {
+        let bytes = [kind, 1, 0, 0, 0, 0, 0, 0, 0, 1, 0, 0, 0, 0, 0, 0, 0];
+        bad(&rt, rt.alloc(), &bytes);
     }
-    for rule in [0, 11, 255] {
-        bad(
-            &rt,
-            alloc,
-            &[7, 1, 0, 0, 0, 0, 0, 0, 0, 1, 0, 0, 2, 17, rule, 0, 0],
-        );
+    // a vote
+    let bytes = [2, 1, 0, 0, 0, 0, 0, 0, 0, 1, 0, 0, 0, 0, 0, 0, 0, 3];
+    bad(&rt, rt.alloc(), &bytes);
+}
+
+#[test]
+fn no_operations(rt: HostRuntime) -> Result<(), Fail> {
+    let alloc = rt.alloc();
+    bad(&rt, alloc, &[6, 1, 0, 0, 0, 0, 0, 0, 0, 0, 1, 0, 7, 0]);
+    let bytes = [6, 1, 0, 0, 0, 0, 0, 0, 0, 8, 1, 0, 7, 0, 0, 0];
+    bad(&rt, alloc, &bytes);
+    for rights in [0, 4] {
+        let bytes = [6, 1, 0, 0, 0, 0, 0, 0, 0, 2, 1, 0, 2, 0, 0, 0, 5, 0, rights];
+        bad(&rt, alloc, &bytes);
     }
     // 4,097 instructions
     let mut long = Vec::from_slice(
@@ -288,4 +255,92 @@ fn no_messages(rt: HostRuntime) -> Result<(), Fail> {
     }
     bad(&rt, alloc, &long);
     Ok(())
+}
+
+#[test]
+fn no_decisions(rt: HostRuntime) {
+    // a decision, what was made, and why
+    let alloc = rt.alloc();
+    bad(&rt, alloc, &[7, 1, 0, 0, 0, 0, 0, 0, 0, 2, 0, 0, 0]);
+    let bytes = [7, 1, 0, 0, 0, 0, 0, 0, 0, 0, 1, 0, 0, 0, 0, 0, 0, 0, 3];
+    bad(&rt, alloc, &bytes);
+    bad(&rt, alloc, &[7, 1, 0, 0, 0, 0, 0, 0, 0, 1, 0, 0, 3]);
+    // a rule, and a refusal of the verifier
+    for number in [0, 8, 10, 15, 16, 17, 19] {
+        bad(&rt, alloc, &[7, 1, 0, 0, 0, 0, 0, 0, 0, 1, 0, 0, 2, number]);
+    }
+    for rule in [0, 11, 255] {
+        let bytes = [7, 1, 0, 0, 0, 0, 0, 0, 0, 1, 0, 0, 2, 17, rule, 0, 0];
+        bad(&rt, alloc, &bytes);
+    }
+}
+
+/// The bytes of the message under stamp 1, asked for once more where a growth is refused.
+fn encoded(rt: &impl Abort, alloc: Global, message: &Message) -> Vec<u8>
+    requires { IsShort message.now }
+{
+    match encode(alloc, 1, message) {
+        Ok(bytes) => bytes,
+        Err(_) => encode(alloc, 1, message).expect(rt, "there is memory"),
+    }
+}
+
+/// The stamp and the message, asked for once more where a growth is refused.
+fn decoded(rt: &impl Abort, alloc: Global, bytes: &[u8]) -> (u64, Message)
+    ensures { IsShort result.1 }
+{
+    match decode(alloc, bytes) {
+        Ok(read) => read,
+        Err(fault) => {
+            assert_eq!(rt; fault, DecodeFault::NoMemory);
+            decode(alloc, bytes).expect(rt, "there is memory")
+        }
+    }
+}
+
+/// These are the message's bytes, and they are read as a message that has them.
+fn spelled_again(rt: &impl Abort, alloc: Global, message: &Message, wanted: &[u8])
+    requires { IsShort message.now }
+{
+    assert_eq!(rt; encoded(rt, alloc, message).as_slice(), wanted);
+    let (stamp, read) = decoded(rt, alloc, wanted);
+    assert_eq!(rt; stamp, 1);
+    assert_eq!(rt; encoded(rt, alloc, &read).as_slice(), wanted);
+}
+
+/// A program of two instructions, made once more where a growth is refused.
+fn two_instructions(rt: &impl Abort, alloc: Global) -> Program
+    ensures { length result ≤ 4096 }
+{
+    let code = [insn(21, 1, 2, 0x0806), insn(6, 0, 0, 65535)];
+    let list = match code.to_vec(alloc) {
+        Ok(list) => list,
+        Err(_) => code.to_vec(alloc).expect(rt, "there is memory"),
+    };
+    Program::from_vec(list)
+}
+
+/// One growth may be refused, whichever it is: the call says so, and the same call again answers as with ample memory.
+#[test]
+fn refused_growths_change_nothing(rt: HostRuntime) {
+    let op = Op::Create {
+        domain: 1,
+        endpoint: 7,
+    };
+    let create = Message::Prepare { txn: 1, op };
+    let bytes = [
+        1, 1, 0, 0, 0, 0, 0, 0, 0, 1, 0, 0, 0, 0, 0, 0, 0, 1, 1, 0, 7, 0,
+    ];
+    spelled_again(&rt, rt.alloc(), &create, &bytes);
+    let op = Op::Install {
+        domain: 1,
+        cap: 2,
+        program: two_instructions(&rt, rt.alloc()),
+    };
+    let install = Message::Submit { op };
+    let bytes = [
+        6, 1, 0, 0, 0, 0, 0, 0, 0, 5, 1, 0, 2, 0, 0, 0, 2, 0, 21, 0, 1, 2, 6, 8, 0, 0, 6, 0, 0, 0,
+        255, 255, 0, 0,
+    ];
+    spelled_again(&rt, rt.alloc(), &install, &bytes);
 }
