@@ -4,26 +4,14 @@ use Rattle.std.specs.Fmt.{decimal}
 use Rattle.bpf_insn.specs.declared.insn.Insn.{Insn}
 use Rattle.bpf_insn.specs.AsmText.{IsPrintable, asm_text}
 use Rattle.bpf_insn.specs.DddText.{ddd_text}
-use Rattle.filter_asm.specs.declared.fault.AsmFaultKind.{AsmFaultKind}
-use Rattle.filter_asm.specs.declared.fault.AsmFaultKind.TheVariants.{Mnemonic, Operand, Number, NoLabel, TwiceLabel, Backward, TooFar, TooLong, NoMemory}
 use Rattle.filter_asm.specs.Program.{Asm, Assembles, Fault}
 use Rattle.filter_verify.specs.declared.rules.Refusal.TheVariants.{JumpOut}
 use Rattle.filter_verify.specs.Rules.{BreaksAt}
-
-abbrev pub fault_name : AsmFaultKind → List ℕ
-fault_name Mnemonic = codes "Mnemonic"
-fault_name Operand = codes "Operand"
-fault_name Number = codes "Number"
-fault_name NoLabel = codes "NoLabel"
-fault_name TwiceLabel = codes "TwiceLabel"
-fault_name Backward = codes "Backward"
-fault_name TooFar = codes "TooFar"
-fault_name TooLong = codes "TooLong"
-fault_name NoMemory = []
+use Rattle.console.specs.Words.{asm_fault_name}
 
 -- the line for the first fault of a text
 abbrev pub asm_fault_line : Fault → List ℕ
-asm_fault_line fault = codes "line " ++ decimal fault.line ++ codes ": " ++ fault_name fault.kind ++ codes "\n"
+asm_fault_line fault = codes "line " ++ decimal fault.line ++ codes ": " ++ asm_fault_name fault.kind ++ codes "\n"
 
 -- the least place of a jump that leads outside the program
 abbrev pub IsFirstOut : List Insn → ℕ → Type 0

@@ -3,11 +3,11 @@ use Rattle.std.specs.Prelude.{◌≡◌, ℕ, List, [], ◌∷◌, ◌++◌, cod
 use Rattle.std.specs.Fmt.{decimal}
 use Rattle.bpf_insn.specs.declared.insn.Insn.{Insn}
 use Rattle.bpf_insn.specs.declared.ddd.TextFault.{TextFault}
-use Rattle.bpf_insn.specs.declared.ddd.TextFault.TheVariants as texts
 use Rattle.bpf_insn.specs.Ddd.{Ddd, Faults}
 use Rattle.filter_verify.specs.declared.rules.Refusal.{Refusal}
 use Rattle.filter_verify.specs.declared.rules.Refusal.TheVariants as refusals
 use Rattle.filter_verify.specs.Rules.{Refuses, Sound}
+use Rattle.console.specs.Words.{code_words}
 
 -- numbers in decimal, parted by commas
 abbrev pub commas : List ℕ → List ℕ
@@ -17,10 +17,7 @@ commas (n ∷ m ∷ others) = decimal n ++ codes "," ++ commas (m ∷ others)
 
 -- the line that says why a text spells no program
 abbrev pub code_line : TextFault → List ℕ
-code_line (texts.BadNumber place) = codes "code BadNumber " ++ decimal place ++ codes "\n"
-code_line texts.CountMismatch = codes "code CountMismatch\n"
-code_line texts.TooLong = codes "code TooLong\n"
-code_line texts.NoMemory = []
+code_line fault = codes "code " ++ code_words fault ++ codes "\n"
 
 -- the line that says why a program is refused
 abbrev pub refused_line : Refusal → List ℕ

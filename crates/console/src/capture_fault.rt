@@ -6,10 +6,10 @@ ghost use Rattle.console.specs.Faults.{fault_line, fault_status, fault_text};
 ghost use Rattle.console.specs.Matching.{IsPrintFault};
 
 use crate::EngineFault;
+use crate::fault_words::push_capture_words;
 use crate::output::write_text;
 use pcap_reader::CaptureFault;
 use std::alloc::AllocError;
-use std::fmt::Write as FmtWrite;
 use std::io::Write;
 
 /// Writes what was kept back of a text, and the line for the fault behind it if there is one, and answers the status.
@@ -36,12 +36,7 @@ pub fn write_ending<W: Write>(
 fn push_fault(text: &mut String, fault: CaptureFault) -> Result<(), AllocError>
     ensures { OnOk result (string_bytes text.new ≡ string_bytes text.old ++ fault_line fault) }
 {
-    match fault {
-        CaptureFault::BadMagic => text.push_str("fault BadMagic\n"),
-        CaptureFault::BadVersion => text.push_str("fault BadVersion\n"),
-        CaptureFault::TruncatedHeader => text.push_str("fault TruncatedHeader\n"),
-        CaptureFault::TruncatedRecord(place) => writeln!(text, "fault TruncatedRecord {place}"),
-        CaptureFault::TooLong(place) => writeln!(text, "fault TooLong {place}"),
-        CaptureFault::NoMemory => Err(AllocError),
-    }
+    text.push_str("fault ")?;
+    push_capture_words(text, fault)?;
+    text.push_str("\n")
 }

@@ -7,11 +7,12 @@ ghost use Rattle.bpf_insn.specs.Program.{FormAt};
 ghost use Rattle.filter_asm.specs.declared.fault.AsmFaultKind.TheVariants.{NoMemory};
 ghost use Rattle.filter_verify.specs.declared.rules.Refusal.TheVariants.{JumpOut};
 ghost use Rattle.filter_verify.specs.Rules.{BreaksAt};
-ghost use Rattle.console.specs.Checking.{IsFirstOut, ShowsAsm, ShowsCheck, ShowsProgram, asm_fault_line, fault_name};
+ghost use Rattle.console.specs.Checking.{IsFirstOut, ShowsAsm, ShowsCheck, ShowsProgram, asm_fault_line};
 ghost use Rattle.console.specs.Matching.{IsEngineFault};
 ghost use Rattle.console.specs.Reading.{IsInput};
 
 use crate::EngineFault;
+use crate::fault_words::name_of_asm_fault;
 use crate::input::{INPUT_BYTES, INPUT_READS, Input, read_bounded};
 use crate::output::{write_bytes, write_text};
 use bpf_insn::{Insn, write_asm, write_ddd};
@@ -134,26 +135,9 @@ fn jumps_out_at(program: &[Insn], pc: usize) -> bool
 fn fault_line(alloc: Global, line: u32, kind: AsmFaultKind) -> Result<String, AllocError>
     ensures { IfOk result (λ text. (kind ≢ NoMemory) × (string_bytes text ≡ asm_fault_line (record { line = line; kind = kind }))) }
 {
-    let Some(name) = name_of(kind) else {
+    let Some(name) = name_of_asm_fault(kind) else {
         return Err(AllocError);
     };
     let text = format!(in alloc; "line {line}: {name}\n")?;
     Ok(text)
-}
-
-/// The name of a fault; want of memory is none of a text.
-fn name_of(kind: AsmFaultKind) -> Option<&'static str>
-    ensures { MatchOption result (kind ≡ NoMemory) (λ name. (kind ≢ NoMemory) × (name.now ≡ fault_name kind)) }
-{
-    match kind {
-        AsmFaultKind::Mnemonic => Some("Mnemonic"),
-        AsmFaultKind::Operand => Some("Operand"),
-        AsmFaultKind::Number => Some("Number"),
-        AsmFaultKind::NoLabel => Some("NoLabel"),
-        AsmFaultKind::TwiceLabel => Some("TwiceLabel"),
-        AsmFaultKind::Backward => Some("Backward"),
-        AsmFaultKind::TooFar => Some("TooFar"),
-        AsmFaultKind::TooLong => Some("TooLong"),
-        AsmFaultKind::NoMemory => None,
-    }
 }

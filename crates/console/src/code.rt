@@ -4,6 +4,7 @@ ghost use Rattle.std.specs.Prelude.{◌≡◌, ◌≢◌, ◌++◌, ◌∷◌, [
 ghost use Rattle.std.specs.Fmt.{decimal};
 ghost use Rattle.console.specs.Code.{IsGoodCode, ShowsBadCode, code_line, commas, refused_line};
 
+use crate::fault_words::push_code_words;
 use bpf_insn::{TextFault, read_ddd};
 use filter_verify::{Refusal, Verified, verify};
 use std::alloc::{AllocError, Global};
@@ -26,12 +27,10 @@ pub fn read_code(alloc: Global, code: &[u8]) -> Result<Result<Verified, String>,
 fn code_fault(alloc: Global, fault: TextFault) -> Result<String, AllocError>
     ensures { IfOk result (λ line. (fault ≢ TextFault.NoMemory) × (string_bytes line ≡ code_line fault)) }
 {
-    match fault {
-        TextFault::BadNumber(place) => format!(in alloc; "code BadNumber {place}\n"),
-        TextFault::CountMismatch => String::from_str(alloc, "code CountMismatch\n"),
-        TextFault::TooLong => String::from_str(alloc, "code TooLong\n"),
-        TextFault::NoMemory => Err(AllocError),
-    }
+    let mut line = String::from_str(alloc, "code ")?;
+    push_code_words(&mut line, fault)?;
+    line.push_str("\n")?;
+    Ok(line)
 }
 
 /// The line that says why a program is refused.
