@@ -14,3 +14,4 @@ pub mod Homes
 pub mod BodyViews
 pub mod Changes
 pub mod Reading
+pub mod Limits

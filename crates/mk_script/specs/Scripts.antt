@@ -40,6 +40,10 @@ abbrev pub AreFiles : List (List ℕ) → Type 0
 AreFiles [] = Unit {0}
 AreFiles (file ∷ files) = All (λ b. b < 256) file × AreFiles files
 
--- the text stands for one outcome at most
+-- the text stands for some outcome
+abbrev pub SomeOutcome : Settings → List ℕ → Type 0
+SomeOutcome settings text = (outcome : Result Script ScriptFault) × Stands settings text outcome
+
+-- and for one at most
 abbrev pub OneOutcome : Settings → List ℕ → Type 0
 OneOutcome settings text = (this other : Result Script ScriptFault) → Stands settings text this → Stands settings text other → this ≡ other

@@ -8,10 +8,11 @@ ghost use Rattle.mk_script.specs.Bodies.{Means};
 ghost use Rattle.mk_script.specs.Changes.{DraftFollows, Knows};
 ghost use Rattle.mk_script.specs.DraftViews.{Answered, draft_of, known_of, settings_of};
 ghost use Rattle.mk_script.specs.Drafts as drafts;
+ghost use Rattle.mk_script.specs.Limits.{HasLimits};
 ghost use Rattle.mk_script.specs.Meanings as meanings;
 ghost use Rattle.mk_script.specs.Pieces.{BlockShort, statement_of};
 ghost use Rattle.mk_script.specs.Reading.{Advances, Reads, Refuses};
-ghost use Rattle.mk_script.specs.Scripts.{AreFiles, MeanBehind, OneOutcome, Stands, fault_at, settings};
+ghost use Rattle.mk_script.specs.Scripts.{AreFiles, MeanBehind, OneOutcome, SomeOutcome, Stands, fault_at, settings};
 ghost use Rattle.mk_script.specs.Statements.{statements_from};
 ghost use Rattle.mk_script.specs.Views.{texts};
 ghost use Rattle.mk_script.specs.declared.fault.ScriptFault.{ScriptFault};
@@ -191,11 +192,15 @@ pub fn read_script(
     threads: bool,
 ) -> Result<Script, ScriptFault>
     requires { length text.now < 2 ^ 32 }
-    // A text stands for one script or one fault at most.
+    // A text stands for a script or for a fault ..
+    ensures some { SomeOutcome (settings files.now threads) text.now }
+    // .. and for no two things.
     ensures one { OneOutcome (settings files.now threads) text.now }
     // What is answered is what the text stands for.
     ensures found { IfOk result (λ script. Stands (settings files.now threads) text.now (Ok script)) }
     ensures refused { IfErr result (λ fault. (fault.kind ≡ NoMemory) ⊎ Stands (settings files.now threads) text.now (Err fault)) }
+    // That is within the limits of a machine and of its messages.
+    ensures limits { IfOk result HasLimits }
     // What the text stands for is answered, unless memory runs out.
     ensures only { (script : Script) → Stands (settings files.now threads) text.now (Ok script)
         → MatchResult result (λ found. found ≡ script) (λ fault. fault.kind ≡ NoMemory) }

@@ -1,0 +1,431 @@
+-- What a text stands for keeps the limits of scripts.
+use Rattle.std.proofs.Common.{◌≡◌, ℕ, zero, suc, ◌+◌, ◌-◌, ◌^◌, ◌≤◌, eqb, Bool, true, false, not, if◌then◌else◌, List, [], ◌∷◌, ◌++◌, length, drop, Option, Some, None, Result, Ok, Err, refl, sym, ap, ◌∙◌, subst, inl, inr, arith, length-append, length-drop, append-nil, slice_get}
+use Rattle.std.specs.Prelude.{map, IfOk, nat_lt, option_and_then, unwrap_or, ◌||◌}
+use Rattle.std.specs.Option.{ok_or}
+use Rattle.std.specs.List.{AllByRecursion, flat_map, list_any, before_first, after_first}
+use Rattle.std.specs.Str.{bytes_eq}
+use Rattle.std.proofs.lemmas.Bool.{cases_Bool}
+use Rattle.std.proofs.lemmas.Bool.Decides.{nat_tests}
+use Rattle.std.proofs.lemmas.Grind.{flat_map-append}
+use Rattle.std.proofs.lemmas.List.Elements.{All-from_recursion}
+use Rattle.bpf_insn.specs.declared.insn.Insn.{Insn}
+use Rattle.bpf_insn.specs.Texts.{words_of}
+use Rattle.filter_asm.proofs.FormedLemmas.{assembled_formed}
+use Rattle.pcap_reader.specs.declared.capture.Packet.{Packet}
+use Rattle.monitor_messages.specs.Coding.{HasShortProgram}
+use Rattle.table_replica.specs.declared.Op.{Op}
+use Rattle.table_replica.specs.declared.Op.TheVariants.{Create, Mint, Revoke, DropCap, Install, Remove, Replace}
+use Rattle.world_model.specs.declared.event.Event.{Event}
+use Rattle.world_model.specs.declared.event.Event.TheVariants.{Take, Rx}
+use Rattle.mk_script.specs.declared.fault.ScriptFault.{ScriptFault}
+use Rattle.mk_script.specs.declared.fault.ScriptFaultKind.{ScriptFaultKind}
+use Rattle.mk_script.specs.declared.fault.ScriptFaultKind.TheVariants.{BadLine, NoCores, Twice, NoName}
+use Rattle.mk_script.specs.declared.rows.Command.{Command}
+use Rattle.mk_script.specs.declared.rows.Command.TheVariants as command
+use Rattle.mk_script.specs.declared.script.Item.{Item}
+use Rattle.mk_script.specs.declared.script.Item.TheVariants as item
+use Rattle.mk_script.specs.declared.script.Script.{Script}
+use Rattle.mk_script.specs.Bodies.{MeansAssembled, MeansDecimal, MeansCaptured, DraftMeans, DraftedMeans}
+use Rattle.mk_script.specs.Drafts.{Settings, Draft, Whole, Assembler, Decimal, Savefile, draft_of, file_of, is_file, has_cores, is_new, behind_word, optional_below, hex_bytes, may_stand, is_cores, core_limit, is_short, numbers_below, cores_draft, asm_draft, ddd_draft, packet_draft, capture_draft, home_draft, create_op, mint_op, rights_of, held, held_program, op_of, domain_of, request_draft, core_draft, take_draft, packet_at, floor_at, rx_draft, replayed, replay_draft, draft_by, script_draft, counted, job_at, is_rx_at, job_draft, event_by, event_draft, trace_draft, is_left, draft_in}
+use Rattle.mk_script.specs.Limits.{IsTakeOrRx, IsLimited, HasLimits}
+use Rattle.mk_script.specs.Meanings.{Meaning, Budgets, NamedProgram, NamedPacket, NamedCapture, Home, Does, Receives, Trace, Nothing, Known, Jobs, Counted, Named, known, named, budgets_in, programs_in, jobs_in, items_in, items_of, is_traced, jobs_behind}
+use Rattle.mk_script.specs.Rows.{command_of, event_of}
+use Rattle.mk_script.specs.Scripts.{MeanBehind, Stands, script_of}
+use Rattle.mk_script.specs.Statements.{Statement, statements}
+use Rattle.mk_script.specs.Words.{◌>>=◌, check, word_at, whole_number, number_below}
+use Rattle.mk_script.proofs.RowLemmas.{cores_few}
+
+-- Steps that succeeded
+
+record Bound {A B : Type 0} (first : Result A ScriptFaultKind) (then' : A → Result B ScriptFaultKind) (last : B) : Type 0 where
+  pub value : A
+  pub gave : first ≡ Ok value
+  pub next : then' value ≡ Ok last
+
+bound : {A B : Type 0} (first : Result A ScriptFaultKind) (then' : A → Result B ScriptFaultKind) (last : B) → (first >>= then') ≡ Ok last → Bound first then' last
+bound (Ok x) then' last e = record { value = x; gave = refl; next = e }
+bound (Err x) then' last e = absurd (cc)
+
+same_ok : {A E : Type 0} (x y : A) → (let this : Result A E = Ok x in let other : Result A E = Ok y in this ≡ other) → x ≡ y
+same_ok x y e = cc
+
+some_ok : {A E : Type 0} (o : Option A) (fault : E) (x : A) → ok_or o fault ≡ Ok x → o ≡ Some x
+some_ok (Some y) fault x e = cc
+some_ok None fault x e = absurd (cc)
+
+passed : (test : Bool) (fault : ScriptFaultKind) (u : Unit {0}) → check test fault ≡ Ok u → test ≡ true
+passed true fault u e = refl
+passed false fault u e = absurd (cc)
+
+-- Each element of a list
+
+each_append : {X : Type 0} (P : X → Type 0) (xs ys : List X) → AllByRecursion P xs → AllByRecursion P ys → AllByRecursion P (xs ++ ys)
+each_append P [] ys all others = others
+each_append P (x ∷ xs) ys all others = (all.0, each_append P xs ys all.1 others)
+
+-- Meanings within the limits
+
+abbrev IsWithin : Meaning → Type 0
+IsWithin (NamedProgram name program) = length program ≤ 4096
+IsWithin (Does item) = IsLimited item
+IsWithin (Receives events) = AllByRecursion IsTakeOrRx events
+IsWithin meaning = Unit {0}
+
+-- budgets are the first, and few
+abbrev IsFirst : Known → Meaning → Type 0
+IsFirst k (Budgets budgets) = (length k.budgets ≡ 0) × (length budgets ≤ 8)
+IsFirst k meaning = Unit {0}
+
+-- what is known is within the limits
+abbrev AreShort : (List ℕ → Option (List Insn)) → Type 0
+AreShort programs = (name : List ℕ) (program : List Insn) → programs name ≡ Some program → length program ≤ 4096
+
+abbrev AreReceived : Jobs → Type 0
+AreReceived (Counted received) = Unit {0}
+AreReceived (Named jobs) = AllByRecursion IsTakeOrRx jobs
+
+-- a draft's meaning, where it has it already
+abbrev IsDraftWithin : Known → Draft → Type 0
+IsDraftWithin k (Whole meaning) = IsWithin meaning × IsFirst k meaning
+IsDraftWithin k draft = Unit {0}
+
+-- Requests
+
+create_short : (words : List (List ℕ)) (op : Op) → create_op words ≡ Ok op → HasShortProgram op
+unfolding create_op
+create_short words op e =
+    let domain = bound (number_below (2 ^ 16) (word_at words 1)) _ op e in
+    let endpoint = bound (number_below (2 ^ 16) (word_at words 2)) _ op domain.next in
+    subst HasShortProgram (same_ok (Create domain.value endpoint.value) op endpoint.next) cc
+
+mint_short : (words : List (List ℕ)) (op : Op) → mint_op words ≡ Ok op → HasShortProgram op
+unfolding mint_op
+mint_short words op e =
+    let domain = bound (number_below (2 ^ 16) (word_at words 1)) _ op e in
+    let cap = bound (number_below (2 ^ 32) (word_at words 2)) _ op domain.next in
+    let to = bound (number_below (2 ^ 16) (word_at words 3)) _ op cap.next in
+    subst HasShortProgram (same_ok (Mint domain.value cap.value to.value (rights_of (word_at words 4))) op to.next) cc
+
+held_short : (words : List (List ℕ)) (make : ℕ → ℕ → Op) (op : Op) → ((domain id : ℕ) → HasShortProgram (make domain id)) → (held words >>= λ h. Ok (make h.0 h.1)) ≡ Ok op → HasShortProgram op
+held_short words make op short e =
+    let both = bound (held words) (λ h. Ok (make h.0 h.1)) op e in
+    subst HasShortProgram (same_ok (make both.value.0 both.value.1) op both.next) (short both.value.0 both.value.1)
+
+program_short : (k : Known) (words : List (List ℕ)) (make : ℕ → ℕ → List Insn → Op) (op : Op) → AreShort k.programs
+    → ((domain id : ℕ) (program : List Insn) → length program ≤ 4096 → HasShortProgram (make domain id program))
+    → (held_program k words >>= λ h. Ok (make h.0 h.1 h.2)) ≡ Ok op → HasShortProgram op
+unfolding held_program
+program_short k words make op short made e =
+    let all = bound (held_program k words) (λ h. Ok (make h.0 h.1 h.2)) op e in
+    let both = bound (held words) _ all.value all.gave in
+    let program = bound (ok_or (k.programs (word_at words 3)) NoName) _ all.value both.next in
+    let is = same_ok (both.value.0, both.value.1, program.value) all.value program.next in
+    let few = short (word_at words 3) program.value (some_ok (k.programs (word_at words 3)) NoName program.value program.gave) in
+    let same : length program.value ≡ length all.value.2 = ap (λ (h : ℕ × ℕ × List Insn). length h.2) is in
+    subst HasShortProgram (same_ok (make all.value.0 all.value.1 all.value.2) op all.next) (made all.value.0 all.value.1 all.value.2 (omega (arith, same, few)))
+
+op_short : (k : Known) (words : List (List ℕ)) (c : Command) (op : Op) → AreShort k.programs → op_of k words c ≡ Ok op → HasShortProgram op
+op_short k words command.Create op short e = create_short words op e
+op_short k words command.Mint op short e = mint_short words op e
+op_short k words command.Revoke op short e = held_short words (λ d i. Revoke d i) op (λ d i. tt) e
+op_short k words command.DropCap op short e = held_short words (λ d i. DropCap d i) op (λ d i. tt) e
+op_short k words command.Install op short e = program_short k words (λ d i p. Install d i p) op short (λ d i p few. few) e
+op_short k words command.Remove op short e = held_short words (λ d i. Remove d i) op (λ d i. tt) e
+op_short k words command.Replace op short e = program_short k words (λ d i p. Replace d i p) op short (λ d i p few. few) e
+op_short k words c op short e = absurd (cc)
+
+request_within : (k : Known) (words : List (List ℕ)) (c : Command) (d : Draft) → AreShort k.programs → request_draft k words c ≡ Ok d → IsDraftWithin k d
+unfolding request_draft
+request_within k words c d short e =
+    let op = bound (op_of k words c) _ d e in
+    subst (IsDraftWithin k) (same_ok (Whole (Does (item.Ask (k.home (domain_of op.value)) op.value))) d op.next) (op_short k words c op.value short op.gave, tt)
+
+-- What is done at a core
+
+core_within : (k : Known) (act : ℕ → Item) (words : List (List ℕ)) (d : Draft) → ((core : ℕ) → IsLimited (act core)) → core_draft act words ≡ Ok d → IsDraftWithin k d
+unfolding core_draft
+core_within k act words d limited e =
+    let core = bound (number_below (2 ^ 16) (word_at words 1)) _ d e in
+    subst (IsDraftWithin k) (same_ok (Whole (Does (act core.value))) d core.next) (limited core.value, tt)
+
+take_within : (k : Known) (words : List (List ℕ)) (short : Bool) (d : Draft) → take_draft words short ≡ Ok d → IsDraftWithin k d
+unfolding take_draft
+take_within k words short d e =
+    let to = bound (number_below (2 ^ 16) (word_at words 1)) _ d e in
+    let from = bound (number_below (2 ^ 16) (word_at words 2)) _ d to.next in
+    subst (IsDraftWithin k) (same_ok (Whole (Does (item.Apply (Take to.value from.value short)))) d from.next) (tt, tt)
+
+rx_within : (s : Settings) (k : Known) (received : ℕ) (words : List (List ℕ)) (d : Draft) → rx_draft s k received words ≡ Ok d → IsDraftWithin k d
+unfolding rx_draft
+rx_within s k received words d e =
+    let core = bound (number_below (core_limit s k) (word_at words 1)) _ d e in
+    let floor = bound (floor_at words 3) _ d core.next in
+    let packet = bound (packet_at k (word_at words 2)) _ d floor.next in
+    subst (IsDraftWithin k) (same_ok (Whole (Receives (Rx core.value (received + 1) packet.value floor.value ∷ []))) d packet.next) ((tt, cc), tt)
+
+replayed_received : (cores received floor place : ℕ) (packets : List Packet) → AllByRecursion IsTakeOrRx (replayed cores received floor place packets)
+replayed_received cores received floor place [] = cc
+replayed_received cores received floor place (packet ∷ packets) = (tt, replayed_received cores received floor (place + 1) packets)
+
+replay_within : (k : Known) (received : ℕ) (words : List (List ℕ)) (d : Draft) → replay_draft k received words ≡ Ok d → IsDraftWithin k d
+unfolding replay_draft
+replay_within k received words d e =
+    let floor = bound (floor_at words 2) _ d e in
+    let packets = bound (ok_or (k.captures (word_at words 1)) NoName) _ d floor.next in
+    subst (IsDraftWithin k) (same_ok (Whole (Receives (replayed (length k.budgets) received floor.value 0 packets.value))) d packets.next)
+    (replayed_received (length k.budgets) received floor.value 0 packets.value, tt)
+
+-- Definitions
+
+numbers_length : (limit : ℕ) (words : List (List ℕ)) (numbers : List ℕ) → numbers_below limit words ≡ Ok numbers → length numbers ≡ length words
+numbers_length limit [] numbers e = ap length (sym (same_ok [] numbers e))
+numbers_length limit (word ∷ words) numbers e =
+    let first = bound (number_below limit word) _ numbers e in
+    let rest = bound (numbers_below limit words) _ numbers first.next in
+    let more = numbers_length limit words rest.value rest.gave in
+    let is : length numbers ≡ length (first.value ∷ rest.value) = ap length (sym (same_ok (first.value ∷ rest.value) numbers rest.next)) in
+    omega (arith, is, more)
+
+no_budgets : (k : Known) → not (has_cores k) ≡ true → length k.budgets ≡ 0
+no_budgets k e = grind (arith, nat_tests)
+
+cores_within : (s : Settings) (k : Known) (words : List (List ℕ)) (d : Draft) → command_of s.threads words ≡ Some command.Cores → cores_draft k words ≡ Ok d → IsDraftWithin k d
+unfolding cores_draft command_of
+cores_within s k words d is e =
+    let budgets = bound (numbers_below (2 ^ 32) (drop 1 words)) _ d e in
+    let first = bound (check (not (has_cores k)) Twice) _ d budgets.next in
+    let few = cores_few s.threads words is in
+    let long = numbers_length (2 ^ 32) (drop 1 words) budgets.value budgets.gave in
+    subst (IsDraftWithin k) (same_ok (Whole (Budgets budgets.value)) d first.next)
+    (tt, (no_budgets k (passed (not (has_cores k)) Twice first.value first.gave), omega (arith, few, long, length-drop 1 words)))
+
+asm_within : (k : Known) (words : List (List ℕ)) (block : Option (List ℕ)) (d : Draft) → asm_draft k words block ≡ Ok d → IsDraftWithin k d
+unfolding asm_draft
+asm_within k words block d e =
+    let new = bound (is_new (k.programs (word_at words 1))) _ d e in
+    subst (IsDraftWithin k) (same_ok (Assembler (word_at words 1) (unwrap_or block [])) d new.next) tt
+
+ddd_within : (k : Known) (words : List (List ℕ)) (line : List ℕ) (d : Draft) → ddd_draft k words line ≡ Ok d → IsDraftWithin k d
+unfolding ddd_draft
+ddd_within k words line d e =
+    let new = bound (is_new (k.programs (word_at words 1))) _ d e in
+    subst (IsDraftWithin k) (same_ok (Decimal (word_at words 1) (behind_word (behind_word line))) d new.next) tt
+
+packet_within : (k : Known) (words : List (List ℕ)) (d : Draft) → packet_draft k words ≡ Ok d → IsDraftWithin k d
+unfolding packet_draft
+packet_within k words d e =
+    let original = bound (optional_below (2 ^ 32) words 3) _ d e in
+    let new = bound (is_new (k.packets (word_at words 1))) _ d original.next in
+    let bytes = bound (hex_bytes (word_at words 2)) _ d new.next in
+    subst (IsDraftWithin k) (same_ok (Whole (NamedPacket (word_at words 1) (record { bytes = bytes.value; original = unwrap_or original.value (length bytes.value) }))) d bytes.next) (tt, tt)
+
+capture_within : (s : Settings) (k : Known) (words : List (List ℕ)) (d : Draft) → capture_draft s k words ≡ Ok d → IsDraftWithin k d
+unfolding capture_draft
+capture_within s k words d e =
+    let number = bound (whole_number (word_at words 2)) _ d e in
+    let new = bound (is_new (k.captures (word_at words 1))) _ d number.next in
+    let there = bound (check (is_file s number.value) NoName) _ d new.next in
+    subst (IsDraftWithin k) (same_ok (Savefile (word_at words 1) number.value) d there.next) tt
+
+home_within : (k : Known) (words : List (List ℕ)) (d : Draft) → home_draft k words ≡ Ok d → IsDraftWithin k d
+unfolding home_draft
+home_within k words d e =
+    let domain = bound (number_below (2 ^ 16) (word_at words 1)) _ d e in
+    let core = bound (number_below (length k.budgets) (word_at words 2)) _ d domain.next in
+    subst (IsDraftWithin k) (same_ok (Whole (Home domain.value core.value)) d core.next) (tt, tt)
+
+by_within : (s : Settings) (k : Known) (received : ℕ) (words : List (List ℕ)) (line : List ℕ) (block : Option (List ℕ)) (c : Command) (d : Draft) → AreShort k.programs
+    → command_of s.threads words ≡ Some c → draft_by s k received words line block c ≡ Ok d → IsDraftWithin k d
+by_within s k received words line block command.Cores d short is e = cores_within s k words d is e
+by_within s k received words line block command.Asm d short is e = asm_within k words block d e
+by_within s k received words line block command.Ddd d short is e = ddd_within k words line d e
+by_within s k received words line block command.Packet d short is e = packet_within k words d e
+by_within s k received words line block command.Capture d short is e = capture_within s k words d e
+by_within s k received words line block command.Home d short is e = home_within k words d e
+by_within s k received words line block command.Start d short is e = subst (IsDraftWithin k) (same_ok (Whole (Does item.Begin)) d e) (tt, tt)
+by_within s k received words line block command.Submit d short is e = core_within k item.Submit words d (λ core. tt) e
+by_within s k received words line block command.StartFor d short is e = core_within k item.StartFor words d (λ core. tt) e
+by_within s k received words line block command.Take d short is e = take_within k words (nat_lt 3 (length words)) d e
+by_within s k received words line block command.Rx d short is e = rx_within s k received words d e
+by_within s k received words line block command.Replay d short is e = replay_within k received words d e
+by_within s k received words line block command.Settle d short is e = subst (IsDraftWithin k) (same_ok (Whole (Does item.Settle)) d e) (tt, tt)
+by_within s k received words line block command.Show d short is e = core_within k item.Show words d (λ core. tt) e
+by_within s k received words line block command.Trace d short is e = subst (IsDraftWithin k) (same_ok (Whole Trace) d e) (tt, tt)
+by_within s k received words line block c d short is e = request_within k words c d short e
+
+script_within : (s : Settings) (k : Known) (received : ℕ) (words : List (List ℕ)) (line : List ℕ) (block : Option (List ℕ)) (d : Draft) → AreShort k.programs
+    → script_draft s k received words line block ≡ Ok d → IsDraftWithin k d
+unfolding script_draft
+script_within s k received words line block d short e =
+    let c = bound (ok_or (command_of s.threads words) BadLine) _ d e in
+    let allowed = bound (check (may_stand k.acted block c.value) BadLine) _ d c.next in
+    let ready = bound (check (is_cores c.value || has_cores k) NoCores) _ d allowed.next in
+    by_within s k received words line block c.value d short (some_ok (command_of s.threads words) BadLine c.value c.gave) ready.next
+
+-- Traces
+
+found_received : (jobs : List Event) (n : ℕ) (event : Event) → AllByRecursion IsTakeOrRx jobs → slice_get jobs n ≡ Some event → IsTakeOrRx event
+found_received [] n event all e = absurd (cc)
+found_received (job ∷ jobs) zero event all e = let same : job ≡ event = cc in subst IsTakeOrRx same all.0
+found_received (job ∷ jobs) (suc n) event all e = found_received jobs n event all.1 e
+
+counted_received : (jobs : List Event) (number : ℕ) (event : Event) → AllByRecursion IsTakeOrRx jobs → counted jobs number ≡ Some event → IsTakeOrRx event
+counted_received jobs number event all e = elim (cases_Bool (eqb number 0)) [
+  | inl none ↦ let never = rw none at e in absurd (cc)
+  | inr some ↦ let there = rw some at e in found_received jobs (number - 1) event all there
+]
+
+-- a job that is of the core
+of_core : (core : ℕ) (found : Option Event) (event : Event) → option_and_then (job_at core) found ≡ Some event → found ≡ Some event
+of_core core None event e = absurd (cc)
+of_core core (Some job) event e = elim (cases_Bool (is_rx_at core job)) [
+  | inl is ↦ rw is at e
+  | inr other ↦ let never = rw other at e in absurd (cc)
+]
+
+job_within : (k : Known) (jobs : List Event) (words : List (List ℕ)) (d : Draft) → AllByRecursion IsTakeOrRx jobs → job_draft jobs words ≡ Ok d → IsDraftWithin k d
+unfolding job_draft
+job_within k jobs words d all e =
+    let core = bound (number_below (2 ^ 16) (word_at words 1)) _ d e in
+    let number = bound (number_below (2 ^ 64) (word_at words 2)) _ d core.next in
+    let found = option_and_then (job_at core.value) (counted jobs number.value) in
+    let event = bound (ok_or found NoName) _ d number.next in
+    let there = of_core core.value (counted jobs number.value) event.value (some_ok found NoName event.value event.gave) in
+    subst (IsDraftWithin k) (same_ok (Whole (Does (item.Apply event.value))) d event.next) (counted_received jobs number.value event.value all there, tt)
+
+event_by_within : (k : Known) (jobs : List Event) (words rest : List (List ℕ)) (c : Command) (d : Draft) → AllByRecursion IsTakeOrRx jobs → event_by jobs words rest c ≡ Ok d → IsDraftWithin k d
+event_by_within k jobs words rest command.Start d all e = subst (IsDraftWithin k) (same_ok (Whole (Does item.Begin)) d e) (tt, tt)
+event_by_within k jobs words rest command.Submit d all e = core_within k item.Submit words d (λ core. tt) e
+event_by_within k jobs words rest command.StartFor d all e = core_within k item.StartFor words d (λ core. tt) e
+event_by_within k jobs words rest command.Take d all e = take_within k words (is_short rest) d e
+event_by_within k jobs words rest command.Rx d all e = job_within k jobs words d all e
+event_by_within k jobs words rest c d all e = absurd (cc)
+
+event_within : (k : Known) (jobs : List Event) (words rest : List (List ℕ)) (d : Draft) → AllByRecursion IsTakeOrRx jobs → event_draft jobs words rest ≡ Ok d → IsDraftWithin k d
+unfolding event_draft
+event_within k jobs words rest d all e = let c = bound (ok_or (event_of words) BadLine) _ d e in event_by_within k jobs words rest c.value d all c.next
+
+left_within : (k : Known) (line : List ℕ) (d : Draft) → (if is_left (words_of line) then Ok (Whole Nothing) else Err BadLine) ≡ Ok d → IsDraftWithin k d
+left_within k line d e = elim (cases_Bool (is_left (words_of line))) [
+  | inl is ↦ let nothing = rw is at e in subst (IsDraftWithin k) (same_ok (Whole Nothing) d nothing) (tt, tt)
+  | inr other ↦ let never = rw other at e in absurd (cc)
+]
+
+trace_within : (k : Known) (jobs : List Event) (line : List ℕ) (d : Draft) → AllByRecursion IsTakeOrRx jobs → trace_draft jobs line ≡ Ok d → IsDraftWithin k d
+trace_within k jobs line d all e = elim (cases_Bool (list_any (λ b. eqb b 58) line)) [
+  | inl event ↦ let of_event = rw event at e in event_within k jobs (words_of (before_first (λ b. eqb b 58) line)) (words_of (after_first (λ b. eqb b 58) line)) d all of_event
+  | inr left ↦ let of_left = rw left at e in left_within k line d of_left
+]
+
+in_within : (s : Settings) (k : Known) (jobs : Jobs) (words : List (List ℕ)) (line : List ℕ) (block : Option (List ℕ)) (d : Draft) → AreShort k.programs → AreReceived jobs
+    → draft_in s k jobs words line block ≡ Ok d → IsDraftWithin k d
+in_within s k (Counted received) words line block d short received' e = script_within s k received words line block d short e
+in_within s k (Named jobs) words line block d short all e = trace_within k jobs line d all e
+
+-- Meanings
+
+assembled_within : (k : Known) (name text : List ℕ) (m : Meaning) → MeansAssembled name text (Ok m) → IsWithin m × IsFirst k m
+assembled_within k name text m (inl x) = let same = sym (same_ok m (NamedProgram name x.0) x.2) in subst (λ (m : Meaning). IsWithin m × IsFirst k m) same ((assembled_formed text x.0 x.1).0, tt)
+assembled_within k name text m (inr x) = let never = x.2 in absurd (cc)
+
+decimal_within : (k : Known) (name text : List ℕ) (m : Meaning) → MeansDecimal name text (Ok m) → IsWithin m × IsFirst k m
+decimal_within k name text m (inl x) = let same = sym (same_ok m (NamedProgram name x.0) x.2) in subst (λ (m : Meaning). IsWithin m × IsFirst k m) same (x.1.short, tt)
+decimal_within k name text m (inr x) = let never = x.2 in absurd (cc)
+
+captured_within : (k : Known) (name bytes : List ℕ) (m : Meaning) → MeansCaptured name bytes (Ok m) → IsWithin m × IsFirst k m
+captured_within k name bytes m (inl x) = let same = sym (same_ok m (NamedCapture name x.1) x.3) in subst (λ (m : Meaning). IsWithin m × IsFirst k m) same (tt, tt)
+captured_within k name bytes m (inr x) = let never = x.4 in absurd (cc)
+
+means_within : (s : Settings) (k : Known) (d : Draft) (m : Meaning) → IsDraftWithin k d → DraftMeans s d (Ok m) → IsWithin m × IsFirst k m
+means_within s k (Whole meaning) m within e = subst (λ (m : Meaning). IsWithin m × IsFirst k m) (sym (same_ok m meaning e)) within
+means_within s k (Assembler name text) m within means = assembled_within k name text m means
+means_within s k (Decimal name text) m within means = decimal_within k name text m means
+means_within s k (Savefile name number) m within means = captured_within k name (file_of s number) m means
+
+drafted_within : (s : Settings) (k : Known) (st : Statement) (d : Result Draft ScriptFaultKind) (m : Meaning) → AreShort k.programs → AreReceived k.jobs → draft_of s k st ≡ d → DraftedMeans s d (Ok m) → IsWithin m × IsFirst k m
+drafted_within s k st (Ok d) m short received e means = means_within s k d m (in_within s k k.jobs (words_of st.line) st.line st.block d short received e) means
+drafted_within s k st (Err fault) m short received e means = absurd (cc)
+
+-- What is known
+
+names_short : (given : List Meaning) → AllByRecursion IsWithin given → AreShort (named (flat_map programs_in given))
+names_short [] all name program e = absurd (cc)
+names_short (NamedProgram other found ∷ given) all name program e = elim (cases_Bool (bytes_eq name other)) [
+  | inl here ↦ let is = rw here at e in let same : found ≡ program = cc in rw (← same) all.0
+  | inr further ↦ let rest = rw further at e in names_short given all.1 name program rest
+]
+names_short (_ ∷ given) all name program e = names_short given all.1 name program e
+
+jobs_received : (given : List Meaning) → AllByRecursion IsWithin given → AllByRecursion IsTakeOrRx (flat_map jobs_in given)
+jobs_received [] all = tt
+jobs_received (Receives events ∷ given) all = each_append IsTakeOrRx events (flat_map jobs_in given) all.0 (jobs_received given all.1)
+jobs_received (_ ∷ given) all = jobs_received given all.1
+
+behind_received : (given : List Meaning) → AllByRecursion IsWithin given → AreReceived (jobs_behind given)
+behind_received given all = elim (cases_Bool (is_traced given)) [
+  | inl traced ↦ rw traced (jobs_received given all)
+  | inr untraced ↦ rw untraced tt
+]
+
+-- What lines do
+
+applied : (events : List Event) → AllByRecursion IsTakeOrRx events → AllByRecursion IsLimited (map (λ e. item.Apply e) events)
+applied [] all = tt
+applied (event ∷ events) all = (all.0, applied events all.1)
+
+own_limited : (traced : Bool) (m : Meaning) → IsWithin m → AllByRecursion IsLimited (items_in traced m)
+own_limited traced (Does done) within = (within, tt)
+own_limited true (Receives events) within = tt
+own_limited false (Receives events) within = applied events within
+own_limited traced _ within = tt
+
+items_limited : (traced : Bool) (given : List Meaning) → AllByRecursion IsWithin given → AllByRecursion IsLimited (flat_map (items_in traced) given)
+items_limited traced [] all = tt
+items_limited traced (m ∷ given) all = each_append IsLimited (items_in traced m) (flat_map (items_in traced) given) (own_limited traced m all.0) (items_limited traced given all.1)
+
+-- Lines, one after the other
+
+record Kept (given : List Meaning) : Type 0 where
+  pub each : AllByRecursion IsWithin given
+  pub few : length (flat_map budgets_in given) ≤ 8
+
+budgets_few : (given : List Meaning) (m : Meaning) → length (flat_map budgets_in given) ≤ 8 → IsFirst (known given) m → length (flat_map budgets_in given ++ budgets_in m) ≤ 8
+budgets_few given (Budgets budgets) few first = omega (arith, first.0, first.1, length-append (flat_map budgets_in given) budgets)
+budgets_few given _ few first = omega (arith, few, length-append (flat_map budgets_in given) [])
+
+kept_more : (given : List Meaning) (m : Meaning) → Kept given → IsWithin m × IsFirst (known given) m → Kept (given ++ m ∷ [])
+kept_more given m kept both = record {
+  each = each_append IsWithin given (m ∷ []) kept.each (both.0, tt);
+  few = subst (λ (l : List ℕ). length l ≤ 8) (sym (flat_map-append budgets_in given (m ∷ []) ∙ ap (λ l. flat_map budgets_in given ++ l) (append-nil (budgets_in m)))) (budgets_few given m kept.few both.1);
+}
+
+behind_kept : (s : Settings) (given : List Meaning) (sts : List Statement) (meanings : List Meaning) → Kept given → MeanBehind s given sts (Ok meanings) → Kept meanings
+behind_kept s given [] meanings kept e = subst Kept (sym (same_ok meanings given e)) kept
+behind_kept s given (st ∷ sts) meanings kept (inl x) =
+    behind_kept s (given ++ x.0 ∷ []) sts meanings
+    (kept_more given x.0 kept (drafted_within s (known given) st (draft_of s (known given) st) x.0 (names_short given kept.each) (behind_received given kept.each) refl x.1)) x.2
+behind_kept s given (st ∷ sts) meanings kept (inr x) = let never = x.2 in absurd (cc)
+
+some_budgets : (k : Known) → has_cores k ≡ true → 1 ≤ length k.budgets
+some_budgets k e = grind (arith, nat_tests)
+
+script_limited : (given : List Meaning) (script : Script) → Kept given → Ok script ≡ script_of (Ok given) → HasLimits script
+script_limited given script kept e = elim (cases_Bool (has_cores (known given))) [
+  | inl some ↦
+      let is = rw some at e in
+      let made : Script = record { budgets = flat_map budgets_in given; items = items_of given } in
+      let same : made ≡ script = sym (same_ok script made is) in
+      subst HasLimits same (record { some = some_budgets (known given) some; few = kept.few; items = All-from_recursion IsLimited (items_of given) (items_limited (is_traced given) given kept.each) })
+  | inr none ↦ let never = rw none at e in absurd (cc)
+]
+
+by_meanings : (s : Settings) (text : List ℕ) (meanings : Result (List Meaning) ScriptFault) (script : Script) → MeanBehind s [] (statements text) meanings → Ok script ≡ script_of meanings → HasLimits script
+by_meanings s text (Ok given) script means e = script_limited given script (behind_kept s [] (statements text) given (record { each = tt; few = omega arith }) means) e
+by_meanings s text (Err fault) script means e = absurd (cc)
+
+has_limits : (s : Settings) (text : List ℕ) (script : Script) → Stands s text (Ok script) → HasLimits script
+has_limits s text script stands = by_meanings s text stands.0 script stands.1 stands.2
+
+pub limits_from : (s : Settings) (text : List ℕ) (r : Result Script ScriptFault) → IfOk r (λ p. Stands s text (Ok p)) → IfOk r HasLimits
+limits_from s text (Ok script) found = has_limits s text script found
+limits_from s text (Err fault) found = tt

@@ -1,0 +1,27 @@
+-- What a script is limited to, whatever its text says: the machine takes 1 to 8 cores, and a message carries a program of
+-- 4,096 instructions at most.
+use Rattle.std.specs.Prelude.{◌≤◌, length}
+use Rattle.std.specs.List.{All}
+use Rattle.monitor_messages.specs.Coding.{HasShortProgram}
+use Rattle.world_model.specs.declared.event.Event.{Event}
+use Rattle.world_model.specs.declared.event.Event.TheVariants.{Take, Rx}
+use Rattle.mk_script.specs.declared.script.Item.{Item}
+use Rattle.mk_script.specs.declared.script.Item.TheVariants.{Ask, Apply}
+use Rattle.mk_script.specs.declared.script.Script.{Script}
+
+-- a message is taken, or a packet is received
+abbrev pub IsTakeOrRx : Event → Type 0
+IsTakeOrRx (Take to from short) = Unit {0}
+IsTakeOrRx (Rx core number packet floor) = Unit {0}
+IsTakeOrRx event = ⊥
+
+-- a request's program is short enough, and no other event than these is done as it is
+abbrev pub IsLimited : Item → Type 0
+IsLimited (Ask core op) = HasShortProgram op
+IsLimited (Apply event) = IsTakeOrRx event
+IsLimited item = Unit {0}
+
+pub record HasLimits (script : Script) : Type 0 where
+  pub some : 1 ≤ length script.budgets
+  pub few : length script.budgets ≤ 8
+  pub items : All IsLimited script.items
