@@ -1,13 +1,10 @@
 //! The line for the first fault of a script.
 
 ghost use Rattle.std.specs.Prelude.{◌≡◌, ◌++◌, IfOk, OnOk, string_bytes};
-ghost use Rattle.console.specs.Checking.{fault_name};
-ghost use Rattle.sim_engine.specs.Faults.{body_words, capture_words, kind_words, script_fault_line, text_words};
+ghost use Rattle.sim_engine.specs.Faults.{body_words, kind_words, script_fault_line};
 
-use bpf_insn::TextFault;
-use filter_asm::AsmFaultKind;
+use console::{name_of_asm_fault, push_capture_words, push_code_words};
 use mk_script::{BodyFault, ScriptFault, ScriptFaultKind};
-use pcap_reader::CaptureFault;
 use std::alloc::{AllocError, Global};
 use std::fmt::Write;
 
@@ -43,54 +40,19 @@ fn push_body(line: &mut String, fault: BodyFault) -> Result<(), AllocError>
 {
     match fault {
         BodyFault::Hex => line.push_str("hex"),
-        BodyFault::Asm(fault) => write!(line, "asm {} {}", fault.line, asm_name(fault.kind)),
+        BodyFault::Asm(fault) => {
+            let Some(name) = name_of_asm_fault(fault.kind) else {
+                return Err(AllocError);
+            };
+            write!(line, "asm {} {name}", fault.line)
+        }
         BodyFault::Ddd(fault) => {
             line.push_str("ddd ")?;
-            push_text_fault(line, fault)
+            push_code_words(line, fault)
         }
         BodyFault::Capture(fault) => {
             line.push_str("capture ")?;
-            push_capture_fault(line, fault)
+            push_capture_words(line, fault)
         }
-    }
-}
-
-fn push_text_fault(line: &mut String, fault: TextFault) -> Result<(), AllocError>
-    ensures { OnOk result (string_bytes line.new ≡ string_bytes line.old ++ text_words fault) }
-{
-    match fault {
-        TextFault::BadNumber(place) => write!(line, "BadNumber {place}"),
-        TextFault::CountMismatch => line.push_str("CountMismatch"),
-        TextFault::TooLong => line.push_str("TooLong"),
-        TextFault::NoMemory => Err(AllocError),
-    }
-}
-
-fn push_capture_fault(line: &mut String, fault: CaptureFault) -> Result<(), AllocError>
-    ensures { OnOk result (string_bytes line.new ≡ string_bytes line.old ++ capture_words fault) }
-{
-    match fault {
-        CaptureFault::BadMagic => line.push_str("BadMagic"),
-        CaptureFault::BadVersion => line.push_str("BadVersion"),
-        CaptureFault::TruncatedHeader => line.push_str("TruncatedHeader"),
-        CaptureFault::TruncatedRecord(place) => write!(line, "TruncatedRecord {place}"),
-        CaptureFault::TooLong(place) => write!(line, "TooLong {place}"),
-        CaptureFault::NoMemory => Err(AllocError),
-    }
-}
-
-fn asm_name(kind: AsmFaultKind) -> &'static str
-    ensures { result.now ≡ fault_name kind }
-{
-    match kind {
-        AsmFaultKind::Mnemonic => "Mnemonic",
-        AsmFaultKind::Operand => "Operand",
-        AsmFaultKind::Number => "Number",
-        AsmFaultKind::NoLabel => "NoLabel",
-        AsmFaultKind::TwiceLabel => "TwiceLabel",
-        AsmFaultKind::Backward => "Backward",
-        AsmFaultKind::TooFar => "TooFar",
-        AsmFaultKind::TooLong => "TooLong",
-        AsmFaultKind::NoMemory => "",
     }
 }
