@@ -106,8 +106,68 @@ Example: the packets of a capture as lines for `match`
 
     $ mkdemux dump < packets.pcap | sed -n 's/.* original [0-9]* //p' | sed 's/^-$//' > packets.hex";
 
+const SIM_ABOUT: &str = "Run a script on the model of the cores";
+
+const SIM_DETAILS: &str = "\
+Run the script on standard input on the model of the cores, and print a line for each event.
+
+A script says how many cores there are, which filters and packets, what domains ask for and in which order messages are
+taken and packets received. FILEs are captures: `capture NAME N` in the script is the N-th, from 1. The script is read whole
+before its first event; its first fault is printed as `line N: NAME`, with status 1:
+
+    cores B0 B1 ..                            1 to 8 cores, each with a budget of instructions
+    asm NAME .. end, ddd NAME TEXT            a filter
+    packet NAME HEX [ORIGINAL]                a packet
+    capture NAME N                            the packets of a FILE
+    home D C                                  requests of domain D enter at core C, not at core 0
+    create D E, mint D CAP TO r|m|rm, revoke D CAP, drop D CAP,
+    install D CAP NAME, remove D FILTER, replace D FILTER NAME
+                                              a request
+    start, submit C, startfor C               begin the next request
+    take TO FROM [short]                      take the oldest message (short: out of memory meanwhile)
+    rx CORE NAME [FLOOR], replay NAME [FLOOR] receive a packet, or all of a capture
+    settle                                    take every message, and begin every request
+    show CORE                                 print a core's table
+    trace                                     what follows was printed by a run: do that
+
+An event that can't be done prints `fault NAME` and changes nothing; the status is 0 then too.";
+
+const SIM_EXAMPLE: &str = "\
+Example: two filters for one endpoint, which gets the packet once, with the greatest verdict
+
+    $ mkdemux sim <<END
+    cores 10
+    ddd ten 1,6 0 0 10
+    ddd two 1,6 0 0 2
+    packet p 000102030405060708090a0b0c0d
+    create 1 7
+    install 1 1 ten
+    install 1 1 two
+    settle
+    rx 0 p
+    END
+    start: committed 1 cap 1
+    start: committed 2 filter 1
+    start: committed 3 filter 2
+    rx 0 1: version 3 7=10";
+
+const FILES_HELP: &str = "Captures that the script names by number";
+
 /// The command line of the program.
 pub fn command<'a>(alloc: Global) -> Result<Command<'a>, AllocError> {
+    Command::new(alloc, "mkdemux")
+        .version("0.1.0")
+        .about(ABOUT)
+        .after_help(EXIT_STATUS)
+        .subcommand_required(true)
+        .subcommand(matching(alloc)?)?
+        .subcommand(checking(alloc)?)?
+        .subcommand(dumping(alloc))?
+        .subcommand(simulating(alloc)?)
+}
+
+// `match CODE [--pcap]`
+fn matching<'a>(alloc: Global) -> Result<Command<'a>, AllocError> {
     let code = Arg::new(alloc, "code")
         .value_name("CODE")
         .help(CODE_HELP)
@@ -116,31 +176,44 @@ pub fn command<'a>(alloc: Global) -> Result<Command<'a>, AllocError> {
         .long("pcap")
         .help(PCAP_HELP)
         .action(ArgAction::SetTrue);
-    let matching = Command::new(alloc, "match")
+    Command::new(alloc, "match")
         .about(MATCH_ABOUT)
         .long_about(MATCH_DETAILS)
         .after_help(MATCH_EXAMPLE)
         .arg(code)?
-        .arg(pcap)?;
+        .arg(pcap)
+}
+
+// `check [--asm]`
+fn checking<'a>(alloc: Global) -> Result<Command<'a>, AllocError> {
     let asm = Arg::new(alloc, "asm")
         .long("asm")
         .help(ASM_HELP)
         .action(ArgAction::SetTrue);
-    let check = Command::new(alloc, "check")
+    Command::new(alloc, "check")
         .about(CHECK_ABOUT)
         .long_about(CHECK_DETAILS)
         .after_help(CHECK_EXAMPLE)
-        .arg(asm)?;
-    let dump = Command::new(alloc, "dump")
+        .arg(asm)
+}
+
+// `dump`
+fn dumping<'a>(alloc: Global) -> Command<'a> {
+    Command::new(alloc, "dump")
         .about(DUMP_ABOUT)
         .long_about(DUMP_DETAILS)
-        .after_help(DUMP_EXAMPLE);
-    Command::new(alloc, "mkdemux")
-        .version("0.1.0")
-        .about(ABOUT)
-        .after_help(EXIT_STATUS)
-        .subcommand_required(true)
-        .subcommand(matching)?
-        .subcommand(check)?
-        .subcommand(dump)
+        .after_help(DUMP_EXAMPLE)
+}
+
+// `sim [FILE]...`
+fn simulating<'a>(alloc: Global) -> Result<Command<'a>, AllocError> {
+    let files = Arg::new(alloc, "files")
+        .value_name("FILE")
+        .help(FILES_HELP)
+        .num_args(0..);
+    Command::new(alloc, "sim")
+        .about(SIM_ABOUT)
+        .long_about(SIM_DETAILS)
+        .after_help(SIM_EXAMPLE)
+        .arg(files)
 }

@@ -9,6 +9,9 @@ mod command_line;
 use clap::error::ErrorKind;
 use clap::{ArgMatches, Error};
 use console::{EngineFault, run_check, run_dump, run_match};
+use sim_engine::run_sim;
+use std::alloc::AllocError;
+use std::fs::File;
 use std::io;
 use std::process::ExitCode;
 
@@ -66,11 +69,36 @@ fn dispatch(rt: &HostRuntime, matches: &ArgMatches) -> u8 {
             &mut rt.stdout(),
         ),
         Some(("dump", _)) => run_dump(rt.alloc(), &mut rt.stdin(), &mut rt.stdout()),
+        Some(("sim", found)) => simulate(rt, found),
         _ => return USAGE,
     };
     match answer {
         Ok(status) => status,
         Err(fault) => failed(rt, fault),
+    }
+}
+
+/// Opens the files in order, then runs the script on standard input with them.
+fn simulate(rt: &HostRuntime, found: &ArgMatches) -> Result<u8, EngineFault> {
+    let files = open_files(rt, found.get_strs("files").unwrap_or(&[]))?;
+    run_sim(rt.alloc(), files, &mut rt.stdin(), &mut rt.stdout())
+}
+
+/// The files of these names, opened in order up to one that can't be.
+fn open_files(rt: &HostRuntime, names: &[&str]) -> Result<Vec<File>, EngineFault> {
+    let mut files = Vec::new(rt.alloc());
+    for name in names {
+        let file = File::open(rt, *name).map_err(not_opened)?;
+        files.push(file).map_err(AllocError::from)?;
+    }
+    Ok(files)
+}
+
+/// What is said of a file that can't be opened.
+fn not_opened(error: io::Error) -> EngineFault {
+    match error.kind() {
+        io::ErrorKind::OutOfMemory => EngineFault::NoMemory,
+        _ => EngineFault::ReadFailed,
     }
 }
 
