@@ -385,12 +385,20 @@ fn submits(rt: &impl Abort, alloc: Global, home: &mut Home, peer: &mut Peer) -> 
 fn requests_of_another_core(rt: HostRuntime) -> Result<(), Fail> {
     let mut home = Home::new(rt.alloc(), 9, 2)?;
     let mut peer = Peer::new(rt.alloc(), 9)?;
-    let none = home.starts_for(rt.alloc(), 1);
-    assert_eq!(rt; none, Err(StartFault::NoneWaiting));
-    submits(&rt, rt.alloc(), &mut home, &mut peer)?;
-    is_committed_for(&rt, rt.alloc(), &mut home, &mut peer)?;
-    submits(&rt, rt.alloc(), &mut home, &mut peer)?;
-    is_refused_at_once(&rt, rt.alloc(), &mut home, &mut peer)
+    are_answered(&rt, rt.alloc(), &mut home, &mut peer)
+}
+
+fn are_answered(
+    rt: &impl Abort,
+    alloc: Global,
+    home: &mut Home,
+    peer: &mut Peer,
+) -> Result<(), Fail> {
+    assert!(rt; home.starts_for(alloc, 1) == Err(StartFault::NoneWaiting));
+    submits(rt, alloc, home, peer)?;
+    is_committed_for(rt, alloc, home, peer)?;
+    submits(rt, alloc, home, peer)?;
+    is_refused_at_once(rt, alloc, home, peer)
 }
 
 fn is_committed_for(
