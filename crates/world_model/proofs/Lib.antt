@@ -9,3 +9,4 @@ pub mod Known
 pub mod Followed
 pub mod Decisions
 pub mod RunLaws
+pub mod SoundLogs

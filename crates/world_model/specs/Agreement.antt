@@ -2,6 +2,7 @@
 -- allowed (Baumann et al. 2009, "The Multikernel", section 3.3: replicated state is kept consistent by agreement).
 use Rattle.std.specs.Prelude.{◌≡◌, ◌+◌, ◌≤◌, ◌⊎◌, ℕ, suc, Bool, true, false, Option, Some, None, List, [], ◌∷◌, ◌++◌, length, filter, map, slice_get}
 use Rattle.table_replica.specs.declared.Op.{Op}
+use Rattle.table_replica.specs.Soundness.{IsSoundTable, IdsGrow}
 use Rattle.table_replica.specs.Tables.{table, instructions, Allowed}
 use Rattle.monitor_messages.specs.declared.message.Message.{Message}
 use Rattle.monitor_messages.specs.declared.message.Message.TheVariants as message
@@ -45,6 +46,11 @@ pub record Agrees (budget : ℕ) (budgets : List ℕ) (w : World) : Type 0 where
 pub record Grows (w w' : World) : Type 0 where
   pub log : (more : List Op) × (w'.log ≡ w.log ++ more) × (length more ≤ 1)
   pub versions : (core v : ℕ) → version_at w core ≡ Some v → (v' : ℕ) × (version_at w' core ≡ Some v') × (v ≤ v') × (v' ≤ v + 1)
+
+-- each table that the log makes is sound, and no id is given out again
+pub record IsSoundLog (log : List Op) : Type 0 where
+  pub sound : (v : ℕ) → v ≤ length log → IsSoundTable (table log v)
+  pub ids : (u v : ℕ) → u ≤ v → v ≤ length log → IdsGrow (table log u) (table log v)
 
 -- the message to core 0 is one that it waits for
 abbrev pub Expects : CoordinatorPlace → Requests → ℕ → Message → Type 0

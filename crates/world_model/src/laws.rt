@@ -2,7 +2,7 @@
 
 ghost use Rattle.std.specs.Prelude.{◌≡◌, ◌∷◌, List, ℕ};
 ghost use Rattle.world_model.specs.Worlds.{World, Run, Happens};
-ghost use Rattle.world_model.specs.Agreement.{Agrees, Grows, NoStranger};
+ghost use Rattle.world_model.specs.Agreement.{Agrees, Grows, IsSoundLog, NoStranger};
 ghost use Rattle.world_model.specs.Decisions.{Delivers, DecidesRightly, RepliesRightly, WaitsRightly};
 ghost use Rattle.world_model.specs.declared.event.Answer.{Answer};
 ghost use Rattle.world_model.specs.declared.event.Done.{Done};
@@ -15,6 +15,12 @@ pub fn replicas_agree()
     ensures no_stranger { (budget : ℕ) (budgets : List ℕ) (events : List Done) (w : World) → Run budget budgets events w → NoStranger w }
     ensures growing { (budget : ℕ) (budgets : List ℕ) (events : List Done) (w w' : World) (event : Event) (answer : Answer) →
         Run budget budgets events w → Happens w event w' answer → Grows w w' }
+{}
+
+/// In every run each table that the log makes is sound: ids increase, each program is one that the verifier accepts, and a filter's
+/// owner holds the filter's capability for as long as anybody does. No later table gives out an id again.
+pub fn tables_are_sound()
+    ensures { (budget : ℕ) (budgets : List ℕ) (events : List Done) (w : World) → Run budget budgets events w → IsSoundLog w.log }
 {}
 
 /// In every run each packet is handed to the endpoints that accept it at the version that its core had.

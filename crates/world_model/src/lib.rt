@@ -9,4 +9,6 @@ mod event;
 mod laws;
 
 pub use event::{Answer, Done, Event, KeptList};
-pub use laws::{decisions_are_right, packets_are_delivered, replicas_agree, replies_are_right};
+pub use laws::{
+    decisions_are_right, packets_are_delivered, replicas_agree, replies_are_right, tables_are_sound,
+};

@@ -1,0 +1,216 @@
+-- The first event that is left, by stamp and then by core, leads on in the world.
+use Rattle.std.proofs.Common.{◌≡◌, ◌≤◌, ◌⊎◌, inl, inr, ℕ, zero, suc, Bool, true, Option, Some, List, [], ◌∷◌, ◌++◌, length, slice_get, slice_set, refl, sym, ◌∙◌, subst, arith}
+use Rattle.std.proofs.lemmas.List.{map-append}
+use Rattle.table_replica.specs.declared.Op.{Op}
+use Rattle.table_replica.specs.Tables.{State}
+use Rattle.monitor_messages.specs.declared.message.Message.{Message}
+use Rattle.monitor_messages.specs.declared.message.Message.TheVariants as message
+use Rattle.monitor_messages.specs.declared.message.Vote.{Vote}
+use Rattle.monitor_messages.specs.declared.message.Vote.TheVariants as vote
+use Rattle.monitor_2pc.specs.Participants.{ParticipantPlace, Casts, Answers}
+use Rattle.world_model.specs.declared.event.Event.{Event}
+use Rattle.world_model.specs.declared.event.Event.TheVariants.{Take}
+use Rattle.world_model.specs.declared.event.Answer.{Answer}
+use Rattle.world_model.specs.declared.event.Answer.TheVariants.{TookPrepare}
+use Rattle.world_model.specs.declared.event.Done.{Done}
+use Rattle.world_model.specs.Cases.{raised, TakesDownAt, Took}
+use Rattle.world_model.specs.Worlds.{Peer, World, newest, new_peer, boot, HappensDown, Happens, Run}
+use Rattle.world_model.proofs.Lists.{get-set_same, get-set_other, length-slice_set, get_map, get_within, get_at}
+use Rattle.world_model.proofs.Runs.{runs_more}
+use Rattle.world_model.proofs.Agreement.{run_inv}
+use Rattle.world_model.proofs.Known.{run_known}
+use Rattle.world_histories.specs.declared.history.Stamped.{Stamped}
+use Rattle.world_histories.specs.Histories.{Stamping, Sending, taking, Core0, core0_first, Other, other_first, Computation}
+use Rattle.world_histories.specs.Merging.{as_short, listed, as_listed}
+use Rattle.world_histories.proofs.Clocks.{first_sent_to}
+use Rattle.world_histories.proofs.Seats.{Seat, SeatOf, Joint}
+use Rattle.world_histories.proofs.Leads.{Seats, Led, Stands, NotBefore, core0_step}
+use Rattle.world_histories.proofs.Owns.{Owned, own_step}
+
+-- A vote for want of memory is as it would be with the flag
+
+casts_short : (short : Bool) (s : State) (b : ℕ) (op : Op) (v : Vote) → v ≡ vote.NoMemory → Casts short s b op v → Casts true s b op v
+casts_short short s b op vote.Yes e c = absurd (cc)
+casts_short short s b op vote.Budget e c = absurd (cc)
+casts_short short s b op vote.NoMemory e c = c
+
+short_at : (short : Bool) (s : State) (b version : ℕ) (place place' : ParticipantPlace) (out out' : Bool) (m : Message) (committed : Option Op) (txn : ℕ) → TakesDownAt short s b version place out m place' out' committed (TookPrepare txn vote.NoMemory)
+    → TakesDownAt true s b version place out m place' out' committed (TookPrepare txn vote.NoMemory)
+short_at short s b version place place' out out' (message.Prepare t op) committed txn h =
+    record { reply = h.reply; answers = by_reply h.reply h.answers h.is_answer; same_outstanding = h.same_outstanding; is_committed = h.is_committed; is_answer = h.is_answer }
+  where
+    by_reply : (reply : Message) → Answers short s b place (message.Prepare t op) place' reply → Took (message.Prepare t op) reply (raised version committed) (TookPrepare txn vote.NoMemory) → Answers true s b place (message.Prepare t op) place' reply
+    by_reply (message.Vote n v) a is = (a.0, a.1, casts_short short s b op v (let e : TookPrepare txn vote.NoMemory ≡ TookPrepare t v = is in cc) a.2, a.3, a.4)
+    by_reply reply a is = absurd a
+short_at short s b version place place' out out' (message.Reply d) committed txn h = absurd (let e = h.is_answer in cc)
+short_at short s b version place place' out out' (message.Commit t) committed txn h = absurd (let e = h.is_answer in cc)
+short_at short s b version place place' out out' (message.Abort t) committed txn h = absurd (let e = h.is_answer in cc)
+short_at short s b version place place' out out' (message.Vote t v) committed txn h = absurd h.answers
+short_at short s b version place place' out out' (message.Ack t) committed txn h = absurd h.answers
+short_at short s b version place place' out out' (message.Submit op) committed txn h = absurd h.answers
+
+down_short : (w w' : World) (i : ℕ) (short : Bool) (txn : ℕ) → HappensDown w i short w' (TookPrepare txn vote.NoMemory) → HappensDown w i true w' (TookPrepare txn vote.NoMemory)
+down_short w w' i short txn h = record {
+  peer = h.peer;
+  is_peer = h.is_peer;
+  m = h.m;
+  rest = h.rest;
+  oldest = h.oldest;
+  place = h.place;
+  outstanding = h.outstanding;
+  committed = h.committed;
+  here = short_at short (newest w) h.peer.budget h.peer.version h.peer.place h.place h.peer.outstanding h.outstanding h.m h.committed txn h.here;
+  next = h.next;
+}
+
+short_happens : (w w' : World) (event : Event) (answer : Answer) → Happens w event w' answer → Happens w (as_short event answer) w' answer
+short_happens w w' (Take (suc i) zero short) (TookPrepare txn vote.NoMemory) h = down_short w w' i short txn h
+short_happens w w' (Take zero (suc i) short) (TookPrepare txn vote.NoMemory) h = h
+short_happens w w' (Take zero zero short) (TookPrepare txn vote.NoMemory) h = h
+short_happens w w' (Take (suc i) (suc j) short) (TookPrepare txn vote.NoMemory) h = h
+short_happens w w' event answer h = h
+
+run_more : (budget : ℕ) (budgets : List ℕ) (before : List Stamped) (s : Stamped) (w w' : World) → Run budget budgets (as_listed before) w → Happens w s.done.event w' s.done.answer → Run budget budgets (as_listed (before ++ s ∷ [])) w'
+run_more budget budgets before s w w' run h =
+    subst (λ (xs : List Done). Run budget budgets xs w') (sym (map-append listed before (s ∷ [])))
+    (runs_more (boot budget budgets) w w' (as_listed before) (listed s) run (short_happens w w' s.done.event s.done.answer h))
+
+-- After an event of core 0
+
+pub record Next (budget : ℕ) (budgets : List ℕ) (before : List Stamped) (h0 : List Stamped) (hs : List (List Stamped)) (end : Core0) (ends : List Other) : Type 0 where
+  pub world : World
+  pub core0 : Core0
+  pub joint : Joint budget budgets before world core0 h0 hs end ends
+
+stands_at : (budget : ℕ) (budgets : List ℕ) (before : List Stamped) (w : World) (c : Core0) (h0 : List Stamped) (hs : List (List Stamped)) (end : Core0) (ends : List Other) → Joint budget budgets before w c h0 hs end ends → Stands budget budgets w c
+stands_at budget budgets before w c h0 hs end ends j =
+    let k = run_known budget budgets (as_listed before) w j.run in
+    record { inv = run_inv budget budgets (as_listed before) w j.run; budget_is = k.budget_is; cores = k.cores; waiting_long = k.waiting_long; log_is = j.log_is; place_is = j.place_is; requests_are = j.requests_are }
+
+pub joint0 : (budget : ℕ) (budgets : List ℕ) (before : List Stamped) (w : World) (c : Core0) (s : Stamped) (r : List Stamped) (hs : List (List Stamped)) (end : Core0) (ends : List Other)
+    → Joint budget budgets before w c (s ∷ r) hs end ends → NotBefore s.stamp hs → Next budget budgets (before ++ s ∷ []) r hs end ends
+joint0 budget budgets before w c s r hs end ends j late = record {
+  world = led.world;
+  core0 = j.ahead.0;
+  joint = record {
+    run = run_more budget budgets before s w led.world j.run led.happens;
+    log_is = led.log_is;
+    place_is = led.place_is;
+    requests_are = led.requests_are;
+    sent = j.ahead.3;
+    taken = j.ahead.4;
+    ahead = j.ahead.6;
+    cores = j.cores;
+    seats = led.seats;
+  };
+}
+  where
+    seats : Seats w.log w.peers hs ends (record { stamp = s.stamp; sent = j.ahead.2 } ∷ j.ahead.3) (taking s.done.event j.ahead.1 ++ j.ahead.4)
+    seats = subst (λ (x : List (ℕ × Stamping)). Seats w.log w.peers hs ends (record { stamp = s.stamp; sent = j.ahead.2 } ∷ j.ahead.3) x) j.ahead.8
+        (subst (λ (x : List Sending). Seats w.log w.peers hs ends x j.taken) j.ahead.7 j.seats)
+
+    led : Led w s.done.event s.done.answer j.ahead.0 hs ends j.ahead.3 j.ahead.4
+    led = core0_step budget budgets w c j.ahead.0 s j.ahead.1 j.ahead.2 hs ends j.ahead.3 j.ahead.4 (stands_at budget budgets before w c (s ∷ r) hs end ends j) j.ahead.5 seats late
+
+-- After an event of another core
+
+pub joint_own : (budget : ℕ) (budgets : List ℕ) (before : List Stamped) (w : World) (c : Core0) (h0 : List Stamped) (i : ℕ) (s : Stamped) (r : List Stamped) (hs : List (List Stamped)) (end : Core0) (ends : List Other)
+    → Joint budget budgets before w c h0 hs end ends → slice_get hs i ≡ Some (s ∷ r) → ((t : Stamped) (rest : List Stamped) → h0 ≡ t ∷ rest → s.stamp ≤ t.stamp) → Next budget budgets (before ++ s ∷ []) h0 (slice_set hs i r) end ends
+joint_own budget budgets before w c h0 i s r hs end ends j at_h late = record {
+  world = own.moved.world;
+  core0 = c;
+  joint = record {
+    run = run_more budget budgets before s w own.moved.world j.run own.moved.happens;
+    log_is = own.moved.log_is ∙ j.log_is;
+    place_is = own.moved.place_is ∙ j.place_is;
+    requests_are = own.moved.requests_are ∙ j.requests_are;
+    sent = j.sent;
+    taken = j.taken;
+    ahead = j.ahead;
+    cores = length-slice_set hs i r ∙ j.cores;
+    seats = λ k x at. by_place k x (own.moved.peers k x at);
+  };
+}
+  where
+    st : Stands budget budgets w c
+    st = stands_at budget budgets before w c h0 hs end ends j
+
+    at : (p : Peer) × (slice_get w.peers i ≡ Some p)
+    at = get_at w.peers i (omega (arith, st.cores, j.cores, get_within hs i (s ∷ r) at_h))
+
+    mine : SeatOf i w.log at.0 hs ends j.sent j.taken
+    mine = j.seats i at.0 at.1
+
+    is_mine : mine.history ≡ s ∷ r
+    is_mine = let x = mine.is_history in cc
+
+    own : Owned w i at.0 s r mine.end j.sent j.taken
+    own = own_step w i at.0 s r mine.end j.sent j.taken st.inv at.1 (subst (λ (x : List Stamped). Seat i w.log at.0 x mine.end j.sent j.taken) is_mine mine.seat)
+        (λ m ms first before_it.
+        let f = first_sent_to (length budgets) budget i c end h0 j.sent j.taken m ms j.ahead first in
+        omega (arith, f.not_before, late f.first f.later f.is))
+
+    by_place : (k : ℕ) (x : Peer) → (((i ≡ k) × (x ≡ own.new)) ⊎ ((i ≡ k → ⊥) × (slice_get w.peers k ≡ Some x))) → SeatOf k own.moved.world.log x (slice_set hs i r) ends j.sent j.taken
+    by_place k x (inl e) =
+        subst (λ (n : ℕ). SeatOf n own.moved.world.log x (slice_set hs i r) ends j.sent j.taken) e.0
+        (subst (λ (y : Peer). SeatOf i own.moved.world.log y (slice_set hs i r) ends j.sent j.taken) (sym e.1)
+        (record {
+          history = r;
+          is_history = get-set_same hs i r (s ∷ r) at_h;
+          end = mine.end;
+          is_end = mine.is_end;
+          seat = subst (λ (l : List Op). Seat i l own.new r mine.end j.sent j.taken) (sym own.moved.log_is) own.seat;
+        }))
+    by_place k x (inr ne) =
+        let o = j.seats k x ne.1 in
+        record {
+          history = o.history;
+          is_history = get-set_other hs i k r ne.0 ∙ o.is_history;
+          end = o.end;
+          is_end = o.is_end;
+          seat = subst (λ (l : List Op). Seat k l x o.history o.end j.sent j.taken) (sym own.moved.log_is) o.seat;
+        }
+
+-- At first
+
+pub joint_first : (budget : ℕ) (budgets : List ℕ) (core0 : List Stamped) (others : List (List Stamped)) (end : Core0) (ends : List Other) → Computation budget budgets core0 others end ends
+    → Joint budget budgets [] (boot budget budgets) (core0_first (length budgets)) core0 others end ends
+joint_first budget budgets core0 others end ends h = record {
+  run = refl;
+  log_is = refl;
+  place_is = refl;
+  requests_are = refl;
+  sent = h.sent;
+  taken = h.taken;
+  ahead = h.of_core0;
+  cores = h.cores;
+  seats = λ i p at. let r = get_map new_peer budgets i p at in subst (λ (x : Peer). SeatOf i [] x others ends h.sent h.taken) (sym r.2) (seat_first i r.0 r.1);
+}
+  where
+    seat_first : (i b : ℕ) → slice_get budgets i ≡ Some b → SeatOf i [] (new_peer b) others ends h.sent h.taken
+    seat_first i b at_b =
+        let lt = get_within budgets i b at_b in
+        let g = get_at others i (omega (arith, h.cores, lt)) in
+        let d = get_at ends i (omega (arith, h.all_end, lt)) in
+        let t = h.of_other i b g.0 d.0 at_b g.1 d.1 in
+        record {
+          history = g.0;
+          is_history = g.1;
+          end = d.0;
+          is_end = d.1;
+          seat = record {
+            core = other_first;
+            taken = t.taken;
+            ahead = t.is_history;
+            version_is = refl;
+            is_front = ([], refl);
+            place_is = refl;
+            outstanding_is = refl;
+            down = [];
+            up = [];
+            down_is = refl;
+            up_is = refl;
+            takes = t.down;
+            gives = t.up;
+          };
+        }

@@ -1,0 +1,68 @@
+-- What is right of the answers in histories: decisions and replies, as in the one run of all.
+use Rattle.std.specs.Prelude.{◌≡◌, ℕ, suc, Option, Some, None, List, [], ◌∷◌, ◌++◌, length, slice_get}
+use mathlib.Core.List.{IsPrefix}
+use Rattle.table_replica.specs.declared.Op.{Op}
+use Rattle.monitor_messages.specs.declared.message.Decision.{Decision}
+use Rattle.world_model.specs.declared.event.Event.{Event}
+use Rattle.world_model.specs.declared.event.Event.TheVariants.{Submit}
+use Rattle.world_model.specs.Worlds.{World, version_at, Happens, Run}
+use Rattle.world_model.specs.Readings.{version_of, vote_of, Request, unsent, sent, numbered, settled, request_of}
+use Rattle.world_model.specs.Decisions.{DecidesRightly, StandsAt, IsEntered, RepliesRightly}
+use Rattle.world_histories.specs.declared.history.Stamped.{Stamped}
+use Rattle.world_histories.specs.Histories.{unstamped}
+use Rattle.world_histories.specs.Merging.{core_of, part, listed, as_listed}
+
+-- the operation of a request
+abbrev pub requested : Request → Option Op
+requested unsent = None
+requested (sent op) = Some op
+requested (numbered op txn) = Some op
+requested (settled op decision) = Some op
+
+-- the operation that a core submitted last in these events of its own, else the one known before
+abbrev pub submitted_with : Option Op → Event → Option Op
+submitted_with known (Submit core op) = Some op
+submitted_with known event = known
+
+abbrev pub submitted_after : Option Op → List Stamped → Option Op
+submitted_after known [] = known
+submitted_after known (s ∷ later) = submitted_after (submitted_with known s.done.event) later
+
+abbrev pub last_submitted : List Stamped → Option Op
+last_submitted events = submitted_after None events
+
+-- what the events of all tell of a core is what the core's own tell
+pub record TellsOfCores (events : List Stamped) : Type 0 where
+  pub versions : (core : ℕ) → version_of core (as_listed events) ≡ version_of core (unstamped (part core events))
+  pub votes : (core txn : ℕ) → vote_of core txn (as_listed events) ≡ vote_of core txn (unstamped (part core events))
+  pub requests : (entry : ℕ) → requested (request_of (suc entry) (as_listed events)) ≡ last_submitted (part (suc entry) events)
+
+-- An event of a core's history, after these events of its own, as an event of the one run. What the run has before it are fronts
+-- of all histories. There the event is right by the laws of runs.
+pub record InRun (budget : ℕ) (budgets : List ℕ) (core0 : List Stamped) (others : List (List Stamped)) (log : List Op) (merged : List Stamped) (core : ℕ) (before : List Stamped) (s : Stamped) : Type 0 where
+  pub earlier : List Stamped
+  pub later : List Stamped
+  pub is_split : merged ≡ earlier ++ s ∷ later
+  pub is_core : core_of s.done.event ≡ core
+  pub own : part core earlier ≡ before
+  pub fronts : (c : ℕ) (h : List Stamped) → slice_get (core0 ∷ others) c ≡ Some h → IsPrefix (part c earlier) h
+  pub tells : TellsOfCores earlier
+  pub world : World
+  pub world' : World
+  pub run : Run budget budgets (as_listed earlier) world
+  pub happens : Happens world (listed s).event world' s.done.answer
+  -- the world has a front of core 0's log, and its cores have the versions that they committed
+  pub log_front : IsPrefix world.log log
+  pub log_front' : IsPrefix world'.log log
+  pub log_long : length world.log ≡ version_of 0 (unstamped (part 0 earlier))
+  pub version : version_at world core ≡ Some (version_of core (unstamped before))
+  pub decides : DecidesRightly (as_listed earlier) world (listed s).event world' s.done.answer
+  pub replies : RepliesRightly (as_listed earlier) world (listed s).event s.done.answer
+
+-- A core that takes this decision as a Reply after these events takes the decision of the request that it submitted last. Where that
+-- is committed, the request is that entry of the log, and the core stands exactly at its version.
+pub record Replied (log : List Op) (entry : ℕ) (before : List Stamped) (decision : Decision) : Type 0 where
+  pub op : Op
+  pub asked : last_submitted before ≡ Some op
+  pub entered : IsEntered log op decision
+  pub stands : StandsAt (version_of (suc entry) (unstamped before)) decision

@@ -1,0 +1,80 @@
+-- What is right of core 0's decisions, read off the histories alone.
+use Rattle.std.specs.Prelude.{◌≡◌, ◌+◌, ◌<◌, ◌⊎◌, ℕ, suc, Some, None, List, ◌∷◌, ◌++◌, slice_get}
+use mathlib.Core.List.{IsPrefix}
+use Rattle.table_replica.specs.declared.Op.{Op}
+use Rattle.table_replica.specs.declared.Made.{Made}
+use Rattle.table_replica.specs.Tables.{after, made, table, instructions, Allowed}
+use Rattle.monitor_messages.specs.declared.message.Vote.{Vote}
+use Rattle.monitor_messages.specs.declared.message.Vote.TheVariants as vote
+use Rattle.monitor_messages.specs.declared.message.Veto.{Veto}
+use Rattle.monitor_messages.specs.declared.message.Veto.TheVariants as veto
+use Rattle.monitor_messages.specs.declared.message.Decision.{Decision}
+use Rattle.monitor_messages.specs.declared.message.Decision.TheVariants.{Committed, Refused}
+use Rattle.world_model.specs.declared.event.Event.{Event}
+use Rattle.world_model.specs.declared.event.Event.TheVariants.{Start, StartFor}
+use Rattle.world_model.specs.declared.event.Answer.{Answer}
+use Rattle.world_model.specs.declared.event.Answer.TheVariants.{Prepared, Decided, TookVote}
+use Rattle.world_model.specs.Worlds.{World, newest}
+use Rattle.world_model.specs.Readings.{version_of, vote_of}
+use Rattle.world_model.specs.Decisions.{HasReason}
+use Rattle.world_histories.specs.declared.history.Stamped.{Stamped}
+use Rattle.world_histories.specs.Histories.{unstamped}
+use Rattle.world_histories.specs.Answers.{last_submitted}
+
+-- the operation that core 0 begins with this event: its own, or the last that the core submitted in a front of its history
+abbrev pub Asked : List (List Stamped) → Event → Op → Type 0
+Asked others (Start started) op = op ≡ started
+Asked others (StartFor (suc entry)) op = (h : List Stamped) × (front : List Stamped) × (slice_get others entry ≡ Some h) × IsPrefix front h × (last_submitted front ≡ Some op)
+Asked others event op = ⊥
+
+-- among these events of core 0 is one that begins the operation under this number
+pub record BegunIn (others : List (List Stamped)) (before : List Stamped) (txn : ℕ) (op : Op) : Type 0 where
+  pub earlier : List Stamped
+  pub begins : Stamped
+  pub rest : List Stamped
+  pub is_among : before ≡ earlier ++ begins ∷ rest
+  pub numbered : begins.done.answer ≡ Prepared txn
+  pub asked : Asked others begins.done.event op
+
+-- none of these events of core 0 gave out the number
+abbrev pub IsNew : List Stamped → ℕ → Type 0
+IsNew before txn = (earlier rest : List Stamped) (s : Stamped) → before ≡ earlier ++ s ∷ rest → s.done.answer ≡ Prepared txn → ⊥
+
+-- the operation is the log's entry at this version, and the answer names the version after it and the id that it makes
+pub record IsNext (log : List Op) (v : ℕ) (op : Op) (version : ℕ) (id : Made) : Type 0 where
+  pub entry : slice_get log v ≡ Some op
+  pub is_version : version ≡ v + 1
+  pub is_made : id ≡ made (table log v) op
+
+-- core 0 decides at once, by its table at this version
+abbrev pub DecidesAtOnce : ℕ → List Op → ℕ → Op → Decision → Type 0
+DecidesAtOnce budget log v op (Committed version id) = IsNext log v op version id
+DecidesAtOnce budget log v op (Refused core why) = (core ≡ 0) × ((w : World) × (newest w ≡ table log v) × (w.budget ≡ budget) × HasReason w op why)
+
+-- another core's veto: it is the least core that did not vote Yes, and its vote gives the reason
+pub record VetoedBy (budgets : List ℕ) (others : List (List Stamped)) (log : List Op) (v txn : ℕ) (op : Op) (core : ℕ) (why : Veto) : Type 0 where
+  pub entry : ℕ
+  pub is_core : core ≡ suc entry
+  pub yes_before : (i : ℕ) (h : List Stamped) → i < entry → slice_get others i ≡ Some h → vote_of (suc i) txn (unstamped h) ≡ Some vote.Yes
+  pub history : List Stamped
+  pub is_history : slice_get others entry ≡ Some history
+  pub against : Vote
+  pub voted : vote_of core txn (unstamped history) ≡ Some against
+  pub budget : ℕ
+  pub is_budget : slice_get budgets entry ≡ Some budget
+  pub reason : ((against ≡ vote.NoMemory) × (why ≡ veto.NoMemory)) ⊎ ((against ≡ vote.Budget) × (why ≡ veto.Budget) × (budget < instructions (after (table log v) op)))
+
+-- the votes in the histories decide: all are Yes, or one is a veto
+abbrev pub VotesDecideIn : List ℕ → List (List Stamped) → List Op → ℕ → ℕ → Op → Decision → Type 0
+VotesDecideIn budgets others log v txn op (Committed version id) = IsNext log v op version id × ((i : ℕ) (h : List Stamped) → slice_get others i ≡ Some h → vote_of (suc i) txn (unstamped h) ≡ Some vote.Yes)
+VotesDecideIn budgets others log v txn op (Refused core why) = VetoedBy budgets others log v txn op core why
+
+-- What core 0, which commits this log, answers to an event after these events of its own: v is the version that it has then.
+abbrev pub DecidesBy : ℕ → List ℕ → List (List Stamped) → List Op → List Stamped → ℕ → Event → Answer → Type 0
+DecidesBy budget budgets others log before v event (Prepared txn) = (op : Op) × Asked others event op × Allowed (table log v) budget op None × IsNew before txn
+DecidesBy budget budgets others log before v event (Decided decision) = (op : Op) × Asked others event op × DecidesAtOnce budget log v op decision
+DecidesBy budget budgets others log before v event (TookVote txn cast (Some decision)) = (op : Op) × BegunIn others before txn op × VotesDecideIn budgets others log v txn op decision
+DecidesBy budget budgets others log before v event answer = Unit {0}
+
+abbrev pub DecidesAs : ℕ → List ℕ → List (List Stamped) → List Op → List Stamped → Stamped → Type 0
+DecidesAs budget budgets others log before s = DecidesBy budget budgets others log before (version_of 0 (unstamped before)) s.done.event s.done.answer

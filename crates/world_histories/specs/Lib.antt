@@ -1,0 +1,5 @@
+pub mod Histories
+pub mod Merging
+pub mod Agreement
+pub mod Answers
+pub mod Decisions

@@ -1,0 +1,10 @@
+//! Events with stamps.
+
+use world_model::Done;
+
+/// An event with its answer and its stamp, the clock of its core. A core's history is a list of these.
+#[derive(Drop)]
+pub struct Stamped {
+    pub stamp: u64,
+    pub done: Done,
+}
