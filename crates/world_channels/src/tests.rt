@@ -31,6 +31,10 @@ fn in_order<C: Channel>(rt: &impl Abort, alloc: Global) -> Result<(), Fail> {
     assert!(rt; channel.first()?.is_none());
     channel.drop_first();
     assert!(rt; channel.first()?.is_none());
+    let decision = Decision::Committed {
+        version: 1,
+        made: Made::Cap(1),
+    };
     let prepare = Message::Prepare {
         txn: 1,
         op: Op::Create {
@@ -40,24 +44,29 @@ fn in_order<C: Channel>(rt: &impl Abort, alloc: Global) -> Result<(), Fail> {
     };
     let piece = channel.prepare(&prepare)?;
     channel.put(piece);
-    let decision = Decision::Committed {
-        version: 1,
-        made: Made::Cap(1),
-    };
     let piece = channel.prepare(&Message::Reply { decision })?;
     channel.put(piece);
     let piece = channel.prepare(&Message::Commit { txn: 2 })?;
     channel.put(piece);
+    taken_in_order(rt, &mut channel, decision)
+}
+
+fn taken_in_order<C: Channel>(
+    rt: &impl Abort,
+    channel: &mut C,
+    decision: Decision,
+) -> Result<(), Fail> {
+    let Some(Message::Prepare { txn, op }) = channel.first()? else {
+        rt.abort()
+    };
+    assert_eq!(rt; txn, 1);
     assert!(rt;
         matches!(
-            channel.first()?,
-            Some(Message::Prepare {
-                txn: 1,
-                op: Op::Create {
-                    domain: 1,
-                    endpoint: 7
-                }
-            })
+            op,
+            Op::Create {
+                domain: 1,
+                endpoint: 7
+            }
         )
     );
     channel.drop_first();
@@ -125,24 +134,7 @@ fn longest<C: Channel>(rt: &impl Abort, alloc: Global) -> Result<(), Fail> {
         channel.put(piece);
     }
     for wanted in 1..4 {
-        let Some(
-            Message::Prepare {
-                txn,
-                op: Op::Install {
-                    domain,
-                    cap,
-                    program,
-                },
-            },
-        ) = channel.first()?
-        else {
-            rt.abort()
-        };
-        assert_eq!(rt; (txn, domain, cap), (wanted, 1, 2));
-        assert_eq!(rt; program.as_slice().len(), 4096);
-        for (k, insn) in program.as_slice().iter().enumerate() {
-            assert_eq!(rt; insn.k as usize, k % 1000);
-        }
+        is_longest(rt, &mut channel, wanted)?;
         channel.drop_first();
         let Some(Message::Abort { txn }) = channel.first()? else {
             rt.abort()
@@ -151,6 +143,29 @@ fn longest<C: Channel>(rt: &impl Abort, alloc: Global) -> Result<(), Fail> {
         channel.drop_first();
     }
     assert!(rt; channel.first()?.is_none());
+    Ok(())
+}
+
+/// The oldest message is the Prepare of this number, of 4,096 instructions.
+fn is_longest<C: Channel>(rt: &impl Abort, channel: &mut C, wanted: u64) -> Result<(), Fail> {
+    let Some(
+        Message::Prepare {
+            txn,
+            op: Op::Install {
+                domain,
+                cap,
+                program,
+            },
+        },
+    ) = channel.first()?
+    else {
+        rt.abort()
+    };
+    assert_eq!(rt; (txn, domain, cap), (wanted, 1, 2));
+    assert_eq!(rt; program.as_slice().len(), 4096);
+    for (k, insn) in program.as_slice().iter().enumerate() {
+        assert_eq!(rt; insn.k as usize, k % 1000);
+    }
     Ok(())
 }
 

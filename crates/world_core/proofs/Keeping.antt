@@ -8,7 +8,7 @@ use Rattle.monitor_messages.specs.declared.message.Message.TheVariants as messag
 use Rattle.monitor_2pc.specs.Places.{after_commit}
 use Rattle.monitor_2pc.specs.Participants.{Answers, commits}
 use Rattle.world_model.specs.declared.event.Answer.{Answer}
-use Rattle.world_model.specs.declared.event.Answer.TheVariants.{TookCommit}
+use Rattle.world_model.specs.declared.event.Answer.TheVariants.{TookAbort, TookCommit}
 use Rattle.world_core.specs.declared.peer.Peer.{Peer}
 use Rattle.world_channels.specs.Channels.{first_of}
 use Rattle.world_model.specs.Cases.{raised}
@@ -52,6 +52,33 @@ commit_takes short s s' p p' m reply txn answer is_commit first answered table_n
         same_outstanding = outstanding;
         is_committed = refl;
         is_answer = is_answer ∙ ap (λ (v : ℕ). TookCommit txn v) next;
+      };
+      same_budget = budget;
+      version_next = next;
+      table_next = shown;
+      down_next = down ∙ r.2;
+      up_next = up ∙ rw is_answer refl;
+    }
+
+-- a core takes Abort
+pub abort_takes : (short : Bool) (s s' : State) (p p' : worlds.Peer) (m reply : Message) (txn : ℕ) (answer : Answer) → m ≡ message.Abort txn → first_of p.down ≡ Some m
+    → Answers false s p.budget p.place m p'.place reply → s' ≡ after_commit s (commits p.place m) → p.version ≡ s.version → p'.version ≡ s'.version → p'.budget ≡ p.budget → p'.outstanding ≡ p.outstanding
+    → p'.down ≡ drop 1 p.down → p'.up ≡ p.up ++ message.Ack txn ∷ [] → answer ≡ TookAbort txn p'.version → PeerTakes short s p s' p' answer
+abort_takes short s s' p p' m reply txn answer is_abort first answered table_next version version' budget outstanding down up is_answer =
+    let r = first_rest p.down m first in
+    let shown : s' ≡ s = table_next ∙ ap (λ (x : Message). after_commit s (commits p.place x)) is_abort in
+    let next : p'.version ≡ p.version = version' ∙ (ap (λ (x : State). x.version) shown ∙ sym version) in
+    record {
+      m = message.Abort txn;
+      rest = r.0;
+      oldest = r.1 ∙ ap (λ (x : Message). x ∷ r.0) is_abort;
+      committed = None;
+      here = record {
+        reply = reply;
+        answers = subst (λ (x : Message). Answers false s p.budget p.place x p'.place reply) is_abort answered;
+        same_outstanding = outstanding;
+        is_committed = refl;
+        is_answer = is_answer ∙ ap (λ (v : ℕ). TookAbort txn v) next;
       };
       same_budget = budget;
       version_next = next;

@@ -24,6 +24,7 @@ use Rattle.world_model.proofs.Invariant.{Pair, at_rest, asked, voted, counted, t
 use Rattle.world_model.proofs.Runs.{runs_more}
 use Rattle.world_model.proofs.Agreement.{run_inv}
 use Rattle.world_model.proofs.RunLaws.{run_no_stranger}
+use Rattle.world_model.proofs.SoundLogs.{table_of_next}
 
 -- Lists
 
@@ -38,14 +39,8 @@ slice_set-same (y ∷ ys) zero x at = let e : y ≡ x = cc in rw e refl
 slice_set-same (y ∷ ys) (suc i) x at = ap (λ zs. y ∷ zs) (slice_set-same ys i x at)
 
 -- the table of a version and of the next
-after_next : (s : State) (log : List Op) (v : ℕ) (op : Op) → slice_get log v ≡ Some op → after_all s (take (suc v) log) ≡ after (after_all s (take v log)) op
-after_next s [] v op at = absurd cc
-after_next s (x ∷ log) zero op at = let e : x ≡ op = cc in ap (after s) e
-after_next s (x ∷ log) (suc v) op at = after_next (after s x) log v op at
-
 pub table_at : (log : List Op) (v : ℕ) (op : Op) → slice_get log v ≡ Some op → table log (v + 1) ≡ after (table log v) op
-unfolding table
-table_at log v op at = ap (λ (n : ℕ). after_all opening (take n log)) (add-one v) ∙ after_next opening log v op at
+table_at log v op at = ap (table log) (add-one v) ∙ table_of_next log v op at
 
 -- one core of the world is another
 seen_set : {C Piece : Type 0} (messages : C → List Message) (home : Home) (peers : List (Peer C Piece)) (i : ℕ) (p' : Peer C Piece)

@@ -8,6 +8,7 @@ ghost use Rattle.table_replica.specs.declared.Op.{Op as GhostOp};
 ghost use Rattle.monitor_messages.specs.declared.message.Message.TheVariants.{Prepare, Commit, Abort, Submit};
 ghost use Rattle.monitor_messages.specs.declared.message.Message.TheVariants as message_variants;
 ghost use Rattle.monitor_messages.specs.declared.message.Vote.{Vote as GhostVote};
+ghost use Rattle.world_model.specs.declared.event.Answer.TheVariants.{TookAbort, TookCommit};
 
 use crate::fault::WorldFault;
 use monitor_2pc::{Decision, Message, Participant, Vote};
@@ -26,7 +27,7 @@ pub(crate) struct Peer<C: Channel> {
 }
 
 impl<C: Channel> Peer<C> {
-    ghost use Rattle.std.specs.Prelude.{◌≤◌, Bool, true, [], Some, IfOk, IfErr, OnErr, OnOk};
+    ghost use Rattle.std.specs.Prelude.{◌≤◌, ◌⊎◌, Bool, true, [], Some, IfOk, IfErr, OnErr, OnOk};
     ghost use Rattle.monitor_messages.specs.declared.message.Message.TheVariants.{Reply};
     ghost use Rattle.world_channels.specs.Channels.{first_of};
     ghost use Rattle.world_core.specs.declared.fault.WorldFault.TheVariants.{NoMemory};
@@ -108,8 +109,7 @@ impl<C: Channel> Peer<C> {
         match message {
             Message::Reply { decision } => Ok(self.take_reply(decision)),
             Message::Prepare { txn, .. } => self.vote(alloc, message, *txn, short),
-            Message::Commit { txn } => self.commit(alloc, message, *txn),
-            Message::Abort { txn } => self.abort(alloc, message, *txn),
+            Message::Commit { txn } | Message::Abort { txn } => self.end(alloc, message, *txn),
             Message::Vote { .. } | Message::Ack { .. } | Message::Submit { .. } => unreachable!(),
         }
     }
@@ -198,9 +198,9 @@ impl<C: Channel> Peer<C> {
         self.up.prepare(&Message::Vote { txn, vote })
     }
 
-    // Commits the operation that it voted Yes on.
-    fn commit(&mut self, alloc: Global, message: &Message, txn: u64) -> Result<Answer, WorldFault>
-        requires commit { message.now ≡ Commit txn }
+    // Commits the operation that it voted Yes on, or gives up the one that it voted on, and acknowledges that.
+    fn end(&mut self, alloc: Global, message: &Message, txn: u64) -> Result<Answer, WorldFault>
+        requires outcome { (message.now ≡ Commit txn) ⊎ (message.now ≡ Abort txn) }
         requires staged { StagedByVote self.old.participant.voted self.old.replica.staged }
         requires awaits { PeerAwaits self.old.replica.shown (seen_peer C.messages self.old) message.now }
         requires oldest { first_of (C.messages self.old.down) ≡ Some message.now }
@@ -219,37 +219,18 @@ impl<C: Channel> Peer<C> {
         };
         self.up.put(piece);
         self.down.drop_first();
-        Ok(Answer::TookCommit {
-            txn,
-            version: self.replica.version(),
-        })
+        Ok(ended(message, txn, self.replica.version()))
     }
+}
 
-    // Gives up the operation that it voted on.
-    fn abort(&mut self, alloc: Global, message: &Message, txn: u64) -> Result<Answer, WorldFault>
-        requires abort { message.now ≡ Abort txn }
-        requires staged { StagedByVote self.old.participant.voted self.old.replica.staged }
-        requires awaits { PeerAwaits self.old.replica.shown (seen_peer C.messages self.old) message.now }
-        requires oldest { first_of (C.messages self.old.down) ≡ Some message.now }
-        ensures takes { IfOk result (λ answer. (short : Bool) → PeerTakes short self.old.replica.shown (seen_peer C.messages self.old) self.new.replica.shown (seen_peer C.messages self.new) answer) }
-        ensures fault { IfErr result (λ fault. fault ≡ NoMemory) }
-        ensures same { OnErr result (seen_peer C.messages self.new ≡ seen_peer C.messages self.old) }
-        ensures same_replica { OnErr result (self.new.replica ≡ self.old.replica) }
-        ensures now_staged { StagedByVote self.new.participant.voted self.new.replica.staged }
-    {
-        let piece = self.up.prepare(&Message::Ack { txn })?;
-        let Ok(_reply) = self
-            .participant
-            .answer(alloc, &mut self.replica, message, false)
-        else {
-            unreachable!()
-        };
-        self.up.put(piece);
-        self.down.drop_first();
-        Ok(Answer::TookAbort {
-            txn,
-            version: self.replica.version(),
-        })
+// What a core tells that has taken an outcome, and is at this version now.
+fn ended(message: &Message, txn: u64, version: u64) -> Answer
+    ensures commit { message.now ≡ Commit txn → result ≡ TookCommit txn version }
+    ensures abort { message.now ≡ Abort txn → result ≡ TookAbort txn version }
+{
+    match message {
+        Message::Commit { .. } => Answer::TookCommit { txn, version },
+        _ => Answer::TookAbort { txn, version },
     }
 }
 

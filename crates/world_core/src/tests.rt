@@ -1,6 +1,7 @@
 //! The worked runs, event by event, over each kind of channel.
 ghost use Rattle.world_core.specs.Refusals.{IsShortEvent};
 
+use crate::sights::{after, places_of, sights};
 use crate::{
     Answer, BootFault, Channel, Done, Event, Lines, Messages, World, WorldFault, WorldOver,
 };
@@ -15,7 +16,7 @@ use table_replica::{Kept, Made, Op, OpFault, Program};
 
 /// What is asked of the table. Programs are decimal texts.
 #[derive(Clone, Copy)]
-enum Ask {
+pub(crate) enum Ask {
     Create(u16, u16),
     Mint(u16, u32, u16, Rights),
     Revoke(u16, u32),
@@ -27,7 +28,7 @@ enum Ask {
 
 /// What an event tells: its answer, of which the list of endpoints is shown by its length and its first, or its fault.
 #[derive(Clone, Copy, PartialEq, Eq, Debug)]
-enum Told {
+pub(crate) enum Told {
     Prepared(u64),
     Decided(Decision),
     Submitted,
@@ -42,14 +43,14 @@ enum Told {
     Fault(WorldFault),
 }
 
-const ARP: &str = "4,40 0 0 12,21 0 1 2054,6 0 0 4294967295,6 0 0 0";
+pub(crate) const ARP: &str = "4,40 0 0 12,21 0 1 2054,6 0 0 4294967295,6 0 0 0";
 
 const ALL: &str = "1,6 0 0 65535";
 
 const THREE: &str = "3,0 0 0 0,7 0 0 0,6 0 0 64";
 
 /// The destination, source and type of a request of the address resolution protocol.
-const REQUEST: [u8; 14] = [
+pub(crate) const REQUEST: [u8; 14] = [
     0xff, 0xff, 0xff, 0xff, 0xff, 0xff, 0x00, 0x11, 0x22, 0x33, 0x44, 0x55, 0x08, 0x06,
 ];
 
@@ -57,7 +58,15 @@ fn program(alloc: Global, text: &str) -> Result<Program, TextFault> {
     Ok(Program::from_vec(read_ddd(alloc, text.as_bytes())?))
 }
 
-fn op(alloc: Global, ask: Ask) -> Result<Op, TextFault> {
+/// The operation, made once more where a growth is refused.
+pub(crate) fn op(rt: &impl Abort, alloc: Global, ask: Ask) -> Op {
+    match asked(alloc, ask) {
+        Ok(op) => op,
+        Err(_) => asked(alloc, ask).expect(rt, "there is memory"),
+    }
+}
+
+fn asked(alloc: Global, ask: Ask) -> Result<Op, TextFault> {
     Ok(match ask {
         Ask::Create(domain, endpoint) => Op::Create { domain, endpoint },
         Ask::Mint(domain, cap, to, rights) => Op::Mint {
@@ -82,7 +91,7 @@ fn op(alloc: Global, ask: Ask) -> Result<Op, TextFault> {
     })
 }
 
-fn tells(answer: &Answer) -> Told {
+pub(crate) fn tells(answer: &Answer) -> Told {
     match answer {
         Answer::Prepared { txn } => Told::Prepared(*txn),
         Answer::Decided(decision) => Told::Decided(*decision),
@@ -101,7 +110,7 @@ fn tells(answer: &Answer) -> Told {
     }
 }
 
-fn cap(version: u64, id: u32) -> Decision {
+pub(crate) fn cap(version: u64, id: u32) -> Decision {
     let made = Made::Cap(id);
     Decision::Committed { version, made }
 }
@@ -116,7 +125,7 @@ fn nothing(version: u64) -> Decision {
     Decision::Committed { version, made }
 }
 
-fn refused(core: u16, why: Veto) -> Decision {
+pub(crate) fn refused(core: u16, why: Veto) -> Decision {
     Decision::Refused { core, why }
 }
 
@@ -133,15 +142,52 @@ fn no_delivery(version: u64) -> Told {
     Told::Delivered(version, 0, None)
 }
 
+fn outcome_once<C: Channel>(world: &mut WorldOver<C>, event: &Event) -> Told
+    requires { IsShortEvent event.now }
+{
+    match world.apply(event) {
+        Ok(answer) => tells(&answer),
+        Err(fault) => Told::Fault(fault),
+    }
+}
+
+/// What the event tells. A growth that is refused changes nothing, and then the event is done again.
+pub(crate) fn outcome<C: Channel>(rt: &impl Abort, world: &mut WorldOver<C>, event: &Event) -> Told
+    requires { IsShortEvent event.now }
+{
+    let before = sights(world);
+    let first = outcome_once(world, event);
+    if first != Told::Fault(WorldFault::NoMemory) {
+        return first;
+    }
+    assert_eq!(rt; sights(world), before);
+    outcome_once(world, event)
+}
+
 /// The event tells this.
 fn does<C: Channel>(rt: &impl Abort, world: &mut WorldOver<C>, event: &Event, wanted: Told)
     requires { IsShortEvent event.now }
 {
-    let is_told = match world.apply(event) {
-        Ok(answer) => tells(&answer),
-        Err(fault) => Told::Fault(fault),
+    assert_eq!(rt; outcome(rt, world, event), wanted);
+}
+
+/// What a request of core 0's own tells. Where core 0 has no memory for it nothing changes, and it is started again.
+pub(crate) fn started<C: Channel>(
+    rt: &impl Abort,
+    alloc: Global,
+    world: &mut WorldOver<C>,
+    ask: Ask,
+) -> Told {
+    let before = sights(world);
+    let start = Event::Start {
+        op: op(rt, alloc, ask),
     };
-    assert_eq!(rt; is_told, wanted);
+    let first = outcome(rt, world, &start);
+    if first != Told::Decided(refused(0, Veto::NoMemory)) {
+        return first;
+    }
+    assert_eq!(rt; sights(world), before);
+    outcome_once(world, &start)
 }
 
 /// Core 0 starts a request of its own.
@@ -152,12 +198,11 @@ fn start<C: Channel>(
     ask: Ask,
     wanted: Told,
 ) {
-    let op = op(alloc, ask).expect(rt, "there is memory");
-    does(rt, world, &Event::Start { op }, wanted);
+    assert_eq!(rt; started(rt, alloc, world, ask), wanted);
 }
 
 /// The core submits the creation of a capability by domain 1.
-fn submit<C: Channel>(
+pub(crate) fn submit<C: Channel>(
     rt: &impl Abort,
     world: &mut WorldOver<C>,
     core: u16,
@@ -171,13 +216,37 @@ fn submit<C: Channel>(
     does(rt, world, &Event::Submit { core, op }, wanted);
 }
 
-fn start_for<C: Channel>(rt: &impl Abort, world: &mut WorldOver<C>, core: u16, wanted: Told) {
+pub(crate) fn start_for<C: Channel>(
+    rt: &impl Abort,
+    world: &mut WorldOver<C>,
+    core: u16,
+    wanted: Told,
+) {
     does(rt, world, &Event::StartFor { core }, wanted);
 }
 
-fn take<C: Channel>(rt: &impl Abort, world: &mut WorldOver<C>, to: u16, from: u16, wanted: Told) {
+pub(crate) fn take<C: Channel>(
+    rt: &impl Abort,
+    world: &mut WorldOver<C>,
+    to: u16,
+    from: u16,
+    wanted: Told,
+) {
     let short = false;
     does(rt, world, &Event::Take { to, from, short }, wanted);
+}
+
+/// A packet of these bytes, made once more where a growth is refused.
+pub(crate) fn packet(rt: &impl Abort, alloc: Global, bytes: &[u8]) -> Packet {
+    let original = u32::try_from(bytes.len()).expect(rt, "the packet is short");
+    let bytes = match bytes.to_vec(alloc) {
+        Ok(bytes) => bytes,
+        Err(_) => bytes.to_vec(alloc).expect(rt, "there is memory"),
+    };
+    Packet {
+        bytes: Bytes::from_vec(bytes),
+        original,
+    }
 }
 
 /// The core receives a packet of these bytes, at this version or later.
@@ -190,12 +259,7 @@ fn receive<C: Channel>(
     floor: u64,
     wanted: Told,
 ) {
-    let bytes = bytes.to_vec(alloc).expect(rt, "there is memory");
-    let original = u32::try_from(bytes.len()).expect(rt, "the packet is short");
-    let packet = Packet {
-        bytes: Bytes::from_vec(bytes),
-        original,
-    };
+    let packet = packet(rt, alloc, bytes);
     let number = 1;
     let event = Event::Rx {
         core,
@@ -206,14 +270,38 @@ fn receive<C: Channel>(
     does(rt, world, &event, wanted);
 }
 
-/// Settling does these events.
-fn settles<C: Channel>(rt: &impl Abort, alloc: Global, world: &mut WorldOver<C>, wanted: &[Told]) {
-    let mut done: Vec<Done> = Vec::new(alloc);
-    world.settle(&mut done).expect(rt, "there is memory");
+/// What settling does. A growth that is refused leaves just the events of the list done, and then it goes on with that list.
+pub(crate) fn settled<C: Channel>(
+    rt: &impl Abort,
+    alloc: Global,
+    world: &mut WorldOver<C>,
+) -> Vec<Done> {
+    let before = places_of(world);
+    let mut done = Vec::new(alloc);
+    if world.settle(&mut done).is_err() {
+        assert_eq!(rt; places_of(world), after(before, &done));
+        world.settle(&mut done).expect(rt, "there is memory");
+    }
+    done
+}
+
+/// The events tell this.
+pub(crate) fn are_told(rt: &impl Abort, done: &[Done], wanted: &[Told]) {
     assert_eq!(rt; done.len(), wanted.len());
     for (done, wanted) in done.iter().zip(wanted.iter()) {
         assert_eq!(rt; tells(&done.answer), *wanted);
     }
+}
+
+/// Settling does these events.
+pub(crate) fn settles<C: Channel>(
+    rt: &impl Abort,
+    alloc: Global,
+    world: &mut WorldOver<C>,
+    wanted: &[Told],
+) {
+    let done = settled(rt, alloc, world);
+    are_told(rt, &done, wanted);
 }
 
 /// The core shows this version, so many capabilities and filters, and so many instructions of the filters.
@@ -237,10 +325,14 @@ fn shows<C: Channel>(
     assert_eq!(rt; replica.total_instructions(), instructions);
 }
 
-fn boot<C: Channel>(rt: &impl Abort, alloc: Global, budgets: &[u32]) -> WorldOver<C> {
+/// The machine with these budgets, made once more where a growth is refused.
+pub(crate) fn boot<C: Channel>(rt: &impl Abort, alloc: Global, budgets: &[u32]) -> WorldOver<C> {
     match WorldOver::boot(alloc, budgets) {
         Ok(world) => world,
-        Err(_) => panic!(rt; "there is memory"),
+        Err(_) => match WorldOver::boot(alloc, budgets) {
+            Ok(world) => world,
+            Err(_) => panic!(rt; "there is memory"),
+        },
     }
 }
 
@@ -314,21 +406,21 @@ fn two_phase<C: Channel>(rt: &impl Abort, alloc: Global) {
     );
     shows(rt, &world, 0, 1, 1, 0, 0);
     take(rt, &mut world, 1, 0, Told::TookPrepare(2, Vote::Yes));
-    take(
-        rt,
-        &mut world,
-        0,
-        1,
-        Told::TookVote(2, Vote::Yes, Some(filter(2, 1))),
-    );
-    one_core_ahead(rt, alloc, &mut world);
+    one_core_ahead(rt, alloc, &mut world, 2);
 }
 
-// Core 0 has committed the filter, and core 1 not yet.
-fn one_core_ahead<C: Channel>(rt: &impl Abort, alloc: Global, world: &mut WorldOver<C>) {
+/// Core 0 commits the filter by core 1's vote on this number, and receives by it before core 1 does.
+pub(crate) fn one_core_ahead<C: Channel>(
+    rt: &impl Abort,
+    alloc: Global,
+    world: &mut WorldOver<C>,
+    txn: u64,
+) {
+    let voted = Told::TookVote(txn, Vote::Yes, Some(filter(2, 1)));
+    take(rt, world, 0, 1, voted);
     receive(rt, alloc, world, 1, &REQUEST, 0, no_delivery(1));
     receive(rt, alloc, world, 0, &REQUEST, 0, delivered(2, 1, 7, 14));
-    take(rt, world, 1, 0, Told::TookCommit(2, 2));
+    take(rt, world, 1, 0, Told::TookCommit(txn, 2));
     receive(rt, alloc, world, 1, &REQUEST, 0, delivered(2, 1, 7, 14));
     receive(
         rt,
@@ -361,17 +453,17 @@ fn budget_veto<C: Channel>(rt: &impl Abort, alloc: Global) {
             Told::TookAck(1),
         ],
     );
-    start(
-        rt,
-        alloc,
-        &mut world,
-        Ask::Install(1, 1, ARP),
-        Told::Prepared(2),
-    );
+    over_budget(rt, alloc, &mut world);
+    within_budget(rt, alloc, &mut world);
+}
+
+fn over_budget<C: Channel>(rt: &impl Abort, alloc: Global, world: &mut WorldOver<C>) {
+    let four = Ask::Install(1, 1, ARP);
+    start(rt, alloc, world, four, Told::Prepared(2));
     settles(
         rt,
         alloc,
-        &mut world,
+        world,
         &[
             Told::TookPrepare(2, Vote::Budget),
             Told::TookVote(2, Vote::Budget, Some(refused(1, Veto::Budget))),
@@ -379,17 +471,15 @@ fn budget_veto<C: Channel>(rt: &impl Abort, alloc: Global) {
             Told::TookAck(2),
         ],
     );
-    start(
-        rt,
-        alloc,
-        &mut world,
-        Ask::Install(1, 1, THREE),
-        Told::Prepared(3),
-    );
+}
+
+fn within_budget<C: Channel>(rt: &impl Abort, alloc: Global, world: &mut WorldOver<C>) {
+    let three = Ask::Install(1, 1, THREE);
+    start(rt, alloc, world, three, Told::Prepared(3));
     settles(
         rt,
         alloc,
-        &mut world,
+        world,
         &[
             Told::TookPrepare(3, Vote::Yes),
             Told::TookVote(3, Vote::Yes, Some(filter(2, 1))),
@@ -405,59 +495,36 @@ fn a_revoked_capability_gets_nothing(rt: HostRuntime) {
     revoke::<Lines>(&rt, rt.alloc());
 }
 
-fn revoke<C: Channel>(rt: &impl Abort, alloc: Global) {
+pub(crate) fn revoke<C: Channel>(rt: &impl Abort, alloc: Global) {
     let mut world = boot::<C>(rt, alloc, &[100]);
+    let packet = [1, 2, 3, 4, 5];
+    let create = Ask::Create(1, 7);
     let mint = Ask::Mint(1, 1, 2, Rights::R);
     let install = Ask::Install(2, 2, ALL);
-    start(
-        rt,
-        alloc,
-        &mut world,
-        Ask::Create(1, 7),
-        Told::Decided(cap(1, 1)),
-    );
+    let got = delivered(3, 1, 7, 5);
+    start(rt, alloc, &mut world, create, Told::Decided(cap(1, 1)));
     start(rt, alloc, &mut world, mint, Told::Decided(cap(2, 2)));
     start(rt, alloc, &mut world, install, Told::Decided(filter(3, 1)));
-    receive(
-        rt,
-        alloc,
-        &mut world,
-        0,
-        &[1, 2, 3, 4, 5],
-        0,
-        delivered(3, 1, 7, 5),
-    );
-    start(
-        rt,
-        alloc,
-        &mut world,
-        Ask::Revoke(1, 1),
-        Told::Decided(nothing(4)),
-    );
-    receive(
-        rt,
-        alloc,
-        &mut world,
-        0,
-        &[1, 2, 3, 4, 5],
-        0,
-        no_delivery(4),
-    );
-    start(
-        rt,
-        alloc,
-        &mut world,
-        install,
-        Told::Decided(rule(OpFault::NoCap)),
-    );
-    start(
-        rt,
-        alloc,
-        &mut world,
-        Ask::Remove(1, 1),
-        Told::Decided(rule(OpFault::NotOwner)),
-    );
+    receive(rt, alloc, &mut world, 0, &packet, 0, got);
+    after_revoke(rt, alloc, &mut world, &packet);
     shows(rt, &world, 0, 4, 1, 1, 1);
+}
+
+fn after_revoke<C: Channel>(
+    rt: &impl Abort,
+    alloc: Global,
+    world: &mut WorldOver<C>,
+    packet: &[u8],
+) {
+    let revoke = Ask::Revoke(1, 1);
+    let install = Ask::Install(2, 2, ALL);
+    let remove = Ask::Remove(1, 1);
+    let no_cap = Told::Decided(rule(OpFault::NoCap));
+    let not_owner = Told::Decided(rule(OpFault::NotOwner));
+    start(rt, alloc, world, revoke, Told::Decided(nothing(4)));
+    receive(rt, alloc, world, 0, packet, 0, no_delivery(4));
+    start(rt, alloc, world, install, no_cap);
+    start(rt, alloc, world, remove, not_owner);
 }
 
 #[test]
@@ -552,8 +619,12 @@ fn home<C: Channel>(rt: &impl Abort, alloc: Global) {
     refused_at_once(rt, alloc, &mut world);
 }
 
-// The second request is refused as soon as it is started.
-fn refused_at_once<C: Channel>(rt: &impl Abort, alloc: Global, world: &mut WorldOver<C>) {
+/// The second request is refused as soon as it is started.
+pub(crate) fn refused_at_once<C: Channel>(
+    rt: &impl Abort,
+    alloc: Global,
+    world: &mut WorldOver<C>,
+) {
     let taken = rule(OpFault::EndpointTaken);
     submit(rt, world, 1, 7, Told::Submitted);
     settles(rt, alloc, world, &[Told::TookSubmit]);
@@ -607,7 +678,7 @@ fn programs_are_replaced(rt: HostRuntime) {
     replace::<Lines>(&rt, rt.alloc());
 }
 
-fn replace<C: Channel>(rt: &impl Abort, alloc: Global) {
+pub(crate) fn replace<C: Channel>(rt: &impl Abort, alloc: Global) {
     let mut world = boot::<C>(rt, alloc, &[3]);
     let install = Ask::Install(1, 1, ALL);
     let three = Ask::Replace(1, 1, THREE);
