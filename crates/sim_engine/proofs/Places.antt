@@ -1,5 +1,7 @@
 -- Places that are empty, or whose requests enter elsewhere.
-use Rattle.std.proofs.Common.{◌≡◌, ◌≢◌, ◌<◌, ◌+◌, ◌⊎◌, inl, inr, ℕ, zero, suc, Option, Some, None, List, [], ◌∷◌, ◌++◌, length, slice_get, slice_set, get_or, refl, ap, sym, ◌∙◌, arith}
+use Rattle.std.proofs.Common.{◌≡◌, ◌≢◌, ◌<◌, ◌+◌, ◌⊎◌, inl, inr, ℕ, zero, suc, Option, Some, None, List, [], ◌∷◌, ◌++◌, length, slice_get, slice_set, get_or, refl, ap, sym, ◌∙◌, subst, arith, length-append}
+use Rattle.world_model.proofs.Lists.{length-slice_set}
+use Rattle.monitor_messages.specs.Coding.{HasShortProgram}
 use Rattle.sim_engine.specs.declared.requests.Request.{Request}
 use Rattle.sim_engine.specs.Pending.{left, FirstAt, NoneAt}
 use Rattle.sim_engine.specs.Keeping.{EmptyBefore, NoneBefore, IsKept}
@@ -35,7 +37,7 @@ kept_from places first firsts home from kept (inr at) = kept.homes home from at
 
 pub kept_note : (places : List (Option Request)) (first : ℕ) (firsts firsts' : List ℕ) (home place : ℕ) → IsKept places first firsts → NoneBefore places home place
     → ((core from : ℕ) → slice_get firsts' core ≡ Some from → (slice_get firsts core ≡ Some from) ⊎ ((core ≡ home) × (from ≡ place))) → IsKept places first firsts'
-kept_note places first firsts firsts' home place kept none noted = record { empty = kept.empty; homes = λ core from at. by core from (noted core from at) }
+kept_note places first firsts firsts' home place kept none noted = record { short = kept.short; empty = kept.empty; homes = λ core from at. by core from (noted core from at) }
   where
     by : (core from : ℕ) → (slice_get firsts core ≡ Some from) ⊎ ((core ≡ home) × (from ≡ place)) → NoneBefore places core from
     by core from (inl at) = kept.homes core from at
@@ -51,6 +53,60 @@ set_get (y ∷ xs) (suc i) v (suc k) x h = by (set_get xs i v k x h)
     by : (slice_get xs k ≡ Some x) ⊎ ((k ≡ i) × (x ≡ v)) → (slice_get (y ∷ xs) (suc k) ≡ Some x) ⊎ ((suc k ≡ suc i) × (x ≡ v))
     by (inl e) = inl e
     by (inr e) = inr (ap suc e.0, e.1)
+
+-- One request more, or one less
+
+pushed_get : (xs : List (Option Request)) (x : Option Request) (k : ℕ) (r : Request) → slice_get (xs ++ x ∷ []) k ≡ Some (Some r) → (slice_get xs k ≡ Some (Some r)) ⊎ ((k ≡ length xs) × (x ≡ Some r))
+pushed_get [] x zero r h = inr (refl, cc)
+pushed_get [] x (suc k) r h = absurd cc
+pushed_get (y ∷ xs) x zero r h = inl h
+pushed_get (y ∷ xs) x (suc k) r h = by (pushed_get xs x k r h)
+  where
+    by : (slice_get xs k ≡ Some (Some r)) ⊎ ((k ≡ length xs) × (x ≡ Some r)) → (slice_get (y ∷ xs) (suc k) ≡ Some (Some r)) ⊎ ((suc k ≡ length (y ∷ xs)) × (x ≡ Some r))
+    by (inl e) = inl e
+    by (inr e) = inr (ap suc e.0, e.1)
+
+removed_get : (xs : List (Option Request)) (i k : ℕ) (r : Request) → slice_get (slice_set xs i None) k ≡ Some (Some r) → slice_get xs k ≡ Some (Some r)
+removed_get [] i k r h = absurd cc
+removed_get (x ∷ xs) zero zero r h = absurd cc
+removed_get (x ∷ xs) zero (suc k) r h = h
+removed_get (x ∷ xs) (suc i) zero r h = h
+removed_get (x ∷ xs) (suc i) (suc k) r h = removed_get xs i k r h
+
+module _ (places : List (Option Request)) (first : ℕ) (firsts : List ℕ) (kept : IsKept places first firsts) where
+  pub kept_push : (request : Request) → HasShortProgram request.op → IsKept (places ++ Some request ∷ []) first firsts
+  kept_push request short = record {
+    short = λ k r at. by_short k r (pushed_get places (Some request) k r at);
+    empty = record { inside = omega (arith, kept.empty.inside, long); empty = λ k r less at. by_empty k r less (pushed_get places (Some request) k r at) };
+    homes = λ home from at. let none = kept.homes home from at in
+        record { inside = omega (arith, none.inside, long); none = λ k r less here. by_home home from none k r less (pushed_get places (Some request) k r here) };
+  }
+    where
+      long : length (places ++ Some request ∷ []) ≡ length places + 1
+      long = length-append places (Some request ∷ [])
+
+      by_short : (k : ℕ) (r : Request) → (slice_get places k ≡ Some (Some r)) ⊎ ((k ≡ length places) × (Some request ≡ Some r)) → HasShortProgram r.op
+      by_short k r (inl e) = kept.short k r e
+      by_short k r (inr e) = let same : request ≡ r = some_is request r e.1 in subst (λ (q : Request). HasShortProgram q.op) same short
+
+      by_empty : (k : ℕ) (r : Request) → k < first → (slice_get places k ≡ Some (Some r)) ⊎ ((k ≡ length places) × (Some request ≡ Some r)) → ⊥
+      by_empty k r less (inl e) = kept.empty.empty k r less e
+      by_empty k r less (inr e) = omega (arith, less, e.0, kept.empty.inside)
+
+      by_home : (home from : ℕ) → NoneBefore places home from → (k : ℕ) (r : Request) → k < from → (slice_get places k ≡ Some (Some r)) ⊎ ((k ≡ length places) × (Some request ≡ Some r)) → r.home ≢ home
+      by_home home from none k r less (inl e) = none.none k r less e
+      by_home home from none k r less (inr e) = absurd (omega (arith, less, e.0, none.inside))
+
+  pub kept_remove : (place : ℕ) → IsKept (slice_set places place None) first firsts
+  kept_remove place = record {
+    short = λ k r at. kept.short k r (removed_get places place k r at);
+    empty = record { inside = omega (arith, kept.empty.inside, long); empty = λ k r less at. kept.empty.empty k r less (removed_get places place k r at) };
+    homes = λ home from at. let none = kept.homes home from at in
+        record { inside = omega (arith, none.inside, long); none = λ k r less here. none.none k r less (removed_get places place k r here) };
+  }
+    where
+      long : length (slice_set places place None) ≡ length places
+      long = length-slice_set places place None
 
 -- The requests that are left
 

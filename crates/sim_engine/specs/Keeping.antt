@@ -1,6 +1,8 @@
 -- How the requests are kept: a place for each, empty once it has been begun, and for each core the place to look from.
+-- Their programs are short enough to be sent.
 -- No public clause cites these.
 use Rattle.std.specs.Prelude.{◌≡◌, ◌≢◌, ◌<◌, ◌≤◌, ℕ, Some, Option, List, length, slice_get}
+use Rattle.monitor_messages.specs.Coding.{HasShortProgram}
 use Rattle.sim_engine.specs.declared.requests.Request.{Request}
 
 -- the places before this one are empty
@@ -14,6 +16,7 @@ pub record NoneBefore (places : List (Option Request)) (home end : ℕ) : Type 0
   pub none : (k : ℕ) (request : Request) → k < end → slice_get places k ≡ Some (Some request) → request.home ≢ home
 
 pub record IsKept (places : List (Option Request)) (first : ℕ) (firsts : List ℕ) : Type 0 where
+  pub short : (k : ℕ) (request : Request) → slice_get places k ≡ Some (Some request) → HasShortProgram request.op
   pub empty : EmptyBefore places first
   pub homes : (home from : ℕ) → slice_get firsts home ≡ Some from → NoneBefore places home from
 

@@ -3,6 +3,7 @@
 ghost use Rattle.std.specs.Prelude.{◌≡◌, ◌≢◌, ◌<◌, ◌^◌, ◌++◌, ◌⊎◌, length, codes, ℕ, List, map, IfOk, IfErr, IsErrOf, OnOk};
 ghost use Rattle.std.specs.Io.KnownBytes.{Appends};
 ghost use Rattle.console.specs.Matching.{IsEngineFault, IsPrintFault};
+ghost use Rattle.mk_script.specs.Limits.{HasLimits};
 ghost use Rattle.mk_script.specs.declared.script.Item.{Item as GhostItem};
 ghost use Rattle.sim_engine.specs.Faults.{script_fault_line};
 ghost use Rattle.sim_engine.specs.Showing.{AreSimInputs, ShowsSim, ShowsPart, ShowsItems, ShowsScript};
@@ -113,6 +114,7 @@ fn run_script<C: Channel, W: Write>(
     script: &Script,
     writer: &mut W,
 ) -> Result<u8, EngineFault>
+    requires { HasLimits script.now }
     ensures shown { IfOk result (λ status. (status ≡ 0) × ((text : List ℕ) × Appends (W.contents writer.old) (W.contents writer.new) text × ShowsItems script.now.budgets script.now.items text)) }
     ensures fault { IfErr result IsPrintFault }
     ensures part { IsErrOf result EngineFault.NoMemory → (writer.new ≡ writer.old) ⊎ ((done rest : List GhostItem) × (script.now.items ≡ done ++ rest) × (text more : List ℕ)
@@ -120,7 +122,8 @@ fn run_script<C: Channel, W: Write>(
 {
     let mut world = match WorldOver::<C>::boot(alloc, script.budgets.as_slice()) {
         Ok(world) => world,
-        Err(BootFault::CoreCount | BootFault::NoMemory) => return Err(EngineFault::NoMemory),
+        Err(BootFault::CoreCount) => unreachable!(),
+        Err(BootFault::NoMemory) => return Err(EngineFault::NoMemory),
     };
     perform_all(alloc, &mut world, script.items.as_slice(), writer)?;
     Ok(0)

@@ -1,6 +1,7 @@
 //! The requests of a script that wait to be begun.
 
 ghost use Rattle.std.specs.Prelude.{◌≡◌, ◌+◌, ◌<◌, ◌≤◌, ◌++◌, ◌∷◌, [], ℕ, List, Option, Some, None, length, slice_get, slice_set, ◌⊎◌, MatchOption, OnOk, IfOk, IfSome, IfNone, IsTrue, IsFalse, ◌≢◌};
+ghost use Rattle.monitor_messages.specs.Coding.{HasShortProgram};
 ghost use Rattle.sim_engine.specs.Keeping.{IsKept, EmptyBefore, NoneBefore, IsFirst, IsFirstAt};
 ghost use Rattle.sim_engine.specs.declared.requests.Request.{Request as GhostRequest};
 
@@ -19,6 +20,7 @@ pub struct Request {
 }
 
 /// Requests in the order in which they were asked for, seen as a list of places, of which those that were begun are empty.
+/// Their programs are short enough to be sent.
 #[derive(Drop)]
 pub(crate) struct Requests {
     places: Vec<Option<Request>>,
@@ -54,6 +56,7 @@ impl Requests {
 
     /// One more request, last.
     pub(crate) fn push(&mut self, request: Request) -> Result<(), AllocError>
+        requires { HasShortProgram request.op }
         ensures { OnOk result (self.new ≡ self.old ++ Some request ∷ []) }
     {
         self.places.push(Some(request))?;
@@ -63,6 +66,7 @@ impl Requests {
     /// The request at a place.
     pub(crate) fn at(&self, place: usize) -> Option<&Request>
         ensures some { IfSome result (λ request. slice_get self.now place ≡ Some (Some request.now)) }
+        ensures short { IfSome result (λ request. HasShortProgram request.now.op) }
         ensures none { IfNone result ((request : GhostRequest) → slice_get self.now place ≡ Some (Some request) → ⊥) }
     {
         self.places.get(place)?.as_ref()

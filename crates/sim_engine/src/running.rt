@@ -3,6 +3,9 @@
 ghost use Rattle.std.specs.Prelude.{◌≡◌, ◌≢◌, ◌++◌, [], ℕ, List, OnOk, IfErr, IsErrOf};
 ghost use Rattle.std.specs.Io.KnownBytes.{Appends};
 ghost use Rattle.console.specs.Matching.{IsPrintFault};
+ghost use Rattle.std.specs.List.{All};
+ghost use Rattle.mk_script.specs.Limits.{IsLimited};
+ghost use Rattle.world_core.specs.Refusals.{IsShortEvent};
 ghost use Rattle.mk_script.specs.declared.script.Item.{Item as GhostItem};
 ghost use Rattle.sim_engine.specs.declared.requests.Request.{Request as GhostRequest};
 ghost use Rattle.sim_engine.specs.Writing.{Wrote};
@@ -10,10 +13,10 @@ ghost use Rattle.sim_engine.specs.Simulations.{Applies, Does, Performs, Simulati
 
 use crate::requests::{Request, Requests};
 use crate::simulation::{begin, settle, show, tell};
-use crate::way::{Way, is_short_event};
+use crate::way::Way;
 use console::{BLOCK, EngineFault, write_bytes};
 use mk_script::Item;
-use std::alloc::Global;
+use std::alloc::{AllocError, Global};
 use std::io::Write;
 use world_core::{Channel, WorldOver};
 use world_model::Event;
@@ -25,6 +28,7 @@ pub(crate) fn perform_all<C: Channel, W: Write>(
     items: &[Item],
     writer: &mut W,
 ) -> Result<(), EngineFault>
+    requires { All IsLimited items.now }
     ensures shown { OnOk result ((s' : Simulation) × (text : List ℕ) × Performs (just world.old) items.now s' text
         × Appends (W.contents writer.old) (W.contents writer.new) text) }
     ensures fault { IfErr result IsPrintFault }
@@ -34,10 +38,7 @@ pub(crate) fn perform_all<C: Channel, W: Write>(
     let mut requests = Requests::new(alloc)?;
     let mut text = Vec::new(alloc);
     for item in items {
-        // Nothing else fails before it is written.
-        let Ok(()) = perform(alloc, world, &mut requests, item, &mut text) else {
-            return Err(EngineFault::NoMemory);
-        };
+        perform(alloc, world, &mut requests, item, &mut text)?;
         write_block(writer, &mut text)?;
     }
     write_bytes(writer, text.as_slice())
@@ -62,25 +63,22 @@ fn perform<C: Channel>(
     requests: &mut Requests,
     item: &Item,
     text: &mut Vec<u8>,
-) -> Result<(), EngineFault>
+) -> Result<(), AllocError>
+    requires { IsLimited item.now }
     ensures { OnOk result ((lines : List ℕ) × Does (sim world.old requests.old) item.now (sim world.new requests.new) lines
         × (text.new.items ≡ text.old.items ++ lines)) }
 {
     match item {
         Item::Ask(home, op) => {
             let op = op.copy(alloc)?;
-            requests.push(Request { home: *home, op })?;
-            Ok(())
+            requests.push(Request { home: *home, op })
         }
         Item::Begin => begin(alloc, world, requests, Way::Start, text),
         Item::Submit(core) => begin(alloc, world, requests, Way::Submit(*core), text),
         Item::StartFor(core) => apply(alloc, world, &Event::StartFor { core: *core }, text),
         Item::Apply(event) => apply(alloc, world, event, text),
         Item::Settle => settle(alloc, world, requests, text),
-        Item::Show(core) => {
-            show(alloc, world, *core, text)?;
-            Ok(())
-        }
+        Item::Show(core) => show(alloc, world, *core, text),
     }
 }
 
@@ -90,13 +88,11 @@ fn apply<C: Channel>(
     world: &mut WorldOver<C>,
     event: &Event,
     text: &mut Vec<u8>,
-) -> Result<(), EngineFault>
+) -> Result<(), AllocError>
+    requires { IsShortEvent event.now }
     ensures { OnOk result ((lines : List ℕ) × ((pending : List GhostRequest) → Applies (record { world = world.old; pending = pending }) event.now (record { world = world.new; pending = pending }) lines)
         × (text.new.items ≡ text.old.items ++ lines)) }
 {
-    if !is_short_event(event) {
-        return Err(EngineFault::NoMemory);
-    }
     tell(alloc, world, event, text)?;
     Ok(())
 }

@@ -4,6 +4,7 @@ ghost use Rattle.std.specs.Prelude.{◌≡◌, ◌<◌, ◌++◌, ◌∷◌, ℕ
 ghost use Rattle.std.specs.List.{flat_map};
 ghost use Rattle.sim_engine.specs.declared.requests.Request.{Request};
 ghost use Rattle.sim_engine.specs.Pending.{left, IsLeft};
+ghost use Rattle.monitor_messages.specs.Coding.{HasShortProgram};
 ghost use Rattle.table_replica.specs.declared.Op.{Op as GhostOp};
 ghost use Rattle.world_model.specs.declared.event.Answer.{Answer as GhostAnswer};
 ghost use Rattle.world_core.specs.declared.fault.WorldFault.{WorldFault as GhostFault};
@@ -15,7 +16,6 @@ ghost use Rattle.sim_engine.specs.Ways.{event_of, way_of};
 
 use crate::requests::Requests;
 use crate::way::Way;
-use console::EngineFault;
 use sim_lines::{line_of, show_core};
 use std::alloc::{AllocError, Global};
 use std::fmt::Write;
@@ -33,7 +33,7 @@ pub(crate) fn begin<C: Channel>(
     requests: &mut Requests,
     by: Way,
     text: &mut Vec<u8>,
-) -> Result<(), EngineFault>
+) -> Result<(), AllocError>
     ensures { OnOk result ((line : List ℕ) × Begins (sim world.old requests.old) by (sim world.new requests.new) line
         × (text.new.items ≡ text.old.items ++ line)) }
 {
@@ -70,7 +70,8 @@ fn begin_one<C: Channel>(
     by: Way,
     op: &Op,
     text: &mut Vec<u8>,
-) -> Result<bool, EngineFault>
+) -> Result<bool, AllocError>
+    requires { HasShortProgram op.now }
     ensures { IfOk result (λ done. (told : Result GhostAnswer GhostFault) × Tells world.old (event_of by op.now) told world.new
         × (text.new.items ≡ text.old.items ++ event_line (event_of by op.now) told) × (done ≡ is_ok told)) }
 {
@@ -84,14 +85,14 @@ pub(crate) fn tell<C: Channel>(
     world: &mut WorldOver<C>,
     event: &Event,
     text: &mut Vec<u8>,
-) -> Result<bool, EngineFault>
+) -> Result<bool, AllocError>
     requires { IsShortEvent event.now }
     ensures { IfOk result (λ done. (told : Result GhostAnswer GhostFault) × Tells world.old event.now told world.new
         × (text.new.items ≡ text.old.items ++ event_line event.now told) × (done ≡ is_ok told)) }
 {
     let told = world.apply(event);
     if let Err(WorldFault::NoMemory) = told {
-        return Err(EngineFault::NoMemory);
+        return Err(AllocError);
     }
     let line = line_of(alloc, event, &told)?;
     text.extend_from_slice(line.as_slice())?;
@@ -104,7 +105,7 @@ pub(crate) fn settle<C: Channel>(
     world: &mut WorldOver<C>,
     requests: &mut Requests,
     text: &mut Vec<u8>,
-) -> Result<(), EngineFault>
+) -> Result<(), AllocError>
     ensures { OnOk result ((lines : List ℕ) × SettlesAll (sim world.old requests.old) (sim world.new requests.new) lines
         × (text.new.items ≡ text.old.items ++ lines)) }
 {
@@ -116,7 +117,7 @@ pub(crate) fn settle<C: Channel>(
         }
         quiet(alloc, world, text)?;
     }
-    Err(EngineFault::NoMemory)
+    Err(AllocError)
 }
 
 // Begins what is next, if something is left, and tells whether it was begun.
@@ -125,7 +126,7 @@ fn begin_next<C: Channel>(
     world: &mut WorldOver<C>,
     requests: &mut Requests,
     text: &mut Vec<u8>,
-) -> Result<bool, EngineFault>
+) -> Result<bool, AllocError>
     ensures { IfOk result (λ more. (lines : List ℕ) × BeginsNext (sim world.old requests.old) (sim world.new requests.new) lines more
         × (text.new.items ≡ text.old.items ++ lines)) }
 {
@@ -156,7 +157,7 @@ fn quiet<C: Channel>(
     alloc: Global,
     world: &mut WorldOver<C>,
     text: &mut Vec<u8>,
-) -> Result<(), EngineFault>
+) -> Result<(), AllocError>
     ensures { OnOk result ((lines : List ℕ) × Quiets world.old world.new lines × (text.new.items ≡ text.old.items ++ lines)) }
 {
     let mut taken = Vec::new(alloc);
@@ -165,7 +166,7 @@ fn quiet<C: Channel>(
 }
 
 // The lines of messages that were taken.
-fn push_taken(alloc: Global, taken: Vec<Done>, text: &mut Vec<u8>) -> Result<(), EngineFault>
+fn push_taken(alloc: Global, taken: Vec<Done>, text: &mut Vec<u8>) -> Result<(), AllocError>
     ensures { OnOk result (text.new.items ≡ text.old.items ++ flat_map done_line taken.items) }
 {
     for done in taken {
@@ -209,7 +210,7 @@ fn begin_at<C: Channel>(
     requests: &mut Requests,
     place: usize,
     text: &mut Vec<u8>,
-) -> Result<bool, EngineFault>
+) -> Result<bool, AllocError>
     requires { IsFirst requests.old place }
     ensures { IfOk result (λ done. (first : Request) × (rest : List Request) × (told : Result GhostAnswer GhostFault) × (left requests.old ≡ first ∷ rest)
         × Tells world.old (event_of (way_of first.home) first.op) told world.new

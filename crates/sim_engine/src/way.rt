@@ -1,17 +1,13 @@
 //! How a request is begun.
 
-ghost use Rattle.std.specs.Prelude.{◌≡◌, IfOk, IsTrue};
+ghost use Rattle.std.specs.Prelude.{◌≡◌, IfOk};
 ghost use Rattle.monitor_messages.specs.Coding.{HasShortProgram};
 ghost use Rattle.world_core.specs.Refusals.{IsShortEvent};
 ghost use Rattle.sim_engine.specs.Ways.{home_of, event_of, way_of};
 
-use console::EngineFault;
-use std::alloc::Global;
+use std::alloc::{AllocError, Global};
 use table_replica::Op;
 use world_model::Event;
-
-/// The most instructions of a program that a message carries.
-const MESSAGE_INSNS: usize = 4096;
 
 /// How a request is begun: core 0 starts one of its own, or another core submits one of its own to core 0.
 #[derive(Clone, Copy, PartialEq, Eq, Debug)]
@@ -42,48 +38,16 @@ impl Way {
         }
     }
 
-    /// The event that begins a request. A script's programs are short enough to be sent.
-    pub(crate) fn event(self, alloc: Global, op: &Op) -> Result<Event, EngineFault>
+    /// The event that begins a request.
+    pub(crate) fn event(self, alloc: Global, op: &Op) -> Result<Event, AllocError>
+        requires { HasShortProgram op.now }
         ensures event { IfOk result (λ event. event ≡ event_of self op.now) }
         ensures short { IfOk result IsShortEvent }
     {
         let copy = op.copy(alloc)?;
         match self {
             Way::Start => Ok(Event::Start { op: copy }),
-            Way::Submit(core) => {
-                if is_short(op) {
-                    Ok(Event::Submit { core, op: copy })
-                } else {
-                    Err(EngineFault::NoMemory)
-                }
-            }
+            Way::Submit(core) => Ok(Event::Submit { core, op: copy }),
         }
-    }
-}
-
-/// Whether the event's operation, if it is submitted, can be sent. A script's programs are short enough.
-pub(crate) fn is_short_event(event: &Event) -> bool
-    ensures { IsTrue result → IsShortEvent event.now }
-{
-    match event {
-        Event::Submit { op, .. } => is_short(op),
-        Event::Start { .. } | Event::StartFor { .. } | Event::Take { .. } | Event::Rx { .. } =>
-            true,
-    }
-}
-
-// Whether a message carries the operation.
-fn is_short(op: &Op) -> bool
-    ensures { IsTrue result → HasShortProgram op.now }
-{
-    match op {
-        Op::Install { program, .. } | Op::Replace { program, .. } => {
-            program.as_slice().len() <= MESSAGE_INSNS
-        }
-        Op::Create { .. }
-        | Op::Mint { .. }
-        | Op::Revoke { .. }
-        | Op::DropCap { .. }
-        | Op::Remove { .. } => true,
     }
 }

@@ -5,19 +5,19 @@ use Rattle.sim_engine.specs.Pending.{left}
 use Rattle.sim_engine.specs.Simulations.{sim}
 use Rattle.table_replica.specs.declared.Op.{Op}
 use Rattle.sim_engine.proofs.Places.{left_push}
-use Rattle.sim_engine.proofs.Printed.{the_sim}
+use Rattle.sim_engine.proofs.Printed.{on_ok, the_sim}
 use Rattle.sim_engine.proofs.running.perform.Goals as goal
 
-pub returns-in_ok-push-in-Ask : goal.returns-in_ok-push-in-Ask
-returns-in_ok-push-in-Ask g c = rw c.in-Ask.is (
+pub returns-in_ok-op-in-Ask : goal.returns-in_ok-op-in-Ask
+returns-in_ok-op-in-Ask g c = rw c.in-Ask.is (on_ok c.push.result c.push.ensures (λ pushed. (
   [],
   (
-    ap (sim c.args.world.now) c.in_ok-push-in-Ask.ensures ∙ ap (λ (rs : List Request). the_sim c.args.world.now rs)
+    ap (sim c.args.world.now) pushed ∙ ap (λ (rs : List Request). the_sim c.args.world.now rs)
         (left_push c.args.requests.now (record { home = c.in-Ask.home; op = c.in_ok-op-in-Ask.op }) ∙ ap (λ (op : Op). left c.args.requests.now ++ record { home = c.in-Ask.home; op = op } ∷ []) c.in_ok-op-in-Ask.ensures),
     refl,
   ),
   sym (append-nil c.args.text.now.items),
-)
+)))
 
 pub returns-in-Begin : goal.returns-in-Begin
 returns-in-Begin g c = rw c.in-Begin.is c.begin.ensures

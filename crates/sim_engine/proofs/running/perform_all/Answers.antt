@@ -11,12 +11,12 @@ use Rattle.sim_engine.proofs.running.perform_all.Goals as goal
 pub returns-in_err-requests-clause-part : goal.returns-in_err-requests-clause-part
 returns-in_err-requests-clause-part g c = λ failed. ([], c.args.items.now, refl, just c.args.world.now, [], [], (refl, refl), appends-nothing (g.W.Write.contents c.args.writer.now))
 
-pub returns-in_default-clause-part : goal.returns-in_default-clause-part
-returns-in_default-clause-part g c = λ failed. (take c.loop-item.item-index c.args.items.now, drop c.loop-item.item-index c.args.items.now, halves c.args.items.now c.loop-item.item-index, sim c.loop-item.world c.loop-item.requests, c.loop-item.invariant.written, c.loop-item.text.items, c.loop-item.invariant.performs, c.loop-item.invariant.appends)
+pub returns-in_err-perform-clause-part : goal.returns-in_err-perform-clause-part
+returns-in_err-perform-clause-part g c = λ failed. (take c.loop-item.item-index c.args.items.now, drop c.loop-item.item-index c.args.items.now, halves c.args.items.now c.loop-item.item-index, sim c.loop-item.world c.loop-item.requests, c.loop-item.invariant.written, c.loop-item.text.items, c.loop-item.invariant.performs, c.loop-item.invariant.appends)
 
 pub loop-item-preserved : goal.loop-item-preserved
 loop-item-preserved g c =
-    let e = c.in-Ok.ensures in
+    let e = c.in_ok-perform.ensures in
     let at = get_at c.args.items.now c.loop-item.item-index c.item-item.result (omega (arith, c.loop-item-test.true)) c.item-item.is in
     let one = printed_one (just c.args.world.now) (sim c.loop-item.world c.loop-item.requests) (sim c.perform.new.world c.perform.new.requests) (take c.loop-item.item-index c.args.items.now) c.item-item.result
     (g.W.Write.contents c.args.writer.now) (g.W.Write.contents c.loop-item.writer) c.loop-item.text.items c.perform.new.text.items e.0 c.loop-item.invariant e.1 e.2 in
