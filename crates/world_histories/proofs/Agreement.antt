@@ -4,21 +4,18 @@ use Rattle.std.specs.Prelude.{option_map}
 use Rattle.std.proofs.lemmas.List.{append-nil, map-append}
 use mathlib.Core.List.{IsPrefix}
 use Rattle.table_replica.specs.declared.Op.{Op}
-use Rattle.table_replica.specs.Tables.{State, made, table, instructions, Allowed}
+use Rattle.table_replica.specs.Tables.{table, instructions, Allowed}
 use Rattle.table_replica.proofs.Tables.{table_front}
-use Rattle.monitor_messages.specs.declared.message.Decision.{Decision}
-use Rattle.monitor_messages.specs.declared.message.Decision.TheVariants.{Committed, Refused}
 use Rattle.world_model.specs.declared.event.Event.{Event}
-use Rattle.world_model.specs.declared.event.Event.TheVariants.{Start, Submit, StartFor, Take, Rx}
+use Rattle.world_model.specs.declared.event.Event.TheVariants.{Rx}
 use Rattle.world_model.specs.declared.event.Answer.{Answer}
-use Rattle.world_model.specs.declared.event.Answer.TheVariants.{TookReply}
 use Rattle.world_model.specs.declared.event.Done.{Done}
 use Rattle.world_model.specs.Cases.{ReceivesAt}
 use Rattle.world_model.specs.Worlds.{Peer, World, boot, version_at, Happens, Runs, Run}
 use Rattle.world_model.specs.Agreement.{Agrees}
-use Rattle.world_model.specs.Readings.{commits_at, version_of, request_of, settled}
-use Rattle.world_model.specs.Decisions.{DeliversBy, Delivers, StandsAt, IsEntered, RepliesRightly}
-use Rattle.world_model.proofs.Lists.{get_within, get_at, get_front}
+use Rattle.world_model.specs.Readings.{commits_at, version_of}
+use Rattle.world_model.specs.Decisions.{DeliversBy, Delivers}
+use Rattle.world_model.proofs.Lists.{get_within, get_at}
 use Rattle.world_model.proofs.Runs.{runs_append, runs_split}
 use Rattle.world_model.proofs.Known.{run_known, version_of-more}
 use Rattle.world_model.proofs.Agreement.{run_inv}
@@ -28,11 +25,11 @@ use Rattle.world_histories.specs.declared.history.Stamped.{Stamped}
 use Rattle.world_histories.specs.Histories.{unstamped, Core0, core0_first, History0, Other, other_first, HistoryOther, Computation}
 use Rattle.world_histories.specs.Merging.{core_of, as_short, listed, as_listed, Merged, EndsAs}
 use Rattle.world_histories.specs.Agreement.{IsAt, Point0, PointOther, GrowsByOne, HistoriesAgree}
-use Rattle.world_histories.specs.Answers.{requested, last_submitted, TellsOfCores, InRun, Replied}
+use Rattle.world_histories.specs.Answers.{TellsOfCores, InRun}
 use Rattle.world_histories.proofs.Lists.{prefix_then, prefix_self, found}
 use Rattle.world_histories.proofs.Parts.{Placed, placed, front_of_each}
 use Rattle.world_histories.proofs.Fits.{fits_all, version_within}
-use Rattle.world_histories.proofs.Tells.{short_core, tells_of_cores}
+use Rattle.world_histories.proofs.Tells.{tells_of_cores}
 use Rattle.world_histories.proofs.Versions.{Held, split0, split_other, path0, path_other}
 use Rattle.world_histories.proofs.Owns.{whole_front}
 use Rattle.world_histories.proofs.Merge.{OneRun, one_run, run_of}
@@ -219,38 +216,3 @@ agree_by budget budgets core0 others end ends c o = record {
 
 pub agree : (budget : ℕ) (budgets : List ℕ) (core0 : List Stamped) (others : List (List Stamped)) (end : Core0) (ends : List Other) → Computation budget budgets core0 others end ends → HistoriesAgree budget budgets core0 others end ends
 agree budget budgets core0 others end ends c = agree_by budget budgets core0 others end ends c (one_run budget budgets core0 others end ends c)
-
--- Replies
-
-entered_front : (log front : List Op) (op : Op) (d : Decision) → IsPrefix front log → IsEntered front op d → IsEntered log op d
-entered_front log front op (Committed version id) f x =
-    let le : x.0 ≤ length front = omega (arith, get_within front x.0 op x.2) in
-    let at : slice_get log x.0 ≡ Some op = subst (λ (l : List Op). slice_get l x.0 ≡ Some op) f.1 (get_front front f.0 x.0 op x.2) in
-    (x.0, x.1, at, x.3 ∙ ap (λ (s : State). made s op) (sym (ap (λ (l : List Op). table l x.0) (sym f.1) ∙ table_front front f.0 x.0 le)))
-entered_front log front op (Refused core why) f x = tt
-
-replied_by : (i : ℕ) (events : List Done) (w w' : World) (event : Event) (d : Decision) (version : ℕ) → core_of event ≡ suc i → version_at w (suc i) ≡ Some version → Happens w event w' (TookReply d) → RepliesRightly events w event (TookReply d)
-    → (op : Op) × (request_of (suc i) events ≡ settled op d) × IsEntered w.log op d × StandsAt version d
-replied_by i events w w' (Take (suc j) zero short) d version is at h r =
-    let r' = subst (λ (k : ℕ). (op : Op) × (request_of k events ≡ settled op d) × IsEntered w.log op d × ((v : ℕ) → version_at w k ≡ Some v → StandsAt v d)) is r in
-    (r'.0, r'.1, r'.2, r'.3 version at)
-replied_by i events w w' (Submit (suc j) op) d version is at h r = absurd (let e = h.here.is_answer in cc)
-replied_by i events w w' (Rx j number packet floor) d version is at h r = absurd (let e = h.here.is_answer in cc)
-replied_by i events w w' (Start op) d version is at h r = absurd (omega (arith, is))
-replied_by i events w w' (StartFor core) d version is at h r = absurd (omega (arith, is))
-replied_by i events w w' (Take zero from short) d version is at h r = absurd (omega (arith, is))
-replied_by i events w w' event d version is at h r = absurd h
-
-pub replied : (budget : ℕ) (budgets : List ℕ) (core0 : List Stamped) (others : List (List Stamped)) (end : Core0) (ends : List Other) → Computation budget budgets core0 others end ends
-    → (i : ℕ) (h before after : List Stamped) (s : Stamped) (d : Decision) → slice_get others i ≡ Some h → h ≡ before ++ s ∷ after → s.done.answer ≡ TookReply d → Replied end.log i before d
-replied budget budgets core0 others end ends c i h before after s d at e is_reply =
-    let o = one_run budget budgets core0 others end ends c in
-    let r = in_the_run budget budgets core0 others end ends o (suc i) h before after s c.cores at e in
-    let x = replied_by i (as_listed r.earlier) r.world r.world' (listed s).event d (version_of (suc i) (unstamped before)) (short_core s.done.event s.done.answer ∙ r.is_core) r.version
-    (subst (λ (a : Answer). Happens r.world (listed s).event r.world' a) is_reply r.happens) (subst (λ (a : Answer). RepliesRightly (as_listed r.earlier) r.world (listed s).event a) is_reply r.replies) in
-    record {
-      op = x.0;
-      asked = sym (ap last_submitted r.own) ∙ (sym (r.tells.requests i) ∙ ap requested x.1);
-      entered = entered_front end.log r.world.log x.0 d r.log_front x.2;
-      stands = x.3;
-    }

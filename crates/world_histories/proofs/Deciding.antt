@@ -21,7 +21,7 @@ use Rattle.world_model.specs.declared.event.Answer.TheVariants.{Prepared, Decide
 use Rattle.world_model.specs.declared.event.Done.{Done}
 use Rattle.world_model.specs.Cases.{TakesUpAt, TakesDownAt, Took}
 use Rattle.world_model.specs.Worlds.{Peer, World, boot, newest, budget_at, HappensUp, HappensDown, Happens, Run}
-use Rattle.world_model.specs.Readings.{version_of, vote_of, sent, request_of, Begins, Begun}
+use Rattle.world_model.specs.Readings.{version_of, vote_of, Request, sent, request_of, Begins, Begun}
 use Rattle.world_model.specs.Decisions.{CommitsNext, IsWaiting, HasVeto, VotesDecide, DecidesRightly}
 use Rattle.world_model.proofs.Lists.{get_within, get_at, get_front, get_end}
 use Rattle.world_model.proofs.Runs.{runs_split}
@@ -31,12 +31,14 @@ use Rattle.world_model.proofs.Decisions.{run_decides}
 use Rattle.world_histories.specs.declared.history.Stamped.{Stamped}
 use Rattle.world_histories.specs.Histories.{unstamped, Core0, Other, Computation}
 use Rattle.world_histories.specs.Merging.{core_of, part, as_short, listed, as_listed}
-use Rattle.world_histories.specs.Answers.{requested, InRun}
+use Rattle.world_histories.specs.Answers.{requested, begun_for, InRun}
 use Rattle.world_histories.specs.Decisions.{Asked, BegunIn, IsNew, IsNext, VetoedBy, VotesDecideIn, DecidesBy, DecidesAs}
 use Rattle.world_histories.proofs.Lists.{Found, found}
 use Rattle.world_histories.proofs.Parts.{part_own, part-append, placed, front_of_each}
 use Rattle.world_histories.proofs.Tells.{tells_of_cores}
 use Rattle.world_histories.proofs.Votes.{voted_in}
+use Rattle.world_histories.proofs.Requests.{Tracks, run_tracks}
+use Rattle.world_histories.proofs.Replies.{begins_in, submits_in}
 use Rattle.world_histories.proofs.Merge.{OneRun, one_run}
 use Rattle.world_histories.proofs.Agreement.{in_the_run}
 
@@ -55,12 +57,20 @@ until budget budgets front rest s w run =
     record { world = r.0; world' = r.2.0; run = r.1; happens = r.2.1 }
 
 -- what core 0 begins for a core is what the core submitted last
-asked_at : (budget : ℕ) (budgets : List ℕ) (core0 : List Stamped) (others : List (List Stamped)) (end : Core0) (ends : List Other) (o : OneRun budget budgets core0 others end ends) (front rest : List Stamped) (w : World) (entry : ℕ) (op : Op)
-    → o.merged ≡ front ++ rest → Run budget budgets (as_listed front) w → entry < length others → request_of (suc entry) (as_listed front) ≡ sent op → Asked others (StartFor (suc entry)) op
-asked_at budget budgets core0 others end ends o front rest w entry op e run lt is_sent =
+asked_at : (budget : ℕ) (budgets : List ℕ) (core0 : List Stamped) (others : List (List Stamped)) (end : Core0) (ends : List Other) (o : OneRun budget budgets core0 others end ends) (front rest before : List Stamped) (w : World) (entry : ℕ) (op : Op)
+    → o.merged ≡ front ++ rest → Run budget budgets (as_listed front) w → entry < length others → length others ≡ length budgets → part 0 front ≡ before → request_of (suc entry) (as_listed front) ≡ sent op → Asked others before (StartFor (suc entry)) op
+asked_at budget budgets core0 others end ends o front rest before w entry op e run lt long own is_sent =
     let h = get_at others entry lt in
     let t = tells_of_cores (boot budget budgets) w front run in
-    (h.0, part (suc entry) front, h.1, front_of_each (suc entry) o.merged front rest h.0 e (o.is_merged.of_each (suc entry) h.0 h.1), sym (t.requests entry) ∙ ap requested is_sent)
+    let p = get_at w.peers entry (omega (arith, (run_known budget budgets (as_listed front) w run).cores, long, lt)) in
+    let k : Tracks (suc entry) (as_listed front) (sent op) = subst (λ (r : Request). Tracks (suc entry) (as_listed front) r) is_sent (run_tracks budget budgets (as_listed front) w run entry p.0 p.1) in (
+      h.0,
+      part (suc entry) front,
+      h.1,
+      front_of_each (suc entry) o.merged front rest h.0 e (o.is_merged.of_each (suc entry) h.0 h.1),
+      omega (arith, k.counted, submits_in entry front, begins_in entry front, ap (begun_for entry) own),
+      sym (t.requests entry) ∙ ap requested is_sent,
+    )
 
 waiting_core : (budget : ℕ) (budgets : List ℕ) (others : List (List Stamped)) (events : List Done) (w : World) (entry : ℕ) (op : Op) → length others ≡ length budgets → Run budget budgets events w → slice_get w.requests.waiting entry ≡ Some (Some op) → entry < length others
 waiting_core budget budgets others events w entry op long run at = omega (arith, long, (run_known budget budgets events w run).waiting_long, get_within w.requests.waiting entry (Some op) at)
@@ -177,7 +187,7 @@ begun_in budget budgets core0 others end ends o earlier rest before w txn core o
   rest = part 0 f.rest;
   is_among = sym own ∙ (ap (part 0) f.is_split ∙ (part-append 0 f.front (f.item ∷ f.rest) ∙ ap (λ (ys : List Stamped). part 0 f.front ++ ys) (part_own 0 f.item f.rest core_0)));
   numbered = numbered;
-  asked = subst (λ (x : Event). Asked others x op) (sym is_event) (by_event b.event refl b.begins);
+  asked = subst (λ (x : Event). Asked others (part 0 f.front) x op) (sym is_event) (by_event b.event refl b.begins);
 }
   where
     f : Found listed earlier b.before (record { event = b.event; answer = Prepared txn }) b.after
@@ -204,17 +214,17 @@ begun_in budget budgets core0 others end ends o earlier rest before w txn core o
     core_0 = ap core_of is_event ∙ core_of_begun b.event b.begins
 
     -- the core that a request is begun for has it waiting
-    begun_for : (from : ℕ) → b.event ≡ StartFor from → request_of from b.before ≡ sent op → Happens u.world (StartFor from) u.world' (Prepared txn) → Asked others (StartFor from) op
+    begun_for : (from : ℕ) → b.event ≡ StartFor from → request_of from b.before ≡ sent op → Happens u.world (StartFor from) u.world' (Prepared txn) → Asked others (part 0 f.front) (StartFor from) op
     begun_for (suc entry) is sent_it h =
-        asked_at budget budgets core0 others end ends o f.front (f.item ∷ f.rest ++ rest) u.world entry op merged_is u.run
-        (waiting_core budget budgets others (as_listed f.front) u.world entry h.here.starts.op long u.run h.here.starts.is_waiting)
+        asked_at budget budgets core0 others end ends o f.front (f.item ∷ f.rest ++ rest) (part 0 f.front) u.world entry op merged_is u.run
+        (waiting_core budget budgets others (as_listed f.front) u.world entry h.here.starts.op long u.run h.here.starts.is_waiting) long refl
         (ap (request_of (suc entry)) f.is_front ∙ sent_it)
     begun_for zero is sent_it h = absurd h
 
     happened : Happens u.world b.event u.world' (Prepared txn)
     happened = subst (λ (d : Done). Happens u.world d.event u.world' d.answer) f.is_item u.happens
 
-    by_event : (event : Event) → b.event ≡ event → Begins b.before event core op → Asked others event op
+    by_event : (event : Event) → b.event ≡ event → Begins b.before event core op → Asked others (part 0 f.front) event op
     by_event (Start started) is x = x.1
     by_event (StartFor from) is x = begun_for from is (subst (λ (k : ℕ). request_of k b.before ≡ sent op) x.0 (subst (λ (k : ℕ). request_of k b.before ≡ sent op) (sym x.0) x.1)) (subst (λ (y : Event). Happens u.world y u.world' (Prepared txn)) is happened)
     by_event event is x = absurd x
@@ -286,9 +296,9 @@ votes_decide budget budgets core0 others end ends before event answer x txn op (
 votes_decide budget budgets core0 others end ends before event answer x txn op (Refused core why) h = vetoed budget budgets core0 others end ends before event answer x txn op core why h.0
 
 asked_for : (budget : ℕ) (budgets : List ℕ) (core0 : List Stamped) (others : List (List Stamped)) (end : Core0) (ends : List Other) (before : List Stamped) (event : Event) (answer : Answer) (x : Context budget budgets core0 others end ends before event answer) (entry : ℕ) (op : Op)
-    → IsWaiting (as_listed x.earlier) x.world entry op → Asked others (StartFor (suc entry)) op
+    → IsWaiting (as_listed x.earlier) x.world entry op → Asked others before (StartFor (suc entry)) op
 asked_for budget budgets core0 others end ends before event answer x entry op w =
-    asked_at budget budgets core0 others end ends x.one x.earlier x.rest x.world entry op x.is_split x.run (waiting_core budget budgets others (as_listed x.earlier) x.world entry op x.comp.cores x.run w.waits) w.is_sent
+    asked_at budget budgets core0 others end ends x.one x.earlier x.rest before x.world entry op x.is_split x.run (waiting_core budget budgets others (as_listed x.earlier) x.world entry op x.comp.cores x.run w.waits) x.comp.cores x.own w.is_sent
 
 allowed_then : (budget : ℕ) (budgets : List ℕ) (core0 : List Stamped) (others : List (List Stamped)) (end : Core0) (ends : List Other) (before : List Stamped) (event : Event) (answer : Answer) (x : Context budget budgets core0 others end ends before event answer) (op : Op)
     → Allowed (newest x.world) x.world.budget op None → Allowed (table end.log (version_of 0 (unstamped before))) budget op None

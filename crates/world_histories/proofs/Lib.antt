@@ -16,3 +16,5 @@ pub mod Deciding
 pub mod More
 pub mod Once
 pub mod Ends
+pub mod Requests
+pub mod Replies

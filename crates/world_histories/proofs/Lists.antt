@@ -63,6 +63,7 @@ pub record Found {A B : Type 0} (f : A → B) (xs : List A) (before : List B) (y
   pub is_split : xs ≡ front ++ item ∷ rest
   pub is_front : map f front ≡ before
   pub is_item : f item ≡ y
+  pub is_rest : map f rest ≡ after
 
 not_empty : {B : Type 0} (before after : List B) (y : B) → [] ≡ before ++ y ∷ after → ⊥
 not_empty [] after y e = cc
@@ -76,11 +77,12 @@ found_more {A} {B} f x xs b bs after y first r = record {
   is_split = ap (λ (ys : List A). x ∷ ys) r.is_split;
   is_front = ap (λ (z : B). z ∷ map f r.front) first ∙ ap (λ (ys : List B). b ∷ ys) r.is_front;
   is_item = r.is_item;
+  is_rest = r.is_rest;
 }
 
 pub found : {A B : Type 0} (f : A → B) (xs : List A) (before after : List B) (y : B) → map f xs ≡ before ++ y ∷ after → Found f xs before y after
 found f [] before after y e = absurd (not_empty before after y e)
-found f (x ∷ xs) [] after y e = record { front = []; item = x; rest = xs; is_split = refl; is_front = refl; is_item = cc }
+found f (x ∷ xs) [] after y e = record { front = []; item = x; rest = xs; is_split = refl; is_front = refl; is_item = cc; is_rest = cc }
 found f (x ∷ xs) (b ∷ bs) after y e = found_more f x xs b bs after y (cc) (found f xs bs after y (cc))
 
 -- The events that are left

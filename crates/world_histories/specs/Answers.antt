@@ -1,10 +1,12 @@
 -- What is right of the answers in histories: decisions and replies, as in the one run of all.
-use Rattle.std.specs.Prelude.{◌≡◌, ℕ, suc, Option, Some, None, List, [], ◌∷◌, ◌++◌, length, slice_get}
+use Rattle.std.specs.Prelude.{◌≡◌, ◌+◌, ◌⊎◌, ◌==◌, ℕ, suc, Bool, true, false, Option, Some, None, List, [], ◌∷◌, ◌++◌, length, slice_get, count_by}
 use mathlib.Core.List.{IsPrefix}
 use Rattle.table_replica.specs.declared.Op.{Op}
+use Rattle.monitor_messages.specs.declared.message.Vote.{Vote}
 use Rattle.monitor_messages.specs.declared.message.Decision.{Decision}
 use Rattle.world_model.specs.declared.event.Event.{Event}
-use Rattle.world_model.specs.declared.event.Event.TheVariants.{Submit}
+use Rattle.world_model.specs.declared.event.Event.TheVariants.{Submit, StartFor}
+use Rattle.world_model.specs.declared.event.Answer.TheVariants.{Prepared, Decided, TookVote}
 use Rattle.world_model.specs.Worlds.{World, version_at, Happens, Run}
 use Rattle.world_model.specs.Readings.{version_of, vote_of, Request, unsent, sent, numbered, settled, request_of}
 use Rattle.world_model.specs.Decisions.{DecidesRightly, StandsAt, IsEntered, RepliesRightly}
@@ -30,6 +32,23 @@ submitted_after known (s ∷ later) = submitted_after (submitted_with known s.do
 
 abbrev pub last_submitted : List Stamped → Option Op
 last_submitted events = submitted_after None events
+
+-- core 0 begins a request of the core with this event
+abbrev pub begins_for : ℕ → Event → Bool
+begins_for core (StartFor from) = from == core
+begins_for core event = false
+
+abbrev pub is_submit : Event → Bool
+is_submit (Submit core op) = true
+is_submit event = false
+
+-- how many requests of the core with this entry core 0 began with these events of its own
+abbrev pub begun_for : ℕ → List Stamped → ℕ
+begun_for entry events = count_by (λ s. begins_for (suc entry) s.done.event) events
+
+-- how many requests a core submitted with these events of its own
+abbrev pub submissions : List Stamped → ℕ
+submissions events = count_by (λ s. is_submit s.done.event) events
 
 -- what the events of all tell of a core is what the core's own tell
 pub record TellsOfCores (events : List Stamped) : Type 0 where
@@ -59,10 +78,33 @@ pub record InRun (budget : ℕ) (budgets : List ℕ) (core0 : List Stamped) (oth
   pub decides : DecidesRightly (as_listed earlier) world (listed s).event world' s.done.answer
   pub replies : RepliesRightly (as_listed earlier) world (listed s).event s.done.answer
 
--- A core that takes this decision as a Reply after these events takes the decision of the request that it submitted last. Where that
--- is committed, the request is that entry of the log, and the core stands exactly at its version.
-pub record Replied (log : List Op) (entry : ℕ) (before : List Stamped) (decision : Decision) : Type 0 where
+-- among these events of core 0 the votes on the number decide so
+pub record DecidesLater (events : List Stamped) (txn : ℕ) (decision : Decision) : Type 0 where
+  pub earlier : List Stamped
+  pub decides : Stamped
+  pub rest : List Stamped
+  pub is_among : events ≡ earlier ++ decides ∷ rest
+  pub v : Vote
+  pub is_decided : decides.done.answer ≡ TookVote txn v (Some decision)
+
+-- core 0's history begins a request for the core with this entry, after so many others for it, and decides it so
+pub record DecidedFor (core0 : List Stamped) (entry n : ℕ) (decision : Decision) : Type 0 where
+  pub earlier : List Stamped
+  pub begins : Stamped
+  pub rest : List Stamped
+  pub is_among : core0 ≡ earlier ++ begins ∷ rest
+  pub for_core : begins.done.event ≡ StartFor (suc entry)
+  pub nth : begun_for entry earlier ≡ n
+  pub decided : (begins.done.answer ≡ Decided decision) ⊎ ((txn : ℕ) × (begins.done.answer ≡ Prepared txn) × DecidesLater rest txn decision)
+
+-- A core that takes this decision as a Reply after these events takes the decision of its one request, the last that it submitted:
+-- core 0 begins the requests of a core in the order in which the core submits them, and has decided this one so. Where that is
+-- committed, the request is that entry of the log, and the core stands exactly at its version.
+pub record Replied (core0 : List Stamped) (log : List Op) (entry : ℕ) (before : List Stamped) (decision : Decision) : Type 0 where
   pub op : Op
   pub asked : last_submitted before ≡ Some op
+  pub others : ℕ
+  pub nth : submissions before ≡ others + 1
+  pub decided : DecidedFor core0 entry others decision
   pub entered : IsEntered log op decision
   pub stands : StandsAt (version_of (suc entry) (unstamped before)) decision

@@ -19,13 +19,15 @@ use Rattle.world_model.specs.Readings.{version_of, vote_of}
 use Rattle.world_model.specs.Decisions.{HasReason}
 use Rattle.world_histories.specs.declared.history.Stamped.{Stamped}
 use Rattle.world_histories.specs.Histories.{unstamped}
-use Rattle.world_histories.specs.Answers.{last_submitted}
+use Rattle.world_histories.specs.Answers.{last_submitted, begun_for, submissions}
 
--- the operation that core 0 begins with this event: its own, or the last that the core submitted in a front of its history
-abbrev pub Asked : List (List Stamped) → Event → Op → Type 0
-Asked others (Start started) op = op ≡ started
-Asked others (StartFor (suc entry)) op = (h : List Stamped) × (front : List Stamped) × (slice_get others entry ≡ Some h) × IsPrefix front h × (last_submitted front ≡ Some op)
-Asked others event op = ⊥
+-- The operation that core 0 begins with this event after these events of its own: one of its own, or the core's next that was
+-- not begun yet, the last that the core submitted in a front of its history.
+abbrev pub Asked : List (List Stamped) → List Stamped → Event → Op → Type 0
+Asked others before (Start started) op = op ≡ started
+Asked others before (StartFor (suc entry)) op = (h : List Stamped) × (front : List Stamped) × (slice_get others entry ≡ Some h) × IsPrefix front h
+    × (submissions front ≡ begun_for entry before + 1) × (last_submitted front ≡ Some op)
+Asked others before event op = ⊥
 
 -- among these events of core 0 is one that begins the operation under this number
 pub record BegunIn (others : List (List Stamped)) (before : List Stamped) (txn : ℕ) (op : Op) : Type 0 where
@@ -34,7 +36,7 @@ pub record BegunIn (others : List (List Stamped)) (before : List Stamped) (txn :
   pub rest : List Stamped
   pub is_among : before ≡ earlier ++ begins ∷ rest
   pub numbered : begins.done.answer ≡ Prepared txn
-  pub asked : Asked others begins.done.event op
+  pub asked : Asked others earlier begins.done.event op
 
 -- none of these events of core 0 gave out the number
 abbrev pub IsNew : List Stamped → ℕ → Type 0
@@ -71,8 +73,8 @@ VotesDecideIn budgets others log v txn op (Refused core why) = VetoedBy budgets 
 
 -- What core 0, which commits this log, answers to an event after these events of its own: v is the version that it has then.
 abbrev pub DecidesBy : ℕ → List ℕ → List (List Stamped) → List Op → List Stamped → ℕ → Event → Answer → Type 0
-DecidesBy budget budgets others log before v event (Prepared txn) = (op : Op) × Asked others event op × Allowed (table log v) budget op None × IsNew before txn
-DecidesBy budget budgets others log before v event (Decided decision) = (op : Op) × Asked others event op × DecidesAtOnce budget log v op decision
+DecidesBy budget budgets others log before v event (Prepared txn) = (op : Op) × Asked others before event op × Allowed (table log v) budget op None × IsNew before txn
+DecidesBy budget budgets others log before v event (Decided decision) = (op : Op) × Asked others before event op × DecidesAtOnce budget log v op decision
 DecidesBy budget budgets others log before v event (TookVote txn cast (Some decision)) = (op : Op) × BegunIn others before txn op × VotesDecideIn budgets others log v txn op decision
 DecidesBy budget budgets others log before v event answer = Unit {0}
 
