@@ -1,8 +1,8 @@
 -- What a text stands for keeps the limits of scripts.
-use Rattle.std.proofs.Common.{◌≡◌, ℕ, zero, suc, ◌+◌, ◌-◌, ◌^◌, ◌≤◌, eqb, Bool, true, false, not, if◌then◌else◌, List, [], ◌∷◌, ◌++◌, length, drop, Option, Some, None, Result, Ok, Err, refl, sym, ap, ◌∙◌, subst, inl, inr, arith, length-append, length-drop, append-nil, slice_get}
-use Rattle.std.specs.Prelude.{map, IfOk, nat_lt, option_and_then, unwrap_or, ◌||◌}
+use Rattle.std.proofs.Common.{◌≡◌, ℕ, zero, suc, ◌+◌, ◌-◌, ◌^◌, ◌≤◌, ◌<◌, eqb, Bool, true, false, not, if◌then◌else◌, List, [], ◌∷◌, ◌++◌, length, drop, Option, Some, None, Result, Ok, Err, refl, sym, ap, ◌∙◌, subst, inl, inr, arith, length-append, length-drop, append-nil, slice_get}
+use Rattle.std.specs.Prelude.{map, IfOk, codes, nat_lt, option_and_then, unwrap_or, ◌||◌}
 use Rattle.std.specs.Option.{ok_or}
-use Rattle.std.specs.List.{AllByRecursion, flat_map, list_any, before_first, after_first}
+use Rattle.std.specs.List.{AllByRecursion, AllZip, flat_map, list_any, before_first, after_first}
 use Rattle.std.specs.Str.{bytes_eq}
 use Rattle.std.proofs.lemmas.Bool.{cases_Bool}
 use Rattle.std.proofs.lemmas.Bool.Decides.{nat_tests}
@@ -11,7 +11,13 @@ use Rattle.std.proofs.lemmas.List.Elements.{All-from_recursion}
 use Rattle.bpf_insn.specs.declared.insn.Insn.{Insn}
 use Rattle.bpf_insn.specs.Texts.{words_of}
 use Rattle.filter_asm.proofs.FormedLemmas.{assembled_formed}
+use Rattle.filter_asm.specs.Program.{text_lines}
+use Rattle.hex.specs.Hex.{decode_of}
+use Rattle.hex.specs.declared.error.FromHexError.{FromHexError}
+use Rattle.hex.proofs.HexLemmas.{decode_of-ok}
+use Rattle.pcap_reader.specs.declared.capture.Header.{Header}
 use Rattle.pcap_reader.specs.declared.capture.Packet.{Packet}
+use Rattle.pcap_reader.specs.Savefile.{IsRecord, Reads}
 use Rattle.monitor_messages.specs.Coding.{HasShortProgram}
 use Rattle.table_replica.specs.declared.Op.{Op}
 use Rattle.table_replica.specs.declared.Op.TheVariants.{Create, Mint, Revoke, DropCap, Install, Remove, Replace}
@@ -26,14 +32,15 @@ use Rattle.mk_script.specs.declared.script.Item.{Item}
 use Rattle.mk_script.specs.declared.script.Item.TheVariants as item
 use Rattle.mk_script.specs.declared.script.Script.{Script}
 use Rattle.mk_script.specs.Bodies.{MeansAssembled, MeansDecimal, MeansCaptured, DraftMeans, DraftedMeans}
-use Rattle.mk_script.specs.Drafts.{Settings, Draft, Whole, Assembler, Decimal, Savefile, draft_of, file_of, is_file, has_cores, is_new, behind_word, optional_below, hex_bytes, may_stand, is_cores, core_limit, is_short, numbers_below, cores_draft, asm_draft, ddd_draft, packet_draft, capture_draft, home_draft, create_op, mint_op, rights_of, held, held_program, op_of, domain_of, request_draft, core_draft, take_draft, packet_at, floor_at, rx_draft, replayed, replay_draft, draft_by, script_draft, counted, job_at, is_rx_at, job_draft, event_by, event_draft, trace_draft, is_left, draft_in}
-use Rattle.mk_script.specs.Limits.{IsTakeOrRx, IsLimited, HasLimits}
-use Rattle.mk_script.specs.Meanings.{Meaning, Budgets, NamedProgram, NamedPacket, NamedCapture, Home, Does, Receives, Trace, Nothing, Known, Jobs, Counted, Named, known, named, budgets_in, programs_in, jobs_in, items_in, items_of, is_traced, jobs_behind}
-use Rattle.mk_script.specs.Rows.{command_of, event_of}
+use Rattle.mk_script.specs.Drafts.{Settings, Draft, Whole, Assembler, Decimal, Savefile, draft_of, file_of, is_file, has_cores, is_new, behind_word, optional_below, bytes_or_fault, hex_bytes, may_stand, is_cores, core_limit, is_short, numbers_below, cores_draft, asm_draft, ddd_draft, packet_draft, capture_draft, home_draft, create_op, mint_op, rights_of, held, held_program, op_of, domain_of, request_draft, core_draft, take_draft, packet_number, packet_of, packet_at, floor_at, rx_draft, replayed, replay_draft, draft_by, script_draft, counted, job_at, is_rx_at, job_draft, event_by, event_draft, trace_draft, is_left, draft_in}
+use Rattle.mk_script.specs.Limits.{IsShortPacket, IsTakeOrRx, IsLimited, HasLimits}
+use Rattle.mk_script.specs.Meanings.{Meaning, Budgets, NamedProgram, NamedPacket, NamedCapture, Home, Does, Receives, Trace, Nothing, Known, Jobs, Counted, Named, known, named, budgets_in, programs_in, packets_in, captures_in, jobs_in, items_in, items_of, is_traced, jobs_behind}
+use Rattle.mk_script.specs.Rows.{before_dot, command_of, event_of}
 use Rattle.mk_script.specs.Scripts.{MeanBehind, Stands, script_of}
-use Rattle.mk_script.specs.Statements.{Statement, statements}
+use Rattle.mk_script.specs.Statements.{Statement, Opened, opened, longer, is_skipped, opens_block, is_end, statements_from, statements}
 use Rattle.mk_script.specs.Words.{◌>>=◌, check, word_at, whole_number, number_below}
 use Rattle.mk_script.proofs.RowLemmas.{cores_few}
+use Rattle.mk_script.proofs.WordLemmas.{AllShort, word_short, lines_short}
 
 -- Steps that succeeded
 
@@ -63,10 +70,34 @@ each_append : {X : Type 0} (P : X → Type 0) (xs ys : List X) → AllByRecursio
 each_append P [] ys all others = others
 each_append P (x ∷ xs) ys all others = (all.0, each_append P xs ys all.1 others)
 
+-- one that is found is one of them
+found_all : {X : Type 0} (P : X → Type 0) (xs : List X) (n : ℕ) (x : X) → AllByRecursion P xs → slice_get xs n ≡ Some x → P x
+found_all P [] n x all e = absurd (cc)
+found_all P (y ∷ xs) zero x all e = let same : y ≡ x = cc in subst P same all.0
+found_all P (y ∷ xs) (suc n) x all e = found_all P xs n x all.1 e
+
+counted_all : {X : Type 0} (P : X → Type 0) (xs : List X) (number : ℕ) (x : X) → AllByRecursion P xs → counted xs number ≡ Some x → P x
+counted_all P xs number x all e = elim (cases_Bool (eqb number 0)) [
+  | inl none ↦ let never = rw none at e in absurd (cc)
+  | inr some ↦ let there = rw some at e in found_all P xs (number - 1) x all there
+]
+
+named_all : {X : Type 0} (P : X → Type 0) (names : List (List ℕ × X)) (name : List ℕ) (x : X) → AllByRecursion (λ d. P d.1) names → named names name ≡ Some x → P x
+named_all P [] name x all e = absurd (cc)
+named_all P (d ∷ names) name x all e = elim (cases_Bool (bytes_eq name d.0)) [
+  | inl here ↦ let is = rw here at e in let same : d.1 ≡ x = cc in subst P same all.0
+  | inr further ↦ let rest = rw further at e in named_all P names name x all.1 rest
+]
+
 -- Meanings within the limits
 
+abbrev IsShortProgram : List Insn → Type 0
+IsShortProgram program = length program ≤ 4096
+
 abbrev IsWithin : Meaning → Type 0
-IsWithin (NamedProgram name program) = length program ≤ 4096
+IsWithin (NamedProgram name program) = IsShortProgram program
+IsWithin (NamedPacket name packet) = IsShortPacket packet
+IsWithin (NamedCapture name packets) = AllByRecursion IsShortPacket packets
 IsWithin (Does item) = IsLimited item
 IsWithin (Receives events) = AllByRecursion IsTakeOrRx events
 IsWithin meaning = Unit {0}
@@ -77,8 +108,13 @@ IsFirst k (Budgets budgets) = (length k.budgets ≡ 0) × (length budgets ≤ 8)
 IsFirst k meaning = Unit {0}
 
 -- what is known is within the limits
-abbrev AreShort : (List ℕ → Option (List Insn)) → Type 0
-AreShort programs = (name : List ℕ) (program : List Insn) → programs name ≡ Some program → length program ≤ 4096
+abbrev AreAll : {X : Type 0} → (X → Type 0) → (List ℕ → Option X) → Type 0
+AreAll {X} P names = (name : List ℕ) (x : X) → names name ≡ Some x → P x
+
+record AreShort (k : Known) : Type 0 where
+  pub programs : AreAll IsShortProgram k.programs
+  pub packets : AreAll IsShortPacket k.packets
+  pub captures : AreAll (AllByRecursion IsShortPacket) k.captures
 
 abbrev AreReceived : Jobs → Type 0
 AreReceived (Counted received) = Unit {0}
@@ -111,7 +147,7 @@ held_short words make op short e =
     let both = bound (held words) (λ h. Ok (make h.0 h.1)) op e in
     subst HasShortProgram (same_ok (make both.value.0 both.value.1) op both.next) (short both.value.0 both.value.1)
 
-program_short : (k : Known) (words : List (List ℕ)) (make : ℕ → ℕ → List Insn → Op) (op : Op) → AreShort k.programs
+program_short : (k : Known) (words : List (List ℕ)) (make : ℕ → ℕ → List Insn → Op) (op : Op) → AreAll IsShortProgram k.programs
     → ((domain id : ℕ) (program : List Insn) → length program ≤ 4096 → HasShortProgram (make domain id program))
     → (held_program k words >>= λ h. Ok (make h.0 h.1 h.2)) ≡ Ok op → HasShortProgram op
 unfolding held_program
@@ -124,7 +160,7 @@ program_short k words make op short made e =
     let same : length program.value ≡ length all.value.2 = ap (λ (h : ℕ × ℕ × List Insn). length h.2) is in
     subst HasShortProgram (same_ok (make all.value.0 all.value.1 all.value.2) op all.next) (made all.value.0 all.value.1 all.value.2 (omega (arith, same, few)))
 
-op_short : (k : Known) (words : List (List ℕ)) (c : Command) (op : Op) → AreShort k.programs → op_of k words c ≡ Ok op → HasShortProgram op
+op_short : (k : Known) (words : List (List ℕ)) (c : Command) (op : Op) → AreAll IsShortProgram k.programs → op_of k words c ≡ Ok op → HasShortProgram op
 op_short k words command.Create op short e = create_short words op e
 op_short k words command.Mint op short e = mint_short words op e
 op_short k words command.Revoke op short e = held_short words (λ d i. Revoke d i) op (λ d i. tt) e
@@ -134,7 +170,7 @@ op_short k words command.Remove op short e = held_short words (λ d i. Remove d 
 op_short k words command.Replace op short e = program_short k words (λ d i p. Replace d i p) op short (λ d i p few. few) e
 op_short k words c op short e = absurd (cc)
 
-request_within : (k : Known) (words : List (List ℕ)) (c : Command) (d : Draft) → AreShort k.programs → request_draft k words c ≡ Ok d → IsDraftWithin k d
+request_within : (k : Known) (words : List (List ℕ)) (c : Command) (d : Draft) → AreAll IsShortProgram k.programs → request_draft k words c ≡ Ok d → IsDraftWithin k d
 unfolding request_draft
 request_within k words c d short e =
     let op = bound (op_of k words c) _ d e in
@@ -155,25 +191,43 @@ take_within k words short d e =
     let from = bound (number_below (2 ^ 16) (word_at words 2)) _ d to.next in
     subst (IsDraftWithin k) (same_ok (Whole (Does (item.Apply (Take to.value from.value short)))) d from.next) (tt, tt)
 
-rx_within : (s : Settings) (k : Known) (received : ℕ) (words : List (List ℕ)) (d : Draft) → rx_draft s k received words ≡ Ok d → IsDraftWithin k d
+and_then_some : {A B : Type 0} (f : A → Option B) (o : Option A) (y : B) → option_and_then f o ≡ Some y → (x : A) × (o ≡ Some x) × (f x ≡ Some y)
+and_then_some f None y e = absurd (cc)
+and_then_some f (Some x) y e = (x, refl, e)
+
+packet_known : (k : Known) (word : List ℕ) (number : Option ℕ) (packet : Packet) → AreShort k → packet_of k word number ≡ Some packet → IsShortPacket packet
+packet_known k word None packet short e = short.packets word packet e
+packet_known k word (Some number) packet short e =
+    let found = and_then_some (λ packets. counted packets number) (k.captures (before_dot word)) packet e in
+    counted_all IsShortPacket found.0 number packet (short.captures (before_dot word) found.0 found.1) found.2
+
+packet_short : (k : Known) (word : List ℕ) (packet : Packet) → AreShort k → packet_at k word ≡ Ok packet → IsShortPacket packet
+unfolding packet_at
+packet_short k word packet short e =
+    let number = bound (packet_number word) _ packet e in
+    packet_known k word number.value packet short (some_ok (packet_of k word number.value) NoName packet number.next)
+
+rx_within : (s : Settings) (k : Known) (received : ℕ) (words : List (List ℕ)) (d : Draft) → AreShort k → rx_draft s k received words ≡ Ok d → IsDraftWithin k d
 unfolding rx_draft
-rx_within s k received words d e =
+rx_within s k received words d short e =
     let core = bound (number_below (core_limit s k) (word_at words 1)) _ d e in
     let floor = bound (floor_at words 3) _ d core.next in
     let packet = bound (packet_at k (word_at words 2)) _ d floor.next in
-    subst (IsDraftWithin k) (same_ok (Whole (Receives (Rx core.value (received + 1) packet.value floor.value ∷ []))) d packet.next) ((tt, cc), tt)
+    subst (IsDraftWithin k) (same_ok (Whole (Receives (Rx core.value (received + 1) packet.value floor.value ∷ []))) d packet.next)
+    ((packet_short k (word_at words 2) packet.value short packet.gave, cc), tt)
 
-replayed_received : (cores received floor place : ℕ) (packets : List Packet) → AllByRecursion IsTakeOrRx (replayed cores received floor place packets)
-replayed_received cores received floor place [] = cc
-replayed_received cores received floor place (packet ∷ packets) = (tt, replayed_received cores received floor (place + 1) packets)
+replayed_received : (cores received floor place : ℕ) (packets : List Packet) → AllByRecursion IsShortPacket packets → AllByRecursion IsTakeOrRx (replayed cores received floor place packets)
+replayed_received cores received floor place [] all = cc
+replayed_received cores received floor place (packet ∷ packets) all = (all.0, replayed_received cores received floor (place + 1) packets all.1)
 
-replay_within : (k : Known) (received : ℕ) (words : List (List ℕ)) (d : Draft) → replay_draft k received words ≡ Ok d → IsDraftWithin k d
+replay_within : (k : Known) (received : ℕ) (words : List (List ℕ)) (d : Draft) → AreShort k → replay_draft k received words ≡ Ok d → IsDraftWithin k d
 unfolding replay_draft
-replay_within k received words d e =
+replay_within k received words d short e =
     let floor = bound (floor_at words 2) _ d e in
     let packets = bound (ok_or (k.captures (word_at words 1)) NoName) _ d floor.next in
+    let all = short.captures (word_at words 1) packets.value (some_ok (k.captures (word_at words 1)) NoName packets.value packets.gave) in
     subst (IsDraftWithin k) (same_ok (Whole (Receives (replayed (length k.budgets) received floor.value 0 packets.value))) d packets.next)
-    (replayed_received (length k.budgets) received floor.value 0 packets.value, tt)
+    (replayed_received (length k.budgets) received floor.value 0 packets.value all, tt)
 
 -- Definitions
 
@@ -211,13 +265,25 @@ ddd_within k words line d e =
     let new = bound (is_new (k.programs (word_at words 1))) _ d e in
     subst (IsDraftWithin k) (same_ok (Decimal (word_at words 1) (behind_word (behind_word line))) d new.next) tt
 
-packet_within : (k : Known) (words : List (List ℕ)) (d : Draft) → packet_draft k words ≡ Ok d → IsDraftWithin k d
+or_fault_ok : (r : Result (List ℕ) FromHexError) (bytes : List ℕ) → bytes_or_fault r ≡ Ok bytes → r ≡ Ok bytes
+or_fault_ok (Ok other) bytes e = cc
+or_fault_ok (Err fault) bytes e = absurd (cc)
+
+hex_short : (word bytes : List ℕ) → hex_bytes word ≡ Ok bytes → length bytes ≤ length word
+hex_short word bytes e = elim (cases_Bool (bytes_eq word (codes "-"))) [
+  | inl none ↦ let empty = rw none at e in let same : [] ≡ bytes = cc in omega (arith, ap length same)
+  | inr digits ↦ let decoded = rw digits at e in omega (arith, (decode_of-ok word bytes (or_fault_ok (decode_of word) bytes decoded)).2)
+]
+
+packet_within : (k : Known) (words : List (List ℕ)) (d : Draft) → length (word_at words 2) < 2 ^ 32 → packet_draft k words ≡ Ok d → IsDraftWithin k d
 unfolding packet_draft
-packet_within k words d e =
+packet_within k words d few e =
     let original = bound (optional_below (2 ^ 32) words 3) _ d e in
     let new = bound (is_new (k.packets (word_at words 1))) _ d original.next in
     let bytes = bound (hex_bytes (word_at words 2)) _ d new.next in
-    subst (IsDraftWithin k) (same_ok (Whole (NamedPacket (word_at words 1) (record { bytes = bytes.value; original = unwrap_or original.value (length bytes.value) }))) d bytes.next) (tt, tt)
+    let short = hex_short (word_at words 2) bytes.value bytes.gave in
+    subst (IsDraftWithin k) (same_ok (Whole (NamedPacket (word_at words 1) (record { bytes = bytes.value; original = unwrap_or original.value (length bytes.value) }))) d bytes.next)
+    (omega (arith, short, few), tt)
 
 capture_within : (s : Settings) (k : Known) (words : List (List ℕ)) (d : Draft) → capture_draft s k words ≡ Ok d → IsDraftWithin k d
 unfolding capture_draft
@@ -234,46 +300,35 @@ home_within k words d e =
     let core = bound (number_below (length k.budgets) (word_at words 2)) _ d domain.next in
     subst (IsDraftWithin k) (same_ok (Whole (Home domain.value core.value)) d core.next) (tt, tt)
 
-by_within : (s : Settings) (k : Known) (received : ℕ) (words : List (List ℕ)) (line : List ℕ) (block : Option (List ℕ)) (c : Command) (d : Draft) → AreShort k.programs
+by_within : (s : Settings) (k : Known) (received : ℕ) (words : List (List ℕ)) (line : List ℕ) (block : Option (List ℕ)) (c : Command) (d : Draft) → AreShort k → length (word_at words 2) < 2 ^ 32
     → command_of s.threads words ≡ Some c → draft_by s k received words line block c ≡ Ok d → IsDraftWithin k d
-by_within s k received words line block command.Cores d short is e = cores_within s k words d is e
-by_within s k received words line block command.Asm d short is e = asm_within k words block d e
-by_within s k received words line block command.Ddd d short is e = ddd_within k words line d e
-by_within s k received words line block command.Packet d short is e = packet_within k words d e
-by_within s k received words line block command.Capture d short is e = capture_within s k words d e
-by_within s k received words line block command.Home d short is e = home_within k words d e
-by_within s k received words line block command.Start d short is e = subst (IsDraftWithin k) (same_ok (Whole (Does item.Begin)) d e) (tt, tt)
-by_within s k received words line block command.Submit d short is e = core_within k item.Submit words d (λ core. tt) e
-by_within s k received words line block command.StartFor d short is e = core_within k item.StartFor words d (λ core. tt) e
-by_within s k received words line block command.Take d short is e = take_within k words (nat_lt 3 (length words)) d e
-by_within s k received words line block command.Rx d short is e = rx_within s k received words d e
-by_within s k received words line block command.Replay d short is e = replay_within k received words d e
-by_within s k received words line block command.Settle d short is e = subst (IsDraftWithin k) (same_ok (Whole (Does item.Settle)) d e) (tt, tt)
-by_within s k received words line block command.Show d short is e = core_within k item.Show words d (λ core. tt) e
-by_within s k received words line block command.Trace d short is e = subst (IsDraftWithin k) (same_ok (Whole Trace) d e) (tt, tt)
-by_within s k received words line block c d short is e = request_within k words c d short e
+by_within s k received words line block command.Cores d short few is e = cores_within s k words d is e
+by_within s k received words line block command.Asm d short few is e = asm_within k words block d e
+by_within s k received words line block command.Ddd d short few is e = ddd_within k words line d e
+by_within s k received words line block command.Packet d short few is e = packet_within k words d few e
+by_within s k received words line block command.Capture d short few is e = capture_within s k words d e
+by_within s k received words line block command.Home d short few is e = home_within k words d e
+by_within s k received words line block command.Start d short few is e = subst (IsDraftWithin k) (same_ok (Whole (Does item.Begin)) d e) (tt, tt)
+by_within s k received words line block command.Submit d short few is e = core_within k item.Submit words d (λ core. tt) e
+by_within s k received words line block command.StartFor d short few is e = core_within k item.StartFor words d (λ core. tt) e
+by_within s k received words line block command.Take d short few is e = take_within k words (nat_lt 3 (length words)) d e
+by_within s k received words line block command.Rx d short few is e = rx_within s k received words d short e
+by_within s k received words line block command.Replay d short few is e = replay_within k received words d short e
+by_within s k received words line block command.Settle d short few is e = subst (IsDraftWithin k) (same_ok (Whole (Does item.Settle)) d e) (tt, tt)
+by_within s k received words line block command.Show d short few is e = core_within k item.Show words d (λ core. tt) e
+by_within s k received words line block command.Trace d short few is e = subst (IsDraftWithin k) (same_ok (Whole Trace) d e) (tt, tt)
+by_within s k received words line block c d short few is e = request_within k words c d short.programs e
 
-script_within : (s : Settings) (k : Known) (received : ℕ) (words : List (List ℕ)) (line : List ℕ) (block : Option (List ℕ)) (d : Draft) → AreShort k.programs
+script_within : (s : Settings) (k : Known) (received : ℕ) (words : List (List ℕ)) (line : List ℕ) (block : Option (List ℕ)) (d : Draft) → AreShort k → length (word_at words 2) < 2 ^ 32
     → script_draft s k received words line block ≡ Ok d → IsDraftWithin k d
 unfolding script_draft
-script_within s k received words line block d short e =
+script_within s k received words line block d short few e =
     let c = bound (ok_or (command_of s.threads words) BadLine) _ d e in
     let allowed = bound (check (may_stand k.acted block c.value) BadLine) _ d c.next in
     let ready = bound (check (is_cores c.value || has_cores k) NoCores) _ d allowed.next in
-    by_within s k received words line block c.value d short (some_ok (command_of s.threads words) BadLine c.value c.gave) ready.next
+    by_within s k received words line block c.value d short few (some_ok (command_of s.threads words) BadLine c.value c.gave) ready.next
 
 -- Traces
-
-found_received : (jobs : List Event) (n : ℕ) (event : Event) → AllByRecursion IsTakeOrRx jobs → slice_get jobs n ≡ Some event → IsTakeOrRx event
-found_received [] n event all e = absurd (cc)
-found_received (job ∷ jobs) zero event all e = let same : job ≡ event = cc in subst IsTakeOrRx same all.0
-found_received (job ∷ jobs) (suc n) event all e = found_received jobs n event all.1 e
-
-counted_received : (jobs : List Event) (number : ℕ) (event : Event) → AllByRecursion IsTakeOrRx jobs → counted jobs number ≡ Some event → IsTakeOrRx event
-counted_received jobs number event all e = elim (cases_Bool (eqb number 0)) [
-  | inl none ↦ let never = rw none at e in absurd (cc)
-  | inr some ↦ let there = rw some at e in found_received jobs (number - 1) event all there
-]
 
 -- a job that is of the core
 of_core : (core : ℕ) (found : Option Event) (event : Event) → option_and_then (job_at core) found ≡ Some event → found ≡ Some event
@@ -291,7 +346,7 @@ job_within k jobs words d all e =
     let found = option_and_then (job_at core.value) (counted jobs number.value) in
     let event = bound (ok_or found NoName) _ d number.next in
     let there = of_core core.value (counted jobs number.value) event.value (some_ok found NoName event.value event.gave) in
-    subst (IsDraftWithin k) (same_ok (Whole (Does (item.Apply event.value))) d event.next) (counted_received jobs number.value event.value all there, tt)
+    subst (IsDraftWithin k) (same_ok (Whole (Does (item.Apply event.value))) d event.next) (counted_all IsTakeOrRx jobs number.value event.value all there, tt)
 
 event_by_within : (k : Known) (jobs : List Event) (words rest : List (List ℕ)) (c : Command) (d : Draft) → AllByRecursion IsTakeOrRx jobs → event_by jobs words rest c ≡ Ok d → IsDraftWithin k d
 event_by_within k jobs words rest command.Start d all e = subst (IsDraftWithin k) (same_ok (Whole (Does item.Begin)) d e) (tt, tt)
@@ -317,10 +372,10 @@ trace_within k jobs line d all e = elim (cases_Bool (list_any (λ b. eqb b 58) l
   | inr left ↦ let of_left = rw left at e in left_within k line d of_left
 ]
 
-in_within : (s : Settings) (k : Known) (jobs : Jobs) (words : List (List ℕ)) (line : List ℕ) (block : Option (List ℕ)) (d : Draft) → AreShort k.programs → AreReceived jobs
+in_within : (s : Settings) (k : Known) (jobs : Jobs) (words : List (List ℕ)) (line : List ℕ) (block : Option (List ℕ)) (d : Draft) → AreShort k → length (word_at words 2) < 2 ^ 32 → AreReceived jobs
     → draft_in s k jobs words line block ≡ Ok d → IsDraftWithin k d
-in_within s k (Counted received) words line block d short received' e = script_within s k received words line block d short e
-in_within s k (Named jobs) words line block d short all e = trace_within k jobs line d all e
+in_within s k (Counted received) words line block d short few received' e = script_within s k received words line block d short few e
+in_within s k (Named jobs) words line block d short few all e = trace_within k jobs line d all e
 
 -- Meanings
 
@@ -332,8 +387,18 @@ decimal_within : (k : Known) (name text : List ℕ) (m : Meaning) → MeansDecim
 decimal_within k name text m (inl x) = let same = sym (same_ok m (NamedProgram name x.0) x.2) in subst (λ (m : Meaning). IsWithin m × IsFirst k m) same (x.1.short, tt)
 decimal_within k name text m (inr x) = let never = x.2 in absurd (cc)
 
+record_short : (big : Bool) (records : List (List ℕ)) (packets : List Packet) → AllZip (IsRecord big) records packets → AllByRecursion IsShortPacket packets
+record_short big [] [] each = cc
+record_short big [] (packet ∷ packets) each = absurd each
+record_short big (r ∷ records) [] each = absurd each
+record_short big (r ∷ records) (packet ∷ packets) each = (omega (arith, each.0.length_is, each.0.short), record_short big records packets each.1)
+
+reads_short : (bytes : List ℕ) (header : Option Header) (packets : List Packet) → Reads bytes header packets None → AllByRecursion IsShortPacket packets
+reads_short bytes None packets reads = absurd reads
+reads_short bytes (Some header) packets reads = record_short header.big reads.records packets reads.each
+
 captured_within : (k : Known) (name bytes : List ℕ) (m : Meaning) → MeansCaptured name bytes (Ok m) → IsWithin m × IsFirst k m
-captured_within k name bytes m (inl x) = let same = sym (same_ok m (NamedCapture name x.1) x.3) in subst (λ (m : Meaning). IsWithin m × IsFirst k m) same (tt, tt)
+captured_within k name bytes m (inl x) = let same = sym (same_ok m (NamedCapture name x.1) x.3) in subst (λ (m : Meaning). IsWithin m × IsFirst k m) same (reads_short bytes x.0 x.1 x.2, tt)
 captured_within k name bytes m (inr x) = let never = x.4 in absurd (cc)
 
 means_within : (s : Settings) (k : Known) (d : Draft) (m : Meaning) → IsDraftWithin k d → DraftMeans s d (Ok m) → IsWithin m × IsFirst k m
@@ -342,19 +407,33 @@ means_within s k (Assembler name text) m within means = assembled_within k name 
 means_within s k (Decimal name text) m within means = decimal_within k name text m means
 means_within s k (Savefile name number) m within means = captured_within k name (file_of s number) m means
 
-drafted_within : (s : Settings) (k : Known) (st : Statement) (d : Result Draft ScriptFaultKind) (m : Meaning) → AreShort k.programs → AreReceived k.jobs → draft_of s k st ≡ d → DraftedMeans s d (Ok m) → IsWithin m × IsFirst k m
-drafted_within s k st (Ok d) m short received e means = means_within s k d m (in_within s k k.jobs (words_of st.line) st.line st.block d short received e) means
-drafted_within s k st (Err fault) m short received e means = absurd (cc)
+drafted_within : (s : Settings) (k : Known) (st : Statement) (d : Result Draft ScriptFaultKind) (m : Meaning) → AreShort k → length st.line < 2 ^ 32 → AreReceived k.jobs → draft_of s k st ≡ d → DraftedMeans s d (Ok m) → IsWithin m × IsFirst k m
+drafted_within s k st (Ok d) m short few received e means = means_within s k d m (in_within s k k.jobs (words_of st.line) st.line st.block d short (omega (arith, few, word_short st.line 2)) received e) means
+drafted_within s k st (Err fault) m short few received e means = absurd (cc)
 
 -- What is known
 
-names_short : (given : List Meaning) → AllByRecursion IsWithin given → AreShort (named (flat_map programs_in given))
-names_short [] all name program e = absurd (cc)
-names_short (NamedProgram other found ∷ given) all name program e = elim (cases_Bool (bytes_eq name other)) [
-  | inl here ↦ let is = rw here at e in let same : found ≡ program = cc in rw (← same) all.0
-  | inr further ↦ let rest = rw further at e in names_short given all.1 name program rest
-]
-names_short (_ ∷ given) all name program e = names_short given all.1 name program e
+programs_short : (given : List Meaning) → AllByRecursion IsWithin given → AllByRecursion (λ d. IsShortProgram d.1) (flat_map programs_in given)
+programs_short [] all = cc
+programs_short (NamedProgram name program ∷ given) all = (all.0, programs_short given all.1)
+programs_short (_ ∷ given) all = programs_short given all.1
+
+packets_short : (given : List Meaning) → AllByRecursion IsWithin given → AllByRecursion (λ d. IsShortPacket d.1) (flat_map packets_in given)
+packets_short [] all = cc
+packets_short (NamedPacket name packet ∷ given) all = (all.0, packets_short given all.1)
+packets_short (_ ∷ given) all = packets_short given all.1
+
+captures_short : (given : List Meaning) → AllByRecursion IsWithin given → AllByRecursion (λ d. AllByRecursion IsShortPacket d.1) (flat_map captures_in given)
+captures_short [] all = cc
+captures_short (NamedCapture name packets ∷ given) all = (all.0, captures_short given all.1)
+captures_short (_ ∷ given) all = captures_short given all.1
+
+known_short : (given : List Meaning) → AllByRecursion IsWithin given → AreShort (known given)
+known_short given all = record {
+  programs = λ name x e. named_all IsShortProgram (flat_map programs_in given) name x (programs_short given all) e;
+  packets = λ name x e. named_all IsShortPacket (flat_map packets_in given) name x (packets_short given all) e;
+  captures = λ name x e. named_all (AllByRecursion IsShortPacket) (flat_map captures_in given) name x (captures_short given all) e;
+}
 
 jobs_received : (given : List Meaning) → AllByRecursion IsWithin given → AllByRecursion IsTakeOrRx (flat_map jobs_in given)
 jobs_received [] all = tt
@@ -385,6 +464,29 @@ items_limited traced (m ∷ given) all = each_append IsLimited (items_in traced 
 
 -- Lines, one after the other
 
+-- a statement's line is no longer than the text
+abbrev AreWithin : ℕ → List Statement → Type 0
+AreWithin n sts = AllByRecursion (λ st. length st.line ≤ n) sts
+
+abbrev IsOpenedWithin : ℕ → Option Opened → Type 0
+IsOpenedWithin n None = Unit {0}
+IsOpenedWithin n (Some o) = length o.line ≤ n
+
+statements_within : (n number : ℕ) (o : Option Opened) (lines : List (List ℕ)) → IsOpenedWithin n o → AllShort n lines → AreWithin n (statements_from number o lines)
+statements_within n number None [] own all = cc
+statements_within n number (Some o) [] own all = (own, cc)
+statements_within n number None (line ∷ lines) own all = elim (cases_Bool (is_skipped (words_of line))) [
+  | inl skipped ↦ rw skipped (statements_within n (number + 1) None lines tt all.1)
+  | inr stays ↦ elim (cases_Bool (opens_block (words_of line))) [
+    | inl opens ↦ rw (stays, opens) (statements_within n (number + 1) (Some (opened number line)) lines all.0 all.1)
+    | inr alone ↦ rw (stays, alone) (all.0, statements_within n (number + 1) None lines tt all.1)
+  ]
+]
+statements_within n number (Some o) (line ∷ lines) own all = elim (cases_Bool (is_end (words_of line))) [
+  | inl ends ↦ rw ends (own, statements_within n (number + 1) None lines tt all.1)
+  | inr goes ↦ rw goes (statements_within n (number + 1) (Some (longer o line)) lines own all.1)
+]
+
 record Kept (given : List Meaning) : Type 0 where
   pub each : AllByRecursion IsWithin given
   pub few : length (flat_map budgets_in given) ≤ 8
@@ -399,12 +501,12 @@ kept_more given m kept both = record {
   few = subst (λ (l : List ℕ). length l ≤ 8) (sym (flat_map-append budgets_in given (m ∷ []) ∙ ap (λ l. flat_map budgets_in given ++ l) (append-nil (budgets_in m)))) (budgets_few given m kept.few both.1);
 }
 
-behind_kept : (s : Settings) (given : List Meaning) (sts : List Statement) (meanings : List Meaning) → Kept given → MeanBehind s given sts (Ok meanings) → Kept meanings
-behind_kept s given [] meanings kept e = subst Kept (sym (same_ok meanings given e)) kept
-behind_kept s given (st ∷ sts) meanings kept (inl x) =
-    behind_kept s (given ++ x.0 ∷ []) sts meanings
-    (kept_more given x.0 kept (drafted_within s (known given) st (draft_of s (known given) st) x.0 (names_short given kept.each) (behind_received given kept.each) refl x.1)) x.2
-behind_kept s given (st ∷ sts) meanings kept (inr x) = let never = x.2 in absurd (cc)
+behind_kept : (s : Settings) (n : ℕ) (given : List Meaning) (sts : List Statement) (meanings : List Meaning) → n < 2 ^ 32 → AreWithin n sts → Kept given → MeanBehind s given sts (Ok meanings) → Kept meanings
+behind_kept s n given [] meanings few within kept e = subst Kept (sym (same_ok meanings given e)) kept
+behind_kept s n given (st ∷ sts) meanings few within kept (inl x) =
+    let means = drafted_within s (known given) st (draft_of s (known given) st) x.0 (known_short given kept.each) (omega (arith, few, within.0)) (behind_received given kept.each) refl x.1 in
+    behind_kept s n (given ++ x.0 ∷ []) sts meanings few within.1 (kept_more given x.0 kept means) x.2
+behind_kept s n given (st ∷ sts) meanings few within kept (inr x) = let never = x.2 in absurd (cc)
 
 some_budgets : (k : Known) → has_cores k ≡ true → 1 ≤ length k.budgets
 some_budgets k e = grind (arith, nat_tests)
@@ -419,13 +521,16 @@ script_limited given script kept e = elim (cases_Bool (has_cores (known given)))
   | inr none ↦ let never = rw none at e in absurd (cc)
 ]
 
-by_meanings : (s : Settings) (text : List ℕ) (meanings : Result (List Meaning) ScriptFault) (script : Script) → MeanBehind s [] (statements text) meanings → Ok script ≡ script_of meanings → HasLimits script
-by_meanings s text (Ok given) script means e = script_limited given script (behind_kept s [] (statements text) given (record { each = tt; few = omega arith }) means) e
-by_meanings s text (Err fault) script means e = absurd (cc)
+by_meanings : (s : Settings) (text : List ℕ) (meanings : Result (List Meaning) ScriptFault) (script : Script) → length text < 2 ^ 32
+    → MeanBehind s [] (statements text) meanings → Ok script ≡ script_of meanings → HasLimits script
+by_meanings s text (Ok given) script few means e =
+    let within = statements_within (length text) 1 None (text_lines text) tt (lines_short text) in
+    script_limited given script (behind_kept s (length text) [] (statements text) given few within (record { each = cc; few = omega arith }) means) e
+by_meanings s text (Err fault) script few means e = absurd (cc)
 
-has_limits : (s : Settings) (text : List ℕ) (script : Script) → Stands s text (Ok script) → HasLimits script
-has_limits s text script stands = by_meanings s text stands.0 script stands.1 stands.2
+has_limits : (s : Settings) (text : List ℕ) (script : Script) → length text < 2 ^ 32 → Stands s text (Ok script) → HasLimits script
+has_limits s text script few stands = by_meanings s text stands.0 script few stands.1 stands.2
 
-pub limits_from : (s : Settings) (text : List ℕ) (r : Result Script ScriptFault) → IfOk r (λ p. Stands s text (Ok p)) → IfOk r HasLimits
-limits_from s text (Ok script) found = has_limits s text script found
-limits_from s text (Err fault) found = tt
+pub limits_from : (s : Settings) (text : List ℕ) (r : Result Script ScriptFault) → length text < 2 ^ 32 → IfOk r (λ p. Stands s text (Ok p)) → IfOk r HasLimits
+limits_from s text (Ok script) few found = has_limits s text script few found
+limits_from s text (Err fault) few found = tt

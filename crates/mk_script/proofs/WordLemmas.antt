@@ -1,13 +1,14 @@
--- The words of a line are no longer than the line.
-use Rattle.std.proofs.Common.{ℕ, zero, suc, ◌≤◌, Bool, List, [], ◌∷◌, length, inl, inr, arith}
+-- The lines of a text are no longer than the text, and the words of a line no longer than the line.
+use Rattle.std.proofs.Common.{ℕ, zero, suc, ◌≤◌, Bool, List, [], ◌∷◌, length, inl, inr, arith, eqb}
 use Rattle.std.specs.Prelude.{filter}
 use Rattle.std.specs.List.{slice_split, onto_first}
 use Rattle.std.proofs.lemmas.Bool.{cases_Bool}
 use Rattle.std.proofs.lemmas.List.Splits.{slice_split-cons_yes, slice_split-cons_no}
 use Rattle.bpf_insn.specs.Texts.{is_blank, words_of}
+use Rattle.filter_asm.specs.Program.{ended, text_lines}
 use Rattle.mk_script.specs.Words.{word_at}
 
-abbrev AllShort : ℕ → List (List ℕ) → Type 0
+abbrev pub AllShort : ℕ → List (List ℕ) → Type 0
 AllShort n [] = Unit {0}
 AllShort n (w ∷ ws) = (length w ≤ n) × AllShort n ws
 
@@ -25,6 +26,14 @@ split_short p (x ∷ xs) = elim (cases_Bool (p x)) [
   | inl yes' ↦ rw (slice_split-cons_yes p x xs yes') (omega arith, longer_short (length xs) (slice_split p xs) (split_short p xs))
   | inr no' ↦ rw (slice_split-cons_no p x xs no') (onto_short (length xs) x (slice_split p xs) (split_short p xs))
 ]
+
+ended_short : (n : ℕ) (lines : List (List ℕ)) → AllShort n lines → AllShort n (ended lines)
+ended_short n [] h = tt
+ended_short n (last ∷ []) h = elim (cases_Bool (eqb (length last) 0)) [ inl empty ↦ rw empty tt | inr some ↦ rw some h ]
+ended_short n (line ∷ next ∷ lines) h = (h.0, ended_short n (next ∷ lines) h.1)
+
+pub lines_short : (text : List ℕ) → AllShort (length text) (text_lines text)
+lines_short text = ended_short (length text) (slice_split (λ b. eqb b 10) text) (split_short (λ b. eqb b 10) text)
 
 filter_short : (p : List ℕ → Bool) (n : ℕ) (ws : List (List ℕ)) → AllShort n ws → AllShort n (filter p ws)
 filter_short p n [] h = tt

@@ -1,18 +1,22 @@
--- What a script is limited to, whatever its text says: the machine takes 1 to 8 cores, and a message carries a program of
--- 4,096 instructions at most.
-use Rattle.std.specs.Prelude.{◌≤◌, length}
+-- What a script is limited to, whatever its text says: the machine takes 1 to 8 cores, a message carries a program of
+-- 4,096 instructions at most, and a packet's captured length is a number of 32 bits.
+use Rattle.std.specs.Prelude.{◌≤◌, ◌<◌, ◌^◌, length}
 use Rattle.std.specs.List.{All}
 use Rattle.monitor_messages.specs.Coding.{HasShortProgram}
+use Rattle.pcap_reader.specs.declared.capture.Packet.{Packet}
 use Rattle.world_model.specs.declared.event.Event.{Event}
 use Rattle.world_model.specs.declared.event.Event.TheVariants.{Take, Rx}
 use Rattle.mk_script.specs.declared.script.Item.{Item}
 use Rattle.mk_script.specs.declared.script.Item.TheVariants.{Ask, Apply}
 use Rattle.mk_script.specs.declared.script.Script.{Script}
 
--- a message is taken, or a packet is received
+abbrev pub IsShortPacket : Packet → Type 0
+IsShortPacket packet = length packet.bytes < 2 ^ 32
+
+-- a message is taken, or a packet is received that is short enough
 abbrev pub IsTakeOrRx : Event → Type 0
 IsTakeOrRx (Take to from short) = Unit {0}
-IsTakeOrRx (Rx core number packet floor) = Unit {0}
+IsTakeOrRx (Rx core number packet floor) = IsShortPacket packet
 IsTakeOrRx event = ⊥
 
 -- a request's program is short enough, and no other event than these is done as it is

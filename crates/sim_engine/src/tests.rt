@@ -2,6 +2,7 @@
 
 mod captures;
 mod devices;
+mod memory;
 mod protocol;
 mod refused;
 mod runs;

@@ -3,7 +3,7 @@
 use super::runs::shows;
 
 /// Scripts, and what they show.
-const SCRIPTS: [(&str, &str); 5] = [
+pub const SCRIPTS: [(&str, &str); 5] = [
     // The greatest verdict says how many bytes an endpoint gets.
     (
         "cores 10\n\

@@ -11,7 +11,7 @@ pub returns-clause-one : goal.returns-clause-one
 returns-clause-one c = one_outcome (settings c.args.files.now c.args.threads) c.are_files.ensures c.args.text.now
 
 pub returns-clause-limits : goal.returns-clause-limits
-returns-clause-limits c = limits_from (settings c.args.files.now c.args.threads) c.args.text.now c.script.result c.script.ensures.found
+returns-clause-limits c = limits_from (settings c.args.files.now c.args.threads) c.args.text.now c.script.result c.requires c.script.ensures.found
 
 pub returns-clause-only : goal.returns-clause-only
 returns-clause-only c = only_from (settings c.args.files.now c.args.threads) c.are_files.ensures c.args.text.now c.script.result c.script.ensures.found c.script.ensures.refused
