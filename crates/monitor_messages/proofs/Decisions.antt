@@ -1,5 +1,5 @@
 -- A decision that is read is the one that was written, and what was written is read again.
-use Rattle.std.proofs.Common.{◌≡◌, ℕ, zero, ◌==◌, ◌^◌, ◌<◌, ◌≤◌, ◌||◌, Bool, true, false, cond, leb, List, [], ◌∷◌, ◌++◌, Option, Some, None, refl, sym, ap, subst, ◌∙◌, arith}
+use Rattle.std.proofs.Common.{◌≡◌, ℕ, ◌==◌, ◌^◌, ◌<◌, ◌≤◌, ◌||◌, Bool, true, false, cond, leb, List, [], ◌∷◌, ◌++◌, Some, None, refl, sym, ap, subst, ◌∙◌, arith}
 use Rattle.std.specs.Int.{w16, w32, w64, to_le_bytes}
 use Rattle.std.proofs.lemmas.Bool.{eqb-true}
 use Rattle.std.proofs.lemmas.Bool.Decides.{nat_tests}
@@ -15,7 +15,7 @@ use Rattle.monitor_messages.specs.declared.message.Decision.TheVariants.{Committ
 use Rattle.monitor_messages.specs.declared.message.Message.TheVariants.{Reply}
 use Rattle.monitor_messages.specs.Coding.{fault_bytes, veto_bytes, made_bytes, decision_bytes, IsFault, IsVeto, IsMade, IsDecision, IsNumbered}
 use Rattle.monitor_messages.specs.Reading.{◌>>=◌, choose, ended, u8_at, u16_at, u64_at, last_u16, last_u32, fault_rows, plain_fault, bad_program_in, fault_in, veto_rows, veto_in, made_rows, made_in, committed_in, refused_in, decision_in}
-use Rattle.monitor_messages.proofs.Numbers.{IsBytes, bind_some, by_rows, ◌⨾◌, Takes, ended_some, u8_takes, u16_takes, u64_takes, u16_again, u64_again, last_u16_takes, last_u32_takes, last_u16_again, last_u32_again}
+use Rattle.monitor_messages.proofs.Numbers.{IsBytes, bind_some, by_rows, ◌⨾◌, ended_some, u8_takes, u16_takes, u64_takes, u16_again, u64_again, last_u16_takes, last_u32_takes, last_u16_again, last_u32_again}
 
 -- a rule of the verifier, where the fault tells one
 abbrev pub HasNumber : OpFault → Type 0

@@ -1,7 +1,6 @@
 -- How many bytes a message has.
-use Rattle.std.proofs.Common.{◌≡◌, ℕ, ◌+◌, ◌*◌, ◌<◌, ◌≤◌, List, [], ◌∷◌, ◌++◌, length, refl, arith, length-append}
+use Rattle.std.proofs.Common.{◌≡◌, ℕ, ◌*◌, ◌<◌, ◌≤◌, List, [], ◌∷◌, length, refl, arith}
 use Rattle.std.specs.List.{flat_map}
-use Rattle.std.specs.Int.{w16, w32, w64, to_le_bytes}
 use Rattle.bpf_insn.specs.declared.insn.Insn.{Insn}
 use Rattle.bpf_insn.specs.Table.{bytes_of}
 use Rattle.table_replica.specs.declared.Op.{Op}
@@ -16,7 +15,7 @@ use Rattle.monitor_messages.specs.declared.message.Decision.{Decision}
 use Rattle.monitor_messages.specs.declared.message.Decision.TheVariants.{Committed, Refused}
 use Rattle.monitor_messages.specs.declared.message.Message.{Message}
 use Rattle.monitor_messages.specs.declared.message.Message.TheVariants as message
-use Rattle.monitor_messages.specs.Coding.{program_bytes, op_bytes, fault_bytes, veto_bytes, made_bytes, decision_bytes, coded, HasShortProgram, IsShort}
+use Rattle.monitor_messages.specs.Coding.{op_bytes, fault_bytes, veto_bytes, made_bytes, decision_bytes, coded, HasShortProgram, IsShort}
 
 insns_length : (program : List Insn) → length (flat_map bytes_of program) ≡ 8 * length program
 insns_length [] = refl

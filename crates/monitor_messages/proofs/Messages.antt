@@ -1,5 +1,5 @@
 -- The two laws: what is read is spelled so, and what is spelled so is read.
-use Rattle.std.proofs.Common.{◌≡◌, ℕ, ◌^◌, ◌<◌, List, [], ◌∷◌, ◌++◌, Option, Some, None, Result, Ok, Err, refl, sym, ap, subst, ◌∙◌}
+use Rattle.std.proofs.Common.{◌≡◌, ℕ, ◌^◌, ◌<◌, List, [], ◌∷◌, ◌++◌, Option, Some, Result, Ok, Err, refl, sym, ap, subst, ◌∙◌}
 use Rattle.std.specs.Prelude.{IfOk, MatchResult}
 use Rattle.std.specs.Int.{w64, to_le_bytes}
 use Rattle.std.proofs.lemmas.Option.{same_Some}
@@ -11,7 +11,7 @@ use Rattle.monitor_messages.specs.declared.message.Message.{Message}
 use Rattle.monitor_messages.specs.declared.message.Message.TheVariants as message
 use Rattle.monitor_messages.specs.Coding.{vote_number, op_bytes, decision_bytes, coded, Coded, IsMessage, IsShort, IsNumbered}
 use Rattle.monitor_messages.specs.Reading.{◌>>=◌, Gives, choose, u8_at, u64_at, last_u8, last_u64, op_in, decision_in, prepare_in, vote_rows, vote_in, body_rows, body_of, message_in}
-use Rattle.monitor_messages.proofs.Numbers.{IsBytes, bind_some, by_rows, ◌⨾◌, Takes, u8_takes, u64_takes, u64_again, last_u8_takes, last_u8_again, last_u64_takes, last_u64_again}
+use Rattle.monitor_messages.proofs.Numbers.{IsBytes, bind_some, by_rows, ◌⨾◌, u8_takes, u64_takes, u64_again, last_u8_takes, last_u8_again, last_u64_takes, last_u64_again}
 use Rattle.monitor_messages.proofs.Operations.{op_takes, op_again}
 use Rattle.monitor_messages.proofs.Decisions.{decision_takes, decision_again}
 

@@ -1,9 +1,9 @@
 -- Programs as bytes, one instruction after the other.
-use Rattle.std.proofs.Common.{◌≡◌, ℕ, ◌++◌, ◌<◌, ◌+◌, List, [], ◌∷◌, length, take, slice_index_or, ap, sym, refl, ◌∙◌, append_assoc, arith, below_more}
+use Rattle.std.proofs.Common.{◌≡◌, ℕ, ◌++◌, ◌<◌, ◌+◌, List, [], ◌∷◌, length, take, slice_index_or, ap, refl, ◌∙◌, append_assoc}
 use Rattle.std.specs.List.{flat_map}
 use Rattle.std.proofs.lemmas.List.{take_more, append-nil}
 use Rattle.std.proofs.lemmas.List.Concat.{flat_map-append}
-use Rattle.bpf_insn.specs.Table.{InRange, bytes_of}
+use Rattle.bpf_insn.specs.Table.{bytes_of}
 use Rattle.bpf_insn.specs.declared.insn.Insn.{Insn}
 
 more_insns : (code : List Insn) (i : ℕ) (d : Insn) → i < length code → flat_map bytes_of (take (i + 1) code) ≡ flat_map bytes_of (take i code) ++ bytes_of (slice_index_or code i d)

@@ -13,7 +13,6 @@ use Rattle.table_replica.specs.declared.Made.{Made}
 use Rattle.table_replica.specs.declared.Made.TheVariants as made_variants
 use Rattle.monitor_messages.specs.declared.fault.DecodeFault.{DecodeFault}
 use Rattle.monitor_messages.specs.declared.fault.DecodeFault.TheVariants as faults
-use Rattle.monitor_messages.specs.declared.message.Vote.{Vote}
 use Rattle.monitor_messages.specs.declared.message.Vote.TheVariants as vote
 use Rattle.monitor_messages.specs.declared.message.Veto.{Veto}
 use Rattle.monitor_messages.specs.declared.message.Veto.TheVariants as veto
