@@ -1,9 +1,9 @@
 //! `dump`: prints what a capture holds.
 
-ghost use Rattle.std.specs.Prelude.{◌≡◌, ◌≢◌, ◌++◌, ℕ, List, [], Option, Some, None, IfOk, IfErr, IsErrOf, OnOk, string_bytes};
+ghost use Rattle.std.specs.Prelude.{◌≡◌, ◌++◌, ℕ, List, Option, Some, IfOk, IfErr, IsErrOf, OnOk, string_bytes};
 ghost use Rattle.std.specs.Io.KnownBytes.{Appends};
 ghost use Rattle.console.specs.Reading.{BeginsWith, IsInput};
-ghost use Rattle.console.specs.Faults.{fault_line, fault_status};
+ghost use Rattle.console.specs.Faults.{fault_status};
 ghost use Rattle.console.specs.Matching.{IsEngineFault, IsPrintFault};
 ghost use Rattle.console.specs.Dumping.{ShowsDump, ShowsDumpPart, digits, dump_text, header_line, packet_line};
 

@@ -3,7 +3,7 @@ ghost use Rattle.std.specs.Prelude.{◌≡◌, ◌==◌, ◌+◌, ◌<◌, ◌++
 ghost use Rattle.std.specs.List.{list_any};
 ghost use Rattle.std.specs.Option.{option_copied, ForSome};
 ghost use Rattle.std.specs.Result.{result_err};
-ghost use Rattle.endpoint_caps.specs.Capabilities.{no_caps, cap_at, created, minted_from, revoked, dropped, first, holder_tests, right_tests, room_tests, create_tests, mint_tests, is_within, has_right, is_under, Refused};
+ghost use Rattle.endpoint_caps.specs.Capabilities.{no_caps, cap_at, created, minted_from, revoked, dropped, first, holder_tests, right_tests, room_tests, create_tests, mint_tests, is_within, is_under, Refused};
 ghost use Rattle.endpoint_caps.specs.Capabilities.{is_some_and};
 ghost use Rattle.endpoint_caps.specs.Capabilities.{IdsBetween, ParentsHeld, IsRevoked, IsDropped};
 ghost use Rattle.endpoint_caps.specs.Keeping.{caps_of, IsKept};

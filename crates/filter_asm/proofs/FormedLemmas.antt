@@ -1,11 +1,10 @@
 -- An assembled program has at most 4,096 instructions, and each has the code of a form.
-use Rattle.std.proofs.Common.{◌≡◌, ◌==◌, nat_lt, ℕ, zero, suc, ◌+◌, ◌<◌, ◌≤◌, Bool, true, false, ◌||◌, ◌&&◌, List, [], ◌∷◌, ◌++◌, length, Option, Some, None, Result, Ok, Err, is_some, add-zero, zero-add, length-append, refl, sym, ap, ◌∙◌, inl, inr, arith}
-use Rattle.std.specs.Prelude.{map, option_map, slice_get}
+use Rattle.std.proofs.Common.{◌≡◌, ◌==◌, nat_lt, ℕ, zero, suc, ◌+◌, ◌<◌, ◌≤◌, Bool, true, List, [], ◌∷◌, ◌++◌, length, Option, Some, None, Result, Ok, Err, is_some, refl, sym, ap, ◌∙◌, inl, inr, arith}
+use Rattle.std.specs.Prelude.{map, slice_get}
 use Rattle.std.specs.Option.{option_to_list, ok_or, option_map_or}
 use Rattle.std.specs.List.{find, list_all, list_any, flat_map}
 use Rattle.std.specs.Str.{bytes_eq}
 use Rattle.std.proofs.lemmas.Bool.{and_parts, cases_Bool}
-use Rattle.std.proofs.lemmas.List.{append-nil}
 use Rattle.bpf_insn.specs.declared.insn.Insn.{Insn}
 use Rattle.bpf_insn.specs.declared.form.Form.{Form}
 use Rattle.bpf_insn.specs.Table.{rows, look_up, form_of}
@@ -13,7 +12,7 @@ use Rattle.bpf_insn.specs.Program.{FormAt, form_at}
 use Rattle.filter_asm.specs.declared.fault.AsmFaultKind.{AsmFaultKind}
 use Rattle.filter_asm.specs.Operands.{Operands, operands_at}
 use Rattle.filter_asm.specs.Mnemonics.{Mnemonic, Shape, mnemonics, mnemonic_of, first_fit}
-use Rattle.filter_asm.specs.Program.{repeats, Line, Draft, Fault, ◌>>=◌, on_line, line_gives, drafts_from, drafts_of, instruction, instruction_of, instructions, instructions_in, definitions, value_of, room_behind, linked, linked_to, links, reach, short_reach, second_reach, place_of, assembled, Asm}
+use Rattle.filter_asm.specs.Program.{repeats, Line, Draft, on_line, line_gives, drafts_from, drafts_of, instruction, instruction_of, instructions, instructions_in, definitions, value_of, room_behind, linked, linked_to, links, reach, short_reach, second_reach, place_of, Asm}
 use Rattle.filter_asm.proofs.ProgramLemmas.{bind_ok, length-drafts_from}
 
 -- the codes that stand for a form

@@ -1,13 +1,13 @@
 //! Which scratch words are written before each instruction, over all paths.
 
-ghost use Rattle.std.specs.Prelude.{◌≡◌, ℕ, ◌+◌, ◌<◌, ◌≤◌, ◌⊎◌, ◌↔◌, ◌∷◌, [], List, Some, length, vec_len, IsTrue, OnOk, IfOk, IfErr};
+ghost use Rattle.std.specs.Prelude.{◌≡◌, ℕ, ◌+◌, ◌<◌, ◌≤◌, ◌↔◌, Some, length, IsTrue, OnOk, IfOk, IfErr};
 ghost use Rattle.bpf_insn.specs.Program.{FormAt, LeadsTo};
 ghost use Rattle.filter_verify.specs.Exits.{StoresForm};
 ghost use Rattle.filter_verify.specs.Kept.{IsKept};
 ghost use Rattle.filter_verify.specs.Flows.{Flows, IsAfter, IsSettled, LacksAt, Narrows, PassesBy};
-ghost use Rattle.filter_verify.specs.Paths.{IsUnwritten, LoadsWord, StoresWord, Successor};
+ghost use Rattle.filter_verify.specs.Paths.{IsUnwritten, LoadsWord};
 ghost use Rattle.filter_verify.specs.Rules.{IsWellShaped, Refuses};
-ghost use Rattle.filter_verify.specs.Words.{HasWord, LacksWord};
+ghost use Rattle.filter_verify.specs.Words.{LacksWord};
 
 use crate::flow::{Exit, exit_of, loaded_word, stored_word, stores};
 use crate::path::Places;

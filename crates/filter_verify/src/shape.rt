@@ -1,7 +1,7 @@
 //! The rules on a program's size, on each instruction, and on its end.
 
-ghost use Rattle.std.specs.Prelude.{◌≡◌, ℕ, ◌<◌, ◌≤◌, ◌⊎◌, length, IfErr, OnOk, IsTrue};
-ghost use Rattle.bpf_insn.specs.Program.{FormAt, form_at, JumpsTo};
+ghost use Rattle.std.specs.Prelude.{ℕ, ◌<◌, ◌≤◌, length, IfErr, OnOk, IsTrue};
+ghost use Rattle.bpf_insn.specs.Program.{FormAt, JumpsTo};
 ghost use Rattle.filter_verify.specs.Rules.{BreaksAt, EndsInReturn, IsFine, IsReturn, IsWellShaped, Refuses};
 
 use crate::flow::{Exit, exit_of};

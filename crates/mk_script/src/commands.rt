@@ -1,22 +1,19 @@
 //! What the words of a command ask for.
 
-ghost use Rattle.std.specs.Prelude.{◌≡◌, ◌≤◌, ◌<◌, ◌==◌, ◌^◌, ℕ, not, List, [], ◌∷◌, drop, length, map, Option, option_map, Result, Ok, Err, IfOk, IfErr, is_some, vec_len, nat_lt, if◌then◌else◌};
-ghost use Rattle.std.specs.Option.{option_copied};
+ghost use Rattle.std.specs.Prelude.{◌≡◌, ◌<◌, ◌==◌, Result, Ok, Err};
 ghost use Rattle.mk_script.specs.Drafts as spec;
-ghost use Rattle.mk_script.specs.DraftViews.{Answered, known_of, settings_of, identity};
+ghost use Rattle.mk_script.specs.DraftViews.{Answered, known_of, identity};
 ghost use Rattle.mk_script.specs.Views.{texts};
 ghost use Rattle.mk_script.specs.Words.{check};
 
-use crate::fault::{BodyFault, ScriptFaultKind};
-use crate::number::{number, number16, number16_below, number32, number64};
+use crate::fault::ScriptFaultKind;
+use crate::number::{number16, number32};
 use crate::reading::Reading;
-use crate::rows::{Command, before_dot};
-use crate::words::{find, word_at};
+use crate::rows::Command;
+use crate::words::word_at;
 use endpoint_caps::Rights;
-use pcap_reader::{Bytes, Packet};
 use std::alloc::Global;
 use table_replica::{Op, Program};
-use world_model::Event;
 
 /// A fault where a test fails.
 pub(crate) fn check(passes: bool, fault: ScriptFaultKind) -> Result<(), ScriptFaultKind>

@@ -1,16 +1,13 @@
 //! What the statements of a script ask for.
 
-ghost use Rattle.std.specs.Prelude.{◌≡◌, ◌≤◌, ◌<◌, ◌==◌, ◌+◌, ◌⊎◌, ◌^◌, ℕ, not, false, List, [], ◌∷◌, ◌++◌, drop, length, map, Option, Some, None, option_map, Result, Ok, Err, true, IfOk, IfErr, IfSome, OnOk, is_some, vec_len, min, nat_lt, if◌then◌else◌};
+ghost use Rattle.std.specs.Prelude.{◌≡◌, ◌≤◌, ◌<◌, ◌==◌, ◌+◌, ◌^◌, ℕ, false, [], length, Option, Some, None, Result, Ok, Err, true, IfOk, IfErr, IfSome, is_some, vec_len, min};
 ghost use Rattle.std.specs.Option.{option_copied};
-ghost use Rattle.std.specs.Result.{result_map_both};
-ghost use Rattle.std.specs.List.{list_any, before_first, after_first};
-ghost use Rattle.bpf_insn.specs.Texts.{number_of};
 ghost use Rattle.mk_script.specs.Drafts as spec;
 ghost use Rattle.mk_script.specs.Meanings as meanings;
 ghost use Rattle.mk_script.specs.Changes.{DraftFollows};
 ghost use Rattle.mk_script.specs.declared.reading.Reading.{Reading};
 ghost use Rattle.mk_script.specs.declared.rows.Command.{Command};
-ghost use Rattle.mk_script.specs.DraftViews.{Answered, draft_of, known_of, settings_of, identity};
+ghost use Rattle.mk_script.specs.DraftViews.{Answered, draft_of, known_of, settings_of};
 ghost use Rattle.mk_script.specs.Views.{texts};
 ghost use Rattle.mk_script.specs.Words as words_spec;
 ghost use Rattle.mk_script.specs.declared.fault.ScriptFaultKind.TheVariants.{NoMemory};

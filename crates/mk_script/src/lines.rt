@@ -1,8 +1,7 @@
 //! The lines of a script, and the statements that they make.
 
-ghost use Rattle.std.specs.Prelude.{◌≡◌, ℕ, ◌==◌, ◌+◌, ◌<◌, ◌≤◌, ◌^◌, List, length, IfOk};
+ghost use Rattle.std.specs.Prelude.{◌≡◌, ◌==◌, ◌+◌, ◌<◌, ◌^◌, length, IfOk};
 ghost use Rattle.std.specs.List.{before_first, after_first};
-ghost use Rattle.bpf_insn.specs.Texts.{words_of};
 ghost use Rattle.mk_script.specs.Pieces.{BlockIs, PieceIs};
 ghost use Rattle.mk_script.specs.Statements as spec;
 ghost use Rattle.mk_script.specs.Views.{texts};

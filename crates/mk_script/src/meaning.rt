@@ -1,6 +1,5 @@
 //! What a line means.
 
-ghost use Rattle.std.specs.Prelude.{◌≡◌};
 
 use crate::script::Item;
 use pcap_reader::{Packet, Packets};

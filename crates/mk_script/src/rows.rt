@@ -1,7 +1,7 @@
 //! The commands, and the words that they take.
 
-ghost use Rattle.std.specs.Prelude.{◌≡◌, ◌==◌, ◌||◌, not, map, option_map, Some, ◌≤◌, length, if◌then◌else◌, List, ℕ};
-ghost use Rattle.std.specs.List.{find, before_first};
+ghost use Rattle.std.specs.Prelude.{◌≡◌, ◌==◌, ◌||◌, map, option_map, Some, ◌≤◌, length, if◌then◌else◌};
+ghost use Rattle.std.specs.List.{find};
 ghost use Rattle.std.specs.Str.{bytes_eq};
 ghost use Rattle.mk_script.specs.Rows as spec;
 ghost use Rattle.mk_script.specs.RowViews.{row_of};

@@ -1,6 +1,6 @@
 //! How a line changes what is known.
 
-ghost use Rattle.std.specs.Prelude.{◌≡◌, ◌≤◌, ◌+◌, ◌++◌, ◌∷◌, ℕ, List, [], None, map, IfOk, OnOk, vec_len};
+ghost use Rattle.std.specs.Prelude.{◌≡◌, ◌≤◌, ◌+◌, ◌++◌, ◌∷◌, List, [], None, map, IfOk, OnOk, vec_len};
 ghost use Rattle.std.specs.List.{flat_map};
 ghost use Rattle.mk_script.specs.Changes.{Follows, Knows, asks_in, events_in};
 ghost use Rattle.mk_script.specs.DraftViews.{meaning_of};

@@ -1,8 +1,6 @@
 //! The lines behind `trace`: the events of a run.
 
-ghost use Rattle.std.specs.Prelude.{◌≡◌, ◌==◌, ◌<◌, ◌^◌, ℕ, List, [], ◌∷◌, length, option_map, map, IfOk};
-ghost use Rattle.std.specs.List.{list_any};
-ghost use Rattle.std.specs.Option.{option_copied};
+ghost use Rattle.std.specs.Prelude.{◌≡◌, ◌==◌, ◌<◌, IfOk};
 ghost use Rattle.mk_script.specs.Drafts as spec;
 ghost use Rattle.mk_script.specs.Changes.{DraftFollows};
 ghost use Rattle.mk_script.specs.declared.reading.Reading.{Reading};

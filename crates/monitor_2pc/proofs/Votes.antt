@@ -1,5 +1,5 @@
 -- How a vote is heard.
-use Rattle.std.proofs.Common.{◌≡◌, ◌≢◌, ◌+◌, ◌-◌, ◌<◌, ◌≤◌, ℕ, suc, Bool, false, Option, Some, None, List, length, replicate, slice_get, slice_set, refl, sym, ap, subst, ◌∙◌, arith}
+use Rattle.std.proofs.Common.{◌≡◌, ◌+◌, ◌-◌, ◌<◌, ℕ, suc, Bool, false, Option, Some, None, List, length, replicate, slice_get, slice_set, refl, sym, ap, subst, ◌∙◌, arith}
 use Rattle.std.specs.List.{refill}
 use Rattle.std.proofs.lemmas.List.{length-set}
 use Rattle.table_replica.specs.declared.Op.{Op}
@@ -15,7 +15,7 @@ use Rattle.monitor_2pc.specs.declared.step.Step.{Step}
 use Rattle.monitor_2pc.specs.declared.tally.Tally.{Tally}
 use Rattle.monitor_2pc.specs.declared.tally.Tally.TheVariants.{Open, AllYes, Against}
 use Rattle.monitor_2pc.specs.Places.{after_commit}
-use Rattle.monitor_2pc.specs.Coordinators.{Phase, Idle, Voting, Acking, CoordinatorPlace, CoordinatorState, coordinator_place, StagedByPhase, Tallies, waits, commits_all, aborts_all, Hears, LeastNo, with_decided, step, veto_by}
+use Rattle.monitor_2pc.specs.Coordinators.{Phase, Idle, Voting, Acking, CoordinatorPlace, CoordinatorState, coordinator_place, StagedByPhase, Tallies, waits, commits_all, aborts_all, Hears, with_decided, step, veto_by}
 use Rattle.monitor_2pc.specs.Tallying.{Tallied}
 use Rattle.monitor_2pc.specs.Waiting.{phase_of, KeepsDecided}
 use Rattle.monitor_2pc.proofs.Starts.{refilled_set, shown_by, placed}

@@ -7,7 +7,7 @@ ghost use Rattle.table_replica.specs.Tables.{after, made};
 ghost use Rattle.monitor_messages.specs.declared.message.Decision.TheVariants.{Committed, Refused};
 ghost use Rattle.monitor_2pc.specs.declared.step.Say.TheVariants.{Abort};
 ghost use Rattle.monitor_2pc.specs.Places.{after_commit};
-ghost use Rattle.monitor_2pc.specs.Coordinators.{CoordinatorState, Idle, Acking, coordinator_place, no_requests, StagedByPhase, CanStart, Starts, StartsFor, CanSubmit, with_waiting, AwaitsVote, Hears, with_decided, AwaitsAck, HearsAck, reply_of, reply_to, asker_after, veto_of, veto_by, step};
+ghost use Rattle.monitor_2pc.specs.Coordinators.{CoordinatorState, Idle, Acking, coordinator_place, no_requests, StagedByPhase, CanStart, Starts, StartsFor, CanSubmit, with_waiting, AwaitsVote, Hears, with_decided, AwaitsAck, HearsAck, reply_of, veto_of, veto_by, step};
 ghost use Rattle.monitor_2pc.specs.Starting.{CannotStart, CannotStartFor};
 
 use crate::step::{Say, StartFault, Step, Stranger};

@@ -1,5 +1,4 @@
-ghost use Rattle.std.specs.Prelude.{◌≡◌};
-ghost use Rattle.rx_queue.specs.Queue.{AreEnds, SameIntake, SamePort};
+ghost use Rattle.rx_queue.specs.Queue.{SameIntake, SamePort};
 
 use super::*;
 use pcap_reader::{Bytes, Packet};

@@ -1,7 +1,6 @@
 //! The lines of a core's table.
 
 ghost use Rattle.std.specs.Prelude.{◌≡◌, ◌++◌, ◌<◌, ◌^◌, length, IfOk, OnOk, string_bytes};
-ghost use Rattle.std.specs.List.{flat_map};
 ghost use Rattle.table_replica.specs.Lent.{shown_filter};
 ghost use Rattle.sim_lines.specs.Tables.{cap_line, filter_line, parent_word, table_text, total_line};
 ghost use Rattle.sim_lines.specs.Tables as spec;

@@ -1,9 +1,9 @@
 //! A table, and what an operation does to it.
-ghost use Rattle.std.specs.Prelude.{◌≡◌, ◌+◌, ◌<◌, ◌≤◌, ℕ, [], None, Some, length, IfOk, IfErr, OnOk};
+ghost use Rattle.std.specs.Prelude.{◌≡◌, ◌+◌, ◌<◌, ◌≤◌, [], None, Some, length, IfOk, IfErr, OnOk};
 ghost use Rattle.std.specs.Option.{option_map};
 ghost use Rattle.std.specs.Result.{result_err};
-ghost use Rattle.endpoint_caps.specs.Capabilities.{first, cap_at, create_tests, mint_tests, holder_tests, right_tests};
-ghost use Rattle.table_replica.specs.Tables.{State, Accepting, Allowed, after, made, tests, as_rules, rule_of, instructions, instructions_of, replaced, program_of, endpoint_of, Verifies, owner_tests, install_tests, replace_tests, cap_of, filter_at, version_test};
+ghost use Rattle.endpoint_caps.specs.Capabilities.{first, cap_at, mint_tests};
+ghost use Rattle.table_replica.specs.Tables.{State, Accepting, Allowed, after, made, tests, as_rules, rule_of, instructions, instructions_of, replaced, program_of, endpoint_of, Verifies, owner_tests, install_tests, replace_tests, cap_of, filter_at};
 ghost use Rattle.filter_verify.specs.Rules.{Sound, Refuses};
 ghost use Rattle.filter_verify.specs.Numbers.{number_of, place_of};
 ghost use Rattle.table_replica.specs.Staging.{CannotStage};

@@ -1,5 +1,5 @@
 //! The filters of a table.
-ghost use Rattle.std.specs.Prelude.{◌≡◌, ◌==◌, ◌+◌, ◌<◌, ◌≤◌, ◌++◌, ℕ, [], ◌∷◌, length, filter, not, Some, slice_get, IfOk};
+ghost use Rattle.std.specs.Prelude.{◌≡◌, ◌==◌, ◌+◌, ◌<◌, ◌≤◌, ◌++◌, [], ◌∷◌, length, filter, not, Some, slice_get, IfOk};
 ghost use Rattle.table_replica.specs.Distinct.{AreDistinct};
 ghost use Rattle.table_replica.specs.Keeping.{Keeps, ArePlaced, IsChained, MovesTo, IsRebuilt, sources, placed_row, with_last, after_last};
 ghost use Rattle.std.specs.Prelude.{List, take, slice_set, slice_index_or};

@@ -1,5 +1,5 @@
 //! The replica of a core: the table that it shows, and the one that is staged beside it.
-ghost use Rattle.std.specs.Prelude.{◌≡◌, ◌≤◌, ℕ, [], None, Some, IsSome, is_some, IfOk, IfErr, OnOk, OnErr};
+ghost use Rattle.std.specs.Prelude.{◌≡◌, ◌≤◌, [], None, Some, IsSome, is_some, IfOk, IfErr, OnOk, OnErr};
 ghost use Rattle.table_replica.specs.Tables.{Accepting, Allowed, after, instructions, instructions_of, made};
 ghost use Rattle.table_replica.specs.Lent.{AreDifferent};
 ghost use Rattle.table_replica.specs.Staging.{CannotStage};

@@ -1,7 +1,6 @@
 //! Lines, read back as messages.
-ghost use Rattle.std.specs.Prelude.{◌≡◌, ◌≤◌, ◌<◌, ◌+◌, ◌*◌, ◌-◌, ◌++◌, ◌==◌, List, ℕ, length, take, drop, slice_index, vec_len, vec_capacity, IsTrue, ◌↔◌};
+ghost use Rattle.std.specs.Prelude.{◌≡◌, ◌≤◌, ◌<◌, ◌+◌, ◌*◌, ◌-◌, ◌++◌, ◌==◌, List, ℕ, length, drop, vec_len, vec_capacity, IsTrue, ◌↔◌};
 ghost use Rattle.std.specs.List.{list_all};
-ghost use Rattle.ump_ring.specs.Lines.{length_of, number_of};
 ghost use Rattle.ump_ring.specs.Lines as spec;
 
 use crate::fault::LineFault;
@@ -61,9 +60,9 @@ pub struct Joiner {
 }
 
 impl Joiner {
-    ghost use Rattle.std.specs.Prelude.{◌≡◌, ◌≢◌, ◌+◌, ◌↔◌, ◌++◌, ◌∷◌, [], List, ℕ, None, Some, Err, IfOk, IfErr, OnOk, OnErr, IsTrue, MatchOption};
-    ghost use Rattle.ump_ring.specs.Lines.{number_after, messages_in};
-    ghost use Rattle.ump_ring.specs.Reading.{line_fault, size_with, bytes_with};
+    ghost use Rattle.std.specs.Prelude.{◌≡◌, ◌≢◌, ◌+◌, ◌↔◌, ◌++◌, ◌∷◌, [], List, ℕ, None, Some, Err, IfOk, IfErr, OnOk, IsTrue};
+    ghost use Rattle.ump_ring.specs.Lines.{messages_in};
+    ghost use Rattle.ump_ring.specs.Reading.{line_fault};
     ghost use Rattle.ump_ring.specs.Joiners.{fault_of, number_next, size_begun, bytes_come, message_shown, AfterLines, IsJoined, shown_items, shown_list};
 
     /// A joiner of lines that are numbered from 0. Its room for the longest message is reserved here. The one error

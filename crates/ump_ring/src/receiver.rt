@@ -1,7 +1,6 @@
 //! The end of a ring that receives.
 ghost use Rattle.std.specs.Prelude.{◌≡◌, IsTrue, None};
 ghost use Rattle.rtrb.specs.Ring.{received};
-ghost use Rattle.ump_ring.specs.Joiners.{message_shown, fault_of};
 ghost use Rattle.ump_ring.specs.Receiving.{IsReceiving, KeepsMessage};
 
 use crate::fault::LineFault;
@@ -24,7 +23,7 @@ pub struct Receiver {
 const LINES_MOST: u32 = 587;
 
 impl Receiver {
-    ghost use Rattle.std.specs.Prelude.{◌≡◌, ◌≢◌, ◌↔◌, ◌++◌, ◌∷◌, [], None, Some, Err, IsTrue, IsFalse, IfOk, IfErr, OnOk, MatchOption};
+    ghost use Rattle.std.specs.Prelude.{◌≡◌, ◌≢◌, ◌++◌, [], None, Some, Err, IsTrue, IsFalse, IfErr, OnOk};
     ghost use mathlib.Core.List.{IsPrefix};
     ghost use Rattle.rtrb.specs.Ring.{received};
     ghost use Rattle.ump_ring.specs.Lines.{messages_in};

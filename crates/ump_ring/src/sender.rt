@@ -6,7 +6,7 @@ ghost use Rattle.ump_ring.specs.Sending.{IsSending};
 ghost use Rattle.rtrb.specs.Ring.{sent, SameProducer};
 
 use crate::line::{Line, MESSAGE_MOST, line_at};
-use rtrb::{Producer, PushError};
+use rtrb::Producer;
 
 /// The end of a ring that sends messages, one at a time.
 #[derive(Drop)]
@@ -59,7 +59,7 @@ fn push_lines(producer: &mut Producer<Line>, message: &[u8], out: u32, number: u
 }
 
 impl Sender {
-    ghost use Rattle.std.specs.Prelude.{◌≡◌, ◌+◌, ◌<◌, ◌≤◌, ◌↔◌, ◌≢◌, ◌++◌, ◌∷◌, ℕ, List, [], length, vec_len, IsTrue, IsFalse, OnOk, OnErr, IfErr, None, Some};
+    ghost use Rattle.std.specs.Prelude.{◌≡◌, ◌+◌, ◌<◌, ◌≤◌, ◌↔◌, ◌≢◌, ◌++◌, ◌∷◌, ℕ, List, [], length, vec_len, IsTrue, OnOk, IfErr, None, Some};
     ghost use mathlib.Core.List.{IsPrefix};
     ghost use Rattle.rtrb.specs.Ring.{sent};
     ghost use Rattle.ump_ring.specs.Lines.{stream};

@@ -1,5 +1,4 @@
 ghost use Rattle.std.specs.Prelude.{◌≡◌, ◌≤◌, IfOk, vec_len};
-ghost use Rattle.ump_ring.specs.Ends.{AreEnds};
 ghost use Rattle.ump_ring.specs.Receivers.{SameReceiver};
 ghost use Rattle.ump_ring.specs.Senders.{SameSender};
 

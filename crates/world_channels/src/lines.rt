@@ -1,6 +1,6 @@
 //! Channels that keep lines.
 
-ghost use Rattle.std.specs.Prelude.{◌≡◌, ◌≢◌, ◌+◌, ◌<◌, ◌≤◌, [], ℕ, List, length, Some, None, slice_get, slice_index, drop, IfOk, OnErr};
+ghost use Rattle.std.specs.Prelude.{◌≡◌, ◌≢◌, ◌<◌, ◌≤◌, [], ℕ, List, length, Some, None, slice_get, slice_index, drop, IfOk, OnErr};
 ghost use Rattle.std.specs.VecDeque.{deque_len};
 ghost use Rattle.monitor_messages.specs.Coding.{IsNumbered, IsShort};
 ghost use Rattle.ump_ring.specs.Joiners.{message_shown};

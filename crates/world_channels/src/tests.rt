@@ -1,6 +1,6 @@
 //! Messages through channels of both kinds.
 
-ghost use Rattle.std.specs.Prelude.{◌≡◌, ◌<◌, ◌≤◌, ℕ, vec_len, length, Some, IfOk, IfSome};
+ghost use Rattle.std.specs.Prelude.{◌≡◌, ◌<◌, ◌≤◌, vec_len, length, Some, IfOk};
 
 use crate::{Channel, Lines, Messages};
 use bpf_insn::Insn;

@@ -1,8 +1,8 @@
 -- What a core other than core 0 does, as the world shows it.
-use Rattle.std.proofs.Common.{◌≡◌, ◌∙◌, ◌++◌, ◌∷◌, ◌+◌, ◌⊎◌, inl, inr, ℕ, zero, suc, Bool, true, None, Some, List, [], Result, Ok, Err, length, map, slice_get, slice_set, refl, ap, sym, subst, take, add-one}
+use Rattle.std.proofs.Common.{◌≡◌, ◌∙◌, ◌++◌, ◌∷◌, ◌+◌, ◌⊎◌, inl, inr, ℕ, zero, suc, Bool, true, None, Some, List, [], Result, Ok, Err, length, map, slice_get, slice_set, refl, ap, sym, subst, add-one}
 use Rattle.std.specs.Prelude.{option_to_list}
 use Rattle.table_replica.specs.declared.Op.{Op}
-use Rattle.table_replica.specs.Tables.{State, after, after_all, opening, table}
+use Rattle.table_replica.specs.Tables.{State, after, table}
 use Rattle.table_replica.specs.Shown.{ReplicaState}
 use Rattle.monitor_messages.specs.declared.message.Message.{Message}
 use Rattle.monitor_messages.specs.declared.message.Message.TheVariants as message

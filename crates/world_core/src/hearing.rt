@@ -1,6 +1,6 @@
 //! Core 0 takes a message of another core.
 
-ghost use Rattle.std.specs.Prelude.{◌≡◌, ℕ, Bool, None, Some, All, IsSome, IfOk, OnErr, length, option_and_then};
+ghost use Rattle.std.specs.Prelude.{◌≡◌, Bool, None, Some, All, IsSome, IfOk, OnErr, length, option_and_then};
 ghost use Rattle.monitor_messages.specs.declared.message.Message.{Message as GhostMessage};
 ghost use Rattle.monitor_messages.specs.declared.message.Message.TheVariants as message;
 ghost use Rattle.monitor_2pc.specs.declared.step.Say.TheVariants as say;

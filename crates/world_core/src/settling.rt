@@ -1,6 +1,6 @@
 //! Takes of messages until there is none.
 
-ghost use Rattle.std.specs.Prelude.{◌≡◌, ◌++◌, ◌+◌, ◌<◌, ℕ, List, IfOk, OnOk, OnErr, length};
+ghost use Rattle.std.specs.Prelude.{◌≡◌, ◌++◌, ◌+◌, ◌<◌, List, IfOk, OnOk, OnErr, length};
 ghost use Rattle.monitor_2pc.specs.Coordinators.{Idle};
 ghost use Rattle.world_model.specs.declared.event.Done.{Done as GhostDone};
 

@@ -1,6 +1,6 @@
 //! Core 0 starts a request, of its own or of another core.
 
-ghost use Rattle.std.specs.Prelude.{◌≡◌, ◌≢◌, ◌<◌, ◌≤◌, ℕ, None, Some, IfOk, IfErr, OnOk, OnErr, All, IsTrue, IsFalse, length, slice_get};
+ghost use Rattle.std.specs.Prelude.{◌≡◌, ◌≢◌, ◌<◌, ◌≤◌, ℕ, None, Some, IfOk, IfErr, OnOk, OnErr, All, IsTrue, IsFalse, length};
 ghost use Rattle.monitor_messages.specs.Coding.{HasShortProgram, IsNumbered};
 ghost use Rattle.monitor_messages.specs.declared.message.Veto.{Veto as GhostVeto};
 ghost use Rattle.monitor_messages.specs.declared.message.Veto.TheVariants as veto;

@@ -1,7 +1,6 @@
 //! The world of the cores.
 
-ghost use Rattle.std.specs.Prelude.{◌≡◌, ◌≢◌, ◌+◌, ◌++◌, ◌∷◌, [], ℕ, Bool, None, Some, IfSome, IfNone, IfOk, IfErr, OnOk, OnErr, List, ◌<◌, ◌≤◌, All, length, map, slice_get, option_and_then, option_map};
-ghost use Rattle.monitor_messages.specs.declared.message.Message.{Message as GhostMessage};
+ghost use Rattle.std.specs.Prelude.{◌≡◌, ◌≢◌, ◌+◌, ◌++◌, ◌∷◌, [], ℕ, Bool, None, Some, IfSome, IfNone, IfOk, IfErr, OnOk, OnErr, List, ◌<◌, ◌≤◌, All, length, map, slice_get, option_map};
 ghost use Rattle.world_channels.specs.Channels.{first_of};
 ghost use Rattle.world_model.specs.Worlds.{new_peer};
 ghost use Rattle.world_core.specs.Keeping.{seen_peer, PeerIsKept};

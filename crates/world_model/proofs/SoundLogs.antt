@@ -1,5 +1,5 @@
 -- The tables of a log whose entries were allowed are sound.
-use Rattle.std.proofs.Common.{◌≡◌, ◌+◌, ◌<◌, ◌≤◌, ◌⊎◌, inl, inr, ℕ, zero, suc, None, Some, List, [], ◌∷◌, length, slice_get, take, refl, ap, sym, ◌∙◌, subst, arith}
+use Rattle.std.proofs.Common.{◌≡◌, ◌≤◌, ◌⊎◌, inl, inr, ℕ, zero, suc, None, Some, List, [], ◌∷◌, length, slice_get, take, refl, ap, sym, subst, arith}
 use Rattle.std.proofs.Math.Nat.{le-suc_iff}
 use Rattle.table_replica.specs.declared.Op.{Op}
 use Rattle.table_replica.specs.Tables.{State, table, after, after_all, opening, Allowed}

@@ -1,6 +1,6 @@
 //! What holds of every run: laws, each the contract of a function that does nothing.
 
-ghost use Rattle.std.specs.Prelude.{◌≡◌, ◌∷◌, List, ℕ};
+ghost use Rattle.std.specs.Prelude.{List, ℕ};
 ghost use Rattle.world_model.specs.Worlds.{World, Run, Happens};
 ghost use Rattle.world_model.specs.Agreement.{Agrees, Grows, IsSoundLog, NoStranger};
 ghost use Rattle.world_model.specs.Decisions.{Delivers, DecidesRightly, RepliesRightly, WaitsRightly};

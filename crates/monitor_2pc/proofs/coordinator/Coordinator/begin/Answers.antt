@@ -1,4 +1,4 @@
-use Rattle.std.proofs.Common.{◌≡◌, ◌+◌, None, refl, sym, ap, ◌∙◌}
+use Rattle.std.proofs.Common.{◌≡◌, ◌+◌, None, sym, ap, ◌∙◌}
 use Rattle.std.proofs.lemmas.Bool.{eqb-true}
 use Rattle.monitor_2pc.specs.Coordinators.{Phase, Idle, CoordinatorState, coordinator_place}
 use Rattle.monitor_2pc.specs.Waiting.{phase_of}

@@ -1,4 +1,4 @@
-use Rattle.std.proofs.Common.{◌≡◌, ◌-◌, Option, None, false, replicate}
+use Rattle.std.proofs.Common.{◌≡◌, ◌-◌, None, false, replicate}
 use Rattle.monitor_2pc.proofs.coordinator.Coordinator.new.Given as goal
 
 abbrev pub invariant-loop : goal.invariant-loop
