@@ -9,7 +9,7 @@ use Rattle.std.proofs.lemmas.Bool.Decides.{nat_tests}
 use Rattle.std.proofs.lemmas.Grind.{flat_map-append}
 use Rattle.std.proofs.lemmas.List.Elements.{All-from_recursion}
 use Rattle.bpf_insn.specs.declared.insn.Insn.{Insn}
-use Rattle.bpf_insn.specs.Texts.{words_of}
+use Rattle.bpf_insn.specs.Texts.{words_of, number_of}
 use Rattle.filter_asm.proofs.FormedLemmas.{assembled_formed}
 use Rattle.filter_asm.specs.Program.{text_lines}
 use Rattle.hex.specs.Hex.{decode_of}
@@ -25,20 +25,22 @@ use Rattle.world_model.specs.declared.event.Event.{Event}
 use Rattle.world_model.specs.declared.event.Event.TheVariants.{Take, Rx}
 use Rattle.mk_script.specs.declared.fault.ScriptFault.{ScriptFault}
 use Rattle.mk_script.specs.declared.fault.ScriptFaultKind.{ScriptFaultKind}
-use Rattle.mk_script.specs.declared.fault.ScriptFaultKind.TheVariants.{BadLine, NoCores, Twice, NoName}
+use Rattle.mk_script.specs.declared.fault.ScriptFaultKind.TheVariants.{BadLine, NoCores, BadNumber, Twice, NoName}
 use Rattle.mk_script.specs.declared.rows.Command.{Command}
 use Rattle.mk_script.specs.declared.rows.Command.TheVariants as command
+use Rattle.mk_script.specs.declared.rows.Request.{Request}
+use Rattle.mk_script.specs.declared.rows.Request.TheVariants as request
 use Rattle.mk_script.specs.declared.script.Item.{Item}
 use Rattle.mk_script.specs.declared.script.Item.TheVariants as item
 use Rattle.mk_script.specs.declared.script.Script.{Script}
 use Rattle.mk_script.specs.Bodies.{MeansAssembled, MeansDecimal, MeansCaptured, DraftMeans, DraftedMeans}
 use Rattle.mk_script.specs.Drafts.{Settings, Draft, Whole, Assembler, Decimal, Savefile, draft_of, file_of, is_file, has_cores, is_new, behind_word, optional_below, bytes_or_fault, hex_bytes, may_stand, is_cores, core_limit, is_short, numbers_below, cores_draft, asm_draft, ddd_draft, packet_draft, capture_draft, home_draft, create_op, mint_op, rights_of, held, held_program, op_of, domain_of, request_draft, core_draft, take_draft, packet_number, packet_of, packet_at, floor_at, rx_draft, replayed, replay_draft, draft_by, script_draft, counted, job_at, is_rx_at, job_draft, event_by, event_draft, trace_draft, is_left, draft_in}
-use Rattle.mk_script.specs.Limits.{IsShortPacket, IsTakeOrRx, IsLimited, HasLimits}
-use Rattle.mk_script.specs.Meanings.{Meaning, Budgets, NamedProgram, NamedPacket, NamedCapture, Home, Does, Receives, Trace, Nothing, Known, Jobs, Counted, Named, known, named, budgets_in, programs_in, packets_in, captures_in, jobs_in, items_in, items_of, is_traced, jobs_behind}
+use Rattle.mk_script.specs.Limits.{IsShortPacket, IsTakeOrRx, IsLimited, EntersBelow, HasLimits}
+use Rattle.mk_script.specs.Meanings.{Meaning, Budgets, NamedProgram, NamedPacket, NamedCapture, Home, Does, Receives, Trace, Nothing, Known, Jobs, Counted, Named, known, named, home_from, budgets_in, programs_in, packets_in, captures_in, jobs_in, items_in, items_of, is_traced, jobs_behind}
 use Rattle.mk_script.specs.Rows.{before_dot, command_of, event_of}
 use Rattle.mk_script.specs.Scripts.{MeanBehind, Stands, script_of}
 use Rattle.mk_script.specs.Statements.{Statement, Opened, opened, longer, is_skipped, opens_block, is_end, statements_from, statements}
-use Rattle.mk_script.specs.Words.{◌>>=◌, check, word_at, whole_number, number_below}
+use Rattle.mk_script.specs.Words.{◌>>=◌, check, word_at, whole_number, below, number_below}
 use Rattle.mk_script.proofs.RowLemmas.{cores_few}
 use Rattle.mk_script.proofs.WordLemmas.{AllShort, word_short, lines_short}
 
@@ -102,16 +104,23 @@ IsWithin (Does item) = IsLimited item
 IsWithin (Receives events) = AllByRecursion IsTakeOrRx events
 IsWithin meaning = Unit {0}
 
--- budgets are the first, and few
+-- homes are below the number of cores, and requests enter below it
+abbrev EntersIn : ℕ → Meaning → Type 0
+EntersIn cores (Home domain core) = core < cores
+EntersIn cores (Does item) = EntersBelow cores item
+EntersIn cores meaning = Unit {0}
+
+-- budgets are the first, and few; homes and requests are at cores that are there
 abbrev IsFirst : Known → Meaning → Type 0
 IsFirst k (Budgets budgets) = (length k.budgets ≡ 0) × (length budgets ≤ 8)
-IsFirst k meaning = Unit {0}
+IsFirst k meaning = EntersIn (length k.budgets) meaning
 
 -- what is known is within the limits
 abbrev AreAll : {X : Type 0} → (X → Type 0) → (List ℕ → Option X) → Type 0
 AreAll {X} P names = (name : List ℕ) (x : X) → names name ≡ Some x → P x
 
 record AreShort (k : Known) : Type 0 where
+  pub homes : 1 ≤ length k.budgets → (domain : ℕ) → k.home domain < length k.budgets
   pub programs : AreAll IsShortProgram k.programs
   pub packets : AreAll IsShortPacket k.packets
   pub captures : AreAll (AllByRecursion IsShortPacket) k.captures
@@ -126,6 +135,9 @@ IsDraftWithin k (Whole meaning) = IsWithin meaning × IsFirst k meaning
 IsDraftWithin k draft = Unit {0}
 
 -- Requests
+
+some_budgets : (k : Known) → has_cores k ≡ true → 1 ≤ length k.budgets
+some_budgets k e = grind (arith, nat_tests)
 
 create_short : (words : List (List ℕ)) (op : Op) → create_op words ≡ Ok op → HasShortProgram op
 unfolding create_op
@@ -160,29 +172,29 @@ program_short k words make op short made e =
     let same : length program.value ≡ length all.value.2 = ap (λ (h : ℕ × ℕ × List Insn). length h.2) is in
     subst HasShortProgram (same_ok (make all.value.0 all.value.1 all.value.2) op all.next) (made all.value.0 all.value.1 all.value.2 (omega (arith, same, few)))
 
-op_short : (k : Known) (words : List (List ℕ)) (c : Command) (op : Op) → AreAll IsShortProgram k.programs → op_of k words c ≡ Ok op → HasShortProgram op
-op_short k words command.Create op short e = create_short words op e
-op_short k words command.Mint op short e = mint_short words op e
-op_short k words command.Revoke op short e = held_short words (λ d i. Revoke d i) op (λ d i. tt) e
-op_short k words command.DropCap op short e = held_short words (λ d i. DropCap d i) op (λ d i. tt) e
-op_short k words command.Install op short e = program_short k words (λ d i p. Install d i p) op short (λ d i p few. few) e
-op_short k words command.Remove op short e = held_short words (λ d i. Remove d i) op (λ d i. tt) e
-op_short k words command.Replace op short e = program_short k words (λ d i p. Replace d i p) op short (λ d i p few. few) e
-op_short k words c op short e = absurd (cc)
+op_short : (k : Known) (words : List (List ℕ)) (c : Request) (op : Op) → AreAll IsShortProgram k.programs → op_of k words c ≡ Ok op → HasShortProgram op
+op_short k words request.Create op short e = create_short words op e
+op_short k words request.Mint op short e = mint_short words op e
+op_short k words request.Revoke op short e = held_short words (λ d i. Revoke d i) op (λ d i. tt) e
+op_short k words request.DropCap op short e = held_short words (λ d i. DropCap d i) op (λ d i. tt) e
+op_short k words request.Install op short e = program_short k words (λ d i p. Install d i p) op short (λ d i p few. few) e
+op_short k words request.Remove op short e = held_short words (λ d i. Remove d i) op (λ d i. tt) e
+op_short k words request.Replace op short e = program_short k words (λ d i p. Replace d i p) op short (λ d i p few. few) e
 
-request_within : (k : Known) (words : List (List ℕ)) (c : Command) (d : Draft) → AreAll IsShortProgram k.programs → request_draft k words c ≡ Ok d → IsDraftWithin k d
+request_within : (k : Known) (words : List (List ℕ)) (c : Request) (d : Draft) → AreShort k → 1 ≤ length k.budgets → request_draft k words c ≡ Ok d → IsDraftWithin k d
 unfolding request_draft
-request_within k words c d short e =
+request_within k words c d short some e =
     let op = bound (op_of k words c) _ d e in
-    subst (IsDraftWithin k) (same_ok (Whole (Does (item.Ask (k.home (domain_of op.value)) op.value))) d op.next) (op_short k words c op.value short op.gave, tt)
+    subst (IsDraftWithin k) (same_ok (Whole (Does (item.Ask (k.home (domain_of op.value)) op.value))) d op.next)
+    (op_short k words c op.value short.programs op.gave, short.homes some (domain_of op.value))
 
 -- What is done at a core
 
-core_within : (k : Known) (act : ℕ → Item) (words : List (List ℕ)) (d : Draft) → ((core : ℕ) → IsLimited (act core)) → core_draft act words ≡ Ok d → IsDraftWithin k d
+core_within : (k : Known) (act : ℕ → Item) (words : List (List ℕ)) (d : Draft) → ((core : ℕ) → IsLimited (act core) × EntersBelow (length k.budgets) (act core)) → core_draft act words ≡ Ok d → IsDraftWithin k d
 unfolding core_draft
 core_within k act words d limited e =
     let core = bound (number_below (2 ^ 16) (word_at words 1)) _ d e in
-    subst (IsDraftWithin k) (same_ok (Whole (Does (act core.value))) d core.next) (limited core.value, tt)
+    subst (IsDraftWithin k) (same_ok (Whole (Does (act core.value))) d core.next) (limited core.value)
 
 take_within : (k : Known) (words : List (List ℕ)) (short : Bool) (d : Draft) → take_draft words short ≡ Ok d → IsDraftWithin k d
 unfolding take_draft
@@ -293,31 +305,41 @@ capture_within s k words d e =
     let there = bound (check (is_file s number.value) NoName) _ d new.next in
     subst (IsDraftWithin k) (same_ok (Savefile (word_at words 1) number.value) d there.next) tt
 
+below_some : (limit : ℕ) (o : Option ℕ) (n : ℕ) → below limit o ≡ Some n → n < limit
+below_some limit None n e = absurd (cc)
+below_some limit (Some v) n e = elim (cases_Bool (nat_lt v limit)) [
+  | inl less ↦ let is = rw less at e in let same : v ≡ n = cc in grind (arith, nat_tests)
+  | inr more ↦ let never = rw more at e in absurd (cc)
+]
+
+below_is : (limit : ℕ) (word : List ℕ) (n : ℕ) → number_below limit word ≡ Ok n → n < limit
+below_is limit word n e = below_some limit (number_of word) n (some_ok (below limit (number_of word)) BadNumber n e)
+
 home_within : (k : Known) (words : List (List ℕ)) (d : Draft) → home_draft k words ≡ Ok d → IsDraftWithin k d
 unfolding home_draft
 home_within k words d e =
     let domain = bound (number_below (2 ^ 16) (word_at words 1)) _ d e in
     let core = bound (number_below (length k.budgets) (word_at words 2)) _ d domain.next in
-    subst (IsDraftWithin k) (same_ok (Whole (Home domain.value core.value)) d core.next) (tt, tt)
+    subst (IsDraftWithin k) (same_ok (Whole (Home domain.value core.value)) d core.next) (tt, below_is (length k.budgets) (word_at words 2) core.value core.gave)
 
 by_within : (s : Settings) (k : Known) (received : ℕ) (words : List (List ℕ)) (line : List ℕ) (block : Option (List ℕ)) (c : Command) (d : Draft) → AreShort k → length (word_at words 2) < 2 ^ 32
-    → command_of s.threads words ≡ Some c → draft_by s k received words line block c ≡ Ok d → IsDraftWithin k d
-by_within s k received words line block command.Cores d short few is e = cores_within s k words d is e
-by_within s k received words line block command.Asm d short few is e = asm_within k words block d e
-by_within s k received words line block command.Ddd d short few is e = ddd_within k words line d e
-by_within s k received words line block command.Packet d short few is e = packet_within k words d few e
-by_within s k received words line block command.Capture d short few is e = capture_within s k words d e
-by_within s k received words line block command.Home d short few is e = home_within k words d e
-by_within s k received words line block command.Start d short few is e = subst (IsDraftWithin k) (same_ok (Whole (Does item.Begin)) d e) (tt, tt)
-by_within s k received words line block command.Submit d short few is e = core_within k item.Submit words d (λ core. tt) e
-by_within s k received words line block command.StartFor d short few is e = core_within k item.StartFor words d (λ core. tt) e
-by_within s k received words line block command.Take d short few is e = take_within k words (nat_lt 3 (length words)) d e
-by_within s k received words line block command.Rx d short few is e = rx_within s k received words d short e
-by_within s k received words line block command.Replay d short few is e = replay_within k received words d short e
-by_within s k received words line block command.Settle d short few is e = subst (IsDraftWithin k) (same_ok (Whole (Does item.Settle)) d e) (tt, tt)
-by_within s k received words line block command.Show d short few is e = core_within k item.Show words d (λ core. tt) e
-by_within s k received words line block command.Trace d short few is e = subst (IsDraftWithin k) (same_ok (Whole Trace) d e) (tt, tt)
-by_within s k received words line block c d short few is e = request_within k words c d short.programs e
+    → command_of s.threads words ≡ Some c → (is_cores c || has_cores k) ≡ true → draft_by s k received words line block c ≡ Ok d → IsDraftWithin k d
+by_within s k received words line block command.Cores d short few is ready e = cores_within s k words d is e
+by_within s k received words line block command.Asm d short few is ready e = asm_within k words block d e
+by_within s k received words line block command.Ddd d short few is ready e = ddd_within k words line d e
+by_within s k received words line block command.Packet d short few is ready e = packet_within k words d few e
+by_within s k received words line block command.Capture d short few is ready e = capture_within s k words d e
+by_within s k received words line block command.Home d short few is ready e = home_within k words d e
+by_within s k received words line block command.Start d short few is ready e = subst (IsDraftWithin k) (same_ok (Whole (Does item.Begin)) d e) (tt, tt)
+by_within s k received words line block command.Submit d short few is ready e = core_within k item.Submit words d (λ core. (tt, tt)) e
+by_within s k received words line block command.StartFor d short few is ready e = core_within k item.StartFor words d (λ core. (tt, tt)) e
+by_within s k received words line block command.Take d short few is ready e = take_within k words (nat_lt 3 (length words)) d e
+by_within s k received words line block command.Rx d short few is ready e = rx_within s k received words d short e
+by_within s k received words line block command.Replay d short few is ready e = replay_within k received words d short e
+by_within s k received words line block command.Settle d short few is ready e = subst (IsDraftWithin k) (same_ok (Whole (Does item.Settle)) d e) (tt, tt)
+by_within s k received words line block command.Show d short few is ready e = core_within k item.Show words d (λ core. (tt, tt)) e
+by_within s k received words line block command.Trace d short few is ready e = subst (IsDraftWithin k) (same_ok (Whole Trace) d e) (tt, tt)
+by_within s k received words line block (command.Request c) d short few is ready e = request_within k words c d short (some_budgets k ready) e
 
 script_within : (s : Settings) (k : Known) (received : ℕ) (words : List (List ℕ)) (line : List ℕ) (block : Option (List ℕ)) (d : Draft) → AreShort k → length (word_at words 2) < 2 ^ 32
     → script_draft s k received words line block ≡ Ok d → IsDraftWithin k d
@@ -326,7 +348,7 @@ script_within s k received words line block d short few e =
     let c = bound (ok_or (command_of s.threads words) BadLine) _ d e in
     let allowed = bound (check (may_stand k.acted block c.value) BadLine) _ d c.next in
     let ready = bound (check (is_cores c.value || has_cores k) NoCores) _ d allowed.next in
-    by_within s k received words line block c.value d short few (some_ok (command_of s.threads words) BadLine c.value c.gave) ready.next
+    by_within s k received words line block c.value d short few (some_ok (command_of s.threads words) BadLine c.value c.gave) (passed (is_cores c.value || has_cores k) NoCores ready.value ready.gave) ready.next
 
 -- Traces
 
@@ -350,8 +372,8 @@ job_within k jobs words d all e =
 
 event_by_within : (k : Known) (jobs : List Event) (words rest : List (List ℕ)) (c : Command) (d : Draft) → AllByRecursion IsTakeOrRx jobs → event_by jobs words rest c ≡ Ok d → IsDraftWithin k d
 event_by_within k jobs words rest command.Start d all e = subst (IsDraftWithin k) (same_ok (Whole (Does item.Begin)) d e) (tt, tt)
-event_by_within k jobs words rest command.Submit d all e = core_within k item.Submit words d (λ core. tt) e
-event_by_within k jobs words rest command.StartFor d all e = core_within k item.StartFor words d (λ core. tt) e
+event_by_within k jobs words rest command.Submit d all e = core_within k item.Submit words d (λ core. (tt, tt)) e
+event_by_within k jobs words rest command.StartFor d all e = core_within k item.StartFor words d (λ core. (tt, tt)) e
 event_by_within k jobs words rest command.Take d all e = take_within k words (is_short rest) d e
 event_by_within k jobs words rest command.Rx d all e = job_within k jobs words d all e
 event_by_within k jobs words rest c d all e = absurd (cc)
@@ -428,8 +450,17 @@ captures_short [] all = cc
 captures_short (NamedCapture name packets ∷ given) all = (all.0, captures_short given all.1)
 captures_short (_ ∷ given) all = captures_short given all.1
 
-known_short : (given : List Meaning) → AllByRecursion IsWithin given → AreShort (known given)
-known_short given all = record {
+homes_below : (cores core : ℕ) (given : List Meaning) (domain : ℕ) → core < cores → AllByRecursion (EntersIn cores) given → home_from core given domain < cores
+homes_below cores core [] domain less all = less
+homes_below cores core (Home d c ∷ given) domain less all = elim (cases_Bool (eqb d domain)) [
+  | inl this ↦ rw this (homes_below cores c given domain all.0 all.1)
+  | inr other ↦ rw other (homes_below cores core given domain less all.1)
+]
+homes_below cores core (_ ∷ given) domain less all = homes_below cores core given domain less all.1
+
+known_short : (given : List Meaning) → AllByRecursion IsWithin given → AllByRecursion (EntersIn (length (flat_map budgets_in given))) given → AreShort (known given)
+known_short given all enter = record {
+  homes = λ some domain. homes_below (length (flat_map budgets_in given)) 0 given domain (omega (arith, some)) enter;
   programs = λ name x e. named_all IsShortProgram (flat_map programs_in given) name x (programs_short given all) e;
   packets = λ name x e. named_all IsShortPacket (flat_map packets_in given) name x (packets_short given all) e;
   captures = λ name x e. named_all (AllByRecursion IsShortPacket) (flat_map captures_in given) name x (captures_short given all) e;
@@ -462,6 +493,31 @@ items_limited : (traced : Bool) (given : List Meaning) → AllByRecursion IsWith
 items_limited traced [] all = tt
 items_limited traced (m ∷ given) all = each_append IsLimited (items_in traced m) (flat_map (items_in traced) given) (own_limited traced m all.0) (items_limited traced given all.1)
 
+-- what is received is no request
+applied_enters : (cores : ℕ) (events : List Event) → AllByRecursion (EntersBelow cores) (map (λ e. item.Apply e) events)
+applied_enters cores [] = tt
+applied_enters cores (event ∷ events) = (tt, applied_enters cores events)
+
+own_enters : (cores : ℕ) (traced : Bool) (m : Meaning) → EntersIn cores m → AllByRecursion (EntersBelow cores) (items_in traced m)
+own_enters cores traced (Does done) enters = (enters, tt)
+own_enters cores true (Receives events) enters = tt
+own_enters cores false (Receives events) enters = applied_enters cores events
+own_enters cores traced _ enters = tt
+
+items_enter : (cores : ℕ) (traced : Bool) (given : List Meaning) → AllByRecursion (EntersIn cores) given → AllByRecursion (EntersBelow cores) (flat_map (items_in traced) given)
+items_enter cores traced [] all = tt
+items_enter cores traced (m ∷ given) all = each_append (EntersBelow cores) (items_in traced m) (flat_map (items_in traced) given) (own_enters cores traced m all.0) (items_enter cores traced given all.1)
+
+-- among more cores too
+enters_more : (cores more : ℕ) (m : Meaning) → cores ≤ more → EntersIn cores m → EntersIn more m
+enters_more cores more (Home domain core) le enters = omega (arith, le, enters)
+enters_more cores more (Does (item.Ask core op)) le enters = omega (arith, le, enters)
+enters_more cores more _ le enters = tt
+
+enter_more : (cores more : ℕ) (given : List Meaning) → cores ≤ more → AllByRecursion (EntersIn cores) given → AllByRecursion (EntersIn more) given
+enter_more cores more [] le all = tt
+enter_more cores more (m ∷ given) le all = (enters_more cores more m le all.0, enter_more cores more given le all.1)
+
 -- Lines, one after the other
 
 -- a statement's line is no longer than the text
@@ -490,26 +546,34 @@ statements_within n number (Some o) (line ∷ lines) own all = elim (cases_Bool 
 record Kept (given : List Meaning) : Type 0 where
   pub each : AllByRecursion IsWithin given
   pub few : length (flat_map budgets_in given) ≤ 8
+  pub enter : AllByRecursion (EntersIn (length (flat_map budgets_in given))) given
 
 budgets_few : (given : List Meaning) (m : Meaning) → length (flat_map budgets_in given) ≤ 8 → IsFirst (known given) m → length (flat_map budgets_in given ++ budgets_in m) ≤ 8
 budgets_few given (Budgets budgets) few first = omega (arith, first.0, first.1, length-append (flat_map budgets_in given) budgets)
 budgets_few given _ few first = omega (arith, few, length-append (flat_map budgets_in given) [])
 
+first_enters : (given : List Meaning) (m : Meaning) → IsFirst (known given) m → EntersIn (length (flat_map budgets_in given)) m
+first_enters given (Budgets budgets) first = tt
+first_enters given m first = first
+
 kept_more : (given : List Meaning) (m : Meaning) → Kept given → IsWithin m × IsFirst (known given) m → Kept (given ++ m ∷ [])
-kept_more given m kept both = record {
-  each = each_append IsWithin given (m ∷ []) kept.each (both.0, tt);
-  few = subst (λ (l : List ℕ). length l ≤ 8) (sym (flat_map-append budgets_in given (m ∷ []) ∙ ap (λ l. flat_map budgets_in given ++ l) (append-nil (budgets_in m)))) (budgets_few given m kept.few both.1);
-}
+kept_more given m kept both =
+    let before = flat_map budgets_in given in
+    let pushed = flat_map-append budgets_in given (m ∷ []) ∙ ap (λ l. before ++ l) (append-nil (budgets_in m)) in
+    let more : length before ≤ length (flat_map budgets_in (given ++ m ∷ [])) = omega (arith, ap length pushed, length-append before (budgets_in m)) in
+    let cores = length (flat_map budgets_in (given ++ m ∷ [])) in
+    record {
+      each = each_append IsWithin given (m ∷ []) kept.each (both.0, tt);
+      few = subst (λ (l : List ℕ). length l ≤ 8) (sym pushed) (budgets_few given m kept.few both.1);
+      enter = each_append (EntersIn cores) given (m ∷ []) (enter_more (length before) cores given more kept.enter) (enters_more (length before) cores m more (first_enters given m both.1), tt);
+    }
 
 behind_kept : (s : Settings) (n : ℕ) (given : List Meaning) (sts : List Statement) (meanings : List Meaning) → n < 2 ^ 32 → AreWithin n sts → Kept given → MeanBehind s given sts (Ok meanings) → Kept meanings
 behind_kept s n given [] meanings few within kept e = subst Kept (sym (same_ok meanings given e)) kept
 behind_kept s n given (st ∷ sts) meanings few within kept (inl x) =
-    let means = drafted_within s (known given) st (draft_of s (known given) st) x.0 (known_short given kept.each) (omega (arith, few, within.0)) (behind_received given kept.each) refl x.1 in
+    let means = drafted_within s (known given) st (draft_of s (known given) st) x.0 (known_short given kept.each kept.enter) (omega (arith, few, within.0)) (behind_received given kept.each) refl x.1 in
     behind_kept s n (given ++ x.0 ∷ []) sts meanings few within.1 (kept_more given x.0 kept means) x.2
 behind_kept s n given (st ∷ sts) meanings few within kept (inr x) = let never = x.2 in absurd (cc)
-
-some_budgets : (k : Known) → has_cores k ≡ true → 1 ≤ length k.budgets
-some_budgets k e = grind (arith, nat_tests)
 
 script_limited : (given : List Meaning) (script : Script) → Kept given → Ok script ≡ script_of (Ok given) → HasLimits script
 script_limited given script kept e = elim (cases_Bool (has_cores (known given))) [
@@ -517,7 +581,12 @@ script_limited given script kept e = elim (cases_Bool (has_cores (known given)))
       let is = rw some at e in
       let made : Script = record { budgets = flat_map budgets_in given; items = items_of given } in
       let same : made ≡ script = sym (same_ok script made is) in
-      subst HasLimits same (record { some = some_budgets (known given) some; few = kept.few; items = All-from_recursion IsLimited (items_of given) (items_limited (is_traced given) given kept.each) })
+      subst HasLimits same (record {
+        some = some_budgets (known given) some;
+        few = kept.few;
+        items = All-from_recursion IsLimited (items_of given) (items_limited (is_traced given) given kept.each);
+        homes = let cores = length (flat_map budgets_in given) in All-from_recursion (EntersBelow cores) (items_of given) (items_enter cores (is_traced given) given kept.enter);
+      })
   | inr none ↦ let never = rw none at e in absurd (cc)
 ]
 
@@ -525,7 +594,7 @@ by_meanings : (s : Settings) (text : List ℕ) (meanings : Result (List Meaning)
     → MeanBehind s [] (statements text) meanings → Ok script ≡ script_of meanings → HasLimits script
 by_meanings s text (Ok given) script few means e =
     let within = statements_within (length text) 1 None (text_lines text) tt (lines_short text) in
-    script_limited given script (behind_kept s (length text) [] (statements text) given few within (record { each = cc; few = omega arith }) means) e
+    script_limited given script (behind_kept s (length text) [] (statements text) given few within (record { each = cc; few = omega arith; enter = cc }) means) e
 by_meanings s text (Err fault) script few means e = absurd (cc)
 
 has_limits : (s : Settings) (text : List ℕ) (script : Script) → length text < 2 ^ 32 → Stands s text (Ok script) → HasLimits script

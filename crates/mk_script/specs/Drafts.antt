@@ -19,6 +19,8 @@ use Rattle.mk_script.specs.declared.script.Item.{Item}
 use Rattle.mk_script.specs.declared.script.Item.TheVariants as item
 use Rattle.mk_script.specs.declared.rows.Command.{Command}
 use Rattle.mk_script.specs.declared.rows.Command.TheVariants as command
+use Rattle.mk_script.specs.declared.rows.Request.{Request}
+use Rattle.mk_script.specs.declared.rows.Request.TheVariants as request
 use Rattle.mk_script.specs.declared.fault.BodyFault.TheVariants.{Hex}
 use Rattle.mk_script.specs.declared.fault.ScriptFaultKind.{ScriptFaultKind}
 use Rattle.mk_script.specs.declared.fault.ScriptFaultKind.TheVariants.{BadLine, NoCores, Twice, NoName, BadBody}
@@ -148,16 +150,15 @@ held_program k words = do
   program ← ok_or (k.programs (word_at words 3)) NoName
   Ok (both.0, both.1, program)
 
--- the operation that a command asks for
-abbrev pub op_of : Known → List (List ℕ) → Command → Result Op ScriptFaultKind
-op_of k words command.Create = create_op words
-op_of k words command.Mint = mint_op words
-op_of k words command.Revoke = held words >>= λ h. Ok (Revoke h.0 h.1)
-op_of k words command.DropCap = held words >>= λ h. Ok (DropCap h.0 h.1)
-op_of k words command.Install = held_program k words >>= λ h. Ok (Install h.0 h.1 h.2)
-op_of k words command.Remove = held words >>= λ h. Ok (Remove h.0 h.1)
-op_of k words command.Replace = held_program k words >>= λ h. Ok (Replace h.0 h.1 h.2)
-op_of k words _ = Err BadLine
+-- the operation that a request asks for
+abbrev pub op_of : Known → List (List ℕ) → Request → Result Op ScriptFaultKind
+op_of k words request.Create = create_op words
+op_of k words request.Mint = mint_op words
+op_of k words request.Revoke = held words >>= λ h. Ok (Revoke h.0 h.1)
+op_of k words request.DropCap = held words >>= λ h. Ok (DropCap h.0 h.1)
+op_of k words request.Install = held_program k words >>= λ h. Ok (Install h.0 h.1 h.2)
+op_of k words request.Remove = held words >>= λ h. Ok (Remove h.0 h.1)
+op_of k words request.Replace = held_program k words >>= λ h. Ok (Replace h.0 h.1 h.2)
 
 abbrev pub domain_of : Op → ℕ
 domain_of (Create domain endpoint) = domain
@@ -169,9 +170,9 @@ domain_of (Remove domain filter) = domain
 domain_of (Replace domain filter program) = domain
 
 -- a request with the core at which it enters
-unfoldable pub request_draft : Known → List (List ℕ) → Command → Result Draft ScriptFaultKind
-request_draft k words command = do
-  op ← op_of k words command
+unfoldable pub request_draft : Known → List (List ℕ) → Request → Result Draft ScriptFaultKind
+request_draft k words request = do
+  op ← op_of k words request
   Ok (Whole (Does (item.Ask (k.home (domain_of op)) op)))
 
 -- something that is done at a core
@@ -236,6 +237,7 @@ draft_by s k received words line block command.Ddd = ddd_draft k words line
 draft_by s k received words line block command.Packet = packet_draft k words
 draft_by s k received words line block command.Capture = capture_draft s k words
 draft_by s k received words line block command.Home = home_draft k words
+draft_by s k received words line block (command.Request request) = request_draft k words request
 draft_by s k received words line block command.Start = Ok (Whole (Does item.Begin))
 draft_by s k received words line block command.Submit = core_draft item.Submit words
 draft_by s k received words line block command.StartFor = core_draft item.StartFor words
@@ -245,7 +247,6 @@ draft_by s k received words line block command.Replay = replay_draft k received 
 draft_by s k received words line block command.Settle = Ok (Whole (Does item.Settle))
 draft_by s k received words line block command.Show = core_draft item.Show words
 draft_by s k received words line block command.Trace = Ok (Whole Trace)
-draft_by s k received words line block request = request_draft k words request
 
 -- an `asm` block has an end, and nothing stood before `trace` that only a simulation does
 abbrev pub may_stand : Bool → Option (List ℕ) → Command → Bool

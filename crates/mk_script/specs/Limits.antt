@@ -1,6 +1,6 @@
--- What a script is limited to, whatever its text says: the machine takes 1 to 8 cores, a message carries a program of
--- 4,096 instructions at most, and a packet's captured length is a number of 32 bits.
-use Rattle.std.specs.Prelude.{◌≤◌, ◌<◌, ◌^◌, length}
+-- What a script is limited to, whatever its text says: the machine takes 1 to 8 cores, a request enters at one of them, a
+-- message carries a program of 4,096 instructions at most, and a packet's captured length is a number of 32 bits.
+use Rattle.std.specs.Prelude.{ℕ, ◌≤◌, ◌<◌, ◌^◌, length}
 use Rattle.std.specs.List.{All}
 use Rattle.monitor_messages.specs.Coding.{HasShortProgram}
 use Rattle.pcap_reader.specs.declared.capture.Packet.{Packet}
@@ -25,7 +25,13 @@ IsLimited (Ask core op) = HasShortProgram op
 IsLimited (Apply event) = IsTakeOrRx event
 IsLimited item = Unit {0}
 
+-- a request enters at one of so many cores
+abbrev pub EntersBelow : ℕ → Item → Type 0
+EntersBelow cores (Ask core op) = core < cores
+EntersBelow cores item = Unit {0}
+
 pub record HasLimits (script : Script) : Type 0 where
   pub some : 1 ≤ length script.budgets
   pub few : length script.budgets ≤ 8
   pub items : All IsLimited script.items
+  pub homes : All (EntersBelow (length script.budgets)) script.items

@@ -5,6 +5,7 @@ use Rattle.std.specs.Str.{bytes_eq}
 use Rattle.mk_script.specs.Words.{is_name}
 use Rattle.mk_script.specs.declared.rows.Command.{Command}
 use Rattle.mk_script.specs.declared.rows.Command.TheVariants as command
+use Rattle.mk_script.specs.declared.rows.Request.TheVariants as request
 use Rattle.mk_script.specs.declared.rows.Form.{Form}
 use Rattle.mk_script.specs.declared.rows.Form.TheVariants.{Any, Name, PacketName, RightsWord, Short}
 
@@ -57,13 +58,13 @@ rows =
     ∷ row (codes "packet") command.Packet 2 (Name ∷ Any ∷ Any ∷ [])
     ∷ row (codes "capture") command.Capture 2 (Name ∷ Any ∷ [])
     ∷ row (codes "home") command.Home 2 (Any ∷ Any ∷ [])
-    ∷ row (codes "create") command.Create 2 (Any ∷ Any ∷ [])
-    ∷ row (codes "mint") command.Mint 4 (Any ∷ Any ∷ Any ∷ RightsWord ∷ [])
-    ∷ row (codes "revoke") command.Revoke 2 (Any ∷ Any ∷ [])
-    ∷ row (codes "drop") command.DropCap 2 (Any ∷ Any ∷ [])
-    ∷ row (codes "install") command.Install 3 (Any ∷ Any ∷ Name ∷ [])
-    ∷ row (codes "remove") command.Remove 2 (Any ∷ Any ∷ [])
-    ∷ row (codes "replace") command.Replace 3 (Any ∷ Any ∷ Name ∷ [])
+    ∷ row (codes "create") (command.Request request.Create) 2 (Any ∷ Any ∷ [])
+    ∷ row (codes "mint") (command.Request request.Mint) 4 (Any ∷ Any ∷ Any ∷ RightsWord ∷ [])
+    ∷ row (codes "revoke") (command.Request request.Revoke) 2 (Any ∷ Any ∷ [])
+    ∷ row (codes "drop") (command.Request request.DropCap) 2 (Any ∷ Any ∷ [])
+    ∷ row (codes "install") (command.Request request.Install) 3 (Any ∷ Any ∷ Name ∷ [])
+    ∷ row (codes "remove") (command.Request request.Remove) 2 (Any ∷ Any ∷ [])
+    ∷ row (codes "replace") (command.Request request.Replace) 3 (Any ∷ Any ∷ Name ∷ [])
     ∷ simulated (codes "start") command.Start 0 []
     ∷ simulated (codes "submit") command.Submit 1 (Any ∷ [])
     ∷ simulated (codes "startfor") command.StartFor 1 (Any ∷ [])

@@ -1,6 +1,7 @@
 //! What the words of a command ask for.
 
 ghost use Rattle.std.specs.Prelude.{◌≡◌, ◌<◌, ◌==◌, Result, Ok, Err};
+ghost use Rattle.mk_script.specs.declared.rows.Request.TheVariants as asked;
 ghost use Rattle.mk_script.specs.Drafts as spec;
 ghost use Rattle.mk_script.specs.DraftViews.{Answered, known_of, identity};
 ghost use Rattle.mk_script.specs.Views.{texts};
@@ -9,7 +10,7 @@ ghost use Rattle.mk_script.specs.Words.{check};
 use crate::fault::ScriptFaultKind;
 use crate::number::{number16, number32};
 use crate::reading::Reading;
-use crate::rows::Command;
+use crate::rows::Request;
 use crate::words::word_at;
 use endpoint_caps::Rights;
 use std::alloc::Global;
@@ -86,47 +87,64 @@ fn held_program<'a>(
     Ok((domain, id, program))
 }
 
-/// The operation that a command asks for.
+/// A filter at a capability.
+fn install<'a>(
+    alloc: Global,
+    reading: &Reading<'a>,
+    words: &[&'a [u8]],
+) -> Result<Op, ScriptFaultKind>
+    ensures { Answered identity result (spec.op_of (known_of reading.now) (texts words.now) asked.Install) }
+{
+    let (domain, cap, program) = held_program(alloc, reading, words)?;
+    Ok(Op::Install {
+        domain,
+        cap,
+        program,
+    })
+}
+
+/// Another program for a filter.
+fn replace<'a>(
+    alloc: Global,
+    reading: &Reading<'a>,
+    words: &[&'a [u8]],
+) -> Result<Op, ScriptFaultKind>
+    ensures { Answered identity result (spec.op_of (known_of reading.now) (texts words.now) asked.Replace) }
+{
+    let (domain, filter, program) = held_program(alloc, reading, words)?;
+    Ok(Op::Replace {
+        domain,
+        filter,
+        program,
+    })
+}
+
+/// The operation that a request asks for.
 pub(crate) fn op_of<'a>(
     alloc: Global,
     reading: &Reading<'a>,
     words: &[&'a [u8]],
-    command: Command,
+    request: Request,
 ) -> Result<Op, ScriptFaultKind>
-    ensures { Answered identity result (spec.op_of (known_of reading.now) (texts words.now) command) }
+    ensures { Answered identity result (spec.op_of (known_of reading.now) (texts words.now) request) }
 {
-    match command {
-        Command::Create => create(words),
-        Command::Mint => mint(words),
-        Command::Revoke => {
+    match request {
+        Request::Create => create(words),
+        Request::Mint => mint(words),
+        Request::Revoke => {
             let (domain, cap) = held(words)?;
             Ok(Op::Revoke { domain, cap })
         }
-        Command::DropCap => {
+        Request::DropCap => {
             let (domain, cap) = held(words)?;
             Ok(Op::DropCap { domain, cap })
         }
-        Command::Install => {
-            let (domain, cap, program) = held_program(alloc, reading, words)?;
-            Ok(Op::Install {
-                domain,
-                cap,
-                program,
-            })
-        }
-        Command::Remove => {
+        Request::Install => install(alloc, reading, words),
+        Request::Remove => {
             let (domain, filter) = held(words)?;
             Ok(Op::Remove { domain, filter })
         }
-        Command::Replace => {
-            let (domain, filter, program) = held_program(alloc, reading, words)?;
-            Ok(Op::Replace {
-                domain,
-                filter,
-                program,
-            })
-        }
-        _ => Err(ScriptFaultKind::BadLine),
+        Request::Replace => replace(alloc, reading, words),
     }
 }
 

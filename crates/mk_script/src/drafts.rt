@@ -17,7 +17,7 @@ use crate::fault::{BodyFault, ScriptFaultKind};
 use crate::meaning::{Draft, Meaning};
 use crate::number::{number, number16, number16_below, number32, number64};
 use crate::reading::Reading;
-use crate::rows::{Command, command_of};
+use crate::rows::{Command, Request, command_of};
 use crate::script::Item;
 use crate::settings::Settings;
 use crate::words::{behind_word, cut, word_at};
@@ -197,12 +197,12 @@ fn request<'a>(
     alloc: Global,
     reading: &Reading<'a>,
     words: &[&'a [u8]],
-    command: Command,
+    request: Request,
 ) -> Result<Draft<'a>, ScriptFaultKind>
-    ensures drafts { Answered draft_of result (spec.request_draft (known_of reading.now) (texts words.now) command) }
+    ensures drafts { Answered draft_of result (spec.request_draft (known_of reading.now) (texts words.now) request) }
     ensures follows { IfOk result (λ d. DraftFollows reading.now d) }
 {
-    let op = op_of(alloc, reading, words, command)?;
+    let op = op_of(alloc, reading, words, request)?;
     let core = reading.homes.get(domain_of(&op));
     Ok(Draft::Whole(Meaning::Does(Item::Ask(core, op))))
 }
@@ -371,6 +371,7 @@ fn draft_by<'a>(
         Command::Packet => packet(alloc, reading, words),
         Command::Capture => capture(settings, reading, words),
         Command::Home => home(reading, words),
+        Command::Request(asked) => request(alloc, reading, words, asked),
         Command::Start => Ok(act(Item::Begin)),
         Command::Submit => Ok(act(Item::Submit(number16(word_at(words, 1))?))),
         Command::StartFor => Ok(act(Item::StartFor(number16(word_at(words, 1))?))),
@@ -380,7 +381,6 @@ fn draft_by<'a>(
         Command::Settle => Ok(act(Item::Settle)),
         Command::Show => Ok(act(Item::Show(number16(word_at(words, 1))?))),
         Command::Trace => Ok(Draft::Whole(Meaning::Trace)),
-        _ => request(alloc, reading, words, command),
     }
 }
 

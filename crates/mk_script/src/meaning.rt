@@ -1,6 +1,5 @@
 //! What a line means.
 
-
 use crate::script::Item;
 use pcap_reader::{Packet, Packets};
 use table_replica::Program;

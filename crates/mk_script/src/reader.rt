@@ -199,7 +199,7 @@ pub fn read_script(
     // What is answered is what the text stands for.
     ensures found { IfOk result (λ script. Stands (settings files.now threads) text.now (Ok script)) }
     ensures refused { IfErr result (λ fault. (fault.kind ≡ NoMemory) ⊎ Stands (settings files.now threads) text.now (Err fault)) }
-    // That is within the limits of a machine and of its messages.
+    // That is within the limits of a machine and of its messages, and its requests enter at its cores.
     ensures limits { IfOk result HasLimits }
     // What the text stands for is answered, unless memory runs out.
     ensures only { (script : Script) → Stands (settings files.now threads) text.now (Ok script)

@@ -33,13 +33,8 @@ pub(crate) enum Command {
     Packet,
     Capture,
     Home,
-    Create,
-    Mint,
-    Revoke,
-    DropCap,
-    Install,
-    Remove,
-    Replace,
+    /// A request enters.
+    Request(Request),
     Start,
     Submit,
     StartFor,
@@ -49,6 +44,18 @@ pub(crate) enum Command {
     Settle,
     Show,
     Trace,
+}
+
+/// What a request asks for.
+#[derive(Clone, Copy, Debug)]
+pub(crate) enum Request {
+    Create,
+    Mint,
+    Revoke,
+    DropCap,
+    Install,
+    Remove,
+    Replace,
 }
 
 /// A command, and the words behind its own: what they are, and how many there are at least.
@@ -192,7 +199,7 @@ static ROWS: [Row; 22] = [
     },
     Row {
         word: b"create",
-        command: Command::Create,
+        command: Command::Request(Request::Create),
         least: 2,
         forms: &[Form::Any, Form::Any],
         open_ended: false,
@@ -200,7 +207,7 @@ static ROWS: [Row; 22] = [
     },
     Row {
         word: b"mint",
-        command: Command::Mint,
+        command: Command::Request(Request::Mint),
         least: 4,
         forms: &[Form::Any, Form::Any, Form::Any, Form::RightsWord],
         open_ended: false,
@@ -208,7 +215,7 @@ static ROWS: [Row; 22] = [
     },
     Row {
         word: b"revoke",
-        command: Command::Revoke,
+        command: Command::Request(Request::Revoke),
         least: 2,
         forms: &[Form::Any, Form::Any],
         open_ended: false,
@@ -216,7 +223,7 @@ static ROWS: [Row; 22] = [
     },
     Row {
         word: b"drop",
-        command: Command::DropCap,
+        command: Command::Request(Request::DropCap),
         least: 2,
         forms: &[Form::Any, Form::Any],
         open_ended: false,
@@ -224,7 +231,7 @@ static ROWS: [Row; 22] = [
     },
     Row {
         word: b"install",
-        command: Command::Install,
+        command: Command::Request(Request::Install),
         least: 3,
         forms: &[Form::Any, Form::Any, Form::Name],
         open_ended: false,
@@ -232,7 +239,7 @@ static ROWS: [Row; 22] = [
     },
     Row {
         word: b"remove",
-        command: Command::Remove,
+        command: Command::Request(Request::Remove),
         least: 2,
         forms: &[Form::Any, Form::Any],
         open_ended: false,
@@ -240,7 +247,7 @@ static ROWS: [Row; 22] = [
     },
     Row {
         word: b"replace",
-        command: Command::Replace,
+        command: Command::Request(Request::Replace),
         least: 3,
         forms: &[Form::Any, Form::Any, Form::Name],
         open_ended: false,

@@ -87,7 +87,17 @@ fn event<'a>(
         Command::StartFor => Ok(act(Item::StartFor(number16(word_at(words, 1))?))),
         Command::Take => take(words, is_short(rest)),
         Command::Rx => job(alloc, jobs, words),
-        _ => Err(ScriptFaultKind::BadLine),
+        Command::Cores
+        | Command::Asm
+        | Command::Ddd
+        | Command::Packet
+        | Command::Capture
+        | Command::Home
+        | Command::Request(_)
+        | Command::Replay
+        | Command::Settle
+        | Command::Show
+        | Command::Trace => Err(ScriptFaultKind::BadLine),
     }
 }
 
