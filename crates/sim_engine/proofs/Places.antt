@@ -1,10 +1,9 @@
 -- Places that are empty, or whose requests enter elsewhere.
-use Rattle.std.proofs.Common.{◌≡◌, ◌≢◌, ◌<◌, ◌+◌, ◌⊎◌, inl, inr, ℕ, zero, suc, Option, Some, None, List, [], ◌∷◌, ◌++◌, length, slice_get, slice_set, get_or, refl, ap, sym, ◌∙◌, subst, arith, length-append}
+use Rattle.std.proofs.Common.{◌≡◌, ◌≢◌, ◌<◌, ◌≤◌, ◌+◌, ◌⊎◌, inl, inr, ℕ, zero, suc, Option, Some, None, List, [], ◌∷◌, ◌++◌, length, slice_get, slice_set, get_or, refl, ap, sym, ◌∙◌, subst, arith, length-append}
 use Rattle.world_model.proofs.Lists.{length-slice_set}
-use Rattle.monitor_messages.specs.Coding.{HasShortProgram}
 use Rattle.sim_engine.specs.declared.requests.Request.{Request}
 use Rattle.sim_engine.specs.Pending.{left, FirstAt, NoneAt}
-use Rattle.sim_engine.specs.Keeping.{EmptyBefore, NoneBefore, IsKept}
+use Rattle.sim_engine.specs.Keeping.{EmptyBefore, NoneBefore, IsWellAsked, IsKept}
 
 pub get_at : {A : Type 0} (xs : List A) (i : ℕ) (x : A) → i < length xs → x ≡ get_or xs i x → slice_get xs i ≡ Some x
 get_at [] i x lt h = absurd (omega arith)
@@ -35,9 +34,13 @@ pub kept_from : (places : List (Option Request)) (first : ℕ) (firsts : List �
 kept_from places first firsts home from kept (inl none) = rw none (record { inside = omega arith; none = λ k request less here. absurd (omega arith) })
 kept_from places first firsts home from kept (inr at) = kept.homes home from at
 
+-- no request enters at a core that isn't there
+pub none_above : (places : List (Option Request)) (first : ℕ) (firsts : List ℕ) (home : ℕ) → IsKept places first firsts → 8 ≤ home → NoneBefore places home (length places)
+none_above places first firsts home kept above = record { inside = omega arith; none = λ k request less here. λ (same : request.home ≡ home). omega (arith, (kept.asked k request here).low, same, above) }
+
 pub kept_note : (places : List (Option Request)) (first : ℕ) (firsts firsts' : List ℕ) (home place : ℕ) → IsKept places first firsts → NoneBefore places home place
     → ((core from : ℕ) → slice_get firsts' core ≡ Some from → (slice_get firsts core ≡ Some from) ⊎ ((core ≡ home) × (from ≡ place))) → IsKept places first firsts'
-kept_note places first firsts firsts' home place kept none noted = record { short = kept.short; empty = kept.empty; homes = λ core from at. by core from (noted core from at) }
+kept_note places first firsts firsts' home place kept none noted = record { asked = kept.asked; empty = kept.empty; homes = λ core from at. by core from (noted core from at) }
   where
     by : (core from : ℕ) → (slice_get firsts core ≡ Some from) ⊎ ((core ≡ home) × (from ≡ place)) → NoneBefore places core from
     by core from (inl at) = kept.homes core from at
@@ -74,9 +77,9 @@ removed_get (x ∷ xs) (suc i) zero r h = h
 removed_get (x ∷ xs) (suc i) (suc k) r h = removed_get xs i k r h
 
 module _ (places : List (Option Request)) (first : ℕ) (firsts : List ℕ) (kept : IsKept places first firsts) where
-  pub kept_push : (request : Request) → HasShortProgram request.op → IsKept (places ++ Some request ∷ []) first firsts
-  kept_push request short = record {
-    short = λ k r at. by_short k r (pushed_get places (Some request) k r at);
+  pub kept_push : (request : Request) → IsWellAsked request → IsKept (places ++ Some request ∷ []) first firsts
+  kept_push request asked = record {
+    asked = λ k r at. by_asked k r (pushed_get places (Some request) k r at);
     empty = record { inside = omega (arith, kept.empty.inside, long); empty = λ k r less at. by_empty k r less (pushed_get places (Some request) k r at) };
     homes = λ home from at. let none = kept.homes home from at in
         record { inside = omega (arith, none.inside, long); none = λ k r less here. by_home home from none k r less (pushed_get places (Some request) k r here) };
@@ -85,9 +88,9 @@ module _ (places : List (Option Request)) (first : ℕ) (firsts : List ℕ) (kep
       long : length (places ++ Some request ∷ []) ≡ length places + 1
       long = length-append places (Some request ∷ [])
 
-      by_short : (k : ℕ) (r : Request) → (slice_get places k ≡ Some (Some r)) ⊎ ((k ≡ length places) × (Some request ≡ Some r)) → HasShortProgram r.op
-      by_short k r (inl e) = kept.short k r e
-      by_short k r (inr e) = let same : request ≡ r = some_is request r e.1 in subst (λ (q : Request). HasShortProgram q.op) same short
+      by_asked : (k : ℕ) (r : Request) → (slice_get places k ≡ Some (Some r)) ⊎ ((k ≡ length places) × (Some request ≡ Some r)) → IsWellAsked r
+      by_asked k r (inl e) = kept.asked k r e
+      by_asked k r (inr e) = let same : request ≡ r = some_is request r e.1 in subst IsWellAsked same asked
 
       by_empty : (k : ℕ) (r : Request) → k < first → (slice_get places k ≡ Some (Some r)) ⊎ ((k ≡ length places) × (Some request ≡ Some r)) → ⊥
       by_empty k r less (inl e) = kept.empty.empty k r less e
@@ -99,7 +102,7 @@ module _ (places : List (Option Request)) (first : ℕ) (firsts : List ℕ) (kep
 
   pub kept_remove : (place : ℕ) → IsKept (slice_set places place None) first firsts
   kept_remove place = record {
-    short = λ k r at. kept.short k r (removed_get places place k r at);
+    asked = λ k r at. kept.asked k r (removed_get places place k r at);
     empty = record { inside = omega (arith, kept.empty.inside, long); empty = λ k r less at. kept.empty.empty k r less (removed_get places place k r at) };
     homes = λ home from at. let none = kept.homes home from at in
         record { inside = omega (arith, none.inside, long); none = λ k r less here. none.none k r less (removed_get places place k r here) };

@@ -1,5 +1,5 @@
 -- How the requests are kept: a place for each, empty once it has been begun, and for each core the place to look from.
--- Their programs are short enough to be sent.
+-- They enter at cores below 8, and their programs are short enough to be sent.
 -- No public clause cites these.
 use Rattle.std.specs.Prelude.{◌≡◌, ◌≢◌, ◌<◌, ◌≤◌, ℕ, Some, Option, List, length, slice_get}
 use Rattle.monitor_messages.specs.Coding.{HasShortProgram}
@@ -15,8 +15,12 @@ pub record NoneBefore (places : List (Option Request)) (home end : ℕ) : Type 0
   pub inside : end ≤ length places
   pub none : (k : ℕ) (request : Request) → k < end → slice_get places k ≡ Some (Some request) → request.home ≢ home
 
+pub record IsWellAsked (request : Request) : Type 0 where
+  pub low : request.home < 8
+  pub short : HasShortProgram request.op
+
 pub record IsKept (places : List (Option Request)) (first : ℕ) (firsts : List ℕ) : Type 0 where
-  pub short : (k : ℕ) (request : Request) → slice_get places k ≡ Some (Some request) → HasShortProgram request.op
+  pub asked : (k : ℕ) (request : Request) → slice_get places k ≡ Some (Some request) → IsWellAsked request
   pub empty : EmptyBefore places first
   pub homes : (home from : ℕ) → slice_get firsts home ≡ Some from → NoneBefore places home from
 

@@ -2,6 +2,7 @@ pub mod Pending
 pub mod Ways
 pub mod Keeping
 pub mod Simulations
+pub mod Settling
 pub mod Writing
 pub mod Faults
 pub mod Inputs

@@ -31,10 +31,14 @@ ShowsSim files input status text =
     ⊎ (((67108864 < length input) ⊎ OneLonger files) × (status ≡ 1) × (text ≡ codes "fault InputTooLong\n"))
 
 -- a front of what the first of the script's items print
-abbrev pub ShowsPart : List (List ℕ) → List ℕ → List ℕ → Type 0
-ShowsPart files input text =
+abbrev pub ShowsFront : List (List ℕ) → List ℕ → List ℕ → Type 0
+ShowsFront files input text =
     (script : Script) × Stands (for_sim files) input (Ok script) × (done rest : List Item) × (script.items ≡ done ++ rest) × (more : List ℕ)
     × ShowsItems script.budgets done (text ++ more)
+
+-- such a front, where nothing is too long
+abbrev pub ShowsPart : List (List ℕ) → List ℕ → List ℕ → Type 0
+ShowsPart files input text = (length input ≤ 67108864) × AllWithin files × ShowsFront files input text
 
 -- the inputs of `sim`, as far as they are known
 abbrev pub AreSimInputs : Option (List ℕ) → List (Option (List ℕ)) → List ℕ → List (List ℕ) → Type 0

@@ -1,12 +1,12 @@
 //! `sim`: runs a script.
 
-ghost use Rattle.std.specs.Prelude.{◌≡◌, ◌≢◌, ◌<◌, ◌^◌, ◌++◌, ◌⊎◌, length, codes, ℕ, List, map, IfOk, IfErr, IsErrOf, OnOk};
+ghost use Rattle.std.specs.Prelude.{◌≡◌, ◌≢◌, ◌<◌, ◌^◌, ◌++◌, ◌⊎◌, length, codes, ℕ, List, map, IfOk, IfErr, IsErrOf};
 ghost use Rattle.std.specs.Io.KnownBytes.{Appends};
 ghost use Rattle.console.specs.Matching.{IsEngineFault, IsPrintFault};
 ghost use Rattle.mk_script.specs.Limits.{HasLimits};
 ghost use Rattle.mk_script.specs.declared.script.Item.{Item as GhostItem};
 ghost use Rattle.sim_engine.specs.Faults.{script_fault_line};
-ghost use Rattle.sim_engine.specs.Showing.{AreSimInputs, ShowsSim, ShowsPart, ShowsItems, ShowsScript};
+ghost use Rattle.sim_engine.specs.Showing.{AreSimInputs, ShowsSim, ShowsPart, ShowsFront, ShowsItems, ShowsScript};
 
 use crate::faults::fault_line;
 use crate::files::read_files;
@@ -66,7 +66,7 @@ pub fn run_sim_over<C: Channel, R: Read, F: Read + Drop, W: Write>(
     run_text::<C, W>(alloc, input.as_slice(), inputs.as_slice(), writer)
 }
 
-// Says that an input is too long.
+/// Says that an input is too long.
 fn too_long<W: Write>(writer: &mut W) -> Result<u8, EngineFault>
     ensures shown { IfOk result (λ status. (status ≡ 1) × Appends (W.contents writer.old) (W.contents writer.new) (codes "fault InputTooLong\n")) }
     ensures fault { IfErr result (λ e. e ≡ EngineFault.WriteFailed) }
@@ -75,7 +75,7 @@ fn too_long<W: Write>(writer: &mut W) -> Result<u8, EngineFault>
     Ok(1)
 }
 
-// Runs a script that was read, with its files.
+/// Runs a script that was read, with its files.
 fn run_text<C: Channel, W: Write>(
     alloc: Global,
     input: &[u8],
@@ -86,7 +86,7 @@ fn run_text<C: Channel, W: Write>(
     ensures shown { IfOk result (λ status. (text : List ℕ) × Appends (W.contents writer.old) (W.contents writer.new) text × ShowsScript (map (λ v. v.items) inputs.now) input.now status text) }
     ensures fault { IfErr result IsPrintFault }
     ensures part { IsErrOf result EngineFault.NoMemory → (writer.new ≡ writer.old) ⊎ ((text : List ℕ) × Appends (W.contents writer.old) (W.contents writer.new) text
-        × ShowsPart (map (λ v. v.items) inputs.now) input.now text) }
+        × ShowsFront (map (λ v. v.items) inputs.now) input.now text) }
 {
     match read_script(alloc, input, inputs, false) {
         Ok(script) => run_script::<C, W>(alloc, &script, writer),
@@ -94,7 +94,7 @@ fn run_text<C: Channel, W: Write>(
     }
 }
 
-// Prints the line for a script's fault.
+/// Prints the line for a script's fault.
 fn refuse<W: Write>(alloc: Global, fault: ScriptFault, writer: &mut W) -> Result<u8, EngineFault>
     ensures shown { IfOk result (λ status. (status ≡ 1) × (fault.kind ≢ ScriptFaultKind.NoMemory) × Appends (W.contents writer.old) (W.contents writer.new) (script_fault_line fault)) }
     ensures fault { IfErr result IsPrintFault }
@@ -108,7 +108,7 @@ fn refuse<W: Write>(alloc: Global, fault: ScriptFault, writer: &mut W) -> Result
     Ok(1)
 }
 
-// Does what a script asks for.
+/// Does what a script asks for.
 fn run_script<C: Channel, W: Write>(
     alloc: Global,
     script: &Script,

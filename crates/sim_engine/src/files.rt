@@ -25,7 +25,7 @@ pub(crate) fn read_files<F: Read + Drop>(
     if long { Ok(None) } else { Ok(Some(held)) }
 }
 
-// Reads one file, unless one before it is too long, and tells whether one is now.
+/// Reads one file, unless one before it is too long, and tells whether one is now.
 fn keep_unless<F: Read>(
     alloc: Global,
     long: bool,
@@ -43,7 +43,7 @@ fn keep_unless<F: Read>(
     Ok(!whole)
 }
 
-// Reads one file, and tells whether it was not too long.
+/// Reads one file, and tells whether it was not too long.
 fn keep<F: Read>(alloc: Global, file: &mut F, held: &mut Vec<Vec<u8>>) -> Result<bool, EngineFault>
     ensures kept { IfOk result (Kept (F.remaining file.old) (map (λ v. v.items) held.old.items) (map (λ v. v.items) held.new.items)) }
     ensures fault { IfErr result IsReadFault }
@@ -57,7 +57,7 @@ fn keep<F: Read>(alloc: Global, file: &mut F, held: &mut Vec<Vec<u8>>) -> Result
     }
 }
 
-// Keeps what a file holds.
+/// Keeps what a file holds.
 fn push(held: &mut Vec<Vec<u8>>, bytes: Vec<u8>) -> Result<(), AllocError>
     ensures { OnOk result (held.new.items ≡ held.old.items ++ bytes ∷ []) }
 {

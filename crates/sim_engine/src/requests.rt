@@ -1,6 +1,6 @@
 //! The requests of a script that wait to be begun.
 
-ghost use Rattle.std.specs.Prelude.{◌≡◌, ◌+◌, ◌<◌, ◌≤◌, ◌++◌, ◌∷◌, [], ℕ, List, Option, Some, None, length, slice_get, slice_set, ◌⊎◌, MatchOption, OnOk, IfOk, IfSome, IfNone, IsTrue, IsFalse, ◌≢◌};
+ghost use Rattle.std.specs.Prelude.{◌≡◌, ◌+◌, ◌<◌, ◌++◌, ◌∷◌, [], ℕ, List, Option, Some, None, length, slice_get, slice_set, ◌⊎◌, MatchOption, OnOk, IfOk, IfSome, IfNone, IsTrue, IsFalse, ◌≢◌};
 ghost use Rattle.monitor_messages.specs.Coding.{HasShortProgram};
 ghost use Rattle.sim_engine.specs.Keeping.{IsKept, EmptyBefore, NoneBefore, IsFirst, IsFirstAt};
 ghost use Rattle.sim_engine.specs.declared.requests.Request.{Request as GhostRequest};
@@ -10,7 +10,7 @@ use std::marker::Model;
 use table_replica::Op;
 
 /// The most cores.
-const CORES: usize = 8;
+pub(crate) const CORES: u16 = 8;
 
 /// A request, and the core that it enters at.
 #[derive(Drop)]
@@ -20,7 +20,7 @@ pub struct Request {
 }
 
 /// Requests in the order in which they were asked for, seen as a list of places, of which those that were begun are empty.
-/// Their programs are short enough to be sent.
+/// They enter at cores below 8, and their programs are short enough to be sent.
 #[derive(Drop)]
 pub(crate) struct Requests {
     places: Vec<Option<Request>>,
@@ -50,13 +50,14 @@ impl Requests {
         Ok(Requests {
             places: Vec::new(alloc),
             first: 0,
-            firsts: vec![in alloc; 0; CORES]?,
+            firsts: vec![in alloc; 0; usize::from(CORES)]?,
         })
     }
 
     /// One more request, last.
     pub(crate) fn push(&mut self, request: Request) -> Result<(), AllocError>
-        requires { HasShortProgram request.op }
+        requires low { request.home < 8 }
+        requires short { HasShortProgram request.op }
         ensures { OnOk result (self.new ≡ self.old ++ Some request ∷ []) }
     {
         self.places.push(Some(request))?;
@@ -91,6 +92,10 @@ impl Requests {
         ensures same { self.new ≡ self.old }
     {
         let from = from_at(&self.firsts, home);
+        // Such a core has no place to look from, and no request.
+        if home >= CORES {
+            return None;
+        }
         let place = next_at(&self.places, home, from);
         note(&mut self.firsts, home, place);
         if place < self.places.len() {
@@ -109,7 +114,7 @@ impl Requests {
     }
 }
 
-// The first place from this one on that isn't empty, or the end.
+/// The first place from this one on that isn't empty, or the end.
 fn next_place(places: &[Option<Request>], from: usize) -> usize
     requires { EmptyBefore places.now from }
     ensures empty { EmptyBefore places.now result }
@@ -123,7 +128,7 @@ fn next_place(places: &[Option<Request>], from: usize) -> usize
     places.len()
 }
 
-// The place to look from for a core's first request.
+/// The place to look from for a core's first request.
 fn from_at(firsts: &[usize], home: u16) -> usize
     ensures { (result ≡ 0) ⊎ (slice_get firsts.now home ≡ Some result) }
 {
@@ -133,7 +138,7 @@ fn from_at(firsts: &[usize], home: u16) -> usize
     }
 }
 
-// Notes the place to look from for a core's next first request.
+/// Notes the place to look from for a core's next first request.
 #[tactic(auto, using(crate::proofs::Places::set_get))]
 fn note(firsts: &mut Vec<usize>, home: u16, place: usize)
     ensures { (core from : ℕ) → slice_get firsts.new.items core ≡ Some from → (slice_get firsts.old.items core ≡ Some from) ⊎ ((core ≡ home) × (from ≡ place)) }
@@ -144,7 +149,7 @@ fn note(firsts: &mut Vec<usize>, home: u16, place: usize)
     }
 }
 
-// The first place from this one on whose request enters at the core, or the end.
+/// The first place from this one on whose request enters at the core, or the end.
 fn next_at(places: &[Option<Request>], home: u16, from: usize) -> usize
     requires { NoneBefore places.now home from }
     ensures none { NoneBefore places.now home result }
@@ -158,7 +163,7 @@ fn next_at(places: &[Option<Request>], home: u16, from: usize) -> usize
     places.len()
 }
 
-// Whether there is a request that enters at the core.
+/// Whether there is a request that enters at the core.
 fn enters_at(place: &Option<Request>, home: u16) -> bool
     ensures yes { IsTrue result → (request : GhostRequest) × (place.now ≡ Some request) × (request.home ≡ home) }
     ensures no { IsFalse result → (request : GhostRequest) → place.now ≡ Some request → request.home ≢ home }

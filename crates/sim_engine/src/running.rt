@@ -1,10 +1,10 @@
 //! A script's items, one after the other.
 
-ghost use Rattle.std.specs.Prelude.{◌≡◌, ◌≢◌, ◌++◌, [], ℕ, List, OnOk, IfErr, IsErrOf};
+ghost use Rattle.std.specs.Prelude.{◌≡◌, ◌++◌, ℕ, List, OnOk, IfErr, IsErrOf};
 ghost use Rattle.std.specs.Io.KnownBytes.{Appends};
 ghost use Rattle.console.specs.Matching.{IsPrintFault};
 ghost use Rattle.std.specs.List.{All};
-ghost use Rattle.mk_script.specs.Limits.{IsLimited};
+ghost use Rattle.mk_script.specs.Limits.{EntersBelow, IsLimited};
 ghost use Rattle.world_core.specs.Refusals.{IsShortEvent};
 ghost use Rattle.mk_script.specs.declared.script.Item.{Item as GhostItem};
 ghost use Rattle.sim_engine.specs.declared.requests.Request.{Request as GhostRequest};
@@ -28,7 +28,8 @@ pub(crate) fn perform_all<C: Channel, W: Write>(
     items: &[Item],
     writer: &mut W,
 ) -> Result<(), EngineFault>
-    requires { All IsLimited items.now }
+    requires limited { All IsLimited items.now }
+    requires entered { All (EntersBelow 8) items.now }
     ensures shown { OnOk result ((s' : Simulation) × (text : List ℕ) × Performs (just world.old) items.now s' text
         × Appends (W.contents writer.old) (W.contents writer.new) text) }
     ensures fault { IfErr result IsPrintFault }
@@ -44,7 +45,7 @@ pub(crate) fn perform_all<C: Channel, W: Write>(
     write_bytes(writer, text.as_slice())
 }
 
-// Writes the text that was kept back, once there is much of it.
+/// Writes the text that was kept back, once there is much of it.
 fn write_block<W: Write>(writer: &mut W, text: &mut Vec<u8>) -> Result<(), EngineFault>
     ensures written { OnOk result (Wrote (W.contents writer.old) (W.contents writer.new) text.old.items text.new.items) }
     ensures fault { IfErr result (λ e. e ≡ EngineFault.WriteFailed) }
@@ -56,7 +57,7 @@ fn write_block<W: Write>(writer: &mut W, text: &mut Vec<u8>) -> Result<(), Engin
     Ok(())
 }
 
-// Does an item, and adds what it prints to the text.
+/// Does an item, and adds what it prints to the text.
 fn perform<C: Channel>(
     alloc: Global,
     world: &mut WorldOver<C>,
@@ -64,7 +65,8 @@ fn perform<C: Channel>(
     item: &Item,
     text: &mut Vec<u8>,
 ) -> Result<(), AllocError>
-    requires { IsLimited item.now }
+    requires limited { IsLimited item.now }
+    requires entered { EntersBelow 8 item.now }
     ensures { OnOk result ((lines : List ℕ) × Does (sim world.old requests.old) item.now (sim world.new requests.new) lines
         × (text.new.items ≡ text.old.items ++ lines)) }
 {
@@ -82,7 +84,7 @@ fn perform<C: Channel>(
     }
 }
 
-// Does an event, or says why it is not done.
+/// Does an event, or says why it is not done.
 fn apply<C: Channel>(
     alloc: Global,
     world: &mut WorldOver<C>,

@@ -11,10 +11,10 @@ ghost use Rattle.world_core.specs.declared.fault.WorldFault.{WorldFault as Ghost
 ghost use Rattle.world_core.specs.Refusals.{IsShortEvent, waiting_at};
 ghost use Rattle.sim_lines.specs.Events.{event_line};
 ghost use Rattle.sim_engine.specs.Keeping.{IsFirst};
-ghost use Rattle.sim_engine.specs.Simulations.{Tells, Applies, Begins, Quiets, BeginsNext, NoneWaits, SettlesAll, Shows, done_line, no_core_line, nothing_line, sim};
+ghost use Rattle.sim_engine.specs.Simulations.{Tells, Begins, Quiets, BeginsNext, NoneWaits, SettlesAll, Shows, done_line, no_core_line, nothing_line, sim};
 ghost use Rattle.sim_engine.specs.Ways.{event_of, way_of};
 
-use crate::requests::Requests;
+use crate::requests::{CORES, Requests};
 use crate::way::Way;
 use sim_lines::{line_of, show_core};
 use std::alloc::{AllocError, Global};
@@ -22,9 +22,6 @@ use std::fmt::Write;
 use table_replica::Op;
 use world_core::{Channel, WorldFault, WorldOver};
 use world_model::{Done, Event};
-
-/// The most cores.
-const CORES: u16 = 8;
 
 /// Begins the first request of the way's core.
 pub(crate) fn begin<C: Channel>(
@@ -50,7 +47,7 @@ pub(crate) fn begin<C: Channel>(
     Ok(())
 }
 
-// Says that there is nothing to begin so.
+/// Says that there is nothing to begin so.
 fn push_nothing(alloc: Global, by: Way, text: &mut Vec<u8>) -> Result<(), AllocError>
     ensures { OnOk result (text.new.items ≡ text.old.items ++ nothing_line by) }
 {
@@ -63,7 +60,7 @@ fn push_nothing(alloc: Global, by: Way, text: &mut Vec<u8>) -> Result<(), AllocE
     }
 }
 
-// Begins a request, or says why it is not begun, and tells whether it was.
+/// Begins a request, or says why it is not begun, and tells whether it was.
 fn begin_one<C: Channel>(
     alloc: Global,
     world: &mut WorldOver<C>,
@@ -110,17 +107,15 @@ pub(crate) fn settle<C: Channel>(
         × (text.new.items ≡ text.old.items ++ lines)) }
 {
     quiet(alloc, world, text)?;
-    // No list has so many requests.
-    for _ in 0..u64::MAX {
+    'requests: loop {
         if !begin_next(alloc, world, requests, text)? {
             return Ok(());
         }
         quiet(alloc, world, text)?;
     }
-    Err(AllocError)
 }
 
-// Begins what is next, if something is left, and tells whether it was begun.
+/// Begins what is next, if something is left, and tells whether it was begun.
 fn begin_next<C: Channel>(
     alloc: Global,
     world: &mut WorldOver<C>,
@@ -139,7 +134,7 @@ fn begin_next<C: Channel>(
     }
 }
 
-// The least core that has a request waiting on core 0.
+/// The least core that has a request waiting on core 0.
 fn least_waiting<C: Channel>(world: &WorldOver<C>) -> Option<u16>
     ensures { MatchOption result (NoneWaits world.now) (λ core. (op : GhostOp) × (waiting_at world.now core ≡ Some op)
         × ((less : ℕ) → less < core → waiting_at world.now less ≡ None)) }
@@ -152,7 +147,7 @@ fn least_waiting<C: Channel>(world: &WorldOver<C>) -> Option<u16>
     None
 }
 
-// Takes all messages.
+/// Takes all messages.
 fn quiet<C: Channel>(
     alloc: Global,
     world: &mut WorldOver<C>,
@@ -165,7 +160,7 @@ fn quiet<C: Channel>(
     push_taken(alloc, taken, text)
 }
 
-// The lines of messages that were taken.
+/// The lines of messages that were taken.
 fn push_taken(alloc: Global, taken: Vec<Done>, text: &mut Vec<u8>) -> Result<(), AllocError>
     ensures { OnOk result (text.new.items ≡ text.old.items ++ flat_map done_line taken.items) }
 {
@@ -195,7 +190,7 @@ pub(crate) fn show<C: Channel>(
     }
 }
 
-// Says that there is no such core to show.
+/// Says that there is no such core to show.
 fn push_no_core(alloc: Global, core: u16, text: &mut Vec<u8>) -> Result<(), AllocError>
     ensures { OnOk result (text.new.items ≡ text.old.items ++ no_core_line core) }
 {
@@ -203,7 +198,7 @@ fn push_no_core(alloc: Global, core: u16, text: &mut Vec<u8>) -> Result<(), Allo
     text.extend_from_slice(line.as_bytes())
 }
 
-// Begins the request at the first place by its own way, and tells whether it was begun.
+/// Begins the request at the first place by its own way, and tells whether it was begun.
 fn begin_at<C: Channel>(
     alloc: Global,
     world: &mut WorldOver<C>,

@@ -25,3 +25,21 @@ returns-clause-shown g c =
         inl (gave.2, read.1, rw c.as_slice.ensures.value at (rw c.as_slice-2.ensures.value at e.2)),
       ),
     ))
+
+pub returns-clause-part : goal.returns-clause-part
+returns-clause-part g c = λ failed.
+    let gave = rw c.in-Whole.is at c.in_ok-input.ensures.input in
+    let read = rw c.in-Some.is at c.in_ok-inputs.ensures.read in
+    elim (c.run_text.ensures.part failed) [
+      | inl same ↦ inl same
+      | inr e ↦ inr (
+        e.0,
+        e.1,
+        (
+          c.in-Whole.input.items,
+          map (λ v. v.items) c.in-Some.inputs.items,
+          (whole_input _ _ _ gave.0 gave.1, read.0),
+          (gave.2, read.1, rw c.as_slice.ensures.value at (rw c.as_slice-2.ensures.value at e.2)),
+        ),
+      )
+    ]

@@ -6,4 +6,4 @@ use Rattle.sim_engine.proofs.requests.Requests.push.Goals as goal
 
 pub invariant_of-self-2 : goal.invariant_of-self-2
 invariant_of-self-2 c = subst (λ (ps : List (Option Request)). IsKept ps c.self.inside.first c.self.inside.firsts.items) (sym c.in_ok-push.ensures.items)
-    (kept_push c.self.inside.places.items c.self.inside.first c.self.inside.firsts.items c.self.invariant c.args.request c.requires)
+    (kept_push c.self.inside.places.items c.self.inside.first c.self.inside.firsts.items c.self.invariant c.args.request (record { low = c.requires.low; short = c.requires.short }))
