@@ -1,5 +1,5 @@
 -- Two-phase commit at core 0, case by case (Gray 1978, "Notes on data base operating systems", section 5.8.3;
--- Baumann et al. 2009, "The Multikernel", section 4.7: agreement between monitors).
+-- Baumann et al. 2009, "The Multikernel", section 4.4: agreement between monitors).
 use Rattle.std.specs.Prelude.{◌≡◌, ◌≢◌, ◌+◌, ◌<◌, ℕ, suc, Bool, true, false, cond, Option, Some, None, IsSome, List, length, slice_get, slice_set}
 use Rattle.std.specs.List.{list_all}
 use Rattle.std.proofs.Common.{replicate}

@@ -1,5 +1,5 @@
 -- Two-phase commit at a core other than core 0, case by case (Gray 1978, "Notes on data base operating systems", section 5.8.3;
--- Baumann et al. 2009, "The Multikernel", section 4.7: agreement between monitors).
+-- Baumann et al. 2009, "The Multikernel", section 4.4: agreement between monitors).
 use Rattle.std.specs.Prelude.{◌≡◌, ◌+◌, ◌<◌, ◌≤◌, ℕ, Bool, false, Option, Some, None, IsSome}
 use Rattle.endpoint_caps.specs.Capabilities.{first}
 use Rattle.table_replica.specs.declared.Op.{Op}

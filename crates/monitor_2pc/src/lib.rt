@@ -1,6 +1,6 @@
 //! Two-phase commit between core 0, which coordinates, and the other cores, so that each change of the table is made at every
 //! core or at none (Gray, "Notes on data base operating systems", 1978, section 5.8.3; Baumann and others, "The Multikernel",
-//! SOSP 2009, section 4.7).
+//! SOSP 2009, section 4.4).
 //!
 //! Core 0 is idle, waits for votes, or waits for acknowledgements. A request is staged on core 0; what refuses it there decides
 //! it at once. Otherwise it gets the next number and every other core is asked (Prepare). Each stages the request and votes.

@@ -164,6 +164,9 @@ fn strangers_among_votes(rt: HostRuntime) -> Result<(), Fail> {
     votes_of_strangers(&rt, &mut core, &mut replica);
     let again = core.start(rt.alloc(), &mut replica, &create(8));
     assert_eq!(rt; again, Err(StartFault::NotIdle));
+    let last = core.vote(&mut replica, 2, 1, Vote::Yes);
+    let decided = Some(committed(1, Made::Cap(1)));
+    assert_eq!(rt; last, Ok(told(1, Some(Say::Commit), decided)));
     Ok(())
 }
 

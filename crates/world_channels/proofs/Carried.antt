@@ -86,14 +86,6 @@ front lines is some = at (messages_of lines) refl
           first = ap (λ l. slice_get (messages_in l) 0) cut ∙ ap (λ t. slice_get t 0) (messages-first (coded 0 m) 0 (flat_map lines_for ms) carried.sized);
         }
 
--- no lines, no messages
-pub none_held : (lines : List (List ℕ)) → length lines ≡ 0 → messages_of lines ≡ []
-none_held [] e = refl
-none_held (line ∷ lines) e = absurd (omega arith)
-
-pub some_held : (lines : List (List ℕ)) → Carries lines → 0 < length lines → messages_of lines ≡ [] → ⊥
-some_held lines is some none = let f : Front lines = front lines is some in let e : f.m ∷ f.ms ≡ [] = sym f.held ∙ none in cc
-
 -- how many lines the oldest has
 pub front_count : (lines : List (List ℕ)) (f : Front lines) → line_count (length (coded 0 f.m)) ≤ length lines
 front_count lines f = omega (arith, ap length f.cut, length-append (lines_for f.m) (flat_map lines_for f.ms), length-lines_below (length (coded 0 f.m)) (coded 0 f.m) 0 (line_count (length (coded 0 f.m))))

@@ -1,29 +1,24 @@
 -- What the calls of the world answer, from what its cores do.
-use Rattle.std.proofs.Common.{◌≡◌, ◌≢◌, ◌∙◌, ◌-◌, ◌≤◌, ◌<◌, ◌∷◌, [], ℕ, suc, Bool, true, Option, None, Some, List, Result, Ok, Err, length, slice_get, slice_set, refl, ap, sym, subst, arith}
+use Rattle.std.proofs.Common.{◌≡◌, ◌≢◌, ◌∙◌, ◌-◌, ◌<◌, ◌∷◌, [], ℕ, suc, Bool, true, Option, None, Some, List, Result, Ok, Err, length, slice_get, slice_set, refl, ap, sym, subst, arith}
 use Rattle.std.specs.Prelude.{option_map, option_and_then, IfOk, IfErr, IsErrAnd, OnErr}
 use Rattle.table_replica.specs.declared.Op.{Op}
-use Rattle.table_replica.specs.declared.Kept.{Kept}
-use Rattle.table_replica.specs.Tables.{Accepting}
-use Rattle.table_replica.specs.Shown.{ReplicaState}
 use Rattle.monitor_messages.specs.declared.message.Message.{Message}
-use Rattle.pcap_reader.specs.declared.capture.Packet.{Packet}
 use Rattle.world_model.specs.declared.event.Event.{Event}
-use Rattle.world_model.specs.declared.event.Event.TheVariants.{Submit, StartFor, Take, Rx}
+use Rattle.world_model.specs.declared.event.Event.TheVariants.{Submit, StartFor, Take}
 use Rattle.world_model.specs.declared.event.Answer.{Answer}
-use Rattle.world_model.specs.declared.event.Answer.TheVariants.{Delivered}
 use Rattle.world_core.specs.declared.fault.WorldFault.{WorldFault}
 use Rattle.world_core.specs.declared.fault.WorldFault.TheVariants.{NoSuchCore, Nothing, NotReady, NotIdle, Spent, Outstanding, NoneWaiting, NoMemory}
 use Rattle.world_core.specs.declared.home.Home.{Home}
 use Rattle.world_core.specs.declared.peer.Peer.{Peer}
-use Rattle.world_model.specs.Cases.{captured}
 use Rattle.world_model.specs.Worlds as worlds
 use Rattle.world_channels.specs.Channels.{first_of}
 use Rattle.monitor_2pc.specs.Coordinators.{Idle}
-use Rattle.world_core.specs.Refusals.{channel, StandsFirst, WorldRefuses, StartForRefuses}
+use Rattle.world_core.specs.Refusals.{channel, StandsFirst, WorldRefuses}
+use Rattle.world_core.specs.Moves.{StartForRefuses}
 use Rattle.world_core.specs.Keeping.{seen_peer, seen_world, WorldIsKept, PeerCannotSubmit, PeerCannotTake, ChangesOne, Submits, Takes, ReadyToTake}
 use Rattle.world_core.specs.Shown.{ShowsReplica}
-use Rattle.world_model.proofs.Lists.{map_get, get_at, beyond}
-use Rattle.world_core.proofs.WorldKeeping.{peer_shows, no_version, no_core}
+use Rattle.world_model.proofs.Lists.{map_get, get_at}
+use Rattle.world_core.proofs.WorldKeeping.{peer_shows, no_version}
 use Rattle.world_core.proofs.PeerKeeping.{seen_same, submit_happens, submit_kept, awaits_oldest, take_happens, take_kept}
 
 -- Entries
@@ -38,30 +33,6 @@ pub entry_none : {C Piece : Type 0} (messages : C → List Message) (home : Home
 entry_none messages home peers w core view ne at =
     let e : suc (core - 1) ≡ core = omega (arith, ne) in
     subst (λ (x : worlds.World). worlds.version_at x core ≡ None) view (subst (λ (n : ℕ). worlds.version_at (seen_world messages home peers) n ≡ None) e (no_version messages home peers (core - 1) at))
-
--- Packets
-
-pub rx_happens : (w : worlds.World) (core number floor : ℕ) (packet : Packet) (kept : List Kept) (r : ReplicaState) → ShowsReplica w core r → floor ≤ r.shown.version → Accepting r.shown (captured packet) kept
-    → worlds.Happens w (Rx core number packet floor) w (Delivered r.shown.version kept)
-rx_happens w core number floor packet kept r s le accepting = record {
-  version = s.version;
-  is_version = s.is_version;
-  here = record { kept = kept; above_floor = rw (← s.numbered) le; accepting = rw (← s.shown) accepting; is_answer = ap (λ (v : ℕ). Delivered v kept) s.numbered };
-  next = refl;
-}
-
-pub rx_not_ready : (w : worlds.World) (core number floor : ℕ) (packet : Packet) (r : ReplicaState) → ShowsReplica w core r → r.shown.version < floor → WorldRefuses w (Rx core number packet floor) NotReady
-rx_not_ready w core number floor packet r s lt = (s.version, s.is_version, rw (← s.numbered) lt)
-
-pub rx_no_memory : (w : worlds.World) (core number floor : ℕ) (packet : Packet) (r : ReplicaState) → ShowsReplica w core r → floor ≤ r.shown.version → WorldRefuses w (Rx core number packet floor) NoMemory
-rx_no_memory w core number floor packet r s le NoSuchCore h = cc (s.is_version, h)
-rx_no_memory w core number floor packet r s le NotReady h = let e : h.0 ≡ s.version = cc (h.1, s.is_version) in omega (arith, e, h.2, le, s.numbered)
-rx_no_memory w core number floor packet r s le Nothing h = h
-rx_no_memory w core number floor packet r s le NotIdle h = h
-rx_no_memory w core number floor packet r s le Spent h = h
-rx_no_memory w core number floor packet r s le Outstanding h = h
-rx_no_memory w core number floor packet r s le NoneWaiting h = h
-rx_no_memory w core number floor packet r s le NoMemory h = h
 
 -- A core's own events
 
@@ -148,19 +119,6 @@ take_answered messages home peers peers' w w' core entry short r k view view' e 
 
 pub take_ready : {C Piece : Type 0} (messages : C → List Message) (home : Home) (peers : List (Peer C Piece)) (entry : ℕ) → WorldIsKept messages home peers → (p : Peer C Piece) → slice_get peers entry ≡ Some p → ReadyToTake messages p
 take_ready messages home peers entry k p at = record { staged = (k.peers_kept entry p at).staged; awaits = awaits_oldest messages home peers entry p k at }
-
--- no such core
-pub no_channel_up : {C Piece : Type 0} (messages : C → List Message) (home : Home) (peers : List (Peer C Piece)) (w : worlds.World) (core : ℕ) → seen_world messages home peers ≡ w → core ≢ 0 → length peers < core → channel w 0 core ≡ None
-no_channel_up messages home peers w core view ne long =
-    let e : suc (core - 1) ≡ core = omega (arith, ne) in
-    subst (λ (x : worlds.World). channel x 0 core ≡ None) view (subst (λ (n : ℕ). channel (seen_world messages home peers) 0 n ≡ None) e
-    (ap (option_map (λ (p : worlds.Peer). p.up)) (no_core messages peers (core - 1) (beyond peers (core - 1) (omega (arith, long))))))
-
-pub no_channel_down : {C Piece : Type 0} (messages : C → List Message) (home : Home) (peers : List (Peer C Piece)) (w : worlds.World) (core : ℕ) → seen_world messages home peers ≡ w → core ≢ 0 → length peers < core → channel w core 0 ≡ None
-no_channel_down messages home peers w core view ne long =
-    let e : suc (core - 1) ≡ core = omega (arith, ne) in
-    subst (λ (x : worlds.World). channel x core 0 ≡ None) view (subst (λ (n : ℕ). channel (seen_world messages home peers) n 0 ≡ None) e
-    (ap (option_map (λ (p : worlds.Peer). p.down)) (no_core messages peers (core - 1) (beyond peers (core - 1) (omega (arith, long))))))
 
 -- What a call tells
 

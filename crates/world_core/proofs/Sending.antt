@@ -9,9 +9,6 @@ use Rattle.world_model.specs.Worlds as worlds
 use Rattle.world_core.specs.Keeping.{seen_peer, EachMatches, Readied, IsSent, HasRoom, RoomBelow, RoomFrom}
 use Rattle.world_model.proofs.Lists.{get-set_same, get-set_other, length-slice_set, get_within, get_at, get_front, get_end, get_map, same_or_not}
 
-pub readied_self : {C Piece : Type 0} (messages : C → List Message) (peers : List (Peer C Piece)) → EachMatches (Readied messages) peers peers
-readied_self messages peers = (refl, λ k p p' a b. (let e : p ≡ p' = cc in rw (← e) (record { replica = refl; participant = refl; down = refl; up = refl })))
-
 readied_then : {C Piece : Type 0} (messages : C → List Message) (p q r : Peer C Piece) → Readied messages p q → Readied messages q r → Readied messages p r
 readied_then messages p q r a b = record { replica = b.replica ∙ a.replica; participant = b.participant ∙ a.participant; down = b.down ∙ a.down; up = b.up ∙ a.up }
 
@@ -52,9 +49,6 @@ pub record SentBelow {C Piece : Type 0} (messages : C → List Message) (m : Mes
   pub long : length peers ≡ length first
   pub before : (k : ℕ) (p p' : Peer C Piece) → k < n → slice_get first k ≡ Some p → slice_get peers k ≡ Some p' → IsSent messages m p p'
   pub from : (k : ℕ) → n ≤ k → slice_get peers k ≡ slice_get first k
-
-pub sent_none : {C Piece : Type 0} (messages : C → List Message) (m : Message) (peers : List (Peer C Piece)) → SentBelow messages m peers peers 0
-sent_none messages m peers = record { long = refl; before = λ k p p' lt a b. absurd (omega arith); from = λ k le. refl }
 
 pub sent_set : {C Piece : Type 0} (messages : C → List Message) (m : Message) (first peers : List (Peer C Piece)) (i : ℕ) (d q : Peer C Piece) → i < length peers → SentBelow messages m first peers i → IsSent messages m (slice_index_or peers i d) q
     → SentBelow messages m first (slice_set peers i q) (i + 1)

@@ -1,16 +1,17 @@
 -- Settling, one take after another.
-use Rattle.std.proofs.Common.{◌≡◌, ◌≢◌, ◌++◌, ◌∷◌, ◌<◌, inl, inr, ℕ, suc, false, Option, None, Some, List, [], slice_get, refl, ap, subst}
+use Rattle.std.proofs.Common.{◌≡◌, ◌≢◌, ◌++◌, ◌∷◌, ◌<◌, inr, ℕ, suc, false, Option, None, Some, List, [], slice_get, refl, ap, subst}
 use Rattle.std.specs.Prelude.{option_map, Result, Ok, Err, IfOk}
 use Rattle.monitor_2pc.specs.Coordinators.{Idle}
 use Rattle.world_model.specs.declared.event.Event.TheVariants.{Take}
 use Rattle.world_model.specs.declared.event.Answer.{Answer}
 use Rattle.world_model.specs.declared.event.Done.{Done}
-use Rattle.world_model.specs.Worlds.{Peer, World, Happens, Runs}
+use Rattle.world_model.specs.Worlds.{Peer, World, boot, Happens, Runs}
 use Rattle.world_model.proofs.Agreement.{run_inv}
 use Rattle.world_model.proofs.RunLaws.{run_agrees}
+use Rattle.world_model.proofs.Runs.{runs_append}
 use Rattle.world_core.specs.declared.fault.WorldFault.{WorldFault}
 use Rattle.world_core.specs.declared.fault.WorldFault.TheVariants.{NoSuchCore, Nothing, NotReady, NotIdle, Spent, Outstanding, NoneWaiting, NoMemory}
-use Rattle.world_core.specs.Refusals.{WorldRefuses, Reached, AllQuiet, IsNext, Settles}
+use Rattle.world_core.specs.Refusals.{WorldRefuses, Reached, Extends, AllQuiet, IsNext, Settles}
 use Rattle.world_core.specs.Settling.{takes_left, NoneDown, IsTaken, TakenDown, TakenUp, TakenNext}
 use Rattle.world_core.proofs.Loads.{next_leaves}
 
@@ -19,10 +20,13 @@ pub settles_more : (w mid w' : World) (events : List Done) (done : Done) → Set
 settles_more w mid w' [] done s t = (w', subst (λ (x : World). IsNext x done.event) s t.next, subst (λ (x : World). Happens x done.event w' done.answer) s t.happens, refl)
 settles_more w mid w' (first ∷ events) done s t = (s.0, s.1, s.2, settles_more s.0 mid w' events done (s.3) t)
 
--- what settles is a run
-pub settles_runs : (w w' : World) (events : List Done) → Settles w events w' → Runs w events w'
-settles_runs w w' [] s = s
-settles_runs w w' (done ∷ later) s = (s.0, s.2, settles_runs s.0 w' later (s.3))
+-- each run goes on by what settles
+pub settles_extends : (w w' : World) (events : List Done) → Settles w events w' → Extends w events w'
+settles_extends w w' events settles = λ budget budgets before run. runs_append (boot budget budgets) w w' before events run (as_run w w' events settles)
+  where
+    as_run : (w w' : World) (events : List Done) → Settles w events w' → Runs w events w'
+    as_run w w' [] s = s
+    as_run w w' (done ∷ later) s = (s.0, s.2, as_run s.0 w' later s.3)
 
 -- with nothing under way core 0 is idle
 pub quiet_idle : (budget : ℕ) (budgets : List ℕ) (w : World) → Reached budget budgets w → AllQuiet w → w.place.phase ≡ Idle
@@ -30,17 +34,6 @@ quiet_idle budget budgets w r quiet = (run_agrees budget budgets (r.0) w (r.1)).
 
 pub taken_leaves : (budget : ℕ) (budgets : List ℕ) (w w' : World) (done : Done) → Reached budget budgets w → IsTaken w done w' → takes_left w' < takes_left w
 taken_leaves budget budgets w w' done r t = next_leaves w w' done (run_inv budget budgets (r.0) w (r.1)) t.next t.happens
-
--- a channel whose take is refused, though there is memory, is empty
-pub refused_down : (w : World) (entry : ℕ) (p : Peer) (fault : WorldFault) → slice_get w.peers entry ≡ Some p → fault ≢ NoMemory → WorldRefuses w (Take (suc entry) 0 false) fault → p.down ≡ []
-refused_down w entry p NoMemory at other h = absurd (other refl)
-refused_down w entry p NoSuchCore at other h = absurd (let x = ap (option_map (λ (q : Peer). q.down)) at in cc (x, h))
-refused_down w entry p Nothing at other h = let x = ap (option_map (λ (q : Peer). q.down)) at in let y = h in cc
-refused_down w entry p NotReady at other h = absurd h
-refused_down w entry p NotIdle at other h = absurd h
-refused_down w entry p Spent at other h = absurd h
-refused_down w entry p Outstanding at other h = absurd h
-refused_down w entry p NoneWaiting at other h = absurd h
 
 pub refused_up : (w : World) (entry : ℕ) (p : Peer) (fault : WorldFault) → slice_get w.peers entry ≡ Some p → fault ≢ NoMemory → WorldRefuses w (Take 0 (suc entry) false) fault → p.up ≡ []
 refused_up w entry p NoMemory at other h = absurd (other refl)
@@ -51,15 +44,6 @@ refused_up w entry p NotIdle at other h = absurd h
 refused_up w entry p Spent at other h = absurd h
 refused_up w entry p Outstanding at other h = absurd h
 refused_up w entry p NoneWaiting at other h = absurd h
-
--- the least core with a message is the next
-pub next_down : (w w' : World) (core entry : ℕ) (answer : Answer) → core ≡ suc entry → ((i : ℕ) (p : Peer) → i < entry → slice_get w.peers i ≡ Some p → p.down ≡ []) → Happens w (Take core 0 false) w' answer → IsTaken w (record { event = Take core 0 false; answer = answer }) w'
-next_down w w' core entry answer e before h =
-    let d = subst (λ (n : ℕ). Happens w (Take n 0 false) w' answer) e h in
-    record {
-      next = record { entry = entry; peer = d.peer; at = d.is_peer; choice = inl (ap (λ (n : ℕ). Take n 0 false) e, λ none. (let x = d.oldest in cc), before) };
-      happens = h;
-    }
 
 pub next_up : (w w' : World) (core entry : ℕ) (answer : Answer) → core ≡ suc entry → NoneDown w → ((i : ℕ) (p : Peer) → i < entry → slice_get w.peers i ≡ Some p → p.up ≡ []) → Happens w (Take 0 core false) w' answer → IsTaken w (record { event = Take 0 core false; answer = answer }) w'
 next_up w w' core entry answer e none_down before h =

@@ -1,14 +1,12 @@
 -- The world that is kept is the one that is shown.
-use Rattle.std.proofs.Common.{◌≡◌, ◌∙◌, ◌∷◌, ℕ, zero, suc, Option, None, Some, List, [], map, slice_get, refl, ap, sym}
-use Rattle.std.specs.Prelude.{option_map, option_and_then}
-use Rattle.table_replica.specs.declared.Op.{Op}
+use Rattle.std.proofs.Common.{◌≡◌, ◌∙◌, ◌∷◌, ℕ, zero, suc, None, Some, List, [], map, slice_get, refl, ap, sym}
+use Rattle.std.specs.Prelude.{option_map}
 use Rattle.table_replica.specs.Tables.{table}
 use Rattle.monitor_messages.specs.declared.message.Message.{Message}
 use Rattle.world_core.specs.declared.home.Home.{Home}
 use Rattle.world_core.specs.declared.peer.Peer.{Peer}
 use Rattle.world_model.specs.Worlds as worlds
 use Rattle.world_model.specs.Agreement.{Agrees}
-use Rattle.world_core.specs.Refusals.{waiting_at}
 use Rattle.world_core.specs.Keeping.{seen_peer, seen_world, WorldIsKept}
 use Rattle.world_core.specs.Shown.{ShowsReplica}
 use Rattle.world_model.proofs.Lists.{map_get}
@@ -49,14 +47,3 @@ no_version messages home peers i at = ap (option_map (λ (x : worlds.Peer). x.ve
 
 -- What waits
 
-pub waits_some : (w : worlds.World) (core entry : ℕ) (op : Op) → core ≡ suc entry → slice_get w.requests.waiting entry ≡ Some (Some op) → waiting_at w core ≡ Some op
-waits_some w core entry op e at = rw (e, at) refl
-
-pub waits_none : (w : worlds.World) (core : ℕ) → ((entry : ℕ) (op : Op) → core ≡ suc entry → slice_get w.requests.waiting entry ≡ Some (Some op) → ⊥) → waiting_at w core ≡ None
-waits_none w zero none = refl
-waits_none w (suc entry) none = by_entry (slice_get w.requests.waiting entry) refl
-  where
-    by_entry : (o : Option (Option Op)) → slice_get w.requests.waiting entry ≡ o → option_and_then (λ (x : Option Op). x) o ≡ None
-    by_entry None e = refl
-    by_entry (Some None) e = refl
-    by_entry (Some (Some op)) e = absurd (none entry op refl e)

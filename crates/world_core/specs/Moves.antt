@@ -1,6 +1,6 @@
 -- What core 0 does with the operation under way, and what it has ready to be sent.
 -- No public clause cites these.
-use Rattle.std.specs.Prelude.{◌≡◌, ◌+◌, ◌<◌, ◌≤◌, ◌⊎◌, ℕ, suc, Option, None, Some, All, List, length, slice_get, vec_len}
+use Rattle.std.specs.Prelude.{◌≡◌, ◌≢◌, ◌+◌, ◌<◌, ◌≤◌, ◌⊎◌, ℕ, suc, Option, None, Some, All, List, length, slice_get, vec_len}
 use Rattle.std.specs.Vec.{vec_capacity}
 use Rattle.table_replica.specs.declared.Op.{Op}
 use Rattle.table_replica.specs.declared.StageFault.{StageFault}
@@ -16,6 +16,10 @@ use Rattle.monitor_2pc.specs.declared.step.Step.{Step}
 use Rattle.monitor_2pc.specs.Places.{after_commit}
 use Rattle.monitor_2pc.specs.Coordinators.{coordinator_place, CoordinatorPlace, StartsFor, Hears, HearsAck, with_decided, veto_of}
 use Rattle.world_model.specs.Cases.{Outgoing, nothing, to_all, to_one, joined}
+use Rattle.world_model.specs.Worlds.{World}
+use Rattle.world_core.specs.declared.fault.WorldFault.{WorldFault}
+use Rattle.world_core.specs.declared.fault.WorldFault.TheVariants.{NoneWaiting, NoMemory}
+use Rattle.world_core.specs.Refusals.{waiting_at}
 use Rattle.world_core.specs.declared.home.Home.{Home}
 use Rattle.world_core.specs.declared.peer.Peer.{Peer}
 use Rattle.world_core.specs.declared.starting.Prepared.{Prepared}
@@ -111,3 +115,9 @@ HasRoomFor spare peers None = Unit {0}
 abbrev pub IsReplied : {C Piece : Type 0} → (C → List Message) → (Piece → Message) → List (Peer C Piece) → Option (ℕ × Piece) → List (Peer C Piece) → Type 0
 IsReplied messages made peers (Some (entry, piece)) peers' = ChangesOne peers entry peers' (IsSent messages (made piece))
 IsReplied messages made peers None peers' = peers' ≡ peers
+
+-- of a StartFor of another core than core 0, once core 0 can start
+abbrev pub StartForRefuses : World → ℕ → WorldFault → Type 0
+StartForRefuses w core NoneWaiting = waiting_at w core ≡ None
+StartForRefuses w core NoMemory = waiting_at w core ≢ None
+StartForRefuses w core fault = ⊥

@@ -1,5 +1,5 @@
 -- When the world refuses an event, when it does not begin, and in which order it settles.
-use Rattle.std.specs.Prelude.{◌≡◌, ◌≢◌, ◌<◌, ◌≤◌, ◌⊎◌, ℕ, zero, suc, Bool, Option, Some, None, List, [], ◌∷◌, length, slice_get, option_map, option_and_then}
+use Rattle.std.specs.Prelude.{◌≡◌, ◌≢◌, ◌<◌, ◌≤◌, ◌⊎◌, ℕ, zero, suc, Bool, Option, Some, None, List, [], ◌∷◌, ◌++◌, length, slice_get, option_map, option_and_then}
 use Rattle.table_replica.specs.declared.Op.{Op}
 use Rattle.monitor_messages.specs.declared.message.Message.{Message}
 use Rattle.monitor_messages.specs.Coding.{HasShortProgram}
@@ -45,12 +45,6 @@ abbrev pub WorldRefuses : World → Event → WorldFault → Type 0
 WorldRefuses w event NoMemory = (fault : WorldFault) → StandsFirst w event fault → ⊥
 WorldRefuses w event fault = StandsFirst w event fault
 
--- of a StartFor of another core than core 0, once core 0 can start
-abbrev pub StartForRefuses : World → ℕ → WorldFault → Type 0
-StartForRefuses w core NoneWaiting = waiting_at w core ≡ None
-StartForRefuses w core NoMemory = waiting_at w core ≢ None
-StartForRefuses w core fault = ⊥
-
 -- a machine has 1 to 8 cores
 abbrev pub HasCores : List ℕ → Type 0
 HasCores budgets = (1 ≤ length budgets) × (length budgets ≤ 8)
@@ -62,6 +56,10 @@ BootRefuses budgets boot_fault.NoMemory = HasCores budgets
 -- some run of a machine with these budgets leads there
 abbrev pub Reached : ℕ → List ℕ → World → Type 0
 Reached budget budgets w = (events : List Done) × Run budget budgets events w
+
+-- each run that leads to the one world leads by these events on to the other
+abbrev pub Extends : World → List Done → World → Type 0
+Extends w events w' = (budget : ℕ) (budgets : List ℕ) (before : List Done) → Run budget budgets before w → Run budget budgets (before ++ events) w'
 
 pub record IsQuiet (p : Peer) : Type 0 where
   pub none_down : p.down ≡ []

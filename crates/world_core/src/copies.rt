@@ -97,10 +97,10 @@ fn is_same_message(one: &Message, other: &Message) -> bool {
 fn events_are_copied(rt: HostRuntime) {
     let mut world = boot::<Messages>(&rt, rt.alloc(), &[100, 100]);
     commits(&rt, rt.alloc(), &mut world, Ask::Create(1, 7));
-    receives(&rt, rt.alloc(), &mut world, 1);
+    receives(&rt, rt.alloc(), &mut world, 1, 1);
     commits(&rt, rt.alloc(), &mut world, Ask::Install(1, 1, ARP));
-    receives(&rt, rt.alloc(), &mut world, 0);
-    receives(&rt, rt.alloc(), &mut world, 1);
+    receives(&rt, rt.alloc(), &mut world, 0, 2);
+    receives(&rt, rt.alloc(), &mut world, 1, 3);
 }
 
 /// Each event from the request to the last acknowledgement is copied.
@@ -113,10 +113,16 @@ fn commits<C: Channel>(rt: &impl Abort, alloc: Global, world: &mut WorldOver<C>,
     }
 }
 
-/// The event of a receipt is copied.
-fn receives<C: Channel>(rt: &impl Abort, alloc: Global, world: &mut WorldOver<C>, core: u16) {
+/// The event of the receipt with this number is copied.
+fn receives<C: Channel>(
+    rt: &impl Abort,
+    alloc: Global,
+    world: &mut WorldOver<C>,
+    core: u16,
+    number: u64,
+) {
     let packet = packet(rt, alloc, &REQUEST);
-    let (number, floor) = (1, 0);
+    let floor = 0;
     let event = Event::Rx {
         core,
         number,

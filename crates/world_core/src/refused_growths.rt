@@ -3,8 +3,8 @@
 
 use crate::sights::are_equal;
 use crate::tests::{
-    ARP, Ask, Told, are_told, boot, cap, one_core_ahead, outcome, refused, refused_at_once,
-    replace, revoke, settled, settles, start_for, started, submit, take,
+    ARP, Ask, Told, are_told, boot, cap, down, one_core_ahead, outcome, refused, refused_at_once,
+    replace, revoke, settled, settles, start_for, started, submit, take, up,
 };
 use crate::{Answer, Channel, Done, Event, Lines, Messages, WorldFault, WorldOver};
 use monitor_2pc::{Veto, Vote};
@@ -27,7 +27,7 @@ fn two_phase<C: Channel>(rt: &impl Abort, alloc: Global) {
         None => installs(rt, alloc, &mut world).expect(rt, "there is memory"),
     };
     one_core_ahead(rt, alloc, &mut world, txn);
-    settles(rt, alloc, &mut world, &[Told::TookAck(txn)]);
+    settles(rt, alloc, &mut world, &[up(1, Told::TookAck(txn))]);
     are_equal(rt, &world);
 }
 
@@ -51,10 +51,10 @@ fn is_created<C: Channel>(rt: &impl Abort, alloc: Global, world: &mut WorldOver<
             rt,
             &done,
             &[
-                Told::TookPrepare(txn, Vote::Yes),
-                Told::TookVote(txn, Vote::Yes, made),
-                Told::TookCommit(txn, 1),
-                Told::TookAck(txn),
+                down(1, Told::TookPrepare(txn, Vote::Yes)),
+                up(1, Told::TookVote(txn, Vote::Yes, made)),
+                down(1, Told::TookCommit(txn, 1)),
+                up(1, Told::TookAck(txn)),
             ],
         );
     } else {
@@ -63,10 +63,10 @@ fn is_created<C: Channel>(rt: &impl Abort, alloc: Global, world: &mut WorldOver<
             rt,
             &done,
             &[
-                Told::TookPrepare(txn, Vote::NoMemory),
-                Told::TookVote(txn, Vote::NoMemory, none),
-                Told::TookAbort(txn, 0),
-                Told::TookAck(txn),
+                down(1, Told::TookPrepare(txn, Vote::NoMemory)),
+                up(1, Told::TookVote(txn, Vote::NoMemory, none)),
+                down(1, Told::TookAbort(txn, 0)),
+                up(1, Told::TookAck(txn)),
             ],
         );
     }
@@ -100,9 +100,9 @@ fn installs<C: Channel>(rt: &impl Abort, alloc: Global, world: &mut WorldOver<C>
         alloc,
         world,
         &[
-            Told::TookVote(txn, Vote::NoMemory, none),
-            Told::TookAbort(txn, 1),
-            Told::TookAck(txn),
+            up(1, Told::TookVote(txn, Vote::NoMemory, none)),
+            down(1, Told::TookAbort(txn, 1)),
+            up(1, Told::TookAck(txn)),
         ],
     );
     are_equal(rt, world);
@@ -181,7 +181,7 @@ fn creates_for<C: Channel>(
         _ => {
             let none = refused(0, Veto::NoMemory);
             assert_eq!(rt; begun, Told::Decided(none));
-            settles(rt, alloc, world, &[Told::TookReply(none)]);
+            settles(rt, alloc, world, &[down(1, Told::TookReply(none))]);
         }
     }
     are_equal(rt, world);
@@ -196,10 +196,10 @@ fn given_up<C: Channel>(rt: &impl Abort, alloc: Global, world: &mut WorldOver<C>
         alloc,
         world,
         &[
-            Told::TookVote(txn, Vote::NoMemory, Some(none)),
-            Told::TookAbort(txn, 0),
-            Told::TookAck(txn),
-            Told::TookReply(none),
+            up(1, Told::TookVote(txn, Vote::NoMemory, Some(none))),
+            down(1, Told::TookAbort(txn, 0)),
+            up(1, Told::TookAck(txn)),
+            down(1, Told::TookReply(none)),
         ],
     );
 }

@@ -11,7 +11,7 @@ use world_channels::Channel;
 use world_model::{Done, Event};
 
 impl<C: Channel> WorldOver<C> {
-    ghost use Rattle.world_core.specs.Refusals.{AllQuiet, Settles};
+    ghost use Rattle.world_core.specs.Refusals.{AllQuiet, Extends, Settles};
     ghost use Rattle.world_core.specs.Settling.{NoneDown, TakenDown, TakenUp, TakenNext};
 
     /// Takes messages until all channels are empty: first one from core 0, the least receiver first, then one to core 0, the least
@@ -19,6 +19,7 @@ impl<C: Channel> WorldOver<C> {
     /// in the list are done, and no others.
     pub fn settle(&mut self, done: &mut Vec<Done>) -> Result<(), AllocError>
         ensures run { (events : List GhostDone) × (done.new.items ≡ done.old.items ++ events) × Settles self.old events self.new }
+        ensures extends { (events : List GhostDone) × (done.new.items ≡ done.old.items ++ events) × Extends self.old events self.new }
         ensures quiet { OnOk result (AllQuiet self.new) }
         ensures idle { OnOk result (self.new.place.phase ≡ Idle) }
     {

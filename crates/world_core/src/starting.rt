@@ -12,8 +12,7 @@ ghost use Rattle.world_model.specs.declared.event.Event.TheVariants.{Start, Star
 ghost use Rattle.world_model.specs.Cases.{start_told};
 ghost use Rattle.world_model.specs.Worlds as worlds;
 ghost use Rattle.world_core.specs.Keeping.{seen_world, WorldIsKept, SameHome, EachMatches, ChangesOne, Readied, IsSent, RoomFrom, RoomAt, IsPrepared};
-ghost use Rattle.world_core.specs.Moves.{IsPreparedFor};
-ghost use Rattle.world_core.specs.Refusals.{StartForRefuses};
+ghost use Rattle.world_core.specs.Moves.{IsPreparedFor, StartForRefuses};
 
 use crate::fault::WorldFault;
 use crate::home::Home;

@@ -6,7 +6,7 @@ use crate::{
     Answer, BootFault, Channel, Done, Event, Lines, Messages, World, WorldFault, WorldOver,
 };
 use bpf_insn::{TextFault, read_ddd};
-use endpoint_caps::Rights;
+use endpoint_caps::{Cap, Rights};
 use monitor_2pc::{Decision, Veto, Vote};
 use pcap_reader::{Bytes, Packet};
 use std::alloc::Global;
@@ -285,11 +285,43 @@ pub(crate) fn settled<C: Channel>(
     done
 }
 
-/// The events tell this.
-pub(crate) fn are_told(rt: &impl Abort, done: &[Done], wanted: &[Told]) {
+/// A take of a message: the core that takes it, the core that it is from, and what is told.
+#[derive(Clone, Copy)]
+pub(crate) struct Taken {
+    to: u16,
+    from: u16,
+    told: Told,
+}
+
+/// The core takes a message of core 0.
+pub(crate) fn down(core: u16, told: Told) -> Taken {
+    let (to, from) = (core, 0);
+    Taken { to, from, told }
+}
+
+/// Core 0 takes a message of the core.
+pub(crate) fn up(core: u16, told: Told) -> Taken {
+    let (to, from) = (0, core);
+    Taken { to, from, told }
+}
+
+fn is_take(event: &Event, wanted: &Taken) -> bool {
+    match event {
+        Event::Take {
+            to,
+            from,
+            short: false,
+        } => *to == wanted.to && *from == wanted.from,
+        _ => false,
+    }
+}
+
+/// The events are these takes.
+pub(crate) fn are_told(rt: &impl Abort, done: &[Done], wanted: &[Taken]) {
     assert_eq!(rt; done.len(), wanted.len());
     for (done, wanted) in done.iter().zip(wanted.iter()) {
-        assert_eq!(rt; tells(&done.answer), *wanted);
+        assert!(rt; is_take(&done.event, wanted));
+        assert_eq!(rt; tells(&done.answer), wanted.told);
     }
 }
 
@@ -298,7 +330,7 @@ pub(crate) fn settles<C: Channel>(
     rt: &impl Abort,
     alloc: Global,
     world: &mut WorldOver<C>,
-    wanted: &[Told],
+    wanted: &[Taken],
 ) {
     let done = settled(rt, alloc, world);
     are_told(rt, &done, wanted);
@@ -391,10 +423,10 @@ fn two_phase<C: Channel>(rt: &impl Abort, alloc: Global) {
         alloc,
         &mut world,
         &[
-            Told::TookPrepare(1, Vote::Yes),
-            Told::TookVote(1, Vote::Yes, Some(cap(1, 1))),
-            Told::TookCommit(1, 1),
-            Told::TookAck(1),
+            down(1, Told::TookPrepare(1, Vote::Yes)),
+            up(1, Told::TookVote(1, Vote::Yes, Some(cap(1, 1)))),
+            down(1, Told::TookCommit(1, 1)),
+            up(1, Told::TookAck(1)),
         ],
     );
     start(
@@ -447,10 +479,10 @@ fn budget_veto<C: Channel>(rt: &impl Abort, alloc: Global) {
         alloc,
         &mut world,
         &[
-            Told::TookPrepare(1, Vote::Yes),
-            Told::TookVote(1, Vote::Yes, Some(cap(1, 1))),
-            Told::TookCommit(1, 1),
-            Told::TookAck(1),
+            down(1, Told::TookPrepare(1, Vote::Yes)),
+            up(1, Told::TookVote(1, Vote::Yes, Some(cap(1, 1)))),
+            down(1, Told::TookCommit(1, 1)),
+            up(1, Told::TookAck(1)),
         ],
     );
     over_budget(rt, alloc, &mut world);
@@ -465,10 +497,10 @@ fn over_budget<C: Channel>(rt: &impl Abort, alloc: Global, world: &mut WorldOver
         alloc,
         world,
         &[
-            Told::TookPrepare(2, Vote::Budget),
-            Told::TookVote(2, Vote::Budget, Some(refused(1, Veto::Budget))),
-            Told::TookAbort(2, 1),
-            Told::TookAck(2),
+            down(1, Told::TookPrepare(2, Vote::Budget)),
+            up(1, Told::TookVote(2, Vote::Budget, Some(refused(1, Veto::Budget)))),
+            down(1, Told::TookAbort(2, 1)),
+            up(1, Told::TookAck(2)),
         ],
     );
 }
@@ -481,10 +513,10 @@ fn within_budget<C: Channel>(rt: &impl Abort, alloc: Global, world: &mut WorldOv
         alloc,
         world,
         &[
-            Told::TookPrepare(3, Vote::Yes),
-            Told::TookVote(3, Vote::Yes, Some(filter(2, 1))),
-            Told::TookCommit(3, 2),
-            Told::TookAck(3),
+            down(1, Told::TookPrepare(3, Vote::Yes)),
+            up(1, Told::TookVote(3, Vote::Yes, Some(filter(2, 1)))),
+            down(1, Told::TookCommit(3, 2)),
+            up(1, Told::TookAck(3)),
         ],
     );
 }
@@ -508,6 +540,29 @@ pub(crate) fn revoke<C: Channel>(rt: &impl Abort, alloc: Global) {
     receive(rt, alloc, &mut world, 0, &packet, 0, got);
     after_revoke(rt, alloc, &mut world, &packet);
     shows(rt, &world, 0, 4, 1, 1, 1);
+    lists_cap(rt, &world, Rights::Rm);
+    lists_filter(rt, &world, 2, 2);
+}
+
+/// Core 0 lists a first capability, domain 1's over endpoint 7 with these rights, minted from none.
+fn lists_cap<C: Channel>(rt: &impl Abort, world: &WorldOver<C>, rights: Rights) {
+    let replica = world.replica(0).expect(rt, "there is core 0");
+    let first = Cap {
+        id: 1,
+        endpoint: 7,
+        holder: 1,
+        rights,
+        parent: None,
+    };
+    assert_eq!(rt; replica.caps().list().first().copied(), Some(first));
+}
+
+/// Core 0 lists a first filter for endpoint 7, of this owner and under this capability.
+fn lists_filter<C: Channel>(rt: &impl Abort, world: &WorldOver<C>, owner: u16, cap: u32) {
+    let replica = world.replica(0).expect(rt, "there is core 0");
+    let filter = replica.filters().next().expect(rt, "there is a filter");
+    assert_eq!(rt; (filter.id, filter.owner), (1, owner));
+    assert_eq!(rt; (filter.cap, filter.endpoint), (cap, 7));
 }
 
 fn after_revoke<C: Channel>(
@@ -627,9 +682,9 @@ pub(crate) fn refused_at_once<C: Channel>(
 ) {
     let taken = rule(OpFault::EndpointTaken);
     submit(rt, world, 1, 7, Told::Submitted);
-    settles(rt, alloc, world, &[Told::TookSubmit]);
+    settles(rt, alloc, world, &[up(1, Told::TookSubmit)]);
     start_for(rt, world, 1, Told::Decided(taken));
-    settles(rt, alloc, world, &[Told::TookReply(taken)]);
+    settles(rt, alloc, world, &[down(1, Told::TookReply(taken))]);
 }
 
 #[test]
@@ -657,15 +712,15 @@ fn busy<C: Channel>(rt: &impl Abort, alloc: Global) {
         alloc,
         &mut world,
         &[
-            Told::TookPrepare(1, Vote::Yes),
-            Told::TookSubmit,
-            Told::TookVote(1, Vote::Yes, None),
-            Told::TookVote(1, Vote::NoMemory, Some(veto)),
-            Told::TookAbort(1, 0),
-            Told::TookAbort(1, 0),
-            Told::TookAck(1),
-            Told::TookAck(1),
-            Told::TookReply(veto),
+            down(1, Told::TookPrepare(1, Vote::Yes)),
+            up(1, Told::TookSubmit),
+            up(1, Told::TookVote(1, Vote::Yes, None)),
+            up(2, Told::TookVote(1, Vote::NoMemory, Some(veto))),
+            down(1, Told::TookAbort(1, 0)),
+            down(2, Told::TookAbort(1, 0)),
+            up(1, Told::TookAck(1)),
+            up(2, Told::TookAck(1)),
+            down(2, Told::TookReply(veto)),
         ],
     );
     assert!(rt; world.waiting(1).is_some());
@@ -733,4 +788,5 @@ fn by_owner<C: Channel>(rt: &impl Abort, alloc: Global, world: &mut WorldOver<C>
     );
     start(rt, alloc, world, again, Told::Decided(rule(OpFault::NoCap)));
     shows(rt, world, 0, 6, 0, 1, 3);
+    lists_filter(rt, world, 1, 1);
 }

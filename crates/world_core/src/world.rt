@@ -1,6 +1,6 @@
 //! The world of the cores.
 
-ghost use Rattle.std.specs.Prelude.{◌≡◌, ◌≢◌, ◌+◌, ◌++◌, ◌∷◌, [], ℕ, Bool, None, Some, IfSome, IfNone, IfOk, IfErr, OnOk, OnErr, List, ◌<◌, ◌≤◌, All, length, map, slice_get, option_map};
+ghost use Rattle.std.specs.Prelude.{◌≡◌, ◌≢◌, ◌+◌, ◌∷◌, [], ℕ, Bool, None, Some, IfSome, IfNone, IfOk, IfErr, OnOk, OnErr, List, ◌<◌, ◌≤◌, All, length, map, slice_get, option_map};
 ghost use Rattle.world_channels.specs.Channels.{first_of};
 ghost use Rattle.world_model.specs.Worlds.{new_peer};
 ghost use Rattle.world_core.specs.Keeping.{seen_peer, PeerIsKept};
@@ -49,8 +49,8 @@ impl<C: Channel> WorldOver<C> {
     ghost use Rattle.world_model.specs.Worlds as worlds;
     ghost use Rattle.monitor_messages.specs.Coding.{HasShortProgram};
     ghost use Rattle.world_model.specs.declared.event.Event.TheVariants.{Start, Submit, StartFor, Take, Rx};
-    ghost use Rattle.world_core.specs.Refusals.{WorldRefuses, BootRefuses, HasCores, Reached, IsShortEvent, waiting_at};
-    ghost use Rattle.world_model.specs.Agreement.{Agrees, Grows, NoStranger};
+    ghost use Rattle.world_core.specs.Refusals.{WorldRefuses, BootRefuses, Extends, HasCores, Reached, IsShortEvent, waiting_at};
+    ghost use Rattle.world_model.specs.Agreement.{Agrees, Grows, NoStranger, TellsVersions};
     ghost use Rattle.world_model.specs.Decisions.{Delivers, DecidesRightly, RepliesRightly};
     ghost use Rattle.world_model.specs.declared.event.Done.{Done as GhostDone};
     ghost use Rattle.world_core.specs.Shown.{ShowsReplica};
@@ -88,10 +88,11 @@ impl<C: Channel> WorldOver<C> {
         self.peers.len() as u16 + 1
     }
 
-    /// The replica of a core, if there is such a core.
+    /// The replica of a core, if there is such a core. Every world has been reached by some run of a machine.
     pub fn replica(&self, core: u16) -> Option<&Replica>
         ensures some { IfSome result (λ replica. ShowsReplica self.now core replica.now) }
         ensures none { IfNone result (worlds.version_at self.now core ≡ None) }
+        ensures reached { (budget : ℕ) × (budgets : List ℕ) × Reached budget budgets self.now }
     {
         if core == 0 {
             return Some(&self.home.replica);
@@ -127,10 +128,10 @@ impl<C: Channel> WorldOver<C> {
         ensures happens { IfOk result (worlds.Happens self.old event.now self.new) }
         ensures fault { IfErr result (WorldRefuses self.old event.now) }
         ensures same { OnErr result (self.new ≡ self.old) }
-        ensures extends { IfOk result (λ answer. (budget : ℕ) (budgets : List ℕ) (events : List GhostDone) → worlds.Run budget budgets events self.old
-            → worlds.Run budget budgets (events ++ record { event = event.now; answer = answer } ∷ []) self.new) }
+        ensures extends { IfOk result (λ answer. Extends self.old (record { event = event.now; answer = answer } ∷ []) self.new) }
         ensures grows { IfOk result (λ _. (budget : ℕ) (budgets : List ℕ) (events : List GhostDone) → worlds.Run budget budgets events self.old → Grows self.old self.new) }
         ensures agrees { (budget : ℕ) (budgets : List ℕ) (events : List GhostDone) → worlds.Run budget budgets events self.new → Agrees budget budgets self.new }
+        ensures tells { (budget : ℕ) (budgets : List ℕ) (events : List GhostDone) → worlds.Run budget budgets events self.new → TellsVersions events self.new }
         ensures no_stranger { (budget : ℕ) (budgets : List ℕ) (events : List GhostDone) → worlds.Run budget budgets events self.new → NoStranger self.new }
         ensures delivers { (budget : ℕ) (budgets : List ℕ) (events : List GhostDone) → worlds.Run budget budgets events self.new → Delivers self.new.log events }
         ensures decides { IfOk result (λ answer. (budget : ℕ) (budgets : List ℕ) (events : List GhostDone) → worlds.Run budget budgets events self.old → DecidesRightly events self.old event.now self.new answer) }

@@ -12,7 +12,7 @@ use Rattle.world_model.specs.declared.event.Answer.{Answer}
 use Rattle.world_model.specs.declared.event.Done.{Done}
 use Rattle.world_model.specs.Cases.{ReceivesAt}
 use Rattle.world_model.specs.Worlds.{Peer, World, boot, version_at, Happens, Runs, Run}
-use Rattle.world_model.specs.Agreement.{Agrees}
+use Rattle.world_model.specs.Agreement.{Agrees, IsSoundLog}
 use Rattle.world_model.specs.Readings.{commits_at, version_of}
 use Rattle.world_model.specs.Decisions.{DeliversBy, Delivers}
 use Rattle.world_model.proofs.Lists.{get_within, get_at}
@@ -20,6 +20,7 @@ use Rattle.world_model.proofs.Runs.{runs_append, runs_split}
 use Rattle.world_model.proofs.Known.{run_known, version_of-more}
 use Rattle.world_model.proofs.Agreement.{run_inv}
 use Rattle.world_model.proofs.RunLaws.{run_agrees, run_grows, run_replies}
+use Rattle.world_model.proofs.SoundLogs.{run_sound}
 use Rattle.world_model.proofs.Decisions.{run_decides}
 use Rattle.world_histories.specs.declared.history.Stamped.{Stamped}
 use Rattle.world_histories.specs.Histories.{unstamped, Core0, core0_first, History0, Other, other_first, HistoryOther, Computation}
@@ -187,6 +188,7 @@ agree_by : (budget : ℕ) (budgets : List ℕ) (core0 : List Stamped) (others : 
     → HistoriesAgree budget budgets core0 others end ends
 agree_by budget budgets core0 others end ends c o = record {
   allowed = λ k op at. subst (λ (l : List Op). Allowed (table l k) budget op None) o.all_end.log_is (agrees.allowed k op (ap (λ (l : List Op). slice_get l k) o.all_end.log_is ∙ at));
+  sound = subst IsSoundLog o.all_end.log_is (run_sound budget budgets (as_listed o.merged) o.world o.run);
   point0 = point_0 budget budgets core0 others end ends c o;
   point = point_other budget budgets core0 others end ends c o;
   ended0 = at_end0;

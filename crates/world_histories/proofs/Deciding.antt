@@ -22,8 +22,8 @@ use Rattle.world_model.specs.declared.event.Done.{Done}
 use Rattle.world_model.specs.Cases.{TakesUpAt, TakesDownAt, Took}
 use Rattle.world_model.specs.Worlds.{Peer, World, boot, newest, budget_at, HappensUp, HappensDown, Happens, Run}
 use Rattle.world_model.specs.Readings.{version_of, vote_of, Request, sent, request_of, Begins, Begun}
-use Rattle.world_model.specs.Decisions.{CommitsNext, IsWaiting, HasVeto, VotesDecide, DecidesRightly}
-use Rattle.world_model.proofs.Lists.{get_within, get_at, get_front, get_end}
+use Rattle.world_model.specs.Decisions.{HasReason, CommitsNext, IsWaiting, HasVeto, VotesDecide, DecidesRightly}
+use Rattle.world_model.proofs.Lists.{get_within, get_at, get_front, get_end, empty_list}
 use Rattle.world_model.proofs.Runs.{runs_split}
 use Rattle.world_model.proofs.Known.{run_known}
 use Rattle.world_model.proofs.Agreement.{of_core}
@@ -32,7 +32,7 @@ use Rattle.world_histories.specs.declared.history.Stamped.{Stamped}
 use Rattle.world_histories.specs.Histories.{unstamped, Core0, Other, Computation}
 use Rattle.world_histories.specs.Merging.{core_of, part, as_short, listed, as_listed}
 use Rattle.world_histories.specs.Answers.{requested, begun_for, InRun}
-use Rattle.world_histories.specs.Decisions.{Asked, BegunIn, IsNew, IsNext, VetoedBy, VotesDecideIn, DecidesBy, DecidesAs}
+use Rattle.world_histories.specs.Decisions.{Asked, BegunIn, IsNew, IsEntryAt, VetoedBy, VotesDecideIn, DecidesBy, DecidesAs}
 use Rattle.world_histories.proofs.Lists.{Found, found}
 use Rattle.world_histories.proofs.Parts.{part_own, part-append, placed, front_of_each}
 use Rattle.world_histories.proofs.Tells.{tells_of_cores}
@@ -231,8 +231,8 @@ begun_in budget budgets core0 others end ends o earlier rest before w txn core o
 
 -- Decisions
 
-is_next : (log : List Op) (w w' : World) (v : ℕ) (op : Op) (version : ℕ) (id : Made) → length w.log ≡ v → newest w ≡ table log v → IsPrefix w'.log log → CommitsNext w op w' version id → IsNext log v op version id
-is_next log w w' v op version id long same front c = record {
+is_entry_at : (log : List Op) (w w' : World) (v : ℕ) (op : Op) (version : ℕ) (id : Made) → length w.log ≡ v → newest w ≡ table log v → IsPrefix w'.log log → CommitsNext w op w' version id → IsEntryAt log v op version id
+is_entry_at log w w' v op version id long same front c = record {
   entry = rw (← long) (subst (λ (l : List Op). slice_get l (length w.log) ≡ Some op) (ap (λ (l : List Op). l ++ front.0) (sym c.entry) ∙ front.1) (get_front (w.log ++ op ∷ []) front.0 (length w.log) op (get_end w.log op)));
   is_version = omega (arith, c.is_version, long);
   is_made = c.is_made ∙ ap (λ (s : State). made s op) same;
@@ -290,7 +290,7 @@ votes_decide : (budget : ℕ) (budgets : List ℕ) (core0 : List Stamped) (other
     → VotesDecide (as_listed x.earlier) x.world txn op x.world' d → VotesDecideIn budgets others end.log (version_of 0 (unstamped before)) txn op d
 votes_decide budget budgets core0 others end ends before event answer x txn op (Committed version id) h =
     let known = run_known budget budgets (as_listed x.earlier) x.world x.run in (
-      is_next end.log x.world x.world' (version_of 0 (unstamped before)) op version id x.long x.newest_is x.front' h.0,
+      is_entry_at end.log x.world x.world' (version_of 0 (unstamped before)) op version id x.long x.newest_is x.front' h.0,
       λ i hist at. voted_by budget budgets core0 others end ends before event answer x txn i hist vote.Yes at (h.1 i (omega (arith, known.cores, x.comp.cores, get_within others i hist at))),
     )
 votes_decide budget budgets core0 others end ends before event answer x txn op (Refused core why) h = vetoed budget budgets core0 others end ends before event answer x txn op core why h.0
@@ -306,19 +306,31 @@ allowed_then budget budgets core0 others end ends before event answer x op a =
     subst (λ (b : ℕ). Allowed (table end.log (version_of 0 (unstamped before))) b op None) (run_known budget budgets (as_listed x.earlier) x.world x.run).budget_is
     (subst (λ (s : State). Allowed s x.world.budget op None) x.newest_is a)
 
+none_else : (budget : ℕ) (budgets : List ℕ) (core0 : List Stamped) (others : List (List Stamped)) (end : Core0) (ends : List Other) (before : List Stamped) (event : Event) (answer : Answer) (x : Context budget budgets core0 others end ends before event answer)
+    → x.world.peers ≡ [] → others ≡ []
+none_else budget budgets core0 others end ends before event answer x none =
+    empty_list others (omega (arith, x.comp.cores, (run_known budget budgets (as_listed x.earlier) x.world x.run).cores, ap length none))
+
+reason_then : (budget : ℕ) (budgets : List ℕ) (core0 : List Stamped) (others : List (List Stamped)) (end : Core0) (ends : List Other) (before : List Stamped) (event : Event) (answer : Answer) (x : Context budget budgets core0 others end ends before event answer) (op : Op) (why : Veto)
+    → HasReason (newest x.world) x.world.budget op why → HasReason (table end.log (version_of 0 (unstamped before))) budget op why
+reason_then budget budgets core0 others end ends before event answer x op why r =
+    subst (λ (b : ℕ). HasReason (table end.log (version_of 0 (unstamped before))) b op why) (run_known budget budgets (as_listed x.earlier) x.world x.run).budget_is
+    (subst (λ (s : State). HasReason s x.world.budget op why) x.newest_is r)
+
 decides_by : (budget : ℕ) (budgets : List ℕ) (core0 : List Stamped) (others : List (List Stamped)) (end : Core0) (ends : List Other) (before : List Stamped) (event : Event) (answer : Answer) → Context budget budgets core0 others end ends before event answer
     → DecidesBy budget budgets others end.log before (version_of 0 (unstamped before)) event answer
 decides_by budget budgets core0 others end ends before (Start op) (Prepared txn) x = (op, refl, allowed_then budget budgets core0 others end ends before _ _ x op x.decides.allowed, new_in budget budgets x.earlier before x.world txn x.run x.own x.decides.new_number)
 decides_by budget budgets core0 others end ends before (StartFor (suc i)) (Prepared txn) x =
     let d = x.decides in
     (d.0, asked_for budget budgets core0 others end ends before _ _ x i d.0 d.1, allowed_then budget budgets core0 others end ends before _ _ x d.0 d.2.allowed, new_in budget budgets x.earlier before x.world txn x.run x.own d.2.new_number)
-decides_by budget budgets core0 others end ends before (Start op) (Decided (Committed version id)) x = (op, refl, is_next end.log x.world x.world' (version_of 0 (unstamped before)) op version id x.long x.newest_is x.front' x.decides)
+decides_by budget budgets core0 others end ends before (Start op) (Decided (Committed version id)) x =
+    (op, refl, (none_else budget budgets core0 others end ends before _ _ x x.decides.0, is_entry_at end.log x.world x.world' (version_of 0 (unstamped before)) op version id x.long x.newest_is x.front' x.decides.1))
 decides_by budget budgets core0 others end ends before (Start op) (Decided (Refused core why)) x =
-    (op, refl, (x.decides.1, (x.world, x.newest_is, (run_known budget budgets (as_listed x.earlier) x.world x.run).budget_is, x.decides.2)))
+    (op, refl, (x.decides.1, reason_then budget budgets core0 others end ends before _ _ x op why x.decides.2))
 decides_by budget budgets core0 others end ends before (StartFor (suc i)) (Decided (Committed version id)) x = absurd x.decides.2
 decides_by budget budgets core0 others end ends before (StartFor (suc i)) (Decided (Refused core why)) x =
     let d = x.decides in
-    (d.0, asked_for budget budgets core0 others end ends before _ _ x i d.0 d.1, (d.2.0, (x.world, x.newest_is, (run_known budget budgets (as_listed x.earlier) x.world x.run).budget_is, d.2.1)))
+    (d.0, asked_for budget budgets core0 others end ends before _ _ x i d.0 d.1, (d.2.0, reason_then budget budgets core0 others end ends before _ _ x d.0 why d.2.1))
 decides_by budget budgets core0 others end ends before (StartFor zero) answer x = absurd x.happens
 decides_by budget budgets core0 others end ends before event (TookVote txn v (Some d)) x =
     let h = x.decides in

@@ -5,6 +5,7 @@ use mathlib.Core.List.{IsPrefix}
 use Rattle.table_replica.specs.declared.Op.{Op}
 use Rattle.table_replica.specs.Tables.{table, instructions, Allowed}
 use Rattle.monitor_2pc.specs.Coordinators.{Idle}
+use Rattle.world_model.specs.Agreement.{IsSoundLog}
 use Rattle.world_model.specs.Readings.{version_of}
 use Rattle.world_model.specs.Decisions.{Delivers}
 use Rattle.world_histories.specs.declared.history.Stamped.{Stamped}
@@ -41,6 +42,8 @@ GrowsByOne core before s =
 pub record HistoriesAgree (budget : ℕ) (budgets : List ℕ) (core0 : List Stamped) (others : List (List Stamped)) (end : Core0) (ends : List Other) : Type 0 where
   -- what core 0 committed was allowed at its version
   pub allowed : (k : ℕ) (op : Op) → slice_get end.log k ≡ Some op → Allowed (table end.log k) budget op None
+  -- each table of its log is sound, and no id is given out again
+  pub sound : IsSoundLog end.log
   -- between any two parts of its history each core is at a version of core 0's log
   pub point0 : (before after : List Stamped) → core0 ≡ before ++ after → Point0 budget budgets before after end
   pub point : (i b : ℕ) (h : List Stamped) (d : Other) (before after : List Stamped) → slice_get budgets i ≡ Some b → slice_get others i ≡ Some h → slice_get ends i ≡ Some d → h ≡ before ++ after → PointOther i b end.log before after d

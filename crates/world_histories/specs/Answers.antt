@@ -1,4 +1,6 @@
--- What is right of the answers in histories: decisions and replies, as in the one run of all.
+-- What is right of the answers in histories: decisions and replies, as in the one run of all (Lamport 1978, "Time, clocks, and the
+-- ordering of events in a distributed system", section "Ordering the events totally"), and a reply as the decision of two-phase
+-- commit that it carries (Gray 1978, "Notes on data base operating systems", section 5.8.3).
 use Rattle.std.specs.Prelude.{◌≡◌, ◌+◌, ◌⊎◌, ◌==◌, ℕ, suc, Bool, true, false, Option, Some, None, List, [], ◌∷◌, ◌++◌, length, slice_get, count_by}
 use mathlib.Core.List.{IsPrefix}
 use Rattle.table_replica.specs.declared.Op.{Op}

@@ -1,5 +1,6 @@
--- What is right of core 0's decisions, read off the histories alone.
-use Rattle.std.specs.Prelude.{◌≡◌, ◌+◌, ◌<◌, ◌⊎◌, ℕ, suc, Some, None, List, ◌∷◌, ◌++◌, slice_get}
+-- What is right of core 0's decisions, which are those of two-phase commit (Gray 1978, "Notes on data base operating systems",
+-- section 5.8.3), read off the histories alone.
+use Rattle.std.specs.Prelude.{◌≡◌, ◌+◌, ◌<◌, ◌⊎◌, ℕ, suc, Some, None, List, [], ◌∷◌, ◌++◌, slice_get}
 use mathlib.Core.List.{IsPrefix}
 use Rattle.table_replica.specs.declared.Op.{Op}
 use Rattle.table_replica.specs.declared.Made.{Made}
@@ -14,7 +15,6 @@ use Rattle.world_model.specs.declared.event.Event.{Event}
 use Rattle.world_model.specs.declared.event.Event.TheVariants.{Start, StartFor}
 use Rattle.world_model.specs.declared.event.Answer.{Answer}
 use Rattle.world_model.specs.declared.event.Answer.TheVariants.{Prepared, Decided, TookVote}
-use Rattle.world_model.specs.Worlds.{World, newest}
 use Rattle.world_model.specs.Readings.{version_of, vote_of}
 use Rattle.world_model.specs.Decisions.{HasReason}
 use Rattle.world_histories.specs.declared.history.Stamped.{Stamped}
@@ -43,15 +43,15 @@ abbrev pub IsNew : List Stamped → ℕ → Type 0
 IsNew before txn = (earlier rest : List Stamped) (s : Stamped) → before ≡ earlier ++ s ∷ rest → s.done.answer ≡ Prepared txn → ⊥
 
 -- the operation is the log's entry at this version, and the answer names the version after it and the id that it makes
-pub record IsNext (log : List Op) (v : ℕ) (op : Op) (version : ℕ) (id : Made) : Type 0 where
+pub record IsEntryAt (log : List Op) (v : ℕ) (op : Op) (version : ℕ) (id : Made) : Type 0 where
   pub entry : slice_get log v ≡ Some op
   pub is_version : version ≡ v + 1
   pub is_made : id ≡ made (table log v) op
 
--- core 0 decides at once, by its table at this version
-abbrev pub DecidesAtOnce : ℕ → List Op → ℕ → Op → Decision → Type 0
-DecidesAtOnce budget log v op (Committed version id) = IsNext log v op version id
-DecidesAtOnce budget log v op (Refused core why) = (core ≡ 0) × ((w : World) × (newest w ≡ table log v) × (w.budget ≡ budget) × HasReason w op why)
+-- core 0 decides at once, by its table at this version: it commits where there is no other core, or it refuses
+abbrev pub DecidesAtOnce : ℕ → List (List Stamped) → List Op → ℕ → Op → Decision → Type 0
+DecidesAtOnce budget others log v op (Committed version id) = (others ≡ []) × IsEntryAt log v op version id
+DecidesAtOnce budget others log v op (Refused core why) = (core ≡ 0) × HasReason (table log v) budget op why
 
 -- another core's veto: it is the least core that did not vote Yes, and its vote gives the reason
 pub record VetoedBy (budgets : List ℕ) (others : List (List Stamped)) (log : List Op) (v txn : ℕ) (op : Op) (core : ℕ) (why : Veto) : Type 0 where
@@ -68,13 +68,13 @@ pub record VetoedBy (budgets : List ℕ) (others : List (List Stamped)) (log : L
 
 -- the votes in the histories decide: all are Yes, or one is a veto
 abbrev pub VotesDecideIn : List ℕ → List (List Stamped) → List Op → ℕ → ℕ → Op → Decision → Type 0
-VotesDecideIn budgets others log v txn op (Committed version id) = IsNext log v op version id × ((i : ℕ) (h : List Stamped) → slice_get others i ≡ Some h → vote_of (suc i) txn (unstamped h) ≡ Some vote.Yes)
+VotesDecideIn budgets others log v txn op (Committed version id) = IsEntryAt log v op version id × ((i : ℕ) (h : List Stamped) → slice_get others i ≡ Some h → vote_of (suc i) txn (unstamped h) ≡ Some vote.Yes)
 VotesDecideIn budgets others log v txn op (Refused core why) = VetoedBy budgets others log v txn op core why
 
 -- What core 0, which commits this log, answers to an event after these events of its own: v is the version that it has then.
 abbrev pub DecidesBy : ℕ → List ℕ → List (List Stamped) → List Op → List Stamped → ℕ → Event → Answer → Type 0
 DecidesBy budget budgets others log before v event (Prepared txn) = (op : Op) × Asked others before event op × Allowed (table log v) budget op None × IsNew before txn
-DecidesBy budget budgets others log before v event (Decided decision) = (op : Op) × Asked others before event op × DecidesAtOnce budget log v op decision
+DecidesBy budget budgets others log before v event (Decided decision) = (op : Op) × Asked others before event op × DecidesAtOnce budget others log v op decision
 DecidesBy budget budgets others log before v event (TookVote txn cast (Some decision)) = (op : Op) × BegunIn others before txn op × VotesDecideIn budgets others log v txn op decision
 DecidesBy budget budgets others log before v event answer = Unit {0}
 

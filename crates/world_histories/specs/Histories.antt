@@ -1,7 +1,8 @@
 -- The histories of cores that ran beside each other, with no common time: each core did what the protocol says, and took the
 -- messages of each other in the order in which they were sent. Each event has a stamp of its core's clock, one more than the
 -- greater of the clock and the stamp of the message taken (Lamport 1978, "Time, clocks, and the ordering of events in a
--- distributed system": events of one process are ordered, a receipt comes after its send, and clocks tell so).
+-- distributed system", sections "The partial ordering" and "Logical clocks": events of one process are ordered, a receipt comes
+-- after its send, and clocks tell so).
 use Rattle.std.specs.Prelude.{◌≡◌, ◌+◌, ◌==◌, ℕ, zero, suc, Bool, false, cond, max, Option, Some, None, List, [], ◌∷◌, ◌++◌, length, map, slice_get, option_to_list}
 use mathlib.Core.List.{IsPrefix}
 use Rattle.table_replica.specs.declared.Op.{Op}

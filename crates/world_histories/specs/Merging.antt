@@ -1,4 +1,5 @@
--- One list of all events of the histories, and the run that it is.
+-- One list of all events of the histories, by stamp and then by core, and the run that it is (Lamport 1978, "Time, clocks, and the
+-- ordering of events in a distributed system", section "Ordering the events totally").
 use Rattle.std.specs.Prelude.{◌≡◌, ◌<◌, ◌≤◌, ◌⊎◌, ◌==◌, ℕ, true, Some, List, [], ◌∷◌, length, map, filter, slice_get}
 use mathlib.Core.List.{IsPrefix}
 use Rattle.monitor_messages.specs.declared.message.Vote.TheVariants as vote

@@ -11,7 +11,7 @@ ghost use Rattle.world_histories.specs.Answers.{InRun, Replied};
 ghost use Rattle.world_histories.specs.Decisions.{DecidesAs};
 
 /// Whatever the order in time was, each core is at a version of one log, which core 0 commits: what it committed was allowed, its
-/// tables are within every core's budget, and each packet went to the endpoints that accept it at its core's version.
+/// tables are sound and within every core's budget, and each packet went to the endpoints that accept it at its core's version.
 pub fn histories_agree()
     ensures { (budget : ℕ) (budgets : List ℕ) (core0 : List Stamped) (others : List (List Stamped)) (end : Core0) (ends : List Other) →
         Computation budget budgets core0 others end ends → HistoriesAgree budget budgets core0 others end ends }

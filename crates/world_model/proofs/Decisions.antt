@@ -22,7 +22,7 @@ use Rattle.world_model.specs.Worlds.{Peer, World, newest, version_at, send, core
 use Rattle.world_model.specs.Agreement.{commitments}
 use Rattle.world_model.specs.Readings.{vote_of, sent, request_of, Begun}
 use Rattle.world_model.specs.Decisions.{Prepares, HasVeto, DecidesRightly}
-use Rattle.world_model.proofs.Lists.{get-set_same, get-set_other, length-slice_set, get_within, get_at, same_or_not}
+use Rattle.world_model.proofs.Lists.{get-set_same, get-set_other, length-slice_set, get_within, get_at, same_or_not, empty_list}
 use Rattle.world_model.proofs.Invariant.{Pair, at_rest, asked, voted, counted, to_commit, to_abort, acked, finished, Inv}
 use Rattle.world_model.proofs.Steps.{on_vote, Polled, polled, voting_on}
 use Rattle.world_model.proofs.Submissions.{Inv2}
@@ -69,7 +69,7 @@ decides_start events w w' op answer n h = by_case h.here.starts
     by_case : Starts (length w.peers) (newest w) w.budget w.place op h.place h.committed h.told → DecidesRightly events w (Start op) w' answer
     by_case (refused fault a p c t) = rw (is _ t) (moves w.place None _ p c t, refl, inr (fault, a, refl))
     by_case (unstaged f p c t) = rw (is _ t) (moves w.place None _ p c t, refl, inl (refl, f))
-    by_case (alone a m p c t) = rw (is _ t) (record { entry = ap (λ (x : World). x.log) (moves _ (Some op) _ p c t); is_version = omega (arith, table_version w.log); is_made = refl })
+    by_case (alone a m p c t) = rw (is _ t) (empty_list w.peers m, record { entry = ap (λ (x : World). x.log) (moves _ (Some op) _ p c t); is_version = omega (arith, table_version w.log); is_made = refl })
     by_case (prepared a m p c t) = rw (is _ t) (prepares events w op w.requests w' n a (moves _ None _ p c t))
 
 begins : (events : List Done) (w w' : World) (entry : ℕ) (op : Op) (place : CoordinatorPlace) (requests' : Requests) (committed : Option Op) (begun : Step) (answer : Answer) → Numbered events w

@@ -16,8 +16,8 @@ use Rattle.world_model.specs.declared.event.Answer.TheVariants.{Delivered}
 use Rattle.world_model.specs.declared.event.Done.{Done}
 use Rattle.world_model.specs.Cases.{captured, TakesDownAt, Took}
 use Rattle.world_model.specs.Worlds.{Peer, World, boot, version_at, newest, Happens, Runs, Run}
-use Rattle.world_model.specs.Agreement.{Agrees, Grows, NoStranger}
-use Rattle.world_model.specs.Readings.{Request, settled, request_of, version_of}
+use Rattle.world_model.specs.Agreement.{Agrees, TellsVersions, Grows, NoStranger}
+use Rattle.world_model.specs.Readings.{Request, settled, request_of}
 use Rattle.world_model.specs.Decisions.{DeliversBy, Delivers, StandsAt, IsEntered, RepliesRightly, WaitsRightly}
 use Rattle.world_model.proofs.Invariant.{Inv}
 use Rattle.world_model.proofs.Submissions.{Inv2, taken}
@@ -45,11 +45,14 @@ runs_log w w' (d ∷ ds) inv r =
     let l = runs_log r.0 w' ds (event_inv w r.0 d.event d.answer inv r.1) r.2 in
     (g.log_is.0 ++ l.0, l.1 ∙ (ap (λ (x : List Op). x ++ l.0) g.log_is.1 ∙ append_assoc w.log g.log_is.0 l.0))
 
-version_known : (budget : ℕ) (budgets : List ℕ) (events : List Done) (w : World) (core v : ℕ) → Known budget budgets events w → version_at w core ≡ Some v → v ≡ version_of core events
-version_known budget budgets events w zero v k at = let e : w.version ≡ v = cc in sym e ∙ k.version0
-version_known budget budgets events w (suc i) v k at =
+known_versions : (budget : ℕ) (budgets : List ℕ) (events : List Done) (w : World) → Known budget budgets events w → TellsVersions events w
+known_versions budget budgets events w k zero v at = let e : w.version ≡ v = cc in sym e ∙ k.version0
+known_versions budget budgets events w k (suc i) v at =
     let p = of_core (λ (p : Peer). p.version) w.peers i v (slice_get w.peers i) refl at in
     sym p.2 ∙ k.versions i p.0 p.1
+
+pub run_versions : (budget : ℕ) (budgets : List ℕ) (events : List Done) (w : World) → Run budget budgets events w → TellsVersions events w
+run_versions budget budgets events w run = known_versions budget budgets events w (run_known budget budgets events w run)
 
 version_within : (budget : ℕ) (budgets : List ℕ) (w : World) (core v : ℕ) → Agrees budget budgets w → version_at w core ≡ Some v → v ≤ length w.log
 version_within budget budgets w zero v a at = let e : w.version ≡ v = cc in omega (arith, a.core0)
@@ -61,7 +64,7 @@ version_within budget budgets w (suc i) v a at = le (a.others i v at)
 
 delivers_at : (budget : ℕ) (budgets : List ℕ) (before : List Done) (w w' : World) (more : List Op) (event : Event) (answer : Answer) → Run budget budgets before w → Happens w event w' answer → DeliversBy (w.log ++ more) before event answer
 delivers_at budget budgets before w w' more (Rx core number packet floor) answer run h =
-    let v = version_known budget budgets before w core h.version (run_known budget budgets before w run) h.is_version in
+    let v = run_versions budget budgets before w run core h.version h.is_version in
     let le = version_within budget budgets w core h.version (run_agrees budget budgets before w run) h.is_version in
     subst (λ (n : ℕ). (kept : List Kept) × (answer ≡ Delivered n kept) × (floor ≤ n) × (n ≤ length (w.log ++ more)) × Accepting (table (w.log ++ more) n) (captured packet) kept) v
     (h.here.kept, h.here.is_answer, h.here.above_floor, omega (arith, le, length-append w.log more), rw (table_front w.log more h.version le) h.here.accepting)

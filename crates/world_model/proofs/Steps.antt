@@ -377,9 +377,6 @@ polled w i p votes op txn v rest inv at ph st none up = record {
   within = λ j q here. within_at j q here (same_or_not i j);
 }
   where
-    p' : Peer
-    p' = record p { up = rest }
-
     same : (j : ℕ) (q : Peer) → i ≡ j → slice_get (slice_set w.peers i (record p { up = rest })) j ≡ Some q → q ≡ record p { up = rest }
     same j q e here = let h : slice_get (slice_set w.peers i (record p { up = rest })) i ≡ Some q = subst (λ (k : ℕ). slice_get (slice_set w.peers i (record p { up = rest })) k ≡ Some q) (sym e) here in let s = get-set_same w.peers i (record p { up = rest }) p at in cc
 

@@ -9,7 +9,9 @@ use Rattle.monitor_messages.specs.declared.message.Message.TheVariants as messag
 use Rattle.monitor_messages.specs.declared.message.Vote.{Vote}
 use Rattle.monitor_2pc.specs.Participants.{Fits}
 use Rattle.monitor_2pc.specs.Coordinators.{CoordinatorPlace, Requests, CanSubmit, Idle, Voting, Acking}
+use Rattle.world_model.specs.declared.event.Done.{Done}
 use Rattle.world_model.specs.Worlds.{Peer, World, newest, version_at}
+use Rattle.world_model.specs.Readings.{version_of}
 
 -- the messages of two-phase commit, which are all but Submit and Reply
 abbrev pub is_commitment : Message → Bool
@@ -41,6 +43,10 @@ pub record Agrees (budget : ℕ) (budgets : List ℕ) (w : World) : Type 0 where
   pub settled : w.place.phase ≡ Idle → (i : ℕ) (p : Peer) → slice_get w.peers i ≡ Some p → IsSettled w p
   -- and the other way round: with no such message under way core 0 is idle
   pub idle : ((i : ℕ) (p : Peer) → slice_get w.peers i ≡ Some p → (commitments p.down ≡ []) × (commitments p.up ≡ [])) → w.place.phase ≡ Idle
+
+-- the events that led here tell the version of each core: how often it committed
+abbrev pub TellsVersions : List Done → World → Type 0
+TellsVersions events w = (core version : ℕ) → version_at w core ≡ Some version → version ≡ version_of core events
 
 -- a later world: the log grows at its end alone, no core is lost, and no version falls or grows by more than one
 pub record Grows (w w' : World) : Type 0 where

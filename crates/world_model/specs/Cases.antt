@@ -1,5 +1,5 @@
 -- What one event does at one core: the cases of two-phase commit, and the receipt of a packet (Baumann et al. 2009, "The
--- Multikernel", sections 3.3 and 4.7). The world, the histories of running cores and one turn of a core all cite them.
+-- Multikernel", sections 3.3 and 4.4). The world, the histories of running cores and one turn of a core all cite them.
 use Rattle.std.specs.Prelude.{◌≡◌, ◌+◌, ◌≤◌, ℕ, suc, Bool, true, false, Option, Some, None, List, [], ◌∷◌, ◌++◌}
 use Rattle.table_replica.specs.declared.Op.{Op}
 use Rattle.table_replica.specs.declared.Kept.{Kept}

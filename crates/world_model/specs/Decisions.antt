@@ -1,4 +1,6 @@
--- What is right of the answers in a run: of packets, decisions and replies.
+-- What is right of the answers in a run: of packets, which go by the version of a replica (Baumann et al. 2009, "The Multikernel",
+-- section 3.3), and of decisions and replies, which are those of two-phase commit (Gray 1978, "Notes on data base operating
+-- systems", section 5.8.3).
 use Rattle.std.specs.Prelude.{◌≡◌, ◌+◌, ◌<◌, ◌≤◌, ◌⊎◌, ℕ, suc, Option, Some, None, List, [], ◌∷◌, ◌++◌, length, map, slice_get, slice_set}
 use Rattle.std.proofs.Common.{replicate}
 use Rattle.endpoint_caps.specs.Capabilities.{first}
@@ -6,7 +8,7 @@ use Rattle.table_replica.specs.declared.Op.{Op}
 use Rattle.table_replica.specs.declared.Kept.{Kept}
 use Rattle.table_replica.specs.declared.Made.{Made}
 use Rattle.table_replica.specs.declared.StageFault.{StageFault}
-use Rattle.table_replica.specs.Tables.{after, made, table, instructions, tests, Allowed, Accepting}
+use Rattle.table_replica.specs.Tables.{State, after, made, table, instructions, tests, Allowed, Accepting}
 use Rattle.monitor_messages.specs.declared.message.Message.TheVariants as message
 use Rattle.monitor_messages.specs.declared.message.Vote.{Vote}
 use Rattle.monitor_messages.specs.declared.message.Vote.TheVariants as vote
@@ -44,11 +46,12 @@ pub record CommitsNext (w : World) (op : Op) (w' : World) (version : ℕ) (id : 
   pub is_version : version ≡ length w.log + 1
   pub is_made : id ≡ made (newest w) op
 
--- core 0 refuses at once: by the first refusal that stands, or, where no test but the verifier's is left, for want of memory
-abbrev pub HasReason : World → Op → Veto → Type 0
-HasReason w op why =
-    ((why ≡ veto.NoMemory) × (first (tests (newest w) w.budget op) ≡ None))
-    ⊎ ((fault : StageFault) × Allowed (newest w) w.budget op (Some fault) × (why ≡ veto_of fault))
+-- Core 0, with this table and this budget, refuses at once: by the first refusal that stands, or, where no test but the verifier's
+-- is left, for want of memory.
+abbrev pub HasReason : State → ℕ → Op → Veto → Type 0
+HasReason s budget op why =
+    ((why ≡ veto.NoMemory) × (first (tests s budget op) ≡ None))
+    ⊎ ((fault : StageFault) × Allowed s budget op (Some fault) × (why ≡ veto_of fault))
 
 -- every other core is asked, under a number that no operation had before
 pub record Prepares (events : List Done) (w : World) (op : Op) (requests : Requests) (w' : World) (txn : ℕ) : Type 0 where
@@ -72,7 +75,7 @@ requests_without w entry asker = record { waiting = slice_set w.requests.waiting
 -- a waiting request is refused at once, and its core is told so
 abbrev pub RepliesAtOnce : World → ℕ → Op → World → Decision → Type 0
 RepliesAtOnce w entry op w' (Committed version id) = ⊥
-RepliesAtOnce w entry op w' (Refused core why) = (core ≡ 0) × HasReason w op why
+RepliesAtOnce w entry op w' (Refused core why) = (core ≡ 0) × HasReason (newest w) w.budget op why
     × (w' ≡ record w { requests = requests_without w entry None; peers = sent_out w.peers (to_one entry (message.Reply (Refused core why))) })
 
 -- another core's veto: it is the least core that did not vote Yes, and its vote gives the reason
@@ -98,11 +101,11 @@ pub record AwaitsVotes (w : World) : Type 0 where
   pub voting : w.place.phase ≡ Voting votes
   pub missing : slice_get votes entry ≡ Some None
 
--- What is decided of a request after these events holds.
+-- What is decided of a request after these events holds. Core 0 commits at once only where there is no other core.
 abbrev pub DecidesRightly : List Done → World → Event → World → Answer → Type 0
 DecidesRightly events w (Start op) w' (Prepared txn) = Prepares events w op w.requests w' txn
-DecidesRightly events w (Start op) w' (Decided (Committed version id)) = CommitsNext w op w' version id
-DecidesRightly events w (Start op) w' (Decided (Refused core why)) = (w' ≡ w) × (core ≡ 0) × HasReason w op why
+DecidesRightly events w (Start op) w' (Decided (Committed version id)) = (w.peers ≡ []) × CommitsNext w op w' version id
+DecidesRightly events w (Start op) w' (Decided (Refused core why)) = (w' ≡ w) × (core ≡ 0) × HasReason (newest w) w.budget op why
 DecidesRightly events w (StartFor (suc entry)) w' (Prepared txn) = (op : Op) × IsWaiting events w entry op × Prepares events w op (requests_without w entry (Some (suc entry))) w' txn
 DecidesRightly events w (StartFor (suc entry)) w' (Decided decision) = (op : Op) × IsWaiting events w entry op × RepliesAtOnce w entry op w' decision
 DecidesRightly events w event w' (TookVote txn v None) = AwaitsVotes w' × (w'.log ≡ w.log)

@@ -1,4 +1,6 @@
--- What a list of events with their answers tells of the cores: versions, votes, and what became of requests.
+-- What a list of events with their answers tells of the cores: versions, votes, and what became of requests. A core's events are a
+-- sequence (Lamport 1978, "Time, clocks, and the ordering of events in a distributed system", section "The partial ordering"), and
+-- its votes are those of two-phase commit (Gray 1978, "Notes on data base operating systems", section 5.8.3).
 use Rattle.std.specs.Prelude.{◌≡◌, ◌==◌, ◌&&◌, ℕ, zero, suc, Bool, true, false, cond, Option, Some, None, List, [], ◌∷◌, ◌++◌, count_by}
 use Rattle.table_replica.specs.declared.Op.{Op}
 use Rattle.monitor_messages.specs.declared.message.Vote.{Vote}

@@ -1,5 +1,5 @@
 -- The world of the cores: one log, a place and a version for each core, and the messages under way (Baumann et al. 2009,
--- "The Multikernel", sections 3.3 and 4.7).
+-- "The Multikernel", sections 3.3 and 4.4).
 use Rattle.std.specs.Prelude.{◌≡◌, ℕ, zero, suc, Bool, false, Option, Some, None, List, [], ◌∷◌, ◌++◌, length, map, slice_get, slice_set, option_map, option_to_list}
 use Rattle.table_replica.specs.declared.Op.{Op}
 use Rattle.table_replica.specs.Tables.{State, table}

@@ -2,19 +2,20 @@
 
 ghost use Rattle.std.specs.Prelude.{List, ℕ};
 ghost use Rattle.world_model.specs.Worlds.{World, Run, Happens};
-ghost use Rattle.world_model.specs.Agreement.{Agrees, Grows, IsSoundLog, NoStranger};
+ghost use Rattle.world_model.specs.Agreement.{Agrees, TellsVersions, Grows, IsSoundLog, NoStranger};
 ghost use Rattle.world_model.specs.Decisions.{Delivers, DecidesRightly, RepliesRightly, WaitsRightly};
 ghost use Rattle.world_model.specs.declared.event.Answer.{Answer};
 ghost use Rattle.world_model.specs.declared.event.Done.{Done};
 ghost use Rattle.world_model.specs.declared.event.Event.{Event};
 
 /// In every run the replicas agree within the budgets, no core meets a message that it does not wait for, and versions and log
-/// only grow.
+/// only grow. The version of a core is how often it committed, read off the events.
 pub fn replicas_agree()
     ensures agree { (budget : ℕ) (budgets : List ℕ) (events : List Done) (w : World) → Run budget budgets events w → Agrees budget budgets w }
     ensures no_stranger { (budget : ℕ) (budgets : List ℕ) (events : List Done) (w : World) → Run budget budgets events w → NoStranger w }
     ensures growing { (budget : ℕ) (budgets : List ℕ) (events : List Done) (w w' : World) (event : Event) (answer : Answer) →
         Run budget budgets events w → Happens w event w' answer → Grows w w' }
+    ensures versions { (budget : ℕ) (budgets : List ℕ) (events : List Done) (w : World) → Run budget budgets events w → TellsVersions events w }
 {}
 
 /// In every run each table that the log makes is sound: ids increase, each program is one that the verifier accepts, and a filter's

@@ -1,5 +1,5 @@
 use Rattle.world_model.proofs.Runs.{runs_more}
-use Rattle.world_model.proofs.RunLaws.{run_agrees, run_no_stranger, run_grows, run_delivers, run_replies}
+use Rattle.world_model.proofs.RunLaws.{run_agrees, run_no_stranger, run_grows, run_versions, run_delivers, run_replies}
 use Rattle.world_model.proofs.Decisions.{run_decides}
 use Rattle.world_core.proofs.EventKeeping.{done_as}
 use Rattle.world_core.proofs.world.WorldOver.apply.Goals as goal
@@ -9,6 +9,9 @@ returns-clause-extends g c = done_as c.perform.result _ _ (λ answer h budget bu
 
 pub returns-clause-agrees : goal.returns-clause-agrees
 returns-clause-agrees g c = λ budget budgets events run. run_agrees budget budgets events c.perform.new.self run
+
+pub returns-clause-tells : goal.returns-clause-tells
+returns-clause-tells g c = λ budget budgets events run. run_versions budget budgets events c.perform.new.self run
 
 pub returns-clause-delivers : goal.returns-clause-delivers
 returns-clause-delivers g c = λ budget budgets events run. run_delivers budget budgets events c.perform.new.self run
