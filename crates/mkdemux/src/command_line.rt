@@ -4,14 +4,14 @@ use clap::{Arg, ArgAction, Command};
 use std::alloc::{AllocError, Global};
 
 const ABOUT: &str =
-    "Run classic BPF filters on packets, by a verifier and a machine that are proved";
+    "Run classic BPF filters on packets, and scripts on cores that replicate a table of filters, by engines that are proved";
 
 const EXIT_STATUS: &str = "\
 Exit status:
   0  done
   1  a refused input: its line is on standard output
   2  a fault of the command line
-  3  out of memory, or a device failed: one line is on standard error";
+  3  out of memory, a FILE that can't be opened, or a device that failed: one line is on standard error";
 
 const MATCH_ABOUT: &str = "Run a filter on the packets of standard input";
 
@@ -31,7 +31,9 @@ nanoseconds. The packets before a fault of the capture are run, then `fault NAME
 file where it has one, and the status is 1.
 
 The filter is verified first: each accepted filter ends on each packet, within as many steps as it has instructions. A
-CODE that is no filter, or that the verifier refuses, prints one line that says why, and nothing is read.";
+CODE that is no filter, or that the verifier refuses, prints one line that says why, with status 1, and nothing is read.
+
+An input of more than 64 MiB prints `fault InputTooLong` alone, with status 1.";
 
 const MATCH_EXAMPLE: &str = "\
 Example: which of these packets are ARP?
@@ -69,7 +71,7 @@ most; `;` begins a comment. At the first fault `line N: NAME` is printed, with s
     Backward    a jump doesn't go forward
     TooFar      a conditional jump passes over more than 255 instructions
 
-The filter is not verified: `match` does that.
+A text of more than 64 MiB prints `fault InputTooLong` alone, with status 1. The filter is not verified: `match` does that.
 
 With --asm it is printed as assembler text, a labelled line for each instruction. A filter with a jump to the place after
 its end has none: `refused JumpOut pc P` is printed, with status 1.";
@@ -99,7 +101,8 @@ packet are a line, and a fault, if there is one, is the last line, with status 1
     N captured C original O HEX
     fault NAME [PLACE]
 
-A packet's HEX is what `match` reads; it is `-` where no bytes were captured.";
+A packet's HEX is what `match` reads; it is `-` where no bytes were captured. A capture of more than 64 MiB prints
+`fault InputTooLong` alone, with status 1.";
 
 const DUMP_EXAMPLE: &str = "\
 Example: the packets of a capture as lines for `match`
@@ -112,25 +115,41 @@ const SIM_DETAILS: &str = "\
 Run the script on standard input on the model of the cores, and print a line for each event.
 
 A script says how many cores there are, which filters and packets, what domains ask for and in which order messages are
-taken and packets received. FILEs are captures: `capture NAME N` in the script is the N-th, from 1. The script is read whole
-before its first event; its first fault is printed as `line N: NAME`, with status 1:
+taken and packets received. FILEs are captures: `capture NAME N` in the script is the N-th, from 1. They are opened in order,
+before the script is read. A line of a script that is empty, or whose first word begins with `#`, is skipped.
 
-    cores B0 B1 ..                            1 to 8 cores, each with a budget of instructions
-    asm NAME .. end, ddd NAME TEXT            a filter
-    packet NAME HEX [ORIGINAL]                a packet
-    capture NAME N                            the packets of a FILE
-    home D C                                  requests of domain D enter at core C, not at core 0
+    cores B0 B1 ..                  1 to 8 cores, each with a budget of instructions; stands first
+    asm NAME .. end, ddd NAME TEXT  a filter
+    packet NAME HEX [ORIGINAL]      a packet; HEX is `-` for no bytes
+    capture NAME N                  the packets of a FILE
+    home D C                        requests of domain D enter at core C, not at core 0
     create D E, mint D CAP TO r|m|rm, revoke D CAP, drop D CAP,
     install D CAP NAME, remove D FILTER, replace D FILTER NAME
-                                              a request
-    start, submit C, startfor C               begin the next request
-    take TO FROM [short]                      take the oldest message (short: out of memory meanwhile)
-    rx CORE NAME [FLOOR], replay NAME [FLOOR] receive a packet, or all of a capture
-    settle                                    take every message, and begin every request
-    show CORE                                 print a core's table
-    trace                                     what follows was printed by a run: do that
+                                    a request
+    start                           begin the first request that entered at core 0
+    submit C, startfor C            send core 0 the first request that entered at core C, and begin it there
+    take TO FROM [short]            take the oldest message (short: out of memory meanwhile)
+    rx CORE NAME [FLOOR]            receive a packet; NAME is a packet's, or `C.I` for packet I, from 1, of capture C
+    replay NAME [FLOOR]             receive the packets of a capture, at the cores by turns
+    settle                          take every message, and begin every request
+    show CORE                       print a core's table
+    trace                           events follow as `sim` prints them, and are done again; before it stand only names,
+                                    requests, and rx and replay, whose packets the events `rx CORE N:` name
 
-An event that can't be done prints `fault NAME` and changes nothing; the status is 0 then too.";
+A request that is not allowed prints `refused NAME` and leaves the tables as they are; an event that can't be done prints
+`fault NAME` and changes nothing. The status is 0 then too.
+
+The script is read whole before its first event. Its first fault is printed as `line N: NAME`, with status 1:
+
+    BadLine    an unknown word, a wrong number of words, a bad name or bad rights, `asm` without `end`
+    NoCores    something stands before `cores`
+    BadNumber  a number is out of its range, or none
+    Twice      `cores` stands a second time, or a name is taken
+    NoName     there is no such filter, packet, capture or FILE
+    BadBody    digits, a filter or a capture can't be read; what is wrong follows
+
+A script or a FILE of more than 64 MiB prints `fault InputTooLong` alone, with status 1. A FILE that can't be opened is named
+on standard error, with status 3.";
 
 const SIM_EXAMPLE: &str = "\
 Example: two filters for one endpoint, which gets the packet once, with the greatest verdict

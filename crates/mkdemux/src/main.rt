@@ -1,7 +1,7 @@
-//! `mkdemux`: runs classic BPF filters on packets.
+//! `mkdemux`: runs classic BPF filters on packets, and scripts on cores that replicate a table of filters.
 //!
 //! The exit status is 0; 1 for a refused input, whose line is on standard output; 2 for a fault of the command line; and 3
-//! for memory or a device, with one line on standard error.
+//! for memory, a file that can't be opened or a device, with one line on standard error.
 #![tactic(auto)]
 
 mod command_line;
@@ -10,7 +10,6 @@ use clap::error::ErrorKind;
 use clap::{ArgMatches, Error};
 use console::{EngineFault, run_check, run_dump, run_match};
 use sim_engine::run_sim;
-use std::alloc::AllocError;
 use std::fs::File;
 use std::io;
 use std::process::ExitCode;
@@ -18,7 +17,7 @@ use std::process::ExitCode;
 /// The exit status for a fault of the command line.
 const USAGE: u8 = 2;
 
-/// The exit status for memory or a device.
+/// The exit status for memory, a file that can't be opened or a device.
 const FAILED: u8 = 3;
 
 fn main(rt: HostRuntime) -> ExitCode {
@@ -69,9 +68,14 @@ fn dispatch(rt: &HostRuntime, matches: &ArgMatches) -> u8 {
             &mut rt.stdout(),
         ),
         Some(("dump", _)) => run_dump(rt.alloc(), &mut rt.stdin(), &mut rt.stdout()),
-        Some(("sim", found)) => simulate(rt, found),
+        Some(("sim", found)) => return simulate(rt, found),
         _ => return USAGE,
     };
+    ended(rt, answer)
+}
+
+/// The exit status of an engine that ended.
+fn ended(rt: &HostRuntime, answer: Result<u8, EngineFault>) -> u8 {
     match answer {
         Ok(status) => status,
         Err(fault) => failed(rt, fault),
@@ -79,26 +83,42 @@ fn dispatch(rt: &HostRuntime, matches: &ArgMatches) -> u8 {
 }
 
 /// Opens the files in order, then runs the script on standard input with them.
-fn simulate(rt: &HostRuntime, found: &ArgMatches) -> Result<u8, EngineFault> {
-    let files = open_files(rt, found.get_strs("files").unwrap_or(&[]))?;
-    run_sim(rt.alloc(), files, &mut rt.stdin(), &mut rt.stdout())
+fn simulate(rt: &HostRuntime, found: &ArgMatches) -> u8 {
+    match open_files(rt, found.get_strs("files").unwrap_or(&[])) {
+        Ok(files) => ended(
+            rt,
+            run_sim(rt.alloc(), files, &mut rt.stdin(), &mut rt.stdout()),
+        ),
+        Err(OpenFault::Refused(name, error)) => not_opened(rt, name, error),
+        Err(OpenFault::NoMemory) => failed(rt, EngineFault::NoMemory),
+    }
+}
+
+/// Why files are not open.
+enum OpenFault<'a> {
+    /// The file of this name can't be opened.
+    Refused(&'a str, io::Error),
+    /// There was no memory.
+    NoMemory,
 }
 
 /// The files of these names, opened in order up to one that can't be.
-fn open_files(rt: &HostRuntime, names: &[&str]) -> Result<Vec<File>, EngineFault> {
+fn open_files<'a>(rt: &HostRuntime, names: &[&'a str]) -> Result<Vec<File>, OpenFault<'a>> {
     let mut files = Vec::new(rt.alloc());
     for name in names {
-        let file = File::open(rt, *name).map_err(not_opened)?;
-        files.push(file).map_err(AllocError::from)?;
+        match File::open(rt, *name) {
+            Ok(file) => files.push(file).map_err(|_| OpenFault::NoMemory)?,
+            Err(error) => return Err(open_fault(name, error)),
+        }
     }
     Ok(files)
 }
 
-/// What is said of a file that can't be opened.
-fn not_opened(error: io::Error) -> EngineFault {
+/// Why the file of this name is not open.
+fn open_fault<'a>(name: &'a str, error: io::Error) -> OpenFault<'a> {
     match error.kind() {
-        io::ErrorKind::OutOfMemory => EngineFault::NoMemory,
-        _ => EngineFault::ReadFailed,
+        io::ErrorKind::OutOfMemory => OpenFault::NoMemory,
+        _ => OpenFault::Refused(name, error),
     }
 }
 
@@ -117,5 +137,11 @@ fn not_a_command(rt: &HostRuntime, error: &Error) -> u8 {
 /// Says on standard error why an engine ended early.
 fn failed(rt: &HostRuntime, fault: EngineFault) -> u8 {
     let _ = eprintln!(rt; "mkdemux: {fault}");
+    FAILED
+}
+
+/// Says on standard error which file can't be opened, and why.
+fn not_opened(rt: &HostRuntime, name: &str, error: io::Error) -> u8 {
+    let _ = eprintln!(rt; "mkdemux: {name} can't be opened: {error}");
     FAILED
 }
