@@ -48,7 +48,7 @@ get_bytes [] n all = λ k d lt. absurd (omega arith)
 get_bytes (file ∷ files) zero all = all.0
 get_bytes (file ∷ files) (suc n) all = get_bytes files n all.1
 
-file_bytes : (s : Settings) (number : ℕ) → AreFiles s.files → All (λ b. b < 256) (file_of s number)
+pub file_bytes : (s : Settings) (number : ℕ) → AreFiles s.files → All (λ b. b < 256) (file_of s number)
 file_bytes s number all = elim (cases_Bool (eqb number 0)) [
   | inl none ↦ rw none (λ k d lt. absurd (omega arith))
   | inr some ↦ rw some (get_bytes s.files (number - 1) all)

@@ -12,3 +12,4 @@ pub mod LawLemmas
 pub mod DecimalTotal
 pub mod TotalLemmas
 pub mod LimitLemmas
+pub mod OrderLemmas

@@ -15,3 +15,4 @@ pub mod BodyViews
 pub mod Changes
 pub mod Reading
 pub mod Limits
+pub mod Orders

@@ -41,10 +41,12 @@ pub enum ScriptFaultKind {
     NoMemory,
 }
 
-/// A fault, and the line that has it, from 1.
+/// A fault, and the line that has it.
 #[derive(Clone, Copy, Debug, PartialEq, Eq)]
 pub struct ScriptFault {
+    /// The line, from 1.
     pub line: u32,
+    /// What is wrong with it.
     pub kind: ScriptFaultKind,
 }
 

@@ -10,6 +10,7 @@ mod commands;
 mod drafts;
 mod fault;
 mod homes;
+mod laws;
 mod lines;
 mod meaning;
 mod names;
@@ -26,5 +27,6 @@ mod trace;
 mod words;
 
 pub use fault::{BodyFault, ScriptFault, ScriptFaultKind};
+pub use laws::faults_are_told_in_order;
 pub use reader::read_script;
 pub use script::{BudgetList, Item, ItemList, Script};

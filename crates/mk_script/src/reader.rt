@@ -54,7 +54,7 @@ fn draft<'a>(
             piece.line,
             piece.block,
         ),
-        Some(jobs) => trace_line(alloc, jobs, piece.line),
+        Some(jobs) => trace_line(alloc, jobs, &piece.words, piece.line),
     }
 }
 

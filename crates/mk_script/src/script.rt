@@ -103,6 +103,8 @@ impl BudgetList {
 /// A script: the budgets of its cores, and what it has done.
 #[derive(Drop)]
 pub struct Script {
+    /// The budgets of its cores.
     pub budgets: BudgetList,
+    /// What it has done.
     pub items: ItemList,
 }

@@ -1,5 +1,6 @@
 //! Scripts, and the items or faults that they stand for.
 
+use crate::ScriptFaultKind::{BadLine, BadNumber, NoCores, NoName, Twice};
 use crate::{BodyFault, Item, Script, ScriptFault, ScriptFaultKind, read_script};
 use bpf_insn::TextFault;
 use endpoint_caps::Rights;
@@ -46,135 +47,117 @@ fn threads_fault(alloc: Global, text: &str) -> Option<(u32, ScriptFaultKind)> {
     Some((fault.line, fault.kind))
 }
 
+/// A text, and its first fault.
+type Case = (&'static str, u32, ScriptFaultKind);
+
+/// The first text that has another fault, where there is one.
+fn other_fault(alloc: Global, cases: &[Case]) -> Option<&'static str> {
+    for (text, line, kind) in cases {
+        if fault(alloc, text) != Some((*line, *kind)) {
+            return Some(*text);
+        }
+    }
+    None
+}
+
+const HEX: ScriptFaultKind = ScriptFaultKind::BadBody(BodyFault::Hex);
+
+const MNEMONIC: ScriptFaultKind = ScriptFaultKind::BadBody(BodyFault::Asm(AsmFault {
+    line: 1,
+    kind: AsmFaultKind::Mnemonic,
+}));
+
+/// Each kind of fault, and NoCores where a text has no commands.
+static EACH_KIND: [Case; 9] = [
+    ("create 1 7\n", 1, NoCores),
+    ("cores\n", 1, BadLine),
+    ("cores 1 x\n", 1, BadNumber),
+    ("cores 5\ncores 5\n", 2, Twice),
+    ("cores 5\nrx 0 p\n", 2, NoName),
+    ("cores 5\npacket p abc\n", 2, HEX),
+    ("cores 5\nasm f\nldq [0]\nend\n", 2, MNEMONIC),
+    ("", 1, NoCores),
+    ("\n# cores 5\n \t\r\n", 1, NoCores),
+];
+
+/// BadLine before NoCores before BadNumber.
+static BAD_LINES: [Case; 7] = [
+    ("asm f\nneg\n", 1, BadLine),
+    ("mint x 1 2 w\n", 1, BadLine),
+    ("create x 7\n", 1, NoCores),
+    ("\ncores 5\nasm f\nneg\nend \r\nstart now\n", 6, BadLine),
+    ("cores 5\nasm f\nneg\nend now\n", 2, BadLine),
+    ("cores 1 2 3 4 5 6 7 8 9\n", 1, BadLine),
+    ("cores 5\ncores 4294967296\n", 2, BadNumber),
+];
+
+/// BadNumber before Twice before NoName before BadBody.
+static BEHIND_NUMBERS: [Case; 7] = [
+    ("cores 5\npacket p -\npacket p x 4294967296", 3, BadNumber),
+    ("cores 5\npacket p -\npacket p x\n", 3, Twice),
+    ("cores 5\nddd f 1,6 0 0 1\nasm f\nx\nend\n", 3, Twice),
+    ("cores 5\ncapture c 1\ncapture c 9\n", 3, Twice),
+    ("cores 5\ncapture c x\n", 2, BadNumber),
+    ("cores 5\ncapture c 0\n", 2, NoName),
+    ("cores 5\ncapture c 36893488147419103233\n", 2, NoName),
+];
+
+/// Numbers in their ranges.
+static RANGES: [Case; 4] = [
+    ("cores 5\nhome 1 1\n", 2, BadNumber),
+    ("cores 5\nshow 65536\n", 2, BadNumber),
+    ("cores 5\nrevoke 1 4294967296\n", 2, BadNumber),
+    (
+        "cores 5\npacket p -\nrx 0 p 18446744073709551616\n",
+        3,
+        BadNumber,
+    ),
+];
+
+/// Names, of which each kind has its own.
+static NAMES: [Case; 9] = [
+    (
+        "cores 5\npacket a2345678901234567890123456789012 -\nshow\n",
+        3,
+        BadLine,
+    ),
+    (
+        "cores 5\npacket a23456789012345678901234567890123 -\n",
+        2,
+        BadLine,
+    ),
+    ("cores 5\npacket f -\ninstall 1 1 f\n", 3, NoName),
+    ("cores 5\ncapture c 1\nrx 0 c\n", 3, NoName),
+    ("cores 5\ncapture c 1\nrx 0 c.4\n", 3, NoName),
+    ("cores 5\ncapture c 1\nrx 0 c.0\n", 3, NoName),
+    ("cores 5\ncapture c 1\nrx 0 c.x\n", 3, BadNumber),
+    ("cores 5\ncapture c 1\nrx 0 9.1\n", 3, BadLine),
+    ("cores 5\ntake 1 0 long\n", 2, BadLine),
+];
+
+/// Lines behind `trace`, and a `trace` behind what only a simulation does.
+static TRACES: [Case; 4] = [
+    ("cores 5\nsettle\ntrace\n", 3, BadLine),
+    ("cores 5\ntrace\nsettle\n", 3, BadLine),
+    ("cores 5\ntrace\nrx 0 1: version 0 none\n", 3, NoName),
+    ("cores 5\ntrace\nleft 1\n", 3, BadLine),
+];
+
 #[test]
 fn faults(rt: HostRuntime) -> Result<(), Fail> {
-    use ScriptFaultKind::{BadLine, BadNumber, NoCores, NoName, Twice};
     let alloc = rt.alloc();
-    assert_eq!(rt; fault(alloc, "create 1 7\n"), Some((1, NoCores)));
-    assert_eq!(rt; fault(alloc, "cores\n"), Some((1, BadLine)));
-    assert_eq!(rt; fault(alloc, "cores 1 x\n"), Some((1, BadNumber)));
-    assert_eq!(rt; fault(alloc, "cores 5\ncores 5\n"), Some((2, Twice)));
-    assert_eq!(rt; fault(alloc, "cores 5\nrx 0 p\n"), Some((2, NoName)));
-    let hex = ScriptFaultKind::BadBody(BodyFault::Hex);
-    assert_eq!(rt; fault(alloc, "cores 5\npacket p abc\n"), Some((2, hex)));
-    let asm = ScriptFaultKind::BadBody(BodyFault::Asm(AsmFault {
-        line: 1,
-        kind: AsmFaultKind::Mnemonic,
-    }));
-    assert_eq!(rt;
-        fault(alloc, "cores 5\nasm f\nldq [0]\nend\n"),
-        Some((2, asm))
-    );
+    assert_eq!(rt; other_fault(alloc, &EACH_KIND), None);
+    assert_eq!(rt; other_fault(alloc, &RANGES), None);
+    assert_eq!(rt; other_fault(alloc, &NAMES), None);
+    assert_eq!(rt; other_fault(alloc, &TRACES), None);
     Ok(())
 }
 
 #[test]
 fn faults_in_order(rt: HostRuntime) -> Result<(), Fail> {
-    use ScriptFaultKind::{BadLine, BadNumber, NoCores, NoName, Twice};
     let alloc = rt.alloc();
-    // a text without commands
-    assert_eq!(rt; fault(alloc, ""), Some((1, NoCores)));
-    assert_eq!(rt; fault(alloc, "\n# cores 5\n \t\r\n"), Some((1, NoCores)));
-    // BadLine before NoCores before BadNumber
-    assert_eq!(rt; fault(alloc, "asm f\nneg\n"), Some((1, BadLine)));
-    assert_eq!(rt; fault(alloc, "mint x 1 2 w\n"), Some((1, BadLine)));
-    assert_eq!(rt; fault(alloc, "create x 7\n"), Some((1, NoCores)));
-    assert_eq!(rt;
-        fault(alloc, "\ncores 5\nasm f\nneg\nend \r\nstart now\n"),
-        Some((6, BadLine))
-    );
-    assert_eq!(rt;
-        fault(alloc, "cores 5\nasm f\nneg\nend now\n"),
-        Some((2, BadLine))
-    );
-    assert_eq!(rt;
-        fault(alloc, "cores 1 2 3 4 5 6 7 8 9\n"),
-        Some((1, BadLine))
-    );
-    assert_eq!(rt;
-        fault(alloc, "cores 5\ncores 4294967296\n"),
-        Some((2, BadNumber))
-    );
-    // BadNumber before Twice before NoName before BadBody
-    assert_eq!(rt;
-        fault(alloc, "cores 5\npacket p -\npacket p x 4294967296"),
-        Some((3, BadNumber))
-    );
-    assert_eq!(rt;
-        fault(alloc, "cores 5\npacket p -\npacket p x\n"),
-        Some((3, Twice))
-    );
-    assert_eq!(rt;
-        fault(alloc, "cores 5\nddd f 1,6 0 0 1\nasm f\nx\nend\n"),
-        Some((3, Twice))
-    );
-    assert_eq!(rt;
-        fault(alloc, "cores 5\ncapture c 1\ncapture c 9\n"),
-        Some((3, Twice))
-    );
-    assert_eq!(rt;
-        fault(alloc, "cores 5\ncapture c x\n"),
-        Some((2, BadNumber))
-    );
-    assert_eq!(rt; fault(alloc, "cores 5\ncapture c 0\n"), Some((2, NoName)));
-    assert_eq!(rt;
-        fault(alloc, "cores 5\ncapture c 36893488147419103233\n"),
-        Some((2, NoName))
-    );
-    // numbers in their ranges
-    assert_eq!(rt; fault(alloc, "cores 5\nhome 1 1\n"), Some((2, BadNumber)));
-    assert_eq!(rt; fault(alloc, "cores 5\nshow 65536\n"), Some((2, BadNumber)));
-    assert_eq!(rt;
-        fault(alloc, "cores 5\nrevoke 1 4294967296\n"),
-        Some((2, BadNumber))
-    );
-    assert_eq!(rt;
-        fault(alloc, "cores 5\npacket p -\nrx 0 p 18446744073709551616\n"),
-        Some((3, BadNumber))
-    );
-    // names, of which each kind has its own
-    assert_eq!(rt;
-        fault(
-            alloc,
-            "cores 5\npacket a2345678901234567890123456789012 -\nshow\n"
-        ),
-        Some((3, BadLine))
-    );
-    assert_eq!(rt;
-        fault(
-            alloc,
-            "cores 5\npacket a23456789012345678901234567890123 -\n"
-        ),
-        Some((2, BadLine))
-    );
-    assert_eq!(rt;
-        fault(alloc, "cores 5\npacket f -\ninstall 1 1 f\n"),
-        Some((3, NoName))
-    );
-    assert_eq!(rt;
-        fault(alloc, "cores 5\ncapture c 1\nrx 0 c\n"),
-        Some((3, NoName))
-    );
-    assert_eq!(rt;
-        fault(alloc, "cores 5\ncapture c 1\nrx 0 c.4\n"),
-        Some((3, NoName))
-    );
-    assert_eq!(rt;
-        fault(alloc, "cores 5\ncapture c 1\nrx 0 c.0\n"),
-        Some((3, NoName))
-    );
-    assert_eq!(rt;
-        fault(alloc, "cores 5\ncapture c 1\nrx 0 c.x\n"),
-        Some((3, BadNumber))
-    );
-    assert_eq!(rt;
-        fault(alloc, "cores 5\ncapture c 1\nrx 0 9.1\n"),
-        Some((3, BadLine))
-    );
-    assert_eq!(rt;
-        fault(alloc, "cores 5\ntake 1 0 long\n"),
-        Some((2, BadLine))
-    );
+    assert_eq!(rt; other_fault(alloc, &BAD_LINES), None);
+    assert_eq!(rt; other_fault(alloc, &BEHIND_NUMBERS), None);
     Ok(())
 }
 
@@ -210,39 +193,13 @@ fn bad_bodies(rt: HostRuntime) -> Result<(), Fail> {
 
 #[test]
 fn faults_for_threads(rt: HostRuntime) -> Result<(), Fail> {
-    use ScriptFaultKind::{BadLine, BadNumber};
     let alloc = rt.alloc();
-    assert_eq!(rt;
-        threads_fault(alloc, "cores 5\nstart\n"),
-        Some((2, BadLine))
-    );
-    assert_eq!(rt;
-        threads_fault(alloc, "cores 5\nsettle\n"),
-        Some((2, BadLine))
-    );
-    assert_eq!(rt;
-        threads_fault(alloc, "cores 5\ntrace\n"),
-        Some((2, BadLine))
-    );
+    for text in ["cores 5\nstart\n", "cores 5\nsettle\n", "cores 5\ntrace\n"] {
+        assert_eq!(rt; threads_fault(alloc, text), Some((2, BadLine)));
+    }
     assert_eq!(rt;
         threads_fault(alloc, "cores 5\npacket p -\nrx 1 p\n"),
         Some((3, BadNumber))
-    );
-    assert_eq!(rt;
-        fault(alloc, "cores 5\nsettle\ntrace\n"),
-        Some((3, BadLine))
-    );
-    assert_eq!(rt;
-        fault(alloc, "cores 5\ntrace\nsettle\n"),
-        Some((3, BadLine))
-    );
-    assert_eq!(rt;
-        fault(alloc, "cores 5\ntrace\nrx 0 1: version 0 none\n"),
-        Some((3, ScriptFaultKind::NoName))
-    );
-    assert_eq!(rt;
-        fault(alloc, "cores 5\ntrace\nleft 1\n"),
-        Some((3, BadLine))
     );
     Ok(())
 }

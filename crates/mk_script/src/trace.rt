@@ -1,6 +1,7 @@
 //! The lines behind `trace`: the events of a run.
 
 ghost use Rattle.std.specs.Prelude.{◌≡◌, ◌==◌, ◌<◌, IfOk};
+ghost use Rattle.bpf_insn.specs.Texts.{words_of};
 ghost use Rattle.mk_script.specs.Drafts as spec;
 ghost use Rattle.mk_script.specs.Changes.{DraftFollows};
 ghost use Rattle.mk_script.specs.declared.reading.Reading.{Reading};
@@ -13,7 +14,7 @@ use crate::meaning::{Draft, Meaning};
 use crate::number::{number, number16, number64};
 use crate::rows::{Command, event_of};
 use crate::script::Item;
-use crate::words::{cut, word_at, words};
+use crate::words::{cut, word_at, words as words_of};
 use std::alloc::Global;
 use world_model::Event;
 
@@ -101,23 +102,24 @@ fn event<'a>(
     }
 }
 
-/// What a line behind `trace` asks for.
+/// What a line of these words behind `trace` asks for.
 pub(crate) fn trace_line<'a>(
     alloc: Global,
     jobs: &[Event],
+    words: &[&[u8]],
     line: &[u8],
 ) -> Result<Draft<'a>, ScriptFaultKind>
+    requires { texts words.now ≡ words_of line.now }
     ensures drafts { Answered draft_of result (spec.trace_draft jobs.now line.now) }
     ensures follows { (r : Reading) → IfOk result (λ d. DraftFollows r d) }
 {
     if line.contains(&b':') {
         let (before, behind) = cut(b':', line);
-        let before = words(alloc, before)?;
-        let behind = words(alloc, behind)?;
+        let before = words_of(alloc, before)?;
+        let behind = words_of(alloc, behind)?;
         return event(alloc, jobs, &before, &behind);
     }
-    let words = words(alloc, line)?;
-    if is_left(&words) {
+    if is_left(words) {
         Ok(Draft::Whole(Meaning::Nothing))
     } else {
         Err(ScriptFaultKind::BadLine)

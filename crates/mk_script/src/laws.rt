@@ -1,0 +1,20 @@
+//! What holds of the definitions of scripts: a law, the contract of a function that does nothing.
+
+ghost use Rattle.mk_script.specs.Bodies.{Means};
+ghost use Rattle.mk_script.specs.Drafts.{Settings};
+ghost use Rattle.mk_script.specs.Meanings.{Known, Meaning};
+ghost use Rattle.mk_script.specs.Orders.{HasFault, IsFirstFault};
+ghost use Rattle.mk_script.specs.Scripts.{AreFiles};
+ghost use Rattle.mk_script.specs.Statements.{Statement};
+ghost use Rattle.mk_script.specs.declared.fault.ScriptFaultKind.{ScriptFaultKind};
+ghost use Rattle.std.specs.Prelude.{Result};
+
+/// Which fault a statement is told, whatever lines stand before it. Each looked at by itself, whatever else is wrong, it has
+/// BadLine where its words are no command that may stand there; NoCores where `cores` is still to come; BadNumber where one of
+/// its numbers is none below its limit; Twice where what it makes is there already; NoName where something that it uses isn't
+/// there; and BadBody where the body that it brings can't be read. Of those that it has the first in this order is told, and
+/// it has a meaning only where it has none.
+pub fn faults_are_told_in_order()
+    ensures { (s : Settings) (k : Known) (st : Statement) (outcome : Result Meaning ScriptFaultKind) → AreFiles s.files →
+        Means s k st outcome → IsFirstFault (HasFault s k st) outcome }
+{}
