@@ -1,8 +1,7 @@
 -- A script's text stands for one outcome at most.
-use Rattle.std.proofs.Common.{◌≡◌, ℕ, ◌-◌, ◌<◌, eqb, List, [], ◌∷◌, ◌++◌, Some, None, Result, Ok, Err, sym, ap, ◌∙◌, subst, inl, inr, zero, suc, arith}
-use Rattle.std.specs.Prelude.{◌⊎◌, slice_get, unwrap_or, IfOk, IfErr, IsErrAnd, MatchResult}
+use Rattle.std.proofs.Common.{◌≡◌, ℕ, ◌<◌, List, [], ◌∷◌, ◌++◌, Some, None, Result, Ok, Err, sym, ap, ◌∙◌, subst, inl, inr}
+use Rattle.std.specs.Prelude.{◌⊎◌, IfOk, IfErr, IsErrAnd, MatchResult}
 use Rattle.std.specs.List.{All}
-use Rattle.std.proofs.lemmas.Bool.{cases_Bool}
 use Rattle.bpf_insn.proofs.DddLaws.{one_program, spelled_or_faulty, one_fault}
 use Rattle.filter_asm.specs.declared.fault.AsmFault.{AsmFault}
 use Rattle.filter_asm.specs.Faults.{fault_of}
@@ -13,11 +12,12 @@ use Rattle.mk_script.specs.declared.fault.ScriptFault.{ScriptFault}
 use Rattle.mk_script.specs.declared.fault.ScriptFaultKind.{ScriptFaultKind}
 use Rattle.mk_script.specs.declared.fault.ScriptFaultKind.TheVariants.{BadBody, NoMemory}
 use Rattle.mk_script.specs.Bodies.{MeansAssembled, MeansDecimal, MeansCaptured, DraftedMeans}
-use Rattle.mk_script.specs.Drafts.{Settings, Draft, Whole, Assembler, Decimal, Savefile, draft_of, file_of}
+use Rattle.mk_script.specs.Drafts.{Settings, Draft, Whole, Assembler, Decimal, Savefile, draft_of}
 use Rattle.mk_script.specs.Meanings.{Meaning, known}
 use Rattle.mk_script.specs.declared.script.Script.{Script}
 use Rattle.mk_script.specs.Scripts.{MeanBehind, Stands, script_of, fault_at, AreFiles}
 use Rattle.mk_script.specs.Statements.{Statement, statements}
+use Rattle.mk_script.proofs.OrderLemmas.{BringsBytes, drafted_bytes}
 
 same_fault : (f g : AsmFault) → fault_of f ≡ fault_of g → f ≡ g
 same_fault f g e = λ i. record { line = (e i).line; kind = (e i).kind }
@@ -43,35 +43,24 @@ captured_one name bytes small a b (inl x) (inr y) = let same = (one_reading byte
 captured_one name bytes small a b (inr x) (inl y) = let same = (one_reading bytes small x.0 y.0 x.1 y.1 (Some x.2) None x.3 y.2).2 in absurd (cc)
 captured_one name bytes small a b (inr x) (inr y) = let same = (one_reading bytes small x.0 y.0 x.1 y.1 (Some x.2) (Some y.2) x.3 y.3).2 in let faults : x.2 ≡ y.2 = cc in let xe = x.4 in let ye = y.4 in cc
 
-get_bytes : (files : List (List ℕ)) (n : ℕ) → AreFiles files → All (λ b. b < 256) (unwrap_or (slice_get files n) [])
-get_bytes [] n all = λ k d lt. absurd (omega arith)
-get_bytes (file ∷ files) zero all = all.0
-get_bytes (file ∷ files) (suc n) all = get_bytes files n all.1
-
-pub file_bytes : (s : Settings) (number : ℕ) → AreFiles s.files → All (λ b. b < 256) (file_of s number)
-file_bytes s number all = elim (cases_Bool (eqb number 0)) [
-  | inl none ↦ rw none (λ k d lt. absurd (omega arith))
-  | inr some ↦ rw some (get_bytes s.files (number - 1) all)
-]
-
-drafted_one : (s : Settings) → AreFiles s.files → (d : Result Draft ScriptFaultKind) (a b : Result Meaning ScriptFaultKind) → DraftedMeans s d a → DraftedMeans s d b → a ≡ b
-drafted_one s all (Err fault) a b x y = x ∙ sym y
-drafted_one s all (Ok (Whole meaning)) a b x y = x ∙ sym y
-drafted_one s all (Ok (Assembler name text)) a b x y = assembled_one name text a b x y
-drafted_one s all (Ok (Decimal name text)) a b x y = decimal_one name text a b x y
-drafted_one s all (Ok (Savefile name number)) a b x y = captured_one name (file_of s number) (file_bytes s number all) a b x y
+drafted_one : (d : Result Draft ScriptFaultKind) → BringsBytes d → (a b : Result Meaning ScriptFaultKind) → DraftedMeans d a → DraftedMeans d b → a ≡ b
+drafted_one (Err fault) small a b x y = x ∙ sym y
+drafted_one (Ok (Whole meaning)) small a b x y = x ∙ sym y
+drafted_one (Ok (Assembler name text)) small a b x y = assembled_one name text a b x y
+drafted_one (Ok (Decimal name text)) small a b x y = decimal_one name text a b x y
+drafted_one (Ok (Savefile name bytes)) small a b x y = captured_one name bytes small a b x y
 
 behind_one : (s : Settings) → AreFiles s.files → (given : List Meaning) (sts : List Statement) (a b : Result (List Meaning) ScriptFault) → MeanBehind s given sts a → MeanBehind s given sts b → a ≡ b
 behind_one s all given [] a b x y = x ∙ sym y
 behind_one s all given (st ∷ sts) a b (inl x) (inl y) =
-    let same = drafted_one s all (draft_of s (known given) st) (Ok x.0) (Ok y.0) x.1 y.1 in
+    let same = drafted_one (draft_of s (known given) st) (drafted_bytes s (known given) st all) (Ok x.0) (Ok y.0) x.1 y.1 in
     let meanings : x.0 ≡ y.0 = cc in
     let other = subst (λ (m : Meaning). MeanBehind s (given ++ m ∷ []) sts b) (sym meanings) y.2 in
     behind_one s all (given ++ x.0 ∷ []) sts a b x.2 other
-behind_one s all given (st ∷ sts) a b (inl x) (inr y) = let same = drafted_one s all (draft_of s (known given) st) (Ok x.0) (Err y.0) x.1 y.1 in absurd (cc)
-behind_one s all given (st ∷ sts) a b (inr x) (inl y) = let same = drafted_one s all (draft_of s (known given) st) (Err x.0) (Ok y.0) x.1 y.1 in absurd (cc)
+behind_one s all given (st ∷ sts) a b (inl x) (inr y) = let same = drafted_one (draft_of s (known given) st) (drafted_bytes s (known given) st all) (Ok x.0) (Err y.0) x.1 y.1 in absurd (cc)
+behind_one s all given (st ∷ sts) a b (inr x) (inl y) = let same = drafted_one (draft_of s (known given) st) (drafted_bytes s (known given) st all) (Err x.0) (Ok y.0) x.1 y.1 in absurd (cc)
 behind_one s all given (st ∷ sts) a b (inr x) (inr y) =
-    let same = drafted_one s all (draft_of s (known given) st) (Err x.0) (Err y.0) x.1 y.1 in
+    let same = drafted_one (draft_of s (known given) st) (drafted_bytes s (known given) st all) (Err x.0) (Err y.0) x.1 y.1 in
     let kinds : x.0 ≡ y.0 = cc in
     x.2 ∙ ap (λ k. Err (fault_at st.number k)) kinds ∙ sym y.2
 

@@ -12,4 +12,5 @@ pub mod LawLemmas
 pub mod DecimalTotal
 pub mod TotalLemmas
 pub mod LimitLemmas
+pub mod EndLemmas
 pub mod OrderLemmas

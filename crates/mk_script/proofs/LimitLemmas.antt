@@ -34,7 +34,7 @@ use Rattle.mk_script.specs.declared.script.Item.{Item}
 use Rattle.mk_script.specs.declared.script.Item.TheVariants as item
 use Rattle.mk_script.specs.declared.script.Script.{Script}
 use Rattle.mk_script.specs.Bodies.{MeansAssembled, MeansDecimal, MeansCaptured, DraftMeans, DraftedMeans}
-use Rattle.mk_script.specs.Drafts.{Settings, Draft, Whole, Assembler, Decimal, Savefile, draft_of, file_of, is_file, has_cores, is_new, behind_word, optional_below, bytes_or_fault, hex_bytes, may_stand, is_cores, core_limit, is_short, numbers_below, cores_draft, asm_draft, ddd_draft, packet_draft, capture_draft, home_draft, create_op, mint_op, rights_of, held, held_program, op_of, domain_of, request_draft, core_draft, take_draft, packet_number, packet_of, packet_at, floor_at, rx_draft, replayed, replay_draft, draft_by, script_draft, counted, job_at, is_rx_at, job_draft, event_by, event_draft, trace_draft, is_left, draft_in}
+use Rattle.mk_script.specs.Drafts.{Settings, Draft, Whole, Assembler, Decimal, Savefile, draft_of, has_cores, is_new, behind_word, optional_below, bytes_or_fault, hex_bytes, may_stand, is_cores, core_limit, is_short, numbers_below, cores_draft, asm_draft, ddd_draft, packet_draft, capture_draft, home_draft, create_op, mint_op, rights_of, held, held_program, op_of, domain_of, request_draft, core_draft, take_draft, packet_number, packet_of, packet_at, floor_at, rx_draft, replayed, replay_draft, draft_by, script_draft, counted, job_at, is_rx_at, job_draft, event_by, event_draft, trace_draft, is_left, draft_in}
 use Rattle.mk_script.specs.Limits.{IsShortPacket, IsTakeOrRx, IsLimited, EntersBelow, HasLimits}
 use Rattle.mk_script.specs.Meanings.{Meaning, Budgets, NamedProgram, NamedPacket, NamedCapture, Home, Does, Receives, Trace, Nothing, Known, Jobs, Counted, Named, known, named, home_from, budgets_in, programs_in, packets_in, captures_in, jobs_in, items_in, items_of, is_traced, jobs_behind}
 use Rattle.mk_script.specs.Rows.{before_dot, command_of, event_of}
@@ -302,8 +302,8 @@ unfolding capture_draft
 capture_within s k words d e =
     let number = bound (whole_number (word_at words 2)) _ d e in
     let new = bound (is_new (k.captures (word_at words 1))) _ d number.next in
-    let there = bound (check (is_file s number.value) NoName) _ d new.next in
-    subst (IsDraftWithin k) (same_ok (Savefile (word_at words 1) number.value) d there.next) tt
+    let file = bound (ok_or (counted s.files number.value) NoName) _ d new.next in
+    subst (IsDraftWithin k) (same_ok (Savefile (word_at words 1) file.value) d file.next) tt
 
 below_some : (limit : ℕ) (o : Option ℕ) (n : ℕ) → below limit o ≡ Some n → n < limit
 below_some limit None n e = absurd (cc)
@@ -423,14 +423,14 @@ captured_within : (k : Known) (name bytes : List ℕ) (m : Meaning) → MeansCap
 captured_within k name bytes m (inl x) = let same = sym (same_ok m (NamedCapture name x.1) x.3) in subst (λ (m : Meaning). IsWithin m × IsFirst k m) same (reads_short bytes x.0 x.1 x.2, tt)
 captured_within k name bytes m (inr x) = let never = x.4 in absurd (cc)
 
-means_within : (s : Settings) (k : Known) (d : Draft) (m : Meaning) → IsDraftWithin k d → DraftMeans s d (Ok m) → IsWithin m × IsFirst k m
-means_within s k (Whole meaning) m within e = subst (λ (m : Meaning). IsWithin m × IsFirst k m) (sym (same_ok m meaning e)) within
-means_within s k (Assembler name text) m within means = assembled_within k name text m means
-means_within s k (Decimal name text) m within means = decimal_within k name text m means
-means_within s k (Savefile name number) m within means = captured_within k name (file_of s number) m means
+means_within : (k : Known) (d : Draft) (m : Meaning) → IsDraftWithin k d → DraftMeans d (Ok m) → IsWithin m × IsFirst k m
+means_within k (Whole meaning) m within e = subst (λ (m : Meaning). IsWithin m × IsFirst k m) (sym (same_ok m meaning e)) within
+means_within k (Assembler name text) m within means = assembled_within k name text m means
+means_within k (Decimal name text) m within means = decimal_within k name text m means
+means_within k (Savefile name bytes) m within means = captured_within k name bytes m means
 
-drafted_within : (s : Settings) (k : Known) (st : Statement) (d : Result Draft ScriptFaultKind) (m : Meaning) → AreShort k → length st.line < 2 ^ 32 → AreReceived k.jobs → draft_of s k st ≡ d → DraftedMeans s d (Ok m) → IsWithin m × IsFirst k m
-drafted_within s k st (Ok d) m short few received e means = means_within s k d m (in_within s k k.jobs (words_of st.line) st.line st.block d short (omega (arith, few, word_short st.line 2)) received e) means
+drafted_within : (s : Settings) (k : Known) (st : Statement) (d : Result Draft ScriptFaultKind) (m : Meaning) → AreShort k → length st.line < 2 ^ 32 → AreReceived k.jobs → draft_of s k st ≡ d → DraftedMeans d (Ok m) → IsWithin m × IsFirst k m
+drafted_within s k st (Ok d) m short few received e means = means_within k d m (in_within s k k.jobs (words_of st.line) st.line st.block d short (omega (arith, few, word_short st.line 2)) received e) means
 drafted_within s k st (Err fault) m short few received e means = absurd (cc)
 
 -- What is known

@@ -1,12 +1,10 @@
 -- The fault that is told is the first that a statement has.
-use Rattle.std.proofs.Common.{◌≡◌, ℕ, ◌+◌, ◌-◌, ◌^◌, ◌≤◌, ◌<◌, eqb, leb, Bool, true, false, not, ◌&&◌, ◌||◌, if◌then◌else◌, List, [], ◌∷◌, ◌++◌, length, drop, append-nil, Option, Some, None, Result, Ok, Err, refl, subst, inl, inr, arith, slice_get, is_ok}
+use Rattle.std.proofs.Common.{◌≡◌, ℕ, zero, suc, ◌+◌, ◌-◌, ◌^◌, ◌≤◌, ◌<◌, eqb, Bool, true, false, not, ◌&&◌, ◌||◌, if◌then◌else◌, List, [], ◌∷◌, ◌++◌, length, drop, append-nil, Option, Some, None, Result, Ok, Err, refl, subst, inl, inr, arith, slice_get, is_ok}
 use Rattle.std.specs.Prelude.{map, codes, nat_lt, is_some, option_and_then, unwrap_or}
 use Rattle.std.specs.Option.{ok_or}
 use Rattle.std.specs.List.{All, list_all, list_any, find, before_first, after_first}
 use Rattle.std.specs.Str.{bytes_eq}
 use Rattle.std.proofs.lemmas.Bool.{cases_Bool}
-use Rattle.std.proofs.lemmas.Bool.Decides.{nat_tests}
-use Rattle.std.proofs.lemmas.Option.{slice_get_cases}
 use Rattle.hex.specs.Hex.{decode_of}
 use Rattle.hex.specs.declared.error.FromHexError.{FromHexError}
 use Rattle.bpf_insn.specs.Ddd.{Ddd}
@@ -34,14 +32,13 @@ use Rattle.mk_script.specs.declared.rows.Request.TheVariants as request
 use Rattle.mk_script.specs.declared.script.Item.{Item}
 use Rattle.mk_script.specs.declared.script.Item.TheVariants as item
 use Rattle.mk_script.specs.Bodies.{MeansAssembled, MeansDecimal, MeansCaptured, DraftMeans, DraftedMeans, Means}
-use Rattle.mk_script.specs.Drafts.{Settings, Draft, Whole, Assembler, Decimal, Savefile, draft_of, file_of, is_file, has_cores, behind_word, optional_below, bytes_or_fault, hex_bytes, may_stand, is_cores, core_limit, is_short, numbers_below, cores_draft, asm_draft, ddd_draft, packet_draft, capture_draft, home_draft, create_op, mint_op, held, held_program, op_of, domain_of, request_draft, core_draft, take_draft, is_dotted, packet_of, packet_at, rx_draft, replayed, replay_draft, draft_by, script_draft, counted, job_at, job_draft, event_by, event_draft, trace_draft, is_left, draft_in}
+use Rattle.mk_script.specs.Drafts.{Settings, Draft, Whole, Assembler, Decimal, Savefile, draft_of, has_cores, behind_word, optional_below, bytes_or_fault, hex_bytes, may_stand, is_cores, core_limit, is_short, numbers_below, cores_draft, asm_draft, ddd_draft, packet_draft, capture_draft, home_draft, create_op, mint_op, held, held_program, op_of, domain_of, request_draft, core_draft, take_draft, is_dotted, packet_of, packet_at, rx_draft, replayed, replay_draft, draft_by, script_draft, counted, job_at, job_draft, event_by, event_draft, trace_draft, is_left, draft_in}
 use Rattle.mk_script.specs.Meanings.{Meaning, Budgets, NamedPacket, Does, Receives, Nothing, Known, Jobs, Counted, Named}
-use Rattle.mk_script.specs.Orders.{rank, Number, Below, AnySize, is_good, number16, number32, optional, behind_dot, request_numbers, numbers, is_taken, lacks, lacks_number, lacks_packet, is_missing, Body, NoBody, Digits, Block, Decimals, File, file_body, body_of, is_hex, HasBadBody, Demands, is_read, command_demands, event_numbers, is_job_missing, event_demands, trace_demands, demands_in, Breaks, HasFault, IsFirstFault}
+use Rattle.mk_script.specs.Orders.{rank, Number, Below, AnySize, is_good, number16, number32, optional, behind_dot, request_numbers, numbers, is_taken, lacks, lacks_number, lacks_packet, is_missing, Body, NoBody, Digits, Block, Decimals, File, file_body, body_of, is_hex, HasBadBody, Demands, line_alone, command_demands, event_numbers, is_job_missing, event_demands, trace_demands, demands_in, Breaks, HasFault, IsFirstFault}
 use Rattle.mk_script.specs.Rows.{Row, command_by, command_of, event_of, event_rows, is_shaped}
 use Rattle.mk_script.specs.Scripts.{AreFiles}
 use Rattle.mk_script.specs.Statements.{Statement}
 use Rattle.mk_script.specs.Words.{◌>>=◌, check, word_at, below, number_below}
-use Rattle.mk_script.proofs.LawLemmas.{file_bytes}
 
 -- an outcome's fault is this one; or there is none, and what is there is so
 abbrev Tells : {A : Type 0} → Option ScriptFaultKind → (A → Type 0) → Result A ScriptFaultKind → Type 0
@@ -66,13 +63,13 @@ abbrev first_of : Demands → Option ScriptFaultKind
 first_of d = if d.is_line then (if d.is_ready then numbered (list_all is_good d.numbers) (behind_numbers d.is_taken d.is_missing d.body) else Some NoCores) else Some BadLine
 
 -- a draft brings the body
-abbrev Brings : Settings → Body → Draft → Type 0
-Brings s NoBody (Whole m) = Unit {0}
-Brings s (Digits word) (Whole m) = Unit {0}
-Brings s (Block text) (Assembler name other) = text ≡ other
-Brings s (Decimals text) (Decimal name other) = text ≡ other
-Brings s (File bytes) (Savefile name number) = bytes ≡ file_of s number
-Brings s body draft = ⊥
+abbrev Brings : Body → Draft → Type 0
+Brings NoBody (Whole m) = Unit {0}
+Brings (Digits word) (Whole m) = Unit {0}
+Brings (Block text) (Assembler name other) = text ≡ other
+Brings (Decimals text) (Decimal name other) = text ≡ other
+Brings (File bytes) (Savefile name other) = bytes ≡ other
+Brings body draft = ⊥
 
 -- Steps
 
@@ -174,21 +171,21 @@ op_tells s k words request.Remove = map_tells _ Any Any (held words) (λ h. Remo
 op_tells s k words request.Replace = map_tells _ Any Any (held_program k words) (λ h. Replace h.0 h.1 h.2) (program_tells k words) (λ x any. tt)
 
 request_tells : (s : Settings) (k : Known) (words : List (List ℕ)) (asked : Request)
-    → Tells (numbered (list_all is_good (request_numbers words asked)) (if is_missing s k words (command.Request asked) then Some NoName else None)) (Brings s NoBody) (request_draft k words asked)
+    → Tells (numbered (list_all is_good (request_numbers words asked)) (if is_missing s k words (command.Request asked) then Some NoName else None)) (Brings NoBody) (request_draft k words asked)
 unfolding request_draft
 request_tells s k words asked =
-    map_tells _ Any (Brings s NoBody) (op_of k words asked) (λ op. Whole (Does (item.Ask (k.home (domain_of op)) op))) (op_tells s k words asked) (λ x any. tt)
+    map_tells _ Any (Brings NoBody) (op_of k words asked) (λ op. Whole (Does (item.Ask (k.home (domain_of op)) op))) (op_tells s k words asked) (λ x any. tt)
 
 -- What is done at a core
 
-core_tells : (s : Settings) (act : ℕ → Item) (words : List (List ℕ)) → Tells (numbered (list_all is_good (number16 words 1 ∷ [])) None) (Brings s NoBody) (core_draft act words)
+core_tells : (act : ℕ → Item) (words : List (List ℕ)) → Tells (numbered (list_all is_good (number16 words 1 ∷ [])) None) (Brings NoBody) (core_draft act words)
 unfolding core_draft
-core_tells s act words = number_tells (2 ^ 16) (word_at words 1) true None (Brings s NoBody) _ (λ n e. (refl, tt))
+core_tells act words = number_tells (2 ^ 16) (word_at words 1) true None (Brings NoBody) _ (λ n e. (refl, tt))
 
-take_tells : (s : Settings) (words : List (List ℕ)) (short : Bool) → Tells (numbered (list_all is_good (number16 words 1 ∷ number16 words 2 ∷ [])) None) (Brings s NoBody) (take_draft words short)
+take_tells : (words : List (List ℕ)) (short : Bool) → Tells (numbered (list_all is_good (number16 words 1 ∷ number16 words 2 ∷ [])) None) (Brings NoBody) (take_draft words short)
 unfolding take_draft
-take_tells s words short =
-    number_tells (2 ^ 16) (word_at words 1) _ None (Brings s NoBody) _ (λ n e. number_tells (2 ^ 16) (word_at words 2) true None (Brings s NoBody) _ (λ m e'. (refl, tt)))
+take_tells words short =
+    number_tells (2 ^ 16) (word_at words 1) _ None (Brings NoBody) _ (λ n e. number_tells (2 ^ 16) (word_at words 2) true None (Brings NoBody) _ (λ m e'. (refl, tt)))
 
 -- Packets that are received
 
@@ -206,35 +203,35 @@ packet_tells k word = elim (cases_Bool (is_dotted word)) [
 ]
 
 rx_tells : (s : Settings) (k : Known) (received : ℕ) (words : List (List ℕ))
-    → Tells (numbered (list_all is_good (numbers s k words command.Rx)) (if lacks_packet k (word_at words 2) then Some NoName else None)) (Brings s NoBody) (rx_draft s k received words)
+    → Tells (numbered (list_all is_good (numbers s k words command.Rx)) (if lacks_packet k (word_at words 2) then Some NoName else None)) (Brings NoBody) (rx_draft s k received words)
 unfolding rx_draft
 rx_tells s k received words =
-    number_tells (core_limit s k) (word_at words 1) _ _ (Brings s NoBody) _
-    (λ core e. mapped_tells _ (Brings s NoBody) (optional_below (2 ^ 64) words 3) (λ floor. unwrap_or floor 0) _ (optional_tells (2 ^ 64) words 3 _ _ (Brings s NoBody) _
-    (λ floor. map_tells _ Any (Brings s NoBody) (packet_at k (word_at words 2)) (λ packet. Whole (Receives (Rx core (received + 1) packet (unwrap_or floor 0) ∷ []))) (packet_tells k (word_at words 2)) (λ x any. tt))))
+    number_tells (core_limit s k) (word_at words 1) _ _ (Brings NoBody) _
+    (λ core e. mapped_tells _ (Brings NoBody) (optional_below (2 ^ 64) words 3) (λ floor. unwrap_or floor 0) _ (optional_tells (2 ^ 64) words 3 _ _ (Brings NoBody) _
+    (λ floor. map_tells _ Any (Brings NoBody) (packet_at k (word_at words 2)) (λ packet. Whole (Receives (Rx core (received + 1) packet (unwrap_or floor 0) ∷ []))) (packet_tells k (word_at words 2)) (λ x any. tt))))
 
-replay_tells : (s : Settings) (k : Known) (received : ℕ) (words : List (List ℕ))
-    → Tells (numbered (list_all is_good (optional (2 ^ 64) words 2)) (if lacks (k.captures (word_at words 1)) then Some NoName else None)) (Brings s NoBody) (replay_draft k received words)
+replay_tells : (k : Known) (received : ℕ) (words : List (List ℕ))
+    → Tells (numbered (list_all is_good (optional (2 ^ 64) words 2)) (if lacks (k.captures (word_at words 1)) then Some NoName else None)) (Brings NoBody) (replay_draft k received words)
 unfolding replay_draft
-replay_tells s k received words =
-    mapped_tells _ (Brings s NoBody) (optional_below (2 ^ 64) words 2) (λ floor. unwrap_or floor 0) _ (last_tells (2 ^ 64) words 2 _ (Brings s NoBody) _
-    (λ floor. map_tells _ Any (Brings s NoBody) (ok_or (k.captures (word_at words 1)) NoName) (λ packets. Whole (Receives (replayed (length k.budgets) received (unwrap_or floor 0) 0 packets))) (named_tells (k.captures (word_at words 1))) (λ x any. tt)))
+replay_tells k received words =
+    mapped_tells _ (Brings NoBody) (optional_below (2 ^ 64) words 2) (λ floor. unwrap_or floor 0) _ (last_tells (2 ^ 64) words 2 _ (Brings NoBody) _
+    (λ floor. map_tells _ Any (Brings NoBody) (ok_or (k.captures (word_at words 1)) NoName) (λ packets. Whole (Receives (replayed (length k.budgets) received (unwrap_or floor 0) 0 packets))) (named_tells (k.captures (word_at words 1))) (λ x any. tt)))
 
 -- Definitions
 
-cores_tells : (s : Settings) (k : Known) (words : List (List ℕ)) → Tells (numbered (list_all is_good (numbers s k words command.Cores)) (if has_cores k then Some Twice else None)) (Brings s NoBody) (cores_draft k words)
+cores_tells : (s : Settings) (k : Known) (words : List (List ℕ)) → Tells (numbered (list_all is_good (numbers s k words command.Cores)) (if has_cores k then Some Twice else None)) (Brings NoBody) (cores_draft k words)
 unfolding cores_draft
 cores_tells s k words =
-    bind_tells _ _ Any (Brings s NoBody) (numbers_below (2 ^ 32) (drop 1 words)) _ (numbers_tells (2 ^ 32) (drop 1 words))
-    (λ budgets any. new_tells (has_cores k) None (Brings s NoBody) (λ first. Ok (Whole (Budgets budgets))) (refl, tt))
+    bind_tells _ _ Any (Brings NoBody) (numbers_below (2 ^ 32) (drop 1 words)) _ (numbers_tells (2 ^ 32) (drop 1 words))
+    (λ budgets any. new_tells (has_cores k) None (Brings NoBody) (λ first. Ok (Whole (Budgets budgets))) (refl, tt))
 
-asm_tells : (s : Settings) (k : Known) (words : List (List ℕ)) (block : Option (List ℕ)) → Tells (if is_some (k.programs (word_at words 1)) then Some Twice else None) (Brings s (Block (unwrap_or block []))) (asm_draft k words block)
+asm_tells : (k : Known) (words : List (List ℕ)) (block : Option (List ℕ)) → Tells (if is_some (k.programs (word_at words 1)) then Some Twice else None) (Brings (Block (unwrap_or block []))) (asm_draft k words block)
 unfolding asm_draft
-asm_tells s k words block = new_tells (is_some (k.programs (word_at words 1))) None (Brings s (Block (unwrap_or block []))) _ (refl, refl)
+asm_tells k words block = new_tells (is_some (k.programs (word_at words 1))) None (Brings (Block (unwrap_or block []))) _ (refl, refl)
 
-ddd_tells : (s : Settings) (k : Known) (words : List (List ℕ)) (line : List ℕ) → Tells (if is_some (k.programs (word_at words 1)) then Some Twice else None) (Brings s (Decimals (behind_word (behind_word line)))) (ddd_draft k words line)
+ddd_tells : (k : Known) (words : List (List ℕ)) (line : List ℕ) → Tells (if is_some (k.programs (word_at words 1)) then Some Twice else None) (Brings (Decimals (behind_word (behind_word line)))) (ddd_draft k words line)
 unfolding ddd_draft
-ddd_tells s k words line = new_tells (is_some (k.programs (word_at words 1))) None (Brings s (Decimals (behind_word (behind_word line)))) _ (refl, refl)
+ddd_tells k words line = new_tells (is_some (k.programs (word_at words 1))) None (Brings (Decimals (behind_word (behind_word line)))) _ (refl, refl)
 
 decoded_tells : (r : Result (List ℕ) FromHexError) → Tells (if is_ok r then None else Some (BadBody fault.Hex)) Any (bytes_or_fault r)
 decoded_tells (Ok bytes) = (refl, tt)
@@ -246,81 +243,68 @@ hex_tells word = elim (cases_Bool (bytes_eq word (codes "-"))) [
   | inr digits ↦ rw digits (decoded_tells (decode_of word))
 ]
 
-digits_tells : (s : Settings) (k : Known) (words : List (List ℕ))
-    → Tells (numbered (list_all is_good (optional (2 ^ 32) words 3)) (behind_numbers (is_some (k.packets (word_at words 1))) false (Digits (word_at words 2)))) (Brings s (Digits (word_at words 2))) (packet_draft k words)
+digits_tells : (k : Known) (words : List (List ℕ))
+    → Tells (numbered (list_all is_good (optional (2 ^ 32) words 3)) (behind_numbers (is_some (k.packets (word_at words 1))) false (Digits (word_at words 2)))) (Brings (Digits (word_at words 2))) (packet_draft k words)
 unfolding packet_draft
-digits_tells s k words =
-    let brings = Brings s (Digits (word_at words 2)) in
+digits_tells k words =
+    let brings = Brings (Digits (word_at words 2)) in
     last_tells (2 ^ 32) words 3 _ brings _
     (λ original. new_tells (is_some (k.packets (word_at words 1))) _ brings _
     (map_tells _ Any brings (hex_bytes (word_at words 2)) (λ bytes. Whole (NamedPacket (word_at words 1) (record { bytes = bytes; original = unwrap_or original (length bytes) }))) (hex_tells (word_at words 2)) (λ x any. tt)))
 
-place_there : {X : Type 0} (xs : List X) (n : ℕ) → eqb n 0 ≡ false → leb n (length xs) ≡ is_some (slice_get xs (n - 1))
-place_there xs n some = elim ((slice_get_cases xs (n - 1)).1) [
-  | inl within ↦ let less = within.1 in let found = within.2 in let is : leb n (length xs) ≡ true = grind (arith, nat_tests) in rw (found, is) refl
-  | inr past ↦ let more = past.0 in let none = past.1 in let is : leb n (length xs) ≡ false = grind (arith, nat_tests) in rw (none, is) refl
-]
-
-file_there : (s : Settings) (n : ℕ) → is_file s n ≡ is_some (counted s.files n)
-file_there s n = elim (cases_Bool (eqb n 0)) [
-  | inl none ↦ let first : leb 1 n ≡ false = grind (arith, nat_tests) in rw (none, first) refl
-  | inr some ↦ let first : leb 1 n ≡ true = grind (arith, nat_tests) in rw (some, first) (place_there s.files n some)
-]
-
-file_tells : (s : Settings) (name : List ℕ) (n : ℕ) (found : Option (List ℕ)) → counted s.files n ≡ found
-    → Tells (if lacks found then Some NoName else hex_fault (file_body found)) (Brings s (file_body found)) (check (is_some found) NoName >>= λ there. Ok (Savefile name n))
-file_tells s name n None e = refl
-file_tells s name n (Some bytes) e = (refl, rw e refl)
+file_tells : (name : List ℕ) (found : Option (List ℕ)) → Tells (if lacks found then Some NoName else hex_fault (file_body found)) (Brings (file_body found)) (ok_or found NoName >>= λ file. Ok (Savefile name file))
+file_tells name None = refl
+file_tells name (Some bytes) = (refl, refl)
 
 numbered_file_tells : (s : Settings) (name : List ℕ) (taken : Bool) (o : Option ℕ)
-    → Tells (numbered (is_some o && true) (behind_numbers taken (lacks_number (counted s.files) o) (file_body (option_and_then (counted s.files) o)))) (Brings s (file_body (option_and_then (counted s.files) o)))
-    (ok_or o BadNumber >>= λ number. check (not taken) Twice >>= λ new. check (is_file s number) NoName >>= λ there. Ok (Savefile name number))
+    → Tells (numbered (is_some o && true) (behind_numbers taken (lacks_number (counted s.files) o) (file_body (option_and_then (counted s.files) o)))) (Brings (file_body (option_and_then (counted s.files) o)))
+    (ok_or o BadNumber >>= λ number. check (not taken) Twice >>= λ new. ok_or (counted s.files number) NoName >>= λ file. Ok (Savefile name file))
 numbered_file_tells s name taken None = refl
 numbered_file_tells s name true (Some n) = refl
-numbered_file_tells s name false (Some n) = rw (file_there s n) (file_tells s name n (counted s.files n) refl)
+numbered_file_tells s name false (Some n) = file_tells name (counted s.files n)
 
 capture_tells : (s : Settings) (k : Known) (words : List (List ℕ)) (st : Statement)
     → Tells (numbered (list_all is_good (numbers s k words command.Capture)) (behind_numbers (is_taken k words command.Capture) (is_missing s k words command.Capture) (body_of s words st command.Capture)))
-    (Brings s (body_of s words st command.Capture)) (capture_draft s k words)
+    (Brings (body_of s words st command.Capture)) (capture_draft s k words)
 unfolding capture_draft
 capture_tells s k words st = numbered_file_tells s (word_at words 1) (is_some (k.captures (word_at words 1))) (number_of (word_at words 2))
 
-home_tells : (s : Settings) (k : Known) (words : List (List ℕ)) → Tells (numbered (list_all is_good (numbers s k words command.Home)) None) (Brings s NoBody) (home_draft k words)
+home_tells : (s : Settings) (k : Known) (words : List (List ℕ)) → Tells (numbered (list_all is_good (numbers s k words command.Home)) None) (Brings NoBody) (home_draft k words)
 unfolding home_draft
 home_tells s k words =
-    number_tells (2 ^ 16) (word_at words 1) _ None (Brings s NoBody) _ (λ n e. number_tells (length k.budgets) (word_at words 2) true None (Brings s NoBody) _ (λ m e'. (refl, tt)))
+    number_tells (2 ^ 16) (word_at words 1) _ None (Brings NoBody) _ (λ n e. number_tells (length k.budgets) (word_at words 2) true None (Brings NoBody) _ (λ m e'. (refl, tt)))
 
 -- Commands
 
 by_tells : (s : Settings) (k : Known) (received : ℕ) (words : List (List ℕ)) (st : Statement) (c : Command)
-    → Tells (numbered (list_all is_good (numbers s k words c)) (behind_numbers (is_taken k words c) (is_missing s k words c) (body_of s words st c))) (Brings s (body_of s words st c)) (draft_by s k received words st.line st.block c)
+    → Tells (numbered (list_all is_good (numbers s k words c)) (behind_numbers (is_taken k words c) (is_missing s k words c) (body_of s words st c))) (Brings (body_of s words st c)) (draft_by s k received words st.line st.block c)
 by_tells s k received words st command.Cores = cores_tells s k words
-by_tells s k received words st command.Asm = asm_tells s k words st.block
-by_tells s k received words st command.Ddd = ddd_tells s k words st.line
-by_tells s k received words st command.Packet = digits_tells s k words
+by_tells s k received words st command.Asm = asm_tells k words st.block
+by_tells s k received words st command.Ddd = ddd_tells k words st.line
+by_tells s k received words st command.Packet = digits_tells k words
 by_tells s k received words st command.Capture = capture_tells s k words st
 by_tells s k received words st command.Home = home_tells s k words
 by_tells s k received words st (command.Request asked) = request_tells s k words asked
 by_tells s k received words st command.Start = (refl, tt)
-by_tells s k received words st command.Submit = core_tells s item.Submit words
-by_tells s k received words st command.StartFor = core_tells s item.StartFor words
-by_tells s k received words st command.Take = take_tells s words (nat_lt 3 (length words))
+by_tells s k received words st command.Submit = core_tells item.Submit words
+by_tells s k received words st command.StartFor = core_tells item.StartFor words
+by_tells s k received words st command.Take = take_tells words (nat_lt 3 (length words))
 by_tells s k received words st command.Rx = rx_tells s k received words
-by_tells s k received words st command.Replay = replay_tells s k received words
+by_tells s k received words st command.Replay = replay_tells k received words
 by_tells s k received words st command.Settle = (refl, tt)
-by_tells s k received words st command.Show = core_tells s item.Show words
+by_tells s k received words st command.Show = core_tells item.Show words
 by_tells s k received words st command.Trace = (refl, tt)
 
 command_tells : (s : Settings) (k : Known) (received : ℕ) (words : List (List ℕ)) (st : Statement) (o : Option Command)
-    → Tells (first_of (command_demands s k words st o)) (Brings s (command_demands s k words st o).body)
+    → Tells (first_of (command_demands s k words st o)) (Brings (command_demands s k words st o).body)
     (ok_or o BadLine >>= λ c. check (may_stand k.acted st.block c) BadLine >>= λ allowed. check (is_cores c || has_cores k) NoCores >>= λ ready. draft_by s k received words st.line st.block c)
 command_tells s k received words st None = refl
 command_tells s k received words st (Some c) =
-    let brings = Brings s (body_of s words st c) in
+    let brings = Brings (body_of s words st c) in
     check_tells (may_stand k.acted st.block c) BadLine _ brings _ (check_tells (is_cores c || has_cores k) NoCores _ brings _ (by_tells s k received words st c))
 
 script_tells : (s : Settings) (k : Known) (received : ℕ) (words : List (List ℕ)) (st : Statement)
-    → Tells (first_of (command_demands s k words st (command_of s.threads words))) (Brings s (command_demands s k words st (command_of s.threads words)).body) (script_draft s k received words st.line st.block)
+    → Tells (first_of (command_demands s k words st (command_of s.threads words))) (Brings (command_demands s k words st (command_of s.threads words)).body) (script_draft s k received words st.line st.block)
 unfolding script_draft
 script_tells s k received words st = command_tells s k received words st (command_of s.threads words)
 
@@ -360,47 +344,101 @@ event_is (word ∷ words) c e = row_is words c (find (λ r. bytes_eq r.word word
     row_is words c None is e = absurd (cc)
     row_is words c (Some r) is e = by_event words r c (is r refl) e
 
-job_tells : (s : Settings) (jobs : List Event) (words : List (List ℕ))
-    → Tells (numbered (list_all is_good (event_numbers words command.Rx)) (if is_job_missing jobs words command.Rx then Some NoName else None)) (Brings s NoBody) (job_draft jobs words)
+job_tells : (jobs : List Event) (words : List (List ℕ))
+    → Tells (numbered (list_all is_good (event_numbers words command.Rx)) (if is_job_missing jobs words command.Rx then Some NoName else None)) (Brings NoBody) (job_draft jobs words)
 unfolding job_draft
-job_tells s jobs words =
-    number_tells (2 ^ 16) (word_at words 1) _ _ (Brings s NoBody) _
-    (λ core e. number_tells (2 ^ 64) (word_at words 2) true _ (Brings s NoBody) _
-    (λ number e'. rw (e, e') (map_tells _ Any (Brings s NoBody) (ok_or (option_and_then (job_at core) (counted jobs number)) NoName) (λ event. Whole (Does (item.Apply event))) (named_tells (option_and_then (job_at core) (counted jobs number))) (λ x any. tt))))
+job_tells jobs words =
+    number_tells (2 ^ 16) (word_at words 1) _ _ (Brings NoBody) _
+    (λ core e. number_tells (2 ^ 64) (word_at words 2) true _ (Brings NoBody) _
+    (λ number e'. rw (e, e') (map_tells _ Any (Brings NoBody) (ok_or (option_and_then (job_at core) (counted jobs number)) NoName) (λ event. Whole (Does (item.Apply event))) (named_tells (option_and_then (job_at core) (counted jobs number))) (λ x any. tt))))
 
-by_event_tells : (s : Settings) (jobs : List Event) (words rest : List (List ℕ)) (c : Command) → IsEvent c
-    → Tells (first_of (event_demands jobs words (Some c))) (Brings s NoBody) (event_by jobs words rest c)
-by_event_tells s jobs words rest command.Start is = (refl, tt)
-by_event_tells s jobs words rest command.Submit is = core_tells s item.Submit words
-by_event_tells s jobs words rest command.StartFor is = core_tells s item.StartFor words
-by_event_tells s jobs words rest command.Take is = take_tells s words (is_short rest)
-by_event_tells s jobs words rest command.Rx is = job_tells s jobs words
-by_event_tells s jobs words rest c is = absurd is
+by_event_tells : (jobs : List Event) (words rest : List (List ℕ)) (c : Command) → IsEvent c
+    → Tells (first_of (event_demands jobs words (Some c))) (Brings NoBody) (event_by jobs words rest c)
+by_event_tells jobs words rest command.Start is = (refl, tt)
+by_event_tells jobs words rest command.Submit is = core_tells item.Submit words
+by_event_tells jobs words rest command.StartFor is = core_tells item.StartFor words
+by_event_tells jobs words rest command.Take is = take_tells words (is_short rest)
+by_event_tells jobs words rest command.Rx is = job_tells jobs words
+by_event_tells jobs words rest c is = absurd is
 
-some_event_tells : (s : Settings) (jobs : List Event) (words rest : List (List ℕ)) (o : Option Command) → ((c : Command) → o ≡ Some c → IsEvent c)
-    → Tells (first_of (event_demands jobs words o)) (Brings s (event_demands jobs words o).body) (ok_or o BadLine >>= λ c. event_by jobs words rest c)
-some_event_tells s jobs words rest None is = refl
-some_event_tells s jobs words rest (Some c) is = by_event_tells s jobs words rest c (is c refl)
+some_event_tells : (jobs : List Event) (words rest : List (List ℕ)) (o : Option Command) → ((c : Command) → o ≡ Some c → IsEvent c)
+    → Tells (first_of (event_demands jobs words o)) (Brings (event_demands jobs words o).body) (ok_or o BadLine >>= λ c. event_by jobs words rest c)
+some_event_tells jobs words rest None is = refl
+some_event_tells jobs words rest (Some c) is = by_event_tells jobs words rest c (is c refl)
 
-event_tells : (s : Settings) (jobs : List Event) (words rest : List (List ℕ))
-    → Tells (first_of (event_demands jobs words (event_of words))) (Brings s (event_demands jobs words (event_of words)).body) (event_draft jobs words rest)
+event_tells : (jobs : List Event) (words rest : List (List ℕ))
+    → Tells (first_of (event_demands jobs words (event_of words))) (Brings (event_demands jobs words (event_of words)).body) (event_draft jobs words rest)
 unfolding event_draft
-event_tells s jobs words rest = some_event_tells s jobs words rest (event_of words) (λ c e. event_is words c e)
+event_tells jobs words rest = some_event_tells jobs words rest (event_of words) (λ c e. event_is words c e)
 
-left_tells : (s : Settings) (is_left : Bool) → Tells (first_of (is_read is_left)) (Brings s NoBody) (if is_left then Ok (Whole Nothing) else Err BadLine)
-left_tells s true = (refl, tt)
-left_tells s false = refl
+left_tells : (is_left : Bool) → Tells (first_of (line_alone is_left)) (Brings NoBody) (if is_left then Ok (Whole Nothing) else Err BadLine)
+left_tells true = (refl, tt)
+left_tells false = refl
 
-trace_tells : (s : Settings) (jobs : List Event) (line : List ℕ) → Tells (first_of (trace_demands jobs line)) (Brings s (trace_demands jobs line).body) (trace_draft jobs line)
-trace_tells s jobs line = elim (cases_Bool (list_any (λ b. eqb b 58) line)) [
-  | inl event ↦ rw event (event_tells s jobs (words_of (before_first (λ b. eqb b 58) line)) (words_of (after_first (λ b. eqb b 58) line)))
-  | inr other ↦ rw other (left_tells s (is_left (words_of line)))
+trace_tells : (jobs : List Event) (line : List ℕ) → Tells (first_of (trace_demands jobs line)) (Brings (trace_demands jobs line).body) (trace_draft jobs line)
+trace_tells jobs line = elim (cases_Bool (list_any (λ b. eqb b 58) line)) [
+  | inl event ↦ rw event (event_tells jobs (words_of (before_first (λ b. eqb b 58) line)) (words_of (after_first (λ b. eqb b 58) line)))
+  | inr other ↦ rw other (left_tells (is_left (words_of line)))
 ]
 
 in_tells : (s : Settings) (k : Known) (jobs : Jobs) (st : Statement)
-    → Tells (first_of (demands_in s k jobs st)) (Brings s (demands_in s k jobs st).body) (draft_in s k jobs (words_of st.line) st.line st.block)
+    → Tells (first_of (demands_in s k jobs st)) (Brings (demands_in s k jobs st).body) (draft_in s k jobs (words_of st.line) st.line st.block)
 in_tells s k (Counted received) st = script_tells s k received (words_of st.line) st
-in_tells s k (Named jobs) st = trace_tells s jobs st.line
+in_tells s k (Named jobs) st = trace_tells jobs st.line
+
+-- Files hold bytes, so what a capture brings are bytes
+
+get_bytes : (files : List (List ℕ)) (n : ℕ) → AreFiles files → All (λ b. b < 256) (unwrap_or (slice_get files n) [])
+get_bytes [] n all = λ k d lt. absurd (omega arith)
+get_bytes (file ∷ files) zero all = all.0
+get_bytes (file ∷ files) (suc n) all = get_bytes files n all.1
+
+abbrev HasBytes : Body → Type 0
+HasBytes (File bytes) = All (λ b. b < 256) bytes
+HasBytes body = Unit {0}
+
+get_body : (files : List (List ℕ)) (n : ℕ) (found : Option (List ℕ)) → slice_get files n ≡ found → AreFiles files → HasBytes (file_body found)
+get_body files n None e all = tt
+get_body files n (Some bytes) e all = subst (λ (o : Option (List ℕ)). All (λ b. b < 256) (unwrap_or o [])) e (get_bytes files n all)
+
+file_bytes : (s : Settings) (number : Option ℕ) → AreFiles s.files → HasBytes (file_body (option_and_then (counted s.files) number))
+file_bytes s None all = tt
+file_bytes s (Some n) all = elim (cases_Bool (eqb n 0)) [
+  | inl none ↦ rw none tt
+  | inr some ↦ rw some (get_body s.files (n - 1) (slice_get s.files (n - 1)) refl all)
+]
+
+command_bytes : (s : Settings) (k : Known) (words : List (List ℕ)) (st : Statement) (o : Option Command) → AreFiles s.files → HasBytes (command_demands s k words st o).body
+command_bytes s k words st None all = tt
+command_bytes s k words st (Some command.Capture) all = file_bytes s (number_of (word_at words 2)) all
+command_bytes s k words st (Some c) all = tt
+
+event_bytes : (jobs : List Event) (words : List (List ℕ)) (o : Option Command) → HasBytes (event_demands jobs words o).body
+event_bytes jobs words None = tt
+event_bytes jobs words (Some c) = tt
+
+demands_bytes : (s : Settings) (k : Known) (jobs : Jobs) (st : Statement) → AreFiles s.files → HasBytes (demands_in s k jobs st).body
+demands_bytes s k (Counted received) st all = command_bytes s k (words_of st.line) st (command_of s.threads (words_of st.line)) all
+demands_bytes s k (Named jobs) st all = elim (cases_Bool (list_any (λ b. eqb b 58) st.line)) [
+  | inl event ↦ rw event (event_bytes jobs (words_of (before_first (λ b. eqb b 58) st.line)) (event_of (words_of (before_first (λ b. eqb b 58) st.line))))
+  | inr other ↦ rw other tt
+]
+
+abbrev pub BringsBytes : Result Draft ScriptFaultKind → Type 0
+BringsBytes (Ok (Savefile name bytes)) = All (λ b. b < 256) bytes
+BringsBytes d = Unit {0}
+
+brought_bytes : (body : Body) (d : Draft) → HasBytes body → Brings body d → BringsBytes (Ok d)
+brought_bytes (File bytes) (Savefile name other) small same = subst (λ (bs : List ℕ). All (λ b. b < 256) bs) same small
+brought_bytes body (Savefile name other) small brings = absurd brings
+brought_bytes body d small brings = tt
+
+tells_bytes : (first : Option ScriptFaultKind) (body : Body) (r : Result Draft ScriptFaultKind) → HasBytes body → Tells first (Brings body) r → BringsBytes r
+tells_bytes first body (Ok d) small tells = brought_bytes body d small tells.1
+tells_bytes first body (Err why) small tells = tt
+
+pub drafted_bytes : (s : Settings) (k : Known) (st : Statement) → AreFiles s.files → BringsBytes (draft_of s k st)
+drafted_bytes s k st all = tells_bytes (first_of (demands_in s k k.jobs st)) (demands_in s k k.jobs st).body (draft_of s k st) (demands_bytes s k k.jobs st all) (in_tells s k k.jobs st)
 
 -- The bodies of drafts that were told no fault
 
@@ -459,13 +497,13 @@ file_says name bytes small (Ok m) (inr x) = let never = x.4 in absurd (cc)
 file_says name bytes small (Err kind) (inl x) = let never = x.3 in absurd (cc)
 file_says name bytes small (Err kind) (inr x) = (fault.Capture x.2, same_err kind (fault.Capture x.2) x.4, (x.0, x.1, x.3))
 
-body_says : (s : Settings) → AreFiles s.files → (body : Body) (d : Draft) (outcome : Result Meaning ScriptFaultKind) → hex_fault body ≡ None → Brings s body d → DraftMeans s d outcome → Says body outcome
-body_says s all NoBody (Whole m) outcome good brings means = no_body m outcome means
-body_says s all (Digits word) (Whole m) outcome good brings means = digits_say word m outcome good means
-body_says s all (Block text) (Assembler name other) outcome good brings means = rw brings (block_says name other outcome means)
-body_says s all (Decimals text) (Decimal name other) outcome good brings means = rw brings (decimals_say name other outcome means)
-body_says s all (File bytes) (Savefile name number) outcome good brings means = rw brings (file_says name (file_of s number) (file_bytes s number all) outcome means)
-body_says s all body d outcome good brings means = absurd brings
+body_says : (body : Body) → HasBytes body → (d : Draft) (outcome : Result Meaning ScriptFaultKind) → hex_fault body ≡ None → Brings body d → DraftMeans d outcome → Says body outcome
+body_says NoBody small (Whole m) outcome good brings means = no_body m outcome means
+body_says (Digits word) small (Whole m) outcome good brings means = digits_say word m outcome good means
+body_says (Block text) small (Assembler name other) outcome good brings means = rw brings (block_says name other outcome means)
+body_says (Decimals text) small (Decimal name other) outcome good brings means = rw brings (decimals_say name other outcome means)
+body_says (File bytes) small (Savefile name other) outcome good brings means = file_says name bytes small outcome (rw (← brings) at means)
+body_says body small d outcome good brings means = absurd brings
 
 -- The order
 
@@ -550,12 +588,12 @@ said_first : (d : Demands) (outcome : Result Meaning ScriptFaultKind) → IsSoun
 said_first d (Ok m) sound says = none_breaks d sound says
 said_first d (Err kind) sound says = rw says.1 (says.2, after_missing d sound)
 
-told_first : (s : Settings) → AreFiles s.files → (d : Demands) (r : Result Draft ScriptFaultKind) (outcome : Result Meaning ScriptFaultKind)
-    → Tells (first_of d) (Brings s d.body) r → DraftedMeans s r outcome → IsFirstFault (Breaks d) outcome
-told_first s all d (Err why) outcome tells means = rw means (let least = first_least d in rw tells at least)
-told_first s all d (Ok draft) outcome tells means =
+told_first : (d : Demands) → HasBytes d.body → (r : Result Draft ScriptFaultKind) (outcome : Result Meaning ScriptFaultKind)
+    → Tells (first_of d) (Brings d.body) r → DraftedMeans r outcome → IsFirstFault (Breaks d) outcome
+told_first d small (Err why) outcome tells means = rw means (let least = first_least d in rw tells at least)
+told_first d small (Ok draft) outcome tells means =
     let least : IsLeast d None = (let found = first_least d in let none = tells.0 in rw none at found) in
-    said_first d outcome least.0 (body_says s all d.body draft outcome least.1 tells.1 means)
+    said_first d outcome least.0 (body_says d.body small draft outcome least.1 tells.1 means)
 
 pub first_fault : (s : Settings) (k : Known) (st : Statement) (outcome : Result Meaning ScriptFaultKind) → AreFiles s.files → Means s k st outcome → IsFirstFault (HasFault s k st) outcome
-first_fault s k st outcome all means = told_first s all (demands_in s k k.jobs st) (draft_of s k st) outcome (in_tells s k k.jobs st) means
+first_fault s k st outcome all means = told_first (demands_in s k k.jobs st) (demands_bytes s k k.jobs st all) (draft_of s k st) outcome (in_tells s k k.jobs st) means

@@ -30,12 +30,12 @@ known_same r given knows = λ i. record {
 
 pub drafted_err : (s : Settings) (r : Reading) (given : List Meaning) (st : Statement) (fault : ScriptFaultKind) → Knows r given → draft_of s (known_of r) st ≡ Err fault → Means s (known given) st (Err fault)
 drafted_err s r given st fault knows e =
-    subst (λ (k : Known). Means s k st (Err fault)) (known_same r given knows) (subst (λ (d : Result Draft ScriptFaultKind). DraftedMeans s d (Err fault)) (sym e) refl)
+    subst (λ (k : Known). Means s k st (Err fault)) (known_same r given knows) (subst (λ (d : Result Draft ScriptFaultKind). DraftedMeans d (Err fault)) (sym e) refl)
 
-pub drafted_ok : (s : Settings) (r : Reading) (given : List Meaning) (st : Statement) (draft : Draft) (outcome : Result Meaning ScriptFaultKind) → Knows r given → draft_of s (known_of r) st ≡ Ok draft → DraftMeans s draft outcome
+pub drafted_ok : (s : Settings) (r : Reading) (given : List Meaning) (st : Statement) (draft : Draft) (outcome : Result Meaning ScriptFaultKind) → Knows r given → draft_of s (known_of r) st ≡ Ok draft → DraftMeans draft outcome
     → Means s (known given) st outcome
 drafted_ok s r given st draft outcome knows e means =
-    subst (λ (k : Known). Means s k st outcome) (known_same r given knows) (subst (λ (d : Result Draft ScriptFaultKind). DraftedMeans s d outcome) (sym e) means)
+    subst (λ (k : Known). Means s k st outcome) (known_same r given knows) (subst (λ (d : Result Draft ScriptFaultKind). DraftedMeans d outcome) (sym e) means)
 
 module _ (s : Settings) (given : List Meaning) (n : ℕ) (text : List ℕ) (p : Piece) (is : PieceIs text p) where
   pub piece_refuses : is_skipped (texts p.words.items) ≡ false → (kind : ScriptFaultKind) → Means s (known given) (statement_of n p) (Err kind) → MeanBehind s given (statements_from n None (text_lines text)) (Err (fault_at n kind))

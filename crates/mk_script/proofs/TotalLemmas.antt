@@ -14,9 +14,9 @@ use Rattle.mk_script.specs.declared.fault.BodyFault.TheVariants as body
 use Rattle.mk_script.specs.declared.fault.ScriptFault.{ScriptFault}
 use Rattle.mk_script.specs.declared.fault.ScriptFaultKind.{ScriptFaultKind}
 use Rattle.mk_script.specs.declared.fault.ScriptFaultKind.TheVariants.{BadBody}
-use Rattle.mk_script.specs.Bodies.{MeansAssembled, MeansDecimal, MeansCaptured, DraftedMeans}
-use Rattle.mk_script.specs.Drafts.{Settings, Draft, Whole, Assembler, Decimal, Savefile, draft_of, file_of}
-use Rattle.mk_script.specs.Meanings.{Meaning, NamedProgram, NamedCapture, known}
+use Rattle.mk_script.specs.Bodies.{MeansAssembled, MeansDecimal, MeansCaptured, DraftedMeans, Means}
+use Rattle.mk_script.specs.Drafts.{Settings, Draft, Whole, Assembler, Decimal, Savefile, draft_of}
+use Rattle.mk_script.specs.Meanings.{Meaning, NamedProgram, NamedCapture, Known, known}
 use Rattle.mk_script.specs.Scripts.{MeanBehind, SomeOutcome, script_of, fault_at}
 use Rattle.mk_script.specs.Statements.{Statement, statements}
 use Rattle.mk_script.proofs.DecimalTotal.{spelled_or_fault}
@@ -47,16 +47,22 @@ captured_by name bytes header packets (Some fault) reads = inr (BadBody (body.Ca
 captured_some : (name bytes : List ℕ) → Some_ (MeansCaptured name bytes)
 captured_some name bytes = let found = has_reading bytes in captured_by name bytes found.0 found.1 found.2 found.3
 
-drafted_some : (s : Settings) (d : Result Draft ScriptFaultKind) → Some_ (DraftedMeans s d)
-drafted_some s (Err fault) = inr (fault, refl)
-drafted_some s (Ok (Whole meaning)) = inl (meaning, refl)
-drafted_some s (Ok (Assembler name text)) = assembled_some name text
-drafted_some s (Ok (Decimal name text)) = decimal_some name text
-drafted_some s (Ok (Savefile name number)) = captured_some name (file_of s number)
+drafted_some : (d : Result Draft ScriptFaultKind) → Some_ (DraftedMeans d)
+drafted_some (Err fault) = inr (fault, refl)
+drafted_some (Ok (Whole meaning)) = inl (meaning, refl)
+drafted_some (Ok (Assembler name text)) = assembled_some name text
+drafted_some (Ok (Decimal name text)) = decimal_some name text
+drafted_some (Ok (Savefile name bytes)) = captured_some name bytes
+
+pub some_meaning : (s : Settings) (k : Known) (st : Statement) → (outcome : Result Meaning ScriptFaultKind) × Means s k st outcome
+some_meaning s k st = elim (drafted_some (draft_of s k st)) [
+  | inl means ↦ (Ok means.0, means.1)
+  | inr fails ↦ (Err fails.0, fails.1)
+]
 
 behind_some : (s : Settings) (given : List Meaning) (sts : List Statement) → (outcome : Result (List Meaning) ScriptFault) × MeanBehind s given sts outcome
 behind_some s given [] = (Ok given, refl)
-behind_some s given (st ∷ sts) = elim (drafted_some s (draft_of s (known given) st)) [
+behind_some s given (st ∷ sts) = elim (drafted_some (draft_of s (known given) st)) [
   | inl means ↦ let rest = behind_some s (given ++ means.0 ∷ []) sts in (rest.0, inl (means.0, means.1, rest.1))
   | inr fails ↦ (Err (fault_at st.number fails.0), inr (fails.0, fails.1, refl))
 ]

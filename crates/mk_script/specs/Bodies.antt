@@ -15,7 +15,7 @@ use Rattle.mk_script.specs.declared.fault.ScriptFaultKind.{ScriptFaultKind}
 use Rattle.mk_script.specs.declared.fault.ScriptFaultKind.TheVariants.{BadBody}
 use Rattle.mk_script.specs.Meanings.{Meaning, NamedProgram, NamedCapture, Known}
 use Rattle.mk_script.specs.Statements.{Statement}
-use Rattle.mk_script.specs.Drafts.{Draft, Whole, Assembler, Decimal, Savefile, Settings, draft_of, file_of}
+use Rattle.mk_script.specs.Drafts.{Draft, Whole, Assembler, Decimal, Savefile, Settings, draft_of}
 
 -- a program by a relation between texts and programs
 abbrev pub MeansAssembled : List ℕ → List ℕ → Result Meaning ScriptFaultKind → Type 0
@@ -33,16 +33,16 @@ MeansCaptured name bytes outcome =
     ((header : Option Header) × (packets : List Packet) × Reads bytes header packets None × (outcome ≡ Ok (NamedCapture name packets)))
     ⊎ ((header : Option Header) × (packets : List Packet) × (fault : CaptureFault) × Reads bytes header packets (Some fault) × (outcome ≡ Err (BadBody (body.Capture fault))))
 
-abbrev pub DraftMeans : Settings → Draft → Result Meaning ScriptFaultKind → Type 0
-DraftMeans settings (Whole meaning) outcome = outcome ≡ Ok meaning
-DraftMeans settings (Assembler name text) outcome = MeansAssembled name text outcome
-DraftMeans settings (Decimal name text) outcome = MeansDecimal name text outcome
-DraftMeans settings (Savefile name number) outcome = MeansCaptured name (file_of settings number) outcome
+abbrev pub DraftMeans : Draft → Result Meaning ScriptFaultKind → Type 0
+DraftMeans (Whole meaning) outcome = outcome ≡ Ok meaning
+DraftMeans (Assembler name text) outcome = MeansAssembled name text outcome
+DraftMeans (Decimal name text) outcome = MeansDecimal name text outcome
+DraftMeans (Savefile name bytes) outcome = MeansCaptured name bytes outcome
 
-abbrev pub DraftedMeans : Settings → Result Draft ScriptFaultKind → Result Meaning ScriptFaultKind → Type 0
-DraftedMeans settings (Ok draft) outcome = DraftMeans settings draft outcome
-DraftedMeans settings (Err fault) outcome = outcome ≡ Err fault
+abbrev pub DraftedMeans : Result Draft ScriptFaultKind → Result Meaning ScriptFaultKind → Type 0
+DraftedMeans (Ok draft) outcome = DraftMeans draft outcome
+DraftedMeans (Err fault) outcome = outcome ≡ Err fault
 
 -- a statement means this behind what is known, or has this fault first
 abbrev pub Means : Settings → Known → Statement → Result Meaning ScriptFaultKind → Type 0
-Means settings k statement outcome = DraftedMeans settings (draft_of settings k statement) outcome
+Means settings k statement outcome = DraftedMeans (draft_of settings k statement) outcome

@@ -57,4 +57,4 @@ abbrev pub DraftFollows : Reading → Draft → Type 0
 DraftFollows r (Whole meaning) = Follows r meaning
 DraftFollows r (Assembler name text) = (value_of r.programs name.now ≡ None) × (length text.now < 2 ^ 32)
 DraftFollows r (Decimal name text) = value_of r.programs name.now ≡ None
-DraftFollows r (Savefile name number) = value_of r.captures name.now ≡ None
+DraftFollows r (Savefile name bytes) = value_of r.captures name.now ≡ None

@@ -31,7 +31,7 @@ abbrev pub draft_of : Draft → drafts.Draft
 draft_of (Whole meaning) = drafts.Whole (meaning_of meaning)
 draft_of (Assembler name text) = drafts.Assembler name.now text.now
 draft_of (Decimal name text) = drafts.Decimal name.now text.now
-draft_of (Savefile name number) = drafts.Savefile name.now number
+draft_of (Savefile name bytes) = drafts.Savefile name.now bytes.now
 
 abbrev pub settings_of : Settings → drafts.Settings
 settings_of s = record { files = map (λ v. v.items) s.files.now; threads = s.threads }

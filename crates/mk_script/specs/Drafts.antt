@@ -1,6 +1,6 @@
 -- What a statement asks for by its words and by what is known, or its first fault: BadLine, NoCores, BadNumber, Twice,
 -- NoName, BadBody, in this order. The bodies of programs and captures are left to be read.
-use Rattle.std.specs.Prelude.{ℕ, ◌+◌, ◌-◌, ◌%◌, ◌^◌, ◌==◌, ◌&&◌, ◌||◌, not, nat_lt, nat_le, if◌then◌else◌, Bool, true, false, List, [], ◌∷◌, length, drop, codes, Option, Some, None, is_some, option_and_then, unwrap_or, slice_get, Result, Ok, Err}
+use Rattle.std.specs.Prelude.{ℕ, ◌+◌, ◌-◌, ◌%◌, ◌^◌, ◌==◌, ◌&&◌, ◌||◌, not, nat_lt, if◌then◌else◌, Bool, true, false, List, [], ◌∷◌, length, drop, codes, Option, Some, None, is_some, option_and_then, unwrap_or, slice_get, Result, Ok, Err}
 use Rattle.std.specs.Option.{ok_or}
 use Rattle.std.specs.List.{position_or_len, before_first, after_first, list_any}
 use Rattle.std.specs.Str.{bytes_eq}
@@ -34,12 +34,12 @@ pub record Settings : Type 0 where
   pub files : List (List ℕ)
   pub threads : Bool
 
--- a meaning, or a name with the text of its program or the number of the file of its capture
+-- a meaning, or a name with the text of its program or the bytes of its capture
 pub data Draft : Type 0 where
   Whole : Meaning → Draft
   Assembler : List ℕ → List ℕ → Draft
   Decimal : List ℕ → List ℕ → Draft
-  Savefile : List ℕ → ℕ → Draft
+  Savefile : List ℕ → List ℕ → Draft
 
 -- budgets: the numbers of words
 abbrev pub numbers_below : ℕ → List (List ℕ) → Result (List ℕ) ScriptFaultKind
@@ -100,19 +100,12 @@ packet_draft k words = do
 abbrev pub counted : {X : Type 0} → List X → ℕ → Option X
 counted xs number = if number == 0 then None else slice_get xs (number - 1)
 
--- files are counted from 1
-abbrev pub is_file : Settings → ℕ → Bool
-is_file s number = nat_le 1 number && nat_le number (length s.files)
-
-abbrev pub file_of : Settings → ℕ → List ℕ
-file_of s number = unwrap_or (counted s.files number) []
-
 unfoldable pub capture_draft : Settings → Known → List (List ℕ) → Result Draft ScriptFaultKind
 capture_draft s k words = do
   number ← whole_number (word_at words 2)
   new ← is_new (k.captures (word_at words 1))
-  there ← check (is_file s number) NoName
-  Ok (Savefile (word_at words 1) number)
+  file ← ok_or (counted s.files number) NoName
+  Ok (Savefile (word_at words 1) file)
 
 unfoldable pub home_draft : Known → List (List ℕ) → Result Draft ScriptFaultKind
 home_draft k words = do

@@ -52,7 +52,7 @@ number16 words place = Below (2 ^ 16) (word_at words place)
 abbrev pub number32 : List (List ℕ) → ℕ → Number
 number32 words place = Below (2 ^ 32) (word_at words place)
 
--- where there is a word at the place
+-- of the word at a place, where there is one
 abbrev pub optional : ℕ → List (List ℕ) → ℕ → List Number
 optional limit words place = if nat_lt place (length words) then Below limit (word_at words place) ∷ [] else []
 
@@ -60,6 +60,10 @@ optional limit words place = if nat_lt place (length words) then Below limit (wo
 abbrev pub behind_dot : List ℕ → List ℕ
 behind_dot word = after_first (λ b. b == 46) word
 
+abbrev pub packet_numbers : List ℕ → List Number
+packet_numbers word = if is_dotted word then AnySize (behind_dot word) ∷ [] else []
+
+-- the words of a request that are to be numbers: most name a domain, and a capability or a filter
 abbrev pub request_numbers : List (List ℕ) → Request → List Number
 request_numbers words request.Create = number16 words 1 ∷ number16 words 2 ∷ []
 request_numbers words request.Mint = number16 words 1 ∷ number32 words 2 ∷ number16 words 3 ∷ []
@@ -75,7 +79,7 @@ numbers s k words (command.Request asked) = request_numbers words asked
 numbers s k words command.Submit = number16 words 1 ∷ []
 numbers s k words command.StartFor = number16 words 1 ∷ []
 numbers s k words command.Take = number16 words 1 ∷ number16 words 2 ∷ []
-numbers s k words command.Rx = Below (core_limit s k) (word_at words 1) ∷ optional (2 ^ 64) words 3 ++ (if is_dotted (word_at words 2) then AnySize (behind_dot (word_at words 2)) ∷ [] else [])
+numbers s k words command.Rx = Below (core_limit s k) (word_at words 1) ∷ optional (2 ^ 64) words 3 ++ packet_numbers (word_at words 2)
 numbers s k words command.Replay = optional (2 ^ 64) words 2
 numbers s k words command.Show = number16 words 1 ∷ []
 numbers s k words _ = []
@@ -110,7 +114,7 @@ is_missing s k words command.Rx = lacks_packet k (word_at words 2)
 is_missing s k words command.Replay = lacks (k.captures (word_at words 1))
 is_missing s k words _ = false
 
--- a body that is to be read
+-- a body that is to be read: hexadecimal digits, the lines of an `asm` block, a decimal text, or a capture's file
 pub data Body : Type 0 where
   NoBody : Body
   Digits : List ℕ → Body
@@ -141,7 +145,7 @@ HasBadBody (Decimals text) (fault.Ddd why) = Faults text why
 HasBadBody (File bytes) (fault.Capture why) = (header : Option Header) × (packets : List Packet) × Reads bytes header packets (Some why)
 HasBadBody body why = ⊥
 
--- what a line has to meet
+-- what is asked of a line
 pub record Demands : Type 0 where
   -- its words are a command or an event, which may stand here
   pub is_line : Bool
@@ -152,12 +156,12 @@ pub record Demands : Type 0 where
   pub is_missing : Bool
   pub body : Body
 
--- of the words alone
-abbrev pub is_read : Bool → Demands
-is_read is_line = record { is_line = is_line; is_ready = true; numbers = []; is_taken = false; is_missing = false; body = NoBody }
+-- a line of which nothing is asked but to be one
+abbrev pub line_alone : Bool → Demands
+line_alone is_line = record { is_line = is_line; is_ready = true; numbers = []; is_taken = false; is_missing = false; body = NoBody }
 
 abbrev pub command_demands : Settings → Known → List (List ℕ) → Statement → Option Command → Demands
-command_demands s k words st None = is_read false
+command_demands s k words st None = line_alone false
 command_demands s k words st (Some c) = record {
   is_line = may_stand k.acted st.block c;
   is_ready = is_cores c || has_cores k;
@@ -185,7 +189,7 @@ is_job_missing jobs words command.Rx = lacks_job jobs (number_of (word_at words 
 is_job_missing jobs words _ = false
 
 abbrev pub event_demands : List Event → List (List ℕ) → Option Command → Demands
-event_demands jobs words None = is_read false
+event_demands jobs words None = line_alone false
 event_demands jobs words (Some c) = record { is_line = true; is_ready = true; numbers = event_numbers words c; is_taken = false; is_missing = is_job_missing jobs words c; body = NoBody }
 
 -- a line of a trace: an event by the words before its colon, or `left C N`
@@ -193,7 +197,7 @@ abbrev pub trace_demands : List Event → List ℕ → Demands
 trace_demands jobs line =
     if list_any (λ b. b == 58) line
     then (let words = words_of (before_first (λ b. b == 58) line) in event_demands jobs words (event_of words))
-    else is_read (is_left (words_of line))
+    else line_alone (is_left (words_of line))
 
 abbrev pub demands_in : Settings → Known → Jobs → Statement → Demands
 demands_in s k (Counted received) st = command_demands s k (words_of st.line) st (command_of s.threads (words_of st.line))

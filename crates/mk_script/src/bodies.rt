@@ -5,15 +5,12 @@ ghost use Rattle.mk_script.specs.Bodies as spec;
 ghost use Rattle.mk_script.specs.Bodies.{DraftMeans};
 ghost use Rattle.mk_script.specs.Changes.{DraftFollows, Follows};
 ghost use Rattle.mk_script.specs.declared.reading.Reading.{Reading};
-ghost use Rattle.mk_script.specs.DraftViews.{draft_of, meaning_of, settings_of};
-ghost use Rattle.mk_script.specs.Drafts.{file_of};
+ghost use Rattle.mk_script.specs.DraftViews.{draft_of, meaning_of};
 ghost use Rattle.mk_script.specs.BodyViews.{IsNamedCapture, IsNamedProgram, IsShort};
 ghost use Rattle.mk_script.specs.declared.fault.ScriptFaultKind.TheVariants.{NoMemory};
 
-use crate::drafts::counted;
 use crate::fault::{BodyFault, ScriptFaultKind};
 use crate::meaning::{Draft, Meaning};
-use crate::settings::Settings;
 use bpf_insn::{TextFault, read_ddd};
 use filter_asm::{AsmFaultKind, assemble};
 use pcap_reader::{CaptureFault, read_capture};
@@ -65,31 +62,17 @@ fn captured<'a>(alloc: Global, name: &'a [u8], bytes: &[u8]) -> Result<Meaning<'
     }
 }
 
-/// The bytes of the file of this number, from 1.
-fn file(settings: Settings<'_>, number: usize) -> &[u8]
-    ensures { result.now ≡ file_of (settings_of settings.entry) number }
-{
-    match counted(settings.files, number as u128) {
-        Some(file) => file,
-        None => &[],
-    }
-}
-
 /// What a draft means once its body is read.
-pub(crate) fn meaning<'a>(
-    alloc: Global,
-    settings: Settings<'_>,
-    draft: Draft<'a>,
-) -> Result<Meaning<'a>, ScriptFaultKind>
+pub(crate) fn meaning<'a>(alloc: Global, draft: Draft<'a>) -> Result<Meaning<'a>, ScriptFaultKind>
     requires { IsShort draft }
-    ensures ok { IfOk result (λ m. DraftMeans (settings_of settings.entry) (draft_of draft.entry) (Ok (meaning_of m))) }
-    ensures err { IfErr result (λ fault. (fault ≡ NoMemory) ⊎ DraftMeans (settings_of settings.entry) (draft_of draft.entry) (Err fault)) }
+    ensures ok { IfOk result (λ m. DraftMeans (draft_of draft.entry) (Ok (meaning_of m))) }
+    ensures err { IfErr result (λ fault. (fault ≡ NoMemory) ⊎ DraftMeans (draft_of draft.entry) (Err fault)) }
     ensures follows { IfOk result (λ m. (r : Reading) → DraftFollows r draft.entry → Follows r m) }
 {
     match draft {
         Draft::Whole(meaning) => Ok(meaning),
         Draft::Assembler(name, text) => assembled(alloc, name, text),
         Draft::Decimal(name, text) => decimal(alloc, name, text),
-        Draft::Savefile(name, number) => captured(alloc, name, file(settings, number)),
+        Draft::Savefile(name, bytes) => captured(alloc, name, bytes),
     }
 }

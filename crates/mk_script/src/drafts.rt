@@ -165,10 +165,10 @@ fn capture<'a>(
     let name = word_at(words, 1);
     let number = whole_number(word_at(words, 2))?;
     check(reading.captures.get(name).is_none(), ScriptFaultKind::Twice)?;
-    if number == 0 || number > settings.files.len() as u128 {
+    let Some(file) = counted(settings.files, number) else {
         return Err(ScriptFaultKind::NoName);
-    }
-    Ok(Draft::Savefile(name, number as usize))
+    };
+    Ok(Draft::Savefile(name, file.as_slice()))
 }
 
 /// The element at a place that is counted from 1.

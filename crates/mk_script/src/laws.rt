@@ -15,6 +15,9 @@ ghost use Rattle.std.specs.Prelude.{Result};
 /// there; and BadBody where the body that it brings can't be read. Of those that it has the first in this order is told, and
 /// it has a meaning only where it has none.
 pub fn faults_are_told_in_order()
-    ensures { (s : Settings) (k : Known) (st : Statement) (outcome : Result Meaning ScriptFaultKind) → AreFiles s.files →
+    // A statement has a meaning or is told a fault ..
+    ensures some { (s : Settings) (k : Known) (st : Statement) → (outcome : Result Meaning ScriptFaultKind) × Means s k st outcome }
+    // .. and that is the first that it has, or it has none.
+    ensures first { (s : Settings) (k : Known) (st : Statement) (outcome : Result Meaning ScriptFaultKind) → AreFiles s.files →
         Means s k st outcome → IsFirstFault (HasFault s k st) outcome }
 {}

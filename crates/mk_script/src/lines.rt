@@ -2,11 +2,12 @@
 
 ghost use Rattle.std.specs.Prelude.{◌≡◌, ◌==◌, ◌+◌, ◌<◌, ◌^◌, length, IfOk};
 ghost use Rattle.std.specs.List.{before_first, after_first};
+ghost use Rattle.bpf_insn.specs.Texts.{words_of};
 ghost use Rattle.mk_script.specs.Pieces.{BlockIs, PieceIs};
 ghost use Rattle.mk_script.specs.Statements as spec;
 ghost use Rattle.mk_script.specs.Views.{texts};
 
-use crate::words::{cut, words};
+use crate::words::{blanks, cut, word_len, words};
 use std::alloc::{AllocError, Global};
 
 /// The first line, and what stands behind its LF.
@@ -39,13 +40,13 @@ fn opens_block(words: &[&[u8]]) -> bool
     *word == b"asm".as_slice()
 }
 
-fn is_end(words: &[&[u8]]) -> bool
-    ensures { result ≡ spec.is_end (texts words.now) }
+/// Whether the line is an `end`.
+fn is_end(line: &[u8]) -> bool
+    ensures { result ≡ spec.is_end (words_of line.now) }
 {
-    let Some((word, words)) = words.split_first() else {
-        return false;
-    };
-    words.is_empty() && *word == b"end".as_slice()
+    let (_, word) = line.split_at(blanks(line));
+    let (word, rest) = word.split_at(word_len(word));
+    word == b"end".as_slice() && blanks(rest) == rest.len()
 }
 
 /// The lines of an `asm` block to its `end`: their text, how many lines they are with `end`, and what stands behind it.
@@ -57,25 +58,25 @@ struct Block<'a> {
 }
 
 /// The block at the front of a text, where it has an end.
-fn block_at(alloc: Global, text: &[u8]) -> Result<Option<Block<'_>>, AllocError>
+fn block_at(text: &[u8]) -> Option<Block<'_>>
     requires { length text.now < 2 ^ 32 }
-    ensures { IfOk result (λ found. BlockIs text.now found) }
+    ensures { BlockIs text.now result }
 {
     let mut rest = text;
     let mut lines = 0;
     while !rest.is_empty() {
         let (line, after) = split_line(rest);
         lines += 1;
-        if is_end(&words(alloc, line)?) {
-            return Ok(Some(Block {
+        if is_end(line) {
+            return Some(Block {
                 text: &text[..text.len() - rest.len()],
                 lines,
                 rest: after,
-            }));
+            });
         }
         rest = after;
     }
-    Ok(None)
+    None
 }
 
 /// A line, with what belongs to it: the words, and the block where it is that of `asm` and has one.
@@ -107,7 +108,7 @@ pub(crate) fn first_piece(alloc: Global, text: &[u8]) -> Result<Piece<'_>, Alloc
             rest,
         });
     }
-    match block_at(alloc, rest)? {
+    match block_at(rest) {
         Some(block) => Ok(Piece {
             words,
             line,

@@ -32,6 +32,6 @@ pub(crate) enum Draft<'a> {
     Assembler(&'a [u8], &'a [u8]),
     /// The decimal text of a program.
     Decimal(&'a [u8], &'a [u8]),
-    /// The number of the file of a capture, from 1.
-    Savefile(&'a [u8], usize),
+    /// The bytes of a capture.
+    Savefile(&'a [u8], &'a [u8]),
 }

@@ -75,7 +75,7 @@ fn read_piece<'a>(
         Means (settings_of settings.entry) (meanings.known given) (statement_of n piece.now) (Err fault))) }
 {
     let draft = draft(alloc, settings, reading, piece)?;
-    let meaning = meaning(alloc, settings, draft)?;
+    let meaning = meaning(alloc, draft)?;
     add(alloc, reading, meaning)?;
     Ok(())
 }

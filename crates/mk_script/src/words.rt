@@ -53,7 +53,7 @@ fn continues_name(bytes: &[u8]) -> bool
 }
 
 /// How many blanks stand at the front.
-fn blanks(bytes: &[u8]) -> usize
+pub(crate) fn blanks(bytes: &[u8]) -> usize
     ensures place { result ≡ position_or_len (λ b. not (is_blank b)) bytes.now }
     ensures bound { result ≤ length bytes.now }
 {
@@ -61,7 +61,7 @@ fn blanks(bytes: &[u8]) -> usize
 }
 
 /// How many bytes that are no blanks stand at the front.
-fn word_len(bytes: &[u8]) -> usize
+pub(crate) fn word_len(bytes: &[u8]) -> usize
     ensures place { result ≡ position_or_len is_blank bytes.now }
     ensures bound { result ≤ length bytes.now }
 {

@@ -13,12 +13,12 @@ returns-then-not-opens_block c =
 pub returns-in-Some : goal.returns-in-Some
 returns-in-Some c =
     let b = c.in-Some.block in
-    let found = subst (λ (o : Option Block). BlockIs c.split_line.result.1.now o) c.in-Some.is c.in_ok-block.ensures in
+    let found = subst (λ (o : Option Block). BlockIs c.split_line.result.1.now o) c.in-Some.is c.block_at.ensures in
     let found' = subst (λ (t : List ℕ). BlockIs t (Some b)) c.split_line.ensures.rest found in
     asm_piece c.args.text.now _ c.requires.some c.in_ok-words.ensures c.split_line.ensures.line b found' (ap (λ ws. opens_block (texts ws)) (sym c.deref.ensures.value) ∙ sym c.if-not-opens_block.ensures) refl refl refl
 
 pub returns-in-None : goal.returns-in-None
 returns-in-None c =
-    let found = subst (λ (o : Option Block). BlockIs c.split_line.result.1.now o) c.in-None.is c.in_ok-block.ensures in
+    let found = subst (λ (o : Option Block). BlockIs c.split_line.result.1.now o) c.in-None.is c.block_at.ensures in
     let found' = subst (λ (t : List ℕ). BlockIs t None) c.split_line.ensures.rest found in
     open_piece c.args.text.now _ c.requires.some c.in_ok-words.ensures c.split_line.ensures.line found' (ap (λ ws. opens_block (texts ws)) (sym c.deref.ensures.value) ∙ sym c.if-not-opens_block.ensures) refl refl refl
