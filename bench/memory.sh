@@ -19,7 +19,7 @@ run_all() {
         [ -e "$work/told" ] || break
         if [ "$status" = 0 ]; then
             passed=$((passed + 1))
-        elif grep -q 'AllocError\|NoMemory' "$work/out"; then
+        elif grep -q 'AllocFailed\|AllocError\|NoMemory' "$work/out"; then
             unprepared=$((unprepared + 1))
         else
             failed=1
