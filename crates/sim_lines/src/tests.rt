@@ -239,7 +239,12 @@ fn requests_of_other_cores(rt: HostRuntime) -> Result<(), Fail> {
         take(1, 0),
         Ok(reply),
         "take 1 0: reply committed 1 cap 1\n",
-    )?;
+    )
+}
+
+#[test]
+fn a_request_of_another_core_is_refused(rt: HostRuntime) -> Result<(), Fail> {
+    let alloc = rt.alloc();
     let decision = refused(0, Veto::Rule(OpFault::EndpointTaken));
     let start_for = Event::StartFor { core: 1 };
     let wanted = "startfor 1: refused EndpointTaken\n";
@@ -311,6 +316,33 @@ fn change(rt: &impl Abort, alloc: Global, replica: &mut Replica, op: &Op) {
     assert!(rt; replica.commit().is_ok());
 }
 
+/// Endpoint 7 has three capabilities and two filters.
+fn fill(rt: &impl Abort, alloc: Global, replica: &mut Replica) -> Result<(), Fail> {
+    let create = Op::Create {
+        domain: 1,
+        endpoint: 7,
+    };
+    change(rt, alloc, replica, &create);
+    for (to, rights) in [(2, Rights::R), (3, Rights::M)] {
+        let mint = Op::Mint {
+            domain: 1,
+            cap: 1,
+            to,
+            rights,
+        };
+        change(rt, alloc, replica, &mint);
+    }
+    for loads in [0, 2] {
+        let install = Op::Install {
+            domain: 2,
+            cap: 2,
+            program: program(alloc, loads)?,
+        };
+        change(rt, alloc, replica, &install);
+    }
+    Ok(())
+}
+
 #[test]
 fn tables(rt: HostRuntime) -> Result<(), Fail> {
     let alloc = rt.alloc();
@@ -320,28 +352,7 @@ fn tables(rt: HostRuntime) -> Result<(), Fail> {
         empty.as_slice(),
         b"show 0: version 0 caps 0 filters 0 instructions 0\n".as_slice()
     );
-    let create = Op::Create {
-        domain: 1,
-        endpoint: 7,
-    };
-    change(&rt, alloc, &mut replica, &create);
-    for (to, rights) in [(2, Rights::R), (3, Rights::M)] {
-        let mint = Op::Mint {
-            domain: 1,
-            cap: 1,
-            to,
-            rights,
-        };
-        change(&rt, alloc, &mut replica, &mint);
-    }
-    for loads in [0, 2] {
-        let install = Op::Install {
-            domain: 2,
-            cap: 2,
-            program: program(alloc, loads)?,
-        };
-        change(&rt, alloc, &mut replica, &install);
-    }
+    fill(&rt, alloc, &mut replica)?;
     let shown = show_core(alloc, 1, &replica)?;
     let wanted = b"show 1: version 5 caps 3 filters 2 instructions 4\n\
         cap 1 endpoint 7 holder 1 rights rm parent -\n\
