@@ -44,6 +44,3 @@ no_core messages (p ∷ peers) (suc i) at = no_core messages peers i at
 
 pub no_version : {C Piece : Type 0} (messages : C → List Message) (home : Home) (peers : List (Peer C Piece)) (i : ℕ) → slice_get peers i ≡ None → worlds.version_at (seen_world messages home peers) (suc i) ≡ None
 no_version messages home peers i at = ap (option_map (λ (x : worlds.Peer). x.version)) (no_core messages peers i at)
-
--- What waits
-

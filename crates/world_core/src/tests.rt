@@ -498,7 +498,10 @@ fn over_budget<C: Channel>(rt: &impl Abort, alloc: Global, world: &mut WorldOver
         world,
         &[
             down(1, Told::TookPrepare(2, Vote::Budget)),
-            up(1, Told::TookVote(2, Vote::Budget, Some(refused(1, Veto::Budget)))),
+            up(
+                1,
+                Told::TookVote(2, Vote::Budget, Some(refused(1, Veto::Budget))),
+            ),
             down(1, Told::TookAbort(2, 1)),
             up(1, Told::TookAck(2)),
         ],
