@@ -7,7 +7,7 @@ here=$(cd "$(dirname "$0")" && pwd)
 work=${1:-$(mktemp -d)}
 . "$here/crates.sh"
 crates='bpf_insn filter_verify filter_vm pcap_reader endpoint_caps table_replica ump_ring
-    monitor_messages monitor_2pc world_model world_channels world_core'
+    monitor_messages monitor_2pc world_model core_steps ghost_log world_channels world_core'
 take_crates "$work" $crates
 for name in $crates; do
     kept=$here/../crates/$name/out

@@ -1,3 +1,4 @@
 pub mod Ballots
 pub mod Starts
 pub mod Votes
+pub mod Verdicts

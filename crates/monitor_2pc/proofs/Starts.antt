@@ -1,7 +1,9 @@
 -- How a request comes in, and how it is begun.
-use Rattle.std.proofs.Common.{◌≡◌, ◌≢◌, ◌+◌, ◌-◌, ◌<◌, ℕ, suc, Bool, false, Option, Some, None, List, length, drop, slice_get, slice_set, refl, sym, ap, subst, ◌∙◌, arith}
+use Rattle.std.proofs.Common.{◌≡◌, ◌≢◌, ◌+◌, ◌-◌, ◌<◌, ℕ, suc, Bool, false, Option, Some, None, List, length, replicate, drop, slice_get, slice_set, refl, sym, ap, subst, ◌∙◌, arith}
 use Rattle.std.specs.List.{refill}
-use Rattle.std.specs.Prelude.{◌==◌}
+use Rattle.std.specs.Prelude.{◌==◌, Result, Ok, Err, IfErr, OnOk, OnErr}
+use Rattle.std.specs.Result.{result_err}
+use Rattle.monitor_2pc.specs.Starting.{WasStaged}
 use Rattle.std.specs.Option.{option_eq}
 use Rattle.std.proofs.lemmas.List.{take_at, length-set}
 use Rattle.std.proofs.lemmas.Bool.Decides.{nat_tests}
@@ -20,7 +22,7 @@ use Rattle.monitor_2pc.specs.declared.coordinator.Wait.TheVariants.{Nothing, Vot
 use Rattle.monitor_2pc.specs.declared.step.Step.{Step}
 use Rattle.monitor_2pc.specs.Waiting.{phase_of, KeepsDecided}
 use Rattle.monitor_2pc.specs.Places.{after_commit}
-use Rattle.monitor_2pc.specs.Coordinators.{Phase, Idle, CoordinatorPlace, CoordinatorState, Requests, coordinator_place, CanSubmit, with_waiting, Starts, refused, unstaged, alone, prepared, StartsFor, reply_to, asker_after, step, veto_of}
+use Rattle.monitor_2pc.specs.Coordinators.{Phase, Idle, Voting, CoordinatorPlace, CoordinatorState, Requests, coordinator_place, CanSubmit, with_waiting, Starts, refused, unstaged, alone, prepared, StartsFor, reply_to, asker_after, step, veto_of}
 
 -- what a slice of the elements had is what they have then
 pub refilled : {X : Type 0} (xs ws : List X) → length ws ≡ length xs → refill (length xs) xs ws ≡ ws
@@ -176,3 +178,27 @@ starts_for_asked s budget last wait votes acks waiting lent taken asker decided 
     let place_is : coordinator_place new staged' ≡ coordinator_place (shown_by last2 phase2 waiting2 (Some from) decided2) staged' = sym (ap (λ (o : CoordinatorState). coordinator_place o staged') view2) in
     subst (λ (o : CoordinatorState). StartsForSome s budget own staged from o staged' told shown') (sym is)
     (r.0, begins.0, r.1, subst (λ (p : CoordinatorPlace). StartsFor own.others s budget (coordinator_place own staged) own.requests r.0 p (record { waiting = waiting2; asker = Some from; decided = decided2 }) begins.0 told) place_is r.2, begins.2)
+
+-- where nothing is decided, core 0 waits for votes, and for no other core than before
+asking : (others : ℕ) (s : State) (budget : ℕ) (place : CoordinatorPlace) (op : Op) (place' : CoordinatorPlace) (committed : Option Op) (told : Step) → Starts others s budget place op place' committed told → told.decided ≡ None → place'.phase ≡ Voting (replicate others None)
+asking others s budget place op place' committed told (refused fault allowed same none tells) e = absurd (let x = ap (λ (t : Step). t.decided) tells in cc)
+asking others s budget place op place' committed told (unstaged passed same none tells) e = absurd (let x = ap (λ (t : Step). t.decided) tells in cc)
+asking others s budget place op place' committed told (alone allowed one same none tells) e = absurd (let x = ap (λ (t : Step). t.decided) tells in cc)
+asking others s budget place op place' committed told (prepared allowed more same none tells) e = ap (λ (p : CoordinatorPlace). p.phase) same
+
+voting_keeps : (wait : Wait) (votes vs : List (Option Vote)) (acks : List Bool) (asker asker' : Option ℕ) (decided : Option Decision) → phase_of wait votes acks ≡ Voting vs → KeepsDecided wait asker decided → KeepsDecided wait asker' decided
+voting_keeps Nothing votes vs acks asker asker' decided e k = absurd cc
+voting_keeps Votes votes vs acks asker asker' decided e k = k
+voting_keeps Acks votes vs acks asker asker' decided e k = k
+
+pub asked_keeps : (others : ℕ) (s : State) (budget : ℕ) (place : CoordinatorPlace) (op : Op) (own : CoordinatorState) (staged committed : Option Op) (told : Step) (last : ℕ) (wait : Wait) (votes : List (Option Vote)) (acks : List Bool) (waiting : List (Option Op)) (asker asker' : Option ℕ) (decided : Option Decision)
+    → Starts others s budget place op (coordinator_place own staged) committed told → told.decided ≡ None → shown_by last (phase_of wait votes acks) waiting asker decided ≡ own → KeepsDecided wait asker decided → KeepsDecided wait asker' decided
+asked_keeps others s budget place op own staged committed told last wait votes acks waiting asker asker' decided starts none view keeps =
+    voting_keeps wait votes (replicate others None) acks asker asker' decided (ap (λ (o : CoordinatorState). o.phase) view ∙ asking others s budget place op (coordinator_place own staged) committed told starts none) keeps
+
+-- what a replica that has nothing staged answers where it is asked to stage an operation
+pub was_staged : {T : Type 0} (r r' : ReplicaState) (op : Op) (result : Result T StageFault)
+    → OnOk result (Allowed r.shown r.budget op None) → OnOk result (r'.staged ≡ Some op) → IfErr result (CannotStage r.shown r.budget op r.staged) → OnErr result (r'.staged ≡ r.staged)
+    → r'.shown ≡ r.shown → r'.budget ≡ r.budget → r.staged ≡ None → WasStaged r' op (result_err result)
+was_staged r r' op (Ok x) allowed staged cannot same shown budget none = (staged, rw (shown, budget) allowed)
+was_staged r r' op (Err fault) allowed staged cannot same shown budget none = (same ∙ none, rw (shown, budget, ← none) cannot)

@@ -1,6 +1,12 @@
--- Why core 0 can't start a request.
-use Rattle.std.specs.Prelude.{◌≡◌, ◌≢◌, ℕ, suc, Some, slice_get}
+-- Why core 0 can't start a request, and what its replica made of one that it was asked to stage.
+use Rattle.std.specs.Prelude.{◌≡◌, ◌≢◌, ℕ, zero, suc, Option, None, Some, slice_get}
 use Rattle.table_replica.specs.declared.Op.{Op}
+use Rattle.table_replica.specs.declared.StageFault.{StageFault}
+use Rattle.table_replica.specs.Shown.{ReplicaState}
+use Rattle.table_replica.specs.Staging.{CannotStage}
+use Rattle.table_replica.specs.Tables.{Allowed}
+use Rattle.monitor_2pc.specs.declared.step.Say.{Say}
+use Rattle.monitor_2pc.specs.declared.step.Say.TheVariants.{Prepare}
 use Rattle.monitor_2pc.specs.declared.step.StartFault.{StartFault}
 use Rattle.monitor_2pc.specs.declared.step.StartFault.TheVariants.{NotIdle, Spent, NoneWaiting}
 use Rattle.monitor_2pc.specs.Coordinators.{CoordinatorState, Idle}
@@ -18,3 +24,14 @@ abbrev pub CannotStartFor : CoordinatorState → ℕ → StartFault → Type 0
 CannotStartFor own from NotIdle = own.phase ≢ Idle
 CannotStartFor own from Spent = (own.phase ≡ Idle) × (own.last ≡ 18446744073709551615)
 CannotStartFor own from NoneWaiting = (own.phase ≡ Idle) × (own.last ≢ 18446744073709551615) × HasNoneWaiting own from
+
+-- A replica that had nothing staged was asked to stage the operation: it did, or for this reason it did not.
+abbrev pub WasStaged : ReplicaState → Op → Option StageFault → Type 0
+WasStaged r op None = (r.staged ≡ Some op) × Allowed r.shown r.budget op None
+WasStaged r op (Some fault) = (r.staged ≡ None) × CannotStage r.shown r.budget op None fault
+
+-- the other cores, if there are any, are asked where it did
+abbrev pub asked_by : Option StageFault → ℕ → Option Say
+asked_by (Some fault) others = None
+asked_by None zero = None
+asked_by None (suc others) = Some Prepare

@@ -3,15 +3,16 @@
 ghost use Rattle.std.specs.Prelude.{◌≡◌, ◌+◌, ◌-◌, ◌<◌, ◌≤◌, ◌↔◌, ℕ, suc, true, false, Option, None, Some, IsSome, IsTrue, IsFalse, IfOk, IfErr, OnOk, OnErr, IfSome, OnSome, IfNone, slice_get, slice_set};
 ghost use Rattle.std.proofs.Common.{replicate};
 ghost use Rattle.table_replica.specs.declared.Op.{Op as GhostOp};
-ghost use Rattle.table_replica.specs.Tables.{after, made};
+ghost use Rattle.table_replica.specs.Tables.{State as GhostState, after, made};
+ghost use Rattle.monitor_2pc.specs.declared.step.Step.{Step as GhostStep};
 ghost use Rattle.monitor_messages.specs.declared.message.Decision.TheVariants.{Committed, Refused};
 ghost use Rattle.monitor_2pc.specs.declared.step.Say.TheVariants.{Abort};
 ghost use Rattle.monitor_2pc.specs.Places.{after_commit};
-ghost use Rattle.monitor_2pc.specs.Coordinators.{CoordinatorState, Idle, Acking, coordinator_place, no_requests, StagedByPhase, CanStart, Starts, StartsFor, CanSubmit, with_waiting, AwaitsVote, Hears, with_decided, AwaitsAck, HearsAck, reply_of, veto_of, veto_by, step};
-ghost use Rattle.monitor_2pc.specs.Starting.{CannotStart, CannotStartFor};
+ghost use Rattle.monitor_2pc.specs.Coordinators.{CoordinatorState, CoordinatorPlace, Requests, Idle, Acking, coordinator_place, no_requests, StagedByPhase, CanStart, Starts, StartsFor, CanSubmit, with_waiting, AwaitsVote, Hears, with_decided, AwaitsAck, HearsAck, reply_of, veto_of, veto_by, step};
+ghost use Rattle.monitor_2pc.specs.Starting.{CannotStart, CannotStartFor, WasStaged, asked_by};
 
 use crate::step::{Say, StartFault, Step, Stranger};
-use crate::tally::{Tally, cast, clear, mark, unmark};
+use crate::tally::{Tally, cast, clear, is_last, mark, unmark, verdict_with};
 use arrayvec::ArrayVec;
 use monitor_messages::{Decision, Veto, Vote};
 use std::alloc::Global;
@@ -92,8 +93,16 @@ impl Coordinator {
         self.last
     }
 
+    /// How many other cores there are.
+    pub fn others(&self) -> usize
+        ensures { result ≡ self.now.others }
+    {
+        self.waiting.len()
+    }
+
     /// The request that the core has waiting.
     pub fn waiting(&self, from: u16) -> Option<&Op>
+        ensures inside { OnSome result (from ≤ self.now.others) }
         ensures some { IfSome result (λ op. (entry : ℕ) × (from ≡ suc entry) × (slice_get self.now.requests.waiting entry ≡ Some (Some op.now))) }
         ensures none { IfNone result ((entry : ℕ) (op : GhostOp) → from ≡ suc entry → slice_get self.now.requests.waiting entry ≡ Some (Some op) → ⊥) }
     {
@@ -137,7 +146,8 @@ impl Coordinator {
         ensures staged { StagedByPhase self.new.phase replica.new.staged }
     {
         self.ready()?;
-        Ok(self.begin(alloc, replica, op))
+        let refusal = replica.stage(alloc, op).err();
+        Ok(self.begin(replica, refusal))
     }
 
     /// Starts the request that the core has waiting; a decision at once goes to it as Reply. A fault changes nothing.
@@ -160,19 +170,11 @@ impl Coordinator {
         ensures staged { StagedByPhase self.new.phase replica.new.staged }
     {
         self.ready()?;
-        if from == 0 {
-            return Err(StartFault::NoneWaiting);
-        }
-        let entry = usize::from(from) - 1;
-        let Some(op) = take_out(self.waiting.as_mut_slice(), entry) else {
+        let Some(op) = self.waiting(from) else {
             return Err(StartFault::NoneWaiting);
         };
-        let mut begun = self.begin(alloc, replica, &op);
-        match begun.decided {
-            Some(decision) => begun.reply = Some((from, decision)),
-            None => self.asker = Some(from),
-        }
-        Ok(begun)
+        let refusal = replica.stage(alloc, op).err();
+        Ok(self.begin_for(replica, from, refusal))
     }
 
     // Whether a request can be started.
@@ -190,28 +192,23 @@ impl Coordinator {
         Ok(())
     }
 
-    // Stages the request, and asks the other cores, if there are any.
-    fn begin(&mut self, alloc: Global, replica: &mut Replica, op: &Op) -> Step
-        requires can { CanStart (coordinator_place self.old replica.old.staged) }
-        requires staged { replica.old.staged ≡ None }
-        ensures starts { (committed : Option GhostOp)
-            × Starts self.old.others replica.old.shown replica.old.budget (coordinator_place self.old replica.old.staged) op.now (coordinator_place self.new replica.new.staged) committed result
+    /// Begins a request that the replica was asked to stage: `refusal` is why it did not, if it did not. The other cores, if
+    /// there are any, are to be asked. Takes no memory.
+    pub fn begin(&mut self, replica: &mut Replica, refusal: Option<StageFault>) -> Step
+        requires can { CanStart (coordinator_place self.old None) }
+        requires tried { (op : GhostOp) × WasStaged replica.old op refusal }
+        ensures starts { (op : GhostOp) → WasStaged replica.old op refusal → (committed : Option GhostOp)
+            × Starts self.old.others replica.old.shown replica.old.budget (coordinator_place self.old None) op (coordinator_place self.new replica.new.staged) committed result
             × (replica.new.shown ≡ after_commit replica.old.shown committed) }
+        ensures asks { result.say ≡ asked_by refusal self.old.others }
+        ensures refuses { IfSome refusal (λ fault. result.decided ≡ Some (Refused 0 (veto_of fault))) }
         ensures same_requests { self.new.requests ≡ self.old.requests }
         ensures others { self.new.others ≡ self.old.others }
         ensures budget { replica.new.budget ≡ replica.old.budget }
         ensures staged { StagedByPhase self.new.phase replica.new.staged }
     {
-        if let Err(fault) = replica.stage(alloc, op) {
-            return Step {
-                txn: self.last,
-                say: None,
-                decided: Some(Decision::Refused {
-                    core: 0,
-                    why: veto_of(fault),
-                }),
-                reply: None,
-            };
+        if let Some(fault) = refusal {
+            return refused_step(self.last, fault);
         }
         self.last += 1;
         if self.waiting.is_empty() {
@@ -225,6 +222,37 @@ impl Coordinator {
             decided: None,
             reply: None,
         }
+    }
+
+    /// Begins the request that the core has waiting, which the replica was asked to stage; a decision at once goes to the core
+    /// as Reply. Takes no memory.
+    pub fn begin_for(
+        &mut self,
+        replica: &mut Replica,
+        from: u16,
+        refusal: Option<StageFault>,
+    ) -> Step
+        requires can { CanStart (coordinator_place self.old None) }
+        requires waits { (entry : ℕ) × (op : GhostOp) × (from ≡ suc entry) × (slice_get self.old.requests.waiting entry ≡ Some (Some op)) × WasStaged replica.old op refusal }
+        ensures starts { (entry : ℕ) × (committed : Option GhostOp) × (from ≡ suc entry)
+            × StartsFor self.old.others replica.old.shown replica.old.budget (coordinator_place self.old None) self.old.requests entry (coordinator_place self.new replica.new.staged) self.new.requests committed result
+            × (replica.new.shown ≡ after_commit replica.old.shown committed) }
+        ensures asks { result.say ≡ asked_by refusal self.old.others }
+        ensures refuses { IfSome refusal (λ fault. result.decided ≡ Some (Refused 0 (veto_of fault))) }
+        ensures others { self.new.others ≡ self.old.others }
+        ensures budget { replica.new.budget ≡ replica.old.budget }
+        ensures staged { StagedByPhase self.new.phase replica.new.staged }
+    {
+        let entry = usize::from(from) - 1;
+        let Some(_op) = take_out(self.waiting.as_mut_slice(), entry) else {
+            unreachable!()
+        };
+        let mut begun = self.begin(replica, refusal);
+        match begun.decided {
+            Some(decision) => begun.reply = Some((from, decision)),
+            None => self.asker = Some(from),
+        }
+        begun
     }
 
     /// Takes a vote. With the last one the operation is decided. A stranger changes nothing. Takes no memory.
@@ -269,6 +297,31 @@ impl Coordinator {
                 Ok(told)
             }
         }
+    }
+
+    /// What core 0 says when it takes this vote, one that it waits for: nothing where another is missing. Nothing changes.
+    pub fn verdict_after(&self, from: u16, vote: Vote) -> Option<Say>
+        ensures { (s : GhostState) (staged : Option GhostOp) (entry txn : ℕ) (place : CoordinatorPlace) (committed : Option GhostOp) (told : GhostStep)
+            → from ≡ suc entry → Hears s (coordinator_place self.now staged) entry txn vote place committed told → told.say ≡ result }
+    {
+        if from == 0 {
+            return None;
+        }
+        verdict_with(self.votes.as_slice(), usize::from(from) - 1, vote)
+    }
+
+    /// The decision that core 0 sends, and to which core, when it takes this acknowledgement, one that it waits for: none where
+    /// another is missing, or where no core asked. Nothing changes.
+    pub fn reply_after(&self, from: u16) -> Option<(u16, Decision)>
+        ensures asker { IfSome result (λ reply. self.now.requests.asker ≡ Some reply.0) }
+        ensures decided { IfSome result (λ reply. self.now.requests.decided ≡ Some reply.1) }
+        ensures told { (entry txn : ℕ) (place : CoordinatorPlace) (requests : Requests) (told : GhostStep)
+            → from ≡ suc entry → HearsAck (coordinator_place self.now None) self.now.requests entry txn place requests told → told.reply ≡ result }
+    {
+        if from == 0 || !is_last(self.acks.as_slice(), usize::from(from) - 1) {
+            return None;
+        }
+        reply_of(self.asker, self.decided)
     }
 
     // Waits until every other core has acknowledged the decision.
@@ -351,8 +404,8 @@ fn reply_of(asker: Option<u16>, decided: Option<Decision>) -> Option<(u16, Decis
     }
 }
 
-// Why core 0 refuses what it can't stage.
-fn veto_of(fault: StageFault) -> Veto
+/// Why core 0 refuses what it can't stage.
+pub fn veto_of(fault: StageFault) -> Veto
     ensures { result ≡ veto_of fault }
 {
     match fault {
@@ -389,6 +442,21 @@ fn committed_step(txn: u64, say: Option<Say>, replica: &mut Replica) -> Step
         txn,
         say,
         decided,
+        reply: None,
+    }
+}
+
+// Refuses what could not be staged, and tells so.
+fn refused_step(txn: u64, fault: StageFault) -> Step
+    ensures { result ≡ step txn None (Some (Refused 0 (veto_of fault))) }
+{
+    Step {
+        txn,
+        say: None,
+        decided: Some(Decision::Refused {
+            core: 0,
+            why: veto_of(fault),
+        }),
         reply: None,
     }
 }

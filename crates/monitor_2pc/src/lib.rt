@@ -25,7 +25,7 @@ mod tally;
 #[cfg(test)]
 mod tests;
 
-pub use coordinator::Coordinator;
+pub use coordinator::{Coordinator, veto_of};
 pub use monitor_messages::{Decision, DecodeFault, Message, Veto, Vote, decode, encode};
 pub use participant::Participant;
 pub use step::{Say, StartFault, Step, Stranger};

@@ -1,8 +1,9 @@
 //! A core other than core 0 in the protocol.
 
-ghost use Rattle.std.specs.Prelude.{◌≡◌, true, false, None, Some, IfErr, IfOk, OnOk, OnErr};
+ghost use Rattle.std.specs.Prelude.{◌≡◌, ◌+◌, ◌↔◌, IsTrue, IsSome, true, false, None, Some, IfErr, IfOk, OnOk, OnErr};
 ghost use Rattle.table_replica.specs.Tables.{Allowed};
 ghost use Rattle.table_replica.specs.declared.StageFault.TheVariants.{Rule};
+ghost use Rattle.monitor_messages.specs.declared.message.Vote.TheVariants.{Yes};
 ghost use Rattle.table_replica.specs.declared.OpFault.{OpFault as GhostFault};
 ghost use Rattle.monitor_messages.specs.declared.message.Message.TheVariants.{Prepare, Commit, Abort, Submit};
 ghost use Rattle.monitor_2pc.specs.Participants.{ParticipantState, Casts, staged_by, place_of, StagedByVote, Answers, commits, Fits};
@@ -53,8 +54,16 @@ impl Participant {
         if self.outstanding {
             return Err(op);
         }
-        self.outstanding = true;
+        self.submitted();
         Ok(Message::Submit { op })
+    }
+
+    /// Keeps that a request was sent to core 0, while none is outstanding.
+    pub fn submitted(&mut self)
+        requires { self.old.outstanding ≡ false }
+        ensures { self.new ≡ record self.old { outstanding = true } }
+    {
+        self.outstanding = true;
     }
 
     /// Takes the decision of the request that is outstanding. A stranger changes nothing.
@@ -76,6 +85,20 @@ impl Participant {
         ensures { result ≡ self.now.outstanding }
     {
         self.outstanding
+    }
+
+    /// Whether it waits for Commit with this number.
+    pub fn can_commit(&self, txn: u64) -> bool
+        ensures { IsTrue result ↔ (self.now.voted ≡ Some Yes) × (txn ≡ self.now.last) }
+    {
+        self.voted == Some(Vote::Yes) && txn == self.last
+    }
+
+    /// Whether it waits for Abort with this number.
+    pub fn can_abort(&self, txn: u64) -> bool
+        ensures { IsTrue result ↔ IsSome self.now.voted × (txn ≡ self.now.last) }
+    {
+        self.voted.is_some() && txn == self.last
     }
 
     /// Takes a message of core 0 and gives the vote or the acknowledgement to send back; where `short` is true, the core acts
@@ -126,16 +149,46 @@ impl Participant {
         ensures same_place { OnErr result (self.new ≡ self.old) }
         ensures same_staged { OnErr result (replica.new.staged ≡ replica.old.staged) }
     {
-        if self.voted.is_some() || self.last == u64::MAX || txn != self.last + 1 {
-            return Err(Stranger);
-        }
-        let vote = ballot(alloc, replica, op, short)?;
-        self.last = txn;
-        self.voted = Some(vote);
+        let vote = self.ballot(alloc, replica, txn, op, short)?;
+        self.vote(txn, vote);
         Ok(Message::Vote { txn, vote })
     }
 
-    fn commit(&mut self, replica: &mut Replica, txn: u64) -> Result<Message, Stranger>
+    /// How this core votes on an operation that core 0 asks about, which stays staged where that is Yes. The vote is cast by
+    /// `vote`, or the replica's `abort` takes it back. A stranger changes nothing.
+    pub fn ballot(
+        &self,
+        alloc: Global,
+        replica: &mut Replica,
+        txn: u64,
+        op: &Op,
+        short: bool,
+    ) -> Result<Vote, Stranger>
+        requires { StagedByVote self.now.voted replica.old.staged }
+        ensures fits { OnOk result ((self.now.voted ≡ None) × (txn ≡ self.now.last + 1)) }
+        ensures casts { IfOk result (Casts short replica.old.shown replica.old.budget op.now) }
+        ensures staged { IfOk result (λ vote. replica.new.staged ≡ staged_by vote op.now) }
+        ensures stranger { OnErr result (Fits replica.old.shown replica.old.budget (place_of self.now replica.old.staged) (Prepare txn op.now) → ⊥) }
+        ensures same { OnErr result (replica.new.staged ≡ replica.old.staged) }
+        ensures shown { replica.new.shown ≡ replica.old.shown }
+        ensures budget { replica.new.budget ≡ replica.old.budget }
+    {
+        if self.voted.is_some() || self.last == u64::MAX || txn != self.last + 1 {
+            return Err(Stranger);
+        }
+        staged_vote(alloc, replica, op, short)
+    }
+
+    /// Casts the vote on an operation.
+    pub fn vote(&mut self, txn: u64, vote: Vote)
+        ensures { self.new ≡ record self.old { last = txn; voted = Some vote } }
+    {
+        self.last = txn;
+        self.voted = Some(vote);
+    }
+
+    /// Commits what it voted Yes on, and gives the acknowledgement. A stranger changes nothing. Takes no memory.
+    pub fn commit(&mut self, replica: &mut Replica, txn: u64) -> Result<Message, Stranger>
         requires { StagedByVote self.old.voted replica.old.staged }
         ensures answered { IfOk result (Answers false replica.old.shown replica.old.budget (place_of self.old replica.old.staged) (Commit txn) (place_of self.new replica.new.staged)) }
         ensures shown { OnOk result (replica.new.shown ≡ after_commit replica.old.shown replica.old.staged) }
@@ -146,7 +199,7 @@ impl Participant {
         ensures same_place { OnErr result (self.new ≡ self.old) }
         ensures same_replica { OnErr result (replica.new ≡ replica.old) }
     {
-        if self.voted != Some(Vote::Yes) || txn != self.last {
+        if !self.can_commit(txn) {
             return Err(Stranger);
         }
         match replica.commit() {
@@ -158,7 +211,8 @@ impl Participant {
         }
     }
 
-    fn abort(&mut self, replica: &mut Replica, txn: u64) -> Result<Message, Stranger>
+    /// Gives up what it voted on, and gives the acknowledgement. A stranger changes nothing. Takes no memory.
+    pub fn abort(&mut self, replica: &mut Replica, txn: u64) -> Result<Message, Stranger>
         requires { StagedByVote self.old.voted replica.old.staged }
         ensures answered { IfOk result (Answers false replica.old.shown replica.old.budget (place_of self.old replica.old.staged) (Abort txn) (place_of self.new replica.new.staged)) }
         ensures shown { replica.new.shown ≡ replica.old.shown }
@@ -169,7 +223,7 @@ impl Participant {
         ensures same_place { OnErr result (self.new ≡ self.old) }
         ensures same_staged { OnErr result (replica.new.staged ≡ replica.old.staged) }
     {
-        if self.voted.is_none() || txn != self.last {
+        if !self.can_abort(txn) {
             return Err(Stranger);
         }
         let _ = replica.abort();
@@ -180,7 +234,7 @@ impl Participant {
 
 // The vote on an operation, which stays staged where it is Yes. A rule that refuses it makes it a stranger.
 #[tactic(auto, using(table_replica::proofs::Tables::over_budget))]
-fn ballot(alloc: Global, replica: &mut Replica, op: &Op, short: bool) -> Result<Vote, Stranger>
+fn staged_vote(alloc: Global, replica: &mut Replica, op: &Op, short: bool) -> Result<Vote, Stranger>
     requires { replica.old.staged ≡ None }
     ensures casts { IfOk result (Casts short replica.old.shown replica.old.budget op.now) }
     ensures staged { IfOk result (λ vote. replica.new.staged ≡ staged_by vote op.now) }

@@ -3,8 +3,9 @@
 ghost use Rattle.std.specs.Prelude.{◌≡◌, ◌≤◌, true, false, None, Some, OnSome, IfSome, IfNone, length, slice_get, slice_set};
 ghost use Rattle.std.specs.List.{list_all};
 ghost use Rattle.std.proofs.Common.{replicate};
-ghost use Rattle.monitor_2pc.specs.Tallying.{Tallied};
+ghost use Rattle.monitor_2pc.specs.Tallying.{Tallied, SaysOn};
 
+use crate::step::Say;
 use monitor_messages::Vote;
 
 /// What votes come to.
@@ -53,6 +54,22 @@ fn outcome_of(votes: &[Option<Vote>]) -> Tally
     Tally::AllYes
 }
 
+/// What core 0 says once this vote is put in where there is none yet.
+pub(crate) fn verdict_with(votes: &[Option<Vote>], entry: usize, vote: Vote) -> Option<Say>
+    ensures { SaysOn (slice_set votes.now entry (Some vote)) result }
+{
+    let mut verdict = Say::Commit;
+    for (place, cast) in votes.iter().enumerate() {
+        let cast = if place == entry { Some(vote) } else { *cast };
+        match cast {
+            None => return None,
+            Some(Vote::Yes) => {}
+            Some(Vote::Budget | Vote::NoMemory) => verdict = Say::Abort,
+        }
+    }
+    Some(verdict)
+}
+
 /// Takes all votes out.
 pub(crate) fn clear(votes: &mut [Option<Vote>])
     ensures { votes.new ≡ replicate (length votes.old) None }
@@ -79,6 +96,18 @@ fn all_marked(acks: &[bool]) -> bool
     ensures { result ≡ list_all (λ ack. ack) acks.now }
 {
     acks.iter().all(|ack| *ack)
+}
+
+/// Whether all others than this entry are marked.
+pub(crate) fn is_last(acks: &[bool], entry: usize) -> bool
+    ensures { result ≡ list_all (λ ack. ack) (slice_set acks.now entry true) }
+{
+    for (place, ack) in acks.iter().enumerate() {
+        if place != entry && !*ack {
+            return false;
+        }
+    }
+    true
 }
 
 /// Takes all marks off.

@@ -20,11 +20,9 @@ all_at P xs i x all at = subst P (get_or_from_slice_get xs i x x at) (all i x (g
 -- core 0 and the others, as they begin
 pub record Begins {C Piece : Type 0} (messages : C → List Message) (home : Home) (peers : List (Peer C Piece)) (budget : ℕ) (budgets : List ℕ) : Type 0 where
   pub log : home.log.items ≡ []
-  pub replica : home.replica ≡ record { budget = budget; shown = opening; staged = None }
-  pub coordinator : home.coordinator ≡ record { others = length budgets; last = 0; phase = Idle; requests = no_requests (length budgets) }
+  pub replica : home.core.replica ≡ record { budget = budget; shown = opening; staged = None }
+  pub coordinator : home.core.coordinator ≡ record { others = length budgets; last = 0; phase = Idle; requests = no_requests (length budgets) }
   pub begun : home.begun ≡ None
-  pub asker : home.asker ≡ None
-  pub decided : home.decided ≡ None
   pub seen : map (seen_peer messages) peers ≡ map worlds.new_peer budgets
   pub kept : All (PeerIsKept []) peers
   pub few : length budgets ≤ 7
@@ -36,11 +34,8 @@ pub boot_kept : {C Piece : Type 0} (messages : C → List Message) (home : Home)
 boot_kept messages home peers budget budgets b = record {
   home_kept = record {
     shown = ap (λ (r : ReplicaState). r.shown) b.replica ∙ (sym table_opening ∙ ap (λ log. table log (length log)) (sym b.log));
-    staged = rw (b.coordinator, b.replica) refl;
-    begun = b.begun ∙ sym (ap (λ (r : ReplicaState). r.staged) b.replica);
-    asker = b.asker ∙ sym (ap (λ (x : CoordinatorState). x.requests.asker) b.coordinator);
-    decided = b.decided ∙ sym (ap (λ (x : CoordinatorState). x.requests.decided) b.coordinator);
-    sendable = rw b.decided tt;
+    between = record { staged = rw (b.coordinator, b.replica) refl; sendable = rw b.coordinator tt };
+    begun = rw (b.begun, b.replica) refl;
   };
   others = ap (λ (x : CoordinatorState). x.others) b.coordinator ∙ sym long;
   peers_kept = λ i p at. rw b.log (all_at (PeerIsKept []) peers i p b.kept at);

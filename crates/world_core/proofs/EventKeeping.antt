@@ -14,7 +14,7 @@ use Rattle.world_model.specs.Worlds as worlds
 use Rattle.world_channels.specs.Channels.{first_of}
 use Rattle.monitor_2pc.specs.Coordinators.{Idle}
 use Rattle.world_core.specs.Refusals.{channel, StandsFirst, WorldRefuses}
-use Rattle.world_core.specs.Moves.{StartForRefuses}
+use Rattle.world_core.specs.Homes.{StartForRefuses}
 use Rattle.world_core.specs.Keeping.{seen_peer, seen_world, WorldIsKept, PeerCannotSubmit, PeerCannotTake, ChangesOne, Submits, Takes, ReadyToTake}
 use Rattle.world_core.specs.Shown.{ShowsReplica}
 use Rattle.world_model.proofs.Lists.{map_get, get_at}
@@ -24,10 +24,10 @@ use Rattle.world_core.proofs.PeerKeeping.{seen_same, submit_happens, submit_kept
 -- Entries
 
 pub entry_shows : {C Piece : Type 0} (messages : C → List Message) (home : Home) (peers : List (Peer C Piece)) (w : worlds.World) (core : ℕ) (p : Peer C Piece) → WorldIsKept messages home peers → seen_world messages home peers ≡ w → core ≢ 0
-    → slice_get peers (core - 1) ≡ Some p → ShowsReplica w core p.replica
+    → slice_get peers (core - 1) ≡ Some p → ShowsReplica w core p.core.replica
 entry_shows messages home peers w core p k view ne at =
     let e : suc (core - 1) ≡ core = omega (arith, ne) in
-    subst (λ (x : worlds.World). ShowsReplica x core p.replica) view (subst (λ (n : ℕ). ShowsReplica (seen_world messages home peers) n p.replica) e (peer_shows messages home peers (core - 1) p k at))
+    subst (λ (x : worlds.World). ShowsReplica x core p.core.replica) view (subst (λ (n : ℕ). ShowsReplica (seen_world messages home peers) n p.core.replica) e (peer_shows messages home peers (core - 1) p k at))
 
 pub entry_none : {C Piece : Type 0} (messages : C → List Message) (home : Home) (peers : List (Peer C Piece)) (w : worlds.World) (core : ℕ) → seen_world messages home peers ≡ w → core ≢ 0 → slice_get peers (core - 1) ≡ None → worlds.version_at w core ≡ None
 entry_none messages home peers w core view ne at =
@@ -118,7 +118,7 @@ take_answered messages home peers peers' w w' core entry short r k view view' e 
     }
 
 pub take_ready : {C Piece : Type 0} (messages : C → List Message) (home : Home) (peers : List (Peer C Piece)) (entry : ℕ) → WorldIsKept messages home peers → (p : Peer C Piece) → slice_get peers entry ≡ Some p → ReadyToTake messages p
-take_ready messages home peers entry k p at = record { staged = (k.peers_kept entry p at).staged; awaits = awaits_oldest messages home peers entry p k at }
+take_ready messages home peers entry k p at = record { between = (k.peers_kept entry p at).between; awaits = awaits_oldest messages home peers entry p k at }
 
 -- What a call tells
 

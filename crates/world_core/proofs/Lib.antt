@@ -4,11 +4,9 @@ pub mod PeerKeeping
 pub mod EventKeeping
 pub mod BootKeeping
 pub mod HomeKeeping
-pub mod Sending
-pub mod Starts
+pub mod HomeSteps
+pub mod Pieces
 pub mod Begin
 pub mod Moving
-pub mod Verdicts
-pub mod Asking
 pub mod Loads
 pub mod Settled

@@ -1,12 +1,12 @@
 -- What an event of core 0 leaves of the other cores, and of the world.
-use Rattle.std.proofs.Common.{◌≡◌, ◌∙◌, ◌++◌, ◌∷◌, ◌≤◌, ◌⊎◌, inl, inr, ℕ, suc, Bool, Option, None, Some, List, [], length, map, slice_get, refl, ap, sym, subst, arith, false}
+use Rattle.std.specs.declared.alloc.Global.{Global}
+use Rattle.std.specs.declared.vec.Vec.{Vec}
+use Rattle.std.proofs.Common.{◌≡◌, ◌∙◌, ◌++◌, ◌∷◌, ◌≤◌, ◌⊎◌, inl, inr, All, ℕ, suc, Bool, Option, None, Some, List, [], length, map, slice_get, refl, ap, sym, subst, arith, false}
 use Rattle.table_replica.specs.declared.Op.{Op}
 use Rattle.table_replica.specs.Tables.{State, table}
-use Rattle.table_replica.specs.Shown.{ReplicaState}
 use Rattle.table_replica.proofs.Tables.{table_front}
 use Rattle.monitor_messages.specs.declared.message.Message.{Message}
 use Rattle.monitor_2pc.specs.declared.step.Step.{Step}
-use Rattle.monitor_2pc.specs.Participants.{ParticipantState, StagedByVote}
 use Rattle.world_model.specs.declared.event.Event.{Event}
 use Rattle.world_model.specs.declared.event.Event.TheVariants.{Take}
 use Rattle.world_model.specs.declared.event.Answer.{Answer}
@@ -17,12 +17,17 @@ use Rattle.world_model.proofs.Runs.{runs_more}
 use Rattle.world_model.proofs.Agreement.{run_inv}
 use Rattle.world_core.specs.declared.home.Home.{Home}
 use Rattle.world_core.specs.declared.peer.Peer.{Peer}
-use Rattle.world_core.specs.Keeping.{seen_peer, seen_world, PeerIsKept, WorldIsKept, EachMatches, ChangesOne, Readied, IsSent, GivesUp, HasRoom, RoomAt, RoomFrom}
-use Rattle.world_core.specs.Moves.{home_place, HomeMoves, SentOut}
-use Rattle.world_core.proofs.Keeping.{version_commit}
+use Rattle.world_core.specs.Keeping.{seen_peer, seen_world, CoreIsKept, WorldIsKept, EachMatches, ChangesOne, Readied, IsSent, GivesUp, HasRoom, RoomAt, RoomFrom}
+use Rattle.world_core.specs.Homes.{HomeMoves}
+use Rattle.world_core.specs.Sending.{IsMade, HasRoomFor, SentOut}
+use Rattle.world_core.specs.declared.sending.Ready.{Ready}
+use Rattle.world_core.specs.declared.sending.Ready.TheVariants.{Nothing, ToAll, ToOne}
+use Rattle.core_steps.specs.declared.other_core.OtherCore.{OtherCore}
+use Rattle.core_steps.specs.Core0Steps.{core0_place}
+use Rattle.core_steps.proofs.Taking.{version_commit}
 use Rattle.world_core.proofs.PeerKeeping.{map-slice_set}
 use Rattle.world_core.proofs.HomeKeeping.{Oldest, seen_gives_up}
-use Rattle.world_core.proofs.Sending.{set_at, sent_seen}
+use Rattle.world_core.proofs.Pieces.{set_at, sent_seen}
 use Rattle.world_core.proofs.WorldKeeping.{no_core}
 
 -- Lists that match at each place
@@ -51,31 +56,30 @@ matches_one {P} R S xs ys i self as' c = rw c.changed (length-slice_set xs i c.a
         rw (e.1, ← before) (as' c.before c.after c.related)
     by_place k p q a (inr e) = let same : p ≡ q = (let x = e.1 in cc) in rw (← same) (self p)
 
--- the core keeps its replica and its place
+-- the core stays as it is, whatever its channels have
 pub record Alike {C Piece : Type 0} (p p' : Peer C Piece) : Type 0 where
-  pub replica : p'.replica ≡ p.replica
-  pub participant : p'.participant ≡ p.participant
+  pub core : p'.core ≡ p.core
 
 alike_self : {C Piece : Type 0} (p : Peer C Piece) → Alike p p
-alike_self p = record { replica = refl; participant = refl }
+alike_self p = record { core = refl }
 
 alike_then : {C Piece : Type 0} (p q r : Peer C Piece) → Alike p q → Alike q r → Alike p r
-alike_then p q r a b = record { replica = b.replica ∙ a.replica; participant = b.participant ∙ a.participant }
+alike_then p q r a b = record { core = b.core ∙ a.core }
 
 pub alike_given : {C Piece : Type 0} (messages : C → List Message) (peers peers' : List (Peer C Piece)) (i : ℕ) → ChangesOne peers i peers' (GivesUp messages) → EachMatches Alike peers peers'
-alike_given messages peers peers' i c = matches_one (GivesUp messages) Alike peers peers' i alike_self (λ p q g. record { replica = g.replica; participant = g.participant }) c
+alike_given messages peers peers' i c = matches_one (GivesUp messages) Alike peers peers' i alike_self (λ p q g. record { core = g.core }) c
 
 pub alike_sent : {C Piece : Type 0} (messages : C → List Message) (peers peers' : List (Peer C Piece)) (out : Outgoing) → SentOut messages peers out peers' → EachMatches Alike peers peers'
 alike_sent messages peers peers' nothing s = rw s (matches_self Alike peers alike_self)
-alike_sent messages peers peers' (to_all m) s = matches_as (IsSent messages m) Alike peers peers' (λ p q g. record { replica = g.replica; participant = g.participant }) s
-alike_sent messages peers peers' (to_one entry m) (inl c) = matches_one (IsSent messages m) Alike peers peers' entry alike_self (λ p q g. record { replica = g.replica; participant = g.participant }) c
+alike_sent messages peers peers' (to_all m) s = matches_as (IsSent messages m) Alike peers peers' (λ p q g. record { core = g.core }) s
+alike_sent messages peers peers' (to_one entry m) (inl c) = matches_one (IsSent messages m) Alike peers peers' entry alike_self (λ p q g. record { core = g.core }) c
 alike_sent messages peers peers' (to_one entry m) (inr s) = rw (s.1) (matches_self Alike peers alike_self)
 
 pub alike_both : {C Piece : Type 0} (peers mid peers' : List (Peer C Piece)) → EachMatches Alike peers mid → EachMatches Alike mid peers' → EachMatches Alike peers peers'
 alike_both peers mid peers' a b = matches_then Alike peers mid peers' alike_then a b
 
 readied_then : {C Piece : Type 0} (messages : C → List Message) (p q r : Peer C Piece) → Readied messages p q → Readied messages q r → Readied messages p r
-readied_then messages p q r a b = record { replica = b.replica ∙ a.replica; participant = b.participant ∙ a.participant; down = b.down ∙ a.down; up = b.up ∙ a.up }
+readied_then messages p q r a b = record { core = b.core ∙ a.core; down = b.down ∙ a.down; up = b.up ∙ a.up }
 
 pub readied_both : {C Piece : Type 0} (messages : C → List Message) (peers mid peers' : List (Peer C Piece)) → EachMatches (Readied messages) peers mid → EachMatches (Readied messages) mid peers' → EachMatches (Readied messages) peers peers'
 readied_both messages peers mid peers' a b = matches_then (Readied messages) peers mid peers' (readied_then messages) a b
@@ -87,7 +91,7 @@ sent_one_seen : {C Piece : Type 0} (messages : C → List Message) (m : Message)
 sent_one_seen messages m peers peers' entry c =
     let there = map_get (seen_peer messages) peers entry c.before c.there in
     let r = c.related in
-    rw (c.changed, map-slice_set (seen_peer messages) peers entry c.after, there, r.replica, r.participant, r.down, r.up) refl
+    rw (c.changed, map-slice_set (seen_peer messages) peers entry c.after, there, r.core, r.down, r.up) refl
 
 sent_out_seen : {C Piece : Type 0} (messages : C → List Message) (peers peers' : List (Peer C Piece)) (out : Outgoing) → SentOut messages peers out peers' → map (seen_peer messages) peers' ≡ worlds.sent_out (map (seen_peer messages) peers) out
 sent_out_seen messages peers peers' nothing s = ap (map (seen_peer messages)) s
@@ -97,32 +101,29 @@ sent_out_seen messages peers peers' (to_one entry m) (inr s) = rw (s.1, no_core 
 
 -- the world after core 0 has moved and sent
 pub moved_seen : {C Piece : Type 0} (messages : C → List Message) (home home' : Home) (peers peers' : List (Peer C Piece)) (committed : Option Op) (out : Outgoing) → HomeMoves home committed home' → SentOut messages peers out peers'
-    → seen_world messages home' peers' ≡ worlds.core0_moves (seen_world messages home peers) (home_place home') home'.coordinator.requests committed out
+    → seen_world messages home' peers' ≡ worlds.core0_moves (seen_world messages home peers) (core0_place home'.core) home'.core.coordinator.requests committed out
 moved_seen messages home home' peers peers' committed out h sent =
-    let version : home'.replica.shown.version ≡ raised home.replica.shown.version committed = ap (λ (s : State). s.version) h.shown_next ∙ version_commit home.replica.shown committed in
-    rw (h.log_next, h.same_budget, version, sent_out_seen messages peers peers' out sent) refl
+    let version : home'.core.replica.shown.version ≡ raised home.core.replica.shown.version committed = ap (λ (s : State). s.version) h.moves.shown_next ∙ version_commit home.core.replica.shown committed in
+    rw (h.log_next, h.moves.same_budget, version, sent_out_seen messages peers peers' out sent) refl
 
 -- The world is kept
 
-peer_moved : {C Piece : Type 0} (log : List Op) (committed : Option Op) (p p' : Peer C Piece) → p.replica.shown.version ≤ length log → Alike p p' → PeerIsKept log p → PeerIsKept (joined log committed) p'
-peer_moved log committed p p' le a k = record {
-  shown = subst (λ (x : ReplicaState). x.shown ≡ table (joined log committed) x.shown.version) (sym a.replica) (k.shown ∙ sym (front committed));
-  staged = subst (λ (x : ParticipantState). StagedByVote x.voted p'.replica.staged) (sym a.participant) (subst (λ (x : ReplicaState). StagedByVote p.participant.voted x.staged) (sym a.replica) k.staged);
-}
+core_moved : (log : List Op) (committed : Option Op) (core core' : OtherCore) → core.replica.shown.version ≤ length log → core' ≡ core → CoreIsKept log core → CoreIsKept (joined log committed) core'
+core_moved log committed core core' le same k = subst (λ (c : OtherCore). CoreIsKept (joined log committed) c) (sym same) (record { shown = k.shown ∙ sym (front committed); between = k.between })
   where
-    front : (o : Option Op) → table (joined log o) p.replica.shown.version ≡ table log p.replica.shown.version
+    front : (o : Option Op) → table (joined log o) core.replica.shown.version ≡ table log core.replica.shown.version
     front None = refl
-    front (Some op) = table_front log (op ∷ []) p.replica.shown.version le
+    front (Some op) = table_front log (op ∷ []) core.replica.shown.version le
 
 pub moved_kept : {C Piece : Type 0} (messages : C → List Message) (home home' : Home) (peers peers' : List (Peer C Piece)) (committed : Option Op) (event : Event) (answer : Answer) → WorldIsKept messages home peers → HomeMoves home committed home' → EachMatches Alike peers peers'
     → worlds.Happens (seen_world messages home peers) event (seen_world messages home' peers') answer → WorldIsKept messages home' peers'
 moved_kept messages home home' peers peers' committed event answer k h m happens = record {
   home_kept = h.kept;
-  others = h.same_others ∙ (k.others ∙ sym (m.0));
+  others = h.moves.same_others ∙ (k.others ∙ sym (m.0));
   peers_kept = λ i p at.
       let old = get_at peers i (omega (arith, m.0, get_within peers' i p at)) in
       let within = (run_inv k.budget k.budgets k.events (seen_world messages home peers) k.run).within i (seen_peer messages old.0) (map_get (seen_peer messages) peers i old.0 old.1) in
-      rw h.log_next (peer_moved home.log.items committed old.0 p within.not_ahead (m.1 i old.0 p old.1 at) (k.peers_kept i old.0 old.1));
+      rw h.log_next (core_moved home.log.items committed old.0.core p.core within.not_ahead (m.1 i old.0 p old.1 at).core (k.peers_kept i old.0 old.1));
   few = rw (m.0) k.few;
   budget = k.budget;
   budgets = k.budgets;
@@ -146,8 +147,8 @@ pub record UpDone {C Piece : Type 0} (messages : C → List Message) (home' : Ho
   pub kept : WorldIsKept messages home' peers'
 
 pub up_done : {C Piece : Type 0} (messages : C → List Message) (home home' : Home) (peers mid peers' : List (Peer C Piece)) (w : worlds.World) (core entry : ℕ) (m : Message) (committed : Option Op) (told : Step) (answer : Answer) → WorldIsKept messages home peers
-    → seen_world messages home peers ≡ w → (o : Oldest messages peers core m) → entry ≡ o.entry → HomeMoves home committed home' → ChangesOne peers entry mid (GivesUp messages) → SentOut messages mid (outgoing told (home_place home')) peers'
-    → TakesUpAt home.replica.shown (home_place home) home.coordinator.requests o.entry m (home_place home') home'.coordinator.requests committed told answer → UpDone messages home' peers' w core answer
+    → seen_world messages home peers ≡ w → (o : Oldest messages peers core m) → entry ≡ o.entry → HomeMoves home committed home' → ChangesOne peers entry mid (GivesUp messages) → SentOut messages mid (outgoing told (core0_place home'.core)) peers'
+    → TakesUpAt home.core.replica.shown (core0_place home.core) home.core.coordinator.requests o.entry m (core0_place home'.core) home'.core.coordinator.requests committed told answer → UpDone messages home' peers' w core answer
 up_done messages home home' peers mid peers' w core entry m committed told answer k view o same h gives sent here =
     let happens : (short : Bool) → worlds.Happens (seen_world messages home peers) (Take 0 (suc o.entry) short) (seen_world messages home' peers') answer = λ short. record {
       peer = seen_peer messages o.peer;
@@ -155,17 +156,17 @@ up_done messages home home' peers mid peers' w core entry m committed told answe
       m = m;
       rest = o.rest;
       oldest = o.oldest;
-      place = home_place home';
-      requests = home'.coordinator.requests;
+      place = core0_place home'.core;
+      requests = home'.core.coordinator.requests;
       committed = committed;
       told = told;
-      here = subst (λ (s : State). TakesUpAt s (home_place home) home.coordinator.requests o.entry m (home_place home') home'.coordinator.requests committed told answer) k.home_kept.shown here;
-      next = moved_seen messages home home' mid peers' committed (outgoing told (home_place home')) h sent
-          ∙ ap (λ (x : worlds.World). worlds.core0_moves x (home_place home') home'.coordinator.requests committed (outgoing told (home_place home'))) (seen_gave messages home peers mid core entry m o same gives);
+      here = subst (λ (s : State). TakesUpAt s (core0_place home.core) home.core.coordinator.requests o.entry m (core0_place home'.core) home'.core.coordinator.requests committed told answer) k.home_kept.shown here;
+      next = moved_seen messages home home' mid peers' committed (outgoing told (core0_place home'.core)) h sent
+          ∙ ap (λ (x : worlds.World). worlds.core0_moves x (core0_place home'.core) home'.core.coordinator.requests committed (outgoing told (core0_place home'.core))) (seen_gave messages home peers mid core entry m o same gives);
     } in
     record {
       happens = λ short. rw (o.is_core, ← view) (happens short);
-      kept = moved_kept messages home home' peers peers' committed (Take 0 (suc o.entry) false) answer k h (alike_both peers mid peers' (alike_given messages peers mid entry gives) (alike_sent messages mid peers' (outgoing told (home_place home')) sent)) (happens false);
+      kept = moved_kept messages home home' peers peers' committed (Take 0 (suc o.entry) false) answer k h (alike_both peers mid peers' (alike_given messages peers mid entry gives) (alike_sent messages mid peers' (outgoing told (core0_place home'.core)) sent)) (happens false);
     }
 
 -- a core that gave up a message can still be sent one
@@ -186,3 +187,26 @@ room_at_given {C} {Piece} spare messages peers mid i entry c room p at = by_plac
         let before : HasRoom spare c.before = room c.before (subst (λ (n : ℕ). slice_get peers n ≡ Some c.before) e.0 c.there) in
         rw (e.1, c.related.down) before
     by_place (inr e) = room p (e.1)
+
+-- what is ready can still be put, and was made for the same
+pub ready_given : {C Piece : Type 0} (spare : C → ℕ) (messages : C → List Message) (peers mid : List (Peer C Piece)) (i : ℕ) (ready : Ready Piece) → ChangesOne peers i mid (GivesUp messages) → HasRoomFor spare peers ready → HasRoomFor spare mid ready
+ready_given spare messages peers mid i Nothing c room = tt
+ready_given spare messages peers mid i (ToAll pieces) c room = (room_given spare messages peers mid i c room.0, room.1 ∙ sym (ap length c.changed ∙ length-slice_set peers i c.after))
+ready_given spare messages peers mid i (ToOne entry piece) c room = (omega (arith, room.0, ap length c.changed, length-slice_set peers i c.after), room_at_given spare messages peers mid i entry c room.1)
+
+pub made_given : {C Piece : Type 0} (made : Piece → Message) (peers mid : List (Peer C Piece)) (out : Outgoing) (ready : Ready Piece) → length mid ≡ length peers → IsMade made peers out ready → IsMade made mid out ready
+made_given made peers mid nothing Nothing long h = tt
+made_given made peers mid (to_all m) (ToAll pieces) long h = (h.0, h.1 ∙ sym long)
+made_given made peers mid (to_one entry m) (ToOne place piece) long h = (h.0, h.1, rw long h.2)
+made_given made peers mid (to_one entry m) Nothing long h = rw long h
+made_given made peers mid nothing (ToAll pieces) long h = absurd h
+made_given made peers mid nothing (ToOne place piece) long h = absurd h
+made_given made peers mid (to_all m) Nothing long h = absurd h
+made_given made peers mid (to_all m) (ToOne place piece) long h = absurd h
+made_given made peers mid (to_one entry m) (ToAll pieces) long h = absurd h
+
+pub sent_to_all : {C Piece : Type 0} (made : Piece → Message) (messages : C → List Message) (peers peers' : List (Peer C Piece)) (out : Outgoing) (ready : Ready Piece) (pieces : Vec Piece Global) → ready ≡ ToAll pieces
+    → ((m : Message) → All (λ piece. made piece ≡ m) pieces.items → EachMatches (IsSent messages m) peers peers') → IsMade made peers out ready → SentOut messages peers out peers'
+sent_to_all made messages peers peers' nothing ready pieces is put h = absurd (rw is at h)
+sent_to_all made messages peers peers' (to_all m) ready pieces is put h = let x = rw is at h in put m x.0
+sent_to_all made messages peers peers' (to_one entry m) ready pieces is put h = absurd (rw is at h)

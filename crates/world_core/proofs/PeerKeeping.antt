@@ -13,12 +13,14 @@ use Rattle.world_model.specs.declared.event.Event.{Event}
 use Rattle.world_model.specs.declared.event.Event.TheVariants.{Submit, Take}
 use Rattle.world_model.specs.declared.event.Answer.{Answer}
 use Rattle.world_core.specs.declared.fault.WorldFault.{WorldFault}
+use Rattle.core_steps.specs.declared.other_core.OtherCore.{OtherCore}
+use Rattle.core_steps.specs.OtherCoreSteps.{AwaitsHere}
 use Rattle.world_core.specs.declared.home.Home.{Home}
 use Rattle.world_core.specs.declared.peer.Peer.{Peer}
 use Rattle.world_model.specs.Cases.{raised, sent_up, TakesDownAt}
 use Rattle.world_model.specs.Worlds as worlds
 use Rattle.world_model.specs.Agreement.{commitments, Awaits}
-use Rattle.world_core.specs.Keeping.{seen_peer, seen_world, PeerIsKept, WorldIsKept, PeerSubmits, PeerAwaits, AwaitsOldest, PeerTakes, Submits, Takes}
+use Rattle.world_core.specs.Keeping.{seen_peer, seen_world, CoreIsKept, PeerIsKept, WorldIsKept, PeerSubmits, AwaitsOldest, PeerTakes, Submits, Takes}
 use Rattle.world_model.proofs.Lists.{get-set_same, get-set_other, length-slice_set, map_get, same_or_not}
 use Rattle.world_model.proofs.Invariant.{Pair, at_rest, asked, voted, counted, to_commit, to_abort, acked, finished, Inv}
 use Rattle.world_model.proofs.Runs.{runs_more}
@@ -107,7 +109,7 @@ submit_happens messages home peers i p p' op answer at s = record {
 submit_peer_kept : {C Piece : Type 0} (messages : C → List Message) (log : List Op) (op : Op) (r : Result Answer WorldFault) (p p' : Peer C Piece) → PeerIsKept log p → Submits messages op r p p' → PeerIsKept log p'
 submit_peer_kept messages log op r p p' k s = record {
   shown = subst (λ (x : ReplicaState). x.shown ≡ table log x.shown.version) (sym s.replica) k.shown;
-  staged = rw (s.replica, s.voted) k.staged;
+  between = rw (s.replica, s.voted) k.between;
 }
 
 pub submit_kept : {C Piece : Type 0} (messages : C → List Message) (home : Home) (peers : List (Peer C Piece)) (i : ℕ) (p p' : Peer C Piece) (op : Op) (r : Result Answer WorldFault) → WorldIsKept messages home peers → slice_get peers i ≡ Some p
@@ -147,17 +149,17 @@ committed_entry log place i p txn rest d (finished acks ph at is) = absurd (cc (
 
 -- the core's own table is the newest where Prepare comes
 own_newest : {C Piece : Type 0} (messages : C → List Message) (home : Home) (peers : List (Peer C Piece)) (i : ℕ) (p : Peer C Piece) (txn : ℕ) (op : Op) (rest : List Message) → (k : WorldIsKept messages home peers) → slice_get peers i ≡ Some p
-    → messages p.down ≡ message.Prepare txn op ∷ rest → p.replica.shown ≡ worlds.newest (seen_world messages home peers)
+    → messages p.down ≡ message.Prepare txn op ∷ rest → p.core.replica.shown ≡ worlds.newest (seen_world messages home peers)
 own_newest messages home peers i p txn op rest k at down =
     let pair = (kept_inv messages home peers k).pairs i (seen_peer messages p) (map_get (seen_peer messages) peers i p at) in
     (k.peers_kept i p at).shown ∙ ap (table home.log.items) (prepared_newest home.log.items _ i (seen_peer messages p) txn op (commitments rest) (ap commitments down) pair)
 
 -- the oldest message is one that the core waits for
-pub awaits_oldest : {C Piece : Type 0} (messages : C → List Message) (home : Home) (peers : List (Peer C Piece)) (i : ℕ) (p : Peer C Piece) → WorldIsKept messages home peers → slice_get peers i ≡ Some p → AwaitsOldest p.replica.shown (seen_peer messages p)
+pub awaits_oldest : {C Piece : Type 0} (messages : C → List Message) (home : Home) (peers : List (Peer C Piece)) (i : ℕ) (p : Peer C Piece) → WorldIsKept messages home peers → slice_get peers i ≡ Some p → AwaitsOldest messages p
 awaits_oldest messages home peers i p k at m rest down =
     by_message m down ((run_no_stranger k.budget k.budgets k.events (seen_world messages home peers) k.run).down i (seen_peer messages p) m rest (map_get (seen_peer messages) peers i p at) down)
   where
-    by_message : (m : Message) → messages p.down ≡ m ∷ rest → Awaits (seen_world messages home peers) (seen_peer messages p) m → PeerAwaits p.replica.shown (seen_peer messages p) m
+    by_message : (m : Message) → messages p.down ≡ m ∷ rest → Awaits (seen_world messages home peers) (seen_peer messages p) m → AwaitsHere p.core m
     by_message (message.Reply d) e a = a
     by_message (message.Prepare txn op) e a = rw (own_newest messages home peers i p txn op rest k at e) a
     by_message (message.Commit txn) e a = a
@@ -176,7 +178,7 @@ abort_any short s s' b txn place place' (message.Ack n) a = a
 abort_any short s s' b txn place place' reply a = absurd a
 
 pub take_happens : {C Piece : Type 0} (messages : C → List Message) (home : Home) (peers : List (Peer C Piece)) (i : ℕ) (p p' : Peer C Piece) (short : Bool) (answer : Answer) → WorldIsKept messages home peers → slice_get peers i ≡ Some p
-    → PeerTakes short p.replica.shown (seen_peer messages p) p'.replica.shown (seen_peer messages p') answer → worlds.Happens (seen_world messages home peers) (Take (suc i) 0 short) (seen_world messages home (slice_set peers i p')) answer
+    → PeerTakes short p.core.replica.shown (seen_peer messages p) p'.core.replica.shown (seen_peer messages p') answer → worlds.Happens (seen_world messages home peers) (Take (suc i) 0 short) (seen_world messages home (slice_set peers i p')) answer
 take_happens messages home peers i p p' short answer k at t = record {
   peer = seen_peer messages p;
   is_peer = map_get (seen_peer messages) peers i p at;
@@ -191,8 +193,8 @@ take_happens messages home peers i p p' short answer k at t = record {
 }
   where
     changed : seen_peer messages p' ≡ record {
-      budget = p.replica.budget;
-      version = raised p.replica.shown.version t.committed;
+      budget = p.core.replica.budget;
+      version = raised p.core.replica.shown.version t.committed;
       place = (seen_peer messages p').place;
       outstanding = (seen_peer messages p').outstanding;
       down = t.rest;
@@ -201,36 +203,36 @@ take_happens messages home peers i p p' short answer k at t = record {
     changed = rw (← t.same_budget, ← t.version_next, ← t.down_next, ← t.up_next) refl
 
     by_message : (m : Message) → messages p.down ≡ m ∷ t.rest
-        → TakesDownAt short p.replica.shown p.replica.budget p.replica.shown.version (seen_peer messages p).place p.participant.outstanding m (seen_peer messages p').place p'.participant.outstanding t.committed answer
-        → TakesDownAt short (worlds.newest (seen_world messages home peers)) p.replica.budget p.replica.shown.version (seen_peer messages p).place p.participant.outstanding m (seen_peer messages p').place p'.participant.outstanding t.committed answer
+        → TakesDownAt short p.core.replica.shown p.core.replica.budget p.core.replica.shown.version (seen_peer messages p).place p.core.participant.outstanding m (seen_peer messages p').place p'.core.participant.outstanding t.committed answer
+        → TakesDownAt short (worlds.newest (seen_world messages home peers)) p.core.replica.budget p.core.replica.shown.version (seen_peer messages p).place p.core.participant.outstanding m (seen_peer messages p').place p'.core.participant.outstanding t.committed answer
     by_message (message.Reply d) e h = h
     by_message (message.Prepare txn op) e h = record {
       reply = h.reply;
-      answers = subst (λ (s : State). Answers short s p.replica.budget (seen_peer messages p).place (message.Prepare txn op) (seen_peer messages p').place h.reply) (own_newest messages home peers i p txn op t.rest k at e) h.answers;
+      answers = subst (λ (s : State). Answers short s p.core.replica.budget (seen_peer messages p).place (message.Prepare txn op) (seen_peer messages p').place h.reply) (own_newest messages home peers i p txn op t.rest k at e) h.answers;
       same_outstanding = h.same_outstanding;
       is_committed = h.is_committed;
       is_answer = h.is_answer;
     }
-    by_message (message.Commit txn) e h = record { reply = h.reply; answers = commit_any short p.replica.shown (worlds.newest (seen_world messages home peers)) p.replica.budget txn (seen_peer messages p).place (seen_peer messages p').place h.reply h.answers; same_outstanding = h.same_outstanding; is_committed = h.is_committed; is_answer = h.is_answer }
-    by_message (message.Abort txn) e h = record { reply = h.reply; answers = abort_any short p.replica.shown (worlds.newest (seen_world messages home peers)) p.replica.budget txn (seen_peer messages p).place (seen_peer messages p').place h.reply h.answers; same_outstanding = h.same_outstanding; is_committed = h.is_committed; is_answer = h.is_answer }
+    by_message (message.Commit txn) e h = record { reply = h.reply; answers = commit_any short p.core.replica.shown (worlds.newest (seen_world messages home peers)) p.core.replica.budget txn (seen_peer messages p).place (seen_peer messages p').place h.reply h.answers; same_outstanding = h.same_outstanding; is_committed = h.is_committed; is_answer = h.is_answer }
+    by_message (message.Abort txn) e h = record { reply = h.reply; answers = abort_any short p.core.replica.shown (worlds.newest (seen_world messages home peers)) p.core.replica.budget txn (seen_peer messages p).place (seen_peer messages p').place h.reply h.answers; same_outstanding = h.same_outstanding; is_committed = h.is_committed; is_answer = h.is_answer }
     by_message (message.Vote txn v) e h = absurd h.answers
     by_message (message.Ack txn) e h = absurd h.answers
     by_message (message.Submit op) e h = absurd h.answers
 
 -- the core's table is that of its new version
 take_shown : {C Piece : Type 0} (messages : C → List Message) (home : Home) (peers : List (Peer C Piece)) (i : ℕ) (p p' : Peer C Piece) (short : Bool) (answer : Answer) → (k : WorldIsKept messages home peers) → slice_get peers i ≡ Some p
-    → (t : PeerTakes short p.replica.shown (seen_peer messages p) p'.replica.shown (seen_peer messages p') answer) → p'.replica.shown ≡ table home.log.items p'.replica.shown.version
+    → (t : PeerTakes short p.core.replica.shown (seen_peer messages p) p'.core.replica.shown (seen_peer messages p') answer) → p'.core.replica.shown ≡ table home.log.items p'.core.replica.shown.version
 take_shown messages home peers i p p' short answer k at t = by_message t.m t.oldest t.here
   where
     -- nothing is committed
-    stays : t.committed ≡ None → p'.replica.shown ≡ table home.log.items p'.replica.shown.version
+    stays : t.committed ≡ None → p'.core.replica.shown ≡ table home.log.items p'.core.replica.shown.version
     stays none =
-        let same : p'.replica.shown ≡ p.replica.shown = t.table_next ∙ rw none refl in
+        let same : p'.core.replica.shown ≡ p.core.replica.shown = t.table_next ∙ rw none refl in
         same ∙ ((k.peers_kept i p at).shown ∙ ap (λ (s : State). table home.log.items s.version) (sym same))
 
     by_message : (m : Message) → messages p.down ≡ m ∷ t.rest
-        → TakesDownAt short p.replica.shown p.replica.budget p.replica.shown.version (seen_peer messages p).place p.participant.outstanding m (seen_peer messages p').place p'.participant.outstanding t.committed answer
-        → p'.replica.shown ≡ table home.log.items p'.replica.shown.version
+        → TakesDownAt short p.core.replica.shown p.core.replica.budget p.core.replica.shown.version (seen_peer messages p).place p.core.participant.outstanding m (seen_peer messages p').place p'.core.participant.outstanding t.committed answer
+        → p'.core.replica.shown ≡ table home.log.items p'.core.replica.shown.version
     by_message (message.Reply d) e h = stays h.none_committed
     by_message (message.Prepare txn op) e h = stays h.is_committed
     by_message (message.Abort txn) e h = stays h.is_committed
@@ -241,14 +243,14 @@ take_shown messages home peers i p p' short answer k at t = by_message t.m t.old
         let pair = (kept_inv messages home peers k).pairs i (seen_peer messages p) (map_get (seen_peer messages) peers i p at) in
         let c = committed_entry home.log.items _ i (seen_peer messages p) txn (commitments t.rest) (ap commitments e) pair in
         let is : t.committed ≡ Some c.0 = h.is_committed ∙ c.1 in
-        let next : p'.replica.shown ≡ after p.replica.shown c.0 = t.table_next ∙ ap (after_commit p.replica.shown) is in
-        let version : p'.replica.shown.version ≡ p.replica.shown.version + 1 = t.version_next ∙ ap (raised p.replica.shown.version) is in
-        next ∙ (ap (λ (s : State). after s c.0) (k.peers_kept i p at).shown ∙ (sym (table_at home.log.items p.replica.shown.version c.0 c.2) ∙ ap (table home.log.items) (sym version)))
+        let next : p'.core.replica.shown ≡ after p.core.replica.shown c.0 = t.table_next ∙ ap (after_commit p.core.replica.shown) is in
+        let version : p'.core.replica.shown.version ≡ p.core.replica.shown.version + 1 = t.version_next ∙ ap (raised p.core.replica.shown.version) is in
+        next ∙ (ap (λ (s : State). after s c.0) (k.peers_kept i p at).shown ∙ (sym (table_at home.log.items p.core.replica.shown.version c.0 c.2) ∙ ap (table home.log.items) (sym version)))
 
 pub take_kept : {C Piece : Type 0} (messages : C → List Message) (home : Home) (peers : List (Peer C Piece)) (i : ℕ) (p p' : Peer C Piece) (short : Bool) (r : Result Answer WorldFault) → WorldIsKept messages home peers → slice_get peers i ≡ Some p
     → Takes messages short r p p' → WorldIsKept messages home (slice_set peers i p')
 take_kept messages home peers i p p' short (Ok answer) k at t =
     event_kept messages home peers i p p' (Take (suc i) 0 short) answer k at (take_happens messages home peers i p p' short answer k at t.done)
-    (record { shown = take_shown messages home peers i p p' short answer k at t.done; staged = t.staged })
+    (record { shown = take_shown messages home peers i p p' short answer k at t.done; between = t.between })
 take_kept messages home peers i p p' short (Err fault) k at t =
-    same_kept messages home peers i p p' k at t.same (record { shown = subst (λ (x : ReplicaState). x.shown ≡ table home.log.items x.shown.version) (sym t.same_replica) (k.peers_kept i p at).shown; staged = t.staged })
+    same_kept messages home peers i p p' k at t.same (subst (λ (c : OtherCore). CoreIsKept home.log.items c) (sym t.same_core) (k.peers_kept i p at))

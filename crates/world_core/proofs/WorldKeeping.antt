@@ -15,9 +15,9 @@ use Rattle.world_model.proofs.RunLaws.{run_agrees}
 agreed : {C Piece : Type 0} (messages : C → List Message) (home : Home) (peers : List (Peer C Piece)) → (k : WorldIsKept messages home peers) → Agrees k.budget k.budgets (seen_world messages home peers)
 agreed messages home peers k = run_agrees k.budget k.budgets k.events (seen_world messages home peers) k.run
 
-pub home_shows : {C Piece : Type 0} (messages : C → List Message) (home : Home) (peers : List (Peer C Piece)) → WorldIsKept messages home peers → ShowsReplica (seen_world messages home peers) 0 home.replica
+pub home_shows : {C Piece : Type 0} (messages : C → List Message) (home : Home) (peers : List (Peer C Piece)) → WorldIsKept messages home peers → ShowsReplica (seen_world messages home peers) 0 home.core.replica
 home_shows messages home peers k = record {
-  version = home.replica.shown.version;
+  version = home.core.replica.shown.version;
   is_version = refl;
   numbered = refl;
   shown = k.home_kept.shown ∙ ap (table home.log.items) (sym (agreed messages home peers k).core0);
@@ -25,11 +25,11 @@ home_shows messages home peers k = record {
   is_staged = refl;
 }
 
-pub peer_shows : {C Piece : Type 0} (messages : C → List Message) (home : Home) (peers : List (Peer C Piece)) (i : ℕ) (p : Peer C Piece) → WorldIsKept messages home peers → slice_get peers i ≡ Some p → ShowsReplica (seen_world messages home peers) (suc i) p.replica
+pub peer_shows : {C Piece : Type 0} (messages : C → List Message) (home : Home) (peers : List (Peer C Piece)) (i : ℕ) (p : Peer C Piece) → WorldIsKept messages home peers → slice_get peers i ≡ Some p → ShowsReplica (seen_world messages home peers) (suc i) p.core.replica
 peer_shows messages home peers i p k at =
     let there = map_get (seen_peer messages) peers i p at in
     record {
-      version = p.replica.shown.version;
+      version = p.core.replica.shown.version;
       is_version = ap (option_map (λ (x : worlds.Peer). x.version)) there;
       numbered = refl;
       shown = (k.peers_kept i p at).shown;

@@ -1,5 +1,6 @@
+pub mod Homes
 pub mod Keeping
-pub mod Moves
+pub mod Sending
 pub mod Refusals
 pub mod Shown
 pub mod Settling

@@ -1,188 +1,115 @@
-//! Core 0.
+//! Core 0, with what proofs say of it.
 
-use monitor_2pc::{Coordinator, Decision, Step, Veto, Vote};
+ghost use Rattle.std.specs.Prelude.{◌≡◌, ◌<◌, ◌≤◌, ℕ, suc, None, [], IfOk};
+ghost use Rattle.table_replica.specs.declared.Op.{Op as GhostOp};
+ghost use Rattle.table_replica.specs.Tables.{opening};
+ghost use Rattle.monitor_2pc.specs.Coordinators.{Idle, no_requests};
+ghost use Rattle.monitor_2pc.specs.Starting.{WasStaged};
+ghost use Rattle.world_model.specs.Agreement.{Expects};
+ghost use Rattle.world_model.specs.Cases.{outgoing};
+ghost use Rattle.core_steps.specs.Core0Steps.{core0_place, HasWaiting, start_sends, start_for_sends};
+ghost use Rattle.world_core.specs.Homes.{HomeIsKept, HomeIsIdle, HomeStarts, HomeStartsFor, HomeTakes, begun_op, logged, begun_by, entered, still_begun};
+
+use core_steps::{Core0, Told};
+use ghost_log::Log;
+use monitor_2pc::{Decision, Message};
 use std::alloc::{AllocError, Global};
-use table_replica::{Op, Replica, StageFault};
+use std::snapshot::Snapshot;
+use table_replica::{Op, StageFault};
 
-/// Core 0: the log, its replica and its part of the protocol.
+/// Core 0, and what proofs say of it beside: the log, and the operation under vote.
 #[derive(Drop)]
 pub(crate) struct Home {
+    pub(crate) core: Core0,
     /// What was committed, in order.
-    pub(crate) log: Vec<Op>,
-    pub(crate) replica: Replica,
-    pub(crate) coordinator: Coordinator,
-    /// A copy of the operation under vote, which goes into the log if it is committed.
-    pub(crate) begun: Option<Op>,
-    /// The core whose request is under way.
-    pub(crate) asker: Option<u16>,
-    /// What was decided of the operation under way.
-    pub(crate) decided: Option<Decision>,
+    pub(crate) log: Log<Op>,
+    /// The operation under vote, which enters the log if it is committed.
+    pub(crate) begun: Option<Snapshot<Op>>,
 }
 
 impl Home {
-    ghost use Rattle.std.specs.Prelude.{◌≡◌, ◌<◌, ◌≤◌, ℕ, suc, None, Some, [], IfOk, slice_get, vec_len};
-    ghost use Rattle.std.specs.Vec.{vec_capacity};
-    ghost use Rattle.world_core.specs.Keeping.{HomeIsKept, HomeStarts, logged, begun_by};
-    ghost use Rattle.table_replica.specs.Tables.{opening};
-    ghost use Rattle.monitor_2pc.specs.Coordinators.{Idle, no_requests, CanStart, CanSubmit, coordinator_place, with_waiting, asker_after, AwaitsVote, AwaitsAck};
-    ghost use Rattle.world_core.specs.Moves.{home_place, HomeStartsFor, HomeHears, HomeHearsAck, Foretells, entered, still_begun};
-
     /// Core 0 that has done nothing yet, beside so many others.
     pub(crate) fn new(alloc: Global, budget: u32, others: u16) -> Result<Home, AllocError>
         requires { others ≤ 7 }
         ensures log { IfOk result (λ home. home.log.items ≡ []) }
-        ensures replica { IfOk result (λ home. home.replica ≡ record { budget = budget; shown = opening; staged = None }) }
-        ensures coordinator { IfOk result (λ home. home.coordinator ≡ record { others = others; last = 0; phase = Idle; requests = no_requests others }) }
+        ensures replica { IfOk result (λ home. home.core.replica ≡ record { budget = budget; shown = opening; staged = None }) }
+        ensures coordinator { IfOk result (λ home. home.core.coordinator ≡ record { others = others; last = 0; phase = Idle; requests = no_requests others }) }
         ensures begun { IfOk result (λ home. home.begun ≡ None) }
-        ensures asker { IfOk result (λ home. home.asker ≡ None) }
-        ensures decided { IfOk result (λ home. home.decided ≡ None) }
     {
-        let replica = Replica::new(alloc, budget)?;
         Ok(Home {
-            log: Vec::new(alloc),
-            replica,
-            coordinator: Coordinator::new(others + 1, 0),
+            core: Core0::new(alloc, budget, others + 1)?,
+            log: Log::new(),
             begun: None,
-            asker: None,
-            decided: None,
         })
     }
 
-    /// Keeps a request of another core as waiting.
-    pub(crate) fn keep(&mut self, from: u16, op: Op)
-        requires { (entry : ℕ) × (from ≡ suc entry) × CanSubmit self.old.coordinator.requests entry }
-        ensures { (entry : ℕ) × (from ≡ suc entry)
-            × (self.new ≡ record self.old { coordinator = record self.old.coordinator { requests = with_waiting self.old.coordinator.requests entry op } }) }
+    /// Starts a request, which core 0 was asked to stage with this outcome.
+    pub(crate) fn begin(&mut self, op: &Op, refusal: Option<StageFault>) -> Told
+        requires idle { HomeIsIdle self.old }
+        requires tried { WasStaged self.old.core.replica op.now refusal }
+        ensures starts { HomeStarts self.old op.now self.new result }
+        ensures sends { outgoing result.step (core0_place self.new.core) ≡ start_sends self.old.core op.now refusal }
     {
-        let _ = self.coordinator.submit(from, op);
+        let told = self.core.begin(refusal);
+        self.note(Snapshot::of(op), told.step.decided);
+        told
     }
 
-    /// Starts an operation, of which this is a copy. There is room in the log.
-    pub(crate) fn start(&mut self, alloc: Global, op: &Op, copy: Op) -> Step
-        requires kept { HomeIsKept self.old }
-        requires can { CanStart (coordinator_place self.old.coordinator self.old.replica.staged) }
-        requires copy { copy ≡ op.now }
-        requires room { vec_len self.old.log < vec_capacity self.old.log }
-        ensures { HomeStarts self.old op.now self.new result }
+    /// Starts the request that the core has waiting, which core 0 was asked to stage with this outcome. There are other cores.
+    pub(crate) fn begin_for(&mut self, core: u16, refusal: Option<StageFault>) -> Told
+        requires idle { HomeIsIdle self.old }
+        requires others { 0 < self.old.core.coordinator.others }
+        requires waits { (entry : ℕ) × (op : GhostOp) × HasWaiting self.old.core core entry op × WasStaged self.old.core.replica op refusal }
+        ensures starts { (entry : ℕ) → core ≡ suc entry → HomeStartsFor self.old entry self.new result }
+        ensures sends { (entry : ℕ) (op : GhostOp) → HasWaiting self.old.core core entry op → outgoing result.step (core0_place self.new.core) ≡ start_for_sends entry self.old.core op refusal }
     {
-        let Ok(told) = self.coordinator.start(alloc, &mut self.replica, op) else {
+        let Some(op) = self.core.coordinator.waiting(core) else {
             unreachable!()
         };
-        self.note(told.decided, copy);
+        let op = Snapshot::of(op);
+        let told = self.core.begin_for(core, refusal);
+        self.note(op, told.step.decided);
         told
     }
 
     // Keeps the operation as begun, or enters it into the log where it is committed at once.
-    fn note(&mut self, decided: Option<Decision>, copy: Op)
-        requires { vec_len self.old.log < vec_capacity self.old.log }
-        ensures log { self.new.log.items ≡ logged self.old.log.items copy decided }
-        ensures begun { self.new.begun ≡ begun_by self.old.begun copy decided }
-        ensures replica { self.new.replica ≡ self.old.replica }
-        ensures coordinator { self.new.coordinator ≡ self.old.coordinator }
-        ensures asker { self.new.asker ≡ self.old.asker }
-        ensures decided { self.new.decided ≡ self.old.decided }
+    fn note(&mut self, op: Snapshot<Op>, decided: Option<Decision>)
+        ensures log { self.new.log.items ≡ logged self.old.log.items op.value decided }
+        ensures begun { begun_op self.new.begun ≡ begun_by (begun_op self.old.begun) op.value decided }
+        ensures core { self.new.core ≡ self.old.core }
     {
         match decided {
-            None => self.begun = Some(copy),
-            Some(Decision::Committed { .. }) => self.log.push_reserved(copy),
+            None => self.begun = Some(op),
+            Some(Decision::Committed { .. }) => self.log = self.log.and(&op),
             Some(Decision::Refused { .. }) => {}
         }
     }
 
-    /// Why it refuses an operation, if it does, as far as can be known before it stages it.
-    pub(crate) fn refusal(&self, alloc: Global, op: &Op) -> Result<Option<Veto>, AllocError>
-        requires { self.now.replica.staged ≡ None }
-        ensures { IfOk result (Foretells self.now.replica.shown self.now.replica.budget op.now) }
-    {
-        match self.replica.check(alloc, op) {
-            Ok(()) => Ok(None),
-            Err(StageFault::Rule(fault)) => Ok(Some(Veto::Rule(fault))),
-            Err(StageFault::Budget) => Ok(Some(Veto::Budget)),
-            Err(StageFault::NoMemory | StageFault::AlreadyStaged) => Err(AllocError),
-        }
-    }
-
-    /// Starts the operation that the core has waiting, of which this is a copy. There are other cores.
-    pub(crate) fn start_for(&mut self, alloc: Global, core: u16, copy: Op) -> Step
+    /// Takes a message that core 0 waits for.
+    pub(crate) fn take(&mut self, from: u16, message: Message) -> Told
         requires kept { HomeIsKept self.old }
-        requires can { CanStart (home_place self.old) }
-        requires others { 0 < self.old.coordinator.others }
-        requires waits { (entry : ℕ) × (core ≡ suc entry) × (slice_get self.old.coordinator.requests.waiting entry ≡ Some (Some copy)) }
-        ensures { (entry : ℕ) → core ≡ suc entry → HomeStartsFor self.old entry copy self.new result }
+        requires expects { (entry : ℕ) × (from ≡ suc entry) × Expects (core0_place self.old.core) self.old.core.coordinator.requests entry message }
+        ensures { HomeTakes self.old from message self.new result }
     {
-        let Ok(told) = self.coordinator.start_for(alloc, &mut self.replica, core) else {
+        let Ok(told) = self.core.take(from, message) else {
             unreachable!()
         };
-        self.note_for(core, told.decided, copy);
+        self.enter(told.step.decided);
         told
     }
 
-    // Keeps the operation as begun for the core, unless it is decided at once.
-    fn note_for(&mut self, core: u16, decided: Option<Decision>, copy: Op)
-        ensures begun { self.new.begun ≡ begun_by self.old.begun copy decided }
-        ensures asker { self.new.asker ≡ asker_after core decided }
-        ensures decided { self.new.decided ≡ None }
-        ensures log { self.new.log ≡ self.old.log }
-        ensures replica { self.new.replica ≡ self.old.replica }
-        ensures coordinator { self.new.coordinator ≡ self.old.coordinator }
-    {
-        self.decided = None;
-        match decided {
-            None => {
-                self.begun = Some(copy);
-                self.asker = Some(core);
-            }
-            Some(_) => self.asker = None,
-        }
-    }
-
-    /// Takes a vote. There is room in the log.
-    pub(crate) fn vote(&mut self, core: u16, txn: u64, vote: Vote) -> Step
-        requires kept { HomeIsKept self.old }
-        requires awaits { AwaitsVote self.old.coordinator core txn }
-        requires room { vec_len self.old.log < vec_capacity self.old.log }
-        ensures { (entry : ℕ) → core ≡ suc entry → HomeHears self.old entry txn vote self.new result }
-    {
-        let Ok(told) = self.coordinator.vote(&mut self.replica, core, txn, vote) else {
-            unreachable!()
-        };
-        self.enter(told.decided);
-        told
-    }
-
-    // Keeps the decision, and enters the operation under way into the log where it is committed.
+    // Enters the operation under vote into the log where it is committed.
     fn enter(&mut self, decided: Option<Decision>)
-        requires { vec_len self.old.log < vec_capacity self.old.log }
-        ensures log { self.new.log.items ≡ entered self.old.log.items self.old.begun decided }
-        ensures begun { self.new.begun ≡ still_begun self.old.begun decided }
-        ensures decided { self.new.decided ≡ decided }
-        ensures asker { self.new.asker ≡ self.old.asker }
-        ensures replica { self.new.replica ≡ self.old.replica }
-        ensures coordinator { self.new.coordinator ≡ self.old.coordinator }
+        ensures log { self.new.log.items ≡ entered self.old.log.items (begun_op self.old.begun) decided }
+        ensures begun { begun_op self.new.begun ≡ still_begun (begun_op self.old.begun) decided }
+        ensures core { self.new.core ≡ self.old.core }
     {
-        self.decided = decided;
         let Some(decision) = decided else {
             return;
         };
-        let begun = self.begun.take();
-        if let (Decision::Committed { .. }, Some(op)) = (decision, begun) {
-            self.log.push_reserved(op);
+        if let (Decision::Committed { .. }, Some(op)) = (decision, &self.begun) {
+            self.log = self.log.and(op);
         }
-    }
-
-    /// Takes an acknowledgement.
-    pub(crate) fn ack(&mut self, core: u16, txn: u64) -> Step
-        requires kept { HomeIsKept self.old }
-        requires awaits { AwaitsAck (coordinator_place self.old.coordinator None) core txn }
-        ensures { (entry : ℕ) → core ≡ suc entry → HomeHearsAck self.old entry txn self.new result }
-    {
-        let Ok(told) = self.coordinator.ack(core, txn) else {
-            unreachable!()
-        };
-        if self.coordinator.idle() {
-            self.asker = None;
-            self.decided = None;
-        }
-        told
+        self.begun = None;
     }
 }

@@ -11,7 +11,10 @@ mod hearing;
 mod home;
 mod peer;
 #[cfg(test)]
+mod pieces;
+#[cfg(test)]
 mod refused_growths;
+mod sending;
 mod settling;
 #[cfg(test)]
 mod sights;

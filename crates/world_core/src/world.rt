@@ -11,13 +11,14 @@ use crate::hearing::hear;
 use crate::home::Home;
 use crate::peer::{Peer, submit_at, take_at};
 use crate::starting::{begin, begin_for};
+use core_steps::receive;
 use monitor_2pc::Message;
 use pcap_reader::Packet;
 use std::alloc::{AllocError, Global};
 use std::marker::Model;
 use table_replica::{Op, Replica};
 use world_channels::{Channel, Messages};
-use world_model::{Answer, Event, KeptList};
+use world_model::{Answer, Event};
 
 /// The most cores.
 const CORES: usize = 8;
@@ -28,7 +29,7 @@ const CORES: usize = 8;
 pub struct WorldOver<C: Channel> {
     alloc: Global,
     home: Home,
-    peers: Vec<Peer<C>>,
+    pub(crate) peers: Vec<Peer<C>>,
 }
 
 /// The world over channels that keep messages.
@@ -95,10 +96,10 @@ impl<C: Channel> WorldOver<C> {
         ensures reached { (budget : ℕ) × (budgets : List ℕ) × Reached budget budgets self.now }
     {
         if core == 0 {
-            return Some(&self.home.replica);
+            return Some(&self.home.core.replica);
         }
         match peer_at(&self.peers, usize::from(core) - 1) {
-            Some(peer) => Some(&peer.replica),
+            Some(peer) => Some(&peer.core.replica),
             None => None,
         }
     }
@@ -108,7 +109,7 @@ impl<C: Channel> WorldOver<C> {
         ensures some { IfSome result (λ op. waiting_at self.now core ≡ Some op.now) }
         ensures none { IfNone result (waiting_at self.now core ≡ None) }
     {
-        self.home.coordinator.waiting(core)
+        self.home.core.coordinator.waiting(core)
     }
 
     /// Does one event, and answers what its core tells. A fault changes nothing.
@@ -167,10 +168,10 @@ impl<C: Channel> WorldOver<C> {
         ensures fault { IfErr result (WorldRefuses self.old (Start op.now)) }
         ensures same { OnErr result (self.new ≡ self.old) }
     {
-        if !self.home.coordinator.idle() {
+        if !self.home.core.coordinator.idle() {
             return Err(WorldFault::NotIdle);
         }
-        if self.home.coordinator.last() == u64::MAX {
+        if self.home.core.coordinator.last() == u64::MAX {
             return Err(WorldFault::Spent);
         }
         Ok(begin(&mut self.home, &mut self.peers, self.alloc, op)?)
@@ -185,10 +186,10 @@ impl<C: Channel> WorldOver<C> {
         if core == 0 || usize::from(core) > self.peers.len() {
             return Err(WorldFault::NoSuchCore);
         }
-        if !self.home.coordinator.idle() {
+        if !self.home.core.coordinator.idle() {
             return Err(WorldFault::NotIdle);
         }
-        if self.home.coordinator.last() == u64::MAX {
+        if self.home.core.coordinator.last() == u64::MAX {
             return Err(WorldFault::Spent);
         }
         begin_for(&mut self.home, &mut self.peers, self.alloc, core)
@@ -202,16 +203,10 @@ impl<C: Channel> WorldOver<C> {
         let Some(replica) = self.replica(core) else {
             return Err(WorldFault::NoSuchCore);
         };
-        let version = replica.version();
-        if version < floor {
+        if replica.version() < floor {
             return Err(WorldFault::NotReady);
         }
-        let bytes = packet.bytes.as_slice();
-        let kept = replica.accepting(self.alloc, bytes, packet.original)?;
-        Ok(Answer::Delivered {
-            version,
-            kept: KeptList::from_vec(kept),
-        })
+        Ok(receive(replica, self.alloc, packet)?)
     }
 
     // Another core than core 0 submits a request.

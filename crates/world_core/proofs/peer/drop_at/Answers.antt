@@ -8,5 +8,5 @@ returns g c = record {
   there = slice_get-get_or c.args.peers.now c.args.entry c.index-peers-entry.result c.requires;
   after = _;
   changed = refl;
-  related = record { replica = refl; participant = refl; down = refl; up = c.drop_first.ensures };
+  related = record { core = refl; down = refl; up = c.drop_first.ensures };
 }

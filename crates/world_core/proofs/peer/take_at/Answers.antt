@@ -11,5 +11,5 @@ returns g c = record {
   there = slice_get-get_or c.args.peers.now c.args.entry c.index-peers-entry.result c.requires.inside;
   after = c.take.new.self;
   changed = refl;
-  related = record { done = c.take.ensures.takes; fault = c.take.ensures.fault; same = c.take.ensures.same; same_replica = c.take.ensures.same_replica; staged = c.take.ensures.now_staged };
+  related = record { done = c.take.ensures.takes; fault = c.take.ensures.fault; same = c.take.ensures.same; same_core = c.take.ensures.same_core; between = c.take.ensures.now_between };
 }

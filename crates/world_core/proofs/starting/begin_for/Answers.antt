@@ -1,45 +1,54 @@
-use Rattle.std.proofs.Common.{◌≡◌, ◌-◌, ◌<◌, suc, refl, arith, subst, sym}
-use Rattle.world_model.specs.declared.event.Answer.{Answer}
-use Rattle.world_model.specs.declared.event.Event.TheVariants.{StartFor}
-use Rattle.world_model.specs.Worlds as worlds
-use Rattle.world_core.specs.Keeping.{SameHome, seen_world}
-use Rattle.world_core.proofs.Begin.{readied_kept, readied_same, on_err}
-use Rattle.world_core.proofs.Asking.{undecided, start_for_done}
+use Rattle.std.proofs.Common.{◌≡◌, ◌∙◌, sym, subst}
+use Rattle.core_steps.specs.declared.core0.Core0.{Core0}
+use Rattle.core_steps.specs.Core0Steps.{core0_place, HasWaiting}
+use Rattle.world_model.specs.Cases.{outgoing}
+use Rattle.world_core.specs.Homes.{HomeStartsFor}
+use Rattle.world_core.specs.Sending.{SentOut}
+use Rattle.world_core.proofs.Begin.{readied_same, readied_kept, none_staged, withdrawn, start_for_done}
 use Rattle.world_core.proofs.starting.begin_for.Goals as goal
 
-pub returns-in_err-ready-clause-same : goal.returns-in_err-ready-clause-same
-returns-in_err-ready-clause-same g c = on_err c.from_residual-in_err-ready.result _
-    (readied_same g.C.Channel.messages c.args.home.now c.args.home.now c.args.peers.now c.prepare_start_for.new.peers (record { log = refl; replica = refl; coordinator = refl; begun = refl; asker = refl; decided = refl }) c.prepare_start_for.ensures.peers)
+pub returns-in_default-ready_start_for-clause-same : goal.returns-in_default-ready_start_for-clause-same
+returns-in_default-ready_start_for-clause-same g c =
+    let home = c.args.home.now in
+    let back : c.withdraw.new.self ≡ home.core = c.withdraw.ensures ∙ withdrawn home c.stage_for.new.self c.stage_for.new.self.replica.staged (none_staged home c.requires.kept.home_kept c.requires.can) c.stage_for.ensures.same in
+    rw back (readied_same g.C.Channel.messages home c.args.peers.now c.ready_start_for.new.peers c.ready_start_for.ensures.peers)
 
-pub returns-in_err-ready-clause-kept : goal.returns-in_err-ready-clause-kept
-returns-in_err-ready-clause-kept g c =
-    readied_kept g.C.Channel.messages c.args.home.now c.args.home.now c.args.peers.now c.prepare_start_for.new.peers (record { log = refl; replica = refl; coordinator = refl; begun = refl; asker = refl; decided = refl }) c.prepare_start_for.ensures.peers c.requires.kept
+pub returns-in_default-ready_start_for-clause-kept : goal.returns-in_default-ready_start_for-clause-kept
+returns-in_default-ready_start_for-clause-kept g c =
+    let home = c.args.home.now in
+    let back : c.withdraw.new.self ≡ home.core = c.withdraw.ensures ∙ withdrawn home c.stage_for.new.self c.stage_for.new.self.replica.staged (none_staged home c.requires.kept.home_kept c.requires.can) c.stage_for.ensures.same in
+    rw back (readied_kept g.C.Channel.messages home c.args.peers.now c.ready_start_for.new.peers c.ready_start_for.ensures.peers c.requires.kept)
 
-pub tell_start-requires-clause-room : goal.tell_start-requires-clause-room
-tell_start-requires-clause-room g c = λ none.
-    let core_is : c.args.core ≡ suc (c.from-entry.result - 1) = omega (arith, c.from-entry.ensures, c.requires.other) in
-    let ready = c.in_ok-ready.ensures.prepared in
-    ready.room (undecided g.C.Channel.spare g.C.Channel.made_for c.args.home.now c.start_for-told.new.self c.prepare_start_for.new.peers (c.from-entry.result - 1) _ c.start_for-told.result c.in_ok-ready.ready (c.start_for-told.ensures (c.from-entry.result - 1) core_is) ready none)
+pub send-requires : goal.send-requires
+send-requires g c =
+    let home = c.args.home.now in
+    let tried = c.in-Some.ensures.tried in
+    let waits : HasWaiting c.stage_for.new.self c.args.core tried.0 tried.1 = subst (λ (core : Core0). HasWaiting core c.args.core tried.0 tried.1) (sym c.stage_for.ensures.same) (record { is_core = tried.2.is_core; is_waiting = tried.2.is_waiting }) in
+    let ready = c.in-Ok.ensures.ready tried.0 tried.1 waits in
+    ready.room
 
-pub tell_start-requires-clause-count : goal.tell_start-requires-clause-count
-tell_start-requires-clause-count g c = λ none.
-    let core_is : c.args.core ≡ suc (c.from-entry.result - 1) = omega (arith, c.from-entry.ensures, c.requires.other) in
-    let ready = c.in_ok-ready.ensures.prepared in
-    ready.count (undecided g.C.Channel.spare g.C.Channel.made_for c.args.home.now c.start_for-told.new.self c.prepare_start_for.new.peers (c.from-entry.result - 1) _ c.start_for-told.result c.in_ok-ready.ready (c.start_for-told.ensures (c.from-entry.result - 1) core_is) ready none)
+pub returns-clause-happens : goal.returns-clause-happens
+returns-clause-happens g c =
+    let home = c.args.home.now in
+    let tried = c.in-Some.ensures.tried in
+    let waits : HasWaiting c.stage_for.new.self c.args.core tried.0 tried.1 = subst (λ (core : Core0). HasWaiting core c.args.core tried.0 tried.1) (sym c.stage_for.ensures.same) (record { is_core = tried.2.is_core; is_waiting = tried.2.is_waiting }) in
+    let ready = c.in-Ok.ensures.ready tried.0 tried.1 waits in
+    let starts = subst (λ (core : Core0). HomeStartsFor (record home { core = core }) tried.0 c.begin_for-told.new.self c.begin_for-told.result) c.stage_for.ensures.same (c.begin_for-told.ensures.starts tried.0 tried.2.is_core) in
+    let sent : SentOut g.C.Channel.messages c.ready_start_for.new.peers (outgoing c.begin_for-told.result.step (core0_place c.begin_for-told.new.self.core)) c.send.new.peers =
+    rw (c.begin_for-told.ensures.sends tried.0 tried.1 waits) (c.send.ensures _ ready.is_made) in
+    let done = start_for_done g.C.Channel.messages home c.begin_for-told.new.self c.args.peers.now c.ready_start_for.new.peers c.send.new.peers c.args.core tried.0 c.stage_for.new.self.replica.staged c.begin_for-told.result
+    c.requires.kept c.requires.can tried.2.is_core c.ready_start_for.ensures.peers starts sent in
+    done.happens
 
-pub returns : goal.returns
-returns g c =
-    let core_is : c.args.core ≡ suc (c.from-entry.result - 1) = omega (arith, c.from-entry.ensures, c.requires.other) in
-    let same_home : SameHome c.args.home.now c.args.home.now = record { log = refl; replica = refl; coordinator = refl; begun = refl; asker = refl; decided = refl } in
-    let kept = readied_kept g.C.Channel.messages c.args.home.now c.args.home.now c.args.peers.now c.prepare_start_for.new.peers same_home c.prepare_start_for.ensures.peers c.requires.kept in
-    let same = readied_same g.C.Channel.messages c.args.home.now c.args.home.now c.args.peers.now c.prepare_start_for.new.peers same_home c.prepare_start_for.ensures.peers in
-    let some : 0 < c.args.home.now.coordinator.others = omega (arith, c.requires.kept.others, c.requires.inside, c.requires.other) in
-    let done = start_for_done g.C.Channel.messages g.C.Channel.made_for g.C.Channel.spare c.args.home.now c.start_for-told.new.self c.prepare_start_for.new.peers c.tell_start.new.peers (seen_world g.C.Channel.messages c.args.home.now c.args.peers.now) c.args.core (c.from-entry.result - 1) _
-    c.start_for-told.result c.in_ok-ready.ready kept same core_is c.requires.can some (c.start_for-told.ensures (c.from-entry.result - 1) core_is) c.in_ok-ready.ensures.prepared
-    (record { asked = c.tell_start.ensures.asked; no_memory = c.tell_start.ensures.no_memory; refused = c.tell_start.ensures.refused }) in
-    record {
-      happens = subst (λ (a : Answer). worlds.Happens (seen_world g.C.Channel.messages c.args.home.now c.args.peers.now) (StartFor c.args.core) (seen_world g.C.Channel.messages c.start_for-told.new.self c.tell_start.new.peers) a) (sym c.answer_to_start.ensures) done.happens;
-      fault = tt;
-      same = tt;
-      kept = done.kept;
-    }
+pub returns-clause-kept : goal.returns-clause-kept
+returns-clause-kept g c =
+    let home = c.args.home.now in
+    let tried = c.in-Some.ensures.tried in
+    let waits : HasWaiting c.stage_for.new.self c.args.core tried.0 tried.1 = subst (λ (core : Core0). HasWaiting core c.args.core tried.0 tried.1) (sym c.stage_for.ensures.same) (record { is_core = tried.2.is_core; is_waiting = tried.2.is_waiting }) in
+    let ready = c.in-Ok.ensures.ready tried.0 tried.1 waits in
+    let starts = subst (λ (core : Core0). HomeStartsFor (record home { core = core }) tried.0 c.begin_for-told.new.self c.begin_for-told.result) c.stage_for.ensures.same (c.begin_for-told.ensures.starts tried.0 tried.2.is_core) in
+    let sent : SentOut g.C.Channel.messages c.ready_start_for.new.peers (outgoing c.begin_for-told.result.step (core0_place c.begin_for-told.new.self.core)) c.send.new.peers =
+    rw (c.begin_for-told.ensures.sends tried.0 tried.1 waits) (c.send.ensures _ ready.is_made) in
+    let done = start_for_done g.C.Channel.messages home c.begin_for-told.new.self c.args.peers.now c.ready_start_for.new.peers c.send.new.peers c.args.core tried.0 c.stage_for.new.self.replica.staged c.begin_for-told.result
+    c.requires.kept c.requires.can tried.2.is_core c.ready_start_for.ensures.peers starts sent in
+    done.kept

@@ -1,23 +1,38 @@
-use Rattle.std.proofs.Common.{◌≡◌, ◌+◌, None, sym, ap, ◌∙◌}
+use Rattle.std.proofs.Common.{rules, ◌≡◌, ◌+◌, ℕ, List, Option, None, Some, length, replicate, refl, sym, ap, ◌∙◌}
+use Rattle.std.specs.List.{refill}
+use Rattle.std.proofs.lemmas.List.{length-replicate}
+use Rattle.monitor_messages.specs.declared.message.Vote.{Vote}
 use Rattle.std.proofs.lemmas.Bool.{eqb-true}
-use Rattle.monitor_2pc.specs.Coordinators.{Phase, Idle, CoordinatorState, coordinator_place}
+use Rattle.monitor_2pc.specs.Coordinators.{Phase, Idle, CoordinatorState, coordinator_place, prepared, veto_of}
+use Rattle.monitor_2pc.specs.Starting.{WasStaged}
 use Rattle.monitor_2pc.specs.Waiting.{phase_of}
-use Rattle.monitor_2pc.proofs.Starts.{starts_refused, starts_alone, placed}
+use Rattle.monitor_2pc.proofs.Starts.{starts_refused, starts_alone, placed, refilled}
 use Rattle.monitor_2pc.proofs.coordinator.Coordinator.begin.Goals as goal
 
-pub returns-in-Err-clause-starts : goal.returns-in-Err-clause-starts
-returns-in-Err-clause-starts c = (
-  None,
-  starts_refused c.args.self.now.others c.args.replica.now.shown c.args.replica.now.budget c.args.op.now c.args.replica.now.staged c.in-Err.fault
-      (coordinator_place c.args.self.now c.args.replica.now.staged) (coordinator_place c.args.self.now c.stage.new.self.staged) c.veto_of.result c.self.inside.last
-      c.requires.staged c.in-Err.ensures.err (ap (coordinator_place c.args.self.now) c.in-Err.ensures.same) c.veto_of.ensures (ap (λ (o : CoordinatorState). o.last) c.self.view_is),
-  c.in-Err.ensures.shown,
-)
+pub returns-in-Some-clause-starts : goal.returns-in-Some-clause-starts
+returns-in-Some-clause-starts c = λ op was.
+    let w : WasStaged c.args.replica.now op (Some c.in-Some.fault) = rw c.in-Some.is at was in
+    let r = starts_refused c.args.self.now.others c.args.replica.now.shown c.args.replica.now.budget op None c.in-Some.fault
+    (coordinator_place c.args.self.now None) (coordinator_place c.args.self.now c.args.replica.now.staged) (veto_of c.in-Some.fault) c.self.inside.last
+    refl w.1 (ap (coordinator_place c.args.self.now) w.0) refl (ap (λ (o : CoordinatorState). o.last) c.self.view_is) in
+    (None, rw c.refused_step.ensures r, refl)
 
 pub returns-then-is_empty-clause-starts : goal.returns-then-is_empty-clause-starts
-returns-then-is_empty-clause-starts c =
+returns-then-is_empty-clause-starts c = λ op was.
+    let w : WasStaged c.args.replica.now op None = rw c.in_default.is at was in
     let idle : phase_of c.self.inside.wait c.self.inside.votes.items c.self.inside.acks.items ≡ Idle = ap (λ (o : CoordinatorState). o.phase) c.self.view_is ∙ c.requires.can.0 in
-    starts_alone c.args.self.now.others c.args.replica.now.shown c.args.replica.now.budget c.self.inside.last c.args.op.now
-    (coordinator_place c.args.self.now c.args.replica.now.staged) _ c.stage.new.self c.committed_step.new.replica c.committed_step.result
-    c.in_default.ensures.ok (sym (ap (λ (o : CoordinatorState). o.others) c.self.view_is) ∙ eqb-true _ 0 (sym c.if-is_empty.ensures)) c.in_default.ensures.shown c.in_default.ensures.now_staged
+    starts_alone c.args.self.now.others c.args.replica.now.shown c.args.replica.now.budget c.self.inside.last op
+    (coordinator_place c.args.self.now None) _ c.args.replica.now c.committed_step.new.replica c.committed_step.result
+    w.1 (sym (ap (λ (o : CoordinatorState). o.others) c.self.view_is) ∙ eqb-true _ 0 (sym c.if-is_empty.ensures)) refl w.0
     (ap (λ (o : CoordinatorState). o.last) c.self.view_is) (ap (λ (p : Phase). placed (c.self.inside.last + 1) p c.committed_step.new.replica.staged) idle) c.committed_step.ensures
+
+pub returns-clause-starts : goal.returns-clause-starts
+returns-clause-starts c = λ op was.
+    let w : WasStaged c.args.replica.now op None = rw c.in_default.is at was in
+    let on : c.args.replica.now.staged ≡ Some op = w.0 in
+    let last : c.self.inside.last ≡ c.args.self.now.last = ap (λ (o : CoordinatorState). o.last) c.self.view_is in
+    let many : length c.self.inside.votes.items ≡ c.args.self.now.others = c.self.invariant.0 ∙ ap (λ (o : CoordinatorState). o.others) c.self.view_is in
+    let opened : c.clear.new.votes ≡ replicate c.args.self.now.others None = c.clear.ensures ∙ (ap (λ (xs : List (Option Vote)). replicate (length xs) None) c.as_mut_slice.ensures.value ∙ ap (λ (n : ℕ). replicate n None) many) in
+    let full : refill (length c.self.inside.votes.items) c.self.inside.votes.items c.clear.new.votes ≡ replicate c.args.self.now.others None =
+    refilled c.self.inside.votes.items c.clear.new.votes (ap length opened ∙ (length-replicate c.args.self.now.others None ∙ sym many)) ∙ opened in
+    (None, prepared w.1 (search rules) (rw (full, last, on) refl) refl (rw last refl), refl)

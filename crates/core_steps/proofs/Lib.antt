@@ -1,0 +1,3 @@
+pub mod Codable
+pub mod Sending
+pub mod Taking

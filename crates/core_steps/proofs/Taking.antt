@@ -1,0 +1,56 @@
+-- How another core takes a message.
+use Rattle.std.proofs.Common.{◌≡◌, ◌∙◌, ℕ, Bool, false, Option, None, Some, Result, Ok, Err, refl, ap, subst}
+use Rattle.std.specs.Prelude.{IfOk, OnOk, OnErr}
+use Rattle.table_replica.specs.declared.Op.{Op}
+use Rattle.table_replica.specs.Tables.{State}
+use Rattle.table_replica.proofs.Tables.{version-after}
+use Rattle.monitor_messages.specs.declared.message.Message.{Message}
+use Rattle.monitor_messages.specs.declared.message.Message.TheVariants as message
+use Rattle.monitor_2pc.specs.declared.step.Stranger.{Stranger}
+use Rattle.monitor_2pc.specs.Places.{after_commit}
+use Rattle.monitor_2pc.specs.Participants.{ParticipantPlace, Answers, Fits}
+use Rattle.world_model.specs.declared.event.Answer.TheVariants.{TookCommit}
+use Rattle.world_model.specs.Cases.{raised}
+use Rattle.core_steps.specs.declared.other_core.OtherCore.{OtherCore}
+use Rattle.core_steps.specs.OtherCoreSteps.{IsBetweenSteps, Considers, TakesDown, other_place}
+
+pub version_commit : (s : State) (o : Option Op) → (after_commit s o).version ≡ raised s.version o
+version_commit s None = refl
+version_commit s (Some op) = version-after s op
+
+-- Commit is answered the same whether memory is short or not
+commit_any : (short : Bool) (s : State) (b txn : ℕ) (place place' : ParticipantPlace) (reply : Message) → Answers false s b place (message.Commit txn) place' reply → Answers short s b place (message.Commit txn) place' reply
+commit_any short s b txn place place' (message.Ack n) a = a
+commit_any short s b txn place place' reply a = absurd a
+
+pub commit_taken : (short : Bool) (core : OtherCore) (m : Message) (reply : Option Message) (own own' : OtherCore) (txn version : ℕ) (r : Result Message Stranger) → m ≡ message.Commit txn → Considers short core m reply own
+    → IfOk r (Answers false own.replica.shown own.replica.budget (other_place own) (message.Commit txn) (other_place own'))
+    → OnOk r (own'.replica.shown ≡ after_commit own.replica.shown own.replica.staged) → own'.replica.budget ≡ own.replica.budget → IsBetweenSteps own' → own'.participant.outstanding ≡ own.participant.outstanding
+    → OnErr r (Fits own.replica.shown own.replica.budget (other_place own) (message.Commit txn) → ⊥) → version ≡ own'.replica.shown.version
+    → TakesDown short core m own' (TookCommit txn version)
+commit_taken short core m reply own own' txn version r is h answered shown budget between outstanding stranger numbered =
+    rw is (by_reply reply (subst (λ (x : Message). Considers short core x reply own) is h))
+  where
+    by_result : (r : Result Message Stranger) → own ≡ core → Fits own.replica.shown own.replica.budget (other_place own) (message.Commit txn) → IfOk r (Answers false own.replica.shown own.replica.budget (other_place own) (message.Commit txn) (other_place own'))
+        → OnOk r (own'.replica.shown ≡ after_commit own.replica.shown own.replica.staged) → OnErr r (Fits own.replica.shown own.replica.budget (other_place own) (message.Commit txn) → ⊥)
+        → TakesDown short own (message.Commit txn) own' (TookCommit txn version)
+    by_result (Ok sent) same fits a next strange = record {
+      committed = own.replica.staged;
+      here = record {
+        reply = sent;
+        answers = commit_any short own.replica.shown own.replica.budget txn (other_place own) (other_place own') sent a;
+        same_outstanding = outstanding;
+        is_committed = refl;
+        is_answer = ap (TookCommit txn) (numbered ∙ (ap (λ (s : State). s.version) next ∙ version_commit own.replica.shown own.replica.staged));
+      };
+      shown_next = next;
+      same_budget = budget;
+      between = between;
+    }
+    by_result (Err e) same fits a next strange = absurd (strange fits)
+
+    by_reply : (reply : Option Message) → Considers short core (message.Commit txn) reply own → TakesDown short core (message.Commit txn) own' (TookCommit txn version)
+    by_reply (Some (message.Ack n)) x =
+        let fits : Fits own.replica.shown own.replica.budget (other_place own) (message.Commit txn) = rw (x.2) (x.0, x.1) in
+        subst (λ (c : OtherCore). TakesDown short c (message.Commit txn) own' (TookCommit txn version)) (x.2) (by_result r (x.2) fits answered shown stranger)
+    by_reply other x = absurd x

@@ -1,0 +1,2 @@
+pub mod Core0Steps
+pub mod OtherCoreSteps

@@ -1,0 +1,60 @@
+-- What core 0 will say is what it says.
+use Rattle.std.proofs.Common.{◌≡◌, ◌≢◌, ◌<◌, ◌≤◌, ◌-◌, cond, ℕ, suc, Bool, true, false, Option, Some, None, List, [], ◌∷◌, length, slice_get, slice_set, refl, ap, subst, ◌∙◌, arith}
+use Rattle.std.specs.List.{list_all}
+use Rattle.table_replica.specs.declared.Op.{Op}
+use Rattle.table_replica.specs.Tables.{State}
+use Rattle.monitor_messages.specs.declared.message.Vote.{Vote}
+use Rattle.monitor_messages.specs.declared.message.Vote.TheVariants.{Yes}
+use Rattle.monitor_2pc.specs.declared.step.Say.{Say}
+use Rattle.monitor_2pc.specs.declared.step.Say.TheVariants.{Prepare, Commit, Abort}
+use Rattle.monitor_2pc.specs.declared.step.Step.{Step}
+use Rattle.monitor_2pc.specs.declared.coordinator.Wait.{Wait}
+use Rattle.monitor_2pc.specs.declared.coordinator.Wait.TheVariants.{Nothing, Votes, Acks}
+use Rattle.monitor_2pc.specs.Waiting.{phase_of}
+use Rattle.monitor_2pc.specs.Coordinators.{CoordinatorPlace, Requests, Idle, Voting, Acking, Tallies, waits, commits_all, aborts_all, HearsAck, reply_at, reply_of}
+use Rattle.monitor_2pc.specs.Tallying.{SaysOn}
+
+-- what is said on the first so many votes, of which none is missing
+abbrev pub SaysBelow : List (Option Vote) → ℕ → Say → Type 0
+SaysBelow votes n Commit = (k : ℕ) → k < n → slice_get votes k ≡ Some (Some Yes)
+SaysBelow votes n Abort = ((k : ℕ) × (v : Vote) × (slice_get votes k ≡ Some (Some v)) × (v ≢ Yes)) × ((k : ℕ) → k < n → slice_get votes k ≢ Some None)
+SaysBelow votes n Prepare = ⊥
+
+-- it is what is told once they are there
+pub says_told : (s : State) (last : ℕ) (op : Op) (votes : List (Option Vote)) (place : CoordinatorPlace) (committed : Option Op) (told : Step) (said : Option Say) → Tallies s last op votes place committed told → SaysOn votes said → told.say ≡ said
+says_told s last op votes place committed told None (waits i at p c t) h = ap (λ (x : Step). x.say) t
+says_told s last op votes place committed told None (commits_all all p c t) h = absurd (let e = all h.0 None h.1 in cc)
+says_told s last op votes place committed told None (aborts_all core against least full p c t) h = absurd (full h.0 h.1)
+says_told s last op votes place committed told (Some Commit) (waits i at p c t) h = absurd (let e = h i None at in cc)
+says_told s last op votes place committed told (Some Commit) (commits_all all p c t) h = ap (λ (x : Step). x.say) t
+says_told s last op votes place committed told (Some Commit) (aborts_all core against least full p c t) h = absurd (least.not_yes (let e = h least.entry (Some against) least.said in cc))
+says_told s last op votes place committed told (Some Abort) (waits i at p c t) h = absurd (h.1 i at)
+says_told s last op votes place committed told (Some Abort) (commits_all all p c t) h = absurd (h.0.3 (let e = all h.0.0 (Some h.0.1) h.0.2 in cc))
+says_told s last op votes place committed told (Some Abort) (aborts_all core against least full p c t) h = ap (λ (x : Step). x.say) t
+says_told s last op votes place committed told (Some Prepare) tallies h = absurd h
+
+pub votes_are : (wait : Wait) (votes vs : List (Option Vote)) (acks : List Bool) → phase_of wait votes acks ≡ Voting vs → votes ≡ vs
+votes_are Nothing votes vs acks e = absurd cc
+votes_are Votes votes vs acks e = cc
+votes_are Acks votes vs acks e = absurd cc
+
+pub acks_are : (wait : Wait) (votes : List (Option Vote)) (acks bs : List Bool) → phase_of wait votes acks ≡ Acking bs → acks ≡ bs
+acks_are Nothing votes acks bs e = absurd cc
+acks_are Votes votes acks bs e = absurd cc
+acks_are Acks votes acks bs e = cc
+
+-- all marks of a list are set
+pub all_set : (xs : List Bool) (n : ℕ) → length xs ≤ n → ((k : ℕ) → k < n → slice_get xs k ≢ Some false) → list_all (λ x. x) xs ≡ true
+all_set [] n long h = refl
+all_set (false ∷ xs) n long h = absurd (h 0 (omega arith) refl)
+all_set (true ∷ xs) n long h = all_set xs (n - 1) (omega arith) (λ k lt at. h (suc k) (omega arith) at)
+
+-- what an acknowledgement tells
+pub reply_told : (place : CoordinatorPlace) (requests : Requests) (entry txn : ℕ) (place' : CoordinatorPlace) (requests' : Requests) (told : Step) (acks : List Bool) (all : Bool) → (h : HearsAck place requests entry txn place' requests' told)
+    → acks ≡ h.acks → list_all (λ ack. ack) (slice_set acks entry true) ≡ all → told.reply ≡ cond all (reply_of requests.asker requests.decided) None
+reply_told place requests entry txn place' requests' told acks all h same is =
+    ap (λ (s : Step). s.reply) h.tells ∙ (ap (λ (p : CoordinatorPlace). reply_at p.phase requests) h.next ∙ by_all (list_all (λ ack. ack) (slice_set h.acks entry true)) (subst (λ (x : List Bool). list_all (λ ack. ack) (slice_set x entry true) ≡ all) same is))
+  where
+    by_all : (b : Bool) → b ≡ all → reply_at (cond b Idle (Acking (slice_set h.acks entry true))) requests ≡ cond all (reply_of requests.asker requests.decided) None
+    by_all true e = rw (← e) refl
+    by_all false e = rw (← e) refl

@@ -1,0 +1,83 @@
+-- What core 0 keeps with its steps.
+use Rattle.std.proofs.Common.{◌≡◌, ◌∙◌, ℕ, Option, None, Some, List, length, slice_get, slice_set, refl, ap, sym}
+use Rattle.table_replica.specs.declared.Op.{Op}
+use Rattle.table_replica.specs.Tables.{State, table}
+use Rattle.table_replica.proofs.Tables.{table_next}
+use Rattle.monitor_messages.specs.declared.message.Vote.{Vote}
+use Rattle.monitor_messages.specs.declared.message.Message.{Message}
+use Rattle.monitor_messages.specs.declared.message.Message.TheVariants as message
+use Rattle.monitor_2pc.specs.declared.step.Step.{Step}
+use Rattle.monitor_2pc.specs.Places.{after_commit}
+use Rattle.monitor_2pc.specs.Coordinators.{CoordinatorPlace, Phase, Idle, Voting, Acking, Requests, StagedByPhase, refused, unstaged, alone, prepared, Tallies, waits, commits_all, aborts_all}
+use Rattle.monitor_2pc.specs.Coordinators as coordinators
+use Rattle.world_model.specs.declared.event.Answer.{Answer}
+use Rattle.world_model.specs.Cases.{joined, TakesUpAt}
+use Rattle.core_steps.specs.declared.core0.Told.{Told}
+use Rattle.core_steps.specs.Core0Steps.{Moves, Starts, StartsForCore, TakesUp, core0_place}
+use Rattle.world_core.specs.declared.home.Home.{Home}
+use Rattle.world_core.specs.Homes.{HomeIsKept, HomeIsIdle, HomeStarts, HomeStartsFor, HomeTakes, begun_op, logged, begun_by, entered, still_begun}
+
+-- the newest table once this is committed, if anything is
+pub table_joined : (log : List Op) (committed : Option Op) → after_commit (table log (length log)) committed ≡ table (joined log committed) (length (joined log committed))
+table_joined log None = refl
+table_joined log (Some op) = sym (table_next log op)
+
+-- where core 0 is idle, nothing is staged
+pub idle_staged : (phase : Phase) (staged : Option Op) → phase ≡ Idle → StagedByPhase phase staged → staged ≡ None
+idle_staged Idle staged e h = h
+idle_staged (Voting votes) staged e h = absurd cc
+idle_staged (Acking acks) staged e h = absurd cc
+
+home_kept : (home home' : Home) (committed : Option Op) → home.core.replica.shown ≡ table home.log.items (length home.log.items) → Moves home.core committed home'.core → home'.log.items ≡ joined home.log.items committed → begun_op home'.begun ≡ home'.core.replica.staged → HomeIsKept home'
+home_kept home home' committed shown m log begun = record {
+  shown = m.shown_next ∙ (ap (λ (s : State). after_commit s committed) shown ∙ (table_joined home.log.items committed ∙ ap (λ (l : List Op). table l (length l)) (sym log)));
+  between = m.between;
+  begun = begun;
+}
+
+-- A start
+
+-- what is noted is what is committed and what is staged
+noted : (others : ℕ) (s : State) (b : ℕ) (place place' : CoordinatorPlace) (op : Op) (committed : Option Op) (told : Step) (log : List Op) (begun : Option Op) → begun ≡ None → place.staged ≡ None → coordinators.Starts others s b place op place' committed told
+    → (logged log op told.decided ≡ joined log committed) × (begun_by begun op told.decided ≡ place'.staged)
+noted others s b place place' op committed told log begun none staged (refused f a p c t) = rw (c, t) (refl, none ∙ sym (ap (λ (x : CoordinatorPlace). x.staged) p ∙ staged))
+noted others s b place place' op committed told log begun none staged (unstaged f p c t) = rw (c, t) (refl, none ∙ sym (ap (λ (x : CoordinatorPlace). x.staged) p ∙ staged))
+noted others s b place place' op committed told log begun none staged (alone a n p c t) = rw (c, t) (refl, none ∙ sym (ap (λ (x : CoordinatorPlace). x.staged) p))
+noted others s b place place' op committed told log begun none staged (prepared a n p c t) = rw (c, t) (refl, sym (ap (λ (x : CoordinatorPlace). x.staged) p))
+
+pub home_starts : (home home' : Home) (op : Op) (told : Told) → HomeIsIdle home → Starts home.core op home'.core told → home'.log.items ≡ logged home.log.items op told.step.decided → begun_op home'.begun ≡ begun_by (begun_op home.begun) op told.step.decided → HomeStarts home op home' told
+home_starts home home' op told idle s log begun =
+    let n = noted _ _ _ _ (core0_place home'.core) op s.committed told.step home.log.items (begun_op home.begun) idle.none_begun refl s.here.starts in
+    record { starts = s; log_next = log ∙ n.0; kept = home_kept home home' s.committed idle.shown s.moves (log ∙ n.0) (begun ∙ n.1) }
+
+pub home_starts_for : (home home' : Home) (entry : ℕ) (op : Op) (told : Told) → HomeIsIdle home → (s : StartsForCore home.core entry home'.core told) → slice_get home.core.coordinator.requests.waiting entry ≡ Some (Some op) → home'.log.items ≡ logged home.log.items op told.step.decided → begun_op home'.begun ≡ begun_by (begun_op home.begun) op told.step.decided → HomeStartsFor home entry home' told
+home_starts_for home home' entry op told idle s there log begun =
+    let f = s.here.starts in
+    let is_op : f.op ≡ op = (let x = f.is_waiting in let y = there in cc) in
+    let same : told.step.decided ≡ f.begun.decided = ap (λ (x : Step). x.decided) f.tells in
+    let n = noted _ _ _ _ (core0_place home'.core) f.op s.committed f.begun home.log.items (begun_op home.begun) idle.none_begun refl f.starts in
+    let log_next : home'.log.items ≡ joined home.log.items s.committed = log ∙ (rw (same, ← is_op) n.0) in
+    record { starts = s; log_next = log_next; kept = home_kept home home' s.committed idle.shown s.moves log_next (begun ∙ (rw (same, ← is_op) n.1)) }
+
+-- A message
+
+-- what is entered and what is still begun are what is committed and what is staged
+heard : (s : State) (last : ℕ) (op : Op) (votes : List (Option Vote)) (place' : CoordinatorPlace) (committed : Option Op) (told : Step) (log : List Op) (begun : Option Op) → begun ≡ Some op → Tallies s last op votes place' committed told → (entered log begun told.decided ≡ joined log committed) × (still_begun begun told.decided ≡ place'.staged)
+heard s last op votes place' committed told log begun is (waits i at p c t) = rw (c, t, p) (refl, is)
+heard s last op votes place' committed told log begun is (commits_all all p c t) = rw (c, t, p, is) (refl, refl)
+heard s last op votes place' committed told log begun is (aborts_all core against least all p c t) = rw (c, t, p) (refl, refl)
+
+taken : (s : State) (place : CoordinatorPlace) (requests : Requests) (entry : ℕ) (m : Message) (place' : CoordinatorPlace) (requests' : Requests) (committed : Option Op) (told : Step) (answer : Answer) (log : List Op) (begun : Option Op) → begun ≡ place.staged → TakesUpAt s place requests entry m place' requests' committed told answer
+    → (entered log begun told.decided ≡ joined log committed) × (still_begun begun told.decided ≡ place'.staged)
+taken s place requests entry (message.Vote txn v) place' requests' committed told answer log begun is h = heard s txn h.hears.op (slice_set h.hears.votes entry (Some v)) place' committed told log begun (is ∙ h.hears.on_op) h.hears.tallies
+taken s place requests entry (message.Ack txn) place' requests' committed told answer log begun is h = rw (h.none_committed, h.hears.tells) (refl, is ∙ sym (ap (λ (x : CoordinatorPlace). x.staged) h.hears.next))
+taken s place requests entry (message.Submit op) place' requests' committed told answer log begun is h = rw (h.none_committed, h.tells) (refl, is ∙ sym (ap (λ (x : CoordinatorPlace). x.staged) h.same_place))
+taken s place requests entry (message.Prepare txn op) place' requests' committed told answer log begun is h = absurd h
+taken s place requests entry (message.Commit txn) place' requests' committed told answer log begun is h = absurd h
+taken s place requests entry (message.Abort txn) place' requests' committed told answer log begun is h = absurd h
+taken s place requests entry (message.Reply decision) place' requests' committed told answer log begun is h = absurd h
+
+pub home_takes : (home home' : Home) (from : ℕ) (m : Message) (told : Told) → HomeIsKept home → TakesUp home.core from m home'.core told → home'.log.items ≡ entered home.log.items (begun_op home.begun) told.step.decided → begun_op home'.begun ≡ still_begun (begun_op home.begun) told.step.decided → HomeTakes home from m home' told
+home_takes home home' from m told k t log begun =
+    let n = taken home.core.replica.shown (core0_place home.core) home.core.coordinator.requests t.entry m (core0_place home'.core) home'.core.coordinator.requests t.committed told.step told.answer home.log.items (begun_op home.begun) k.begun t.here in
+    record { takes = t; log_next = log ∙ n.0; kept = home_kept home home' t.committed k.shown t.moves (log ∙ n.0) (begun ∙ n.1) }
