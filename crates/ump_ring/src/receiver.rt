@@ -33,8 +33,9 @@ impl Receiver {
     ghost use Rattle.ump_ring.specs.Lending.{LendsLook, LendsTake};
     ghost use Rattle.ump_ring.specs.Receivers.{lines_received, messages_taken, message_kept, stopped, SameReceiver, message_last};
 
-    // The receiving end of a ring of which nothing was received.
-    pub(crate) fn new(consumer: Consumer<Line>, joiner: Joiner) -> Receiver
+    /// The receiving end over a ring's consumer of which nothing was received, whatever writes to the ring, with a
+    /// joiner that has read nothing. Takes no memory.
+    pub fn new(consumer: Consumer<Line>, joiner: Joiner) -> Receiver
         requires consumer { received consumer ≡ [] }
         requires joiner { AfterLines joiner [] }
         ensures ring { result.consumer ≡ consumer }
@@ -48,8 +49,10 @@ impl Receiver {
         }
     }
 
-    // Receives lines until a whole message is kept, or there are none.
-    fn pull(&mut self) -> Result<(), LineFault>
+    /// Receives lines until a whole message is kept, or there are none. After a fault every call answers the same. `pull` and
+    /// `shown` are `look` in two steps, for a type that holds the receiver and lends the message out of itself. Likewise
+    /// `pull`, `give_up` and `last` are `take`. Takes no memory.
+    pub fn pull(&mut self) -> Result<(), LineFault>
         ensures ring { SameReceiver self.old self.new }
         ensures lines { IsPrefix (lines_received self.old) (lines_received self.new) }
         ensures taken { messages_taken self.new ≡ messages_taken self.old }
@@ -76,8 +79,8 @@ impl Receiver {
         Ok(())
     }
 
-    // The message that is kept.
-    fn shown(&self) -> Option<&[u8]>
+    /// The message that is kept. Takes no memory.
+    pub fn shown(&self) -> Option<&[u8]>
         ensures kept { shown_items result ≡ message_kept self.now }
         ensures all { stopped self.now ≡ None → messages_taken self.now ++ shown_list (message_kept self.now) ≡ messages_in (lines_received self.now) }
     {
@@ -88,10 +91,12 @@ impl Receiver {
         }
     }
 
-    // Gives the kept message up, and says whether there was one. It stays in the joiner until the next line.
-    fn give_up(&mut self) -> bool
+    /// Gives the kept message up, and says whether there was one. `last` shows it until the next `pull`. Takes no
+    /// memory.
+    pub fn give_up(&mut self) -> bool
         ensures ring { SameReceiver self.old self.new }
         ensures lines { lines_received self.new ≡ lines_received self.old }
+        ensures some { IsTrue result → message_kept self.old ≢ None }
         ensures none { IsFalse result → message_kept self.old ≡ None }
         ensures kept { message_kept self.new ≡ None }
         ensures stopped { stopped self.new ≡ stopped self.old }
@@ -104,8 +109,8 @@ impl Receiver {
         kept
     }
 
-    // The message that was read last.
-    fn last(&self) -> Option<&[u8]>
+    /// The message that was read last. Takes no memory.
+    pub fn last(&self) -> Option<&[u8]>
         ensures { shown_items result ≡ message_last self.now }
     {
         self.joiner.message()
