@@ -1,0 +1,5 @@
+pub mod Places
+pub mod Steps
+pub mod RingPlaces
+pub mod Reading
+pub mod NewLists

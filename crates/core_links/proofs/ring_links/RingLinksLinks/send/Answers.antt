@@ -1,0 +1,7 @@
+use Rattle.std.proofs.Common.{rules, refl, sym, ◌∙◌, ◌≡◌, ◌<◌, None, Some, ℕ, arith}
+use Rattle.core_links.specs.Views.{GivenUp, Pulled, HandedOver}
+use Rattle.core_links.proofs.RingPlaces.{at_slot}
+use Rattle.core_links.proofs.ring_links.RingLinksLinks.send.Goals as goal
+
+pub returns-in-Some : goal.returns-in-Some
+returns-in-Some c = record { sent = at_slot c.args.self.now c.from-place.result c.args.peer _ c.in-Some.link c.send.new.self (λ v w. HandedOver v w c.args.message c.send.result) (search rules) (sym c.index_mut.ensures.value ∙ c.in-Some.is) (search rules) c.send.ensures.link c.send.ensures.sent }

@@ -1,0 +1,16 @@
+use Rattle.std.proofs.Common.{rules, refl, ◌∙◌, sym}
+use Rattle.core_links.specs.RingSlots.{ring_view, SameLinks}
+use Rattle.core_links.specs.RingLaws.{SameLinks-along}
+use Rattle.core_links.proofs.Steps.{taken_at}
+use Rattle.core_links.proofs.ring_links.RingLinksLinks.take.Goals as goal
+
+pub returns : goal.returns
+returns c = (
+  (
+    refl,
+    (λ _. tt),
+    taken_at SameLinks ring_view c.args.peer c.args.self.now c.pull.new.self c.give_up.new.self c.last.result SameLinks-along c.in_ok-pull.ensures.pulled c.give_up.ensures.given
+        (c.last.ensures ∙ c.if-not-give_up.ensures.last (search rules)),
+  ),
+  record { taken = tt },
+)

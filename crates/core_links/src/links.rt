@@ -1,0 +1,65 @@
+//! What a core asks of its links.
+
+use ump_ring::{Busy, LineFault};
+
+/// The links of a core to its peers, which are named by their numbers. No call takes memory. `look`, `take`, `pump` and a
+/// `send` to another peer leave a ready link ready.
+pub trait Links: Drop {
+    ghost use Rattle.std.specs.Prelude.{◌≡◌, ◌≢◌, ◌≤◌, [], ℕ, IsTrue, IsFalse, vec_len};
+    ghost use Rattle.std.specs.Borrow.{sem};
+    ghost use Rattle.ump_ring.specs.Joiners.{shown_items};
+    ghost use Rattle.core_links.specs.Views.{LinkView, first_of, AtPeer, Pulled, GivenUp, Looked, Took, HandedOver, Pumped, LeavesSo};
+
+    /// What was sent to a peer and taken from it.
+    ghost view: { Self → ℕ → LinkView };
+
+    /// The same links, before and after a call.
+    ghost same: { Self → Self → Type 0 };
+
+    /// Whether the link to a peer takes a message.
+    fn ready(&self, peer: u16) -> bool
+        ensures { result ≡ (view self.now peer).ready };
+
+    /// Takes in what has come from a peer until a whole message is kept. After a fault every call answers the same.
+    /// `pull` and `shown` are `look` in two steps, for a type that holds the links and reads the message while it asks
+    /// for more.
+    fn pull(&mut self, peer: u16) -> Result<(), LineFault>
+        ensures pulled { AtPeer same view peer (λ v w. Pulled v w result) self.old self.new };
+
+    /// The first message of a peer that is kept.
+    fn shown(&self, peer: u16) -> Option<&[u8]>
+        ensures { shown_items result ≡ first_of (view self.now peer).kept };
+
+    /// Gives up the first message of a peer that is kept, and says whether there was one. After `pull` this is `take`
+    /// without the message.
+    fn give_up(&mut self, peer: u16) -> bool
+        ensures given { AtPeer same view peer GivenUp self.old self.new }
+        ensures some { IsTrue result → (view self.old peer).kept ≢ [] }
+        ensures none { IsFalse result → (view self.old peer).kept ≡ [] };
+
+    /// Lends the first whole message of a peer, and keeps it. After a fault every call answers the same.
+    final fn look(&mut self, peer: u16) -> Result<Option<&[u8]>, LineFault>
+        ensures* looked { sem 𝓛 (LeavesSo Self.row self.entry (λ new. AtPeer same view peer (λ v w. Looked v w result) self.entry.now new)) }
+    {
+        self.pull(peer)?;
+        Ok(self.shown(peer))
+    }
+
+    /// Lends the first whole message of a peer, and gives it up. After a fault every call answers the same.
+    fn take(&mut self, peer: u16) -> Result<Option<&[u8]>, LineFault>
+        ensures* taken { sem 𝓛 (LeavesSo Self.row self.entry (λ new. AtPeer same view peer (λ v w. Took v w result) self.entry.now new)) };
+
+    /// Hands a message of 1 to 32,832 bytes over to be sent. A ready link takes it, and another hands it back.
+    fn send(&mut self, peer: u16, message: Vec<u8>) -> Result<(), Busy>
+        requires length { (1 ≤ vec_len message) × (vec_len message ≤ 32832) }
+        ensures sent { AtPeer same view peer (λ v w. HandedOver v w message result) self.old self.new };
+
+    /// Moves on what waits to be sent, as far as there is room.
+    fn pump(&mut self)
+        ensures links { same self.old self.new }
+        ensures pumped { (p : ℕ) → Pumped (view self.old p) (view self.new p) };
+
+    ghost same_itself: { (a : Self) → same a a };
+
+    ghost same_along: { (a b c : Self) → same a b → same b c → same a c };
+}
