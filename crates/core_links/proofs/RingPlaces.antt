@@ -1,5 +1,5 @@
 -- One ring link of several is changed.
-use Rattle.std.proofs.Common.{◌≡◌, ◌≢◌, ◌<◌, ℕ, List, Option, Some, None, length, slice_index_or, slice_set, refl, sym, ap, subst, ◌∙◌, ◌⊎◌, inl, inr}
+use Rattle.std.proofs.Common.{◌≡◌, ◌≢◌, ◌<◌, ℕ, zero, suc, List, [], ◌∷◌, arith, Option, Some, None, length, slice_index_or, slice_set, refl, sym, ap, subst, ◌∙◌, ◌⊎◌, inl, inr}
 use Rattle.std.proofs.lemmas.List.{get_or-set_same, get_or-set_other}
 use Rattle.std.specs.Vec.{with_item}
 use mathlib.Core.List.{IsPrefix}
@@ -7,7 +7,7 @@ use Rattle.core_links.specs.declared.ring_links.Link.{Link}
 use Rattle.core_links.specs.declared.ring_links.RingLinks.{RingLinks}
 use Rattle.core_links.specs.Views.{LinkView, AtPeer, IsSameView, Pumped}
 use Rattle.core_links.specs.Slots.{place_view}
-use Rattle.core_links.specs.RingSlots.{link_view, ring_view, SameLink, SameSlot, SameLinks}
+use Rattle.core_links.specs.RingSlots.{link_to, link_view, ring_view, SameLink, SameSlot, SameLinks, AreJoined, AreJoinedSlots}
 use Rattle.core_links.specs.RingLaws.{SameSlot-itself, SameSlot-along}
 use Rattle.core_links.proofs.Places.{same_or_not, any_default, changed, Changes}
 use Rattle.core_links.proofs.Steps.{same_view, pumped_itself, pumped_along}
@@ -58,3 +58,42 @@ pumped_more start xs i d b was lt moved p = by_place (same_or_not p i)
 
 pub still : (x : Option Link) → Both x x
 still x = (SameSlot-itself x, pumped_itself (place_view link_view x))
+
+-- joined links have places in both lists
+pub within_here : (xs : List (Option Link)) (i : ℕ) (y : Option Link) → AreJoinedSlots (slice_index_or xs i None) y → i < length xs
+within_here [] i y h = absurd h
+within_here (x ∷ xs) zero y h = omega arith
+within_here (x ∷ xs) (suc i) y h = let below : i < length xs = within_here xs i y h in omega (arith, below)
+
+pub within_there : (x : Option Link) (ys : List (Option Link)) (j : ℕ) → AreJoinedSlots x (slice_index_or ys j None) → j < length ys
+within_there None ys j h = absurd h
+within_there (Some a) [] j h = absurd h
+within_there (Some a) (y ∷ ys) zero h = omega arith
+within_there (Some a) (y ∷ ys) (suc j) h = let below : j < length ys = within_there (Some a) ys j h in omega (arith, below)
+
+-- the links that stand there are joined
+pub joined_there : (r s : RingLinks) (i j own other : ℕ) (d e : Option Link) (a b : Link) → AreJoinedSlots (link_to r other) (link_to s own) → i ≡ other → j ≡ own
+    → slice_index_or r.slots.items i d ≡ Some a → slice_index_or s.slots.items j e ≡ Some b → AreJoined a b
+joined_there r s i j own other d e a b joined i_is j_is at_i at_j =
+    let lt_i : i < length r.slots.items = subst (λ (n : ℕ). n < length r.slots.items) (sym i_is) (within_here r.slots.items other (link_to s own) joined) in
+    let lt_j : j < length s.slots.items = subst (λ (n : ℕ). n < length s.slots.items) (sym j_is) (within_there (link_to r other) s.slots.items own joined) in
+    let here : link_to r other ≡ Some a = ap (λ (n : ℕ). link_to r n) (sym i_is) ∙ any_default r.slots.items i None d lt_i ∙ at_i in
+    let there : link_to s own ≡ Some b = ap (λ (n : ℕ). link_to s n) (sym j_is) ∙ any_default s.slots.items j None e lt_j ∙ at_j in
+    subst (λ (y : Option Link). AreJoinedSlots (Some a) y) there (subst (λ (x : Option Link). AreJoinedSlots x (link_to s own)) here joined)
+
+-- one link stands at a place now
+abbrev pub with_link : RingLinks → ℕ → Link → RingLinks
+with_link old i b = record { own = old.own; slots = with_item old.slots i (Some b) }
+
+-- it was shown beside another: nothing has changed, and its view is the one of its place
+pub record StandsBeside (old : RingLinks) (i peer : ℕ) (b : Link) : Type 0 where
+  pub links : SameLinks old (with_link old i b)
+  pub views : (p : ℕ) → IsSameView (ring_view old p) (ring_view (with_link old i b) p)
+  pub view : ring_view (with_link old i b) peer ≡ link_view b
+
+pub stands_beside : (old : RingLinks) (i peer : ℕ) (d : Option Link) (a b : Link) → i ≡ peer → peer < length old.slots.items → slice_index_or old.slots.items i d ≡ Some a → SameLink a b
+    → IsSameView (link_view a) (link_view b) → StandsBeside old i peer b
+stands_beside old i peer d a b here below is same view =
+    let lt : i < length old.slots.items = subst (λ (n : ℕ). n < length old.slots.items) (sym here) below in
+    let at : AtPeer SameLinks ring_view peer IsSameView old (with_link old i b) = at_slot old i peer d a b IsSameView here is lt same view in
+    record { links = at.0; views = all_same old (with_link old i b) peer at; view = view_at old i peer b here lt }

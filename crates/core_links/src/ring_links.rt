@@ -63,12 +63,9 @@ impl RingLinks {
         ensures gave { IsPrefix (ring_view other.new (own_of self.new)).taken (ring_view self.new (own_of other.new)).sent }
     {
         let (place, back) = (usize::from(other.own), usize::from(self.own));
-        if place >= self.slots.len() || back >= other.slots.len() {
-            return;
-        }
         match (&mut self.slots[place], &mut other.slots[back]) {
             (Some(link), Some(its)) => link.beside(its),
-            _ => {}
+            _ => unreachable!(),
         }
     }
 

@@ -1,24 +1,37 @@
-use Rattle.std.proofs.Common.{rules, refl, ◌≡◌, ◌<◌, None, Some, ℕ, subst, sym, ◌∙◌}
-use mathlib.Core.List.{IsPrefix}
-use Rattle.core_links.specs.Views.{LinkView, IsSameView}
-use Rattle.core_links.proofs.RingPlaces.{at_slot, all_same, view_at, prefix_at}
+use Rattle.std.proofs.Common.{rules, ◌≡◌, ap, subst, sym, ◌∙◌}
+use Rattle.core_links.specs.Views.{LinkView}
+use Rattle.core_links.specs.RingSlots.{link_to}
+use Rattle.core_links.specs.declared.ring_links.RingLinks.{RingLinks}
+use Rattle.core_links.proofs.RingPlaces.{StandsBeside, stands_beside, prefix_at, within_here, within_there, joined_there}
 use Rattle.core_links.proofs.ring_links.RingLinks.beside.Goals as goal
 
-pub returns-in-Some-Some-clause-links : goal.returns-in-Some-Some-clause-links
-returns-in-Some-Some-clause-links c = (
-  (at_slot c.args.self.now c.from-place.result c.args.other.now.own _ c.in-Some-Some.link c.beside.new.self IsSameView (search rules) (sym c.index_mut.ensures.value ∙ c.in-Some-Some.is-0) (search rules) c.beside.ensures.links.0 c.beside.ensures.here).0,
-  (at_slot c.args.other.now c.from-back.result c.args.self.now.own _ c.in-Some-Some.its c.beside.new.other IsSameView (search rules) (sym c.index_mut-2.ensures.value ∙ c.in-Some-Some.is-1) (search rules) c.beside.ensures.links.1 c.beside.ensures.there).0,
-)
+pub beside-requires : goal.beside-requires
+beside-requires c =
+    joined_there c.args.self.now c.args.other.now c.from-place.result c.from-back.result c.args.self.now.own c.args.other.now.own _ _ c.in-Some-Some.link c.in-Some-Some.its c.requires (search rules)
+    (search rules) (sym c.index_mut.ensures.value ∙ c.in-Some-Some.is-0) (sym c.index_mut-2.ensures.value ∙ c.in-Some-Some.is-1)
 
-pub returns-in-Some-Some-clause-here : goal.returns-in-Some-Some-clause-here
-returns-in-Some-Some-clause-here c =
-    all_same _ _ c.args.other.now.own (at_slot c.args.self.now c.from-place.result c.args.other.now.own _ c.in-Some-Some.link c.beside.new.self IsSameView (search rules) (sym c.index_mut.ensures.value ∙ c.in-Some-Some.is-0) (search rules) c.beside.ensures.links.0 c.beside.ensures.here)
+here : (c : goal.After-other-1) → StandsBeside c.args.self.now c.from-place.result c.args.other.now.own c.beside.new.self
+here c = stands_beside c.args.self.now c.from-place.result c.args.other.now.own _ c.in-Some-Some.link c.beside.new.self (search rules) (within_here c.args.self.now.slots.items c.args.other.now.own _ c.requires)
+    (sym c.index_mut.ensures.value ∙ c.in-Some-Some.is-0) c.beside.ensures.links.0 c.beside.ensures.here
 
-pub returns-in-Some-Some-clause-there : goal.returns-in-Some-Some-clause-there
-returns-in-Some-Some-clause-there c =
-    all_same _ _ c.args.self.now.own (at_slot c.args.other.now c.from-back.result c.args.self.now.own _ c.in-Some-Some.its c.beside.new.other IsSameView (search rules) (sym c.index_mut-2.ensures.value ∙ c.in-Some-Some.is-1) (search rules) c.beside.ensures.links.1 c.beside.ensures.there)
+there : (c : goal.After-other-1) → StandsBeside c.args.other.now c.from-back.result c.args.self.now.own c.beside.new.other
+there c = stands_beside c.args.other.now c.from-back.result c.args.self.now.own _ c.in-Some-Some.its c.beside.new.other (search rules) (within_there (link_to c.args.self.now c.args.other.now.own) c.args.other.now.slots.items c.args.self.now.own c.requires)
+    (sym c.index_mut-2.ensures.value ∙ c.in-Some-Some.is-1) c.beside.ensures.links.1 c.beside.ensures.there
 
-pub returns-in-Some-Some-clause-gave : goal.returns-in-Some-Some-clause-gave
-returns-in-Some-Some-clause-gave c =
-    prefix_at (sym (view_at c.args.other.now c.from-back.result c.args.self.now.own c.beside.new.other (search rules) (search rules)))
-    (sym (view_at c.args.self.now c.from-place.result c.args.other.now.own c.beside.new.self (search rules) (search rules))) c.beside.ensures.gave
+pub returns-clause-links : goal.returns-clause-links
+returns-clause-links c = ((here c).links, (there c).links)
+
+pub returns-clause-here : goal.returns-clause-here
+returns-clause-here c = (here c).views
+
+pub returns-clause-there : goal.returns-clause-there
+returns-clause-there c = (there c).views
+
+pub returns-clause-sound : goal.returns-clause-sound
+returns-clause-sound c = (ap (λ (v : LinkView). v.stopped) (here c).view ∙ c.beside.ensures.sound.0, ap (λ (v : LinkView). v.stopped) (there c).view ∙ c.beside.ensures.sound.1)
+
+pub returns-clause-took : goal.returns-clause-took
+returns-clause-took c = prefix_at (sym (here c).view) (sym (there c).view) c.beside.ensures.took
+
+pub returns-clause-gave : goal.returns-clause-gave
+returns-clause-gave c = prefix_at (sym (there c).view) (sym (here c).view) c.beside.ensures.gave
