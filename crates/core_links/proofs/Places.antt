@@ -10,6 +10,12 @@ same_or_not zero (suc b) = inr (λ e. cc)
 same_or_not (suc a) zero = inr (λ e. cc)
 same_or_not (suc a) (suc b) = elim (same_or_not a b) [ inl e ↦ inl (ap suc e) | inr n ↦ inr (λ e. n (cc)) ]
 
+pub below_or_not : (a b : ℕ) → (a < b) ⊎ (b ≤ a)
+below_or_not zero zero = inr (omega arith)
+below_or_not zero (suc b) = inl (omega arith)
+below_or_not (suc a) zero = inr (omega arith)
+below_or_not (suc a) (suc b) = elim (below_or_not a b) [ inl h ↦ inl (omega (arith, h)) | inr h ↦ inr (omega (arith, h)) ]
+
 module _ {A : Type 0} where
   -- within a list, what is read past its end plays no part
   pub any_default : (xs : List A) (i : ℕ) (d e : A) → i < length xs → slice_index_or xs i d ≡ slice_index_or xs i e

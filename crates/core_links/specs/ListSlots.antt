@@ -52,13 +52,6 @@ send_capacity l peer = send_capacity_in (list_to l peer)
 abbrev pub give_capacity : ListLinks → ℕ → ℕ
 give_capacity l peer = give_capacity_in (list_to l peer)
 
--- a link over which nothing has gone, which takes so many messages each way
-pub record IsNewList (capacity : ℕ) (k : ListLink) : Type 0 where
-  pub sent : messages_of k.sent ≡ []
-  pub given : messages_of k.given ≡ []
-  pub send_capacity : capacity_of k.sent ≡ capacity
-  pub give_capacity : capacity_of k.given ≡ capacity
-
 -- the same link: what was given and what was collected stay, and so do the capacities
 pub record SameList (old new : ListLink) : Type 0 where
   pub given : messages_of new.given ≡ messages_of old.given
@@ -70,18 +63,20 @@ pub record SameList (old new : ListLink) : Type 0 where
 abbrev pub SameLists : ListLinks → ListLinks → Type 0
 SameLists old new = (peer : ℕ) → SamePlace SameList (list_to old peer) (list_to new peer)
 
--- the message is the last one that was given as the peer's. Nothing else has changed
+-- the message is the last one that was given as the peer's. What was sent and what was taken stay, and nothing else has changed
 pub record Gives (old new : ListLinks) (peer : ℕ) (message : List ℕ) : Type 0 where
   pub room : length (messages_given old peer) < give_capacity old peer
   pub view : list_view new peer ≡ record (list_view old peer) { kept = (list_view old peer).kept ++ message ∷ [] }
   pub collected : messages_collected new peer ≡ messages_collected old peer
   pub capacities : (send_capacity new peer ≡ send_capacity old peer) × (give_capacity new peer ≡ give_capacity old peer)
   pub others : (p : ℕ) → p ≢ peer → list_to new p ≡ list_to old p
+  pub sent : (p : ℕ) → (list_view new p).sent ≡ (list_view old p).sent
+  pub taken : (p : ℕ) → (list_view new p).taken ≡ (list_view old p).taken
 
 -- what is shown is the oldest message sent to the peer and not yet collected, if there is one, which is collected now. The core sees no change
 pub record Collects (old new : ListLinks) (peer : ℕ) (shown : Option (List ℕ)) : Type 0 where
   pub oldest : shown ≡ first_of (messages_uncollected old peer)
   pub collected : messages_collected new peer ≡ messages_collected old peer ++ shown_list shown
-  pub view : list_view new peer ≡ list_view old peer
   pub capacities : (send_capacity new peer ≡ send_capacity old peer) × (give_capacity new peer ≡ give_capacity old peer)
   pub others : (p : ℕ) → p ≢ peer → list_to new p ≡ list_to old p
+  pub views : (p : ℕ) → list_view new p ≡ list_view old p

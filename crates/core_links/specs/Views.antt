@@ -44,6 +44,13 @@ abbrev pub lent_list : Lent → List (List ℕ)
 lent_list (Ok shown) = shown_list (shown_items shown)
 lent_list (Err fault) = []
 
+-- nothing has gone over the link
+pub record IsFresh (v : LinkView) : Type 0 where
+  pub sent : v.sent ≡ []
+  pub taken : v.taken ≡ []
+  pub kept : v.kept ≡ []
+  pub stopped : v.stopped ≡ None
+
 -- nothing of the link has changed
 pub record IsSameView (v w : LinkView) : Type 0 where
   pub sent : w.sent ≡ v.sent

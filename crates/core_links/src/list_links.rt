@@ -24,11 +24,14 @@ pub struct ListLinks {
 }
 
 impl ListLink {
-    ghost use Rattle.std.specs.Prelude.{IfOk};
-    ghost use Rattle.core_links.specs.ListSlots.{IsNewList};
+    ghost use Rattle.std.specs.Prelude.{◌≡◌, [], IfOk};
+    ghost use Rattle.core_links.specs.Views.{IsFresh};
+    ghost use Rattle.core_links.specs.MessageLists.{read_of, capacity_of};
+    ghost use Rattle.core_links.specs.ListSlots.{list_link_view};
 
     fn new(alloc: Global, capacity: usize) -> Result<ListLink, AllocError>
-        ensures { IfOk result (IsNewList capacity) }
+        ensures fresh { IfOk result (λ k. IsFresh (list_link_view k) × (read_of k.sent ≡ [])) }
+        ensures capacity { IfOk result (λ k. (capacity_of k.sent ≡ capacity) × (capacity_of k.given ≡ capacity)) }
     {
         Ok(ListLink {
             sent: MessageList::new(alloc, capacity)?,
@@ -38,11 +41,11 @@ impl ListLink {
 }
 
 impl ListLinks {
-    ghost use Rattle.std.specs.Prelude.{◌≡◌, ◌≢◌, ◌<◌, ◌⊎◌, ℕ, length, IfOk, OnOk, IfErr, IsTrue, IsFalse, IsSomeAnd, None, Some, []};
+    ghost use Rattle.std.specs.Prelude.{◌≡◌, ◌≢◌, ◌<◌, ◌⊎◌, ℕ, length, IfOk, OnOk, IfErr, IsTrue, IsFalse, None, Some, []};
     ghost use Rattle.std.specs.Borrow.{sem};
     ghost use Rattle.ump_ring.specs.Joiners.{shown_items};
-    ghost use Rattle.core_links.specs.Views.{first_of, last_in, AtPeer};
-    ghost use Rattle.core_links.specs.ListSlots.{list_to, list_view, messages_given, messages_collected, messages_uncollected, give_capacity, IsNewList, SameLists, Gives, Collects};
+    ghost use Rattle.core_links.specs.Views.{first_of, last_in, AtPeer, IsFresh};
+    ghost use Rattle.core_links.specs.ListSlots.{list_to, list_view, messages_given, messages_collected, messages_uncollected, send_capacity, give_capacity, SameLists, Gives, Collects};
     ghost use Rattle.core_links.specs.ListLending.{LendsCollected};
 
     /// The links of core `own` to each other one of `cores` cores. The room for `capacity` messages sent to each peer, and
@@ -54,7 +57,8 @@ impl ListLinks {
         capacity: usize,
     ) -> Result<ListLinks, AllocError>
         requires { own < cores }
-        ensures peers { IfOk result (λ l. (p : ℕ) → p < cores → p ≢ own → IsSomeAnd (list_to l p) (IsNewList capacity)) }
+        ensures fresh { IfOk result (λ l. (p : ℕ) → IsFresh (list_view l p) × (messages_collected l p ≡ [])) }
+        ensures capacity { IfOk result (λ l. (p : ℕ) → p < cores → p ≢ own → (send_capacity l p ≡ capacity) × (give_capacity l p ≡ capacity)) }
         ensures none { IfOk result (λ l. (p : ℕ) → (cores ≤ p) ⊎ (p ≡ own) → list_to l p ≡ None) }
     {
         let mut slots = Vec::with_capacity(alloc, usize::from(cores))?;

@@ -25,7 +25,7 @@ impl MessageList {
 
     /// A list with no messages. The room for all is reserved here. The one error is that there is no memory.
     pub(crate) fn new(alloc: Global, capacity: usize) -> Result<MessageList, AllocError>
-        ensures { IfOk result (λ m. (messages_of m ≡ []) × (read_of m ≡ []) × (capacity_of m ≡ capacity)) }
+        ensures { IfOk result (λ m. (messages_of m ≡ []) × (read_of m ≡ []) × (unread_of m ≡ []) × (capacity_of m ≡ capacity)) }
     {
         Ok(MessageList {
             messages: Vec::with_capacity(alloc, capacity)?,
