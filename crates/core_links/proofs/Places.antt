@@ -2,7 +2,7 @@
 use Rattle.std.proofs.Common.{◌≡◌, ◌≢◌, ◌<◌, ◌≤◌, ℕ, zero, suc, List, [], ◌∷◌, Option, Some, None, length, slice_index_or, slice_set, refl, sym, ap, subst, ◌∙◌, ◌⊎◌, inl, inr, arith}
 use Rattle.std.proofs.lemmas.List.{get_or-set_same, get_or-set_other}
 use Rattle.core_links.specs.Views.{LinkView}
-use Rattle.core_links.specs.Slots.{SamePlace, place_view}
+use Rattle.core_links.specs.Slots.{SamePlace, place_view, place-itself}
 
 pub same_or_not : (a b : ℕ) → (a ≡ b) ⊎ (a ≢ b)
 same_or_not zero zero = inl refl
@@ -37,10 +37,6 @@ pub record Changes {K : Type 0} (same : K → K → Type 0) (view : K → LinkVi
   pub others : (p : ℕ) → p ≢ place → place_view view (slice_index_or ys p None) ≡ place_view view (slice_index_or xs p None)
 
 module _ {K : Type 0} (same : K → K → Type 0) (view : K → LinkView) (itself : (k : K) → same k k) where
-  pub place_itself : (x : Option K) → SamePlace same x x
-  place_itself None = tt
-  place_itself (Some k) = itself k
-
   same_at : (xs : List (Option K)) (i p : ℕ) (a b : K) → slice_index_or xs i None ≡ Some a → i < length xs → same a b → ((p ≡ i) ⊎ (p ≢ i))
       → SamePlace same (slice_index_or xs p None) (slice_index_or (slice_set xs i (Some b)) p None)
   same_at xs i p a b is lt eq (inl e) =
@@ -48,7 +44,7 @@ module _ {K : Type 0} (same : K → K → Type 0) (view : K → LinkView) (itsel
       (subst (λ (x : Option K). SamePlace same x (slice_index_or (slice_set xs i (Some b)) i None)) (sym is)
       (subst (λ (x : Option K). SamePlace same (Some a) x) (sym (get_or-set_same xs i (Some b) None lt)) eq))
   same_at xs i p a b is lt eq (inr n) =
-      subst (λ (x : Option K). SamePlace same (slice_index_or xs p None) x) (sym (get_or-set_other xs i p (Some b) None n)) (place_itself (slice_index_or xs p None))
+      subst (λ (x : Option K). SamePlace same (slice_index_or xs p None) x) (sym (get_or-set_other xs i p (Some b) None n)) (place-itself same itself (slice_index_or xs p None))
 
   pub changed : (xs : List (Option K)) (i : ℕ) (d : Option K) (a b : K) (R : LinkView → LinkView → Type 0) → slice_index_or xs i d ≡ Some a → i < length xs → same a b
       → R (view a) (view b) → Changes same view i R xs (slice_set xs i (Some b))

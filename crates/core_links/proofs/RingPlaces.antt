@@ -8,12 +8,9 @@ use Rattle.core_links.specs.declared.ring_links.RingLinks.{RingLinks}
 use Rattle.core_links.specs.Views.{LinkView, AtPeer, IsSameView, Pumped}
 use Rattle.core_links.specs.Slots.{place_view}
 use Rattle.core_links.specs.RingSlots.{link_to, link_view, ring_view, SameLink, SameSlot, SameLinks, AreJoined, AreJoinedSlots}
-use Rattle.core_links.specs.RingLaws.{SameSlot-itself, SameSlot-along}
+use Rattle.core_links.specs.RingLaws.{SameLink-itself, SameSlot-itself, SameSlot-along}
 use Rattle.core_links.proofs.Places.{same_or_not, any_default, changed, Changes}
 use Rattle.core_links.proofs.Steps.{same_view, pumped_itself, pumped_along}
-
-SameLink-itself : (a : Link) → SameLink a a
-SameLink-itself a = SameSlot-itself (Some a)
 
 pub at_slot : (old : RingLinks) (i peer : ℕ) (d : Option Link) (a b : Link) (R : LinkView → LinkView → Type 0) → i ≡ peer → slice_index_or old.slots.items i d ≡ Some a → i < length old.slots.items
     → SameLink a b → R (link_view a) (link_view b) → AtPeer SameLinks ring_view peer R old (record { own = old.own; slots = with_item old.slots i (Some b) })

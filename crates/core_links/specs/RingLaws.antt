@@ -1,21 +1,22 @@
 -- Sameness of links over rings is reflexive and transitive.
-use Rattle.std.specs.Prelude.{Option, Some, None, refl}
+use Rattle.std.specs.Prelude.{Option, refl}
 use Rattle.std.proofs.Common.{rules, ◌∙◌}
 use Rattle.core_links.specs.declared.ring_links.Link.{Link}
 use Rattle.core_links.specs.declared.ring_links.RingLinks.{RingLinks}
-use Rattle.core_links.specs.RingSlots.{SameSlot, SameLinks, link_to}
+use Rattle.core_links.specs.Slots.{place-itself, place-along}
+use Rattle.core_links.specs.RingSlots.{SameLink, SameSlot, SameLinks, link_to}
+
+pub SameLink-itself : (a : Link) → SameLink a a
+SameLink-itself a = search rules
+
+SameLink-along : (a b c : Link) → SameLink a b → SameLink b c → SameLink a c
+SameLink-along a b c h k = search rules
 
 pub SameSlot-itself : (a : Option Link) → SameSlot a a
-SameSlot-itself None = tt
-SameSlot-itself (Some a) = search rules
+SameSlot-itself a = place-itself SameLink SameLink-itself a
 
 pub SameSlot-along : (a b c : Option Link) → SameSlot a b → SameSlot b c → SameSlot a c
-SameSlot-along None None None h k = tt
-SameSlot-along None None (Some c) h k = k
-SameSlot-along None (Some b) c h k = absurd h
-SameSlot-along (Some a) None c h k = absurd h
-SameSlot-along (Some a) (Some b) None h k = k
-SameSlot-along (Some a) (Some b) (Some c) h k = search rules
+SameSlot-along a b c h k = place-along SameLink SameLink-along a b c h k
 
 pub SameLinks-itself : (a : RingLinks) → SameLinks a a
 SameLinks-itself a = record { own = refl; count = refl; each = λ peer. SameSlot-itself (link_to a peer) }

@@ -12,3 +12,16 @@ SamePlace same (Some a) (Some b) = same a b
 abbrev pub place_view : {K : Type 0} → (K → LinkView) → Option K → LinkView
 place_view view None = no_link
 place_view view (Some k) = view k
+
+-- sameness of places is reflexive and transitive where that of links is
+module _ {K : Type 0} (same : K → K → Type 0) where
+  pub place-itself : ((k : K) → same k k) → (a : Option K) → SamePlace same a a
+  place-itself itself None = tt
+  place-itself itself (Some a) = itself a
+
+  pub place-along : ((a b c : K) → same a b → same b c → same a c) → (a b c : Option K) → SamePlace same a b → SamePlace same b c → SamePlace same a c
+  place-along along None None c h k = k
+  place-along along None (Some b) c h k = absurd h
+  place-along along (Some a) None c h k = absurd h
+  place-along along (Some a) (Some b) None h k = k
+  place-along along (Some a) (Some b) (Some c) h k = along a b c h k
