@@ -1,5 +1,5 @@
 -- One ring link of several is changed.
-use Rattle.std.proofs.Common.{◌≡◌, ◌≢◌, ◌<◌, ℕ, zero, suc, List, [], ◌∷◌, arith, Option, Some, None, length, slice_index_or, slice_set, refl, sym, ap, subst, ◌∙◌, ◌⊎◌, inl, inr}
+use Rattle.std.proofs.Common.{◌≡◌, ◌≢◌, ◌<◌, ◌++◌, ℕ, zero, suc, List, [], ◌∷◌, arith, Option, Some, None, length, slice_index_or, slice_set, refl, sym, ap, subst, ◌∙◌, ◌⊎◌, inl, inr}
 use Rattle.std.proofs.lemmas.List.{get_or-set_same, get_or-set_other}
 use Rattle.std.specs.Vec.{with_item}
 use mathlib.Core.List.{IsPrefix}
@@ -94,3 +94,10 @@ stands_beside old i peer d a b here below is same view =
     let lt : i < length old.slots.items = subst (λ (n : ℕ). n < length old.slots.items) (sym here) below in
     let at : AtPeer SameLinks ring_view peer IsSameView old (with_link old i b) = at_slot old i peer d a b IsSameView here is lt same view in
     record { links = at.0; views = all_same old (with_link old i b) peer at; view = view_at old i peer b here lt }
+
+-- one more place with no link
+pub none_more : (xs : List (Option Link)) → ((p : ℕ) → slice_index_or xs p None ≡ None) → (p : ℕ) → slice_index_or (xs ++ None ∷ []) p None ≡ None
+none_more [] none zero = refl
+none_more [] none (suc p) = refl
+none_more (x ∷ xs) none zero = none 0
+none_more (x ∷ xs) none (suc p) = none_more xs (λ q. none (suc q)) p
