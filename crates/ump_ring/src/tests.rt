@@ -4,6 +4,7 @@ ghost use Rattle.ump_ring.specs.Senders.{SameSender};
 
 use super::*;
 use crate::line::line_at;
+use rtrb::RingBuffer;
 use std::alloc::{AllocError, Global};
 use std::sync::Wait;
 use std::sync::atomic::{AtomicBool, Ordering};
@@ -103,6 +104,31 @@ fn faults_of_a_first_line(rt: HostRuntime) -> Result<(), Fail> {
         assert_eq!(rt; joiner.fault(), Some(fault));
         assert!(rt; joiner.message().is_none());
     }
+    Ok(())
+}
+
+#[test]
+fn a_look_and_a_take_in_steps(rt: HostRuntime) -> Result<(), Fail> {
+    let alloc = rt.alloc();
+    let (mut producer, consumer) = RingBuffer::<Line>::new(alloc, 8)?;
+    let mut receiver = Receiver::new(consumer, Joiner::new(alloc)?);
+    assert!(rt; receiver.pull().is_ok());
+    assert!(rt; receiver.shown().is_none());
+    assert!(rt; !receiver.give_up());
+    for (head, word) in [(4294967296, 5), (4294967297, 6), (4294967297, 7)] {
+        assert!(rt; producer.push([head, word, 0, 0, 0, 0, 0, 0]).is_ok());
+    }
+    assert!(rt; receiver.pull().is_ok());
+    assert!(rt; receiver.pull().is_ok());
+    assert!(rt; receiver.shown() == Some(&[5]));
+    assert!(rt; receiver.give_up());
+    assert!(rt; receiver.shown().is_none());
+    assert!(rt; receiver.last() == Some(&[5]));
+    assert!(rt; takes(&mut receiver, &[6]));
+    assert_eq!(rt; receiver.pull(), Err(LineFault::OutOfSequence));
+    assert_eq!(rt; receiver.pull(), Err(LineFault::OutOfSequence));
+    assert!(rt; receiver.shown().is_none());
+    assert!(rt; !receiver.give_up());
     Ok(())
 }
 
