@@ -3,7 +3,7 @@ use Rattle.std.proofs.Common.{◌≡◌, ◌≢◌, ◌++◌, ◌∷◌, [], ℕ
 use mathlib.Core.List.{IsPrefix}
 use Rattle.std.specs.Borrow.{Bor}
 use Rattle.ump_ring.specs.Joiners.{shown_items, shown_list}
-use Rattle.core_links.specs.Views.{LinkView, first_of, AtPeer, IsSameView, Arrived, Pulled, GivenUp, Took, Looked, Pumped}
+use Rattle.core_links.specs.Views.{LinkView, first_of, AtPeer, IsSameView, Arrived, Pulled, GivenUp, Taken, Looked, Pumped}
 
 first_part : (ms : List (List ℕ)) → shown_list (first_of ms) ≡ take 1 ms
 first_part [] = refl
@@ -18,7 +18,7 @@ none_first [] e = refl
 none_first (m ∷ ms) e = absurd (cc)
 
 -- a message that was taken in, and then given up, was taken
-pub taken_view : (v w z : LinkView) (lent : Option (Bor (List ℕ))) → Pulled v w (Ok tt) → GivenUp w z → shown_items lent ≡ first_of w.kept → Took v z (Ok lent)
+pub taken_view : (v w z : LinkView) (lent : Option (Bor (List ℕ))) → Pulled v w (Ok tt) → GivenUp w z → shown_items lent ≡ first_of w.kept → Taken v z (Ok lent)
 taken_view v w z lent p g shows =
     let part : shown_list (shown_items lent) ≡ take 1 w.kept = ap shown_list shows ∙ first_part w.kept in
     let come : shown_list (shown_items lent) ++ z.kept ≡ w.kept =
@@ -38,7 +38,7 @@ taken_view v w z lent p g shows =
 
 pub taken_at : {L : Type 0} (same : L → L → Type 0) (view : L → ℕ → LinkView) (peer : ℕ) (a b c : L) (lent : Option (Bor (List ℕ)))
     → ((x y z : L) → same x y → same y z → same x z) → AtPeer same view peer (λ v w. Pulled v w (Ok tt)) a b → AtPeer same view peer GivenUp b c → shown_items lent ≡ first_of (view b peer).kept
-    → AtPeer same view peer (λ v w. Took v w (Ok lent)) a c
+    → AtPeer same view peer (λ v w. Taken v w (Ok lent)) a c
 taken_at same view peer a b c lent along p g shows =
     (along a b c p.0 g.0, taken_view (view a peer) (view b peer) (view c peer) lent p.1 g.1 shows, λ n ne. g.2 n ne ∙ p.2 n ne)
 

@@ -4,19 +4,19 @@ use Rattle.std.specs.Global.{Global}
 use Rattle.core_links.specs.declared.message_list.MessageList.{MessageList}
 
 -- every message, the first one first
-abbrev pub messages_of : MessageList → List (List ℕ)
-messages_of m = map (λ (v : Vec ℕ Global). v.items) m.messages.items
+abbrev pub all_of : MessageList → List (List ℕ)
+all_of m = map (λ (v : Vec ℕ Global). v.items) m.messages.items
 
 -- those that were read, and those that were not
 abbrev pub read_of : MessageList → List (List ℕ)
-read_of m = take m.read (messages_of m)
+read_of m = take m.read (all_of m)
 
 abbrev pub unread_of : MessageList → List (List ℕ)
-unread_of m = drop m.read (messages_of m)
+unread_of m = drop m.read (all_of m)
 
 -- how many messages the list takes over its life, and whether it takes one more
 abbrev pub capacity_of : MessageList → ℕ
 capacity_of m = m.capacity
 
-abbrev pub is_open : MessageList → Bool
-is_open m = nat_lt (length (messages_of m)) (capacity_of m)
+abbrev pub has_room : MessageList → Bool
+has_room m = nat_lt (length (all_of m)) (capacity_of m)

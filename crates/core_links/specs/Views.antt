@@ -1,4 +1,5 @@
--- What contracts see of a core's link to one peer: byte strings in the order in which they were sent and taken.
+-- What contracts see of a core's link to one peer: byte strings in the order in which they were sent and taken, each link with one writer and
+-- one polling reader a direction (Baumann et al., The Multikernel, SOSP 2009, section 4.6).
 use Rattle.std.specs.Prelude.{◌≡◌, ◌≢◌, ◌++◌, ◌∷◌, [], ℕ, Bool, true, false, List, take, drop, Option, Some, None, Result, Ok, Err, MatchResult, ⊤, Vec}
 use Rattle.std.specs.Global.{Global}
 use mathlib.Core.List.{IsPrefix}
@@ -9,6 +10,7 @@ use denote.RattleType.{RattleType}
 use Rattle.ump_ring.specs.declared.fault.LineFault.{LineFault}
 use Rattle.ump_ring.specs.declared.sender.Busy.{Busy}
 use Rattle.ump_ring.specs.Joiners.{shown_items, shown_list}
+use Rattle.ump_ring.specs.Lending.{Lent}
 
 -- the messages handed over for the peer, and those taken from it, the first one first; the whole messages that have come, as far as
 -- the core has looked, and are not taken; the fault at which the link stopped; whether it takes a message; and whether what is kept
@@ -36,10 +38,7 @@ last_in [] = None
 last_in (m ∷ []) = Some m
 last_in (m ∷ n ∷ ms) = last_in (n ∷ ms)
 
--- what a look or a take answers, and the message in it as a list
-abbrev pub Lent : Type 0
-Lent = Result (Option (Bor (List ℕ))) LineFault
-
+-- the message in what a look or a take answers, as a list
 abbrev pub lent_list : Lent → List (List ℕ)
 lent_list (Ok shown) = shown_list (shown_items shown)
 lent_list (Err fault) = []
@@ -92,7 +91,7 @@ pub record Looked (v w : LinkView) (lent : Lent) : Type 0 where
   pub answer : MatchResult lent (λ shown. (w.stopped ≡ None) × (shown_items shown ≡ first_of w.kept)) (λ fault. w.stopped ≡ Some fault)
 
 -- the first whole message is shown, and taken
-pub record Took (v w : LinkView) (lent : Lent) : Type 0 where
+pub record Taken (v w : LinkView) (lent : Lent) : Type 0 where
   pub arrived : Arrived v w (lent_list lent ++ w.kept)
   pub taken : w.taken ≡ v.taken ++ lent_list lent
   pub answer : MatchResult lent (λ shown. (w.stopped ≡ None) × (shown_items shown ≡ None → w.kept ≡ [])) (λ fault. w.stopped ≡ Some fault)

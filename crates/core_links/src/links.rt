@@ -8,7 +8,7 @@ pub trait Links: Drop {
     ghost use Rattle.std.specs.Prelude.{◌≡◌, ◌≢◌, ◌≤◌, [], ℕ, IsTrue, IsFalse, vec_len};
     ghost use Rattle.std.specs.Borrow.{sem};
     ghost use Rattle.ump_ring.specs.Joiners.{shown_items};
-    ghost use Rattle.core_links.specs.Views.{LinkView, first_of, AtPeer, Pulled, GivenUp, Looked, Took, HandedOver, Pumped, LeavesSo};
+    ghost use Rattle.core_links.specs.Views.{LinkView, first_of, AtPeer, Pulled, GivenUp, Looked, Taken, HandedOver, Pumped, LeavesSo};
 
     /// What was sent to a peer and taken from it.
     ghost view: { Self → ℕ → LinkView };
@@ -47,7 +47,7 @@ pub trait Links: Drop {
 
     /// Lends the first whole message of a peer, and gives it up. After a fault every call answers the same.
     fn take(&mut self, peer: u16) -> Result<Option<&[u8]>, LineFault>
-        ensures* taken { sem 𝓛 (LeavesSo Self.row self.entry (λ new. AtPeer same view peer (λ v w. Took v w result) self.entry.now new)) };
+        ensures* taken { sem 𝓛 (LeavesSo Self.row self.entry (λ new. AtPeer same view peer (λ v w. Taken v w result) self.entry.now new)) };
 
     /// Hands a message of 1 to 32,832 bytes over to be sent. A ready link takes it, and another hands it back.
     fn send(&mut self, peer: u16, message: Vec<u8>) -> Result<(), Busy>

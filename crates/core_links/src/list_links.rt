@@ -45,7 +45,7 @@ impl ListLinks {
     ghost use Rattle.std.specs.Borrow.{sem};
     ghost use Rattle.ump_ring.specs.Joiners.{shown_items};
     ghost use Rattle.core_links.specs.Views.{first_of, last_in, AtPeer, IsFresh};
-    ghost use Rattle.core_links.specs.ListSlots.{list_to, list_view, messages_given, messages_collected, messages_uncollected, send_capacity, give_capacity, SameLists, Gives, Collects};
+    ghost use Rattle.core_links.specs.ListSlots.{list_to, list_view, messages_given, messages_collected, messages_uncollected, send_capacity, give_capacity, SameLists, GivesMessage, CollectsMessage};
     ghost use Rattle.core_links.specs.ListLending.{LendsCollected};
 
     /// The links of core `own` to each other one of `cores` cores. The room for `capacity` messages sent to each peer, and
@@ -76,7 +76,7 @@ impl ListLinks {
     /// were given. A core that is no peer gives none. Takes no memory.
     pub fn give(&mut self, peer: u16, message: Vec<u8>) -> Result<(), Busy>
         requires length { (1 ≤ vec_len message) × (vec_len message ≤ 32832) }
-        ensures ok { OnOk result (Gives self.old self.new peer message.items) }
+        ensures ok { OnOk result (GivesMessage self.old self.new peer message.items) }
         ensures busy { IfErr result (λ back. (back.0 ≡ message) × (length (messages_given self.old peer) ≡ give_capacity self.old peer)) }
         ensures stays { IfErr result (λ back. AtPeer SameLists list_view peer (λ v w. w ≡ v) self.old self.new) }
     {
@@ -104,8 +104,8 @@ impl ListLinks {
     /// whether there was one. These two are `collect` in two steps, for a type that holds the links and lends the message
     /// out of itself. Takes no memory.
     pub fn mark_collected(&mut self, peer: u16) -> bool
-        ensures some { IsTrue result → Collects self.old self.new peer (last_in (messages_collected self.new peer)) × (messages_uncollected self.old peer ≢ []) }
-        ensures none { IsFalse result → Collects self.old self.new peer None × (messages_uncollected self.old peer ≡ []) }
+        ensures some { IsTrue result → CollectsMessage self.old self.new peer (last_in (messages_collected self.new peer)) × (messages_uncollected self.old peer ≢ []) }
+        ensures none { IsFalse result → CollectsMessage self.old self.new peer None × (messages_uncollected self.old peer ≡ []) }
     {
         let place = usize::from(peer);
         if place >= self.slots.len() {

@@ -21,11 +21,11 @@ impl MessageList {
     ghost use Rattle.std.specs.Prelude.{◌≡◌, ◌≢◌, ◌++◌, ◌∷◌, [], take, drop, true, false, IfOk, OnOk, IfErr, IsTrue, IsFalse};
     ghost use Rattle.ump_ring.specs.Joiners.{shown_items};
     ghost use Rattle.core_links.specs.Views.{first_of, last_in};
-    ghost use Rattle.core_links.specs.MessageLists.{messages_of, read_of, unread_of, capacity_of, is_open};
+    ghost use Rattle.core_links.specs.MessageLists.{all_of, read_of, unread_of, capacity_of, has_room};
 
     /// A list with no messages. The room for all is reserved here. The one error is that there is no memory.
     pub(crate) fn new(alloc: Global, capacity: usize) -> Result<MessageList, AllocError>
-        ensures { IfOk result (λ m. (messages_of m ≡ []) × (read_of m ≡ []) × (unread_of m ≡ []) × (capacity_of m ≡ capacity)) }
+        ensures { IfOk result (λ m. (all_of m ≡ []) × (read_of m ≡ []) × (unread_of m ≡ []) × (capacity_of m ≡ capacity)) }
     {
         Ok(MessageList {
             messages: Vec::with_capacity(alloc, capacity)?,
@@ -36,7 +36,7 @@ impl MessageList {
 
     /// Whether the list takes a message.
     pub(crate) fn has_room(&self) -> bool
-        ensures { result ≡ is_open self.now }
+        ensures { result ≡ has_room self.now }
     {
         self.messages.len() < self.capacity
     }
@@ -44,8 +44,8 @@ impl MessageList {
     /// Puts a message at the end, or hands it back where the list has as many as it takes. Takes no memory.
     pub(crate) fn put(&mut self, message: Vec<u8>) -> Result<(), Busy>
         ensures rest { (read_of self.new ≡ read_of self.old) × (capacity_of self.new ≡ capacity_of self.old) }
-        ensures ok { OnOk result ((is_open self.old ≡ true) × (messages_of self.new ≡ messages_of self.old ++ message.items ∷ []) × (unread_of self.new ≡ unread_of self.old ++ message.items ∷ [])) }
-        ensures busy { IfErr result (λ back. (back.0 ≡ message) × (is_open self.old ≡ false) × (self.new ≡ self.old)) }
+        ensures ok { OnOk result ((has_room self.old ≡ true) × (all_of self.new ≡ all_of self.old ++ message.items ∷ []) × (unread_of self.new ≡ unread_of self.old ++ message.items ∷ [])) }
+        ensures busy { IfErr result (λ back. (back.0 ≡ message) × (has_room self.old ≡ false) × (self.new ≡ self.old)) }
     {
         if !self.has_room() {
             return Err(Busy(message));
@@ -67,7 +67,7 @@ impl MessageList {
 
     /// Reads the first message that was not read, which `last` then shows, and says whether there was one.
     pub(crate) fn advance(&mut self) -> bool
-        ensures rest { (messages_of self.new ≡ messages_of self.old) × (capacity_of self.new ≡ capacity_of self.old) }
+        ensures rest { (all_of self.new ≡ all_of self.old) × (capacity_of self.new ≡ capacity_of self.old) }
         ensures read { read_of self.new ≡ read_of self.old ++ take 1 (unread_of self.old) }
         ensures unread { unread_of self.new ≡ drop 1 (unread_of self.old) }
         ensures some { IsTrue result → unread_of self.old ≢ [] }
