@@ -1,9 +1,9 @@
 -- A look and a take, from their steps.
-use Rattle.std.proofs.Common.{◌≡◌, ◌≢◌, ◌++◌, ◌∷◌, [], ℕ, List, take, drop, Option, Some, None, Ok, refl, sym, ap, subst, ◌∙◌, true}
+use Rattle.std.proofs.Common.{◌≡◌, ◌++◌, ◌∷◌, [], ℕ, List, take, drop, Option, None, Ok, refl, sym, ap, subst, ◌∙◌}
 use mathlib.Core.List.{IsPrefix}
 use Rattle.std.specs.Borrow.{Bor}
 use Rattle.ump_ring.specs.Joiners.{shown_items, shown_list}
-use Rattle.core_links.specs.Views.{LinkView, first_of, AtPeer, IsSameView, Arrived, Pulled, GivenUp, Taken, Looked, Pumped}
+use Rattle.core_links.specs.Views.{LinkView, first_of, AtPeer, IsSameView, Pulled, GivenUp, Taken, Pumped}
 
 first_part : (ms : List (List ℕ)) → shown_list (first_of ms) ≡ take 1 ms
 first_part [] = refl

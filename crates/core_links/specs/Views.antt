@@ -4,7 +4,7 @@ use Rattle.std.specs.Prelude.{◌≡◌, ◌≢◌, ◌++◌, ◌∷◌, [], ℕ
 use Rattle.std.specs.Global.{Global}
 use mathlib.Core.List.{IsPrefix}
 use mathlib.Core.Option.{none}
-use Rattle.std.specs.Borrow.{MutBor, Bor, Fml}
+use Rattle.std.specs.Borrow.{MutBor, Fml}
 use denote.Follow.{follows_so}
 use denote.RattleType.{RattleType}
 use Rattle.ump_ring.specs.declared.fault.LineFault.{LineFault}

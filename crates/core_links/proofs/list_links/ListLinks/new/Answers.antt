@@ -1,4 +1,4 @@
-use Rattle.std.proofs.Common.{◌+◌, ◌<◌, ◌≤◌, ℕ, List, Option, Some, length, subst, sym, ap, arith}
+use Rattle.std.proofs.Common.{◌+◌, ℕ, List, Option, length, subst, sym, ap, arith}
 use Rattle.core_links.specs.declared.list_links.ListLink.{ListLink}
 use Rattle.core_links.proofs.NewLists.{IsPlaceFor, ArePlaces, places_more, here, away, none_at, fresh_at}
 use Rattle.core_links.proofs.list_links.ListLinks.new.Goals.{then-peer-own, else-peer-own+in_ok-new}
@@ -10,7 +10,7 @@ loop-peer-init c = record { count_is = ap length c.in_ok-slots.ensures.items; ea
 pub loop-peer-preserved : goal.loop-peer-preserved
 loop-peer-preserved c =
     let is : IsPlaceFor c.args.own c.args.capacity c.loop-peer.peer c.if-peer-own.push = elim c.if-peer-own.branch [
-      then-peer-own w ↦ away c.args.own c.args.capacity c.loop-peer.peer c.if-peer-own.push w.if-peer-own.true w.push-is
+      | then-peer-own w ↦ away c.args.own c.args.capacity c.loop-peer.peer c.if-peer-own.push w.if-peer-own.true w.push-is
       | else-peer-own+in_ok-new w ↦ subst (λ (x : Option ListLink). IsPlaceFor c.args.own c.args.capacity c.loop-peer.peer x) (sym w.push-is)
           (here c.args.own c.args.capacity c.loop-peer.peer w.in_ok-new.field-0 w.if-peer-own.false w.in_ok-new.ensures.fresh w.in_ok-new.ensures.capacity)
     ] in

@@ -1,4 +1,4 @@
-use Rattle.std.proofs.Common.{sym, subst, ◌<◌, ◌≡◌, ℕ, Vec, length, arith}
+use Rattle.std.proofs.Common.{sym, subst, ◌<◌, ℕ, Vec, length, arith}
 use Rattle.std.proofs.lemmas.List.{length-map}
 use Rattle.std.specs.Global.{Global}
 use Rattle.core_links.specs.MessageLists.{all_of}

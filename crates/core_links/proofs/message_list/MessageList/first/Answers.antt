@@ -1,4 +1,4 @@
-use Rattle.std.proofs.Common.{◌≡◌, ◌<◌, Some, sym, ap, ◌∙◌, arith, List, ℕ, Vec, length}
+use Rattle.std.proofs.Common.{Some, sym, ap, ◌∙◌, arith, List, ℕ, Vec}
 use Rattle.std.specs.Global.{Global}
 use Rattle.core_links.proofs.Reading.{first_left}
 use Rattle.core_links.proofs.message_list.MessageList.first.Goals as goal

@@ -1,4 +1,4 @@
-use Rattle.std.proofs.Common.{◌≡◌, ◌++◌, [], ℕ, List, Option, Some, None, take, drop, refl, sym, ap, ◌∙◌}
+use Rattle.std.proofs.Common.{◌≡◌, ◌++◌, [], ℕ, List, Option, Some, None, take, drop, refl, ap, ◌∙◌}
 use Rattle.ump_ring.specs.Joiners.{shown_list}
 use Rattle.ump_ring.specs.Receivers.{messages_taken, message_kept}
 use Rattle.core_links.proofs.ring_links.Link.give_up.Goals as goal

@@ -1,7 +1,6 @@
-use Rattle.std.proofs.Common.{rules, ◌≡◌, ap, subst, sym, ◌∙◌}
+use Rattle.std.proofs.Common.{rules, ap, sym, ◌∙◌}
 use Rattle.core_links.specs.Views.{LinkView}
 use Rattle.core_links.specs.RingSlots.{link_to}
-use Rattle.core_links.specs.declared.ring_links.RingLinks.{RingLinks}
 use Rattle.core_links.proofs.RingPlaces.{StandsBeside, stands_beside, prefix_at, within_here, within_there, joined_there}
 use Rattle.core_links.proofs.ring_links.RingLinks.beside.Goals as goal
 

@@ -1,4 +1,4 @@
-use Rattle.std.proofs.Common.{◌≡◌, ℕ, List, Option, None, slice_index_or, sym, subst, rules}
+use Rattle.std.proofs.Common.{◌≡◌, List, Option, None, slice_index_or, sym, subst, rules}
 use Rattle.core_links.specs.declared.ring_links.Link.{Link}
 use Rattle.core_links.proofs.RingPlaces.{none_more}
 use Rattle.core_links.proofs.ring_links.RingLinks.new.Goals as goal

@@ -1,4 +1,4 @@
-use Rattle.std.proofs.Common.{rules, refl, sym, ◌∙◌, ℕ, None, Some, List, Option, subst, length, ap, slice_index_or, arith}
+use Rattle.std.proofs.Common.{sym, None, Some, List, Option, subst, slice_index_or, arith}
 use Rattle.core_links.specs.declared.ring_links.Link.{Link}
 use Rattle.core_links.proofs.RingPlaces.{Both, pumped_more, still}
 use Rattle.core_links.proofs.ring_links.RingLinksLinks.pump.Goals.{in-None, in-Some}

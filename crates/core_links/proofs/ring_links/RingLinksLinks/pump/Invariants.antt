@@ -1,4 +1,4 @@
-use Rattle.std.proofs.Common.{◌≡◌, ℕ, None, length, slice_index_or}
+use Rattle.std.proofs.Common.{ℕ, None, slice_index_or}
 use Rattle.core_links.specs.Views.{Pumped}
 use Rattle.core_links.specs.Slots.{place_view}
 use Rattle.core_links.specs.RingSlots.{SameSlot, link_view}

@@ -1,5 +1,5 @@
-use Rattle.std.proofs.Common.{rules, refl, sym, ◌∙◌, ◌≡◌, ◌<◌, None, Some, ℕ, arith}
-use Rattle.core_links.specs.Views.{GivenUp, Pulled, HandedOver}
+use Rattle.std.proofs.Common.{rules, sym, ◌∙◌}
+use Rattle.core_links.specs.Views.{HandedOver}
 use Rattle.core_links.proofs.RingPlaces.{at_slot}
 use Rattle.core_links.proofs.ring_links.RingLinksLinks.send.Goals as goal
 
