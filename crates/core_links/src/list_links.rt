@@ -44,7 +44,7 @@ impl ListLinks {
     ghost use Rattle.std.specs.Prelude.{◌≡◌, ◌≢◌, ◌<◌, ◌⊎◌, ℕ, length, IfOk, OnOk, IfErr, IsTrue, IsFalse, None, Some, []};
     ghost use Rattle.std.specs.Borrow.{sem};
     ghost use Rattle.ump_ring.specs.Joiners.{shown_items};
-    ghost use Rattle.core_links.specs.Views.{first_of, last_in, AtPeer, IsFresh};
+    ghost use Rattle.core_links.specs.Views.{last_in, AtPeer, IsFresh};
     ghost use Rattle.core_links.specs.ListSlots.{list_to, list_view, messages_given, messages_collected, messages_uncollected, send_capacity, give_capacity, SameLists, GivesMessage, CollectsMessage};
     ghost use Rattle.core_links.specs.ListLending.{LendsCollected};
 

@@ -82,9 +82,9 @@ impl RingLinks {
 
 // The messages of one link.
 impl Link {
-    ghost use Rattle.std.specs.Prelude.{◌≡◌, ◌≢◌, IsTrue, IsFalse, None, [], true};
+    ghost use Rattle.std.specs.Prelude.{◌≡◌, ◌≢◌, IsTrue, IsFalse, None, []};
     ghost use Rattle.ump_ring.specs.Joiners.{shown_items};
-    ghost use Rattle.ump_ring.specs.Receivers.{message_kept, message_last};
+    ghost use Rattle.ump_ring.specs.Receivers.{message_last};
     ghost use Rattle.core_links.specs.Views.{first_of, IsSameView, Pulled, GivenUp, HandedOver, Pumped};
     ghost use mathlib.Core.List.{IsPrefix};
     ghost use Rattle.core_links.specs.RingSlots.{link_view, SameLink, AreJoined};
