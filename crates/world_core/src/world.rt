@@ -131,9 +131,9 @@ impl<C: Channel> WorldOver<C> {
         ensures same { OnErr result (self.new ≡ self.old) }
         ensures extends { IfOk result (λ answer. Extends self.old (record { event = event.now; answer = answer } ∷ []) self.new) }
         ensures grows { IfOk result (λ _. (budget : ℕ) (budgets : List ℕ) (events : List GhostDone) → worlds.Run budget budgets events self.old → Grows self.old self.new) }
-        ensures agrees { (budget : ℕ) (budgets : List ℕ) (events : List GhostDone) → worlds.Run budget budgets events self.new → Agrees budget budgets self.new }
-        ensures tells { (budget : ℕ) (budgets : List ℕ) (events : List GhostDone) → worlds.Run budget budgets events self.new → TellsVersions events self.new }
-        ensures no_stranger { (budget : ℕ) (budgets : List ℕ) (events : List GhostDone) → worlds.Run budget budgets events self.new → NoStranger self.new }
+        ensures one_log { (budget : ℕ) (budgets : List ℕ) (events : List GhostDone) → worlds.Run budget budgets events self.new → Agrees budget budgets self.new }
+        ensures versions_counted { (budget : ℕ) (budgets : List ℕ) (events : List GhostDone) → worlds.Run budget budgets events self.new → TellsVersions events self.new }
+        ensures all_expected { (budget : ℕ) (budgets : List ℕ) (events : List GhostDone) → worlds.Run budget budgets events self.new → NoStranger self.new }
         ensures delivers { (budget : ℕ) (budgets : List ℕ) (events : List GhostDone) → worlds.Run budget budgets events self.new → Delivers self.new.log events }
         ensures decides { IfOk result (λ answer. (budget : ℕ) (budgets : List ℕ) (events : List GhostDone) → worlds.Run budget budgets events self.old → DecidesRightly events self.old event.now self.new answer) }
         ensures replies { IfOk result (λ answer. (budget : ℕ) (budgets : List ℕ) (events : List GhostDone) → worlds.Run budget budgets events self.old → RepliesRightly events self.old event.now answer) }

@@ -7,11 +7,11 @@ use Rattle.world_core.proofs.world.WorldOver.apply.Goals as goal
 pub returns-clause-extends : goal.returns-clause-extends
 returns-clause-extends g c = done_as c.perform.result _ _ (λ answer h budget budgets events run. runs_more _ c.args.self.now c.perform.new.self events (record { event = c.args.event.now; answer = answer }) run h) c.perform.ensures.happens
 
-pub returns-clause-agrees : goal.returns-clause-agrees
-returns-clause-agrees g c = λ budget budgets events run. run_agrees budget budgets events c.perform.new.self run
+pub returns-clause-one_log : goal.returns-clause-one_log
+returns-clause-one_log g c = λ budget budgets events run. run_agrees budget budgets events c.perform.new.self run
 
-pub returns-clause-tells : goal.returns-clause-tells
-returns-clause-tells g c = λ budget budgets events run. run_versions budget budgets events c.perform.new.self run
+pub returns-clause-versions_counted : goal.returns-clause-versions_counted
+returns-clause-versions_counted g c = λ budget budgets events run. run_versions budget budgets events c.perform.new.self run
 
 pub returns-clause-delivers : goal.returns-clause-delivers
 returns-clause-delivers g c = λ budget budgets events run. run_delivers budget budgets events c.perform.new.self run
@@ -25,5 +25,5 @@ returns-clause-replies g c = done_as c.perform.result _ _ (λ answer h budget bu
 pub returns-clause-grows : goal.returns-clause-grows
 returns-clause-grows g c = done_as c.perform.result _ _ (λ answer h budget budgets events run. run_grows budget budgets events c.args.self.now c.perform.new.self c.args.event.now answer run h) c.perform.ensures.happens
 
-pub returns-clause-no_stranger : goal.returns-clause-no_stranger
-returns-clause-no_stranger g c = λ budget budgets events run. run_no_stranger budget budgets events c.perform.new.self run
+pub returns-clause-all_expected : goal.returns-clause-all_expected
+returns-clause-all_expected g c = λ budget budgets events run. run_no_stranger budget budgets events c.perform.new.self run
