@@ -3,8 +3,9 @@ pub mod Lists
 pub mod Changes
 pub mod Shared
 pub mod SamePrograms
-pub mod Chains
 pub mod Moves
 pub mod Places
+pub mod Ordered
 pub mod Receivers
+pub mod Reaching
 pub mod Soundness

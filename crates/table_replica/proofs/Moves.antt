@@ -2,20 +2,21 @@
 use Rattle.std.proofs.Common.{◌≡◌, ◌≢◌, ◌<◌, ◌≤◌, ◌+◌, ◌==◌, ◌⊎◌, inl, inr, ℕ, zero, suc, Bool, true, false, not, Option, None, Some, List, [], ◌∷◌, ◌++◌, filter, map, take, length, slice_get, get_or, set, refl, ap, sym, ◌∙◌, subst, arith, length-append}
 use Rattle.std.proofs.lemmas.Bool.Decides.{nat_tests}
 use Rattle.std.proofs.lemmas.List.{get_or-set_same, get_or-set_other}
-use Rattle.std.specs.Prelude.{Result, Ok, Err, IfOk}
+use Rattle.std.specs.Prelude.{Result, IfOk}
+use Rattle.std.proofs.lemmas.Result.{IfOk-weaker}
+use Rattle.endpoint_caps.specs.Capabilities.{CapTable}
 use Rattle.std.proofs.Math.ListN.{length-set}
 use Rattle.bpf_insn.specs.declared.insn.Insn.{Insn}
-use Rattle.table_replica.specs.Listed.{ListedFilter}
+use Rattle.table_replica.specs.Listed.{ListedFilter, FilterTable}
 use Rattle.table_replica.specs.declared.filters.Row.{Row}
 use Rattle.table_replica.specs.declared.filters.Rebuilding.{Rebuilding}
 use Rattle.table_replica.specs.Distinct.{AreDistinct}
-use Rattle.table_replica.specs.Keeping.{sources, listed_row, ArePlaced, Keeps, there, added, placed_row, AreMoved, MovesTo, before, now, IsKept, IsRebuilt, with_last, after_last}
+use Rattle.table_replica.specs.Keeping.{sources, listed_row, ArePlaced, Keeps, there, added, placed_row, AreMoved, MovesTo, before, now, IsShared, IsRebuilt}
 use Rattle.table_replica.specs.Lent.{IsIn}
 use Rattle.table_replica.specs.Tables.{instructions_of, replaced}
 use Rattle.table_replica.proofs.Lists.{fits_at, take_at, map-append'}
 use Rattle.table_replica.proofs.Tables.{sum_filter}
-use Rattle.table_replica.proofs.Chains.{kept_after, view_after}
-use Rattle.table_replica.proofs.Shared.{within, front, last, split, there_is, get-map}
+use Rattle.table_replica.proofs.Shared.{within, front, last, split, there_is, get-map, shared_after, view_after}
 
 -- What is left of rows, or replaced, shows what it should
 
@@ -145,17 +146,15 @@ built_fits from programs rows done i total row program at source sum same =
 
 -- A row that is built again
 
-pub one_built : (from : List (List Insn)) (rows : List Row) (i place : ℕ) (row : Row) (program : List Insn) (built built' : Rebuilding) (lasts1 : List ℕ)
+pub one_built : (from : List (List Insn)) (rows : List Row) (i place : ℕ) (row : Row) (program : List Insn) (built built' : Rebuilding)
     → AreDistinct from → slice_get rows i ≡ Some row → slice_get from row.program ≡ Some program → IsRebuilt from (take i rows) built
-    → MovesTo built.programs built.moved.items row.program program built'.programs built'.moved.items place → lasts1 ≡ with_last built.lasts.items place
-    → built'.rows.items ≡ built.rows.items ++ after_last (record row { program = place }) lasts1 ∷ [] → built'.lasts.items ≡ set lasts1 place (length built.rows.items + 1)
-    → built'.instructions ≡ built.instructions + length program → IsRebuilt from (take (i + 1) rows) built'
-one_built from rows i place row program built built' lasts1 distinct at source h moves placed pushed written counted = record {
-  kept = kept_after built.rows.items built.programs built.lasts.items built.instructions program built'.programs (record row { program = place }) h.kept keeps
-      lasts1 built'.rows.items placed pushed built'.lasts.items built'.instructions written counted;
+    → MovesTo built.programs built.moved.items row.program program built'.programs built'.moved.items place
+    → built'.rows.items ≡ built.rows.items ++ record row { program = place } ∷ [] → built'.instructions ≡ built.instructions + length program
+    → IsRebuilt from (take (i + 1) rows) built'
+one_built from rows i place row program built built' distinct at source h moves pushed counted = record {
+  shared = shared_after built.rows.items built.programs built.instructions program built'.programs (record row { program = place }) h.shared keeps built'.rows.items pushed built'.instructions counted;
   moved = moves_on from built.programs built.moved.items row.program program distinct h.moved source built'.programs built'.moved.items place moves;
-  same = view_after built.rows.items built.programs built.lasts.items built.instructions program built'.programs (record row { program = place }) h.kept keeps
-      lasts1 built'.rows.items placed pushed
+  same = view_after built.rows.items built.programs built.instructions program built'.programs (record row { program = place }) h.shared keeps built'.rows.items pushed
       ∙ (ap (λ (fs : List ListedFilter). fs ++ record { id = row.id; owner = row.owner; cap = row.cap; endpoint = row.endpoint; program = program } ∷ []) h.same
       ∙ (rw source refl ∙ sym (ap (map (listed_row from)) (take_at rows i row at) ∙ map-append' (listed_row from) (take i rows) (row ∷ []))));
 }
@@ -169,15 +168,14 @@ sources_few programs (Some program) = omega (arith, length-append programs (prog
 
 -- The rows that are left, or replaced, as lists of their own
 
-pub shows_ok : {E : Type 0} (r : Result (List ListedFilter) E) (xs ys : List ListedFilter) → xs ≡ ys → IfOk r (λ fs. fs ≡ xs) → IfOk r (λ fs. fs ≡ ys)
-shows_ok (Ok fs) xs ys e h = h ∙ e
-shows_ok (Err fault) xs ys e h = h
+pub shows_ok : {E : Type 0} (r : Result FilterTable E) (caps : CapTable) (xs ys : List ListedFilter) → xs ≡ ys → IfOk r (λ fs. fs ≡ record { listed = xs; under = caps }) → IfOk r (λ fs. fs ≡ record { listed = ys; under = caps })
+shows_ok r caps xs ys e h = IfOk-weaker r (λ fs. fs ≡ record { listed = xs; under = caps }) (λ fs. fs ≡ record { listed = ys; under = caps }) (λ fs is. is ∙ ap (λ (l : List ListedFilter). record { listed = l; under = caps }) e) h
 
-module _ (rows : List Row) (programs : List (List Insn)) (lasts : List ℕ) (total : ℕ) (kept : IsKept rows programs lasts total) (id : ℕ) (rows2 : List Row) (programs2 : List (List Insn)) (programs_are : programs2 ≡ programs) where
+module _ (rows : List Row) (programs : List (List Insn)) (total : ℕ) (shared : IsShared rows programs total) (id : ℕ) (rows2 : List Row) (programs2 : List (List Insn)) (programs_are : programs2 ≡ programs) where
   module _ (rows_are : rows2 ≡ filter (λ row. not (row.id == id)) rows) where
     pub without_placed : ArePlaced rows2 (length programs2)
     without_placed = subst (λ (ps : List (List Insn)). ArePlaced rows2 (length ps)) (sym programs_are)
-        (subst (λ (rs : List Row). ArePlaced rs (length programs)) (sym rows_are) (left_placed (λ row. not (row.id == id)) rows (length programs) kept.shared.placed))
+        (subst (λ (rs : List Row). ArePlaced rs (length programs)) (sym rows_are) (left_placed (λ row. not (row.id == id)) rows (length programs) shared.placed))
 
     pub without_shows : map (listed_row programs2) rows2 ≡ filter (λ f. not (f.id == id)) (map (listed_row programs) rows)
     without_shows = ap (λ (ps : List (List Insn)). map (listed_row ps) rows2) programs_are ∙ (ap (map (listed_row programs)) rows_are ∙ left_shows programs rows id)
@@ -188,22 +186,22 @@ module _ (rows : List Row) (programs : List (List Insn)) (lasts : List ℕ) (tot
   module _ (program : List Insn) (place : ℕ) (rows_are : rows2 ≡ map (placed_row id place) rows) where
     pub known_placed : slice_get programs place ≡ Some program → ArePlaced rows2 (length programs2)
     known_placed at = subst (λ (ps : List (List Insn)). ArePlaced rows2 (length ps)) (sym programs_are)
-        (subst (λ (rs : List Row). ArePlaced rs (length programs)) (sym rows_are) (replaced_placed rows (length programs) id place (within programs place program at) kept.shared.placed))
+        (subst (λ (rs : List Row). ArePlaced rs (length programs)) (sym rows_are) (replaced_placed rows (length programs) id place (within programs place program at) shared.placed))
 
     pub known_shows : slice_get programs place ≡ Some program → map (listed_row programs2) rows2 ≡ replaced (map (listed_row programs) rows) id program
     known_shows at = ap (λ (ps : List (List Insn)). map (listed_row ps) rows2) programs_are
-        ∙ (ap (map (listed_row programs)) rows_are ∙ replaced_shows programs programs rows id place program kept.shared.placed (λ k p here. here) at)
+        ∙ (ap (map (listed_row programs)) rows_are ∙ replaced_shows programs programs rows id place program shared.placed (λ k p here. here) at)
 
     pub new_distinct : (IsIn programs program → ⊥) → AreDistinct (programs2 ++ program ∷ [])
-    new_distinct fresh = subst (λ (ps : List (List Insn)). AreDistinct (ps ++ program ∷ [])) (sym programs_are) (distinct_push programs program kept.shared.distinct fresh)
+    new_distinct fresh = subst (λ (ps : List (List Insn)). AreDistinct (ps ++ program ∷ [])) (sym programs_are) (distinct_push programs program shared.distinct fresh)
 
     pub new_placed : place ≡ length programs → ArePlaced rows2 (length (programs2 ++ program ∷ []))
     new_placed is = subst (λ (ps : List (List Insn)). ArePlaced rows2 (length (ps ++ program ∷ []))) (sym programs_are)
         (subst (λ (rs : List Row). ArePlaced rs (length (programs ++ program ∷ []))) (sym rows_are)
-        (replaced_placed rows (length (programs ++ program ∷ [])) id place (omega (arith, is, length-append programs (program ∷ []))) (placed_more rows programs program kept.shared.placed)))
+        (replaced_placed rows (length (programs ++ program ∷ [])) id place (omega (arith, is, length-append programs (program ∷ []))) (placed_more rows programs program shared.placed)))
 
     pub new_shows : place ≡ length programs → map (listed_row (programs2 ++ program ∷ [])) rows2 ≡ replaced (map (listed_row programs) rows) id program
     new_shows is = ap (λ (ps : List (List Insn)). map (listed_row (ps ++ program ∷ [])) rows2) programs_are
         ∙ (ap (map (listed_row (programs ++ program ∷ []))) rows_are
-        ∙ replaced_shows programs (programs ++ program ∷ []) rows id place program kept.shared.placed (λ k p here. front programs (program ∷ []) k p here)
+        ∙ replaced_shows programs (programs ++ program ∷ []) rows id place program shared.placed (λ k p here. front programs (program ∷ []) k p here)
         (ap (slice_get (programs ++ program ∷ [])) is ∙ last programs program))

@@ -1,7 +1,7 @@
 -- How the list of receivers grows, filter by filter.
-use Rattle.std.proofs.Common.{◌≡◌, ◌≢◌, ◌<◌, ◌≤◌, ◌+◌, ◌==◌, ◌⊎◌, ◌↔◌, inl, inr, ℕ, zero, suc, Bool, true, false, cond, Some, is_none, List, [], ◌∷◌, ◌++◌, length, min, max, refl, ap, sym, ◌∙◌, subst, arith, ltb, Contains, slice_index_or, get_or, insert, set, drop, map, slice_get, Result, Ok, Err, MatchResult, filter, append-nil, append_assoc}
+use Rattle.std.proofs.Common.{◌≡◌, ◌≢◌, ◌<◌, ◌≤◌, ◌+◌, ◌-◌, ◌==◌, ◌⊎◌, ◌↔◌, inl, inr, ℕ, zero, suc, Bool, true, false, cond, Option, Some, is_none, List, [], ◌∷◌, ◌++◌, length, take, min, max, refl, ap, sym, ◌∙◌, subst, arith, ltb, Contains, slice_index_or, get_or, insert, set, drop, map, slice_get, Result, Ok, Err, MatchResult, filter, append-nil, append_assoc}
 use Rattle.std.proofs.lemmas.Bool.Decides.{nat_tests}
-use Rattle.std.proofs.lemmas.List.Elements.{Contains-append_left, Contains-append_right, Contains-append_cases, Contains-push, Contains-push_cases}
+use Rattle.std.proofs.lemmas.List.Elements.{Contains-append_left, Contains-append_right, Contains-append_cases, Contains-push, Contains-push_cases, Contains-get_or}
 use Rattle.bpf_insn.specs.declared.insn.Insn.{Insn}
 use Rattle.endpoint_caps.specs.declared.Cap.{Cap}
 use Rattle.endpoint_caps.specs.Capabilities.{cap_at}
@@ -9,35 +9,17 @@ use Rattle.filter_vm.specs.Machine.{Packet, Ends}
 use Rattle.table_replica.specs.Listed.{ListedFilter}
 use Rattle.table_replica.specs.declared.Kept.{Kept}
 use Rattle.table_replica.specs.Tables.{Hands, Gets, AreReceivers, IsIncreasing}
-use Rattle.table_replica.specs.Receiving.{at_endpoint, raised, handed, handed_back, IsAt, IsGap, HandsBack, ReceiversSoFar, IsVerdict, VerdictAt}
+use Rattle.table_replica.specs.Receiving.{at_endpoint, raised, one_cap, filter_of, ReceiversSoFar, IsVerdict, VerdictAt, AreVerdicts, AreReached}
 use Rattle.table_replica.specs.declared.filters.Row.{Row}
-use Rattle.table_replica.specs.Keeping.{listed_row, or_nothing, IsLast, IsChained}
-use Rattle.table_replica.proofs.Lists.{drop_at}
-use Rattle.std.specs.List.Sorted.{IsSearchInRange, IsBinarySearchResult, IsNonDecreasingBy}
-use Rattle.std.specs.Ordering.{nat_cmp, ordering_index}
-use Rattle.std.proofs.lemmas.Cmp.{ranked}
-use Rattle.std.proofs.lemmas.List.Sorted.{IsNonDecreasingBy-from_default}
-
--- Elements of lists
-
-in_tail : {A : Type 0} (y : A) (ys : List A) (x : A) → Contains ys x → Contains (y ∷ ys) x
-in_tail y ys x h = (suc h.0, omega (arith, h.1), h.2)
-
-in_head : {A : Type 0} (y : A) (ys : List A) → Contains (y ∷ ys) y
-in_head y ys = (0, omega arith, refl)
-
-first_or_later : {A : Type 0} (y : A) (ys : List A) (x : A) → Contains (y ∷ ys) x → (y ≡ x) ⊎ Contains ys x
-first_or_later {A} y ys x h = by_place h.0 h.1 h.2
-  where
-    by_place : (k : ℕ) → k < length (y ∷ ys) → slice_index_or (y ∷ ys) k x ≡ x → (y ≡ x) ⊎ Contains ys x
-    by_place zero lt e = inl e
-    by_place (suc k) lt e = inr (k, omega arith, e)
-
-never : {A : Type 0} (x : A) → Contains [] x → ⊥
-never x h = absurd (omega (arith, h.1))
-
-three : (a b : ℕ) → (a < b) ⊎ ((a ≡ b) ⊎ (b < a))
-three a b = grind arith
+use Rattle.table_replica.specs.declared.reaches.Reach.{Reach}
+use Rattle.table_replica.specs.Keeping.{listed_row, or_nothing, reach_of, AreReaches}
+use Rattle.table_replica.proofs.Lists.{never, in_head, in_tail, first_or_later, was_mapped, in_map, three, take_at, map-append', get_some}
+use Rattle.table_replica.proofs.Shared.{there_is}
+use Rattle.table_replica.proofs.Ordered.{below_last}
+use Rattle.std.specs.List.{All}
+use Rattle.std.specs.List.Sorted.{IsNonDecreasingBy}
+use Rattle.std.proofs.lemmas.List.Sorted.{IsNonDecreasingBy-take}
+use Rattle.std.proofs.Math.ListN.{length-set}
 
 -- One endpoint raised
 
@@ -364,7 +346,7 @@ module _ (caps : List Cap) (packet : Packet) where
       covers = raised_covers;
     }
 
--- Where a binary search by endpoint ends
+-- The last one raised, or one more
 
 rises : (ks : List Kept) (d : Kept) → IsIncreasing ks → (i j : ℕ) → i < j → j < length ks → (get_or ks i d).endpoint < (get_or ks j d).endpoint
 rises [] d h i j lt inside = absurd (omega arith)
@@ -388,314 +370,33 @@ raised_found (k ∷ ks) d (suc at) e b h inside is =
     let lower = rises (k ∷ ks) d h 0 (suc at) (omega arith) inside in
     ap (λ (l : List Kept). k ∷ l) (raised_found ks d at e b (tail_increases k ks h) (omega arith) is) ∙ sym (raised-after k ks e b (omega (arith, lower, is)))
 
-raised_gap : (ks : List Kept) (d : Kept) (at e b : ℕ) → at ≤ length ks → ((j : ℕ) → j < at → (get_or ks j d).endpoint < e) → ((j : ℕ) → at ≤ j → j < length ks → e < (get_or ks j d).endpoint)
-    → insert ks at (at_endpoint e b) ≡ raised ks e b
-raised_gap [] d zero e b inside smaller greater = refl
-raised_gap [] d (suc at) e b inside smaller greater = absurd (omega arith)
-raised_gap (k ∷ ks) d zero e b inside smaller greater = sym (raised-before k ks e b (greater 0 (omega arith) (omega arith)))
-raised_gap (k ∷ ks) d (suc at) e b inside smaller greater =
-    ap (λ (l : List Kept). k ∷ l) (raised_gap ks d at e b (omega arith) (λ j lt. smaller (suc j) (omega arith)) (λ j le lt. greater (suc j) (omega arith) (omega arith)))
-    ∙ sym (raised-after k ks e b (smaller 0 (omega arith)))
+-- the last one is of the endpoint: it is raised
+pub raised_last : (ks : List Kept) (n : ℕ) (d : Kept) (e b : ℕ) → IsIncreasing ks → n ≡ length ks → 0 < n → (get_or ks (n - 1) d).endpoint ≡ e
+    → set ks (n - 1) (at_endpoint e (max (get_or ks (n - 1) d).kept b)) ≡ raised ks e b
+raised_last ks n d e b h long inside is = raised_found ks d (n - 1) e b h (omega arith) is
 
-comparisons_rise : (ks : List Kept) (e : ℕ) → IsIncreasing ks → IsNonDecreasingBy (λ (k : Kept). ordering_index (nat_cmp k.endpoint e)) ks
-comparisons_rise ks e h = IsNonDecreasingBy-from_default (λ (k : Kept). ordering_index (nat_cmp k.endpoint e)) ks (at_endpoint 0 0) (λ i j le inside.
-    let keys : (get_or ks i (at_endpoint 0 0)).endpoint ≤ (get_or ks j (at_endpoint 0 0)).endpoint = by_place i j le inside (three i j) in
-    grind (arith, nat_tests))
+-- all are of earlier endpoints: it goes last
+pub raised_next : (ks : List Kept) (e b : ℕ) → ((d : Kept) (j : ℕ) → j < length ks → (get_or ks j d).endpoint < e) → ks ++ at_endpoint e b ∷ [] ≡ raised ks e b
+raised_next [] e b earlier = refl
+raised_next (k ∷ ks) e b earlier =
+    ap (λ (l : List Kept). k ∷ l) (raised_next ks e b (λ d j lt. earlier d (suc j) (omega arith))) ∙ sym (raised-after k ks e b (earlier k 0 (omega arith)))
+
+-- where the last one is of an earlier endpoint, all are
+pub earlier_all : (ks : List Kept) (n e : ℕ) → IsIncreasing ks → n ≡ length ks → ((d : Kept) → (get_or ks (n - 1) d).endpoint < e) → (d : Kept) (j : ℕ) → j < length ks → (get_or ks j d).endpoint < e
+earlier_all ks n e h long last d j lt = by_place (three j (n - 1))
   where
-    by_place : (i j : ℕ) → i ≤ j → j < length ks → (i < j) ⊎ ((i ≡ j) ⊎ (j < i)) → (get_or ks i (at_endpoint 0 0)).endpoint ≤ (get_or ks j (at_endpoint 0 0)).endpoint
-    by_place i j le inside (inl lt) = let r = rises ks (at_endpoint 0 0) h i j lt inside in omega arith
-    by_place i j le inside (inr (inl same)) = let e = ap (λ (n : ℕ). (get_or ks n (at_endpoint 0 0)).endpoint) same in omega (arith, e)
-    by_place i j le inside (inr (inr gt)) = absurd (omega arith)
+    by_place : (j < n - 1) ⊎ ((j ≡ n - 1) ⊎ (n - 1 < j)) → (get_or ks j d).endpoint < e
+    by_place (inl before) = let up = rises ks d h j (n - 1) before (omega arith) in omega (arith, up, last d)
+    by_place (inr (inl is)) = rw is (last d)
+    by_place (inr (inr after)) = absurd (omega arith)
 
-pub searched : (ks : List Kept) (e : ℕ) (r : Result ℕ ℕ) → IsIncreasing ks → IsSearchInRange r (length ks) → IsBinarySearchResult (λ (k : Kept). nat_cmp k.endpoint e) ks r → MatchResult r (IsAt ks e) (IsGap ks e)
-searched ks e (Ok at) h inside equal = record { inside = inside; is = λ d. ranked _ e _ (sym (equal d)) }
-searched ks e (Err at) h inside parted = record {
-  inside = inside;
-  smaller = λ j d lt. ranked _ e _ (sym ((parted (comparisons_rise ks e h)).0 j d (omega arith) lt));
-  greater = λ j d le lt. ranked _ e _ (sym ((parted (comparisons_rise ks e h)).1 j d le lt));
-}
-
--- the endpoint is there: it is raised at its place
-pub search_found : (ks : List Kept) (d : Kept) (at e b : ℕ) → IsIncreasing ks → IsAt ks e at → set ks at (at_endpoint e (max (get_or ks at d).kept b)) ≡ raised ks e b
-search_found ks d at e b h is_at = raised_found ks d at e b h is_at.inside (is_at.is d)
-
--- the endpoint isn't there: it goes into its gap
-pub search_gap : (ks : List Kept) (at e b : ℕ) → IsGap ks e at → insert ks at (at_endpoint e b) ≡ raised ks e b
-search_gap ks at e b gap = raised_gap ks (at_endpoint 0 0) at e b gap.inside (λ j lt. gap.smaller j (at_endpoint 0 0) lt) (λ j le lt. gap.greater j (at_endpoint 0 0) le lt)
-
--- Row by row
-
-pub get_some : {A : Type 0} (xs : List A) (i : ℕ) (d : A) → i < length xs → slice_get xs i ≡ Some (get_or xs i d)
-get_some [] i d lt = absurd (omega arith)
-get_some (x ∷ xs) zero d lt = refl
-get_some (x ∷ xs) (suc i) d lt = get_some xs i d (omega arith)
+-- Endpoints and programs in place of filters
 
 pub none_yet : (caps : List Cap) (packet : Packet) → ReceiversSoFar caps [] packet []
 none_yet caps packet = record {
   are = record { increasing = tt; each = λ e b. (λ at. absurd (never _ at), λ gets. absurd (never _ gets.hands.listed)) };
   covers = λ e v h. absurd (never _ h.listed);
 }
-
-there_is : {A : Type 0} (xs : List A) (i : ℕ) → i < length xs → (x : A) × (slice_get xs i ≡ Some x)
-there_is [] i lt = absurd (omega arith)
-there_is (x ∷ xs) zero lt = (x, refl)
-there_is (x ∷ xs) (suc i) lt = there_is xs i (omega arith)
-
-pub handed_increases : (caps : List Cap) (cap e b : ℕ) (kept : List Kept) → IsIncreasing kept → IsIncreasing (handed caps cap e b kept)
-handed_increases caps cap e b kept h = by_test (is_none (cap_at caps cap)) refl
-  where
-    by_test : (t : Bool) → is_none (cap_at caps cap) ≡ t → IsIncreasing (handed caps cap e b kept)
-    by_test true t = rw t h
-    by_test false t = rw t (raised_increases kept e b h)
-
--- rows of other programs change nothing
-skipped : (caps : List Cap) (rows : List Row) (n i place b : ℕ) (old : List Kept) → n ≤ i → ((k : ℕ) (row : Row) → n ≤ k → k < i → slice_get rows k ≡ Some row → row.program ≢ place)
-    → handed_back caps (drop n rows) place b old ≡ handed_back caps (drop i rows) place b old
-skipped caps [] zero zero place b old le others = refl
-skipped caps [] zero (suc i) place b old le others = refl
-skipped caps [] (suc n) zero place b old le others = refl
-skipped caps [] (suc n) (suc i) place b old le others = refl
-skipped caps (row ∷ rows) zero zero place b old le others = refl
-skipped caps (row ∷ rows) zero (suc i) place b old le others =
-    let no : (row.program == place) ≡ false = unequal row.program place (others 0 row (omega arith) (omega arith) refl) in
-    rw no (skipped caps rows zero i place b old (omega arith) (λ k r from lt at. others (suc k) r (omega arith) (omega arith) at))
-skipped caps (row ∷ rows) (suc n) zero place b old le others = absurd (omega arith)
-skipped caps (row ∷ rows) (suc n) (suc i) place b old le others = skipped caps rows n i place b old (omega arith) (λ k r from lt at. others (suc k) r (omega arith) (omega arith) at)
-
--- the row before those that are done
-handed_one : (caps : List Cap) (rows : List Row) (i place b : ℕ) (row : Row) (old : List Kept) → slice_get rows i ≡ Some row → row.program ≡ place
-    → handed_back caps (drop i rows) place b old ≡ handed caps row.cap row.endpoint b (handed_back caps (drop (i + 1) rows) place b old)
-handed_one caps rows i place b row old at same =
-    let yes' : (row.program == place) ≡ true = equal row.program place same in
-    ap (λ (rs : List Row). handed_back caps rs place b old) (drop_at rows i row at) ∙ rw yes' refl
-
-pub back_begins : (caps : List Cap) (rows : List Row) (place b last : ℕ) (old : List Kept) → IsLast rows (length rows) place last → IsIncreasing old → HandsBack caps rows place b old old last
-back_begins caps rows place b last old is increasing = record {
-  inside = is.inside;
-  done = sym (skipped caps rows last (length rows) place b old is.inside is.none_later ∙ ap (λ (rs : List Row). handed_back caps rs place b old) (drop_all rows));
-  increasing = increasing;
-  of_place = is.has;
-}
-  where
-    drop_all : (rs : List Row) → drop (length rs) rs ≡ []
-    drop_all [] = refl
-    drop_all (r ∷ rs) = drop_all rs
-
-pub back_next : (caps : List Cap) (rows : List Row) (lasts : List ℕ) (place b next i : ℕ) (row : Row) (old kept after : List Kept) → IsChained rows lasts → HandsBack caps rows place b old kept next
-    → next ≡ i + 1 → slice_get rows i ≡ Some row → after ≡ handed caps row.cap row.endpoint b kept → HandsBack caps rows place b old after row.before
-back_next caps rows lasts place b next i row old kept after chained so_far is at gives = record {
-  inside = omega (arith, link.inside, so_far.inside);
-  done = gives ∙ (ap (handed caps row.cap row.endpoint b) (so_far.done ∙ ap (λ (n : ℕ). handed_back caps (drop n rows) place b old) is)
-      ∙ (sym (handed_one caps rows i place b row old at mine) ∙ sym (skipped caps rows row.before i place b old link.inside (λ k r from lt there. (λ same. link.none_later k r from lt there (same ∙ sym mine))))));
-  increasing = subst IsIncreasing (sym gives) (handed_increases caps row.cap row.endpoint b kept so_far.increasing);
-  of_place = λ k r e there. link.has k r e there ∙ mine;
-}
-  where
-    link : IsLast rows i row.program row.before
-    link = chained.each i row at
-
-    mine : row.program ≡ place
-    mine = so_far.of_place i row is at
-
--- an element that goes last, or before a part
-moved_front : {A : Type 0} (xs ys : List A) (y x : A) → Contains ((xs ++ ys) ++ y ∷ []) x → Contains (xs ++ y ∷ ys) x
-moved_front xs ys y x h = elim (Contains-push_cases (xs ++ ys) y x h) [
-  | inl earlier ↦ elim (Contains-append_cases xs ys x earlier) [
-    | inl first ↦ Contains-append_left xs (y ∷ ys) x first
-    | inr later ↦ Contains-append_right xs (y ∷ ys) x (in_tail y ys x later)
-  ]
-  | inr same ↦ Contains-append_right xs (y ∷ ys) x (subst (Contains (y ∷ ys)) same (in_head y ys))
-]
-
-moved_back : {A : Type 0} (xs ys : List A) (y x : A) → Contains (xs ++ y ∷ ys) x → Contains ((xs ++ ys) ++ y ∷ []) x
-moved_back xs ys y x h = elim (Contains-append_cases xs (y ∷ ys) x h) [
-  | inl first ↦ Contains-append_left (xs ++ ys) (y ∷ []) x (Contains-append_left xs ys x first)
-  | inr rest ↦ elim (first_or_later y ys x rest) [
-    | inl same ↦ subst (Contains ((xs ++ ys) ++ y ∷ [])) same (Contains-push (xs ++ ys) y)
-    | inr later ↦ Contains-append_left (xs ++ ys) (y ∷ []) x (Contains-append_right xs ys x later)
-  ]
-]
-
-module _ (caps : List Cap) (packet : Packet) where
-  -- the order of the filters doesn't matter, nor how often one is listed
-  receivers_same : (fs gs : List ListedFilter) (kept : List Kept) → ((f : ListedFilter) → Contains fs f → Contains gs f) → ((f : ListedFilter) → Contains gs f → Contains fs f)
-      → ReceiversSoFar caps fs packet kept → ReceiversSoFar caps gs packet kept
-  receivers_same fs gs kept to back so_far = record {
-    are = record { increasing = so_far.are.increasing; each = λ e b. (λ at. more e b ((so_far.are.each e b).0 at), λ gets. (so_far.are.each e b).1 (less e b gets)) };
-    covers = λ e v h. so_far.covers e v (down e v h);
-  }
-    where
-      up : (e v : ℕ) → Hands caps fs packet e v → Hands caps gs packet e v
-      up e v h = record { accepted_by = h.accepted_by; listed = to h.accepted_by h.listed; of_endpoint = h.of_endpoint; cap_held = h.cap_held; steps = h.steps; ends = h.ends; above_zero = h.above_zero }
-
-      down : (e v : ℕ) → Hands caps gs packet e v → Hands caps fs packet e v
-      down e v h = record { accepted_by = h.accepted_by; listed = back h.accepted_by h.listed; of_endpoint = h.of_endpoint; cap_held = h.cap_held; steps = h.steps; ends = h.ends; above_zero = h.above_zero }
-
-      more : (e b : ℕ) → Gets caps fs packet e b → Gets caps gs packet e b
-      more e b g = record { greatest = g.greatest; hands = up e g.greatest g.hands; above_all = λ v h. g.above_all v (down e v h); is_kept = g.is_kept }
-
-      less : (e b : ℕ) → Gets caps gs packet e b → Gets caps fs packet e b
-      less e b g = record { greatest = g.greatest; hands = down e g.greatest g.hands; above_all = λ v h. g.above_all v (up e v h); is_kept = g.is_kept }
-
--- Program by program
-
-module _ (caps : List Cap) (packet : Packet) (programs : List (List Insn)) where
-  abbrev shown : List Row → List ListedFilter
-  shown rows = map (listed_row programs) rows
-
-  module _ (place verdict : ℕ) (inside : place < length programs) (known : VerdictAt programs place packet verdict) where
-    row_verdict : (row : Row) → row.program ≡ place → IsVerdict (listed_row programs row).program packet verdict
-    row_verdict row same =
-        let p = there_is programs place inside in
-        subst (λ (q : List Insn). IsVerdict q packet verdict) (sym (ap or_nothing (ap (slice_get programs) same ∙ p.1))) (known p.0 p.1)
-
-    one_handed : (before : List ListedFilter) (row : Row) (kept : List Kept) → row.program ≡ place → 0 < verdict → ReceiversSoFar caps before packet kept
-        → ReceiversSoFar caps (before ++ listed_row programs row ∷ []) packet (handed caps row.cap row.endpoint (min verdict (length packet.bytes)) kept)
-    one_handed before row kept same over so_far = by_test (is_none (cap_at caps row.cap)) refl
-      where
-        by_test : (t : Bool) → is_none (cap_at caps row.cap) ≡ t
-            → ReceiversSoFar caps (before ++ listed_row programs row ∷ []) packet (handed caps row.cap row.endpoint (min verdict (length packet.bytes)) kept)
-        by_test true t = rw t (receivers_past caps packet before (listed_row programs row) kept (λ e v last. (let held = last.cap_held in cc)) so_far)
-        by_test false t = let mine = row_verdict row same in
-            rw t (receivers_raised caps packet before (listed_row programs row) kept verdict (record { of_endpoint = refl; cap_held = t; steps = mine.steps; ends = mine.ends; above_zero = over }) mine so_far)
-
-    rows_handed : (rows : List Row) (before : List ListedFilter) (kept : List Kept) → 0 < verdict → ReceiversSoFar caps before packet kept
-        → ReceiversSoFar caps (before ++ shown (filter (λ row. row.program == place) rows)) packet (handed_back caps rows place (min verdict (length packet.bytes)) kept)
-    rows_handed [] before kept over so_far = subst (λ (fs : List ListedFilter). ReceiversSoFar caps fs packet kept) (sym (append-nil before)) so_far
-    rows_handed (row ∷ rows) before kept over so_far = by_test (row.program == place) refl (rows_handed rows before kept over so_far)
-      where
-        by_test : (t : Bool) → (row.program == place) ≡ t
-            → ReceiversSoFar caps (before ++ shown (filter (λ row. row.program == place) rows)) packet (handed_back caps rows place (min verdict (length packet.bytes)) kept)
-            → ReceiversSoFar caps (before ++ shown (filter (λ row. row.program == place) (row ∷ rows))) packet (handed_back caps (row ∷ rows) place (min verdict (length packet.bytes)) kept)
-        by_test true t rest =
-            let same : row.program ≡ place = grind (arith, nat_tests) in
-            rw t (receivers_same caps packet _ _ _ (λ f at. moved_front before (shown (filter (λ row. row.program == place) rows)) (listed_row programs row) f at)
-            (λ f at. moved_back before (shown (filter (λ row. row.program == place) rows)) (listed_row programs row) f at)
-            (one_handed (before ++ shown (filter (λ row. row.program == place) rows)) row (handed_back caps rows place (min verdict (length packet.bytes)) kept) same over rest))
-        by_test false t rest = rw t rest
-
-    rows_silent : (rows : List Row) (before : List ListedFilter) (kept : List Kept) → verdict ≡ 0 → ReceiversSoFar caps before packet kept
-        → ReceiversSoFar caps (before ++ shown (filter (λ row. row.program == place) rows)) packet kept
-    rows_silent [] before kept zero_is so_far = subst (λ (fs : List ListedFilter). ReceiversSoFar caps fs packet kept) (sym (append-nil before)) so_far
-    rows_silent (row ∷ rows) before kept zero_is so_far = by_test (row.program == place) refl (rows_silent rows)
-      where
-        by_test : (t : Bool) → (row.program == place) ≡ t
-            → ((before : List ListedFilter) (kept : List Kept) → verdict ≡ 0 → ReceiversSoFar caps before packet kept
-            → ReceiversSoFar caps (before ++ shown (filter (λ row. row.program == place) rows)) packet kept)
-            → ReceiversSoFar caps (before ++ shown (filter (λ row. row.program == place) (row ∷ rows))) packet kept
-        by_test true t rest =
-            let same : row.program ≡ place = grind (arith, nat_tests) in
-            let mine = row_verdict row same in
-            rw t (subst (λ (fs : List ListedFilter). ReceiversSoFar caps fs packet kept)
-            (append_assoc before (listed_row programs row ∷ []) (shown (filter (λ row. row.program == place) rows)))
-            (rest (before ++ listed_row programs row ∷ []) kept zero_is
-            (receivers_past caps packet before (listed_row programs row) kept (λ e v last. (let is = mine.only v last.steps last.ends in let over = last.above_zero in absurd (omega arith))) so_far)))
-        by_test false t rest = rw t (rest before kept zero_is so_far)
-
-  -- filters of the rows that one test or another passes
-  passes_more : (q q' : Row → Bool) → ((row : Row) → q row ≡ true → q' row ≡ true) → (rows : List Row) (f : ListedFilter) → Contains (shown (filter q rows)) f → Contains (shown (filter q' rows)) f
-  passes_more q q' imp [] f h = h
-  passes_more q q' imp (row ∷ rows) f h = by_tests (q row) refl (q' row) refl (passes_more q q' imp rows f)
-    where
-      first : (Contains (shown (filter q rows)) f → Contains (shown (filter q' rows)) f) → (listed_row programs row ≡ f) ⊎ Contains (shown (filter q rows)) f → Contains (listed_row programs row ∷ shown (filter q' rows)) f
-      first rest (inl same) = subst (λ (g : ListedFilter). Contains (listed_row programs row ∷ shown (filter q' rows)) g) same (in_head _ _)
-      first rest (inr later) = in_tail _ _ f (rest later)
-
-      by_tests : (a : Bool) → q row ≡ a → (b : Bool) → q' row ≡ b → (Contains (shown (filter q rows)) f → Contains (shown (filter q' rows)) f) → Contains (shown (filter q' (row ∷ rows))) f
-      by_tests true a true b rest = rw b (first rest (first_or_later _ _ f (rw a at h)))
-      by_tests true a false b rest = absurd (let yes' = imp row a in cc)
-      by_tests false a true b rest = rw b (in_tail _ _ f (rest (rw a at h)))
-      by_tests false a false b rest = rw b (rest (rw a at h))
-
-  passes_one : (q q1 q2 : Row → Bool) → ((row : Row) → q row ≡ true → (q1 row ≡ true) ⊎ (q2 row ≡ true)) → (rows : List Row) (f : ListedFilter)
-      → Contains (shown (filter q rows)) f → Contains (shown (filter q1 rows)) f ⊎ Contains (shown (filter q2 rows)) f
-  passes_one q q1 q2 imp [] f h = inl h
-  passes_one q q1 q2 imp (row ∷ rows) f h = by_test (q row) refl (passes_one q q1 q2 imp rows f)
-    where
-      skip1 : Contains (shown (filter q1 rows)) f → Contains (shown (filter q1 (row ∷ rows))) f
-      skip1 at = by (q1 row) refl
-        where
-          by : (b : Bool) → q1 row ≡ b → Contains (shown (filter q1 (row ∷ rows))) f
-          by true b = rw b (in_tail _ _ f at)
-          by false b = rw b at
-
-      skip2 : Contains (shown (filter q2 rows)) f → Contains (shown (filter q2 (row ∷ rows))) f
-      skip2 at = by (q2 row) refl
-        where
-          by : (b : Bool) → q2 row ≡ b → Contains (shown (filter q2 (row ∷ rows))) f
-          by true b = rw b (in_tail _ _ f at)
-          by false b = rw b at
-
-      later : Contains (shown (filter q1 rows)) f ⊎ Contains (shown (filter q2 rows)) f → Contains (shown (filter q1 (row ∷ rows))) f ⊎ Contains (shown (filter q2 (row ∷ rows))) f
-      later (inl at) = inl (skip1 at)
-      later (inr at) = inr (skip2 at)
-
-      here : listed_row programs row ≡ f → (q1 row ≡ true) ⊎ (q2 row ≡ true) → Contains (shown (filter q1 (row ∷ rows))) f ⊎ Contains (shown (filter q2 (row ∷ rows))) f
-      here same (inl b) = inl (rw b (subst (λ (g : ListedFilter). Contains (listed_row programs row ∷ shown (filter q1 rows)) g) same (in_head _ _)))
-      here same (inr b) = inr (rw b (subst (λ (g : ListedFilter). Contains (listed_row programs row ∷ shown (filter q2 rows)) g) same (in_head _ _)))
-
-      first : q row ≡ true → (Contains (shown (filter q rows)) f → Contains (shown (filter q1 rows)) f ⊎ Contains (shown (filter q2 rows)) f) → (listed_row programs row ≡ f) ⊎ Contains (shown (filter q rows)) f
-          → Contains (shown (filter q1 (row ∷ rows))) f ⊎ Contains (shown (filter q2 (row ∷ rows))) f
-      first a rest (inl same) = here same (imp row a)
-      first a rest (inr at) = later (rest at)
-
-      by_test : (a : Bool) → q row ≡ a → (Contains (shown (filter q rows)) f → Contains (shown (filter q1 rows)) f ⊎ Contains (shown (filter q2 rows)) f)
-          → Contains (shown (filter q1 (row ∷ rows))) f ⊎ Contains (shown (filter q2 (row ∷ rows))) f
-      by_test true a rest = first a rest (first_or_later _ _ f (rw a at h))
-      by_test false a rest = later (rest (rw a at h))
-
-  -- the rows whose programs come before a place, and those of the place
-  pub place_done : (rows : List Row) (place verdict : ℕ) (kept after : List Kept) → place < length programs → VerdictAt programs place packet verdict
-      → ReceiversSoFar caps (shown (filter (λ row. ltb row.program place) rows)) packet kept
-      → after ≡ cond (verdict == 0) kept (handed_back caps rows place (min verdict (length packet.bytes)) kept)
-      → ReceiversSoFar caps (shown (filter (λ row. ltb row.program (place + 1)) rows)) packet after
-  place_done rows place verdict kept after inside known so_far is =
-      receivers_same caps packet (shown (filter (λ row. ltb row.program place) rows) ++ shown (filter (λ row. row.program == place) rows)) (shown (filter (λ row. ltb row.program (place + 1)) rows)) after to back
-      (subst (λ (ks : List Kept). ReceiversSoFar caps (shown (filter (λ row. ltb row.program place) rows) ++ shown (filter (λ row. row.program == place) rows)) packet ks) (sym is) (by_verdict (verdict == 0) refl))
-    where
-      to : (f : ListedFilter) → Contains (shown (filter (λ row. ltb row.program place) rows) ++ shown (filter (λ row. row.program == place) rows)) f → Contains (shown (filter (λ row. ltb row.program (place + 1)) rows)) f
-      to f h = elim (Contains-append_cases (shown (filter (λ row. ltb row.program place) rows)) (shown (filter (λ row. row.program == place) rows)) f h) [
-        | inl at ↦ passes_more (λ row. ltb row.program place) (λ row. ltb row.program (place + 1)) (λ row t. grind (arith, nat_tests)) rows f at
-        | inr at ↦ passes_more (λ row. row.program == place) (λ row. ltb row.program (place + 1)) (λ row t. grind (arith, nat_tests)) rows f at
-      ]
-
-      split : (row : Row) → ltb row.program (place + 1) ≡ true → (ltb row.program place ≡ true) ⊎ ((row.program == place) ≡ true)
-      split row t = by_order (three row.program place)
-        where
-          by_order : (row.program < place) ⊎ ((row.program ≡ place) ⊎ (place < row.program)) → (ltb row.program place ≡ true) ⊎ ((row.program == place) ≡ true)
-          by_order (inl lt) = inl (grind (arith, nat_tests))
-          by_order (inr (inl same)) = inr (grind (arith, nat_tests))
-          by_order (inr (inr gt)) = absurd (let under : row.program < place + 1 = grind (arith, nat_tests) in omega arith)
-
-      back : (f : ListedFilter) → Contains (shown (filter (λ row. ltb row.program (place + 1)) rows)) f → Contains (shown (filter (λ row. ltb row.program place) rows) ++ shown (filter (λ row. row.program == place) rows)) f
-      back f h = elim (passes_one (λ row. ltb row.program (place + 1)) (λ row. ltb row.program place) (λ row. row.program == place) split rows f h) [
-        | inl at ↦ Contains-append_left _ _ f at
-        | inr at ↦ Contains-append_right _ _ f at
-      ]
-
-      by_verdict : (t : Bool) → (verdict == 0) ≡ t
-          → ReceiversSoFar caps (shown (filter (λ row. ltb row.program place) rows) ++ shown (filter (λ row. row.program == place) rows)) packet (cond (verdict == 0) kept (handed_back caps rows place (min verdict (length packet.bytes)) kept))
-      by_verdict true t = rw t (rows_silent place verdict inside known rows (shown (filter (λ row. ltb row.program place) rows)) kept (grind (arith, nat_tests)) so_far)
-      by_verdict false t = rw t (rows_handed place verdict inside known rows (shown (filter (λ row. ltb row.program place) rows)) kept (grind (arith, nat_tests)) so_far)
-
-  no_place : (rows : List Row) → filter (λ row. ltb row.program 0) rows ≡ []
-  no_place [] = refl
-  no_place (row ∷ rows) = let no : ltb row.program 0 ≡ false = grind (arith, nat_tests) in rw no (no_place rows)
-
-  pub none_done : (rows : List Row) → ReceiversSoFar caps (shown (filter (λ row. ltb row.program 0) rows)) packet []
-  none_done rows = rw (no_place rows) (none_yet caps packet)
-
-  all_placed : (rows : List Row) (n : ℕ) → ((k : ℕ) (row : Row) → slice_get rows k ≡ Some row → row.program < n) → filter (λ row. ltb row.program n) rows ≡ rows
-  all_placed [] n placed = refl
-  all_placed (row ∷ rows) n placed =
-      let lt = placed 0 row refl in
-      let holds : ltb row.program n ≡ true = grind (arith, nat_tests) in
-      rw holds (ap (λ (rs : List Row). row ∷ rs) (all_placed rows n (λ k r at. placed (suc k) r at)))
-
-  pub all_done : (rows : List Row) (n : ℕ) (kept : List Kept) → n ≡ length programs → ((k : ℕ) (row : Row) → slice_get rows k ≡ Some row → row.program < length programs)
-      → ReceiversSoFar caps (shown (filter (λ row. ltb row.program n) rows)) packet kept → AreReceivers caps (shown rows) packet kept
-  all_done rows n kept is placed so_far =
-      subst (λ (rs : List Row). AreReceivers caps (shown rs) packet kept) (ap (λ (m : ℕ). filter (λ row. ltb row.program m) rows) is ∙ all_placed rows (length programs) placed) so_far.are
 
 -- the verdict that a run gives is that of the program at its place
 pub run_verdict : (programs : List (List Insn)) (place : ℕ) (program : List Insn) (packet : Packet) (verdict steps : ℕ) → slice_get programs place ≡ Some program
@@ -706,3 +407,100 @@ run_verdict programs place program packet verdict steps is ends only other at =
   where
     by_some : Some program ≡ Some other → program ≡ other
     by_some e = cc
+
+pub set_cases : {A : Type 0} (xs : List A) (i : ℕ) (y : A) (k : ℕ) (x : A) → slice_get (set xs i y) k ≡ Some x → ((k ≡ i) × (y ≡ x)) ⊎ (slice_get xs k ≡ Some x)
+set_cases [] i y k x h = inr h
+set_cases (z ∷ xs) zero y zero x h = inl (refl, cc)
+set_cases (z ∷ xs) zero y (suc k) x h = inr h
+set_cases (z ∷ xs) (suc i) y zero x h = inr h
+set_cases (z ∷ xs) (suc i) y (suc k) x h = by_rest (set_cases xs i y k x h)
+  where
+    by_rest : ((k ≡ i) × (y ≡ x)) ⊎ (slice_get xs k ≡ Some x) → ((suc k ≡ suc i) × (y ≡ x)) ⊎ (slice_get (z ∷ xs) (suc k) ≡ Some x)
+    by_rest (inl set_here) = inl (ap suc set_here.0, set_here.1)
+    by_rest (inr kept) = inr kept
+
+-- one more program has been run
+pub verdict_known : (programs : List (List Insn)) (packet : Packet) (verdicts : List (Option ℕ)) (place verdict : ℕ) → AreVerdicts programs packet verdicts → VerdictAt programs place packet verdict
+    → AreVerdicts programs packet (set verdicts place (Some verdict))
+verdict_known programs packet verdicts place verdict h known = record {
+  lengths = length-set verdicts place (Some verdict) ∙ h.lengths;
+  each = λ p v at. by_place p v (set_cases verdicts place (Some verdict) p (Some v) at);
+}
+  where
+    by_place : (p v : ℕ) → ((p ≡ place) × (Some verdict ≡ Some v)) ⊎ (slice_get verdicts p ≡ Some (Some v)) → VerdictAt programs p packet v
+    by_place p v (inl run) = let one : verdict ≡ v = cc in subst (λ (n : ℕ). VerdictAt programs n packet v) (sym run.0) (subst (VerdictAt programs place packet) one known)
+    by_place p v (inr before) = h.each p v before
+
+module _ (programs : List (List Insn)) (packet : Packet) where
+  verdict_is : (reach : Reach) (verdict : ℕ) → reach.program < length programs → VerdictAt programs reach.program packet verdict → IsVerdict (filter_of programs reach).program packet verdict
+  verdict_is reach verdict inside known =
+      let p = there_is programs reach.program inside in
+      subst (λ (q : List Insn). IsVerdict q packet verdict) (sym (ap or_nothing p.1)) (known p.0 p.1)
+
+  one_more : (reaches : List Reach) (i : ℕ) (reach : Reach) → slice_get reaches i ≡ Some reach → map (filter_of programs) (take i reaches) ++ filter_of programs reach ∷ [] ≡ map (filter_of programs) (take (i + 1) reaches)
+  one_more reaches i reach at = sym (ap (map (filter_of programs)) (take_at reaches i reach at) ∙ map-append' (filter_of programs) (take i reaches) (reach ∷ []))
+
+  pub reach_silent : (reaches : List Reach) (i : ℕ) (reach : Reach) (verdict : ℕ) (kept : List Kept) → slice_get reaches i ≡ Some reach → reach.program < length programs → VerdictAt programs reach.program packet verdict
+      → verdict ≡ 0 → ReceiversSoFar one_cap (map (filter_of programs) (take i reaches)) packet kept → ReceiversSoFar one_cap (map (filter_of programs) (take (i + 1) reaches)) packet kept
+  reach_silent reaches i reach verdict kept at inside known zero_is so_far =
+      let mine = verdict_is reach verdict inside known in
+      subst (λ (fs : List ListedFilter). ReceiversSoFar one_cap fs packet kept) (one_more reaches i reach at)
+      (receivers_past one_cap packet (map (filter_of programs) (take i reaches)) (filter_of programs reach) kept (λ e v last. (let is = mine.only v last.steps last.ends in let over = last.above_zero in absurd (omega arith))) so_far)
+
+  pub reach_raised : (reaches : List Reach) (i : ℕ) (reach : Reach) (verdict : ℕ) (kept : List Kept) → slice_get reaches i ≡ Some reach → reach.program < length programs → VerdictAt programs reach.program packet verdict
+      → 0 < verdict → ReceiversSoFar one_cap (map (filter_of programs) (take i reaches)) packet kept
+      → ReceiversSoFar one_cap (map (filter_of programs) (take (i + 1) reaches)) packet (raised kept reach.endpoint (min verdict (length packet.bytes)))
+  reach_raised reaches i reach verdict kept at inside known over so_far =
+      let mine = verdict_is reach verdict inside known in
+      subst (λ (fs : List ListedFilter). ReceiversSoFar one_cap fs packet (raised kept reach.endpoint (min verdict (length packet.bytes)))) (one_more reaches i reach at)
+      (receivers_raised one_cap packet (map (filter_of programs) (take i reaches)) (filter_of programs reach) kept verdict
+      (record { of_endpoint = refl; cap_held = refl; steps = mine.steps; ends = mine.ends; above_zero = over }) mine so_far)
+
+  -- those that got the packet so far are of no later endpoint
+  pub none_later : (reaches : List Reach) (i : ℕ) (reach : Reach) (kept : List Kept) → IsNonDecreasingBy (λ (r : Reach). r.endpoint) reaches → slice_get reaches i ≡ Some reach
+      → ReceiversSoFar one_cap (map (filter_of programs) (take i reaches)) packet kept → All (λ (k : Kept). k.endpoint ≤ reach.endpoint) kept
+  none_later reaches i reach kept rises at so_far k d lt =
+      let gets = (so_far.are.each (get_or kept k d).endpoint (get_or kept k d).kept).0 (Contains-get_or kept k d lt) in
+      let one = was_mapped (filter_of programs) (take i reaches) gets.hands.accepted_by gets.hands.listed in
+      let low = below_last (take i reaches) reach one.0 (subst (IsNonDecreasingBy (λ (r : Reach). r.endpoint)) (take_at reaches i reach at) (IsNonDecreasingBy-take (λ (r : Reach). r.endpoint) (i + 1) reaches rises)) one.1 in
+      let is = ap (λ (f : ListedFilter). f.endpoint) one.2 ∙ gets.hands.of_endpoint in
+      omega arith
+
+-- what they hand on, the filters do
+module _ (caps : List Cap) (programs : List (List Insn)) (rows : List Row) (reaches : List Reach) (packet : Packet) (are : AreReaches caps rows reaches) where
+  by_filters : (e v : ℕ) → Hands one_cap (map (filter_of programs) reaches) packet e v → Hands caps (map (listed_row programs) rows) packet e v
+  by_filters e v h =
+      let r = was_mapped (filter_of programs) reaches h.accepted_by h.listed in
+      let live = (are.each r.0).0 r.1 in
+      record {
+        accepted_by = listed_row programs live.row;
+        listed = in_map (listed_row programs) rows live.row live.listed;
+        of_endpoint = ap (λ (x : Reach). x.endpoint) live.is ∙ (ap (λ (f : ListedFilter). f.endpoint) r.2 ∙ h.of_endpoint);
+        cap_held = live.held;
+        steps = h.steps;
+        ends = subst (λ (p : List Insn). Ends p packet v h.steps) (sym (ap (λ (f : ListedFilter). f.program) r.2) ∙ ap (λ (x : Reach). or_nothing (slice_get programs x.program)) (sym live.is)) h.ends;
+        above_zero = h.above_zero;
+      }
+
+  by_reaches : (e v : ℕ) → Hands caps (map (listed_row programs) rows) packet e v → Hands one_cap (map (filter_of programs) reaches) packet e v
+  by_reaches e v h =
+      let row = was_mapped (listed_row programs) rows h.accepted_by h.listed in
+      record {
+        accepted_by = filter_of programs (reach_of row.0);
+        listed = in_map (filter_of programs) reaches (reach_of row.0)
+            ((are.each (reach_of row.0)).1 (record { row = row.0; listed = row.1; held = ap (λ (f : ListedFilter). is_none (cap_at caps f.cap)) row.2 ∙ h.cap_held; is = refl }));
+        of_endpoint = ap (λ (f : ListedFilter). f.endpoint) row.2 ∙ h.of_endpoint;
+        cap_held = refl;
+        steps = h.steps;
+        ends = subst (λ (p : List Insn). Ends p packet v h.steps) (sym (ap (λ (f : ListedFilter). f.program) row.2)) h.ends;
+        above_zero = h.above_zero;
+      }
+
+  pub reached_receive : (kept : List Kept) → AreReached programs reaches packet kept → AreReceivers caps (map (listed_row programs) rows) packet kept
+  reached_receive kept h = record { increasing = h.increasing; each = λ e b. (λ at. to e b ((h.each e b).0 at), λ gets. (h.each e b).1 (back e b gets)) }
+    where
+      to : (e b : ℕ) → Gets one_cap (map (filter_of programs) reaches) packet e b → Gets caps (map (listed_row programs) rows) packet e b
+      to e b g = record { greatest = g.greatest; hands = by_filters e g.greatest g.hands; above_all = λ v h. g.above_all v (by_reaches e v h); is_kept = g.is_kept }
+
+      back : (e b : ℕ) → Gets caps (map (listed_row programs) rows) packet e b → Gets one_cap (map (filter_of programs) reaches) packet e b
+      back e b g = record { greatest = g.greatest; hands = by_reaches e g.greatest g.hands; above_all = λ v h. g.above_all v (by_filters e v h); is_kept = g.is_kept }

@@ -1,5 +1,5 @@
 -- One more filter, its program kept once.
-use Rattle.std.proofs.Common.{◌≡◌, ◌<◌, ◌+◌, ◌⊎◌, inl, inr, ℕ, zero, suc, Some, List, [], ◌∷◌, ◌++◌, map, length, slice_get, refl, ap, sym, ◌∙◌, arith, length-append, get_or}
+use Rattle.std.proofs.Common.{◌≡◌, ◌<◌, ◌+◌, ◌⊎◌, inl, inr, ℕ, zero, suc, Some, List, [], ◌∷◌, ◌++◌, map, length, slice_get, refl, ap, sym, ◌∙◌, subst, arith, length-append, get_or}
 use Rattle.bpf_insn.specs.declared.insn.Insn.{Insn}
 use Rattle.table_replica.specs.Listed.{ListedFilter}
 use Rattle.table_replica.specs.declared.filters.Row.{Row}
@@ -42,7 +42,7 @@ get-map f [] i x h = absurd cc
 get-map f (y ∷ xs) zero x h = cc
 get-map f (y ∷ xs) (suc i) x h = get-map f xs i x h
 
-map-get' : {A B : Type 0} (f : A → B) (xs : List A) (i : ℕ) (y : B) → slice_get (map f xs) i ≡ Some y → (x : A) × (slice_get xs i ≡ Some x) × (f x ≡ y)
+pub map-get' : {A B : Type 0} (f : A → B) (xs : List A) (i : ℕ) (y : B) → slice_get (map f xs) i ≡ Some y → (x : A) × (slice_get xs i ≡ Some x) × (f x ≡ y)
 map-get' f [] i y h = absurd cc
 map-get' f (x ∷ xs) zero y h = (x, refl, cc)
 map-get' f (x ∷ xs) (suc i) y h = map-get' f xs i y h
@@ -152,3 +152,14 @@ not_at xs i x p lt h ne at = let y = get_is xs i x lt h in ne (cc (y, at))
 
 pub not_in : (xs : List (List Insn)) (p : List Insn) → ((k : ℕ) → k < length xs → slice_get xs k ≡ Some p → ⊥) → IsIn xs p → ⊥
 not_in xs p none at = none at.0 (within xs at.0 p at.1) at.1
+
+-- A row that was pushed, in the words of the calls
+
+module _ (rows : List Row) (programs : List (List Insn)) (total : ℕ) (program : List Insn) (after : List (List Insn)) (row : Row)
+    (shared : IsShared rows programs total) (keeps : Keeps programs program after row.program) (rows' : List Row) (pushed : rows' ≡ rows ++ row ∷ []) where
+  pub shared_after : (n : ℕ) → n ≡ total + length program → IsShared rows' after n
+  shared_after n counted = subst (IsShared rows' after) (sym counted)
+      (subst (λ (rs : List Row). IsShared rs after (total + length program)) (sym pushed) (shared-keep rows programs after total program row shared keeps))
+
+  pub view_after : map (listed_row after) rows' ≡ map (listed_row programs) rows ++ record { id = row.id; owner = row.owner; cap = row.cap; endpoint = row.endpoint; program = program } ∷ []
+  view_after = ap (map (listed_row after)) pushed ∙ view-keep rows programs after total program row shared keeps

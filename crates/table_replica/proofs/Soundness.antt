@@ -1,5 +1,5 @@
 -- An allowed operation leaves the table sound.
-use Rattle.std.proofs.Common.{◌≡◌, ◌<◌, ◌≤◌, ◌+◌, ◌==◌, ◌||◌, ◌⊎◌, inl, inr, ℕ, zero, suc, Bool, true, false, not, cond, Option, Some, None, is_none, List, [], ◌∷◌, ◌++◌, filter, map, length, slice_index_or, Contains, refl, ap, sym, ◌∙◌, subst, arith}
+use Rattle.std.proofs.Common.{◌≡◌, ◌<◌, ◌≤◌, ◌+◌, ◌==◌, ◌||◌, ◌⊎◌, inl, inr, ℕ, zero, suc, Bool, true, false, not, cond, Option, Some, None, is_none, List, [], ◌∷◌, ◌++◌, filter, map, Contains, refl, ap, sym, ◌∙◌, subst, arith}
 use Rattle.std.proofs.lemmas.Bool.Decides.{nat_tests}
 use Rattle.std.proofs.lemmas.List.Elements.{Contains-push_cases}
 use Rattle.std.specs.Option.{ForSome}
@@ -8,7 +8,7 @@ use Rattle.filter_verify.specs.Rules.{Sound}
 use Rattle.endpoint_caps.specs.declared.Cap.{Cap}
 use Rattle.endpoint_caps.specs.declared.Rights.{Rights}
 use Rattle.endpoint_caps.specs.declared.Right.TheVariants.{Receive}
-use Rattle.endpoint_caps.specs.Capabilities.{CapTable, IdsBetween, ParentsHeld, cap_at, has_right, is_under, is_some_and, child_of}
+use Rattle.endpoint_caps.specs.Capabilities.{CapTable, created, minted_from, IdsBetween, ParentsHeld, cap_at, has_right, is_under, is_some_and, child_of}
 use Rattle.endpoint_caps.specs.Keeping.{entries_of, caps_of, IsKept}
 use Rattle.endpoint_caps.proofs.Keeping.{caps-entries, entries-append, at-append, at-filter, between-filter, none-after, parents-filter, kept-push, stays_above}
 use Rattle.table_replica.specs.Listed.{ListedFilter}
@@ -17,7 +17,9 @@ use Rattle.table_replica.specs.declared.Op.TheVariants.{Create, Mint, Revoke, Dr
 use Rattle.table_replica.specs.Tables.{State, tests, Allowed, Verifies, program_of, replaced, after, endpoint_of}
 use Rattle.table_replica.specs.declared.replica.Staged.{Staged}
 use Rattle.table_replica.specs.Replicas.{IsStaged}
+use Rattle.table_replica.specs.Keeping.{AreHeldAlike}
 use Rattle.table_replica.specs.Soundness.{FilterIdsBetween, IsRightful, IsSoundTable, IdsGrow}
+use Rattle.table_replica.proofs.Lists.{from_filter, was_mapped}
 use Rattle.table_replica.proofs.Tables.{first_none, allowed_tests, allowed_answers}
 
 -- The ids of the filters
@@ -45,41 +47,6 @@ filters-replaced from (f ∷ fs) to id program h = by_test (f.id == id) refl (fi
     by_test : (b : Bool) → (f.id == id) ≡ b → FilterIdsBetween (f.id + 1) (replaced fs id program) to → FilterIdsBetween from (replaced (f ∷ fs) id program) to
     by_test true e rest = rw e (h.0, rest)
     by_test false e rest = rw e (h.0, rest)
-
--- Filters that were listed before
-
-first_or_later : {A : Type 0} (y : A) (ys : List A) (x : A) → Contains (y ∷ ys) x → (y ≡ x) ⊎ Contains ys x
-first_or_later {A} y ys x h = by_place h.0 h.1 h.2
-  where
-    by_place : (k : ℕ) → k < length (y ∷ ys) → slice_index_or (y ∷ ys) k x ≡ x → (y ≡ x) ⊎ Contains ys x
-    by_place zero lt e = inl e
-    by_place (suc k) lt e = inr (k, omega arith, e)
-
-in_head : {A : Type 0} (y : A) (ys : List A) → Contains (y ∷ ys) y
-in_head y ys = (0, omega arith, refl)
-
-in_tail : {A : Type 0} (y : A) (ys : List A) (x : A) → Contains ys x → Contains (y ∷ ys) x
-in_tail y ys x h = (suc h.0, omega (arith, h.1), h.2)
-
-was_listed : (p : ListedFilter → Bool) (fs : List ListedFilter) (f : ListedFilter) → Contains (filter p fs) f → Contains fs f
-was_listed p [] f h = h
-was_listed p (g ∷ fs) f h = by_test (p g) refl (was_listed p fs f)
-  where
-    first : (Contains (filter p fs) f → Contains fs f) → (g ≡ f) ⊎ Contains (filter p fs) f → Contains (g ∷ fs) f
-    first rest (inl same) = subst (Contains (g ∷ fs)) same (in_head g fs)
-    first rest (inr later) = in_tail g fs f (rest later)
-
-    by_test : (b : Bool) → p g ≡ b → (Contains (filter p fs) f → Contains fs f) → Contains (g ∷ fs) f
-    by_test true e rest = first rest (first_or_later g (filter p fs) f (rw e at h))
-    by_test false e rest = in_tail g fs f (rest (rw e at h))
-
-was_mapped : (g : ListedFilter → ListedFilter) (fs : List ListedFilter) (f : ListedFilter) → Contains (map g fs) f → (old : ListedFilter) × Contains fs old × (g old ≡ f)
-was_mapped g [] f h = absurd (omega (arith, h.1))
-was_mapped g (old ∷ fs) f h = by_place (first_or_later (g old) (map g fs) f h) (was_mapped g fs f)
-  where
-    by_place : (g old ≡ f) ⊎ Contains (map g fs) f → (Contains (map g fs) f → (old : ListedFilter) × Contains fs old × (g old ≡ f)) → (o : ListedFilter) × Contains (old ∷ fs) o × (g o ≡ f)
-    by_place (inl same) rest = (old, in_head old fs, same)
-    by_place (inr later) rest = let r = rest later in (r.0, in_tail old fs r.0 r.1, r.2)
 
 -- The capabilities
 
@@ -215,6 +182,24 @@ module _ (s : State) (h : IsSoundTable s) where
         sound = sound;
       }
 
+-- new capabilities are no filter's
+alike_after : (s : State) (new : List Cap) → IsSoundTable s → ((id : ℕ) → id < s.caps.next → cap_at new id ≡ None) → (f : ListedFilter) → Contains s.filters f
+    → cap_at (s.caps.held ++ new) f.cap ≡ cap_at s.caps.held f.cap
+alike_after s new h none f at = at-append s.caps.held new f.cap (none f.cap (h.rightful f at).given_out)
+
+new_cap : (c : Cap) (id : ℕ) → id < c.id → cap_at (c ∷ []) id ≡ None
+new_cap c id lt = let no : (c.id == id) ≡ false = grind (arith, nat_tests) in rw no refl
+
+pub created_alike : (s : State) (domain endpoint : ℕ) → IsSoundTable s → AreHeldAlike s.caps (created s.caps domain endpoint) s.filters
+created_alike s domain endpoint h = alike_after s _ h (λ id lt. new_cap _ id lt)
+
+pub minted_alike : (s : State) (cap to : ℕ) (rights : Rights) → IsSoundTable s → AreHeldAlike s.caps (minted_from s.caps cap to rights) s.filters
+minted_alike s cap to rights h = alike_after s (child_of s.caps cap to rights (cap_at s.caps.held cap)) h (none (cap_at s.caps.held cap))
+  where
+    none : (o : Option Cap) (id : ℕ) → id < s.caps.next → cap_at (child_of s.caps cap to rights o) id ≡ None
+    none None id lt = refl
+    none (Some from) id lt = new_cap _ id lt
+
 pub sound_next : (s : State) (budget : ℕ) (op : Op) → Allowed s budget op None → IsSoundTable s → IsSoundTable (after s op)
 unfolding after
 sound_next s budget (Create domain endpoint) allowed h = with_cap s h _ refl (λ p is. absurd cc)
@@ -235,7 +220,7 @@ sound_next s budget (Install domain cap program) allowed h =
     with_filters s h _ _ (filters-push 0 s.filters _ s.next_filter refl h.filter_ids)
     (λ f at. elim (Contains-push_cases s.filters _ f at) [ inl earlier ↦ h.rightful f earlier | inr same ↦ subst (IsRightful s.caps) same new ])
 sound_next s budget (Remove domain id) allowed h =
-    with_filters s h _ _ (filters-filter (λ f. not (f.id == id)) 0 s.filters s.next_filter h.filter_ids) (λ f at. h.rightful f (was_listed (λ g. not (g.id == id)) s.filters f at))
+    with_filters s h _ _ (filters-filter (λ f. not (f.id == id)) 0 s.filters s.next_filter h.filter_ids) (λ f at. h.rightful f (from_filter (λ g. not (g.id == id)) s.filters f at).0)
 sound_next s budget (Replace domain id program) allowed h =
     with_filters s h _ _ (filters-replaced 0 s.filters s.next_filter id program h.filter_ids)
     (replaced_rightful s h id program (verified s budget (Replace domain id program) program refl allowed))

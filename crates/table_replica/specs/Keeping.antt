@@ -1,9 +1,15 @@
--- How the filters are kept: each program once, and each filter with the place of its program.
+-- How the filters are kept: each program once, each filter with the place of its program, and which endpoints get what which
+-- programs accept.
 -- No public clause cites these.
-use Rattle.std.specs.Prelude.{◌≡◌, ◌≢◌, ◌==◌, ◌+◌, ◌<◌, ◌≤◌, ◌++◌, ℕ, cond, ltb, Option, Some, None, List, [], ◌∷◌, length, map, slice_get, slice_index_or, slice_set}
+use Rattle.std.specs.Prelude.{◌≡◌, ◌==◌, ◌+◌, ◌-◌, ◌<◌, ◌≤◌, ◌++◌, ◌↔◌, ◌⊎◌, ℕ, false, cond, Option, Some, None, is_none, List, [], ◌∷◌, length, map, slice_get, slice_index_or, slice_set}
+use Rattle.std.specs.List.{Contains}
+use Rattle.std.specs.List.Sorted.{IsNonDecreasingBy}
+use Rattle.endpoint_caps.specs.declared.Cap.{Cap}
+use Rattle.endpoint_caps.specs.Capabilities.{CapTable, cap_at}
 use Rattle.bpf_insn.specs.declared.insn.Insn.{Insn}
 use Rattle.table_replica.specs.Listed.{ListedFilter}
 use Rattle.table_replica.specs.declared.filters.Row.{Row}
+use Rattle.table_replica.specs.declared.reaches.Reach.{Reach}
 use Rattle.table_replica.specs.declared.filters.Rebuilding.{Rebuilding}
 use Rattle.table_replica.specs.Distinct.{AreDistinct}
 use Rattle.table_replica.specs.Lent.{IsIn}
@@ -31,29 +37,35 @@ pub data Keeps (programs : List (List Insn)) (program : List Insn) (after : List
   there : after ≡ programs → slice_get programs place ≡ Some program → Keeps programs program after place
   added : after ≡ programs ++ program ∷ [] → place ≡ length programs → (IsIn programs program → ⊥) → Keeps programs program after place
 
--- Chains: from the last row of a program back to its first
+-- The programs and endpoints of the rows whose capability is held
 
--- counted from 1, the last of so many rows that has the program; 0 where none has
-pub record IsLast (rows : List Row) (count program last : ℕ) : Type 0 where
-  pub inside : last ≤ count
-  pub has : (k : ℕ) (row : Row) → last ≡ k + 1 → slice_get rows k ≡ Some row → row.program ≡ program
-  pub none_later : (k : ℕ) (row : Row) → last ≤ k → k < count → slice_get rows k ≡ Some row → row.program ≢ program
+abbrev pub reach_of : Row → Reach
+reach_of row = record { endpoint = row.endpoint; program = row.program }
 
-pub record IsChained (rows : List Row) (lasts : List ℕ) : Type 0 where
-  pub each : (k : ℕ) (row : Row) → slice_get rows k ≡ Some row → IsLast rows k row.program row.before
-  pub last : (program : ℕ) → program < length lasts → IsLast rows (length rows) program (slice_index_or lasts program 0)
+-- a row with this endpoint and program has its capability held
+pub record IsLive (caps : List Cap) (rows : List Row) (reach : Reach) : Type 0 where
+  pub row : Row
+  pub listed : Contains rows row
+  pub held : is_none (cap_at caps row.cap) ≡ false
+  pub is : reach_of row ≡ reach
 
-pub record IsKept (rows : List Row) (programs : List (List Insn)) (lasts : List ℕ) (instructions : ℕ) : Type 0 where
+-- just these, in order of endpoint
+pub record AreReaches (caps : List Cap) (rows : List Row) (reaches : List Reach) : Type 0 where
+  pub ordered : IsNonDecreasingBy (λ reach. reach.endpoint) reaches
+  pub each : (reach : Reach) → Contains reaches reach ↔ IsLive caps rows reach
+
+-- those of the rows that go which no row that stays has
+pub record AreLost (caps : List Cap) (left gone : List Row) (lost : List Reach) : Type 0 where
+  pub dead : (reach : Reach) → Contains lost reach → IsLive caps left reach → ⊥
+  pub all : (row : Row) → Contains gone row → Contains lost (reach_of row) ⊎ IsLive caps left (reach_of row)
+
+pub record IsKept (caps : List Cap) (rows : List Row) (programs : List (List Insn)) (reaches : List Reach) (instructions : ℕ) : Type 0 where
   pub shared : IsShared rows programs instructions
-  pub chained : IsChained rows lasts
-  pub lengths : length lasts ≡ length programs
+  pub reached : AreReaches caps rows reaches
 
--- a place that is new has no row yet
-abbrev pub with_last : List ℕ → ℕ → List ℕ
-with_last lasts place = cond (ltb place (length lasts)) lasts (lasts ++ 0 ∷ [])
-
-abbrev pub after_last : Row → List ℕ → Row
-after_last row lasts = record row { before = slice_index_or lasts row.program 0 }
+-- the capabilities of these filters are held under the one table just as under the other
+abbrev pub AreHeldAlike : CapTable → CapTable → List ListedFilter → Type 0
+AreHeldAlike old new filters = (f : ListedFilter) → Contains filters f → cap_at new.held f.cap ≡ cap_at old.held f.cap
 
 -- Rows whose programs get other places
 
@@ -79,6 +91,10 @@ pub data MovesTo (programs : List (List Insn)) (moved : List ℕ) (old : ℕ) (p
 
 -- what has been built shows these rows, and is kept as it should be
 pub record IsRebuilt (from : List (List Insn)) (rows : List Row) (built : Rebuilding) : Type 0 where
-  pub kept : IsKept built.rows.items built.programs built.lasts.items built.instructions
+  pub shared : IsShared built.rows.items built.programs built.instructions
   pub moved : AreMoved from built.programs built.moved.items
   pub same : map (listed_row built.programs) built.rows.items ≡ map (listed_row from) rows
+
+-- the reach, its program at the new place
+abbrev pub moved_reach : List ℕ → Reach → Reach
+moved_reach moved reach = record reach { program = slice_index_or moved reach.program 0 - 1 }

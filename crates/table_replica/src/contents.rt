@@ -8,6 +8,7 @@ ghost use Rattle.filter_verify.specs.Rules.{Sound, Refuses};
 ghost use Rattle.filter_verify.specs.Numbers.{number_of, place_of};
 ghost use Rattle.table_replica.specs.Staging.{CannotStage};
 ghost use Rattle.table_replica.specs.Replicas.{RefusesAs};
+ghost use Rattle.table_replica.specs.Soundness.{IsSoundTable};
 
 use crate::{Filter, Filters, Kept, Made, Op, OpFault, StageFault};
 use bpf_insn::Insn;
@@ -29,11 +30,14 @@ pub(crate) struct Contents {
 }
 
 impl Model for Contents {
+    ghost use Rattle.std.specs.Prelude.{◌≡◌};
     ghost use Rattle.table_replica.specs.Tables.{State};
 
     ghost Value = { State };
 
-    ghost view = { λ a. record { version = a.version; caps = a.caps; filters = a.filters; next_filter = a.next_filter } };
+    ghost view = { λ a. record { version = a.version; caps = a.caps; filters = a.filters.listed; next_filter = a.next_filter } };
+
+    ghost invariant = { λ a. a.filters.under ≡ a.caps };
 }
 
 /// The fault of the capabilities as a reason not to stage.
@@ -64,10 +68,11 @@ impl Contents {
         ensures { IfOk result (λ table. table ≡ record { version = version; caps = record { held = []; next = next_cap }; filters = []; next_filter = next_filter }) }
     {
         let caps = Caps::resume(alloc, next_cap)?;
+        let filters = Filters::new(alloc, &caps);
         Ok(Contents {
             version,
             caps,
-            filters: Filters::new(alloc),
+            filters,
             next_filter,
         })
     }
@@ -85,7 +90,7 @@ impl Contents {
     }
 
     pub(crate) fn filters(&self) -> &Filters
-        ensures { result.now ≡ self.now.filters }
+        ensures { result.now.listed ≡ self.now.filters }
     {
         &self.filters
     }
@@ -99,7 +104,7 @@ impl Contents {
     ) -> Result<Vec<Kept>, AllocError>
         ensures { IfOk result (λ kept. Accepting self.now (record { bytes = bytes.now; original = original }) kept.items) }
     {
-        self.filters.accepting(alloc, &self.caps, bytes, original)
+        self.filters.accepting(alloc, bytes, original)
     }
 
     /// The first refusal, the verifier's aside.
@@ -220,7 +225,8 @@ impl Contents {
     /// The table after an operation, or the first refusal.
     #[tactic(auto, using(crate::proofs::Changes::allowed_if, crate::proofs::Changes::cannot_program))]
     pub(crate) fn after(&self, alloc: Global, budget: u32, op: &Op) -> Result<Contents, StageFault>
-        requires { instructions_of self.now.filters ≤ budget }
+        requires fits { instructions_of self.now.filters ≤ budget }
+        requires sound { IsSoundTable self.now }
         ensures ok { IfOk result (λ table. table ≡ after self.now op.now) }
         ensures allowed { OnOk result (Allowed self.now budget op.now None) }
         ensures err { IfErr result (CannotStage self.now budget op.now None) }
@@ -270,6 +276,7 @@ impl Contents {
     ) -> Result<Contents, AllocError>
         requires allowed { first (tests self.now budget op.now) ≡ None }
         requires program { program ≡ program_of op.now }
+        requires sound { IsSoundTable self.now }
         ensures { IfOk result (λ table. table ≡ after self.now op.now) }
     {
         let _version = self.version;
@@ -298,12 +305,16 @@ impl Contents {
 
     #[tactic(auto, unfolding(crate::specs::Tables::after))]
     fn created(&self, alloc: Global, domain: u16, endpoint: u16) -> Result<Contents, AllocError>
-        requires { self.now.version < 18446744073709551615 }
+        requires version { self.now.version < 18446744073709551615 }
+        requires sound { IsSoundTable self.now }
         ensures { IfOk result (λ table. table ≡ after self.now (Op.Create domain endpoint)) }
     {
         let mut caps = self.caps.copy(alloc)?;
         match caps.create(domain, endpoint) {
-            Ok(_) => self.with_caps(alloc, caps),
+            Ok(_) => {
+                let filters = self.filters.under(alloc, &caps)?;
+                Ok(self.following(caps, filters, self.next_filter))
+            }
             Err(_) => Err(AllocError),
         }
     }
@@ -317,12 +328,16 @@ impl Contents {
         to: u16,
         rights: Rights,
     ) -> Result<Contents, AllocError>
-        requires { self.now.version < 18446744073709551615 }
+        requires version { self.now.version < 18446744073709551615 }
+        requires sound { IsSoundTable self.now }
         ensures { IfOk result (λ table. table ≡ after self.now (Op.Mint domain cap to rights)) }
     {
         let mut caps = self.caps.copy(alloc)?;
         match caps.mint(domain, cap, to, rights) {
-            Ok(_) => self.with_caps(alloc, caps),
+            Ok(_) => {
+                let filters = self.filters.under(alloc, &caps)?;
+                Ok(self.following(caps, filters, self.next_filter))
+            }
             Err(_) => Err(AllocError),
         }
     }
@@ -334,7 +349,10 @@ impl Contents {
     {
         let mut caps = self.caps.copy(alloc)?;
         match caps.revoke(domain, cap) {
-            Ok(()) => self.with_caps(alloc, caps),
+            Ok(()) => {
+                let filters = self.filters.under_others(alloc, &caps)?;
+                Ok(self.following(caps, filters, self.next_filter))
+            }
             Err(_) => Err(AllocError),
         }
     }
@@ -346,7 +364,10 @@ impl Contents {
     {
         let mut caps = self.caps.copy(alloc)?;
         match caps.drop_cap(domain, cap) {
-            Ok(()) => self.with_caps(alloc, caps),
+            Ok(()) => {
+                let filters = self.filters.under_others(alloc, &caps)?;
+                Ok(self.following(caps, filters, self.next_filter))
+            }
             Err(_) => Err(AllocError),
         }
     }
@@ -372,8 +393,9 @@ impl Contents {
             endpoint: self.endpoint(cap),
             program,
         };
-        let filters = self.filters.copy(alloc)?.with(alloc, filter)?;
-        self.with_filters(alloc, filters, id + 1)
+        let caps = self.caps.copy(alloc)?;
+        let filters = self.filters.with(alloc, &caps, filter)?;
+        Ok(self.following(caps, filters, id + 1))
     }
 
     #[tactic(auto, unfolding(crate::specs::Tables::after))]
@@ -382,8 +404,9 @@ impl Contents {
         ensures { IfOk result (λ table. table ≡ after self.now (Op.Remove domain filter)) }
     {
         let _ = domain;
-        let filters = self.filters.without(alloc, filter)?;
-        self.with_filters(alloc, filters, self.next_filter)
+        let caps = self.caps.copy(alloc)?;
+        let filters = self.filters.without(alloc, &caps, filter)?;
+        Ok(self.following(caps, filters, self.next_filter))
     }
 
     #[tactic(auto, unfolding(crate::specs::Tables::after))]
@@ -399,8 +422,9 @@ impl Contents {
         ensures { IfOk result (λ table. table ≡ after self.now (Op.Replace domain filter program.now)) }
     {
         let _ = domain;
-        let filters = self.filters.replacing(alloc, filter, program)?;
-        self.with_filters(alloc, filters, self.next_filter)
+        let caps = self.caps.copy(alloc)?;
+        let filters = self.filters.replacing(alloc, &caps, filter, program)?;
+        Ok(self.following(caps, filters, self.next_filter))
     }
 
     /// The endpoint of a capability.
@@ -413,37 +437,18 @@ impl Contents {
         }
     }
 
-    /// The next version, with these capabilities.
-    fn with_caps(&self, alloc: Global, caps: Caps) -> Result<Contents, AllocError>
-        requires { self.now.version < 18446744073709551615 }
-        ensures { IfOk result (λ table. table ≡ record self.now { version = self.now.version + 1; caps = caps }) }
+    /// The table at the next version, with these capabilities and filters.
+    fn following(&self, caps: Caps, filters: Filters, next_filter: u32) -> Contents
+        requires version { self.now.version < 18446744073709551615 }
+        requires under { filters.under ≡ caps }
+        ensures { result ≡ record { version = self.now.version + 1; caps = caps; filters = filters.listed; next_filter = next_filter } }
     {
-        let filters = self.filters.copy(alloc)?;
-        Ok(Contents {
-            version: self.version + 1,
-            caps,
-            filters,
-            next_filter: self.next_filter,
-        })
-    }
-
-    /// The next version, with these filters.
-    fn with_filters(
-        &self,
-        alloc: Global,
-        filters: Filters,
-        next_filter: u32,
-    ) -> Result<Contents, AllocError>
-        requires { self.now.version < 18446744073709551615 }
-        ensures { IfOk result (λ table. table ≡ record self.now { version = self.now.version + 1; filters = filters; next_filter = next_filter }) }
-    {
-        let caps = self.caps.copy(alloc)?;
-        Ok(Contents {
+        Contents {
             version: self.version + 1,
             caps,
             filters,
             next_filter,
-        })
+        }
     }
 }
 

@@ -1,7 +1,7 @@
 //! The filters of a table.
 ghost use Rattle.std.specs.Prelude.{◌≡◌, ◌==◌, ◌+◌, ◌<◌, ◌≤◌, ◌++◌, [], ◌∷◌, length, filter, not, Some, slice_get, IfOk};
 ghost use Rattle.table_replica.specs.Distinct.{AreDistinct};
-ghost use Rattle.table_replica.specs.Keeping.{Keeps, ArePlaced, IsChained, MovesTo, IsRebuilt, sources, placed_row, with_last, after_last};
+ghost use Rattle.table_replica.specs.Keeping.{Keeps, ArePlaced, AreReaches, AreHeldAlike, MovesTo, IsRebuilt, sources, placed_row};
 ghost use Rattle.std.specs.Prelude.{List, take, slice_set, slice_index_or};
 ghost use Rattle.std.specs.Option.{option_copied};
 ghost use Rattle.bpf_insn.specs.declared.insn.Insn.{Insn as GhostInsn};
@@ -9,20 +9,20 @@ ghost use Rattle.table_replica.specs.Lent.{shown_filter, IsIn, AreDifferent};
 ghost use Rattle.table_replica.specs.Tables.{instructions_of, replaced, filter_at};
 ghost use Rattle.std.specs.Prelude.{leb};
 ghost use Rattle.std.specs.Iterator.{YieldsFirstBy, item_count};
-ghost use Rattle.std.specs.Prelude.{map, min, cond, OnOk, MatchResult};
+ghost use Rattle.std.specs.Prelude.{map};
 ghost use Rattle.std.specs.Option.{option_map};
 ghost use Rattle.table_replica.specs.Keeping.{listed_row};
-ghost use Rattle.table_replica.specs.Tables.{AreReceivers, IsIncreasing};
-ghost use Rattle.table_replica.specs.Receiving.{raised, handed, handed_back, IsAt, IsGap};
+ghost use Rattle.table_replica.specs.Tables.{AreReceivers};
 
 use crate::Kept;
 use crate::programs::{Programs, Shared};
+use crate::reaches::{Reach, add_reach, add_reaches_of, all_reaches, moved_reaches, reaches_without, receivers};
 use bpf_insn::Insn;
 use endpoint_caps::Caps;
 use filter_verify::Verified;
-use filter_vm::run;
 use std::alloc::{AllocError, Global};
 use std::marker::Model;
+use std::snapshot::Snapshot;
 
 /// A filter that is listed.
 #[derive(Clone, Copy)]
@@ -41,69 +41,69 @@ pub struct Filter<'a> {
 
 /// A filter with the place of its program.
 #[derive(Clone, Copy)]
-struct Row {
-    id: u32,
+pub(crate) struct Row {
+    pub(crate) id: u32,
     owner: u16,
-    cap: u32,
-    endpoint: u16,
-    program: usize,
-    /// Counted from 1, the last row before this one that has the same program; 0 where none has.
-    before: usize,
+    pub(crate) cap: u32,
+    pub(crate) endpoint: u16,
+    pub(crate) program: usize,
 }
 
-/// The filters in order of installation. Each program is kept once, and its rows are found from the last one on.
+/// The filters in order of installation, under the capabilities of their table. Each program is kept once.
 #[derive(Drop)]
 pub(crate) struct Filters {
     rows: Vec<Row>,
     programs: Programs,
-    /// Of each program the last row that has it, counted from 1.
-    lasts: Vec<usize>,
+    /// Of the filters whose capability is held.
+    reaches: Vec<Reach>,
     instructions: u32,
+    under: Snapshot<Caps>,
 }
 
 impl Model for Filters {
-    ghost use Rattle.std.specs.Prelude.{◌≡◌, List, map};
-    ghost use Rattle.table_replica.specs.Listed.{ListedFilter};
+    ghost use Rattle.std.specs.Prelude.{map};
+    ghost use Rattle.table_replica.specs.Listed.{FilterTable};
     ghost use Rattle.table_replica.specs.Keeping.{listed_row, IsKept};
 
-    ghost Value = { List ListedFilter };
+    ghost Value = { FilterTable };
 
-    ghost view = { λ a. map (listed_row a.programs) a.rows.items };
+    ghost view = { λ a. record { listed = map (listed_row a.programs) a.rows.items; under = a.under.value } };
 
-    ghost invariant = { λ a. IsKept a.rows.items a.programs a.lasts.items a.instructions };
+    ghost invariant = { λ a. IsKept a.under.value.held a.rows.items a.programs a.reaches.items a.instructions };
 }
 
 impl Filters {
     /// No filter.
-    pub(crate) fn new(alloc: Global) -> Filters
-        ensures { result ≡ [] }
+    pub(crate) fn new(alloc: Global, caps: &Caps) -> Filters
+        ensures { result ≡ record { listed = []; under = caps.now } }
     {
         Filters {
             rows: Vec::new(alloc),
             programs: Programs::new(alloc),
-            lasts: Vec::new(alloc),
+            reaches: Vec::new(alloc),
             instructions: 0,
+            under: Snapshot::of(caps),
         }
     }
 
     /// How many are listed.
     pub(crate) fn len(&self) -> usize
-        ensures { result ≡ length self.now }
+        ensures { result ≡ length self.now.listed }
     {
         self.rows.len()
     }
 
     /// The instructions of all.
     pub(crate) fn instructions(&self) -> u32
-        ensures { result ≡ instructions_of self.now }
+        ensures { result ≡ instructions_of self.now.listed }
     {
         self.instructions
     }
 
     /// The filter at this place.
     pub(crate) fn at(&self, index: usize) -> Filter<'_>
-        requires { index < length self.now }
-        ensures { slice_get self.now index ≡ Some (shown_filter result) }
+        requires { index < length self.now.listed }
+        ensures { slice_get self.now.listed index ≡ Some (shown_filter result) }
     {
         let row = &self.rows[index];
         Filter {
@@ -116,33 +116,70 @@ impl Filters {
     }
 
     /// These filters and one more.
-    pub(crate) fn with(self, alloc: Global, filter: Filter<'_>) -> Result<Filters, AllocError>
-        requires { instructions_of self + length filter.program.now < 4294967296 }
-        ensures { IfOk result (λ filters. filters ≡ self ++ shown_filter filter.entry ∷ []) }
+    pub(crate) fn with(
+        &self,
+        alloc: Global,
+        caps: &Caps,
+        filter: Filter<'_>,
+    ) -> Result<Filters, AllocError>
+        requires caps { caps.now ≡ self.now.under }
+        requires fits { instructions_of self.now.listed + length filter.program.now < 4294967296 }
+        ensures { IfOk result (λ filters. filters ≡ record { listed = self.now.listed ++ shown_filter filter.entry ∷ []; under = caps.now }) }
     {
-        let Filters {
-            rows,
-            programs,
-            lasts,
-            instructions,
-        } = self;
-        let (programs, program) = keep(alloc, programs, filter.program)?;
-        let lasts = with_place(lasts, program)?;
-        let instructions = instructions + filter.program.code().len() as u32;
+        let instructions = self.instructions + filter.program.code().len() as u32;
+        let (programs, program) = keep(alloc, self.programs.copy(alloc)?, filter.program)?;
         let row = Row {
             id: filter.id,
             owner: filter.owner,
             cap: filter.cap,
             endpoint: filter.endpoint,
             program,
-            before: 0,
         };
-        let (rows, lasts) = with_row(rows, lasts, row)?;
+        let mut rows = with_room(alloc, &self.rows)?;
+        rows.push(row)?;
+        let mut reaches = with_room(alloc, &self.reaches)?;
+        add_reach(&mut reaches, caps, &row)?;
         Ok(Filters {
             rows,
             programs,
-            lasts,
+            reaches,
             instructions,
+            under: Snapshot::of(caps),
+        })
+    }
+
+    /// The same filters under capabilities that hold those of the filters as before.
+    pub(crate) fn under(&self, alloc: Global, caps: &Caps) -> Result<Filters, AllocError>
+        requires { AreHeldAlike self.now.under caps.now self.now.listed }
+        ensures { IfOk result (λ filters. filters ≡ record { listed = self.now.listed; under = caps.now }) }
+    {
+        let instructions = self.instructions;
+        let rows = Vec::from_slice(alloc, &self.rows)?;
+        let programs = self.programs.copy(alloc)?;
+        let reaches = Vec::from_slice(alloc, &self.reaches)?;
+        Ok(Filters {
+            rows,
+            programs,
+            reaches,
+            instructions,
+            under: Snapshot::of(caps),
+        })
+    }
+
+    /// The same filters under any capabilities.
+    pub(crate) fn under_others(&self, alloc: Global, caps: &Caps) -> Result<Filters, AllocError>
+        ensures { IfOk result (λ filters. filters ≡ record { listed = self.now.listed; under = caps.now }) }
+    {
+        let instructions = self.instructions;
+        let rows = Vec::from_slice(alloc, &self.rows)?;
+        let programs = self.programs.copy(alloc)?;
+        let reaches = all_reaches(alloc, &self.rows, caps)?;
+        Ok(Filters {
+            rows,
+            programs,
+            reaches,
+            instructions,
+            under: Snapshot::of(caps),
         })
     }
 
@@ -150,33 +187,24 @@ impl Filters {
     pub(crate) fn accepting(
         &self,
         alloc: Global,
-        caps: &Caps,
         bytes: &[u8],
         original: u32,
     ) -> Result<Vec<Kept>, AllocError>
-        ensures { IfOk result (λ kept. AreReceivers caps.now.held self.now (record { bytes = bytes.now; original = original }) kept.items) }
+        ensures { IfOk result (λ kept. AreReceivers self.now.under.held self.now.listed (record { bytes = bytes.now; original = original }) kept.items) }
     {
-        receivers(
-            alloc,
-            &self.rows,
-            &self.programs,
-            &self.lasts,
-            caps,
-            bytes,
-            original,
-        )
+        receivers(alloc, &self.reaches, &self.programs, bytes, original)
     }
 
     /// How many different programs the filters have.
     pub(crate) fn distinct_programs(&self) -> usize
-        ensures { AreDifferent self.now result }
+        ensures { AreDifferent self.now.listed result }
     {
         self.programs.len()
     }
 
     /// The filter with this id.
     pub(crate) fn find(&self, id: u32) -> Option<Filter<'_>>
-        ensures { option_map shown_filter result ≡ filter_at self.now id }
+        ensures { option_map shown_filter result ≡ filter_at self.now.listed id }
     {
         for index in 0..self.len() {
             let filter = self.at(index);
@@ -189,7 +217,7 @@ impl Filters {
 
     /// Whether the filters are within a budget, once the program of one is replaced by another of this length.
     pub(crate) fn fit_with(&self, id: u32, program: &[Insn], budget: u32) -> bool
-        ensures { result ≡ leb (instructions_of (replaced self.now id program.now)) budget }
+        ensures { result ≡ leb (instructions_of (replaced self.now.listed id program.now)) budget }
     {
         let mut left = budget as usize;
         for index in 0..self.len() {
@@ -207,25 +235,9 @@ impl Filters {
         true
     }
 
-    /// Equal filters.
-    pub(crate) fn copy(&self, alloc: Global) -> Result<Filters, AllocError>
-        ensures { IfOk result (λ filters. filters ≡ self.now) }
-    {
-        let instructions = self.instructions;
-        let rows = Vec::from_slice(alloc, self.rows.as_slice())?;
-        let programs = self.programs.copy(alloc)?;
-        let lasts = Vec::from_slice(alloc, self.lasts.as_slice())?;
-        Ok(Filters {
-            rows,
-            programs,
-            lasts,
-            instructions,
-        })
-    }
-
     /// The filters in order of installation.
     pub(crate) fn iter(&self) -> FilterIter<'_>
-        ensures { result ≡ self.now }
+        ensures { result ≡ self.now.listed }
     {
         FilterIter {
             filters: self,
@@ -234,40 +246,59 @@ impl Filters {
     }
 
     /// These filters without one.
-    pub(crate) fn without(&self, alloc: Global, id: u32) -> Result<Filters, AllocError>
-        ensures { IfOk result (λ filters. filters ≡ filter (λ f. not (f.id == id)) self.now) }
+    pub(crate) fn without(
+        &self,
+        alloc: Global,
+        caps: &Caps,
+        id: u32,
+    ) -> Result<Filters, AllocError>
+        requires { caps.now ≡ self.now.under }
+        ensures { IfOk result (λ filters. filters ≡ record { listed = filter (λ f. not (f.id == id)) self.now.listed; under = caps.now }) }
     {
         let _total = self.instructions();
         let rows = rows_without(alloc, &self.rows, id)?;
-        rebuilt(alloc, &rows, &self.programs, None)
+        let reaches = reaches_without(alloc, &self.reaches, caps, &self.rows, id)?;
+        rebuilt(alloc, caps, &rows, &reaches, &self.programs, None)
     }
 
     /// These filters, the program of one replaced.
     pub(crate) fn replacing(
         &self,
         alloc: Global,
+        caps: &Caps,
         id: u32,
         program: &Verified,
     ) -> Result<Filters, AllocError>
-        requires { instructions_of (replaced self.now id program.now) < 4294967296 }
-        ensures { IfOk result (λ filters. filters ≡ replaced self.now id program.now) }
+        requires caps { caps.now ≡ self.now.under }
+        requires fits { instructions_of (replaced self.now.listed id program.now) < 4294967296 }
+        ensures { IfOk result (λ filters. filters ≡ record { listed = replaced self.now.listed id program.now; under = caps.now }) }
     {
         let program = Shared::new(alloc, program.copy(alloc)?)?;
-        self.sharing(alloc, id, &program)
+        self.sharing(alloc, caps, id, &program)
     }
 
-    fn sharing(&self, alloc: Global, id: u32, program: &Shared) -> Result<Filters, AllocError>
-        requires { instructions_of (replaced self.now id program.now) < 4294967296 }
-        ensures { IfOk result (λ filters. filters ≡ replaced self.now id program.now) }
+    fn sharing(
+        &self,
+        alloc: Global,
+        caps: &Caps,
+        id: u32,
+        program: &Shared,
+    ) -> Result<Filters, AllocError>
+        requires caps { caps.now ≡ self.now.under }
+        requires fits { instructions_of (replaced self.now.listed id program.now) < 4294967296 }
+        ensures { IfOk result (λ filters. filters ≡ record { listed = replaced self.now.listed id program.now; under = caps.now }) }
     {
+        let mut reaches = reaches_without(alloc, &self.reaches, caps, &self.rows, id)?;
         match self.programs.place_of(program) {
             Some(place) => {
                 let rows = rows_with(alloc, &self.rows, id, place)?;
-                rebuilt(alloc, &rows, &self.programs, None)
+                add_reaches_of(&mut reaches, caps, &rows, id)?;
+                rebuilt(alloc, caps, &rows, &reaches, &self.programs, None)
             }
             None => {
                 let rows = rows_with(alloc, &self.rows, id, self.programs.len())?;
-                rebuilt(alloc, &rows, &self.programs, Some(program))
+                add_reaches_of(&mut reaches, caps, &rows, id)?;
+                rebuilt(alloc, caps, &rows, &reaches, &self.programs, Some(program))
             }
         }
     }
@@ -286,7 +317,7 @@ impl<'a> Model for FilterIter<'a> {
 
     ghost Value = { List ListedFilter };
 
-    ghost view = { λ a. drop a.next a.filters.now };
+    ghost view = { λ a. drop a.next a.filters.now.listed };
 }
 
 impl<'a> Iterator for FilterIter<'a> {
@@ -349,7 +380,6 @@ fn row_with(row: Row, id: u32, place: usize) -> Row
 struct Rebuilding {
     rows: Vec<Row>,
     programs: Programs,
-    lasts: Vec<usize>,
     instructions: u32,
     /// Of each old place the new one, counted from 1; 0 where no row so far has the program.
     moved: Vec<usize>,
@@ -359,14 +389,17 @@ struct Rebuilding {
 /// is left out.
 fn rebuilt(
     alloc: Global,
+    caps: &Caps,
     rows: &[Row],
+    reaches: &[Reach],
     programs: &Programs,
     new: Option<&Shared>,
 ) -> Result<Filters, AllocError>
     requires distinct { AreDistinct (sources programs.now (option_copied new)) }
     requires placed { ArePlaced rows.now (length (sources programs.now (option_copied new))) }
     requires fits { instructions_of (map (listed_row (sources programs.now (option_copied new))) rows.now) < 4294967296 }
-    ensures { IfOk result (λ filters. filters ≡ map (listed_row (sources programs.now (option_copied new.entry))) rows.now) }
+    requires reached { AreReaches caps.now.held rows.now reaches.now }
+    ensures { IfOk result (λ filters. filters ≡ record { listed = map (listed_row (sources programs.now (option_copied new.entry))) rows.now; under = caps.now }) }
 {
     let mut built = nothing_built(alloc, rows.len(), programs.len() + 1)?;
     for index in 0..rows.len() {
@@ -375,15 +408,15 @@ fn rebuilt(
     let Rebuilding {
         rows,
         programs,
-        lasts,
         instructions,
-        ..
+        moved,
     } = built;
     Ok(Filters {
         rows,
         programs,
-        lasts,
+        reaches: moved_reaches(alloc, reaches, &moved)?,
         instructions,
+        under: Snapshot::of(caps),
     })
 }
 
@@ -394,7 +427,6 @@ fn nothing_built(alloc: Global, rows: usize, places: usize) -> Result<Rebuilding
     Ok(Rebuilding {
         rows: Vec::with_capacity(alloc, rows)?,
         programs: Programs::new(alloc),
-        lasts: Vec::new(alloc),
         instructions: 0,
         moved: vec![in alloc; 0; places]?,
     })
@@ -417,9 +449,8 @@ fn with_moved(
     ensures { IfOk result (λ after. IsRebuilt (sources old.now (option_copied new.entry)) (take (index + 1) rows.now) after) }
 {
     let Rebuilding {
-        rows: done,
+        rows: mut done,
         programs,
-        lasts,
         instructions,
         moved,
     } = built;
@@ -427,19 +458,13 @@ fn with_moved(
     let program = source(old, new, row.program);
     let (programs, moved, place) = move_to(programs, moved, row.program, program)?;
     let instructions = instructions + program.verified().code().len() as u32;
-    let lasts = with_place(lasts, place)?;
-    let (rows, lasts) = with_row(
-        done,
-        lasts,
-        Row {
-            program: place,
-            ..row
-        },
-    )?;
+    done.push(Row {
+        program: place,
+        ..row
+    })?;
     Ok(Rebuilding {
-        rows,
+        rows: done,
         programs,
-        lasts,
         instructions,
         moved,
     })
@@ -480,127 +505,13 @@ fn move_to(
     Ok((programs, moved, place))
 }
 
-/// A place that is new has no row yet.
-fn with_place(mut lasts: Vec<usize>, place: usize) -> Result<Vec<usize>, AllocError>
-    ensures { IfOk result (λ after. after.items ≡ with_last lasts.items place) }
+/// An equal list with room for one more.
+fn with_room<T: Copy>(alloc: Global, list: &[T]) -> Result<Vec<T>, AllocError>
+    ensures { IfOk result (λ longer. longer.items ≡ list.now) }
 {
-    if place < lasts.len() {
-        return Ok(lasts);
-    }
-    lasts.push(0)?;
-    Ok(lasts)
-}
-
-/// One more row, behind the last one of its program.
-fn with_row(
-    mut rows: Vec<Row>,
-    mut lasts: Vec<usize>,
-    row: Row,
-) -> Result<(Vec<Row>, Vec<usize>), AllocError>
-    requires { row.program < length lasts.items }
-    ensures rows { IfOk result (λ r. r.0.items ≡ rows.items ++ after_last row lasts.items ∷ []) }
-    ensures lasts { IfOk result (λ r. r.1.items ≡ slice_set lasts.items row.program (length rows.items + 1)) }
-{
-    let before = lasts[row.program];
-    rows.push(Row { before, ..row })?;
-    lasts[row.program] = rows.len();
-    Ok((rows, lasts))
-}
-
-/// The endpoints that get a packet by these rows, in increasing order. Each program runs once, and each row is looked at
-/// once.
-fn receivers(
-    alloc: Global,
-    rows: &[Row],
-    programs: &Programs,
-    lasts: &[usize],
-    caps: &Caps,
-    bytes: &[u8],
-    original: u32,
-) -> Result<Vec<Kept>, AllocError>
-    requires placed { ArePlaced rows.now (length programs.now) }
-    requires chained { IsChained rows.now lasts.now }
-    requires lengths { length lasts.now ≡ length programs.now }
-    ensures { IfOk result (λ kept. AreReceivers caps.now.held (map (listed_row programs.now) rows.now) (record { bytes = bytes.now; original = original }) kept.items) }
-{
-    let mut kept = Vec::new(alloc);
-    for place in 0..programs.len() {
-        let verdict = run(programs.at(place).verified(), bytes, original).verdict;
-        hand_on(&mut kept, caps, rows, lasts, place, verdict, bytes.len())?;
-    }
-    Ok(kept)
-}
-
-/// Hands a packet on to the endpoints of the rows whose program has this place and this verdict.
-fn hand_on(
-    kept: &mut Vec<Kept>,
-    caps: &Caps,
-    rows: &[Row],
-    lasts: &[usize],
-    place: usize,
-    verdict: u32,
-    captured: usize,
-) -> Result<(), AllocError>
-    requires place { place < length lasts.now }
-    requires chained { IsChained rows.now lasts.now }
-    requires increasing { IsIncreasing kept.old.items }
-    ensures { OnOk result (kept.new.items ≡ cond (verdict == 0) kept.old.items (handed_back caps.now.held rows.now place (min verdict captured) kept.old.items)) }
-{
-    if verdict == 0 {
-        return Ok(());
-    }
-    let bytes = (verdict as usize).min(captured) as u32;
-    let mut next = lasts[place];
-    while next > 0 {
-        let row = &rows[next - 1];
-        hand(kept, caps, row, bytes)?;
-        next = row.before;
-    }
-    Ok(())
-}
-
-/// Sees that the endpoint of a row keeps at least so many bytes, if its capability is held.
-fn hand(kept: &mut Vec<Kept>, caps: &Caps, row: &Row, bytes: u32) -> Result<(), AllocError>
-    requires { IsIncreasing kept.old.items }
-    ensures { OnOk result (kept.new.items ≡ handed caps.now.held row.now.cap row.now.endpoint bytes kept.old.items) }
-{
-    match caps.get(row.cap) {
-        Some(_) => raise(kept, row.endpoint, bytes),
-        None => Ok(()),
-    }
-}
-
-/// Sees that an endpoint keeps at least so many bytes.
-fn raise(kept: &mut Vec<Kept>, endpoint: u16, bytes: u32) -> Result<(), AllocError>
-    requires { IsIncreasing kept.old.items }
-    ensures { OnOk result (kept.new.items ≡ raised kept.old.items endpoint bytes) }
-{
-    match search(kept, endpoint) {
-        Ok(place) => {
-            let most = kept[place].kept.max(bytes);
-            kept[place] = Kept {
-                endpoint,
-                kept: most,
-            };
-            Ok(())
-        }
-        Err(place) => {
-            let new = Kept {
-                endpoint,
-                kept: bytes,
-            };
-            kept.insert(place, new)?;
-            Ok(())
-        }
-    }
-}
-
-/// Where an endpoint is, or where it would go.
-fn search(kept: &[Kept], endpoint: u16) -> Result<usize, usize>
-    requires { IsIncreasing kept.now }
-    ensures { MatchResult result (IsAt kept.now endpoint) (IsGap kept.now endpoint) }
-{
-    kept.binary_search_by_key(&endpoint, |kept| kept.endpoint)
+    let mut longer = Vec::with_capacity(alloc, list.len().saturating_add(1))?;
+    longer.extend_from_slice(list)?;
+    Ok(longer)
 }
 
 /// The place of a program among those that are kept, and these with it.

@@ -10,6 +10,7 @@ mod contents;
 mod filters;
 mod program;
 mod programs;
+mod reaches;
 mod replica;
 #[cfg(test)]
 mod tests;

@@ -12,7 +12,7 @@ counted_over c = elim c.if-filter-id.branch [
 ]
 
 pub returns-then-count-left : goal.returns-then-count-left
-returns-then-count-left c = over_left c.args.id c.args.program.now c.args.self.now c.loop-index.index c.loop-index.left c.if-filter-id.count c.args.budget _ c.at-filter.ensures c.loop-index.invariant (counted_over c) (omega arith)
+returns-then-count-left c = over_left c.args.id c.args.program.now c.args.self.now.listed c.loop-index.index c.loop-index.left c.if-filter-id.count c.args.budget _ c.at-filter.ensures c.loop-index.invariant (counted_over c) (omega arith)
 
 pub loop-index-preserved : goal.loop-index-preserved
 loop-index-preserved c =
@@ -20,4 +20,4 @@ loop-index-preserved c =
       | then-filter-id w ↦ w.count-is ∙ ap (λ (f : ListedFilter). length f.program) (is_swapped c.args.id c.args.program.now (shown_filter c.at-filter.result) (eq_true _ _ w.if-filter-id.true))
       | else-filter-id w ↦ w.count-is ∙ (ap length w.code.ensures.code ∙ ap (λ (f : ListedFilter). length f.program) (not_swapped c.args.id c.args.program.now (shown_filter c.at-filter.result) (eq_false _ _ w.if-filter-id.false)))
     ] in
-    left_more c.args.id c.args.program.now c.args.self.now c.loop-index.index c.loop-index.left c.if-filter-id.count c.args.budget _ c.at-filter.ensures c.loop-index.invariant counted (omega arith)
+    left_more c.args.id c.args.program.now c.args.self.now.listed c.loop-index.index c.loop-index.left c.if-filter-id.count c.args.budget _ c.at-filter.ensures c.loop-index.invariant counted (omega arith)
