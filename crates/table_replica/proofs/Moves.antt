@@ -1,7 +1,7 @@
 -- Filters that are built again, with the programs that they have.
-use Rattle.std.proofs.Common.{◌≡◌, ◌≢◌, ◌<◌, ◌≤◌, ◌+◌, ◌==◌, ◌⊎◌, inl, inr, ℕ, zero, suc, Bool, true, false, not, Option, None, Some, List, [], ◌∷◌, ◌++◌, filter, map, take, length, slice_get, get_or, set, refl, ap, sym, ◌∙◌, subst, arith, length-append}
+use Rattle.std.proofs.Common.{◌≡◌, ◌≢◌, ◌<◌, ◌≤◌, ◌+◌, ◌==◌, ◌⊎◌, inl, inr, ℕ, zero, suc, Bool, true, false, not, Option, None, Some, List, [], ◌∷◌, ◌++◌, filter, map, take, length, slice_get, get_or, set, replicate, refl, ap, sym, ◌∙◌, subst, arith, length-append}
 use Rattle.std.proofs.lemmas.Bool.Decides.{nat_tests}
-use Rattle.std.proofs.lemmas.List.{get_or-set_same, get_or-set_other}
+use Rattle.std.proofs.lemmas.List.{get_or-set_same, get_or-set_other, length-replicate}
 use Rattle.std.specs.Prelude.{Result, IfOk}
 use Rattle.std.proofs.lemmas.Result.{IfOk-weaker}
 use Rattle.endpoint_caps.specs.Capabilities.{CapTable}
@@ -143,6 +143,25 @@ built_fits from programs rows done i total row program at source sum same =
     take_map zero rs = refl
     take_map (suc i) [] = refl
     take_map (suc i) (r ∷ rs) = ap (λ l. listed_row from r ∷ l) (take_map i rs)
+
+-- Nothing is built yet
+
+none_moved : (places p : ℕ) → ◌≡◌ {A = ℕ} (get_or (replicate places 0) p 0) 0
+none_moved zero p = refl
+none_moved (suc places) zero = refl
+none_moved (suc places) (suc p) = none_moved places p
+
+pub nothing_built : (from : List (List Insn)) (places : ℕ) (built : Rebuilding) → length from ≤ places → built.rows.items ≡ [] → built.programs ≡ [] → built.instructions ≡ 0 → built.moved.items ≡ replicate places 0
+    → IsRebuilt from [] built
+nothing_built from places built few rows programs instructions moved = record {
+  shared = rw (rows, programs, instructions) (record { total = refl; placed = λ k row at. absurd cc; distinct = λ i j program at at'. absurd cc; used = λ i lt. absurd (omega arith) });
+  moved = rw (programs, moved) (record {
+    to = λ p q program at is. absurd (omega (arith, none_moved places p));
+    back = λ q program at. absurd cc;
+    room = let none : ℕ = 0 in omega (arith, length-replicate places none);
+  });
+  same = rw rows refl;
+}
 
 -- A row that is built again
 

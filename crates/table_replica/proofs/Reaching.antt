@@ -1,10 +1,10 @@
 -- The reaches of rows that come, go, and move.
-use Rattle.std.proofs.Common.{◌≡◌, ◌<◌, ◌≤◌, ◌+◌, ◌-◌, ◌==◌, ◌⊎◌, ◌↔◌, inl, inr, ℕ, Bool, true, false, not, leb, Option, None, Some, is_none, is_some, Bor, List, [], ◌∷◌, ◌++◌, map, filter, length, take, insert, slice_get, get_or, Contains, refl, ap, sym, ◌∙◌, subst, arith}
+use Rattle.std.proofs.Common.{◌≡◌, ◌<◌, ◌≤◌, ◌+◌, ◌-◌, ◌==◌, ◌⊎◌, ◌↔◌, inl, inr, ℕ, Bool, true, false, not, Option, None, Some, is_none, is_some, Bor, List, [], ◌∷◌, ◌++◌, map, filter, length, take, insert, slice_get, get_or, Contains, refl, ap, sym, ◌∙◌, subst, arith}
 use Rattle.std.specs.Bool.{Decides}
 use Rattle.std.specs.Option.{option_copied}
 use Rattle.std.specs.List.{All, list_any}
 use Rattle.std.specs.List.Retain.{IsFiltered, DiffersFromLast}
-use Rattle.std.specs.List.Sorted.{IsPermutation, IsPartitionPoint, IsSorted}
+use Rattle.std.specs.List.Sorted.{IsPermutation, IsSorted}
 use Rattle.std.proofs.lemmas.Bool.Decides.{nat_tests}
 use Rattle.std.proofs.lemmas.List.Elements.{Contains-append_left, Contains-push, Contains-push_cases, Contains-get_or}
 use Rattle.std.proofs.lemmas.List.Filters.{dedup_is}
@@ -93,22 +93,16 @@ module _ (caps : List Cap) where
       back (inr there) r (inr last) = subst (Contains reaches) last.1 there
 
   pub one_added : (rows : List Row) (reaches : List Reach) (row : Row) (place : ℕ) → is_none (cap_at caps row.cap) ≡ false → place ≤ length reaches
-      → IsPartitionPoint (λ (r : Reach). leb r.endpoint row.endpoint ≡ true) (λ (r : Reach). leb r.endpoint row.endpoint ≡ false) reaches place
+      → ((k : ℕ) (d : Reach) → k < place → (get_or reaches k d).endpoint ≤ row.endpoint) → (place < length reaches → (d : Reach) → row.endpoint ≤ (get_or reaches place d).endpoint)
       → AreReaches caps rows reaches → AreReaches caps (rows ++ row ∷ []) (insert reaches place (reach_of row))
-  one_added rows reaches row place held inside parted h = record {
-    ordered = IsNonDecreasingBy-insert (λ (r : Reach). r.endpoint) reaches place (reach_of row) h.ordered inside
-        (λ k d lt. under _ _ (parted.0 k d (omega arith) lt)) (λ k d le lt. over _ _ (parted.1 k d le lt));
+  one_added rows reaches row place held inside earlier later h = record {
+    ordered = IsNonDecreasingBy-insert (λ (r : Reach). r.endpoint) reaches place (reach_of row) h.ordered inside earlier
+        (λ k d le lt. (let first = later (omega arith) d in let rises = h.ordered place k d le lt in omega arith));
     each = λ r. (λ at. to r (first_or_later (reach_of row) reaches r (Contains-permutation (insert reaches place (reach_of row)) (reach_of row ∷ reaches) r
         (IsPermutation-sym _ _ (IsPermutation-insert reaches place (reach_of row))) at)),
         λ live. Contains-permutation (reach_of row ∷ reaches) (insert reaches place (reach_of row)) r (IsPermutation-insert reaches place (reach_of row)) (back r (last_live rows row r live)));
   }
     where
-      under : (a b : ℕ) → leb a b ≡ true → a ≤ b
-      under a b t = grind (arith, nat_tests)
-
-      over : (a b : ℕ) → leb a b ≡ false → b ≤ a
-      over a b t = grind (arith, nat_tests)
-
       to : (r : Reach) → (reach_of row ≡ r) ⊎ Contains reaches r → IsLive caps (rows ++ row ∷ []) r
       to r (inl same) = record { row = row; listed = Contains-push rows row; held = held; is = same }
       to r (inr earlier) = more_live rows row r ((h.each r).0 earlier)

@@ -386,11 +386,15 @@ impl Contents {
         ensures { IfOk result (λ table. table ≡ after self.now (Op.Install domain cap program.now)) }
     {
         let id = self.next_filter;
+        let endpoint = match self.caps.get(cap) {
+            Some(cap) => cap.endpoint,
+            None => 0,
+        };
         let filter = Filter {
             id,
             owner: domain,
             cap,
-            endpoint: self.endpoint(cap),
+            endpoint,
             program,
         };
         let caps = self.caps.copy(alloc)?;
@@ -425,16 +429,6 @@ impl Contents {
         let caps = self.caps.copy(alloc)?;
         let filters = self.filters.replacing(alloc, &caps, filter, program)?;
         Ok(self.following(caps, filters, self.next_filter))
-    }
-
-    /// The endpoint of a capability.
-    fn endpoint(&self, cap: u32) -> u16
-        ensures { result ≡ endpoint_of (cap_at self.now.caps.held cap) }
-    {
-        match self.caps.get(cap) {
-            Some(cap) => cap.endpoint,
-            None => 0,
-        }
     }
 
     /// The table at the next version, with these capabilities and filters.

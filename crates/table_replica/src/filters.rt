@@ -5,6 +5,7 @@ ghost use Rattle.table_replica.specs.Keeping.{Keeps, ArePlaced, AreReaches, AreH
 ghost use Rattle.std.specs.Prelude.{List, take, slice_set, slice_index_or};
 ghost use Rattle.std.specs.Option.{option_copied};
 ghost use Rattle.bpf_insn.specs.declared.insn.Insn.{Insn as GhostInsn};
+ghost use Rattle.table_replica.specs.declared.filters.Row.{Row as GhostRow};
 ghost use Rattle.table_replica.specs.Lent.{shown_filter, IsIn, AreDifferent};
 ghost use Rattle.table_replica.specs.Tables.{instructions_of, replaced, filter_at};
 ghost use Rattle.std.specs.Prelude.{leb};
@@ -16,7 +17,7 @@ ghost use Rattle.table_replica.specs.Tables.{AreReceivers};
 
 use crate::Kept;
 use crate::programs::{Programs, Shared};
-use crate::reaches::{Reach, add_reach, add_reaches_of, all_reaches, moved_reaches, reaches_without, receivers};
+use crate::reaches::{Reach, add_reach, all_reaches, moved_reaches, reaches_without, receivers};
 use bpf_insn::Insn;
 use endpoint_caps::Caps;
 use filter_verify::Verified;
@@ -135,9 +136,11 @@ impl Filters {
             endpoint: filter.endpoint,
             program,
         };
-        let mut rows = with_room(alloc, &self.rows)?;
+        let mut rows = Vec::with_capacity(alloc, self.rows.len() + 1)?;
+        rows.extend_from_slice(&self.rows)?;
         rows.push(row)?;
-        let mut reaches = with_room(alloc, &self.reaches)?;
+        let mut reaches = Vec::with_capacity(alloc, self.reaches.len() + 1)?;
+        reaches.extend_from_slice(&self.reaches)?;
         add_reach(&mut reaches, caps, &row)?;
         Ok(Filters {
             rows,
@@ -274,31 +277,16 @@ impl Filters {
         ensures { IfOk result (λ filters. filters ≡ record { listed = replaced self.now.listed id program.now; under = caps.now }) }
     {
         let program = Shared::new(alloc, program.copy(alloc)?)?;
-        self.sharing(alloc, caps, id, &program)
-    }
-
-    fn sharing(
-        &self,
-        alloc: Global,
-        caps: &Caps,
-        id: u32,
-        program: &Shared,
-    ) -> Result<Filters, AllocError>
-        requires caps { caps.now ≡ self.now.under }
-        requires fits { instructions_of (replaced self.now.listed id program.now) < 4294967296 }
-        ensures { IfOk result (λ filters. filters ≡ record { listed = replaced self.now.listed id program.now; under = caps.now }) }
-    {
         let mut reaches = reaches_without(alloc, &self.reaches, caps, &self.rows, id)?;
-        match self.programs.place_of(program) {
+        match self.programs.place_of(&program) {
             Some(place) => {
-                let rows = rows_with(alloc, &self.rows, id, place)?;
-                add_reaches_of(&mut reaches, caps, &rows, id)?;
+                let rows = rows_with(alloc, caps, &self.rows, &mut reaches, id, place)?;
                 rebuilt(alloc, caps, &rows, &reaches, &self.programs, None)
             }
             None => {
-                let rows = rows_with(alloc, &self.rows, id, self.programs.len())?;
-                add_reaches_of(&mut reaches, caps, &rows, id)?;
-                rebuilt(alloc, caps, &rows, &reaches, &self.programs, Some(program))
+                let place = self.programs.len();
+                let rows = rows_with(alloc, caps, &self.rows, &mut reaches, id, place)?;
+                rebuilt(alloc, caps, &rows, &reaches, &self.programs, Some(&program))
             }
         }
     }
@@ -350,29 +338,32 @@ fn rows_without(alloc: Global, rows: &[Row], id: u32) -> Result<Vec<Row>, AllocE
     Ok(left)
 }
 
-/// The rows, the program of one filter replaced.
-fn rows_with(alloc: Global, rows: &[Row], id: u32, place: usize) -> Result<Vec<Row>, AllocError>
-    ensures { IfOk result (λ after. after.items ≡ map (placed_row id place) rows.now) }
+/// The rows, the program of one filter replaced, and their reaches beside those of the other rows.
+fn rows_with(
+    alloc: Global,
+    caps: &Caps,
+    rows: &[Row],
+    reaches: &mut Vec<Reach>,
+    id: u32,
+    place: usize,
+) -> Result<Vec<Row>, AllocError>
+    ensures rows { IfOk result (λ after. after.items ≡ map (placed_row id place) rows.now) }
+    ensures reached { IfOk result (λ after. (others : List GhostRow) → AreReaches caps.now.held others reaches.old.items → AreReaches caps.now.held (others ++ filter (λ row. row.id == id) after.items) reaches.new.items) }
 {
     let mut after = Vec::with_capacity(alloc, rows.len())?;
     for row in rows {
-        after.push(row_with(*row, id, place))?;
+        if row.id == id {
+            let row = Row {
+                program: place,
+                ..*row
+            };
+            add_reach(reaches, caps, &row)?;
+            after.push(row)?;
+        } else {
+            after.push(*row)?;
+        }
     }
     Ok(after)
-}
-
-/// The row, with another program where it is this filter's.
-fn row_with(row: Row, id: u32, place: usize) -> Row
-    ensures { result ≡ placed_row id place row }
-{
-    if row.id == id {
-        Row {
-            program: place,
-            ..row
-        }
-    } else {
-        row
-    }
 }
 
 /// What has been built of filters whose programs had other places.
@@ -401,7 +392,12 @@ fn rebuilt(
     requires reached { AreReaches caps.now.held rows.now reaches.now }
     ensures { IfOk result (λ filters. filters ≡ record { listed = map (listed_row (sources programs.now (option_copied new.entry))) rows.now; under = caps.now }) }
 {
-    let mut built = nothing_built(alloc, rows.len(), programs.len() + 1)?;
+    let mut built = Rebuilding {
+        rows: Vec::with_capacity(alloc, rows.len())?,
+        programs: Programs::new(alloc),
+        instructions: 0,
+        moved: vec![in alloc; 0; programs.len() + 1]?,
+    };
     for index in 0..rows.len() {
         built = with_moved(alloc, built, rows, index, programs, new)?;
     }
@@ -417,18 +413,6 @@ fn rebuilt(
         reaches: moved_reaches(alloc, reaches, &moved)?,
         instructions,
         under: Snapshot::of(caps),
-    })
-}
-
-/// Nothing, with room for so many rows, of programs that had so many places.
-fn nothing_built(alloc: Global, rows: usize, places: usize) -> Result<Rebuilding, AllocError>
-    ensures { IfOk result (λ built. (from : List (List GhostInsn)) → length from ≤ places → IsRebuilt from [] built) }
-{
-    Ok(Rebuilding {
-        rows: Vec::with_capacity(alloc, rows)?,
-        programs: Programs::new(alloc),
-        instructions: 0,
-        moved: vec![in alloc; 0; places]?,
     })
 }
 
@@ -503,15 +487,6 @@ fn move_to(
     programs.push(program.share()?)?;
     moved[old] = programs.len();
     Ok((programs, moved, place))
-}
-
-/// An equal list with room for one more.
-fn with_room<T: Copy>(alloc: Global, list: &[T]) -> Result<Vec<T>, AllocError>
-    ensures { IfOk result (λ longer. longer.items ≡ list.now) }
-{
-    let mut longer = Vec::with_capacity(alloc, list.len().saturating_add(1))?;
-    longer.extend_from_slice(list)?;
-    Ok(longer)
 }
 
 /// The place of a program among those that are kept, and these with it.

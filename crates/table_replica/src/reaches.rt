@@ -55,29 +55,18 @@ pub(crate) fn all_reaches(
 pub(crate) fn add_reach(reaches: &mut Vec<Reach>, caps: &Caps, row: &Row) -> Result<(), AllocError>
     ensures { OnOk result ((rows : List GhostRow) → AreReaches caps.now.held rows reaches.old.items → AreReaches caps.now.held (rows ++ row.now ∷ []) reaches.new.items) }
 {
-    let reach = reach_of(row);
-    if caps.get(row.cap).is_none() || reaches.contains(&reach) {
+    if caps.get(row.cap).is_none() {
         return Ok(());
     }
-    let place = reaches.partition_point(|other| other.endpoint <= reach.endpoint);
-    reaches.insert(place, reach)?;
-    Ok(())
-}
-
-/// The reaches of the rows of one filter too.
-pub(crate) fn add_reaches_of(
-    reaches: &mut Vec<Reach>,
-    caps: &Caps,
-    rows: &[Row],
-    id: u32,
-) -> Result<(), AllocError>
-    ensures { OnOk result ((others : List GhostRow) → AreReaches caps.now.held others reaches.old.items → AreReaches caps.now.held (others ++ filter (λ row. row.id == id) rows.now) reaches.new.items) }
-{
-    for row in rows {
-        if row.id == id {
-            add_reach(reaches, caps, row)?;
+    let reach = reach_of(row);
+    let mut place = 0;
+    while place < reaches.len() && reaches[place].endpoint <= reach.endpoint {
+        if reaches[place] == reach {
+            return Ok(());
         }
+        place += 1;
     }
+    reaches.insert(place, reach)?;
     Ok(())
 }
 

@@ -1,9 +1,9 @@
-use Rattle.std.proofs.Common.{List, subst, take_all, arith}
+use Rattle.std.proofs.Common.{◌+◌, List, refl, subst, take_all, arith}
 use Rattle.table_replica.specs.declared.filters.Row.{Row}
 use Rattle.table_replica.proofs.Reaching.{built_inside, built_placed, built_reached}
 use Rattle.std.specs.Option.{option_copied}
 use Rattle.table_replica.specs.Keeping.{sources, IsRebuilt}
-use Rattle.table_replica.proofs.Moves.{sources_few}
+use Rattle.table_replica.proofs.Moves.{sources_few, nothing_built}
 use Rattle.table_replica.proofs.filters.rebuilt.Goals as goal
 
 pub overflow_add-len : goal.overflow_add-len
@@ -12,7 +12,8 @@ overflow_add-len c = omega (arith, c.len.ensures.small)
 pub loop-index-init : goal.loop-index-init
 loop-index-init c =
     let few = sources_few c.args.programs.now (option_copied c.args.new) in
-    c.in_ok-built.ensures (sources c.args.programs.now (option_copied c.args.new)) (omega (arith, few, c.len.ensures.count))
+    nothing_built (sources c.args.programs.now (option_copied c.args.new)) (c.len.result + 1) _ (omega (arith, few, c.len.ensures.count))
+    c.in_ok-with_capacity.ensures.items c.new.ensures refl (c.in_ok-vec.ensures.items_if_clones_equal (λ n same. same))
 
 whole : (c : goal.After-deref) → IsRebuilt (sources c.args.programs.now (option_copied c.args.new)) c.args.rows.now c.loop-index.built
 whole c = subst (λ (rs : List Row). IsRebuilt (sources c.args.programs.now (option_copied c.args.new)) rs c.loop-index.built) (take_all c.loop-index.index c.args.rows.now (omega (arith, c.loop-index-test.false))) c.loop-index.invariant

@@ -12,19 +12,21 @@ use Rattle.table_replica.proofs.filters.Filters.with.Goals as goal
 pub invariant_of-result : goal.invariant_of-result
 invariant_of-result c =
     let row : Row = record { id = c.args.filter.id; owner = c.args.filter.owner; cap = c.args.filter.cap; endpoint = c.args.filter.endpoint; program = c.in_ok-programs.program } in
-    let pushed = c.in_ok-push.ensures.items ∙ ap (λ (rs : List Row). rs ++ row ∷ []) (c.in_ok-rows.ensures ∙ c.deref.ensures.value) in
+    let pushed = c.in_ok-push.ensures.items ∙ ap (λ (rs : List Row). rs ++ row ∷ []) (c.in_ok-extend_from_slice.ensures.items ∙ (ap (λ (rs : List Row). rs ++ c.deref.result.now) c.in_ok-rows.ensures.items ∙ c.deref.ensures.value)) in
     let keeps = subst (λ (ps : List (List Insn)). Keeps ps c.args.filter.program.now c.in_ok-programs.programs c.in_ok-programs.program) c.in_ok-copy.ensures c.in_ok-programs.ensures in
     let before = subst (λ (t : CapTable). AreReaches t.held c.self.inside.rows.items c.self.inside.reaches.items) (ap (λ (t : FilterTable). t.under) c.self.view_is ∙ sym c.requires.caps) c.self.invariant.reached in
     record {
       shared = shared_after c.self.inside.rows.items c.self.inside.programs c.self.inside.instructions c.args.filter.program.now c.in_ok-programs.programs row c.self.invariant.shared keeps
           c.push.new.self.items pushed _ (ap (λ (n : ℕ). c.self.inside.instructions + n) (ap length c.code.ensures.code));
-      reached = rw (c.of.ensures, pushed) (c.in_ok-add_reach.ensures c.self.inside.rows.items (rw (c.in_ok-reaches.ensures, c.deref-2.ensures.value) before));
+      reached = rw (c.of.ensures, pushed) (c.in_ok-add_reach.ensures c.self.inside.rows.items
+          (subst (AreReaches c.args.caps.now.held c.self.inside.rows.items)
+          (sym (c.in_ok-extend_from_slice-2.ensures.items ∙ (ap (λ (rs : List Reach). rs ++ c.deref-2.result.now) c.in_ok-reaches.ensures.items ∙ c.deref-2.ensures.value))) before));
     }
 
 pub returns : goal.returns
 returns c =
     let row : Row = record { id = c.args.filter.id; owner = c.args.filter.owner; cap = c.args.filter.cap; endpoint = c.args.filter.endpoint; program = c.in_ok-programs.program } in
-    let pushed = c.in_ok-push.ensures.items ∙ ap (λ (rs : List Row). rs ++ row ∷ []) (c.in_ok-rows.ensures ∙ c.deref.ensures.value) in
+    let pushed = c.in_ok-push.ensures.items ∙ ap (λ (rs : List Row). rs ++ row ∷ []) (c.in_ok-extend_from_slice.ensures.items ∙ (ap (λ (rs : List Row). rs ++ c.deref.result.now) c.in_ok-rows.ensures.items ∙ c.deref.ensures.value)) in
     let keeps = subst (λ (ps : List (List Insn)). Keeps ps c.args.filter.program.now c.in_ok-programs.programs c.in_ok-programs.program) c.in_ok-copy.ensures c.in_ok-programs.ensures in
     let listed = view_after c.self.inside.rows.items c.self.inside.programs c.self.inside.instructions c.args.filter.program.now c.in_ok-programs.programs row c.self.invariant.shared keeps
         c.push.new.self.items pushed ∙ ap (λ (t : FilterTable). t.listed ++ shown_filter c.args.filter ∷ []) c.self.view_is in
