@@ -90,21 +90,10 @@ impl Contents {
     }
 
     pub(crate) fn filters(&self) -> &Filters
-        ensures { result.now.listed ≡ self.now.filters }
+        ensures listed { result.now.listed ≡ self.now.filters }
+        ensures under { result.now.under ≡ self.now.caps }
     {
         &self.filters
-    }
-
-    /// The endpoints that get a packet, in increasing order, each with the number of bytes that it keeps.
-    pub(crate) fn accepting(
-        &self,
-        alloc: Global,
-        bytes: &[u8],
-        original: u32,
-    ) -> Result<Vec<Kept>, AllocError>
-        ensures { IfOk result (λ kept. Accepting self.now (record { bytes = bytes.now; original = original }) kept.items) }
-    {
-        self.filters.accepting(alloc, bytes, original)
     }
 
     /// The first refusal, the verifier's aside.
@@ -122,7 +111,10 @@ impl Contents {
                 cap,
                 rights,
                 ..
-            } => self.refusal_of_mint(*domain, *cap, *rights),
+            } => match self.caps.check_mint(*domain, *cap, *rights) {
+                Ok(_) => Ok(()),
+                Err(fault) => ruled(Err(fault)),
+            },
             Op::Revoke { domain, cap } => ruled(self.caps.check_holder(*domain, *cap)),
             Op::DropCap { domain, cap } => ruled(self.caps.check_holder(*domain, *cap)),
             Op::Install {
@@ -152,15 +144,6 @@ impl Contents {
         match self.refusal(budget, op) {
             Ok(()) => Ok(()),
             Err(fault) => Err(fault),
-        }
-    }
-
-    fn refusal_of_mint(&self, domain: u16, cap: u32, rights: Rights) -> Result<(), StageFault>
-        ensures { result_err result ≡ first (as_rules (mint_tests self.now.caps domain cap rights)) }
-    {
-        match self.caps.check_mint(domain, cap, rights) {
-            Ok(_) => Ok(()),
-            Err(fault) => ruled(Err(fault)),
         }
     }
 

@@ -99,18 +99,12 @@ impl Hash for Shared {
 fn fingerprint(code: &[Insn]) -> u64
     ensures { result ≡ fingerprint_of code.now }
 {
-    let mut sum = 0;
+    let mut sum = 0u64;
     for insn in code {
-        sum = mixed(sum, *insn);
+        let word = u64::from_le_bytes(insn.to_bytes());
+        sum = sum.wrapping_mul(0x0100_0000_01b3).wrapping_add(word);
     }
     sum
-}
-
-fn mixed(sum: u64, insn: Insn) -> u64
-    ensures { result ≡ mixed sum insn }
-{
-    let word = u64::from_le_bytes(insn.to_bytes());
-    sum.wrapping_mul(0x0100_0000_01b3).wrapping_add(word)
 }
 
 /// Programs without equals, in the order in which they came, each found by its instructions.

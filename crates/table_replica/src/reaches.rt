@@ -6,7 +6,7 @@ ghost use Rattle.table_replica.specs.declared.filters.Row.{Row as GhostRow};
 ghost use Rattle.table_replica.specs.declared.reaches.Reach.{Reach as GhostReach};
 ghost use Rattle.table_replica.specs.Keeping.{reach_of, IsLive, AreReaches, AreLost, moved_reach};
 ghost use Rattle.table_replica.specs.Tables.{IsIncreasing};
-ghost use Rattle.table_replica.specs.Receiving.{raised, AreReached, AreVerdicts, VerdictAt};
+ghost use Rattle.table_replica.specs.Receiving.{raised, AreReached};
 
 use crate::Kept;
 use crate::filters::Row;
@@ -81,7 +81,13 @@ pub(crate) fn reaches_without(
     requires { AreReaches caps.now.held rows.now reaches.now }
     ensures { IfOk result (λ left. AreReaches caps.now.held (filter (λ row. not (row.id == id)) rows.now) left.items) }
 {
-    let lost = lost_reaches(alloc, caps, rows, id)?;
+    let mut lost = Vec::new(alloc);
+    for row in rows {
+        let reach = reach_of(row);
+        if row.id == id && !is_live_without(reach, caps, rows, id) {
+            lost.push(reach)?;
+        }
+    }
     let mut left = Vec::with_capacity(alloc, reaches.len() + 1)?;
     for reach in reaches {
         if !lost.contains(reach) {
@@ -89,19 +95,6 @@ pub(crate) fn reaches_without(
         }
     }
     Ok(left)
-}
-
-/// The reaches of the rows of one filter that no other row has.
-fn lost_reaches(alloc: Global, caps: &Caps, rows: &[Row], id: u32) -> Result<Vec<Reach>, AllocError>
-    ensures { IfOk result (λ lost. AreLost caps.now.held (filter (λ row. not (row.id == id)) rows.now) (filter (λ row. row.id == id) rows.now) lost.items) }
-{
-    let mut lost = Vec::new(alloc);
-    for row in rows {
-        if row.id == id && !is_live_without(reach_of(row), caps, rows, id) {
-            lost.push(reach_of(row))?;
-        }
-    }
-    Ok(lost)
 }
 
 /// Whether a row of another filter has this endpoint and program, and its capability is held.
@@ -151,36 +144,17 @@ pub(crate) fn receivers(
     let mut verdicts = vec![in alloc; None; programs.len()]?;
     let mut kept = Vec::new(alloc);
     for reach in reaches {
-        let verdict = verdict_of(programs, reach.program, &mut verdicts, bytes, original);
+        let verdict = match verdicts[reach.program] {
+            Some(verdict) => verdict,
+            None => run(programs.at(reach.program).verified(), bytes, original).verdict,
+        };
+        verdicts[reach.program] = Some(verdict);
         if verdict > 0 {
             let most = (verdict as usize).min(bytes.len()) as u32;
             raise(&mut kept, reach.endpoint, most)?;
         }
     }
     Ok(kept)
-}
-
-/// The verdict of the program at a place, which runs where its verdict isn't known yet.
-fn verdict_of(
-    programs: &Programs,
-    place: usize,
-    verdicts: &mut Vec<Option<u32>>,
-    bytes: &[u8],
-    original: u32,
-) -> u32
-    requires inside { place < length programs.now }
-    requires known { AreVerdicts programs.now (record { bytes = bytes.now; original = original }) verdicts.old.items }
-    ensures verdict { VerdictAt programs.now place (record { bytes = bytes.now; original = original }) result }
-    ensures known { AreVerdicts programs.now (record { bytes = bytes.now; original = original }) verdicts.new.items }
-{
-    match verdicts[place] {
-        Some(verdict) => verdict,
-        None => {
-            let verdict = run(programs.at(place).verified(), bytes, original).verdict;
-            verdicts[place] = Some(verdict);
-            verdict
-        }
-    }
 }
 
 /// Sees that an endpoint that none of the list comes after keeps at least so many bytes.

@@ -134,7 +134,7 @@ impl Replica {
     ) -> Result<Vec<Kept>, AllocError>
         ensures { IfOk result (λ kept. Accepting self.now.shown (record { bytes = bytes.now; original = original }) kept.items) }
     {
-        self.shown.accepting(alloc, bytes, original)
+        self.shown.filters().accepting(alloc, bytes, original)
     }
 
     /// What `stage` would answer, memory aside. Nothing changes.
