@@ -238,16 +238,6 @@ impl Filters {
         true
     }
 
-    /// The filters in order of installation.
-    pub(crate) fn iter(&self) -> FilterIter<'_>
-        ensures { result ≡ self.now.listed }
-    {
-        FilterIter {
-            filters: self,
-            next: 0,
-        }
-    }
-
     /// These filters without one.
     pub(crate) fn without(
         &self,
@@ -295,8 +285,8 @@ impl Filters {
 /// The filters of a table that are still to come, in order of installation.
 #[derive(Drop)]
 pub struct FilterIter<'a> {
-    filters: &'a Filters,
-    next: usize,
+    pub(crate) filters: &'a Filters,
+    pub(crate) next: usize,
 }
 
 impl<'a> Model for FilterIter<'a> {

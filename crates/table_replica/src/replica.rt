@@ -120,7 +120,10 @@ impl Replica {
         ensures filters { result ≡ self.now.shown.filters }
         ensures sound { IsSoundTable self.now.shown }
     {
-        self.shown.filters().iter()
+        FilterIter {
+            filters: self.shown.filters(),
+            next: 0,
+        }
     }
 
     /// The endpoints that get a packet by the shown table: those of the listed filters that accept it and whose capability
