@@ -1,5 +1,5 @@
 -- Reaches that are equal, and reaches in order of endpoint.
-use Rattle.std.proofs.Common.{◌≡◌, ◌<◌, ◌≤◌, ◌+◌, ◌⊎◌, inl, inr, ℕ, zero, suc, Bool, true, false, ltb, List, [], ◌∷◌, ◌++◌, map, length, Contains, refl, ap, sym, subst, arith, rules}
+use Rattle.std.proofs.Common.{◌≡◌, ◌<◌, ◌≤◌, ◌⊎◌, inl, inr, ℕ, zero, suc, Bool, true, false, ltb, List, [], ◌∷◌, ◌++◌, map, Contains, refl, ap, sym, subst, arith, rules}
 use Rattle.std.specs.Bool.{Decides}
 use Rattle.std.specs.Cmp.{IsEquivalence, both_ways}
 use Rattle.std.specs.List.{All, dedup, dedup_from}
@@ -78,4 +78,3 @@ not_before a b h = by_order (three a.endpoint b.endpoint)
     by_order (inl lt) = omega arith
     by_order (inr (inl same)) = omega arith
     by_order (inr (inr gt)) = absurd (let t : ltb b.endpoint a.endpoint ≡ true = grind (arith, nat_tests) in let x = rw t at h in cc)
-

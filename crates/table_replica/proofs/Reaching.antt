@@ -5,7 +5,6 @@ use Rattle.std.specs.Option.{option_copied}
 use Rattle.std.specs.List.{All, list_any}
 use Rattle.std.specs.List.Retain.{IsFiltered, DiffersFromLast}
 use Rattle.std.specs.List.Sorted.{IsPermutation, IsSorted}
-use Rattle.std.proofs.lemmas.Bool.Decides.{nat_tests}
 use Rattle.std.proofs.lemmas.List.Elements.{Contains-append_left, Contains-push, Contains-push_cases, Contains-get_or}
 use Rattle.std.proofs.lemmas.List.Filters.{dedup_is}
 use Rattle.std.proofs.lemmas.List.Kept.{IsNonDecreasingBy-filter, Contains-dedup, Contains-from_dedup}
@@ -31,10 +30,13 @@ any_is (o ∷ lost) r = by_test (eq-value.it o r) refl (any_is lost r)
   where
     by_test : (b : Bool) → eq-value.it o r ≡ b → Decides (list_any (λ other. eq-value.it other r) lost) (Contains lost r) → Decides (list_any (λ other. eq-value.it other r) (o ∷ lost)) (Contains (o ∷ lost) r)
     by_test true e rest = (λ _. subst (Contains (o ∷ lost)) ((reach_decides o r).0 e) (in_head o lost), λ _. rw e refl)
-    by_test false e rest = (λ h. in_tail o lost r (rest.0 (rw e at h)), λ at. rw e (elim (first_or_later o lost r at) [
-      | inl same ↦ absurd (let is = (reach_decides o r).1 same in cc)
-      | inr later ↦ rest.1 later
-    ]))
+    by_test false e rest = (
+      λ h. in_tail o lost r (rest.0 (rw e at h)),
+      λ at. rw e (elim (first_or_later o lost r at) [
+        | inl same ↦ absurd (let is = (reach_decides o r).1 same in cc)
+        | inr later ↦ rest.1 later
+      ]),
+    )
 
 -- What a look-up answers
 
@@ -98,9 +100,11 @@ module _ (caps : List Cap) where
   one_added rows reaches row place held inside earlier later h = record {
     ordered = IsNonDecreasingBy-insert (λ (r : Reach). r.endpoint) reaches place (reach_of row) h.ordered inside earlier
         (λ k d le lt. (let first = later (omega arith) d in let rises = h.ordered place k d le lt in omega arith));
-    each = λ r. (λ at. to r (first_or_later (reach_of row) reaches r (Contains-permutation (insert reaches place (reach_of row)) (reach_of row ∷ reaches) r
-        (IsPermutation-sym _ _ (IsPermutation-insert reaches place (reach_of row))) at)),
-        λ live. Contains-permutation (reach_of row ∷ reaches) (insert reaches place (reach_of row)) r (IsPermutation-insert reaches place (reach_of row)) (back r (last_live rows row r live)));
+    each = λ r. (
+      λ at. to r (first_or_later (reach_of row) reaches r (Contains-permutation (insert reaches place (reach_of row)) (reach_of row ∷ reaches) r
+          (IsPermutation-sym _ _ (IsPermutation-insert reaches place (reach_of row))) at)),
+      λ live. Contains-permutation (reach_of row ∷ reaches) (insert reaches place (reach_of row)) r (IsPermutation-insert reaches place (reach_of row)) (back r (last_live rows row r live)),
+    );
   }
     where
       to : (r : Reach) → (reach_of row ≡ r) ⊎ Contains reaches r → IsLive caps (rows ++ row ∷ []) r
@@ -143,9 +147,11 @@ module _ (caps : List Cap) where
       → AreReaches caps (filter (λ row. not (row.id == id)) rows) left
   left_reaches rows id reaches left lost h are is = subst (AreReaches caps (filter (λ row. not (row.id == id)) rows)) (sym is) (record {
     ordered = IsNonDecreasingBy-filter (λ (r : Reach). r.endpoint) (λ reach. not (list_any (λ other. eq-value.it other reach) lost)) reaches h.ordered;
-    each = λ r. (λ at. (let f = from_filter (λ reach. not (list_any (λ other. eq-value.it other reach) lost)) reaches r at in to r f.1 ((h.each r).0 f.0)),
-        λ live. in_filter (λ reach. not (list_any (λ other. eq-value.it other reach) lost)) reaches r
-        ((h.each r).1 (alike (filter (λ row. not (row.id == id)) rows) rows (λ row at. (from_filter (λ row. not (row.id == id)) rows row at).0) r live)) (back r live));
+    each = λ r. (
+      λ at. (let f = from_filter (λ reach. not (list_any (λ other. eq-value.it other reach) lost)) reaches r at in to r f.1 ((h.each r).0 f.0)),
+      λ live. in_filter (λ reach. not (list_any (λ other. eq-value.it other reach) lost)) reaches r
+          ((h.each r).1 (alike (filter (λ row. not (row.id == id)) rows) rows (λ row at. (from_filter (λ row. not (row.id == id)) rows row at).0) r live)) (back r live),
+    );
   })
     where
       in_lost : (r : Reach) → not (list_any (λ other. eq-value.it other r) lost) ≡ true → Contains lost r → ⊥
@@ -203,9 +209,11 @@ module _ (caps : List Cap) where
       → IsPermutation reaches sorted → IsSorted cmp-value.it sorted → IsFiltered (DiffersFromLast eq-value.it) [] sorted kept → AreReaches caps rows kept
   all_collected rows reaches sorted kept is moved rises deduped = subst (AreReaches caps rows) (sym (dedup_is eq-value.it sorted kept deduped)) (record {
     ordered = dedup_ordered sorted (IsNonDecreasingBy-from_all_adjacent (λ (r : Reach). r.endpoint) sorted (λ k d lt. not_before (get_or sorted k d) (get_or sorted (k + 1) d) (rises k d (omega arith) lt)));
-    each = λ r. (λ at. (collected rows r).0 (subst (λ (rs : List Reach). Contains rs r) is
-        (Contains-permutation sorted reaches r (IsPermutation-sym reaches sorted moved) (Contains-from_dedup eq-value.it sorted r at))),
-        λ live. Contains-dedup reach_equivalence (λ x y e. (reach_decides x y).0 e) sorted r (Contains-permutation reaches sorted r moved (subst (λ (rs : List Reach). Contains rs r) (sym is) ((collected rows r).1 live))));
+    each = λ r. (
+      λ at. (collected rows r).0 (subst (λ (rs : List Reach). Contains rs r) is
+          (Contains-permutation sorted reaches r (IsPermutation-sym reaches sorted moved) (Contains-from_dedup eq-value.it sorted r at))),
+      λ live. Contains-dedup reach_equivalence (λ x y e. (reach_decides x y).0 e) sorted r (Contains-permutation reaches sorted r moved (subst (λ (rs : List Reach). Contains rs r) (sym is) ((collected rows r).1 live))),
+    );
   })
 
   -- Rows that get another program

@@ -1,7 +1,7 @@
 -- How the list of receivers grows, filter by filter.
-use Rattle.std.proofs.Common.{◌≡◌, ◌≢◌, ◌<◌, ◌≤◌, ◌+◌, ◌-◌, ◌==◌, ◌⊎◌, ◌↔◌, inl, inr, ℕ, zero, suc, Bool, true, false, cond, Option, Some, is_none, List, [], ◌∷◌, ◌++◌, length, take, min, max, refl, ap, sym, ◌∙◌, subst, arith, ltb, Contains, slice_index_or, get_or, insert, set, drop, map, slice_get, Result, Ok, Err, MatchResult, filter, append-nil, append_assoc}
+use Rattle.std.proofs.Common.{◌≡◌, ◌≢◌, ◌<◌, ◌≤◌, ◌+◌, ◌-◌, ◌==◌, ◌⊎◌, ◌↔◌, inl, inr, ℕ, zero, suc, true, false, Option, Some, is_none, List, [], ◌∷◌, ◌++◌, length, take, min, max, refl, ap, sym, ◌∙◌, subst, arith, ltb, Contains, get_or, set, map, slice_get}
 use Rattle.std.proofs.lemmas.Bool.Decides.{nat_tests}
-use Rattle.std.proofs.lemmas.List.Elements.{Contains-append_left, Contains-append_right, Contains-append_cases, Contains-push, Contains-push_cases, Contains-get_or}
+use Rattle.std.proofs.lemmas.List.Elements.{Contains-append_left, Contains-push, Contains-push_cases, Contains-get_or}
 use Rattle.bpf_insn.specs.declared.insn.Insn.{Insn}
 use Rattle.endpoint_caps.specs.declared.Cap.{Cap}
 use Rattle.endpoint_caps.specs.Capabilities.{cap_at}
@@ -13,7 +13,7 @@ use Rattle.table_replica.specs.Receiving.{at_endpoint, raised, one_cap, filter_o
 use Rattle.table_replica.specs.declared.filters.Row.{Row}
 use Rattle.table_replica.specs.declared.reaches.Reach.{Reach}
 use Rattle.table_replica.specs.Keeping.{listed_row, or_nothing, reach_of, AreReaches}
-use Rattle.table_replica.proofs.Lists.{never, in_head, in_tail, first_or_later, was_mapped, in_map, three, take_at, map-append', get_some}
+use Rattle.table_replica.proofs.Lists.{never, in_head, in_tail, first_or_later, was_mapped, in_map, three, take_at, map-append'}
 use Rattle.table_replica.proofs.Shared.{there_is}
 use Rattle.table_replica.proofs.Ordered.{below_last}
 use Rattle.std.specs.List.{All}

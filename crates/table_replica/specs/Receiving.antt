@@ -10,7 +10,7 @@ use Rattle.table_replica.specs.Listed.{ListedFilter}
 use Rattle.table_replica.specs.declared.Kept.{Kept}
 use Rattle.table_replica.specs.declared.reaches.Reach.{Reach}
 use Rattle.table_replica.specs.Keeping.{or_nothing}
-use Rattle.table_replica.specs.Tables.{Hands, AreReceivers, IsIncreasing}
+use Rattle.table_replica.specs.Tables.{Hands, AreReceivers}
 
 abbrev pub at_endpoint : ℕ → ℕ → Kept
 at_endpoint endpoint kept = record { endpoint = endpoint; kept = kept }

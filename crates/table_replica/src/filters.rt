@@ -239,12 +239,7 @@ impl Filters {
     }
 
     /// These filters without one.
-    pub(crate) fn without(
-        &self,
-        alloc: Global,
-        caps: &Caps,
-        id: u32,
-    ) -> Result<Filters, AllocError>
+    pub(crate) fn without(&self, alloc: Global, caps: &Caps, id: u32) -> Result<Filters, AllocError>
         requires { caps.now ≡ self.now.under }
         ensures { IfOk result (λ filters. filters ≡ record { listed = filter (λ f. not (f.id == id)) self.now.listed; under = caps.now }) }
     {

@@ -1,4 +1,4 @@
-use Rattle.std.proofs.Common.{◌≡◌, ◌∙◌, ap, map, filter, not, is_none, take_all, arith, List}
+use Rattle.std.proofs.Common.{◌∙◌, ap, map, filter, not, is_none, take_all, arith, List}
 use Rattle.endpoint_caps.specs.Capabilities.{cap_at}
 use Rattle.table_replica.specs.declared.filters.Row.{Row}
 use Rattle.table_replica.specs.Keeping.{reach_of}

@@ -12,13 +12,16 @@ abbrev no_row : Row
 no_row = record { id = 0; owner = 0; cap = 0; endpoint = 0; program = 0 }
 
 pub returns-then-is_some : goal.returns-then-is_some
-returns-then-is_some c = (λ _. record {
-  row = get_or c.args.rows.now c.loop-row.row-index no_row;
-  listed = in_filter (λ row. not (row.id == c.args.id)) c.args.rows.now (get_or c.args.rows.now c.loop-row.row-index no_row)
-      (Contains-get_or c.args.rows.now c.loop-row.row-index no_row (omega (arith, c.loop-row-test.true))) (ap not (eq_false _ _ c.if-row-id.true));
-  held = is_held c.get.result _ c.get.ensures (sym c.is_some.ensures ∙ c.if-is_some.true);
-  is = sym c.reach_of.ensures ∙ (reach_decides c.reach_of.result c.args.reach).0 (sym c.eq.ensures ∙ c.if-eq.true);
-}, λ _. refl)
+returns-then-is_some c = (
+  λ _. record {
+    row = get_or c.args.rows.now c.loop-row.row-index no_row;
+    listed = in_filter (λ row. not (row.id == c.args.id)) c.args.rows.now (get_or c.args.rows.now c.loop-row.row-index no_row)
+        (Contains-get_or c.args.rows.now c.loop-row.row-index no_row (omega (arith, c.loop-row-test.true))) (ap not (eq_false _ _ c.if-row-id.true));
+    held = is_held c.get.result _ c.get.ensures (sym c.is_some.ensures ∙ c.if-is_some.true);
+    is = sym c.reach_of.ensures ∙ (reach_decides c.reach_of.result c.args.reach).0 (sym c.eq.ensures ∙ c.if-eq.true);
+  },
+  λ _. refl,
+)
 
 pub loop-row-preserved : goal.loop-row-preserved
 loop-row-preserved c =
@@ -33,5 +36,8 @@ loop-row-preserved c =
     ]
 
 pub returns : goal.returns
-returns c = (λ never. absurd cc, λ live. absurd (c.loop-row.invariant
-    (subst (λ (rs : List Row). IsLive c.args.caps.now.held (filter (λ row. not (row.id == c.args.id)) rs) c.args.reach) (sym (take_all c.loop-row.row-index c.args.rows.now (omega (arith, c.loop-row-test.false)))) live)))
+returns c = (
+  λ never. absurd cc,
+  λ live. absurd (c.loop-row.invariant
+      (subst (λ (rs : List Row). IsLive c.args.caps.now.held (filter (λ row. not (row.id == c.args.id)) rs) c.args.reach) (sym (take_all c.loop-row.row-index c.args.rows.now (omega (arith, c.loop-row-test.false)))) live)),
+)

@@ -1,10 +1,8 @@
-use Rattle.std.proofs.Common.{List, subst, ap, ◌<◌, length, map}
-use Rattle.std.specs.List.{All}
+use Rattle.std.proofs.Common.{List, subst, length}
 use Rattle.std.proofs.lemmas.Result.{IfOk-weaker}
 use Rattle.filter_vm.specs.Machine.{Packet}
 use Rattle.table_replica.specs.Listed.{FilterTable}
 use Rattle.table_replica.specs.declared.reaches.Reach.{Reach}
-use Rattle.table_replica.specs.Keeping.{listed_row}
 use Rattle.table_replica.specs.Tables.{AreReceivers}
 use Rattle.table_replica.specs.Receiving.{AreReached}
 use Rattle.table_replica.proofs.Reaching.{reaches_placed}

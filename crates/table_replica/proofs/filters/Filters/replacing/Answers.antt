@@ -1,7 +1,6 @@
 use Rattle.std.proofs.Common.{refl, ◌==◌, ◌++◌, ◌∙◌, ap, sym, subst, filter, not, List, map, arith}
-use Rattle.table_replica.specs.Listed.{ListedFilter, FilterTable}
+use Rattle.table_replica.specs.Listed.{FilterTable}
 use Rattle.table_replica.specs.declared.filters.Row.{Row}
-use Rattle.table_replica.specs.declared.reaches.Reach.{Reach}
 use Rattle.table_replica.specs.Keeping.{placed_row, AreReaches}
 use Rattle.table_replica.specs.Tables.{instructions_of, replaced}
 use Rattle.table_replica.proofs.Moves.{known_placed, known_shows, new_distinct, new_placed, new_shows, shows_ok}

@@ -1,4 +1,4 @@
-use Rattle.std.proofs.Common.{◌∙◌, ap, sym, subst}
+use Rattle.std.proofs.Common.{sym, subst}
 use Rattle.table_replica.specs.Listed.{FilterTable}
 use Rattle.table_replica.specs.Keeping.{AreHeldAlike}
 use Rattle.table_replica.proofs.Reaching.{reaches_held}

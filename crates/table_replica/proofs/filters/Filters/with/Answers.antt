@@ -29,5 +29,5 @@ returns c =
     let pushed = c.in_ok-push.ensures.items ∙ ap (λ (rs : List Row). rs ++ row ∷ []) (c.in_ok-extend_from_slice.ensures.items ∙ (ap (λ (rs : List Row). rs ++ c.deref.result.now) c.in_ok-rows.ensures.items ∙ c.deref.ensures.value)) in
     let keeps = subst (λ (ps : List (List Insn)). Keeps ps c.args.filter.program.now c.in_ok-programs.programs c.in_ok-programs.program) c.in_ok-copy.ensures c.in_ok-programs.ensures in
     let listed = view_after c.self.inside.rows.items c.self.inside.programs c.self.inside.instructions c.args.filter.program.now c.in_ok-programs.programs row c.self.invariant.shared keeps
-        c.push.new.self.items pushed ∙ ap (λ (t : FilterTable). t.listed ++ shown_filter c.args.filter ∷ []) c.self.view_is in
+    c.push.new.self.items pushed ∙ ap (λ (t : FilterTable). t.listed ++ shown_filter c.args.filter ∷ []) c.self.view_is in
     λ j. record { listed = listed j; under = c.of.ensures j }
