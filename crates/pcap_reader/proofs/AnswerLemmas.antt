@@ -1,5 +1,5 @@
 -- What is answered is all that the bytes hold.
-use Rattle.std.proofs.Common.{◌≡◌, ◌≢◌, ℕ, ◌<◌, ◌⊎◌, List, [], All, refl, sym, ◌∙◌, inl, inr, Option, Some, None, Result, Ok, Err}
+use Rattle.std.proofs.Common.{◌≡◌, ◌≢◌, ℕ, ◌<◌, ◌⊎◌, List, [], ◌++◌, All, refl, sym, ◌∙◌, inl, inr, Option, Some, None, Result, Ok, Err}
 use Rattle.pcap_reader.specs.declared.capture.Header.{Header}
 use Rattle.pcap_reader.specs.declared.capture.Packet.{Packet}
 use Rattle.pcap_reader.specs.declared.capture.Capture.{Capture}
@@ -7,9 +7,9 @@ use Rattle.pcap_reader.specs.declared.capture.Stop.{Stop}
 use Rattle.pcap_reader.specs.declared.capture.CaptureFault.{CaptureFault}
 use Rattle.pcap_reader.specs.declared.capture.CaptureFault.TheVariants.{BadMagic, BadVersion, TruncatedHeader, TruncatedRecord, TooLong, NoMemory}
 use Rattle.pcap_reader.specs.declared.feed.Feed.{Feed}
-use Rattle.pcap_reader.specs.Savefile.{IsPart, Reads, IsLasting}
+use Rattle.pcap_reader.specs.Savefile.{IsPart, Reads, ReadsFront, IsLasting}
 use Rattle.pcap_reader.specs.Answers.{GivesWhole, GivesFront, GivesOnly, Tells}
-use Rattle.pcap_reader.specs.Held.{Keeps, IsOpen, HasStopped, Holds, HoldsAt, Says}
+use Rattle.pcap_reader.specs.Held.{Keeps, IsOpen, IsEnding, HasStopped, HoldsBehind, BehindAt, Says}
 use Rattle.pcap_reader.proofs.LawLemmas.{one_reading, has_fronts}
 
 pub gives_only : (bs : List ℕ) (r : Result Capture Stop) → All (λ b. b < 256) bs → GivesWhole bs r ⊎ GivesFront bs r → GivesOnly bs r
@@ -20,21 +20,6 @@ gives_only bs (Err stop) small (inl whole) h ks f reads =
 gives_only bs (Ok capture) small (inr front) h ks f reads = absurd front
 gives_only bs (Err stop) small (inr front) h ks f reads =
     let begins = has_fronts bs small stop.header h stop.before ks f front.1 reads in inr (front.0, begins.0, begins.1, begins.2)
-
--- the answers of finish, by what a feed holds
-pub stopped_only : (fed : List ℕ) (feed : Feed) (ks : List Packet) (f : CaptureFault) → feed.fault ≡ Some f → ks ≡ feed.packets.items → Holds fed feed
-    → GivesOnly fed (Err (record { header = feed.header; before = ks; fault = f }))
-stopped_only fed feed ks f stopped kept held = gives_only fed (Err (record { header = feed.header; before = ks; fault = f })) held.0 (stopped_gives (rw stopped at held.1)) where
-  stopped_gives : HasStopped fed feed.header feed.packets.items f
-      → GivesWhole fed (Err (record { header = feed.header; before = ks; fault = f })) ⊎ GivesFront fed (Err (record { header = feed.header; before = ks; fault = f }))
-  stopped_gives (inl stood) = inl (rw kept stood.1)
-  stopped_gives (inr refused) = inr (refused.0, rw kept refused.1)
-
-pub no_header_only : (fed : List ℕ) (feed : Feed) (ks : List Packet) → feed.fault ≡ None → feed.header ≡ None → ks ≡ feed.packets.items → Holds fed feed
-    → GivesOnly fed (Err (record { header = None; before = ks; fault = TruncatedHeader }))
-no_header_only fed feed ks going none kept held =
-    let was : IsOpen fed None feed.packets.items feed.offset feed.part.items = rw none at (rw going at held.1) in
-    gives_only fed (Err (record { header = None; before = ks; fault = TruncatedHeader })) held.0 (inl (kept ∙ was.1, was.3))
 
 open_end : (fed : List ℕ) (h : Header) (packets : List Packet) (offset : ℕ) (part : List ℕ) → Keeps fed h packets offset part → part ≡ [] → Reads fed (Some h) packets None
 open_end fed h packets offset part keeps none = record {
@@ -58,21 +43,35 @@ open_part fed h packets offset part keeps half = record {
   ends = (half, keeps.place);
 }
 
-pub whole_only : (fed : List ℕ) (feed : Feed) (ks : List Packet) (h : Header) → feed.fault ≡ None → feed.header ≡ Some h → feed.part.items ≡ [] → ks ≡ feed.packets.items → Holds fed feed
-    → GivesOnly fed (Ok (record { header = h; packets = ks }))
-whole_only fed feed ks h going is none kept held =
-    let was : IsOpen fed (Some h) feed.packets.items feed.offset feed.part.items = rw is at (rw going at held.1) in
-    gives_only fed (Ok (record { header = h; packets = ks })) held.0 (inl (rw kept (open_end fed h feed.packets.items feed.offset feed.part.items was.0 none)))
+-- a feed with this fault
+pub stopped_ending : (fed : List ℕ) (header : Option Header) (packets : List Packet) (f : CaptureFault) → HasStopped fed header packets f
+    → f ≢ NoMemory → IsEnding fed header packets (Err f)
+stopped_ending fed header packets f (inl stood) other = stood.1
+stopped_ending fed header packets f (inr refused) other = absurd (other refused.0)
 
-pub part_only : (fed : List ℕ) (feed : Feed) (ks : List Packet) (h : Header) → feed.fault ≡ None → feed.header ≡ Some h → feed.part.items ≢ [] → ks ≡ feed.packets.items → Holds fed feed
-    → GivesOnly fed (Err (record { header = Some h; before = ks; fault = TruncatedRecord feed.offset }))
-part_only fed feed ks h going is some kept held =
-    let was : IsOpen fed (Some h) feed.packets.items feed.offset feed.part.items = rw is at (rw going at held.1) in
-    elim was.1 [
-      | inl none ↦ absurd (some none)
-      | inr half ↦ gives_only fed (Err (record { header = Some h; before = ks; fault = TruncatedRecord feed.offset })) held.0
-          (inl (rw kept (open_part fed h feed.packets.items feed.offset feed.part.items was.0 half)))
-    ]
+-- what was read where memory was refused
+pub stopped_front : (fed : List ℕ) (header : Option Header) (packets : List Packet) → HasStopped fed header packets NoMemory → ReadsFront fed header packets
+stopped_front fed header packets (inl stood) = absurd stood.0
+stopped_front fed header packets (inr refused) = refused.1
+
+-- an open feed without a header, between two records, and within one
+pub no_header_ending : (fed : List ℕ) (header : Option Header) (packets : List Packet) (offset : ℕ) (part : List ℕ) → header ≡ None → IsOpen fed header packets offset part
+    → IsEnding fed header packets (Err TruncatedHeader)
+no_header_ending fed None packets offset part none was = (was.1, was.3)
+no_header_ending fed (Some h) packets offset part none was = absurd (cc)
+
+pub between_ending : (fed : List ℕ) (header : Option Header) (packets : List Packet) (offset : ℕ) (part : List ℕ) (h : Header) → header ≡ Some h → IsOpen fed header packets offset part → part ≡ []
+    → IsEnding fed header packets (Ok h)
+between_ending fed None packets offset part h is was none = absurd (cc)
+between_ending fed (Some k) packets offset part h is was none = let same : k ≡ h = cc in rw (sym same) (open_end fed k packets offset part was.0 none)
+
+pub within_ending : (fed : List ℕ) (header : Option Header) (packets : List Packet) (offset : ℕ) (part : List ℕ) (h : Header) → header ≡ Some h → IsOpen fed header packets offset part → part ≢ []
+    → IsEnding fed header packets (Err (TruncatedRecord offset))
+within_ending fed None packets offset part h is was some = absurd (cc)
+within_ending fed (Some k) packets offset part h is was some = elim was.1 [
+  | inl none ↦ absurd (some none)
+  | inr half ↦ open_part fed k packets offset part was.0 half
+]
 
 not_lasting : (f g : CaptureFault) → Some f ≡ Some g → ¬ (IsLasting f) → ¬ (IsLasting g)
 not_lasting f g same brief = let e : f ≡ g = cc in rw e at brief
@@ -90,11 +89,11 @@ open_tells fed (Some k) packets offset part small was h ks f reads = elim was.1 
       not_lasting (TruncatedRecord offset) f one.2 (λ lasting. lasting)
 ]
 
-pub tells : (fed : List ℕ) (feed : Feed) (r : Result (Unit {0}) CaptureFault) → Holds fed feed → Says feed.fault r → Tells fed r
-tells fed feed (Ok done) held says = open_tells fed feed.header feed.packets.items feed.offset feed.part.items held.0 (rw says at held.1)
-tells fed feed (Err f) held says = stopped_tells (rw says at held.1) where
-  stopped_tells : HoldsAt fed feed (Some f) → Tells fed (Err f)
-  stopped_tells (inl stood) = inr (stood.0, feed.header, feed.packets.items, stood.1)
+pub tells : (given : List Packet) (fed : List ℕ) (feed : Feed) (r : Result (Unit {0}) CaptureFault) → HoldsBehind given fed feed → Says feed.fault r → Tells fed r
+tells given fed feed (Ok done) held says = open_tells fed feed.header (given ++ feed.packets.items) feed.offset feed.part.items held.0 (rw says at held.1)
+tells given fed feed (Err f) held says = stopped_tells (rw says at held.1) where
+  stopped_tells : BehindAt given fed feed (Some f) → Tells fed (Err f)
+  stopped_tells (inl stood) = inr (stood.0, feed.header, given ++ feed.packets.items, stood.1)
   stopped_tells (inr refused) = inl refused.0
 
 memory_or_not : (fault : Option CaptureFault) → (fault ≡ Some NoMemory) ⊎ (fault ≢ Some NoMemory)

@@ -1,19 +1,21 @@
 -- How a feed goes on.
-use Rattle.std.proofs.Common.{◌≡◌, ◌≢◌, ℕ, ◌+◌, ◌-◌, max, min, length-take-le, ◌≤◌, ◌<◌, ◌⊎◌, Bool, List, [], ◌∷◌, ◌++◌, length, take, drop, arith, refl, ap, sym, ◌∙◌, inl, inr, append_assoc, length-append, length-drop, Option, Some, None, All, slice_index}
+use Rattle.std.proofs.Common.{◌≡◌, ◌≢◌, ℕ, ◌+◌, ◌-◌, ◌==◌, true, max, min, length-take-le, ◌≤◌, ◌<◌, ◌⊎◌, Bool, List, [], ◌∷◌, ◌++◌, length, take, drop, arith, refl, ap, sym, ◌∙◌, inl, inr, append_assoc, length-append, length-drop, Option, Some, None, All, slice_index}
 use Rattle.std.specs.List.{AllZip, concat}
-use Rattle.std.proofs.lemmas.List.{append-nil, take-append-drop, take_all}
+use Rattle.std.proofs.lemmas.List.{append-nil, take-append-drop, take_all, drop-append-le, nil_from_length}
+use Rattle.std.proofs.Math.Seq.{take-append_seam}
+use Rattle.std.proofs.lemmas.Bool.Decides.{eqb_tells}
 use Rattle.std.proofs.lemmas.List.Folds.{concat-append}
 use Rattle.std.proofs.lemmas.List.Elements.{All-append, All-from_get_or}
 use Rattle.pcap_reader.specs.declared.capture.Header.{Header}
 use Rattle.pcap_reader.specs.declared.capture.Packet.{Packet}
 use Rattle.pcap_reader.specs.declared.capture.CaptureFault.{CaptureFault}
 use Rattle.pcap_reader.specs.declared.capture.CaptureFault.TheVariants.{TruncatedHeader, NoMemory}
-use Rattle.pcap_reader.specs.Savefile.{captured, IsHeader, IsRecord, IsPart, HasNoHeader, ReadsFront, IsLasting}
+use Rattle.pcap_reader.specs.Savefile.{number, captured, IsHeader, IsRecord, IsPart, HasNoHeader, ReadsFront, IsLasting}
 use Rattle.std.specs.Result.{IsErrAnd}
 use Rattle.std.proofs.Common.{Result, Ok, Err}
 use Rattle.pcap_reader.specs.declared.feed.Feed.{Feed}
-use Rattle.pcap_reader.specs.Held.{HoldsAt, HasStopped, Keeps, IsOpen, Holds, Grows}
-use Rattle.pcap_reader.specs.Growth.{GoesOn, IsGrownTo, IsWhole, IsPacket, IsWanted}
+use Rattle.pcap_reader.specs.Held.{BehindAt, HasStopped, Keeps, IsOpen, IsWanted, HoldsBehind, Grows, TakesWhole}
+use Rattle.pcap_reader.specs.Growth.{GoesOn, IsGrownTo, IsWhole, IsPacket}
 use Rattle.pcap_reader.proofs.Fronts.{word_at-front, stopped-lasts}
 
 AllZip-push : {A B : Type 0} (R : A → B → Type 0) (xs : List A) (ys : List B) (x : A) (y : B) → AllZip R xs ys → R x y → AllZip R (xs ++ x ∷ []) (ys ++ y ∷ [])
@@ -86,9 +88,9 @@ good_record fed part part' (Some k) packets packets' offset offset' n h p is gro
     )
 
 -- an error that was handed on
-pub handed_on : (fed : List ℕ) (feed : Feed) (r : Result (Unit {0}) CaptureFault) (f : CaptureFault) → IsErrAnd r (λ g. g ≡ f) → HoldsAt fed feed (Some f) → GoesOn fed feed r
-handed_on fed feed (Ok _) f handed stopped = absurd handed
-handed_on fed feed (Err g) f handed stopped = rw handed stopped
+pub handed_on : (given : List Packet) (fed : List ℕ) (feed : Feed) (r : Result (Unit {0}) CaptureFault) (f : CaptureFault) → IsErrAnd r (λ g. g ≡ f) → BehindAt given fed feed (Some f) → GoesOn given fed feed r
+handed_on given fed feed (Ok _) f handed stopped = absurd handed
+handed_on given fed feed (Err g) f handed stopped = rw handed stopped
 
 kept_front : (fed : List ℕ) (h : Header) (packets : List Packet) (offset : ℕ) (part : List ℕ) → Keeps fed h packets offset part → ReadsFront fed (Some h) packets
 kept_front fed h packets offset part keeps = inr (
@@ -167,27 +169,27 @@ pub record SoFed (bytes rest : List ℕ) (old new : Feed) : Type 0 where
   pub done : List ℕ
   pub parts : bytes ≡ done ++ rest
   pub none : new.fault ≡ None
-  pub holds : (fed : List ℕ) → Holds fed old → length (fed ++ bytes) < 18446744073709551616 → HoldsAt (fed ++ done) new None
+  pub holds : (given : List Packet) (fed : List ℕ) → HoldsBehind given fed old → length (fed ++ bytes) < 18446744073709551616 → BehindAt given (fed ++ done) new None
 
 pub so_fed_start : (bytes : List ℕ) (feed : Feed) → feed.fault ≡ None → SoFed bytes bytes feed feed
 so_fed_start bytes feed none = record {
   done = [];
   parts = refl;
   none = none;
-  holds = λ fed held short. rw (append-nil fed) (rw none at held.1);
+  holds = λ given fed held short. rw (append-nil fed) (rw none at held.1);
 }
 
-pub so_fed_end : (bytes rest : List ℕ) (old new : Feed) → SoFed bytes rest old new → rest ≡ [] → (fed : List ℕ) → Holds fed old → length (fed ++ bytes) < 18446744073709551616 → HoldsAt (fed ++ bytes) new None
-so_fed_end bytes rest old new so none fed held short =
+pub so_fed_end : (bytes rest : List ℕ) (old new : Feed) → SoFed bytes rest old new → rest ≡ [] → (given : List Packet) (fed : List ℕ) → HoldsBehind given fed old → length (fed ++ bytes) < 18446744073709551616 → BehindAt given (fed ++ bytes) new None
+so_fed_end bytes rest old new so none given fed held short =
     let e : bytes ≡ so.done = so.parts ∙ ap (λ t. so.done ++ t) none ∙ append-nil so.done in
-    rw e (so.holds fed held (short))
+    rw e (so.holds given fed held short)
 
-not_empty : (rest : List ℕ) → rest ≢ [] → 0 < length rest
+pub not_empty : (rest : List ℕ) → rest ≢ [] → 0 < length rest
 not_empty [] some = absurd (some refl)
 not_empty (x ∷ rest) some = omega arith
 
 -- a slice in two parts
-two_parts : (count : ℕ) (rest : List ℕ) → rest ≡ take count rest ++ take (length rest - count) (drop count rest)
+pub two_parts : (count : ℕ) (rest : List ℕ) → rest ≡ take count rest ++ take (length rest - count) (drop count rest)
 two_parts count rest = sym (take-append-drop count rest) ∙ ap (λ t. take count rest ++ t) (sym (take_all (length rest - count) (drop count rest) (omega (arith, length-drop count rest))))
 
 -- what was fed so far, in front of all
@@ -195,59 +197,59 @@ within_all : (fed bytes done rest : List ℕ) → bytes ≡ done ++ rest → len
 within_all fed bytes done rest e = omega (arith, length-append fed bytes, ap length e, length-append done rest, length-append fed done)
 
 -- memory is refused where some were fed
-pub so_fed_refused : (bytes rest : List ℕ) (old new : Feed) → SoFed bytes rest old new → (fed : List ℕ) → Holds fed old → length (fed ++ bytes) < 18446744073709551616
-    → HasStopped (fed ++ bytes) new.header new.packets.items NoMemory
-so_fed_refused bytes rest old new so fed held short =
-    rw so.parts (rw (sym (append_assoc fed so.done rest)) (stopped-lasts (fed ++ so.done) rest _ _ _ (open_refused (fed ++ so.done) _ _ _ _ (so.holds fed held short))))
+pub so_fed_refused : (bytes rest : List ℕ) (old new : Feed) → SoFed bytes rest old new → (given : List Packet) (fed : List ℕ) → HoldsBehind given fed old → length (fed ++ bytes) < 18446744073709551616
+    → HasStopped (fed ++ bytes) new.header (given ++ new.packets.items) NoMemory
+so_fed_refused bytes rest old new so given fed held short =
+    rw so.parts (rw (sym (append_assoc fed so.done rest)) (stopped-lasts (fed ++ so.done) rest _ _ _ (open_refused (fed ++ so.done) _ _ _ _ (so.holds given fed held short))))
 
 -- what a part has grown to, in an open feed to which count more bytes were given
 grown_so : (bytes rest part' : List ℕ) (old new : Feed) (n count : ℕ) → (so : SoFed bytes rest old new) → IsWanted new.header new.part.items n → rest ≢ [] → count ≡ min (max n 1) (length rest)
-    → part' ≡ new.part.items ++ take count rest → (fed : List ℕ) → Holds fed old → length (fed ++ bytes) < 18446744073709551616
-    → IsGrownTo ((fed ++ so.done) ++ take count rest) new.header new.packets.items new.offset part'
-grown_so bytes rest part' old new n count so wanted some counted grew fed held short =
+    → part' ≡ new.part.items ++ take count rest → (given : List Packet) (fed : List ℕ) → HoldsBehind given fed old → length (fed ++ bytes) < 18446744073709551616
+    → IsGrownTo ((fed ++ so.done) ++ take count rest) new.header (given ++ new.packets.items) new.offset part'
+grown_so bytes rest part' old new n count so wanted some counted grew given fed held short =
     let left : 0 < length rest = not_empty rest some in
-    grown_next (fed ++ so.done) (take count rest) _ _ _ n new.part.items part' (so.holds fed held short) wanted
+    grown_next (fed ++ so.done) (take count rest) _ _ _ n new.part.items part' (so.holds given fed held short) wanted
     (omega (arith, length-take-le count rest (omega arith), counted, left))
     (omega (arith, length-take-le count rest (omega arith), counted)) grew
 
 -- count bytes more, and no fault
 pub so_fed_next : (bytes rest part' : List ℕ) (old new new' : Feed) (n count : ℕ) → SoFed bytes rest old new → IsWanted new.header new.part.items n → rest ≢ [] → count ≡ min (max n 1) (length rest)
     → part' ≡ new.part.items ++ take count rest
-    → ((fed : List ℕ) → IsGrownTo fed new.header new.packets.items new.offset part' → length fed < 18446744073709551616 → HoldsAt fed new' None)
+    → ((given : List Packet) (fed : List ℕ) → IsGrownTo fed new.header (given ++ new.packets.items) new.offset part' → length fed < 18446744073709551616 → BehindAt given fed new' None)
     → new'.fault ≡ None → SoFed bytes (take (length rest - count) (drop count rest)) old new'
 so_fed_next bytes rest part' old new new' n count so wanted some counted grew closed none = record {
   done = so.done ++ take count rest;
   parts = so.parts ∙ ap (λ t. so.done ++ t) (two_parts count rest) ∙ sym (append_assoc so.done (take count rest) (take (length rest - count) (drop count rest)));
   none = none;
-  holds = λ fed held short. rw (sym (append_assoc fed so.done (take count rest)))
-      (closed ((fed ++ so.done) ++ take count rest) (grown_so bytes rest part' old new n count so wanted some counted grew fed held short)
+  holds = λ given fed held short. rw (sym (append_assoc fed so.done (take count rest)))
+      (closed given ((fed ++ so.done) ++ take count rest) (grown_so bytes rest part' old new n count so wanted some counted grew given fed held short)
       (omega (arith, within_all fed bytes so.done rest so.parts, short, length-append (fed ++ so.done) (take count rest), length-take-le count rest (omega arith))));
 }
 
 -- count bytes more, and a fault
 pub so_fed_stopped : (bytes rest part' : List ℕ) (old new new' : Feed) (n count : ℕ) (f : CaptureFault) → SoFed bytes rest old new → IsWanted new.header new.part.items n → rest ≢ [] → count ≡ min (max n 1) (length rest)
     → part' ≡ new.part.items ++ take count rest
-    → ((fed : List ℕ) → IsGrownTo fed new.header new.packets.items new.offset part' → length fed < 18446744073709551616 → HoldsAt fed new' (Some f))
-    → (fed : List ℕ) → Holds fed old → length (fed ++ bytes) < 18446744073709551616 → HoldsAt (fed ++ bytes) new' (Some f)
-so_fed_stopped bytes rest part' old new new' n count f so wanted some counted grew closed fed held short =
+    → ((given : List Packet) (fed : List ℕ) → IsGrownTo fed new.header (given ++ new.packets.items) new.offset part' → length fed < 18446744073709551616 → BehindAt given fed new' (Some f))
+    → (given : List Packet) (fed : List ℕ) → HoldsBehind given fed old → length (fed ++ bytes) < 18446744073709551616 → BehindAt given (fed ++ bytes) new' (Some f)
+so_fed_stopped bytes rest part' old new new' n count f so wanted some counted grew closed given fed held short =
     let left = take (length rest - count) (drop count rest) in
     let all : fed ++ bytes ≡ ((fed ++ so.done) ++ take count rest) ++ left =
     ap (λ t. fed ++ t) (so.parts ∙ ap (λ t. so.done ++ t) (two_parts count rest)) ∙ sym (append_assoc fed so.done (take count rest ++ left)) ∙ sym (append_assoc (fed ++ so.done) (take count rest) left) in
     rw all (stopped-lasts ((fed ++ so.done) ++ take count rest) left _ _ _
-    (closed ((fed ++ so.done) ++ take count rest) (grown_so bytes rest part' old new n count so wanted some counted grew fed held short)
+    (closed given ((fed ++ so.done) ++ take count rest) (grown_so bytes rest part' old new n count so wanted some counted grew given fed held short)
     (omega (arith, within_all fed bytes so.done rest so.parts, short, length-append (fed ++ so.done) (take count rest), length-take-le count rest (omega arith)))))
 
 -- a feed with a fault stays as it is
-pub holds-on : (fed bytes : List ℕ) (feed : Feed) (f : CaptureFault) → All (λ b. b < 256) bytes → feed.fault ≡ Some f → Holds fed feed → Holds (fed ++ bytes) feed
-holds-on fed bytes feed f small e held = (All-append (λ b. b < 256) fed bytes held.0 small, rw e (stopped-lasts fed bytes _ _ _ (rw e at held.1)))
+pub holds-on : (given : List Packet) (fed bytes : List ℕ) (feed : Feed) (f : CaptureFault) → All (λ b. b < 256) bytes → feed.fault ≡ Some f → HoldsBehind given fed feed → HoldsBehind given (fed ++ bytes) feed
+holds-on given fed bytes feed f small e held = (All-append (λ b. b < 256) fed bytes held.0 small, rw e (stopped-lasts fed bytes _ _ _ (rw e at held.1)))
 
 -- the bytes of a slice are below 256
 pub are_bytes : (bytes : List ℕ) → ((i : ℕ) → slice_index bytes i < 256) → All (λ b. b < 256) bytes
 are_bytes bytes small = All-from_get_or (λ b. b < 256) bytes 0 (λ i within. small i)
 
 -- a feed that went on to these bytes holds them
-pub holds_next : (fed bytes : List ℕ) (feed : Feed) (fault : Option CaptureFault) → All (λ b. b < 256) fed → All (λ b. b < 256) bytes → feed.fault ≡ fault → HoldsAt (fed ++ bytes) feed fault → Holds (fed ++ bytes) feed
-holds_next fed bytes feed fault small more e held = (All-append (λ b. b < 256) fed bytes small more, rw e held)
+pub holds_next : (given : List Packet) (fed bytes : List ℕ) (feed : Feed) (fault : Option CaptureFault) → All (λ b. b < 256) fed → All (λ b. b < 256) bytes → feed.fault ≡ fault → BehindAt given (fed ++ bytes) feed fault → HoldsBehind given (fed ++ bytes) feed
+holds_next given fed bytes feed fault small more e held = (All-append (λ b. b < 256) fed bytes small more, rw e held)
 
 -- between two feeds another part is held
 pub grows_on : (old mid mid' new : Feed) → mid.header ≡ mid'.header → mid.packets.items ≡ mid'.packets.items → Grows old mid → Grows mid' new → Grows old new
@@ -258,3 +260,77 @@ grows_on old mid mid' new header packets first then = record {
     then.packets.1 ∙ ap (λ t. t ++ then.packets.0) (sym packets ∙ first.packets.1) ∙ append_assoc old.packets.items first.packets.0 then.packets.0,
   );
 }
+
+-- the record in front of some bytes
+pub split_front : (big : Bool) (bytes : List ℕ) (n : ℕ) (p : Packet) → IsWhole big bytes n → p.bytes ≡ take (16 + n - 16) (drop 16 bytes) → p.original ≡ number big 4 (take (length bytes - 12) (drop 12 bytes))
+    → IsRecord big (take (16 + n) bytes) p
+split_front big bytes n p whole body original =
+    let front : List ℕ = take (16 + n) bytes in
+    let tail : List ℕ = drop (16 + n) bytes in
+    let parts : bytes ≡ front ++ tail = sym (take-append-drop (16 + n) bytes) in
+    let size : length front ≡ 16 + n = length-take-le (16 + n) bytes whole.2 in
+    let same : captured big bytes ≡ captured big front = ap (captured big) parts ∙ word_at-front big 8 front tail (omega (arith, size)) in
+    let after : drop 16 bytes ≡ drop 16 front ++ tail = ap (drop 16) parts ∙ drop-append-le 16 front tail (omega (arith, size)) in
+    let count : n ≡ length (drop 16 front) = omega (arith, length-drop 16 front, size) in
+    let cut : take n (drop 16 bytes) ≡ drop 16 front = ap (take n) after ∙ ap (λ m. take m (drop 16 front ++ tail)) count ∙ take-append_seam (drop 16 front) tail in
+    let small : 16 + n - 16 ≡ n = omega arith in
+    let is_body : drop 16 front ≡ p.bytes = sym cut ∙ ap (λ m. take m (drop 16 bytes)) (sym small) ∙ sym body in
+    let place : take (length bytes - 12) (drop 12 bytes) ≡ drop 12 bytes = take_all (length bytes - 12) (drop 12 bytes) (omega (arith, length-drop 12 bytes)) in
+    record {
+      header = omega (arith, size);
+      length_is = sym same ∙ sym whole.0 ∙ count ∙ ap length is_body;
+      short = omega (arith, same, whole.0, whole.1);
+      original = original ∙ ap (number big 4) place ∙ ap (λ b. number big 4 (drop 12 b)) parts ∙ word_at-front big 12 front tail (omega (arith, size));
+      body = is_body;
+    }
+
+-- an open feed between two records, and one more record
+next_record : (fed front : List ℕ) (header : Option Header) (packets : List Packet) (offset offset' : ℕ) (part : List ℕ) (h : Header) (p : Packet)
+    → header ≡ Some h → part ≡ [] → IsOpen fed header packets offset part → IsRecord h.big front p → length (fed ++ front) < 18446744073709551616
+    → (offset + (16 + length p.bytes) < 18446744073709551616 → offset' ≡ offset + (16 + length p.bytes))
+    → IsOpen (fed ++ front) header (packets ++ p ∷ []) offset' part
+next_record fed front None packets offset offset' part h p is none was one short moved = absurd (cc)
+next_record fed front (Some k) packets offset offset' part h p is none was one short moved =
+    let same : k ≡ h = cc in
+    let keeps = was.0 in
+    let whole : fed ≡ keeps.head ++ concat keeps.records = keeps.parts ∙ ap (λ t. (keeps.head ++ concat keeps.records) ++ t) none ∙ append-nil (keeps.head ++ concat keeps.records) in
+    let more : concat (keeps.records ++ front ∷ []) ≡ concat keeps.records ++ front = concat-push keeps.records front in
+    let size : length front ≡ 16 + length p.bytes = omega (arith, one.header, ap length one.body, length-drop 16 front) in
+    let long : length (concat keeps.records ++ front) ≡ length (concat keeps.records) + length front = length-append (concat keeps.records) front in
+    let moved_to : offset' ≡ offset + (16 + length p.bytes) =
+    moved (omega (arith, keeps.place, ap length whole, length-append keeps.head (concat keeps.records), keeps.header.long, length-append fed front, size, short)) in (
+      record {
+        head = keeps.head;
+        records = keeps.records ++ front ∷ [];
+        parts = ap (λ t. t ++ front) whole ∙ append_assoc keeps.head (concat keeps.records) front ∙ ap (λ t. keeps.head ++ t) (sym more)
+            ∙ sym (append-nil (keeps.head ++ concat (keeps.records ++ front ∷ []))) ∙ ap (λ t. (keeps.head ++ concat (keeps.records ++ front ∷ [])) ++ t) (sym none);
+        header = keeps.header;
+        each = AllZip-push (IsRecord k.big) keeps.records packets front p keeps.each (rw same one);
+        place = moved_to ∙ omega (arith, keeps.place, ap length more, long, size);
+      },
+      inl none,
+    )
+
+-- a feed that took one whole record off some bytes
+pub whole_taken : (bytes rest front : List ℕ) (old : Feed) (h : Header) (offset' : ℕ) (p : Packet) → old.header ≡ Some h → old.fault ≡ None → old.part.items ≡ [] → old.packets.items ≡ []
+    → bytes ≡ front ++ rest → IsRecord h.big front p → All (λ b. b < 256) front
+    → (old.offset + (16 + length p.bytes) < 18446744073709551616 → offset' ≡ old.offset + (16 + length p.bytes))
+    → TakesWhole bytes rest old (record old { offset = offset' }) p
+whole_taken bytes rest front old h offset' p is going none empty parts one small moved = record {
+  front = front;
+  parts = parts;
+  some = omega (arith, one.header);
+  holds = λ given fed held short.
+      let at : given ++ old.packets.items ≡ given = ap (λ t. given ++ t) empty ∙ append-nil given in
+      let at' : (given ++ p ∷ []) ++ old.packets.items ≡ given ++ p ∷ [] = ap (λ t. (given ++ p ∷ []) ++ t) empty ∙ append-nil (given ++ p ∷ []) in
+      let was : IsOpen fed old.header given old.offset old.part.items = rw at at (rw going at held.1) in
+      holds_next (given ++ p ∷ []) fed front (record old { offset = offset' }) None held.0 small going
+      (rw at' (next_record fed front old.header given old.offset offset' old.part.items h p is none was one short moved));
+}
+
+-- a list whose length was seen to be 0
+pub none_left : {A : Type 0} (xs : List A) (n : ℕ) (r : Bool) → n ≡ length xs → r ≡ (n == 0) → r ≡ true → xs ≡ []
+none_left xs n r count seen is = elim (eqb_tells n 0) [
+  | inl e ↦ nil_from_length xs (omega (arith, count, e.1))
+  | inr e ↦ let never = e.0 in absurd (cc)
+]

@@ -1,23 +1,17 @@
 -- A feed between two looks at its part. No public clause cites these.
-use Rattle.std.specs.Prelude.{◌≡◌, ℕ, ◌+◌, ◌-◌, ◌<◌, ◌≤◌, ◌⊎◌, Bool, List, [], length, drop, Option, Some, None, Result, Ok, Err}
-use Rattle.pcap_reader.specs.Savefile.{number, captured}
-use Rattle.pcap_reader.specs.Held.{Keeps, HoldsAt}
+use Rattle.std.specs.Prelude.{◌≡◌, ℕ, ◌+◌, ◌<◌, ◌≤◌, ◌⊎◌, Bool, List, [], ◌++◌, length, drop, All, Option, Some, None, Result, Ok, Err}
+use Rattle.pcap_reader.specs.Savefile.{number, captured, IsRecord}
+use Rattle.pcap_reader.specs.Held.{Keeps, BehindAt, seen_packet}
 use Rattle.pcap_reader.specs.declared.capture.Header.{Header}
 use Rattle.pcap_reader.specs.declared.capture.Packet.{Packet}
 use Rattle.pcap_reader.specs.declared.feed.Feed.{Feed}
+use Rattle.pcap_reader.specs.declared.feed.Seen.{Seen}
 use Rattle.pcap_reader.specs.declared.capture.CaptureFault.{CaptureFault}
 
 -- after more bytes a feed is still open, or this fault stands in them
-abbrev pub GoesOn : List ℕ → Feed → Result (Unit {0}) CaptureFault → Type 0
-GoesOn fed feed (Ok done) = HoldsAt fed feed None
-GoesOn fed feed (Err fault) = HoldsAt fed feed (Some fault)
-
--- how many bytes a part lacks to be looked at again
-abbrev pub IsWanted : Option Header → List ℕ → ℕ → Type 0
-IsWanted None part n = n ≡ 24 - length part
-IsWanted (Some h) part n =
-    ((length part < 16) × (n ≡ 16 - length part))
-    ⊎ ((16 ≤ length part) × (n ≡ 16 + captured h.big part - length part))
+abbrev pub GoesOn : List Packet → List ℕ → Feed → Result (Unit {0}) CaptureFault → Type 0
+GoesOn given fed feed (Ok done) = BehindAt given fed feed None
+GoesOn given fed feed (Err fault) = BehindAt given fed feed (Some fault)
 
 -- a record that isn't whole yet
 abbrev pub IsShort : Bool → List ℕ → Type 0
@@ -26,6 +20,10 @@ IsShort big part = (length part < 16) ⊎ ((captured big part ≤ 262144) × (le
 -- bytes that have a whole record in front, with n captured bytes
 abbrev pub IsWhole : Bool → List ℕ → ℕ → Type 0
 IsWhole big part n = (n ≡ captured big part) × (n ≤ 262144) × (16 + n ≤ length part)
+
+-- bytes that are a record with this packet, and then the rest
+abbrev pub SplitsRecord : Bool → List ℕ → Seen → List ℕ → Type 0
+SplitsRecord big bytes seen rest = (front : List ℕ) × (bytes ≡ front ++ rest) × IsRecord big front (seen_packet seen) × All (λ byte. byte < 256) front
 
 -- the packet of a record
 abbrev pub IsPacket : Bool → List ℕ → Packet → Type 0
@@ -39,5 +37,5 @@ IsGrownTo fed (Some h) packets offset part =
     × ((length part ≤ 16) ⊎ ((captured h.big part ≤ 262144) × (length part ≤ 16 + captured h.big part)))
 
 -- a feed whose part has grown
-abbrev pub IsGrown : List ℕ → Feed → Type 0
-IsGrown fed feed = IsGrownTo fed feed.header feed.packets.items feed.offset feed.part.items
+abbrev pub IsGrown : List Packet → List ℕ → Feed → Type 0
+IsGrown given fed feed = IsGrownTo fed feed.header (given ++ feed.packets.items) feed.offset feed.part.items

@@ -1,10 +1,11 @@
 -- What a Feed holds of the bytes that it was fed (pcap-savefile(5) of libpcap, cut anywhere).
-use Rattle.std.specs.Prelude.{◌≡◌, ℕ, ◌+◌, ◌<◌, ◌⊎◌, List, [], ◌++◌, length, All, Option, Some, None, Result, Ok, Err}
+use Rattle.std.specs.Prelude.{◌≡◌, ◌≢◌, ℕ, ◌+◌, ◌-◌, ◌^◌, ◌<◌, ◌≤◌, ◌⊎◌, List, [], ◌∷◌, ◌++◌, length, All, Option, Some, None, Result, Ok, Err}
 use Rattle.std.specs.List.{AllZip, concat}
-use Rattle.pcap_reader.specs.Savefile.{IsHeader, IsRecord, IsPart, HasNoHeader, Reads, ReadsFront, IsLasting}
+use Rattle.pcap_reader.specs.Savefile.{captured, IsHeader, IsRecord, IsPart, HasNoHeader, Reads, ReadsFront, IsLasting}
 use Rattle.pcap_reader.specs.declared.capture.Header.{Header}
 use Rattle.pcap_reader.specs.declared.capture.Packet.{Packet}
 use Rattle.pcap_reader.specs.declared.feed.Feed.{Feed}
+use Rattle.pcap_reader.specs.declared.feed.Seen.{Seen}
 use Rattle.pcap_reader.specs.declared.capture.CaptureFault.{CaptureFault}
 use Rattle.pcap_reader.specs.declared.capture.CaptureFault.TheVariants.{TruncatedHeader, NoMemory}
 
@@ -40,14 +41,60 @@ HasStopped fed header packets fault =
     (IsLasting fault × Reads fed header packets (Some fault))
     ⊎ ((fault ≡ NoMemory) × ReadsFront fed header packets)
 
--- what a feed holds of the bytes, under its fault, if it has one
-abbrev pub HoldsAt : List ℕ → Feed → Option CaptureFault → Type 0
-HoldsAt fed feed None = IsOpen fed feed.header feed.packets.items feed.offset feed.part.items
-HoldsAt fed feed (Some fault) = HasStopped fed feed.header feed.packets.items fault
+-- what a feed holds of the bytes behind packets that it gave up, under its fault, if it has one
+abbrev pub BehindAt : List Packet → List ℕ → Feed → Option CaptureFault → Type 0
+BehindAt given fed feed None = IsOpen fed feed.header (given ++ feed.packets.items) feed.offset feed.part.items
+BehindAt given fed feed (Some fault) = HasStopped fed feed.header (given ++ feed.packets.items) fault
 
--- a feed was fed these bytes, and holds what it has read of them
+-- a feed was fed these bytes, gave up these packets of them, and holds what it has read behind those
+abbrev pub HoldsBehind : List Packet → List ℕ → Feed → Type 0
+HoldsBehind given fed feed = All (λ byte. byte < 256) fed × BehindAt given fed feed (held_fault feed)
+
+-- a feed was fed these bytes, and holds all that it has read of them
 abbrev pub Holds : List ℕ → Feed → Type 0
-Holds fed feed = All (λ byte. byte < 256) fed × HoldsAt fed feed (held_fault feed)
+Holds fed feed = HoldsBehind [] fed feed
+
+-- what bytes hold, as far as they were read: a capture with this header, or a fault behind what was read
+abbrev pub IsEnding : List ℕ → Option Header → List Packet → Result Header CaptureFault → Type 0
+IsEnding fed header packets (Ok h) = Reads fed (Some h) packets None
+IsEnding fed header packets (Err fault) = Reads fed header packets (Some fault)
+
+-- how many bytes a part lacks to be looked at again: to the end of the header, of a record's header or of a record
+abbrev pub IsWanted : Option Header → List ℕ → ℕ → Type 0
+IsWanted None part n = n ≡ 24 - length part
+IsWanted (Some h) part n =
+    ((length part < 16) × (n ≡ 16 - length part))
+    ⊎ ((16 ≤ length part) × (n ≡ 16 + captured h.big part - length part))
+
+-- the packet of a record that was seen in place
+abbrev pub seen_packet : Seen → Packet
+seen_packet seen = record { bytes = seen.bytes.now; original = seen.original }
+
+-- the feed has a header and no fault, no packet and no part of a record, and the bytes begin with a whole record
+pub record SeesWhole (feed : Feed) (bytes : List ℕ) : Type 0 where
+  pub header : Header
+  pub has : held_header feed ≡ Some header
+  pub going : held_fault feed ≡ None
+  pub none : held_packets feed ≡ []
+  pub between : feed.part.items ≡ []
+  pub short : captured header.big bytes ≤ 262144
+  pub whole : 16 + captured header.big bytes ≤ length bytes
+
+-- of some bytes a feed took a front, with one packet that it doesn't hold
+pub record TakesWhole (bytes rest : List ℕ) (old new : Feed) (packet : Packet) : Type 0 where
+  pub front : List ℕ
+  pub parts : bytes ≡ front ++ rest
+  pub some : 0 < length front
+  pub holds : (given : List Packet) (fed : List ℕ) → HoldsBehind given fed old → length (fed ++ front) < 2 ^ 64
+      → HoldsBehind (given ++ packet ∷ []) (fed ++ front) new
+
+-- of some bytes a feed took a front, at least one byte where there are any
+pub record TakesFront (bytes rest : List ℕ) (old new : Feed) : Type 0 where
+  pub front : List ℕ
+  pub parts : bytes ≡ front ++ rest
+  pub some : bytes ≢ [] → 0 < length front
+  pub holds : (given : List Packet) (fed : List ℕ) → HoldsBehind given fed old → length (fed ++ front) < 2 ^ 64
+      → HoldsBehind given (fed ++ front) new
 
 -- the answer to a piece is the feed's fault
 abbrev pub Says : Option CaptureFault → Result (Unit {0}) CaptureFault → Type 0

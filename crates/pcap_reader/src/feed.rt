@@ -1,10 +1,11 @@
 //! Captures that come in pieces, or whole.
 
-ghost use Rattle.std.specs.Prelude.{◌≡◌, ◌≢◌, ◌≤◌, ◌<◌, ◌+◌, ◌++◌, ◌^◌, ◌⊎◌, [], ℕ, List, Option, Some, None, Bool, length, IfOk, IfErr, MatchOption, MatchResult};
-ghost use Rattle.pcap_reader.specs.Savefile.{IsMagic, IsHeader, IsLong, HasNoHeader, IsLasting};
+ghost use Rattle.std.specs.Prelude.{◌≡◌, ◌≢◌, ◌≤◌, ◌<◌, ◌+◌, ◌++◌, ◌^◌, ◌⊎◌, [], ℕ, List, Option, Some, None, Err, Bool, length, IsSome, IfOk, IfErr, IfSome, MatchOption, MatchResult};
+ghost use Rattle.pcap_reader.specs.declared.capture.Packet.{Packet as Captured};
+ghost use Rattle.pcap_reader.specs.Savefile.{IsMagic, IsHeader, IsLong, HasNoHeader, IsLasting, ReadsFront};
 ghost use Rattle.pcap_reader.specs.Answers.{GivesWhole, GivesFront, GivesOnly, HasReading, Tells};
-ghost use Rattle.pcap_reader.specs.Held.{Holds, Says, Grows, held_header, held_packets, held_fault};
-ghost use Rattle.pcap_reader.specs.Growth.{GoesOn, IsGrown, IsWanted, IsShort, IsWhole, IsPacket};
+ghost use Rattle.pcap_reader.specs.Held.{Holds, HoldsBehind, IsEnding, IsWanted, Says, Grows, SeesWhole, TakesFront, TakesWhole, held_header, held_packets, held_fault, seen_packet};
+ghost use Rattle.pcap_reader.specs.Growth.{GoesOn, IsGrown, IsShort, IsWhole, IsPacket, SplitsRecord};
 
 use crate::capture::{Bytes, Capture, CaptureFault, Header, Packet, Packets, Stop};
 use crate::fields::{short_at, word_at};
@@ -55,9 +56,9 @@ impl Feed {
     /// or NoMemory where memory was refused. After a fault every later piece answers the same
     /// fault, takes nothing and changes nothing. The packets that were whole before a fault stay.
     pub fn piece(&mut self, bytes: &[u8]) -> Result<(), CaptureFault>
-        ensures holds { (fed : List ℕ) → Holds fed self.old → length (fed ++ bytes.now) < 2 ^ 64
-            → Holds (fed ++ bytes.now) self.new }
-        ensures tells { (fed : List ℕ) → Holds fed self.old → length (fed ++ bytes.now) < 2 ^ 64
+        ensures holds { (given : List Captured) (fed : List ℕ) → HoldsBehind given fed self.old
+            → length (fed ++ bytes.now) < 2 ^ 64 → HoldsBehind given (fed ++ bytes.now) self.new }
+        ensures tells { (given : List Captured) (fed : List ℕ) → HoldsBehind given fed self.old → length (fed ++ bytes.now) < 2 ^ 64
             → Tells (fed ++ bytes.now) result }
         ensures says { Says (held_fault self.new) result }
 
@@ -83,8 +84,8 @@ impl Feed {
     /// Takes bytes up to each place where something can be seen: the end of a header or a record.
     fn take(&mut self, bytes: &[u8]) -> Result<(), CaptureFault>
         requires { self.old.fault ≡ None }
-        ensures grown { (fed : List ℕ) → Holds fed self.old → length (fed ++ bytes.now) < 2 ^ 64
-            → GoesOn (fed ++ bytes.now) self.new result }
+        ensures grown { (given : List Captured) (fed : List ℕ) → HoldsBehind given fed self.old
+            → length (fed ++ bytes.now) < 2 ^ 64 → GoesOn given (fed ++ bytes.now) self.new result }
         ensures grows { Grows self.old self.new }
         ensures same { self.new.fault ≡ None }
     {
@@ -103,8 +104,8 @@ impl Feed {
     /// Looks at a part that has grown.
     fn close(&mut self) -> Result<(), CaptureFault>
         requires { self.old.fault ≡ None }
-        ensures closed { (fed : List ℕ) → IsGrown fed self.old → length fed < 2 ^ 64
-            → GoesOn fed self.new result }
+        ensures closed { (given : List Captured) (fed : List ℕ) → IsGrown given fed self.old
+            → length fed < 2 ^ 64 → GoesOn given fed self.new result }
         ensures grows { Grows self.old self.new }
         ensures same { self.new.fault ≡ None }
     {
@@ -143,33 +144,110 @@ impl Feed {
             (λ capture. (held_header self ≡ Some capture.header) × (capture.packets ≡ held_packets self))
             (λ stop. (stop.header ≡ held_header self) × (stop.before ≡ held_packets self)) }
     {
+        let ending = self.ending();
         let packets = Packets::from_vec(self.packets);
-        match self.fault {
-            Some(fault) => Err(Stop {
+        match ending {
+            Ok(header) => Ok(Capture { header, packets }),
+            Err(fault) => Err(Stop {
                 header: self.header,
                 before: packets,
                 fault,
             }),
-            None => match self.header {
-                None => Err(Stop {
-                    header: None,
-                    before: packets,
-                    fault: CaptureFault::TruncatedHeader,
-                }),
-                Some(header) => {
-                    if self.part.is_empty() {
-                        Ok(Capture { header, packets })
-                    } else {
-                        Err(Stop {
-                            header: Some(header),
-                            before: packets,
-                            fault: CaptureFault::TruncatedRecord(self.offset),
-                        })
-                    }
-                }
-            },
         }
     }
+
+    /// How the capture ends if nothing follows: the header of a whole capture, or its fault.
+    ///
+    /// The fault is NoMemory just where a piece answered it.
+    pub fn ending(&self) -> Result<Header, CaptureFault>
+        ensures whole { (given : List Captured) (fed : List ℕ) → HoldsBehind given fed self.now
+            → held_fault self.now ≢ Some CaptureFault.NoMemory
+            → IsEnding fed (held_header self.now) (given ++ held_packets self.now) result }
+        ensures front { (given : List Captured) (fed : List ℕ) → HoldsBehind given fed self.now
+            → held_fault self.now ≡ Some CaptureFault.NoMemory
+            → ReadsFront fed (held_header self.now) (given ++ held_packets self.now) }
+        ensures refused { held_fault self.now ≡ Some CaptureFault.NoMemory
+            → result ≡ Err CaptureFault.NoMemory }
+        ensures header { IfOk result (λ header. held_header self.now ≡ Some header) }
+    {
+        if let Some(fault) = self.fault {
+            return Err(fault);
+        }
+        match self.header {
+            None => Err(CaptureFault::TruncatedHeader),
+            Some(header) => {
+                if self.part.is_empty() {
+                    Ok(header)
+                } else {
+                    Err(CaptureFault::TruncatedRecord(self.offset))
+                }
+            }
+        }
+    }
+
+    /// Gives up the packets that are whole so far, and holds none then. Takes no memory.
+    pub fn give_up(&mut self) -> Packets
+        ensures given { (given : List Captured) (fed : List ℕ) → HoldsBehind given fed self.old
+            → HoldsBehind (given ++ result) fed self.new }
+        ensures all { result ≡ held_packets self.old }
+        ensures none { held_packets self.new ≡ [] }
+        ensures header { held_header self.new ≡ held_header self.old }
+        ensures fault { held_fault self.new ≡ held_fault self.old }
+    {
+        let empty = Vec::new(self.alloc);
+        Packets::from_vec(std::mem::replace(&mut self.packets, empty))
+    }
+
+    /// The packet of a whole record at the front of `rest`, which is taken off `rest`. The packet stays where it lies: no
+    /// memory is taken, and the feed doesn't hold it.
+    ///
+    /// There is none where `rest` begins with no whole record, where the feed has no header yet or a fault, and where it
+    /// holds packets or a part of a record; then nothing changes. So `fill` and `give_up` come between.
+    pub fn whole<'b>(&mut self, rest: &mut &'b [u8]) -> Option<Seen<'b>>
+        ensures takes { IfSome result (λ seen. TakesWhole rest.old.now rest.new.now self.old self.new (seen_packet seen)) }
+        ensures sees { SeesWhole self.old rest.old.now → IsSome result }
+        ensures none { result ≡ None → (self.new ≡ self.old) × (rest.new ≡ rest.old) }
+        ensures grows { Grows self.old self.new }
+        ensures empty { held_packets self.old ≡ [] → held_packets self.new ≡ [] }
+        ensures fault { held_fault self.new ≡ held_fault self.old }
+    {
+        if self.fault.is_some() || !self.part.is_empty() || !self.packets.is_empty() {
+            return None;
+        }
+        let header = self.header?;
+        let (seen, more) = split_record(header.big, self.offset, *rest)?;
+        self.offset = self
+            .offset
+            .saturating_add(RECORD_HEADER as u64 + seen.bytes.len() as u64);
+        *rest = more;
+        Some(seen)
+    }
+
+    /// Takes bytes off the front of `rest` and feeds them: as many as are lacking to the end of the header, of a record's
+    /// header or of a record, or all that there are. The answer is that of `piece`.
+    pub fn fill(&mut self, rest: &mut &[u8]) -> Result<(), CaptureFault>
+        ensures takes { TakesFront rest.old.now rest.new.now self.old self.new }
+        ensures says { Says (held_fault self.new) result }
+        ensures grows { Grows self.old self.new }
+        ensures stays { (fault : CaptureFault) → held_fault self.old ≡ Some fault
+            → self.new ≡ self.old }
+    {
+        let bytes = *rest;
+        let count = wanted(self.header, self.part.as_slice())
+            .max(1)
+            .min(bytes.len());
+        *rest = &bytes[count..];
+        self.piece(&bytes[..count])
+    }
+}
+
+/// A packet that lies in a piece.
+#[derive(Clone, Copy, Debug)]
+pub struct Seen<'b> {
+    /// The bytes that were captured, from the packet's first byte on.
+    pub bytes: &'b [u8],
+    /// The packet's length in bytes when it was seen.
+    pub original: u32,
 }
 
 /// How many bytes a part lacks to be looked at again.
@@ -248,6 +326,24 @@ fn record_of(big: bool, offset: u64, part: &[u8]) -> Result<Option<u32>, Capture
         return Ok(None);
     }
     Ok(Some(captured))
+}
+
+/// The packet of the whole record that bytes begin with, if they do, and the bytes after it.
+fn split_record<'b>(big: bool, offset: u64, bytes: &'b [u8]) -> Option<(Seen<'b>, &'b [u8])>
+    ensures { MatchOption result (IsShort big bytes.now ⊎ IsLong big bytes.now)
+        (λ found. SplitsRecord big bytes.now found.0 found.1.now) }
+{
+    match record_of(big, offset, bytes) {
+        Ok(Some(captured)) => {
+            let end = RECORD_HEADER + captured as usize;
+            let seen = Seen {
+                bytes: &bytes[RECORD_HEADER..end],
+                original: word_at(big, &bytes[12..]),
+            };
+            Some((seen, &bytes[end..]))
+        }
+        _ => None,
+    }
 }
 
 /// The packet of a whole record.

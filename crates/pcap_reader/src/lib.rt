@@ -31,7 +31,7 @@ mod feed;
 mod fields;
 
 pub use capture::{Bytes, Capture, CaptureFault, Header, Packet, Packets, Stop};
-pub use feed::{Feed, read_capture};
+pub use feed::{Feed, Seen, read_capture};
 
 #[cfg(test)]
 mod tests;

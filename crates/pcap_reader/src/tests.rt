@@ -219,6 +219,56 @@ fn packets_cut_off(rt: HostRuntime) -> Result<(), Fail> {
     Ok(())
 }
 
+/// What is read of a capture that comes in pieces of so many bytes, whose packets are seen in place or given up.
+fn run_pieces(alloc: Global, bytes: &[u8], size: usize) -> Result<Reading, AllocError> {
+    let mut feed = Feed::new(alloc);
+    let mut packets = Vec::new(alloc);
+    for piece in bytes.chunks(size.max(1)) {
+        let mut rest = piece;
+        for _ in 0..bytes.len() {
+            match feed.whole(&mut rest) {
+                Some(seen) => packets.push(Packet {
+                    bytes: Bytes::from_vec(Vec::from_slice(alloc, seen.bytes)?),
+                    original: seen.original,
+                })?,
+                None => {
+                    let _ = feed.fill(&mut rest);
+                    for packet in feed.give_up().into_vec() {
+                        packets.push(packet)?;
+                    }
+                }
+            }
+        }
+    }
+    let ending = feed.ending();
+    let header = match feed.finish() {
+        Ok(capture) => Some(capture.header),
+        Err(stop) => stop.header,
+    };
+    Ok(Reading {
+        header,
+        packets,
+        fault: ending.err(),
+    })
+}
+
+#[test]
+fn in_place_as_whole(rt: HostRuntime) -> Result<(), Fail> {
+    let mut records = Vec::from_slice(rt.alloc(), HEADER)?;
+    records.extend_from_slice(b"\0\0\0\0\0\0\0\0\x03\0\0\0\x09\0\0\0\xab\xcd\xef")?;
+    records.extend_from_slice(b"\0\0\0\0\0\0\0\0\0\0\0\0\0\0\0\0")?;
+    records.extend_from_slice(b"\0\0\0\0\0\0\0\0\x01\0\0\0\x01\0\0\0\x11")?;
+    let captures: [&[u8]; 4] = [records.as_slice(), TRUNCATED, TOO_LONG, b"\xd4\xc3\xb2\xa2"];
+    for capture in captures {
+        let want = shown(read_capture(rt.alloc(), capture));
+        for size in 1..80 {
+            let got = run_pieces(rt.alloc(), capture, size)?;
+            assert_eq!(rt; got, want, "{size}");
+        }
+    }
+    Ok(())
+}
+
 #[test]
 fn cut_after_each_byte(rt: HostRuntime) -> Result<(), Fail> {
     let capture: &[u8] = TRUNCATED;
