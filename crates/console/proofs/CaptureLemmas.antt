@@ -1,25 +1,75 @@
 -- What `match` has shown of a capture.
-use Rattle.std.proofs.Common.{◌≡◌, ℕ, List, Option, Some, None, refl, inl, inr, true, codes}
+use Rattle.std.proofs.Common.{◌≡◌, ℕ, ◌++◌, List, [], Option, Bool, Result, Ok, Err, IfOk, refl, sym, append-nil, flat_map, inl, inr, true, false, codes}
+use Rattle.std.specs.Io.KnownBytes.{Appends}
 use Rattle.bpf_insn.specs.declared.insn.Insn.{Insn}
-use Rattle.console.specs.declared.captured.Captured.{Captured}
-use Rattle.console.specs.Reading.{GaveCapture, IsInput}
-use Rattle.console.specs.Faults.{fault_status}
-use Rattle.console.specs.Matching.{AnswersCaptured, ShowsCapture, ShowsFirst, ShowsInput, ShowsRead}
+use Rattle.filter_vm.specs.declared.machine.Outcome.{Outcome}
+use Rattle.pcap_reader.specs.declared.capture.CaptureFault.{CaptureFault}
+use Rattle.pcap_reader.specs.declared.feed.Feed.{Feed}
+use Rattle.console.specs.declared.fault.EngineFault.{EngineFault}
+use Rattle.console.specs.Reading.{BeginsWith, IsInput}
+use Rattle.console.specs.Faults.{fault_status, fault_text}
+use Rattle.console.specs.Matching.{ShowsInput, ShowsRead, outcome_line}
+use Rattle.console.specs.Running.{EndsRun, HasRun, RunsInput}
+use Rattle.console.proofs.KnownBytesLemmas.{appends-then}
 use Rattle.console.proofs.MatchingLemmas.{long_input, whole_input}
 
 -- an input that is too long
-pub capture_long : (program : List Insn) (old new : Option (List ℕ)) → GaveCapture old new None
+pub capture_long : (old new : Option (List ℕ)) (program : List Insn) (feed : Feed) (outcomes : List Outcome) (whole : Bool) → RunsInput old new program feed outcomes whole → whole ≡ false
     → (input : List ℕ) × IsInput old input × ShowsInput program true input 1 (codes "fault InputTooLong\n")
-capture_long program old new gave = let input = long_input old new gave.0 67108864 gave.1 gave.2 in (input.0, input.1, inr (input.2, refl, refl))
+capture_long old new program feed outcomes true gave e = absurd (cc)
+capture_long old new program feed outcomes false gave e = let input = long_input old new gave.0 67108864 gave.1 gave.2 in (input.0, input.1, inr (input.2, refl, refl))
 
 -- a capture whose packets were run
-pub capture_shown : (program : List Insn) (old new : Option (List ℕ)) (c : Captured) (status : ℕ) (text : List ℕ)
-    → GaveCapture old new (Some c) → ShowsCapture program c.packets c.fault text → status ≡ fault_status c.fault
-    → (input : List ℕ) × IsInput old input × ShowsInput program true input status text
-capture_shown program old new c status text gave shows done =
-    (gave.0, whole_input old new gave.0 gave.1 gave.2, inl (gave.3, (c.header, c.packets, c.fault, gave.4, shows, done)))
+pub capture_shown : (old new : Option (List ℕ)) (program : List Insn) (feed : Feed) (outcomes : List Outcome) (whole : Bool) (fault : Option CaptureFault) (status : ℕ)
+    → RunsInput old new program feed outcomes whole → whole ≡ true
+    → ((program : List Insn) (fed : List ℕ) (outcomes : List Outcome) → HasRun program fed feed outcomes → EndsRun program fed outcomes fault) → status ≡ fault_status fault
+    → (input : List ℕ) × IsInput old input × ShowsInput program true input status (flat_map outcome_line outcomes ++ fault_text fault)
+capture_shown old new program feed outcomes false fault status gave e ends done = absurd (cc)
+capture_shown old new program feed outcomes true fault status gave e ends done =
+    let run = ends program gave.0 outcomes gave.4 in (
+      gave.0,
+      whole_input old new gave.0 gave.1 gave.2,
+      inl (gave.3, (run.0, run.1, fault, run.2, record { outcomes = outcomes; ran = run.3; printed = refl }, done)),
+    )
+
+-- the same, with the text in two writes
+pub capture_ended : (r : Result ℕ EngineFault) (known lost : Option (List ℕ)) (program : List Insn) (feed : Feed) (outcomes : List Outcome) (whole : Bool) (fault : Option CaptureFault) (kept : List ℕ) (old new last : Option (List ℕ))
+    → RunsInput known lost program feed outcomes whole → whole ≡ true
+    → ((program : List Insn) (fed : List ℕ) (outcomes : List Outcome) → HasRun program fed feed outcomes → EndsRun program fed outcomes fault)
+    → Appends old new (flat_map outcome_line outcomes) → kept ≡ [] → IfOk r (λ status. (status ≡ fault_status fault) × Appends new last (kept ++ fault_text fault))
+    → IfOk r (λ status. (text : List ℕ) × Appends old last text × ((input : List ℕ) × IsInput known input × ShowsInput program true input status text))
+capture_ended (Ok status) known lost program feed outcomes whole fault kept old new last gave e ends lines empty ended = (
+  flat_map outcome_line outcomes ++ fault_text fault,
+  appends-then old new last (flat_map outcome_line outcomes) (fault_text fault) lines (rw empty at ended.1),
+  capture_shown known lost program feed outcomes whole fault status gave e ends ended.0,
+)
+capture_ended (Err e) known lost program feed outcomes whole fault kept old new last gave is ends lines empty ended = tt
 
 -- and in part
-pub capture_part : (program : List Insn) (old new : Option (List ℕ)) (c : Captured) (text : List ℕ)
-    → GaveCapture old new (Some c) → ShowsFirst (AnswersCaptured program) c.packets text → ShowsRead program true old new text
-capture_part program old new c text gave first = inr (gave.0, gave.1, gave.3, (c.header, c.packets, c.fault, gave.4, first))
+pub capture_part : (old new : Option (List ℕ)) (program : List Insn) (feed : Feed) (outcomes : List Outcome) (whole : Bool) (fault : Option CaptureFault) (text : List ℕ)
+    → RunsInput old new program feed outcomes whole → whole ≡ true
+    → ((program : List Insn) (fed : List ℕ) (outcomes : List Outcome) → HasRun program fed feed outcomes → EndsRun program fed outcomes fault)
+    → BeginsWith text (flat_map outcome_line outcomes) → ShowsRead program true old new text
+capture_part old new program feed outcomes false fault text gave e ends begins = absurd (cc)
+capture_part old new program feed outcomes true fault text gave e ends begins =
+    let run = ends program gave.0 outcomes gave.4 in
+    inr (
+      gave.0,
+      gave.1,
+      gave.3,
+      (
+        run.0,
+        run.1,
+        fault,
+        run.2,
+        record {
+          good = run.1;
+          left = [];
+          outcomes = outcomes;
+          more = begins.0;
+          front = sym (append-nil run.1);
+          ran = run.3;
+          printed = sym begins.1;
+        },
+      ),
+    )

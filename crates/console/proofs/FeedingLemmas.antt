@@ -14,7 +14,7 @@ pub record SoFed (old new : Option (List ℕ)) (feed : Feed) (taken : ℕ) : Typ
   pub holds : Holds given feed
   pub count : taken ≡ length given
 
-consumes-nothing : (known : Option (List ℕ)) → Consumes known known []
+pub consumes-nothing : (known : Option (List ℕ)) → Consumes known known []
 consumes-nothing None = tt
 consumes-nothing (Some xs) = refl
 
@@ -30,7 +30,7 @@ so_fed_next old mid new feed feed' taken taken' piece so next count short goes_o
   count = omega (arith, length-append so.given piece, so.count);
 }
 
-consumes-kept : (old mid new : Option (List ℕ)) (bs : List ℕ) → Consumes old mid bs → Keeps mid new → Consumes old new bs
+pub consumes-kept : (old mid new : Option (List ℕ)) (bs : List ℕ) → Consumes old mid bs → Keeps mid new → Consumes old new bs
 consumes-kept None mid new bs lost kept = tt
 consumes-kept (Some xs) None new bs lost kept = absurd lost
 consumes-kept (Some xs) (Some ys) None bs lost kept = absurd kept
@@ -42,4 +42,4 @@ so_fed_kept old mid new feed taken so kept = record { given = so.given; lost = c
 
 -- a feed that has stopped holds more bytes without being fed
 pub stopped_holds : (piece : List ℕ) (feed : Feed) → ((i : ℕ) → slice_index piece i < 256) → HasStopped feed → (fed : List ℕ) → Holds fed feed → Holds (fed ++ piece) feed
-stopped_holds piece feed small stopped fed holds = holds-on fed piece feed stopped.0 (are_bytes piece small) stopped.1 holds
+stopped_holds piece feed small stopped fed holds = holds-on [] fed piece feed stopped.0 (are_bytes piece small) stopped.1 holds

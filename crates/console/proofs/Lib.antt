@@ -4,6 +4,7 @@ pub mod MatchingLemmas
 pub mod CodeLemmas
 pub mod HexLemmas
 pub mod FeedingLemmas
+pub mod RunningLemmas
 pub mod PrintingLemmas
 pub mod CapturedLemmas
 pub mod DumpingLemmas

@@ -1,5 +1,6 @@
 -- A text that is printed bit by bit: what is written, what is kept back, and what is left to print.
 use Rattle.std.proofs.Common.{◌≡◌, ℕ, ◌+◌, List, [], ◌∷◌, ◌++◌, Option, ap, sym, ◌∙◌, append_assoc}
+use Rattle.std.specs.Prelude.{Result, Ok, Err, OnErr}
 use Rattle.std.specs.Io.KnownBytes.{Appends}
 use Rattle.pcap_reader.specs.declared.capture.Packet.{Packet}
 use Rattle.pcap_reader.specs.declared.capture.CaptureFault.{CaptureFault}
@@ -38,6 +39,23 @@ printing_end whole left ending kept old new last so same more =
 
 pub printing_part : (whole left kept : List ℕ) (old new : Option (List ℕ)) → Printing whole left old new kept → (text : List ℕ) × BeginsWith text whole × Appends old new text
 printing_part whole left kept old new so = (so.written, (kept ++ left, so.parts), so.appended)
+
+-- and where a write of what was kept back failed
+pub printing_front : (whole left kept : List ℕ) (old new last : Option (List ℕ)) → Printing whole left old new kept → (front : List ℕ) × BeginsWith front kept × Appends new last front
+    → (text : List ℕ) × BeginsWith text whole × Appends old last text
+printing_front whole left kept old new last so failed = (
+  so.written ++ failed.0,
+  (
+    failed.1.0 ++ left,
+    so.parts ∙ ap (λ t. so.written ++ (t ++ left)) failed.1.1 ∙ ap (λ t. so.written ++ t) (append_assoc failed.0 failed.1.0 left) ∙ sym (append_assoc so.written failed.0 (failed.1.0 ++ left)),
+  ),
+  appends-then old new last so.written failed.0 so.appended failed.2,
+)
+
+-- a fact that holds whatever is answered
+pub on_err : {T E : Type 0} (r : Result T E) (P : Type 0) → P → OnErr r P
+on_err (Ok v) P p = tt
+on_err (Err e) P p = p
 
 -- the lines that are left of a dump
 abbrev pub left_lines : ℕ → List Packet → Option CaptureFault → List ℕ

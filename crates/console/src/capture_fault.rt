@@ -1,9 +1,10 @@
 //! The end of what is shown of a capture: the line for its fault, and the status.
 
-ghost use Rattle.std.specs.Prelude.{◌≡◌, ◌++◌, IfOk, IfErr, IsErrOf, OnOk, string_bytes};
+ghost use Rattle.std.specs.Prelude.{◌≡◌, ◌++◌, ℕ, List, IfOk, IfErr, IsErrOf, OnOk, OnErr, string_bytes};
 ghost use Rattle.std.specs.Io.KnownBytes.{Appends};
 ghost use Rattle.console.specs.Faults.{fault_line, fault_status, fault_text};
 ghost use Rattle.console.specs.Matching.{IsPrintFault};
+ghost use Rattle.console.specs.Reading.{BeginsWith};
 
 use crate::EngineFault;
 use crate::fault_words::push_capture_words;
@@ -21,6 +22,8 @@ pub fn write_ending<W: Write>(
     ensures shown { IfOk result (λ status. (status ≡ fault_status fault)
         × Appends (W.contents writer.old) (W.contents writer.new) (string_bytes text ++ fault_text fault)) }
     ensures part { IsErrOf result EngineFault.NoMemory → writer.new ≡ writer.old }
+    ensures front { OnErr result ((front : List ℕ) × BeginsWith front (string_bytes text ++ fault_text fault)
+        × Appends (W.contents writer.old) (W.contents writer.new) front) }
     ensures fault { IfErr result IsPrintFault }
 {
     let mut status = 0;

@@ -16,7 +16,7 @@ pub const INPUT_BYTES: u64 = 67_108_864;
 pub const INPUT_READS: u64 = 134_217_728;
 
 /// How many bytes one read may give.
-const BLOCK: usize = 65_536;
+pub const BLOCK: usize = 65_536;
 
 /// What a reader gave, up to a limit.
 #[derive(Drop)]

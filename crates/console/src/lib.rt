@@ -16,6 +16,7 @@ mod match_lines;
 mod matching;
 mod outcome;
 mod output;
+mod running;
 
 pub use checking::run_check;
 pub use dumping::run_dump;

@@ -1,0 +1,9 @@
+use Rattle.std.proofs.Common.{◌≤◌}
+use Rattle.console.proofs.RunningLemmas.{SoRun}
+use Rattle.console.proofs.running.run_input.Given as goal
+
+abbrev pub invariant-loop : goal.invariant-loop
+invariant-loop g l = record {
+  so : SoRun l.program (g.R.Read.remaining l.initial.reader) (g.R.Read.remaining l.reader) l.feed l.outcomes.items l.taken;
+  within : l.taken ≤ 67108864;
+}

@@ -1,0 +1,40 @@
+-- What was run of a capture that comes in pieces: the packets that are whole so far.
+use Rattle.std.specs.Prelude.{◌≡◌, ℕ, ◌<◌, ◌≤◌, ◌^◌, List, [], ◌++◌, length, Option, Bool, true, false}
+use Rattle.std.specs.List.{AllZip}
+use Rattle.std.specs.Io.KnownBytes.{Consumes, IsAtEnd}
+use Rattle.bpf_insn.specs.declared.insn.Insn.{Insn}
+use Rattle.filter_vm.specs.declared.machine.Outcome.{Outcome}
+use Rattle.pcap_reader.specs.declared.feed.Feed.{Feed}
+use Rattle.pcap_reader.specs.declared.capture.Header.{Header}
+use Rattle.pcap_reader.specs.declared.capture.Packet.{Packet}
+use Rattle.pcap_reader.specs.declared.capture.CaptureFault.{CaptureFault}
+use Rattle.pcap_reader.specs.Savefile.{Reads}
+use Rattle.pcap_reader.specs.Held.{HoldsBehind, held_packets}
+use Rattle.console.specs.Matching.{AnswersCaptured}
+
+-- a feed was fed these bytes, holds no packet, and the packets that it gave up ended with these outcomes
+pub record HasRun (program : List Insn) (fed : List ℕ) (feed : Feed) (outcomes : List Outcome) : Type 0 where
+  pub packets : List Packet
+  pub holds : HoldsBehind packets fed feed
+  pub none : held_packets feed ≡ []
+  pub ran : AllZip (AnswersCaptured program) packets outcomes
+
+-- a front of some bytes was fed, and the packets that were whole then were run, once each and in order
+pub record RunsOn (program : List Insn) (bytes rest : List ℕ) (old new : Feed) (before after : List Outcome) : Type 0 where
+  pub front : List ℕ
+  pub parts : bytes ≡ front ++ rest
+  pub more : List Outcome
+  pub pushed : after ≡ before ++ more
+  pub runs : (fed : List ℕ) (outcomes : List Outcome) → HasRun program fed old outcomes → length (fed ++ front) < 2 ^ 64
+      → HasRun program (fed ++ front) new (outcomes ++ more)
+
+-- a reader lost just these bytes, whose whole packets were run, and then was at its end; or it lost more than 64 MiB
+abbrev pub RunsInput : Option (List ℕ) → Option (List ℕ) → List Insn → Feed → List Outcome → Bool → Type 0
+RunsInput old new program feed outcomes true =
+    (given : List ℕ) × Consumes old new given × IsAtEnd new × (length given ≤ 67108864) × HasRun program given feed outcomes
+RunsInput old new program feed outcomes false = (given : List ℕ) × Consumes old new given × (67108864 < length given)
+
+-- bytes hold a capture with these packets' outcomes, and this fault behind them
+abbrev pub EndsRun : List Insn → List ℕ → List Outcome → Option CaptureFault → Type 0
+EndsRun program bytes outcomes fault =
+    (header : Option Header) × (packets : List Packet) × Reads bytes header packets fault × AllZip (AnswersCaptured program) packets outcomes
