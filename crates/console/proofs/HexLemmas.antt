@@ -1,7 +1,9 @@
 -- Digits that are read pair by pair, where a byte that is no digit is seen at the end.
-use Rattle.std.proofs.Common.{◌≡◌, ◌≢◌, ℕ, ◌+◌, ◌*◌, ◌/◌, ◌%◌, ◌^◌, ◌<◌, ◌≤◌, ◌⊎◌, inl, inr, max, true, false, List, length, take, drop, slice_index, slice_set, Option, Some, None, unwrap_or, is_some, Ok, Err, refl, sym, ap, ◌∙◌, arith}
+use Rattle.std.proofs.Common.{◌≡◌, ◌≢◌, ℕ, ◌+◌, ◌*◌, ◌/◌, ◌%◌, ◌^◌, ◌<◌, ◌≤◌, ◌⊎◌, inl, inr, max, true, false, List, length, take, drop, get_or, length-drop, zero, suc, slice_index, slice_set, Option, Some, None, unwrap_or, is_some, Ok, Err, refl, sym, ap, ◌∙◌, arith}
 use Rattle.std.specs.Prelude.{IsErr, not, ◌==◌}
 use Rattle.std.specs.Bool.{MatchBool}
+use Rattle.std.specs.Simd.{first_chunks}
+use Rattle.std.proofs.lemmas.List.{get_or-take, get_or-drop}
 use Rattle.std.proofs.lemmas.Bool.Decides.{eqb_tells}
 use Rattle.hex.specs.Hex.{decode_of, decode_pairs, digit_or_error, hex_digit_value, is_hex_digit, pair_value}
 use Rattle.hex.proofs.HexLemmas.{decode_of-even, decode_of-ok}
@@ -103,3 +105,29 @@ so_far_end line packet i most so end half even = elim (eqb_tells most 255) [
   | inl e ↦ rw e.0 (so_far_bad line packet i most so e.1)
   | inr e ↦ rw e.0 (so_far_good line packet i most so end half even e.1)
 ]
+
+-- a place in one of the first chunks of two
+chunk_at : (k : ℕ) (xs : List ℕ) (i j : ℕ) (d : List ℕ) → i < k → j < 2 → 2 * k ≤ length xs → slice_index (get_or (first_chunks 2 k xs) i d) j ≡ slice_index xs (2 * i + j)
+chunk_at zero xs i j d within small room = absurd (omega arith)
+chunk_at (suc k) xs zero j d within small room =
+    let same : j ≡ 2 * zero + j = omega arith in get_or-take 2 xs j 0 small ∙ ap (slice_index xs) same
+chunk_at (suc k) xs (suc i) j d within small room =
+    chunk_at k (drop 2 xs) i j d (omega arith) small (omega (arith, length-drop 2 xs)) ∙ get_or-drop 2 xs (2 * i + j) 0 ∙ ap (slice_index xs) (omega arith)
+
+pair_at : (line : List ℕ) (pairs : List (List ℕ)) (i j : ℕ) (d : List ℕ) → pairs ≡ first_chunks 2 (length line / 2) line → i < length line / 2 → j < 2
+    → slice_index (get_or pairs i d) j ≡ slice_index line (2 * i + j)
+pair_at line pairs i j d are within small = rw are (chunk_at (length line / 2) line i j d within small (omega arith))
+
+-- the two digits of a pair that was read as one number, the first in its low byte
+pub digits_at : (line : List ℕ) (pairs : List (List ℕ)) (i number : ℕ) (d : List ℕ) → ((k : ℕ) → slice_index line k < 256) → pairs ≡ first_chunks 2 (length line / 2) line → i < length line / 2
+    → number ≡ slice_index (get_or pairs i d) 0 + slice_index (get_or pairs i d) 1 * 256
+    → (number % 256 ≡ slice_index line (2 * i)) × (number / 256 ≡ slice_index line (2 * i + 1))
+digits_at line pairs i number d small are within is =
+    let place : 2 * i + 0 ≡ 2 * i = omega arith in
+    let first : slice_index (get_or pairs i d) 0 ≡ slice_index line (2 * i) = pair_at line pairs i 0 d are within (omega arith) ∙ ap (slice_index line) place in
+    let second : slice_index (get_or pairs i d) 1 ≡ slice_index line (2 * i + 1) = pair_at line pairs i 1 d are within (omega arith) in
+    (omega (arith, first, second, is, small (2 * i), small (2 * i + 1)), omega (arith, first, second, is, small (2 * i), small (2 * i + 1)))
+
+-- a digit's value
+pub value_of : (v a b : ℕ) → v ≡ unwrap_or (hex_digit_value a) 255 → a ≡ b → v ≡ unwrap_or (hex_digit_value b) 255
+value_of v a b is same = is ∙ ap (λ d. unwrap_or (hex_digit_value d) 255) same

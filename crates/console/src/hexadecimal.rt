@@ -30,7 +30,7 @@ fn digit_value(digit: u8) -> u8
 /// nothing.
 ///
 /// It looks at each digit and asks at the end whether all were digits: a loop without a way out in its middle, which the
-/// compiler turns into vector instructions.
+/// compiler turns into vector instructions. A pair is read as one number, since single digits would be read one by one.
 pub fn decode(line: &[u8], packet: &mut [u8]) -> bool
     requires { length packet.old ≡ length line.now / 2 }
     ensures { MatchBool result (decode_of line.now ≡ Ok packet.new) (IsErr (decode_of line.now)) }
@@ -38,10 +38,12 @@ pub fn decode(line: &[u8], packet: &mut [u8]) -> bool
     if line.len() % 2 != 0 {
         return false;
     }
+    let (pairs, _) = line.as_chunks::<2>();
     let mut most = 0u8;
     'bytes: for i in 0..packet.len() {
-        let high = digit_value(line[2 * i]);
-        let low = digit_value(line[2 * i + 1]);
+        let pair = u16::from_le_bytes(pairs[i]);
+        let high = digit_value((pair % 256) as u8);
+        let low = digit_value((pair / 256) as u8);
         most = most.max(high).max(low);
         packet[i] = high.wrapping_mul(16).wrapping_add(low);
     }
