@@ -1,5 +1,5 @@
 -- What `dump` has shown of what it read.
-use Rattle.std.proofs.Common.{ℕ, List, Option, Some, None, refl, inl, inr, codes}
+use Rattle.std.proofs.Common.{◌≡◌, ℕ, List, ◌++◌, append_assoc, Option, Some, None, refl, inl, inr, codes}
 use Rattle.console.specs.declared.captured.Captured.{Captured}
 use Rattle.console.specs.Reading.{BeginsWith, GaveCapture, IsInput}
 use Rattle.console.specs.Faults.{fault_status}
@@ -18,3 +18,8 @@ dump_read old new c gave = (gave.0, whole_input old new gave.0 gave.1 gave.2, in
 -- and shown in part
 pub dump_part : (old : Option (List ℕ)) (input : List ℕ) (status : ℕ) (whole text : List ℕ) → IsInput old input → ShowsDump input status whole → BeginsWith text whole → ShowsDumpPart old text
 dump_part old input status whole text is shows begins = inr (input, status, whole, is, shows, begins)
+
+-- eight texts, one after the other
+pub eight_texts : (t t1 t2 t3 t4 t5 t6 t7 t8 a b c d e f g h : List ℕ) → t1 ≡ t ++ a → t2 ≡ t1 ++ b → t3 ≡ t2 ++ c → t4 ≡ t3 ++ d → t5 ≡ t4 ++ e → t6 ≡ t5 ++ f → t7 ≡ t6 ++ g → t8 ≡ t7 ++ h
+    → t8 ≡ t ++ (((((((a ++ b) ++ c) ++ d) ++ e) ++ f) ++ g) ++ h)
+eight_texts t t1 t2 t3 t4 t5 t6 t7 t8 a b c d e f g h p1 p2 p3 p4 p5 p6 p7 p8 = rw (p8, p7, p6, p5, p4, p3, p2, p1) (simp append_assoc)

@@ -10,7 +10,8 @@ ghost use Rattle.console.specs.Dumping.{ShowsDump, ShowsDumpPart, digits, dump_t
 use crate::EngineFault;
 use crate::capture_fault::write_ending;
 use crate::captured::read_packets;
-use crate::output::{BLOCK, write_text};
+use crate::output::{BLOCK, write_bytes, write_text};
+use itoa::Buffer;
 use pcap_reader::{CaptureFault, Header, Packet};
 use std::alloc::{AllocError, Global};
 use std::fmt::Write as FmtWrite;
@@ -59,19 +60,20 @@ fn dump<W: Write>(
         × BeginsWith text (dump_text header packets.now fault) × Appends (W.contents writer.old) (W.contents writer.new) text }
     ensures fault { IfErr result IsPrintFault }
 {
-    let mut text = header_text(alloc, header)?;
+    let mut text = header_text(alloc, header)?.into_bytes();
     let mut rest = packets;
     let mut number: usize = 0;
     while let Some((packet, more)) = rest.split_first() {
         rest = more;
         number += 1;
-        push_packet(alloc, &mut text, number, packet)?;
+        push_packet(&mut text, number, packet)?;
         if text.len() >= BLOCK {
-            write_text(writer, text.as_str())?;
+            write_bytes(writer, text.as_slice())?;
             text.clear();
         }
     }
-    write_ending(text, fault, writer)
+    write_bytes(writer, text.as_slice())?;
+    write_ending(String::new(alloc), fault, writer)
 }
 
 /// The line for a header, if there is one.
@@ -92,32 +94,31 @@ fn header_text(alloc: Global, header: Option<Header>) -> Result<String, AllocErr
 }
 
 /// Prints the line for a packet.
-fn push_packet(
-    alloc: Global,
-    text: &mut String,
-    number: usize,
-    packet: &Packet,
-) -> Result<(), AllocError>
-    ensures { OnOk result (string_bytes text.new ≡ string_bytes text.old ++ packet_line number packet.now) }
+fn push_packet(text: &mut Vec<u8>, number: usize, packet: &Packet) -> Result<(), AllocError>
+    ensures { OnOk result (text.new.items ≡ text.old.items ++ packet_line number packet.now) }
 {
     let bytes = packet.bytes.as_slice();
-    let digits = digits_of(alloc, bytes)?;
-    writeln!(
-        text,
-        "{number} captured {} original {} {}",
-        bytes.len(),
-        packet.original,
-        digits.as_str()
-    )
+    let mut decimal = Buffer::new();
+    text.extend_from_slice(decimal.format(number).as_bytes())?;
+    text.extend_from_slice(b" captured ")?;
+    text.extend_from_slice(decimal.format(bytes.len()).as_bytes())?;
+    text.extend_from_slice(b" original ")?;
+    text.extend_from_slice(decimal.format(packet.original).as_bytes())?;
+    text.extend_from_slice(b" ")?;
+    push_digits(text, bytes)?;
+    text.extend_from_slice(b"\n")?;
+    Ok(())
 }
 
-/// Captured bytes in hexadecimal digits.
-fn digits_of(alloc: Global, bytes: &[u8]) -> Result<String, AllocError>
-    ensures { IfOk result (λ text. string_bytes text ≡ digits bytes.now) }
+/// Prints captured bytes in hexadecimal digits.
+fn push_digits(text: &mut Vec<u8>, bytes: &[u8]) -> Result<(), AllocError>
+    ensures { OnOk result (text.new.items ≡ text.old.items ++ digits bytes.now) }
 {
     if bytes.is_empty() {
-        String::from_str(alloc, "-")
-    } else {
-        hex::encode(alloc, bytes)
+        return text.extend_from_slice(b"-");
     }
+    let start = text.len();
+    text.resize(start.saturating_add(2 * bytes.len()), b'0')?;
+    let _ = hex::encode_to_slice(bytes, &mut text.as_mut_slice()[start..]);
+    Ok(())
 }
