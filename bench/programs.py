@@ -1,12 +1,13 @@
-"""Measures mkdemux against its C peers: wall time, processor time and peak memory, each best of ROUNDS runs by turns.
+"""Measures mkdemux against its C peers: wall time, processor time and peak memory, over ROUNDS pairs of neighbouring runs.
 
-Usage: programs.py MKDEMUX FOLDER [ROUNDS]. FOLDER has the inputs of inputs.py, and the peers.
+Usage: programs.py MKDEMUX FOLDER [ROUNDS]. FOLDER has the inputs of inputs.py, the peers, and `programs`, which runs them.
+Times are medians. A ratio is the median of the pairs' ratios, in brackets the least and the greatest of them.
 """
 import os
-import resource
+import shutil
+import statistics
 import subprocess
 import sys
-import time
 
 mkdemux, folder = sys.argv[1:3]
 rounds = int(sys.argv[3]) if len(sys.argv) > 3 else 11
@@ -15,34 +16,45 @@ ARP = "4,40 0 0 12,21 0 1 2054,6 0 0 4294967295,6 0 0 0"
 
 def run(words, name):
     """Wall time and processor time in seconds, and peak memory in MB."""
-    with open(f"{folder}/{name}", "rb") as source, open(os.devnull, "wb") as sink:
-        begin = time.perf_counter()
-        child = subprocess.Popen(words, stdin=source, stdout=sink)
-        _, status, usage = os.wait4(child.pid, 0)
-        assert status == 0, words
-        return time.perf_counter() - begin, usage.ru_utime + usage.ru_stime, usage.ru_maxrss / 1024
+    words = [f"{folder}/programs", f"{folder}/{name}", *words]
+    told = subprocess.run(words, check=True, capture_output=True, text=True).stdout.split()
+    return float(told[0]) / 1e6, float(told[1]) / 1e6, float(told[2]) / 1e3
+
+
+def spread(ratios):
+    return f"{statistics.median(ratios):.2f} ({min(ratios):.2f} to {max(ratios):.2f})"
 
 
 def compare(what, name, ours, peer):
-    best = [[9e9, 9e9, 0.0], [9e9, 9e9, 0.0]]
-    for _ in range(rounds):
-        for side, words in enumerate((ours, peer)):
-            wall, cpu, peak = run(words, name)
-            best[side] = [min(best[side][0], wall), min(best[side][1], cpu), max(best[side][2], peak)]
+    pairs = [(run(ours, name), run(peer, name)) for _ in range(rounds)]
+    wall = [statistics.median(pair[side][0] for pair in pairs) for side in (0, 1)]
+    peak = [max(pair[side][2] for pair in pairs) for side in (0, 1)]
+    ratios = [spread([pair[0][kind] / pair[1][kind] for pair in pairs]) for kind in (0, 1)]
     size = os.path.getsize(f"{folder}/{name}") / 1e6
-    (a, b, m), (c, d, n) = best
-    print(f"| {what} | {a * 1e3:.0f} | {c * 1e3:.0f} | {a / c:.2f} | {b / d:.2f} | {size / a:.0f} | {m:.0f} | {n:.0f} |")
+    print(
+        f"| {what} | {wall[0] * 1e3:.0f} | {wall[1] * 1e3:.0f} | {ratios[0]} | {ratios[1]} | {size / wall[0]:.0f} "
+        f"| {peak[0]:.1f} | {peak[1]:.1f} |",
+        flush=True,
+    )
 
 
-print("| Input | mkdemux, ms | C, ms | ratio | ratio of processor time | mkdemux, MB/s | peak, MB | C's peak, MB |")
+print("| Input | mkdemux, ms | other, ms | ratio | ratio of processor time | mkdemux, MB/s | peak, MB | other's peak, MB |")
 print("|---|---|---|---|---|---|---|---|")
-compare("`match`, lines of 400 digits", "lines400.hex", [mkdemux, "match", ARP], [f"{folder}/match_peer", ARP])
-compare("`match`, lines of 120 digits", "lines120.hex", [mkdemux, "match", ARP], [f"{folder}/match_peer", ARP])
+for digits in (400, 120):
+    name = f"lines{digits}.hex"
+    compare(f"`match`, lines of {digits} digits", name, [mkdemux, "match", ARP], [f"{folder}/match_peer", ARP])
+    compare("`match --stream`, the same, to `match`", name, [mkdemux, "match", "--stream", ARP], [mkdemux, "match", ARP])
 compare("`dump`, packets of 60 bytes", "packets60.pcap", [mkdemux, "dump"], [f"{folder}/dump_peer"])
 compare("`dump`, packets of 1,500 bytes", "packets1500.pcap", [mkdemux, "dump"], [f"{folder}/dump_peer"])
-for size in (60, 100, 200):
-    name = f"many{size}.pcap"
-    peer = [f"{folder}/capture_peer", ARP, f"{folder}/{name}"]
-    compare(f"`match --pcap`, 200,000 packets of {size} bytes", name, [mkdemux, "match", ARP, "--pcap"], peer)
+tcpdump = shutil.which("tcpdump")
+for what, name in [(f"200,000 packets of {size} bytes", f"many{size}.pcap") for size in (60, 100, 200)] + [
+    ("40,000 packets of 1,500 bytes", "packets1500.pcap")
+]:
+    ours = [mkdemux, "match", ARP, "--pcap"]
+    compare(f"`match --pcap`, {what}", name, ours, [f"{folder}/capture_peer", ARP, f"{folder}/{name}"])
+    compare("`match --stream --pcap`, the same, to `match --pcap`", name, [*ours, "--stream"], ours)
+    if tcpdump:
+        theirs = [tcpdump, "-r", f"{folder}/{name}", "-w", "/dev/null", "arp"]
+        compare("`match --pcap`, the same, to `tcpdump -r FILE -w /dev/null arp`", name, ours, theirs)
 compare("`check`, a comment of 60 MB", "comment.asm", [mkdemux, "check"], [f"{folder}/text_peer"])
 compare("`check`, 4,096 instructions and labels", "labels.asm", [mkdemux, "check"], [f"{folder}/text_peer"])

@@ -1,5 +1,9 @@
 pub mod KnownBytesLemmas
 pub mod LineLemmas
+pub mod LineFeedLemmas
+pub mod StreamingLemmas
+pub mod StreamLemmas
+pub mod SourceLemmas
 pub mod MatchingLemmas
 pub mod CodeLemmas
 pub mod HexLemmas

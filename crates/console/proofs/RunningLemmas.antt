@@ -17,13 +17,13 @@ use Rattle.pcap_reader.specs.Held.{HoldsBehind, TakesFront, TakesWhole, held_pac
 use Rattle.pcap_reader.proofs.FeedLemmas.{holds-on, are_bytes}
 use Rattle.console.specs.Matching.{AnswersCaptured}
 use Rattle.console.specs.Reading.{HasStopped}
-use Rattle.console.specs.Running.{HasRun, RunsOn}
+use Rattle.console.specs.Running.{HasRun, RunsOn, RunsTo}
 use Rattle.console.proofs.KnownBytesLemmas.{consumes-then}
 use Rattle.console.proofs.FeedingLemmas.{consumes-kept, consumes-nothing}
 
--- nothing was fed
-pub runs_none : (program : List Insn) (bytes : List ℕ) (feed : Feed) (before : List Outcome) → RunsOn program bytes bytes feed feed before before
-runs_none program bytes feed before = record {
+-- nothing was taken
+pub runs_none : {S : Type 0} (Ran : List ℕ → S → List Outcome → Type 0) (bytes : List ℕ) (feed : S) (before : List Outcome) → RunsTo Ran Ran bytes bytes feed feed before before
+runs_none Ran bytes feed before = record {
   front = [];
   parts = refl;
   more = [];
@@ -32,9 +32,9 @@ runs_none program bytes feed before = record {
 }
 
 -- one front and then another
-pub runs_then : (program : List Insn) (bytes mid rest : List ℕ) (old then new : Feed) (before between after : List Outcome)
-    → RunsOn program bytes mid old then before between → RunsOn program mid rest then new between after → RunsOn program bytes rest old new before after
-runs_then program bytes mid rest old then new before between after first next = record {
+pub runs_then : {S : Type 0} (From Mid To : List ℕ → S → List Outcome → Type 0) (bytes mid rest : List ℕ) (old then new : S) (before between after : List Outcome)
+    → RunsTo From Mid bytes mid old then before between → RunsTo Mid To mid rest then new between after → RunsTo From To bytes rest old new before after
+runs_then From Mid To bytes mid rest old then new before between after first next = record {
   front = first.front ++ next.front;
   parts = first.parts ∙ ap (λ t. first.front ++ t) next.parts ∙ sym (append_assoc first.front next.front rest);
   more = first.more ++ next.more;

@@ -4,5 +4,6 @@ pub mod Code
 pub mod Faults
 pub mod Matching
 pub mod Running
+pub mod Streaming
 pub mod Dumping
 pub mod Checking

@@ -19,14 +19,18 @@ pub record HasRun (program : List Insn) (fed : List ℕ) (feed : Feed) (outcomes
   pub none : held_packets feed ≡ []
   pub ran : AllZip (AnswersCaptured program) packets outcomes
 
--- a front of some bytes was fed, and the packets that were whole then were run, once each and in order
-pub record RunsOn (program : List Insn) (bytes rest : List ℕ) (old new : Feed) (before after : List Outcome) : Type 0 where
+-- a front of some bytes was taken, the packets that were whole then were run, once each and in order, and what was so before is so
+-- after: From and To speak of the bytes that were taken so far, of what takes them, and of the outcomes so far
+pub record RunsTo {S : Type 0} (From To : List ℕ → S → List Outcome → Type 0) (bytes rest : List ℕ) (old new : S) (before after : List Outcome) : Type 0 where
   pub front : List ℕ
   pub parts : bytes ≡ front ++ rest
   pub more : List Outcome
   pub pushed : after ≡ before ++ more
-  pub runs : (fed : List ℕ) (outcomes : List Outcome) → HasRun program fed old outcomes → length (fed ++ front) < 2 ^ 64
-      → HasRun program (fed ++ front) new (outcomes ++ more)
+  pub runs : (fed : List ℕ) (outcomes : List Outcome) → From fed old outcomes → length (fed ++ front) < 2 ^ 64 → To (fed ++ front) new (outcomes ++ more)
+
+-- packets of a capture were run
+abbrev pub RunsOn : List Insn → List ℕ → List ℕ → Feed → Feed → List Outcome → List Outcome → Type 0
+RunsOn program = RunsTo (HasRun program) (HasRun program)
 
 -- a reader lost just these bytes, whose whole packets were run, and then was at its end; or it lost more than 64 MiB
 abbrev pub RunsInput : Option (List ℕ) → Option (List ℕ) → List Insn → Feed → List Outcome → Bool → Type 0

@@ -10,6 +10,7 @@ mod fault;
 mod fault_words;
 mod hexadecimal;
 mod input;
+mod line_feed;
 mod lines;
 mod match_capture;
 mod match_lines;
@@ -17,6 +18,8 @@ mod matching;
 mod outcome;
 mod output;
 mod running;
+mod source;
+mod streaming;
 
 pub use checking::run_check;
 pub use dumping::run_dump;
@@ -25,6 +28,7 @@ pub use fault_words::{name_of_asm_fault, push_capture_words, push_code_words};
 pub use input::{INPUT_BYTES, INPUT_READS, Input, feed_bounded, read_bounded};
 pub use matching::run_match;
 pub use output::{BLOCK, write_bytes, write_text};
+pub use streaming::run_stream;
 
 #[cfg(test)]
 mod tests;

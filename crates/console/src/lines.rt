@@ -25,7 +25,7 @@ pub fn first_line(text: &[u8]) -> Option<(&[u8], &[u8])>
 }
 
 /// Where the first newline stands.
-fn newline_at(text: &[u8]) -> Option<usize>
+pub fn newline_at(text: &[u8]) -> Option<usize>
     ensures { MatchOption result (length text.now ≤ position_or_len (λ b. b == 10) text.now)
         (λ end. (end < length text.now) × (position_or_len (λ b. b == 10) text.now ≡ end)) }
 {
@@ -33,7 +33,7 @@ fn newline_at(text: &[u8]) -> Option<usize>
 }
 
 /// A line without the carriage return at its end.
-fn without_return(line: &[u8]) -> &[u8]
+pub fn without_return(line: &[u8]) -> &[u8]
     ensures rest { result.now ≡ strip_carriage_return line.now }
     ensures within { length result.now ≤ length line.now }
 {

@@ -62,7 +62,7 @@ fn match_lines<W: Write>(
     let mut text = String::new(alloc);
     let mut packet = Vec::new(alloc);
     let mut rest = input;
-    let mut number: u32 = 0;
+    let mut number: u64 = 0;
     while let Some((line, more)) = first_line(rest) {
         rest = more;
         number += 1;
@@ -85,7 +85,7 @@ fn match_lines<W: Write>(
 
 /// The outcome on the packet that a line spells, if it spells one. The packet is put into a buffer that is kept from
 /// line to line.
-fn outcome_of(
+pub fn outcome_of(
     program: &Verified,
     line: &[u8],
     buffer: &mut Vec<u8>,
@@ -106,7 +106,7 @@ fn outcome_of(
 }
 
 /// Prints the complaint about a line.
-fn push_bad_line(text: &mut String, number: u32) -> Result<(), AllocError>
+pub fn push_bad_line(text: &mut String, number: u64) -> Result<(), AllocError>
     ensures { OnOk result (string_bytes text.new ≡ string_bytes text.old ++ bad_line number) }
 {
     writeln!(text, "line {number}: BadHex")

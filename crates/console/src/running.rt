@@ -1,6 +1,6 @@
 //! Running a filter on the packets of a capture while it is read.
 
-ghost use Rattle.std.specs.Prelude.{◌≡◌, ◌≢◌, ◌<◌, ◌++◌, ℕ, List, [], length, IfOk, IfErr, OnOk, IsTrue};
+ghost use Rattle.std.specs.Prelude.{◌≡◌, ◌≢◌, ◌<◌, ◌++◌, ℕ, List, [], length, IfOk, IfErr, OnOk, IsTrue, IsSome};
 ghost use Rattle.std.specs.List.{AllZip};
 ghost use Rattle.bpf_insn.specs.declared.insn.Insn.{Insn};
 ghost use Rattle.filter_vm.specs.declared.machine.Outcome.{Outcome as Ended};
@@ -132,7 +132,8 @@ fn run_packets(
 
 /// The fault of a capture that ends where it was fed, if it has one.
 pub fn fault_behind(feed: &Feed) -> Result<Option<CaptureFault>, AllocError>
-    ensures { IfOk result (λ fault. (program : List Insn) (fed : List ℕ) (outcomes : List Ended)
+    ensures stopped { HasStopped feed.now → IfOk result (λ fault. IsSome fault) }
+    ensures ends { IfOk result (λ fault. (program : List Insn) (fed : List ℕ) (outcomes : List Ended)
         → HasRun program fed feed.now outcomes → EndsRun program fed outcomes fault) }
 {
     match feed.ending() {

@@ -4,3 +4,4 @@ mod captures;
 mod checks;
 mod devices;
 mod matches;
+mod streams;

@@ -1,5 +1,5 @@
 -- What is answered is all that the bytes hold.
-use Rattle.std.proofs.Common.{◌≡◌, ◌≢◌, ℕ, ◌<◌, ◌⊎◌, List, [], ◌++◌, All, refl, sym, ◌∙◌, inl, inr, Option, Some, None, Result, Ok, Err}
+use Rattle.std.proofs.Common.{◌≡◌, ◌≢◌, ℕ, ◌<◌, ◌⊎◌, List, [], ◌++◌, All, refl, sym, inl, inr, Option, Some, None, Result, Ok, Err}
 use Rattle.pcap_reader.specs.declared.capture.Header.{Header}
 use Rattle.pcap_reader.specs.declared.capture.Packet.{Packet}
 use Rattle.pcap_reader.specs.declared.capture.Capture.{Capture}

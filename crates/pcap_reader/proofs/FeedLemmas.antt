@@ -14,8 +14,8 @@ use Rattle.pcap_reader.specs.Savefile.{number, captured, IsHeader, IsRecord, IsP
 use Rattle.std.specs.Result.{IsErrAnd}
 use Rattle.std.proofs.Common.{Result, Ok, Err}
 use Rattle.pcap_reader.specs.declared.feed.Feed.{Feed}
-use Rattle.pcap_reader.specs.Held.{BehindAt, HasStopped, Keeps, IsOpen, IsWanted, HoldsBehind, Grows, TakesWhole}
-use Rattle.pcap_reader.specs.Growth.{GoesOn, IsGrownTo, IsWhole, IsPacket}
+use Rattle.pcap_reader.specs.Held.{BehindAt, HasStopped, Keeps, IsOpen, HoldsBehind, Grows, TakesWhole}
+use Rattle.pcap_reader.specs.Growth.{GoesOn, IsGrownTo, IsWanted, IsWhole, IsPacket}
 use Rattle.pcap_reader.proofs.Fronts.{word_at-front, stopped-lasts}
 
 AllZip-push : {A B : Type 0} (R : A → B → Type 0) (xs : List A) (ys : List B) (x : A) (y : B) → AllZip R xs ys → R x y → AllZip R (xs ++ x ∷ []) (ys ++ y ∷ [])

@@ -1,5 +1,5 @@
 -- A feed between two looks at its part. No public clause cites these.
-use Rattle.std.specs.Prelude.{◌≡◌, ℕ, ◌+◌, ◌<◌, ◌≤◌, ◌⊎◌, Bool, List, [], ◌++◌, length, drop, All, Option, Some, None, Result, Ok, Err}
+use Rattle.std.specs.Prelude.{◌≡◌, ℕ, ◌+◌, ◌-◌, ◌<◌, ◌≤◌, ◌⊎◌, Bool, List, [], ◌++◌, length, drop, All, Option, Some, None, Result, Ok, Err}
 use Rattle.pcap_reader.specs.Savefile.{number, captured, IsRecord}
 use Rattle.pcap_reader.specs.Held.{Keeps, BehindAt, seen_packet}
 use Rattle.pcap_reader.specs.declared.capture.Header.{Header}
@@ -12,6 +12,13 @@ use Rattle.pcap_reader.specs.declared.capture.CaptureFault.{CaptureFault}
 abbrev pub GoesOn : List Packet → List ℕ → Feed → Result (Unit {0}) CaptureFault → Type 0
 GoesOn given fed feed (Ok done) = BehindAt given fed feed None
 GoesOn given fed feed (Err fault) = BehindAt given fed feed (Some fault)
+
+-- how many bytes a part lacks to be looked at again: to the end of the header, of a record's header or of a record
+abbrev pub IsWanted : Option Header → List ℕ → ℕ → Type 0
+IsWanted None part n = n ≡ 24 - length part
+IsWanted (Some h) part n =
+    ((length part < 16) × (n ≡ 16 - length part))
+    ⊎ ((16 ≤ length part) × (n ≡ 16 + captured h.big part - length part))
 
 -- a record that isn't whole yet
 abbrev pub IsShort : Bool → List ℕ → Type 0

@@ -1,5 +1,5 @@
 -- What a Feed holds of the bytes that it was fed (pcap-savefile(5) of libpcap, cut anywhere).
-use Rattle.std.specs.Prelude.{◌≡◌, ◌≢◌, ℕ, ◌+◌, ◌-◌, ◌^◌, ◌<◌, ◌≤◌, ◌⊎◌, List, [], ◌∷◌, ◌++◌, length, All, Option, Some, None, Result, Ok, Err}
+use Rattle.std.specs.Prelude.{◌≡◌, ◌≢◌, ℕ, ◌+◌, ◌^◌, ◌<◌, ◌≤◌, ◌⊎◌, List, [], ◌∷◌, ◌++◌, length, All, Option, Some, None, Result, Ok, Err}
 use Rattle.std.specs.List.{AllZip, concat}
 use Rattle.pcap_reader.specs.Savefile.{captured, IsHeader, IsRecord, IsPart, HasNoHeader, Reads, ReadsFront, IsLasting}
 use Rattle.pcap_reader.specs.declared.capture.Header.{Header}
@@ -58,13 +58,6 @@ Holds fed feed = HoldsBehind [] fed feed
 abbrev pub IsEnding : List ℕ → Option Header → List Packet → Result Header CaptureFault → Type 0
 IsEnding fed header packets (Ok h) = Reads fed (Some h) packets None
 IsEnding fed header packets (Err fault) = Reads fed header packets (Some fault)
-
--- how many bytes a part lacks to be looked at again: to the end of the header, of a record's header or of a record
-abbrev pub IsWanted : Option Header → List ℕ → ℕ → Type 0
-IsWanted None part n = n ≡ 24 - length part
-IsWanted (Some h) part n =
-    ((length part < 16) × (n ≡ 16 - length part))
-    ⊎ ((16 ≤ length part) × (n ≡ 16 + captured h.big part - length part))
 
 -- the packet of a record that was seen in place
 abbrev pub seen_packet : Seen → Packet

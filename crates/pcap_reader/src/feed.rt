@@ -1,11 +1,11 @@
 //! Captures that come in pieces, or whole.
 
-ghost use Rattle.std.specs.Prelude.{◌≡◌, ◌≢◌, ◌≤◌, ◌<◌, ◌+◌, ◌++◌, ◌^◌, ◌⊎◌, [], ℕ, List, Option, Some, None, Err, Bool, length, IsSome, IfOk, IfErr, IfSome, MatchOption, MatchResult};
+ghost use Rattle.std.specs.Prelude.{◌≡◌, ◌≢◌, ◌≤◌, ◌<◌, ◌+◌, ◌++◌, ◌^◌, ◌⊎◌, [], ℕ, List, Option, Some, None, Err, Bool, length, IsSome, IfOk, IfErr, IfSome, OnOk, MatchOption, MatchResult};
 ghost use Rattle.pcap_reader.specs.declared.capture.Packet.{Packet as Captured};
 ghost use Rattle.pcap_reader.specs.Savefile.{IsMagic, IsHeader, IsLong, HasNoHeader, IsLasting, ReadsFront};
 ghost use Rattle.pcap_reader.specs.Answers.{GivesWhole, GivesFront, GivesOnly, HasReading, Tells};
-ghost use Rattle.pcap_reader.specs.Held.{Holds, HoldsBehind, IsEnding, IsWanted, Says, Grows, SeesWhole, TakesFront, TakesWhole, held_header, held_packets, held_fault, seen_packet};
-ghost use Rattle.pcap_reader.specs.Growth.{GoesOn, IsGrown, IsShort, IsWhole, IsPacket, SplitsRecord};
+ghost use Rattle.pcap_reader.specs.Held.{Holds, HoldsBehind, IsEnding, Says, Grows, SeesWhole, TakesFront, TakesWhole, held_header, held_packets, held_fault, seen_packet};
+ghost use Rattle.pcap_reader.specs.Growth.{GoesOn, IsGrown, IsWanted, IsShort, IsWhole, IsPacket, SplitsRecord};
 
 use crate::capture::{Bytes, Capture, CaptureFault, Header, Packet, Packets, Stop};
 use crate::fields::{short_at, word_at};
@@ -169,6 +169,7 @@ impl Feed {
         ensures refused { held_fault self.now ≡ Some CaptureFault.NoMemory
             → result ≡ Err CaptureFault.NoMemory }
         ensures header { IfOk result (λ header. held_header self.now ≡ Some header) }
+        ensures going { OnOk result (held_fault self.now ≡ None) }
     {
         if let Some(fault) = self.fault {
             return Err(fault);

@@ -1,0 +1,149 @@
+//! Lines of hexadecimal digits that come in pieces.
+
+ghost use Rattle.std.specs.Prelude.{◌≡◌, ◌+◌, ◌<◌, ◌≤◌, ◌++◌, ◌∷◌, ◌^◌, [], List, length, IfOk, OnOk, IsErr, true, false};
+ghost use Rattle.std.specs.Bool.{MatchBool};
+ghost use Rattle.std.specs.Str.Lines.{strip_carriage_return};
+ghost use Rattle.hex.specs.Hex.{decode_of};
+ghost use Rattle.bpf_insn.specs.declared.insn.Insn.{Insn};
+ghost use Rattle.filter_vm.specs.declared.machine.Outcome.{Outcome as Ended};
+ghost use Rattle.console.specs.Matching.{Answers};
+ghost use Rattle.console.specs.Running.{RunsTo};
+ghost use Rattle.console.specs.Streaming.{LinesEnded, LinesRan, LinesStopped};
+
+use crate::lines::{newline_at, without_return};
+use crate::match_lines::outcome_of;
+use filter_verify::Verified;
+use filter_vm::Outcome;
+use std::alloc::{AllocError, Global};
+
+/// The most bytes of a line.
+const MOST_OF_A_LINE: usize = 4_294_967_295;
+
+/// An input of lines that comes in pieces, cut anywhere.
+#[derive(Drop)]
+pub struct LineFeed {
+    /// The bytes of a line that isn't whole yet.
+    part: Vec<u8>,
+    /// The packet of the last line, which is kept for its memory.
+    packet: Vec<u8>,
+    /// How many lines spelt a packet.
+    number: u64,
+}
+
+impl LineFeed {
+    /// A feed that was fed nothing. Takes no memory.
+    pub fn new(alloc: Global) -> LineFeed
+        ensures { (program : List Insn) → LinesRan program [] result [] }
+    {
+        LineFeed {
+            part: Vec::new(alloc),
+            packet: Vec::new(alloc),
+            number: 0,
+        }
+    }
+
+    /// How many lines spelt a packet.
+    pub fn number(&self) -> u64
+        ensures { result ≡ self.now.number }
+    {
+        self.number
+    }
+
+    /// Runs the filter on the packet of each line that ends in a piece, up to a line that spells none, and appends the
+    /// outcomes. True where there is such a line. A line of 2^32 bytes or more is refused as memory is.
+    pub fn run_piece(
+        &mut self,
+        program: &Verified,
+        piece: &[u8],
+        outcomes: &mut Vec<Outcome>,
+    ) -> Result<bool, AllocError>
+        requires { length piece.now ≤ 65536 }
+        ensures { IfOk result (λ stopped. MatchBool stopped
+            (RunsTo (LinesRan program.now) (LinesStopped program.now) piece.now [] self.old self.new outcomes.old.items outcomes.new.items)
+            (RunsTo (LinesRan program.now) (LinesRan program.now) piece.now [] self.old self.new outcomes.old.items outcomes.new.items)) }
+    {
+        let mut rest = piece;
+        while let Some(end) = newline_at(rest) {
+            if !self.run_line(program, &rest[..end], outcomes)? {
+                return Ok(true);
+            }
+            rest = &rest[end + 1..];
+        }
+        self.keep(rest)?;
+        Ok(false)
+    }
+
+    /// Runs the filter on the packet of the last line, which has no end, and appends the outcome. True where there is such a
+    /// line and it spells no packet.
+    pub fn finish(
+        &mut self,
+        program: &Verified,
+        outcomes: &mut Vec<Outcome>,
+    ) -> Result<bool, AllocError>
+        ensures { IfOk result (λ stopped. MatchBool stopped
+            (RunsTo (LinesRan program.now) (LinesStopped program.now) [] [] self.old self.new outcomes.old.items outcomes.new.items)
+            (RunsTo (LinesRan program.now) (LinesEnded program.now) [] [] self.old self.new outcomes.old.items outcomes.new.items)) }
+    {
+        if self.part.is_empty() {
+            return Ok(false);
+        }
+        if self.part.len() > MOST_OF_A_LINE {
+            return Err(AllocError);
+        }
+        match outcome_of(program, self.part.as_slice(), &mut self.packet)? {
+            Some(outcome) => {
+                outcomes.push(outcome)?;
+                Ok(false)
+            }
+            None => Ok(true),
+        }
+    }
+
+    /// Runs the filter on the packet that a line spells, whose last bytes these are, and appends the outcome. False where it
+    /// spells none.
+    fn run_line(
+        &mut self,
+        program: &Verified,
+        last: &[u8],
+        outcomes: &mut Vec<Outcome>,
+    ) -> Result<bool, AllocError>
+        requires { length last.now ≤ 65536 }
+        ensures ran { IfOk result (λ good. MatchBool good
+            ((outcome : Ended) × Answers program.now (strip_carriage_return (self.old.part.items ++ last.now)) outcome
+            × (outcomes.new.items ≡ outcomes.old.items ++ outcome ∷ []))
+            (IsErr (decode_of (strip_carriage_return (self.old.part.items ++ last.now))) × (outcomes.new.items ≡ outcomes.old.items))) }
+        ensures count { IfOk result (λ good. MatchBool good
+            ((self.new.part.items ≡ []) × (self.old.number + 1 < 2 ^ 64 → self.new.number ≡ self.old.number + 1))
+            (self.new.number ≡ self.old.number)) }
+    {
+        let found = if self.part.is_empty() {
+            outcome_of(program, without_return(last), &mut self.packet)?
+        } else {
+            self.keep(last)?;
+            let line = without_return(self.part.as_slice());
+            let found = outcome_of(program, line, &mut self.packet)?;
+            self.part.clear();
+            found
+        };
+        match found {
+            Some(outcome) => {
+                outcomes.push(outcome)?;
+                self.number = self.number.saturating_add(1);
+                Ok(true)
+            }
+            None => Ok(false),
+        }
+    }
+
+    /// Keeps bytes of a line that isn't whole yet.
+    fn keep(&mut self, bytes: &[u8]) -> Result<(), AllocError>
+        ensures kept { OnOk result (self.new.part.items ≡ self.old.part.items ++ bytes.now) }
+        ensures short { OnOk result (length self.new.part.items < 2 ^ 32) }
+        ensures number { self.new.number ≡ self.old.number }
+    {
+        if bytes.len() > MOST_OF_A_LINE || self.part.len() > MOST_OF_A_LINE - bytes.len() {
+            return Err(AllocError);
+        }
+        self.part.extend_from_slice(bytes)
+    }
+}
