@@ -33,7 +33,12 @@ file where it has one, and the status is 1.
 The filter is verified first: each accepted filter ends on each packet, within as many steps as it has instructions. A
 CODE that is no filter, or that the verifier refuses, prints one line that says why, with status 1, and nothing is read.
 
-An input of more than 64 MiB prints `fault InputTooLong` alone, with status 1.";
+An input of more than 64 MiB prints `fault InputTooLong` alone, with status 1.
+
+With --stream the input may be of any length and come over any time. Each packet's line is written as soon as the packet is
+whole and what has been read is handled, and the command ends at the first line that is no packet, or at a fault of the
+capture, without reading on. It takes memory for the longest packet or line only; a line of 4 GiB is out of memory, status 3.
+Without --stream nothing is printed before the input has ended.";
 
 const MATCH_EXAMPLE: &str = "\
 Example: which of these packets are ARP?
@@ -47,12 +52,18 @@ Example: which of these packets are ARP?
 
 Filters as tcpdump and bpf_asm write them are taken as they are:
 
-    $ mkdemux match \"$(tcpdump -ddd -y EN10MB arp)\" --pcap < packets.pcap";
+    $ mkdemux match \"$(tcpdump -ddd -y EN10MB arp)\" --pcap < packets.pcap
+
+Packets of a device, while they come:
+
+    # tcpdump -U -w - | mkdemux match --stream --pcap \"$(tcpdump -ddd -y EN10MB arp)\"";
 
 const CODE_HELP: &str =
     "The filter in decimal text: the number of instructions, then CODE JT JF K for each, parted by commas or newlines";
 
 const PCAP_HELP: &str = "Read a capture in place of hexadecimal lines";
+
+const STREAM_HELP: &str = "Print each outcome while the input is read, which may be of any length";
 
 const CHECK_ABOUT: &str = "Assemble a filter";
 
@@ -185,7 +196,7 @@ pub fn command<'a>(alloc: Global) -> Result<Command<'a>, AllocError> {
         .subcommand(simulating(alloc)?)
 }
 
-// `match CODE [--pcap]`
+// `match CODE [--pcap] [--stream]`
 fn matching<'a>(alloc: Global) -> Result<Command<'a>, AllocError> {
     let code = Arg::new(alloc, "code")
         .value_name("CODE")
@@ -195,12 +206,17 @@ fn matching<'a>(alloc: Global) -> Result<Command<'a>, AllocError> {
         .long("pcap")
         .help(PCAP_HELP)
         .action(ArgAction::SetTrue);
+    let stream = Arg::new(alloc, "stream")
+        .long("stream")
+        .help(STREAM_HELP)
+        .action(ArgAction::SetTrue);
     Command::new(alloc, "match")
         .about(MATCH_ABOUT)
         .long_about(MATCH_DETAILS)
         .after_help(MATCH_EXAMPLE)
         .arg(code)?
-        .arg(pcap)
+        .arg(pcap)?
+        .arg(stream)
 }
 
 // `check [--asm]`

@@ -8,7 +8,7 @@ mod command_line;
 
 use clap::error::ErrorKind;
 use clap::{ArgMatches, Error};
-use console::{EngineFault, run_check, run_dump, run_match};
+use console::{EngineFault, run_check, run_dump, run_match, run_stream};
 use sim_engine::run_sim;
 use std::fs::File;
 use std::io;
@@ -51,16 +51,7 @@ fn words(rt: &HostRuntime) -> io::Result<Vec<String>> {
 /// Runs the engine of the command that was given.
 fn dispatch(rt: &HostRuntime, matches: &ArgMatches) -> u8 {
     let answer = match matches.subcommand() {
-        Some(("match", found)) => {
-            let code = found.get_str("code").unwrap_or("");
-            run_match(
-                rt.alloc(),
-                code.as_bytes(),
-                found.get_flag("pcap"),
-                &mut rt.stdin(),
-                &mut rt.stdout(),
-            )
-        }
+        Some(("match", found)) => run_packets(rt, found),
         Some(("check", found)) => run_check(
             rt.alloc(),
             found.get_flag("asm"),
@@ -72,6 +63,17 @@ fn dispatch(rt: &HostRuntime, matches: &ArgMatches) -> u8 {
         _ => return USAGE,
     };
     ended(rt, answer)
+}
+
+/// Runs a filter on the packets of standard input.
+fn run_packets(rt: &HostRuntime, found: &ArgMatches) -> Result<u8, EngineFault> {
+    let code = found.get_str("code").unwrap_or("").as_bytes();
+    let pcap = found.get_flag("pcap");
+    if found.get_flag("stream") {
+        run_stream(rt.alloc(), code, pcap, &mut rt.stdin(), &mut rt.stdout())
+    } else {
+        run_match(rt.alloc(), code, pcap, &mut rt.stdin(), &mut rt.stdout())
+    }
 }
 
 /// The exit status of an engine that ended.
