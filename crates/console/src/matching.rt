@@ -22,8 +22,10 @@ use std::io::{Read, Write};
 /// - Where `pcap` is true the input is a capture. What stands before a fault of the capture is written, then
 ///   `fault NAME`, with the fault's offset where it has one, and the status is 1.
 ///
-/// An input of more than 64 MiB is not run at all: `fault InputTooLong`, status 1. For a code that is no program, or that
-/// the verifier refuses, it writes one line that says why, with status 1, and reads nothing.
+/// Of an input of more than 64 MiB only `fault InputTooLong` is shown, status 1. For a code that is no program, or that the
+/// verifier refuses, it writes one line that says why, with status 1, and reads nothing.
+///
+/// Packets of a capture are run while it is read, and 8 bytes of each are kept to its end; lines are kept whole.
 ///
 /// Answers `ReadFailed`, with nothing written, where a read fails; `WriteFailed`; and `NoMemory`, where a front of the
 /// text may have been written.
