@@ -18,7 +18,7 @@ use Rattle.world_core.specs.declared.peer.Peer.{Peer}
 use Rattle.world_core.specs.Homes.{HomeIsKept, HomeIsIdle, HomeMoves, HomeStarts, HomeStartsFor}
 use Rattle.world_core.specs.Keeping.{seen_peer, seen_world, CoreIsKept, WorldIsKept, EachMatches, Readied}
 use Rattle.world_core.specs.Sending.{SentOut}
-use Rattle.world_core.proofs.Pieces.{readied_seen}
+use Rattle.world_core.proofs.Carried.{readied_seen}
 use Rattle.world_core.proofs.HomeSteps.{idle_staged}
 use Rattle.world_core.proofs.Moving.{alike_sent, moved_seen, moved_kept}
 

@@ -5,7 +5,7 @@ pub mod EventKeeping
 pub mod BootKeeping
 pub mod HomeKeeping
 pub mod HomeSteps
-pub mod Pieces
+pub mod Carried
 pub mod Begin
 pub mod Moving
 pub mod Loads

@@ -27,7 +27,7 @@ use Rattle.core_steps.specs.Core0Steps.{core0_place}
 use Rattle.core_steps.proofs.Taking.{version_commit}
 use Rattle.world_core.proofs.PeerKeeping.{map-slice_set}
 use Rattle.world_core.proofs.HomeKeeping.{Oldest, seen_gives_up}
-use Rattle.world_core.proofs.Pieces.{set_at, sent_seen}
+use Rattle.world_core.proofs.Carried.{set_at, sent_seen}
 use Rattle.world_core.proofs.WorldKeeping.{no_core}
 
 -- Lists that match at each place

@@ -3,7 +3,7 @@ use Rattle.std.proofs.lemmas.List.{length-append}
 use Rattle.monitor_messages.specs.declared.message.Message.{Message}
 use Rattle.world_core.specs.Keeping.{IsSent}
 use Rattle.world_model.proofs.Lists.{length-slice_set}
-use Rattle.world_core.proofs.Pieces.{sent_set, sent_all, room_from_set, all_front, all_last}
+use Rattle.world_core.proofs.Carried.{sent_set, sent_all, room_from_set, all_front, all_last}
 use Rattle.world_core.proofs.peer.put_all.Goals as goal
 use Rattle.world_core.proofs.peer.put_all.Goals.{in-Some, in-None}
 

@@ -1,7 +1,7 @@
 use Rattle.std.proofs.Common.{◌≡◌, ◌+◌, All, length}
 use Rattle.monitor_messages.specs.declared.message.Message.{Message}
 use Rattle.world_core.specs.Keeping.{RoomFrom}
-use Rattle.world_core.proofs.Pieces.{SentBelow}
+use Rattle.world_core.proofs.Carried.{SentBelow}
 use Rattle.world_core.proofs.peer.put_all.Given as goal
 
 abbrev pub invariant-loop-peer : goal.invariant-loop-peer

@@ -1,7 +1,7 @@
 use Rattle.std.proofs.Common.{◌≡◌, ◌<◌, ◌≤◌, ◌∷◌, [], length, ap, arith}
 use Rattle.std.proofs.lemmas.List.{length-append}
 use Rattle.world_core.proofs.BootKeeping.{all_more}
-use Rattle.world_core.proofs.Pieces.{readied_set, room_set, room_all}
+use Rattle.world_core.proofs.Carried.{readied_set, room_set, room_all}
 use Rattle.world_core.proofs.peer.ready_all.Goals as goal
 
 pub returns-in_err-piece-clause-seen : goal.returns-in_err-piece-clause-seen
