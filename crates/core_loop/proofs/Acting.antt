@@ -1,0 +1,148 @@
+-- One event of a core, whichever part it has.
+use Rattle.std.proofs.Common.{length, ◌≡◌, ◌≤◌, ◌-◌, ◌+◌, ◌∙◌, ℕ, suc, max, List, [], ◌∷◌, ◌++◌, refl, sym, ap, subst, arith}
+use Rattle.std.specs.Prelude.{Option, Some, None, Result, Ok, Err, IfOk}
+use Rattle.core_links.specs.Views.{LinkView}
+use Rattle.table_replica.specs.declared.Op.{Op}
+use Rattle.table_replica.specs.Shown.{ReplicaState}
+use Rattle.table_replica.specs.Tables.{State, table}
+use Rattle.table_replica.proofs.Tables.{table_version}
+use Rattle.pcap_reader.specs.declared.capture.Packet.{Packet}
+use Rattle.world_model.specs.declared.event.Event.{Event}
+use Rattle.world_model.specs.declared.event.Event.TheVariants.{Rx}
+use Rattle.world_model.specs.declared.event.Answer.{Answer}
+use Rattle.world_model.specs.Cases.{nothing, sent_up, ReceivesAt}
+use Rattle.world_histories.specs.declared.history.Stamped.{Stamped}
+use Rattle.world_histories.specs.Histories.{Stamping, taking, Does0, DoesOther}
+use Rattle.core_steps.specs.declared.other_core.OtherCore.{OtherCore}
+use Rattle.core_loop.specs.declared.part.Part.{Part}
+use Rattle.core_loop.specs.declared.part.Part.TheVariants as part
+use Rattle.core_loop.specs.declared.refusal.Refusal.{Refusal}
+use Rattle.core_loop.specs.declared.refusal.Refusal.TheVariants as refusal
+use Rattle.core_loop.specs.Carrying.{Quiet, Carries0}
+use Rattle.core_loop.specs.Standing.{Stands0, StandsOther}
+use Rattle.core_loop.specs.Keeping.{IsStanding, replica_of}
+use Rattle.core_loop.specs.Events.{Acts, ActsOther}
+use Rattle.core_loop.specs.Outcomes.{OnEvent, OnNone, OnIdle}
+use Rattle.core_loop.specs.Beginning.{IsFitting, CanBeginNext}
+use Rattle.core_loop.specs.Receipts.{Receives}
+use Rattle.core_loop.specs.Taking.{CannotTake}
+use Rattle.core_loop.proofs.Standings.{stands0_more, stands_other_more}
+use Rattle.core_loop.proofs.Carrying.{quiet_acts, start_carries, submit_carries}
+use Rattle.core_loop.proofs.Handing.{hands_none, hands_nothing}
+
+-- another core's event is one of the core with its number
+pub other_acts : (number cores clock : ℕ) (v w : ℕ → LinkView) (p : Part) (x y : OtherCore) (s : Stamped) → p ≡ part.Other x → IsFitting number cores p → ((entry : ℕ) → number ≡ suc entry → ActsOther entry clock v w x y s) → Acts number cores clock v w p (part.Other y) s
+other_acts number cores clock v w p x y s e f h =
+    let f' = subst (λ (q : Part). IsFitting number cores q) e f in
+    subst (λ (q : Part). Acts number cores clock v w q (part.Other y) s) (sym e) (f'.0, f'.1, h f'.0 f'.1)
+
+pub other_acts_ok : (number cores clock : ℕ) (v w : ℕ → LinkView) (p : Part) (x y : OtherCore) (r : Result Stamped Refusal) → p ≡ part.Other x → IsFitting number cores p → IfOk r (λ s. (entry : ℕ) → number ≡ suc entry → ActsOther entry clock v w x y s) → IfOk r (Acts number cores clock v w p (part.Other y))
+other_acts_ok number cores clock v w p x y (Ok s) e f h = other_acts number cores clock v w p x y s e f h
+other_acts_ok number cores clock v w p x y (Err r) e f h = tt
+
+pub other_acts_on : (number cores clock : ℕ) (v w : ℕ → LinkView) (p : Part) (x y : OtherCore) (r : Result (Option Stamped) Refusal) → p ≡ part.Other x → IsFitting number cores p → OnEvent r (λ s. (entry : ℕ) → number ≡ suc entry → ActsOther entry clock v w x y s) → OnEvent r (Acts number cores clock v w p (part.Other y))
+other_acts_on number cores clock v w p x y (Ok (Some s)) e f h = other_acts number cores clock v w p x y s e f h
+other_acts_on number cores clock v w p x y (Ok None) e f h = tt
+other_acts_on number cores clock v w p x y (Err r) e f h = tt
+
+pub on_event_quiet : {E : Type 0} (number cores clock : ℕ) (u v w : ℕ → LinkView) (x x' y : Part) (r : Result (Option Stamped) E) → x' ≡ x → ((p : ℕ) → Quiet (u p) (v p)) → OnEvent r (Acts number cores clock v w x' y) → OnEvent r (Acts number cores clock u w x y)
+on_event_quiet number cores clock u v w x x' y (Ok (Some s)) e q a = subst (λ (z : Part). Acts number cores clock u w z y s) e (quiet_acts number cores clock u v w x' y s q a)
+on_event_quiet number cores clock u v w x x' y (Ok None) e q a = tt
+on_event_quiet number cores clock u v w x x' y (Err r) e q a = tt
+
+pub spent_take : (cores clock peer : ℕ) (p : Part) (m : Stamping) (view : ℕ → LinkView) → CannotTake cores clock peer p m view refusal.Spent → 18446744073709551615 ≤ max clock m.stamp
+spent_take cores clock peer (part.First x) m view h = h
+spent_take cores clock peer (part.Other x) m view h = h
+
+-- a core that stands at its history stands at the longer one
+pub acts_stand : (x y : Part) (number cores clock : ℕ) (h : List Stamped) (s : Stamped) (v w : ℕ → LinkView) → IsStanding x number cores clock h v → Acts number cores clock v w x y s → IsStanding y number cores s.stamp (h ++ s ∷ []) w
+acts_stand (part.First x) (part.First y) number cores clock h s v w st a =
+    let l = a.leads st.0 st.2 in (
+      l.after,
+      st.1,
+      l.stands,
+      subst (λ (b : ℕ). Stands0 (cores - 1) b (h ++ s ∷ []) w l.after) (sym a.same_budget)
+          (stands0_more (cores - 1) x.replica.budget h v w st.0 l.after s a.m a.out st.3 l.step (λ e lt. (a.carries.to_others e lt).sends) (λ e lt. (a.carries.to_others e lt).takes) (a.carries.itself.sent_same, a.carries.itself.taken_same)
+          (λ e le. ((a.carries.beyond e le).sent_same, (a.carries.beyond e le).taken_same))),
+    )
+acts_stand (part.First x) (part.Other y) number cores clock h s v w st a = absurd a
+acts_stand (part.Other x) (part.First y) number cores clock h s v w st a = absurd a
+acts_stand (part.Other x) (part.Other y) number cores clock h s v w st a =
+    let same : a.0 ≡ st.0 = omega (arith, a.1, st.2) in
+    let b : ActsOther st.0 clock v w x y s = subst (λ (n : ℕ). ActsOther n clock v w x y s) same a.2 in
+    let l = b.leads st.1 st.3 in (
+      st.0,
+      l.after,
+      st.2,
+      l.stands,
+      subst (λ (n : ℕ). StandsOther st.0 n (h ++ s ∷ []) w l.after) (sym b.same_budget)
+          (stands_other_more st.0 x.replica.budget h v w st.1 l.after s b.m st.4 l.step b.carries.to_first.sends b.carries.to_first.takes (λ p. ((b.carries.elsewhere p).sent_same, (b.carries.elsewhere p).taken_same))),
+    )
+
+-- The receipt of a packet
+
+receives_at : (log : List Op) (replica : ReplicaState) (packet : Packet) (floor : ℕ) (answer : Answer) → replica.shown ≡ table log (length log) → ReceivesAt replica.shown replica.shown.version packet floor answer → ReceivesAt (table log (length log)) (length log) packet floor answer
+receives_at log replica packet floor answer shown h =
+    let version : replica.shown.version ≡ length log = ap (λ (s : State). s.version) shown ∙ table_version log in
+    subst (λ (v : ℕ). ReceivesAt (table log (length log)) v packet floor answer) version (subst (λ (s : State). ReceivesAt s replica.shown.version packet floor answer) shown h)
+
+quiet_carries0 : (others : ℕ) (s : Stamped) (v : ℕ → LinkView) → taking s.done.event None ≡ [] → Carries0 others s None nothing v v
+quiet_carries0 others s v none = start_carries others s nothing v v none (hands_nothing others s.stamp v v (λ p. refl))
+
+pub receives_act : (number cores clock : ℕ) (x : Part) (s : Stamped) (v : ℕ → LinkView) → IsFitting number cores x → Receives number clock (replica_of x) s → Acts number cores clock v v x x s
+receives_act number cores clock (part.First core) s v f r = record {
+  m = None;
+  out = nothing;
+  leads = λ before h. record {
+    after = record before { clock = s.stamp };
+    stands = record { clock_is = refl; place_is = h.place_is; requests_are = h.requests_are; shown_is = h.shown_is; others_are = h.others_are; between = h.between };
+    step = record {
+      ticks = r.stamp_next ∙ ap (λ n. n + 1) (sym h.clock_is);
+      does = subst (λ (e : Event). Does0 (cores - 1) core.replica.budget before s.stamp e None (record before { clock = s.stamp }) s.done.answer nothing) (sym (r.is_event ∙ ap (λ (n : ℕ). Rx n r.job.number r.job.packet r.job.floor) f.0))
+          (record { here = receives_at before.log core.replica r.job.packet r.job.floor s.done.answer h.shown_is r.here; next = refl; sends = refl });
+    };
+  };
+  carries = quiet_carries0 (cores - 1) s v (ap (λ (e : Event). taking e None) r.is_event);
+  same_budget = refl;
+}
+receives_act number cores clock (part.Other core) s v f r = (
+  f.0,
+  f.1,
+  record {
+    m = None;
+    leads = λ before h. record {
+      after = record before { clock = s.stamp };
+      stands = record { clock_is = refl; place_is = h.place_is; outstanding_is = h.outstanding_is; shown_is = h.shown_is; between = h.between };
+      step = record {
+        ticks = r.stamp_next ∙ ap (λ n. n + 1) (sym h.clock_is);
+        does = subst (λ (e : Event). DoesOther f.0 core.replica.budget before s.stamp e None (record before { clock = s.stamp }) s.done.answer) (sym (r.is_event ∙ ap (λ (n : ℕ). Rx n r.job.number r.job.packet r.job.floor) f.1))
+            (refl, record { here = receives_at before.log core.replica r.job.packet r.job.floor s.done.answer h.shown_is r.here; next = refl });
+      };
+    };
+    carries = submit_carries s None v v (subst (λ (e : Event). sent_up e s.done.answer ≡ None) (sym r.is_event) (subst (λ (a : Answer). sent_up (Rx number r.job.number r.job.packet r.job.floor) a ≡ None) (sym r.here.is_answer) refl)) (hands_none (v 0) (v 0) refl) (λ p ne. refl);
+    same_budget = refl;
+  },
+)
+
+pub receives_on : {E : Type 0} (number cores clock : ℕ) (x : Part) (v : ℕ → LinkView) (r : Result (Option Stamped) E) → IsFitting number cores x → OnEvent r (Receives number clock (replica_of x)) → OnEvent r (Acts number cores clock v v x x)
+receives_on number cores clock x v (Ok (Some s)) f h = receives_act number cores clock x s v f h
+receives_on number cores clock x v (Ok None) f h = tt
+receives_on number cores clock x v (Err e) f h = tt
+
+-- What can begin still can after a look
+
+pub can_begin_quiet : (cores : ℕ) (x : Part) (requests : List Op) (v w : ℕ → LinkView) → ((p : ℕ) → Quiet (v p) (w p)) → CanBeginNext cores x requests v → CanBeginNext cores x requests w
+can_begin_quiet cores (part.First core) requests v w q c = record { idle = c.idle; some = c.some; ready = λ e lt. (q (suc e)).still_ready (c.ready e lt) }
+can_begin_quiet cores (part.Other core) requests v w q c = record { some = c.some; free = c.free; ready = (q 0).still_ready c.ready }
+
+-- What comes after a look
+
+pub on_none_map : {E : Type 0} {P Q : Type 0} (r : Result (Option Stamped) E) → (P → Q) → OnNone r P → OnNone r Q
+on_none_map (Ok (Some s)) f h = tt
+on_none_map (Ok None) f h = f h
+on_none_map (Err x) f h = f h
+
+pub on_idle_map : {E : Type 0} {P Q : Type 0} (r : Result (Option Stamped) E) → (P → Q) → OnIdle r P → OnIdle r Q
+on_idle_map (Ok (Some s)) f h = tt
+on_idle_map (Ok None) f h = f h
+on_idle_map (Err x) f h = tt

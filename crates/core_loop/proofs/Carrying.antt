@@ -1,0 +1,179 @@
+-- What an event's steps on the links come to.
+use Rattle.std.proofs.Common.{◌≡◌, ◌≢◌, ◌<◌, ◌⊎◌, inl, inr, ◌∙◌, ℕ, suc, false, Option, Some, None, List, [], ◌∷◌, ◌++◌, take, drop, refl, sym, ap, subst, arith, append_assoc}
+use mathlib.Core.List.{IsPrefix}
+use Rattle.std.specs.Prelude.{Vec, Result, option_to_list}
+use Rattle.ump_ring.specs.declared.fault.LineFault.{LineFault}
+use Rattle.core_loop.specs.declared.part.Part.{Part}
+use Rattle.core_loop.specs.declared.part.Part.TheVariants as part
+use Rattle.core_loop.specs.Events.{Acts}
+use Rattle.std.specs.Global.{Global}
+use Rattle.core_loop.specs.Sending.{IsReplyReady}
+use Rattle.std.proofs.lemmas.List.{append-nil}
+use Rattle.core_links.specs.Views.{LinkView, first_of, GivenUp, Pumped, Pulled}
+use Rattle.world_model.specs.declared.event.Event.TheVariants.{Take}
+use Rattle.world_model.specs.declared.event.Answer.{Answer}
+use Rattle.monitor_messages.specs.declared.message.Message.{Message}
+use Rattle.world_model.specs.Cases.{Outgoing, sent_up}
+use Rattle.world_model.proofs.Lists.{same_or_not}
+use Rattle.world_model.proofs.Submissions.{eq_self, eq_other}
+use Rattle.world_histories.specs.declared.history.Stamped.{Stamped}
+use Rattle.world_histories.specs.Histories.{Stamping, for_entry, with_stamp, taking, taken_from}
+use Rattle.core_loop.specs.Standing.{Grows}
+use Rattle.core_loop.specs.Carrying.{Quiet, Carries, Hands, HandsOut, IsFirst, Carries0, CarriesOther}
+
+-- these messages are taken, and nothing else changes
+pub record Takes (v w : LinkView) (ms : List Stamping) : Type 0 where
+  pub takes : Grows v.taken w.taken ms
+  pub sent_same : w.sent ≡ v.sent
+  pub still_kept : v.kept ≡ takes.0 ++ w.kept
+  pub still_ready : w.ready ≡ v.ready
+
+takes_nothing : (v w : LinkView) → w ≡ v → Takes v w []
+takes_nothing v w e = record {
+  takes = ([], ap (λ (x : LinkView). x.taken) e ∙ sym (append-nil v.taken), tt);
+  sent_same = ap (λ (x : LinkView). x.sent) e;
+  still_kept = sym (ap (λ (x : LinkView). x.kept) e);
+  still_ready = ap (λ (x : LinkView). x.ready) e;
+}
+
+front_rest : (kept : List (List ℕ)) (bytes : List ℕ) → first_of kept ≡ Some bytes → (take 1 kept ≡ bytes ∷ []) × (kept ≡ bytes ∷ drop 1 kept)
+front_rest [] bytes e = absurd cc
+front_rest (b ∷ bs) bytes e = let same : b ≡ bytes = cc in (ap (λ (x : List ℕ). x ∷ []) same, ap (λ (x : List ℕ). x ∷ bs) same)
+
+pub takes_first : (v w : LinkView) (m : Stamping) → IsFirst v m → GivenUp v w → Takes v w (m ∷ [])
+takes_first v w m f g =
+    let p = front_rest v.kept f.bytes f.there in
+    record {
+      takes = (f.bytes ∷ [], g.taken ∙ ap (λ (x : List (List ℕ)). v.taken ++ x) p.0, (f.coded, tt));
+      sent_same = g.sent;
+      still_kept = p.1 ∙ ap (λ (x : List (List ℕ)). f.bytes ∷ x) (sym g.kept);
+      still_ready = g.ready;
+    }
+
+pub carries_by : (v mid w : LinkView) (sent taken : List Stamping) → Takes v mid taken → Hands mid w sent → Carries v w sent taken
+carries_by v mid w sent taken t h = record {
+  sends = (h.sends.0, h.sends.1 ∙ ap (λ (x : List (List ℕ)). x ++ h.sends.0) t.sent_same, h.sends.2);
+  takes = (t.takes.0, h.taken_same ∙ t.takes.1, t.takes.2);
+  still_kept = ([], append-nil v.kept ∙ (t.still_kept ∙ ap (λ (x : List (List ℕ)). t.takes.0 ++ x) (sym h.kept_same)));
+  still_ready = λ n r. h.still_ready n ∙ (t.still_ready ∙ r);
+}
+
+pub same_quiet : (v w : LinkView) → w ≡ v → Quiet v w
+same_quiet v w e = record {
+  sent_same = ap (λ (x : LinkView). x.sent) e;
+  taken_same = ap (λ (x : LinkView). x.taken) e;
+  still_kept = ([], append-nil v.kept ∙ sym (ap (λ (x : LinkView). x.kept) e));
+  still_ready = λ r. ap (λ (x : LinkView). x.ready) e ∙ r;
+}
+
+-- core 0 takes a message of this core, and sends this
+pub take_carries : (others stamp from entry : ℕ) (answer : Answer) (m : Stamping) (out : Outgoing) (old mid new : ℕ → LinkView) → from ≡ suc entry → entry < others → Takes (old from) (mid from) (m ∷ []) → ((p : ℕ) → p ≢ from → mid p ≡ old p)
+    → HandsOut others stamp out mid new → Carries0 others (record { stamp = stamp; done = record { event = Take 0 from false; answer = answer } }) (Some m) out old new
+take_carries others stamp from entry answer m out old mid new is inside t same h =
+    subst (λ (n : ℕ). Carries0 others (record { stamp = stamp; done = record { event = Take 0 n false; answer = answer } }) (Some m) out old new) (sym is)
+    (record {
+      to_others = λ e lt. by_place e lt (same_or_not entry e);
+      itself = same_quiet (old 0) (new 0) (h.itself ∙ same 0 (λ x. absurd (omega (arith, is, x))));
+      beyond = λ e le. same_quiet (old (suc e)) (new (suc e)) (h.beyond e le ∙ same (suc e) (λ x. absurd (omega (arith, is, x, inside, le))));
+    })
+  where
+    by_place : (e : ℕ) → e < others → ((entry ≡ e) ⊎ (entry ≡ e → ⊥)) → Carries (old (suc e)) (new (suc e)) (with_stamp stamp (for_entry e out)) (taken_from e ((entry, m) ∷ []))
+    by_place e lt (inl x) =
+        let here : Takes (old (suc e)) (mid (suc e)) (m ∷ []) = subst (λ (n : ℕ). Takes (old n) (mid n) (m ∷ [])) (is ∙ ap suc x) t in
+        subst (λ (k : ℕ). Carries (old (suc e)) (new (suc e)) (with_stamp stamp (for_entry e out)) (taken_from e ((k, m) ∷ []))) (sym x)
+        (rw (eq_self e) (carries_by (old (suc e)) (mid (suc e)) (new (suc e)) (with_stamp stamp (for_entry e out)) (m ∷ []) here (h.to_others e lt)))
+    by_place e lt (inr ne) =
+        rw (eq_other entry e ne) (carries_by (old (suc e)) (mid (suc e)) (new (suc e)) (with_stamp stamp (for_entry e out)) [] (takes_nothing (old (suc e)) (mid (suc e)) (same (suc e) (λ x. absurd (ne (omega (arith, is, x)))))) (h.to_others e lt))
+
+-- core 0 takes nothing, and sends this
+pub start_carries : (others : ℕ) (s : Stamped) (out : Outgoing) (old new : ℕ → LinkView) → taking s.done.event None ≡ [] → HandsOut others s.stamp out old new → Carries0 others s None out old new
+start_carries others s out old new none h = record {
+  to_others = λ e lt. subst (λ (l : List (ℕ × Stamping)). Carries (old (suc e)) (new (suc e)) (with_stamp s.stamp (for_entry e out)) (taken_from e l)) (sym none)
+      (carries_by (old (suc e)) (old (suc e)) (new (suc e)) (with_stamp s.stamp (for_entry e out)) [] (takes_nothing (old (suc e)) (old (suc e)) refl) (h.to_others e lt));
+  itself = same_quiet (old 0) (new 0) h.itself;
+  beyond = λ e le. same_quiet (old (suc e)) (new (suc e)) (h.beyond e le);
+}
+
+-- another core takes a message of core 0, and sends this
+pub take_carries_other : (s : Stamped) (m : Stamping) (reply : Option Message) (old mid new : ℕ → LinkView) → sent_up s.done.event s.done.answer ≡ reply → Takes (old 0) (mid 0) (m ∷ []) → ((p : ℕ) → p ≢ 0 → mid p ≡ old p)
+    → Hands (mid 0) (new 0) (with_stamp s.stamp (option_to_list reply)) → ((p : ℕ) → p ≢ 0 → new p ≡ mid p) → CarriesOther s (Some m) old new
+take_carries_other s m reply old mid new is t same h still = record {
+  to_first = subst (λ (r : Option Message). Carries (old 0) (new 0) (with_stamp s.stamp (option_to_list r)) (m ∷ [])) (sym is) (carries_by (old 0) (mid 0) (new 0) (with_stamp s.stamp (option_to_list reply)) (m ∷ []) t h);
+  elsewhere = λ p. same_quiet (old (suc p)) (new (suc p)) (still (suc p) (λ x. absurd (omega arith)) ∙ same (suc p) (λ x. absurd (omega arith)));
+}
+
+-- it takes nothing, and sends this
+pub submit_carries : (s : Stamped) (reply : Option Message) (old new : ℕ → LinkView) → sent_up s.done.event s.done.answer ≡ reply → Hands (old 0) (new 0) (with_stamp s.stamp (option_to_list reply)) → ((p : ℕ) → p ≢ 0 → new p ≡ old p) → CarriesOther s None old new
+submit_carries s reply old new is h still = record {
+  to_first = subst (λ (r : Option Message). Carries (old 0) (new 0) (with_stamp s.stamp (option_to_list r)) []) (sym is) (carries_by (old 0) (old 0) (new 0) (with_stamp s.stamp (option_to_list reply)) [] (takes_nothing (old 0) (old 0) refl) h);
+  elsewhere = λ p. same_quiet (old (suc p)) (new (suc p)) (still (suc p) (λ x. absurd (omega arith)));
+}
+
+-- a reply that is ready stays so where the link stays ready
+pub reply_stays : (stamp : ℕ) (reply : Option Message) (piece : Option (Vec ℕ Global)) (v w : LinkView) → w.ready ≡ v.ready → IsReplyReady stamp reply piece v → IsReplyReady stamp reply piece w
+reply_stays stamp None None v w e r = tt
+reply_stays stamp None (Some p) v w e r = absurd r
+reply_stays stamp (Some m) None v w e r = absurd r
+reply_stays stamp (Some m) (Some p) v w e r = (r.0, r.1, e ∙ r.2)
+
+-- Quiet looks
+
+pub quiet_itself : (v : LinkView) → Quiet v v
+quiet_itself v = same_quiet v v refl
+
+prefix_along : {A : Type 0} (xs ys zs : List A) → IsPrefix xs ys → IsPrefix ys zs → IsPrefix xs zs
+prefix_along xs ys zs p q = (p.0 ++ q.0, sym (append_assoc xs p.0 q.0) ∙ (ap (λ l. l ++ q.0) p.1 ∙ q.1))
+
+pub quiet_along : (u v w : LinkView) → Quiet u v → Quiet v w → Quiet u w
+quiet_along u v w p q = record {
+  sent_same = q.sent_same ∙ p.sent_same;
+  taken_same = q.taken_same ∙ p.taken_same;
+  still_kept = prefix_along u.kept v.kept w.kept p.still_kept q.still_kept;
+  still_ready = λ r. q.still_ready (p.still_ready r);
+}
+
+pub quiet_carries : (u v w : LinkView) (sent taken : List Stamping) → Quiet u v → Carries v w sent taken → Carries u w sent taken
+quiet_carries u v w sent taken q c = record {
+  sends = (c.sends.0, c.sends.1 ∙ ap (λ (x : List (List ℕ)). x ++ c.sends.0) q.sent_same, c.sends.2);
+  takes = (c.takes.0, c.takes.1 ∙ ap (λ (x : List (List ℕ)). x ++ c.takes.0) q.taken_same, c.takes.2);
+  still_kept = prefix_along u.kept v.kept (c.takes.0 ++ w.kept) q.still_kept c.still_kept;
+  still_ready = λ n r. c.still_ready n (q.still_ready r);
+}
+
+pub quiet_acts : (number cores clock : ℕ) (u v w : ℕ → LinkView) (x y : Part) (s : Stamped) → ((p : ℕ) → Quiet (u p) (v p)) → Acts number cores clock v w x y s → Acts number cores clock u w x y s
+quiet_acts number cores clock u v w (part.First x) (part.First y) s q a = record {
+  m = a.m;
+  out = a.out;
+  leads = a.leads;
+  carries = record {
+    to_others = λ e lt. quiet_carries _ _ _ _ _ (q (suc e)) (a.carries.to_others e lt);
+    itself = quiet_along _ _ _ (q 0) a.carries.itself;
+    beyond = λ e le. quiet_along _ _ _ (q (suc e)) (a.carries.beyond e le);
+  };
+  same_budget = a.same_budget;
+}
+quiet_acts number cores clock u v w (part.First x) (part.Other y) s q a = absurd a
+quiet_acts number cores clock u v w (part.Other x) (part.First y) s q a = absurd a
+quiet_acts number cores clock u v w (part.Other x) (part.Other y) s q a = (
+  a.0,
+  a.1,
+  record {
+    m = a.2.m;
+    leads = a.2.leads;
+    carries = record {
+      to_first = quiet_carries _ _ _ _ _ (q 0) a.2.carries.to_first;
+      elsewhere = λ p. quiet_along _ _ _ (q (suc p)) (a.2.carries.elsewhere p);
+    };
+    same_budget = a.2.same_budget;
+  },
+)
+
+pub pulled_quiet : (peer : ℕ) (old new : ℕ → LinkView) (r : Result (Unit {0}) LineFault) → Pulled (old peer) (new peer) r → ((p : ℕ) → p ≢ peer → new p ≡ old p) → (p : ℕ) → Quiet (old p) (new p)
+pulled_quiet peer old new r here same p = by_place (same_or_not p peer)
+  where
+    by_place : ((p ≡ peer) ⊎ (p ≡ peer → ⊥)) → Quiet (old p) (new p)
+    by_place (inl e) = subst (λ (n : ℕ). Quiet (old n) (new n)) (sym e) (record { sent_same = here.arrived.sent; taken_same = here.taken; still_kept = here.arrived.kept; still_ready = here.arrived.ready })
+    by_place (inr ne) = same_quiet (old p) (new p) (same p ne)
+
+pub pumped_quiet : (v w : LinkView) → Pumped v w → Quiet v w
+pumped_quiet v w p = record { sent_same = p.sent; taken_same = p.taken; still_kept = ([], append-nil v.kept ∙ sym p.kept); still_ready = p.ready }

@@ -1,0 +1,74 @@
+-- A core whose turn did one event, or none.
+use Rattle.std.proofs.Common.{◌≡◌, ◌∙◌, ℕ, zero, suc, All, List, [], ◌∷◌, ◌++◌, sym, ap, subst, arith, append_assoc}
+use Rattle.std.proofs.lemmas.List.{append-nil}
+use Rattle.table_replica.specs.declared.Op.{Op}
+use Rattle.monitor_messages.specs.Coding.{HasShortProgram}
+use Rattle.world_histories.specs.declared.history.Stamped.{Stamped}
+use Rattle.world_histories.specs.Histories.{Stamping}
+use Rattle.core_links.specs.Views.{LinkView}
+use Rattle.core_loop.specs.declared.part.Part.{Part}
+use Rattle.core_loop.specs.declared.part.Part.TheVariants as part
+use Rattle.core_loop.specs.Coded.{AreCoded}
+use Rattle.core_loop.specs.Standing.{IsSilent}
+use Rattle.core_loop.specs.Carrying.{Quiet}
+use Rattle.core_loop.specs.Cores.{AreShort, begins, begun}
+use Rattle.core_loop.specs.Keeping.{IsStanding}
+use Rattle.core_loop.specs.Beginning.{IsFitting}
+
+coded_as : (xs ys : List (List ℕ)) (ms : List Stamping) → ys ≡ xs → AreCoded xs ms → AreCoded ys ms
+coded_as xs ys ms e a = subst (λ (l : List (List ℕ)). AreCoded l ms) (sym e) a
+
+still_silent : (v w : LinkView) → Quiet v w → IsSilent v → IsSilent w
+still_silent v w q s = (q.sent_same ∙ s.0, q.taken_same ∙ s.1)
+
+-- a look leaves it where it stands
+pub stands_quiet : (x : Part) (number cores clock : ℕ) (h : List Stamped) (v w : ℕ → LinkView) → IsStanding x number cores clock h v → ((p : ℕ) → Quiet (v p) (w p)) → IsStanding x number cores clock h w
+stands_quiet (part.First core) number cores clock h v w st q = (
+  st.0,
+  st.1,
+  st.2,
+  record {
+    sent = st.3.sent;
+    taken = st.3.taken;
+    is_history = st.3.is_history;
+    has_sent = λ e lt. coded_as _ _ _ (q (suc e)).sent_same (st.3.has_sent e lt);
+    has_taken = λ e lt. coded_as _ _ _ (q (suc e)).taken_same (st.3.has_taken e lt);
+    itself = still_silent (v 0) (w 0) (q 0) st.3.itself;
+    beyond = λ e le. still_silent (v (suc e)) (w (suc e)) (q (suc e)) (st.3.beyond e le);
+  },
+)
+stands_quiet (part.Other core) number cores clock h v w st q = (
+  st.0,
+  st.1,
+  st.2,
+  st.3,
+  record {
+    taken = st.4.taken;
+    is_history = st.4.is_history;
+    has_sent = coded_as _ _ _ (q 0).sent_same st.4.has_sent;
+    has_taken = coded_as _ _ _ (q 0).taken_same st.4.has_taken;
+    elsewhere = λ p. still_silent (v (suc p)) (w (suc p)) (q (suc p)) (st.4.elsewhere p);
+  },
+)
+
+pub fits : (x : Part) (number cores clock : ℕ) (h : List Stamped) (v : ℕ → LinkView) → IsStanding x number cores clock h v → IsFitting number cores x
+fits (part.First core) number cores clock h v st = (st.1, st.2.others_are, st.2.between)
+fits (part.Other core) number cores clock h v st = (st.0, st.2, st.3.between)
+
+all_rest : {A : Type 0} (P : A → Type 0) (front rest : List A) → All P (front ++ rest) → All P rest
+all_rest P [] rest a = a
+all_rest P (x ∷ xs) rest a = all_rest P xs rest (λ k d lt. a (suc k) d (omega arith))
+
+-- the requests that are left can be sent as well
+pub short_rest : (number : ℕ) (all front rest : List Op) → all ≡ front ++ rest → AreShort number all → AreShort number rest
+short_rest zero all front rest e s = tt
+short_rest (suc entry) all front rest e s = all_rest HasShortProgram front rest (subst (λ (l : List Op). All HasShortProgram l) e s)
+
+-- what is begun and what is left are all requests, still
+flat_map_more : (h : List Stamped) (s : Stamped) → begun (h ++ s ∷ []) ≡ begun h ++ begins s.done.event
+flat_map_more [] s = append-nil (begins s.done.event)
+flat_map_more (x ∷ h) s = ap (λ (l : List Op). begins x.done.event ++ l) (flat_map_more h s) ∙ sym (append_assoc (begins x.done.event) (begun h) (begins s.done.event))
+
+pub requests_more : (h h' : List Stamped) (s : Stamped) (old new : List Op) → h' ≡ h ++ s ∷ [] → old ≡ begins s.done.event ++ new → begun h' ++ new ≡ begun h ++ old
+requests_more h h' s old new e f =
+    ap (λ (l : List Stamped). begun l ++ new) e ∙ (ap (λ (l : List Op). l ++ new) (flat_map_more h s) ∙ (append_assoc (begun h) (begins s.done.event) new ∙ ap (λ (l : List Op). begun h ++ l) (sym f)))

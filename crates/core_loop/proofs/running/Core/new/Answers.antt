@@ -1,0 +1,12 @@
+use Rattle.std.proofs.Common.{sym, subst, List}
+use Rattle.world_histories.specs.declared.history.Stamped.{Stamped}
+use Rattle.core_loop.specs.Keeping.{IsStanding}
+use Rattle.core_loop.proofs.running.Core.new.Goals as goal
+
+pub invariant_of-result : goal.invariant_of-result
+invariant_of-result g c = (
+  c.requires.number,
+  c.requires.cores,
+  subst (λ (h : List Stamped). IsStanding c.in_ok-part.part c.args.number c.args.cores 0 h (g.L.Links.view c.args.links)) (sym c.new-2.ensures.items) (c.in_ok-part.ensures.stands (g.L.Links.view c.args.links) c.requires.silent),
+  c.requires.short,
+)

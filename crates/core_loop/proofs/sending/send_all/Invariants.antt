@@ -1,0 +1,11 @@
+use Rattle.std.proofs.Common.{◌≡◌, ◌+◌, ℕ, All, length}
+use Rattle.monitor_messages.specs.declared.message.Message.{Message}
+use Rattle.core_loop.specs.Sending.{CanBeHanded, IsPiece}
+use Rattle.core_loop.proofs.Handing.{HandsBelow, SameFrom}
+use Rattle.core_loop.proofs.sending.send_all.Given as goal
+
+abbrev pub invariant-loop-entry : goal.invariant-loop-entry
+invariant-loop-entry g l =
+    (length l.pieces.items + l.entry ≡ l.others) × All CanBeHanded l.pieces.items × g.L.Links.same l.initial.links l.links
+    × SameFrom (g.L.Links.view l.initial.links) (g.L.Links.view l.links) l.entry
+    × ((stamp : ℕ) (m : Message) → All (IsPiece stamp m) l.initial.pieces.items → All (IsPiece stamp m) l.pieces.items × HandsBelow stamp m (g.L.Links.view l.initial.links) (g.L.Links.view l.links) l.entry)

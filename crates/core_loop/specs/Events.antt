@@ -1,0 +1,78 @@
+-- One event of one core: Event's case from each state of its history that it stands in, and what its links carry with it.
+use Rattle.std.specs.Prelude.{◌≡◌, ◌⊎◌, ◌≤◌, ◌-◌, ℕ, suc, max, false, Option}
+use Rattle.world_model.specs.Cases.{Outgoing, outgoing}
+use Rattle.world_model.specs.Agreement.{Expects}
+use Rattle.world_histories.specs.declared.history.Stamped.{Stamped}
+use Rattle.world_histories.specs.Histories.{Stamping, Core0, Step0, Other, StepOther}
+use Rattle.core_links.specs.Views.{LinkView}
+use Rattle.core_steps.specs.declared.core0.Core0.{Core0 as First}
+use Rattle.core_steps.specs.declared.core0.Told.{Told}
+use Rattle.core_steps.specs.declared.other_core.OtherCore.{OtherCore}
+use Rattle.core_steps.specs.Core0Steps.{core0_place, TakesUp}
+use Rattle.core_steps.specs.OtherCoreSteps.{AwaitsHere}
+use Rattle.core_loop.specs.declared.part.Part.{Part}
+use Rattle.core_loop.specs.declared.part.Part.TheVariants as part
+use Rattle.core_loop.specs.declared.refusal.Refusal.{Refusal}
+use Rattle.core_loop.specs.declared.refusal.Refusal.TheVariants as refusal
+use Rattle.core_loop.specs.Carrying.{Carries0, CarriesOther, CanCarry}
+use Rattle.core_loop.specs.Keeping.{IsHome, IsOther}
+
+-- Event's case leads from this state of core 0's history to one in which core 0 stands
+pub record Leads0 (others budget : ℕ) (core : First) (before : Core0) (s : Stamped) (m : Option Stamping) (out : Outgoing) : Type 0 where
+  pub after : Core0
+  pub stands : IsHome others core s.stamp after
+  pub step : Step0 others budget before s.stamp s.done.event m after s.done.answer out
+
+-- core 0, with so many others, does one event
+pub record Acts0 (others clock : ℕ) (old new : ℕ → LinkView) (core core' : First) (s : Stamped) : Type 0 where
+  pub m : Option Stamping
+  pub out : Outgoing
+  pub leads : (before : Core0) → IsHome others core clock before → Leads0 others core.replica.budget core' before s m out
+  pub carries : Carries0 others s m out old new
+  pub same_budget : core'.replica.budget ≡ core.replica.budget
+
+-- the same of the core with this entry
+pub record LeadsOther (entry budget : ℕ) (core : OtherCore) (before : Other) (s : Stamped) (m : Option Stamping) : Type 0 where
+  pub after : Other
+  pub stands : IsOther core s.stamp after
+  pub step : StepOther entry budget before s.stamp s.done.event m after s.done.answer
+
+pub record ActsOther (entry clock : ℕ) (old new : ℕ → LinkView) (core core' : OtherCore) (s : Stamped) : Type 0 where
+  pub m : Option Stamping
+  pub leads : (before : Other) → IsOther core clock before → LeadsOther entry core.replica.budget core' before s m
+  pub carries : CarriesOther s m old new
+  pub same_budget : core'.replica.budget ≡ core.replica.budget
+
+-- a core of this number does one event
+abbrev pub Acts : ℕ → ℕ → ℕ → (ℕ → LinkView) → (ℕ → LinkView) → Part → Part → Stamped → Type 0
+Acts number cores clock old new (part.First core) (part.First core') s = Acts0 (cores - 1) clock old new core core' s
+Acts number cores clock old new (part.Other core) (part.Other core') s = (entry : ℕ) × (number ≡ suc entry) × ActsOther entry clock old new core core' s
+Acts number cores clock old new x y s = ⊥
+
+-- why core 0 doesn't take a message of this core now
+abbrev pub CannotTake0 : ℕ → ℕ → ℕ → First → Stamping → (ℕ → LinkView) → Refusal → Type 0
+CannotTake0 others clock from core m view refusal.NotReady = (core' : First) (told : Told) → TakesUp core from m.message core' told → CanCarry others (outgoing told.step (core0_place core')) view → ⊥
+CannotTake0 others clock from core m view refusal.Spent = 18446744073709551615 ≤ max clock m.stamp
+CannotTake0 others clock from core m view refusal.NoMemory = Unit {0}
+CannotTake0 others clock from core m view refusal.Stranger = (entry : ℕ) → from ≡ suc entry → Expects (core0_place core) core.coordinator.requests entry m.message → ⊥
+
+-- why core 0, which is idle and whose links take messages, doesn't start a request now
+abbrev pub CannotStart0 : ℕ → First → Refusal → Type 0
+CannotStart0 clock core refusal.NotReady = ⊥
+CannotStart0 clock core refusal.Spent = (core.coordinator.last ≡ 18446744073709551615) ⊎ (18446744073709551615 ≤ clock)
+CannotStart0 clock core refusal.NoMemory = Unit {0}
+CannotStart0 clock core refusal.Stranger = ⊥
+
+-- why another core doesn't take a message of core 0 now
+abbrev pub CannotTakeOther : ℕ → OtherCore → Stamping → (ℕ → LinkView) → Refusal → Type 0
+CannotTakeOther clock core m view refusal.NotReady = (view 0).ready ≡ false
+CannotTakeOther clock core m view refusal.Spent = 18446744073709551615 ≤ max clock m.stamp
+CannotTakeOther clock core m view refusal.NoMemory = Unit {0}
+CannotTakeOther clock core m view refusal.Stranger = AwaitsHere core m.message → ⊥
+
+-- why it, with nothing outstanding and a link that takes messages, doesn't submit a request now
+abbrev pub CannotSubmit : ℕ → Refusal → Type 0
+CannotSubmit clock refusal.NotReady = ⊥
+CannotSubmit clock refusal.Spent = 18446744073709551615 ≤ clock
+CannotSubmit clock refusal.NoMemory = Unit {0}
+CannotSubmit clock refusal.Stranger = ⊥

@@ -1,0 +1,12 @@
+pub mod Coded
+pub mod Standing
+pub mod Carrying
+pub mod Sending
+pub mod Keeping
+pub mod Events
+pub mod Outcomes
+pub mod Beginning
+pub mod Taking
+pub mod Turning
+pub mod Receipts
+pub mod Cores

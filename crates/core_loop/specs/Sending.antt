@@ -1,0 +1,45 @@
+-- Messages that are made ready to be sent.
+use Rattle.std.specs.Prelude.{◌≡◌, ◌<◌, ◌≤◌, ℕ, max, true, false, All, Option, None, Some, length, Vec}
+use Rattle.std.specs.Global.{Global}
+use Rattle.monitor_messages.specs.declared.message.Message.{Message}
+use Rattle.monitor_messages.specs.Coding.{Coded}
+use Rattle.world_model.specs.Cases.{Outgoing, nothing, to_all, to_one}
+use Rattle.core_links.specs.Views.{LinkView}
+use Rattle.core_loop.specs.declared.refusal.Refusal.{Refusal}
+use Rattle.core_loop.specs.declared.refusal.Refusal.TheVariants as refusal
+use Rattle.core_loop.specs.declared.sending.Ready.{Ready}
+use Rattle.core_loop.specs.declared.sending.Ready.TheVariants as ready
+
+-- these bytes can be sent over a link
+abbrev pub CanBeHanded : Vec ℕ Global → Type 0
+CanBeHanded piece = (1 ≤ length piece.items) × (length piece.items ≤ 32832)
+
+-- they stand for this message under this stamp
+abbrev pub IsPiece : ℕ → Message → Vec ℕ Global → Type 0
+IsPiece stamp m piece = Coded piece.items stamp m
+
+abbrev pub CanBeSent : Ready → Type 0
+CanBeSent ready.Nothing = Unit {0}
+CanBeSent (ready.ToAll pieces) = All CanBeHanded pieces.items
+CanBeSent (ready.ToOne entry piece) = CanBeHanded piece
+
+-- what is ready stands for what core 0, with so many others, sends
+abbrev pub IsMade : ℕ → ℕ → Outgoing → Ready → Type 0
+IsMade others stamp nothing ready.Nothing = Unit {0}
+IsMade others stamp (to_all m) (ready.ToAll pieces) = All (IsPiece stamp m) pieces.items × (length pieces.items ≡ others)
+IsMade others stamp (to_one entry m) ready.Nothing = others ≤ entry
+IsMade others stamp (to_one entry m) (ready.ToOne entry' piece) = (entry' ≡ entry) × (entry < others) × IsPiece stamp m piece
+IsMade others stamp out r = ⊥
+
+-- a reply of another core is ready for its link to core 0
+abbrev pub IsReplyReady : ℕ → Option Message → Option (Vec ℕ Global) → LinkView → Type 0
+IsReplyReady stamp None None v = Unit {0}
+IsReplyReady stamp (Some m) (Some piece) v = CanBeHanded piece × IsPiece stamp m piece × (v.ready ≡ true)
+IsReplyReady stamp reply piece v = ⊥
+
+-- why it isn't made ready
+abbrev pub CannotReply : ℕ → ℕ → LinkView → Refusal → Type 0
+CannotReply clock sent v refusal.NotReady = v.ready ≡ false
+CannotReply clock sent v refusal.Spent = 18446744073709551615 ≤ max clock sent
+CannotReply clock sent v refusal.NoMemory = Unit {0}
+CannotReply clock sent v refusal.Stranger = ⊥

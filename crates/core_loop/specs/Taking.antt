@@ -1,0 +1,35 @@
+-- What a core does with a message that it doesn't take.
+use Rattle.std.specs.Prelude.{◌≡◌, ◌≤◌, ◌-◌, ℕ, max, List, Some}
+use Rattle.monitor_messages.specs.declared.message.Message.{Message}
+use Rattle.monitor_messages.specs.Coding.{Coded}
+use Rattle.world_histories.specs.Histories.{Stamping}
+use Rattle.core_links.specs.Views.{LinkView, first_of}
+use Rattle.core_steps.specs.OtherCoreSteps.{AwaitsHere}
+use Rattle.core_loop.specs.declared.part.Part.{Part}
+use Rattle.core_loop.specs.declared.part.Part.TheVariants as part
+use Rattle.core_loop.specs.declared.cause.Cause.{Cause}
+use Rattle.core_loop.specs.declared.cause.Cause.TheVariants as cause
+use Rattle.core_loop.specs.declared.refusal.Refusal.{Refusal}
+use Rattle.core_loop.specs.declared.refusal.Refusal.TheVariants as refusal
+use Rattle.core_loop.specs.declared.refusal.Halt.{Halt}
+use Rattle.core_loop.specs.declared.refusal.Halt.TheVariants as halt
+use Rattle.core_loop.specs.Carrying.{IsFirst}
+use Rattle.core_loop.specs.Events.{CannotTake0, CannotTakeOther}
+
+-- why a core doesn't take this message of a peer now
+abbrev pub CannotTake : ℕ → ℕ → ℕ → Part → Stamping → (ℕ → LinkView) → Refusal → Type 0
+CannotTake cores clock peer (part.First core) m view r = CannotTake0 (cores - 1) clock peer core m view r
+CannotTake cores clock peer (part.Other core) m view refusal.Stranger = peer ≡ 0 → AwaitsHere core m.message → ⊥
+CannotTake cores clock peer (part.Other core) m view r = CannotTakeOther clock core m view r
+
+-- why a core stops at a peer: its link has stopped so, or its first message is none that is coded, or one that fits no phase
+abbrev pub StopsAt : ℕ → ℕ → ℕ → Part → (ℕ → LinkView) → Cause → Type 0
+StopsAt cores clock peer x view (cause.Line fault) = (view peer).stopped ≡ Some fault
+StopsAt cores clock peer x view cause.BadMessage = (bytes : List ℕ) × (first_of (view peer).kept ≡ Some bytes) × ((stamp : ℕ) (m : Message) → Coded bytes stamp m → ⊥)
+StopsAt cores clock peer x view cause.Stranger = (m : Stamping) × IsFirst (view peer) m × CannotTake cores clock peer x m view refusal.Stranger
+
+-- why a core that looks at a peer's first message can't go on now
+abbrev pub TakeHalts : ℕ → ℕ → ℕ → Part → (ℕ → LinkView) → Halt → Type 0
+TakeHalts cores clock peer x view halt.Spent = (m : Stamping) × IsFirst (view peer) m × (18446744073709551615 ≤ max clock m.stamp)
+TakeHalts cores clock peer x view halt.NoMemory = Unit {0}
+TakeHalts cores clock peer x view (halt.Stopped cause) = StopsAt cores clock peer x view cause

@@ -1,0 +1,263 @@
+//! The events of core 0.
+
+ghost use Rattle.std.specs.Prelude.{◌≡◌, ◌≢◌, ◌≤◌, ◌<◌, ◌∷◌, ◌++◌, [], ℕ, suc, true, false, Some, IfOk, IfErr, IfSome, IfNone, OnErr, OnOk, slice_get};
+ghost use Rattle.table_replica.specs.declared.Op.{Op as GhostOp};
+ghost use Rattle.monitor_2pc.specs.Coordinators.{Idle};
+ghost use Rattle.monitor_2pc.specs.Starting.{WasStaged};
+ghost use Rattle.core_steps.specs.Core0Steps.{BetweenSteps, CanBegin, HasWaiting, start_sends, start_for_sends};
+ghost use Rattle.world_model.specs.declared.event.Event.TheVariants.{Start, StartFor, Take};
+ghost use Rattle.core_loop.specs.Carrying.{IsFirst};
+ghost use Rattle.core_loop.specs.Sending.{CanBeSent, IsMade};
+ghost use Rattle.core_loop.specs.Events.{Acts0, CannotTake0, CannotStart0};
+ghost use Rattle.core_loop.specs.Outcomes.{OnEvent, OnNone, OnIdle};
+ghost use Rattle.core_loop.specs.Turning.{IsUnshortened};
+ghost use Rattle.core_loop.specs.Cores.{begins};
+ghost use Rattle.core_loop.specs.Receipts.{receives};
+ghost use Rattle.core_loop.specs.Beginning.{CanBegin0};
+
+use crate::refusal::{Refusal, next_stamp};
+use crate::sending::{Ready, all_ready, can_carry, make_ready, send};
+use core_links::Links;
+use core_steps::Core0;
+use monitor_messages::Message;
+use std::alloc::{AllocError, Global};
+use std::collections::VecDeque;
+use table_replica::{Op, StageFault};
+use world_histories::Stamped;
+use world_model::{Done, Event};
+
+/// Takes the first message that is kept of a peer, which this is, with its stamp. Core 0 has so many others.
+pub(crate) fn take<L: Links>(
+    core: &mut Core0,
+    links: &mut L,
+    alloc: Global,
+    others: u16,
+    clock: u64,
+    peer: u16,
+    sent: u64,
+    message: Message,
+) -> Result<Stamped, Refusal>
+    requires between { BetweenSteps core.old }
+    requires first { IsFirst (L.view links.old peer) (record { stamp = sent; message = message }) }
+    requires other { peer ≤ others }
+    ensures acts { IfOk result (Acts0 others clock (L.view links.old) (L.view links.new) core.old core.new) }
+    ensures event { IfOk result (λ s. s.done.event ≡ Take 0 peer false) }
+    ensures links { OnOk result (L.same links.old links.new) }
+    ensures between { BetweenSteps core.new }
+    ensures why { IfErr result (CannotTake0 others clock peer core.old (record { stamp = sent; message = message }) (L.view links.old)) }
+    ensures same { OnErr result ((core.new ≡ core.old) × (links.new ≡ links.old)) }
+{
+    let outgoing = core.take_sends(peer, &message);
+    if !can_carry(links, others, &outgoing) {
+        return Err(Refusal::NotReady);
+    }
+    let Some(stamp) = next_stamp(clock, sent) else {
+        return Err(Refusal::Spent);
+    };
+    let Ok(ready) = make_ready(alloc, stamp, others, &outgoing) else {
+        return Err(Refusal::NoMemory);
+    };
+    let Ok(told) = core.take(peer, message) else {
+        return Err(Refusal::Stranger);
+    };
+    let _ = links.give_up(peer);
+    send(links, others, ready);
+    let event = Event::Take {
+        to: 0,
+        from: peer,
+        short: false,
+    };
+    Ok(Stamped {
+        stamp,
+        done: Done {
+            event,
+            answer: told.answer,
+        },
+    })
+}
+
+/// Starts the first of its own requests. Core 0 is idle, and the links to its others take messages.
+pub(crate) fn start<L: Links>(
+    core: &mut Core0,
+    links: &mut L,
+    alloc: Global,
+    others: u16,
+    clock: u64,
+    requests: &mut VecDeque<Op>,
+) -> Result<Stamped, Refusal>
+    requires between { BetweenSteps core.old }
+    requires idle { core.old.coordinator.phase ≡ Idle }
+    requires some { requests.old.items ≢ [] }
+    requires ready { (entry : ℕ) → entry < others → (L.view links.old (suc entry)).ready ≡ true }
+    ensures acts { IfOk result (Acts0 others clock (L.view links.old) (L.view links.new) core.old core.new) }
+    ensures event { IfOk result (λ s. (op : GhostOp) × (s.done.event ≡ Start op) × (requests.old.items ≡ op ∷ requests.new.items)) }
+    ensures links { OnOk result (L.same links.old links.new) }
+    ensures between { BetweenSteps core.new }
+    ensures why { IfErr result (CannotStart0 clock core.old) }
+    ensures same { OnErr result ((core.new ≡ core.old) × (links.new ≡ links.old)) }
+    ensures same_requests { OnErr result (requests.new ≡ requests.old) }
+{
+    if core.coordinator.last() == u64::MAX {
+        return Err(Refusal::Spent);
+    }
+    let Some(stamp) = next_stamp(clock, 0) else {
+        return Err(Refusal::Spent);
+    };
+    let Some(op) = requests.front() else {
+        unreachable!()
+    };
+    let fault = core.stage(alloc, op);
+    let Ok(ready) = ready_start(core, alloc, others, stamp, op, fault) else {
+        core.withdraw();
+        return Err(Refusal::NoMemory);
+    };
+    let Some(op) = requests.pop_front() else {
+        unreachable!()
+    };
+    let told = core.begin(fault);
+    send(links, others, ready);
+    Ok(Stamped {
+        stamp,
+        done: Done {
+            event: Event::Start { op },
+            answer: told.answer,
+        },
+    })
+}
+
+// Makes ready what a start sends.
+fn ready_start(
+    core: &Core0,
+    alloc: Global,
+    others: u16,
+    stamp: u64,
+    op: &Op,
+    fault: Option<StageFault>,
+) -> Result<Ready, AllocError>
+    requires can { CanBegin core.now }
+    requires tried { WasStaged core.now.replica op.now fault }
+    ensures made { IfOk result (IsMade others stamp (start_sends core.now op.now fault)) }
+    ensures lengths { IfOk result CanBeSent }
+{
+    let outgoing = core.start_sends(alloc, op, fault)?;
+    make_ready(alloc, stamp, others, &outgoing)
+}
+
+/// Starts the request that a core has waiting. Core 0 is idle, and the links to its others take messages.
+pub(crate) fn start_for<L: Links>(
+    core: &mut Core0,
+    links: &mut L,
+    alloc: Global,
+    others: u16,
+    clock: u64,
+    from: u16,
+) -> Result<Stamped, Refusal>
+    requires between { BetweenSteps core.old }
+    requires idle { core.old.coordinator.phase ≡ Idle }
+    requires waits { (entry : ℕ) × (op : GhostOp) × HasWaiting core.old from entry op }
+    requires inside { from ≤ core.old.coordinator.others }
+    requires ready { (entry : ℕ) → entry < others → (L.view links.old (suc entry)).ready ≡ true }
+    ensures acts { IfOk result (Acts0 others clock (L.view links.old) (L.view links.new) core.old core.new) }
+    ensures event { IfOk result (λ s. s.done.event ≡ StartFor from) }
+    ensures links { OnOk result (L.same links.old links.new) }
+    ensures between { BetweenSteps core.new }
+    ensures why { IfErr result (CannotStart0 clock core.old) }
+    ensures same { OnErr result ((core.new ≡ core.old) × (links.new ≡ links.old)) }
+{
+    if core.coordinator.last() == u64::MAX {
+        return Err(Refusal::Spent);
+    }
+    let Some(stamp) = next_stamp(clock, 0) else {
+        return Err(Refusal::Spent);
+    };
+    let Some(fault) = core.stage_for(alloc, from) else {
+        unreachable!()
+    };
+    let Ok(ready) = ready_start_for(core, alloc, others, stamp, from, fault) else {
+        core.withdraw();
+        return Err(Refusal::NoMemory);
+    };
+    let told = core.begin_for(from, fault);
+    send(links, others, ready);
+    Ok(Stamped {
+        stamp,
+        done: Done {
+            event: Event::StartFor { core: from },
+            answer: told.answer,
+        },
+    })
+}
+
+// Makes ready what a start for a core sends.
+fn ready_start_for(
+    core: &Core0,
+    alloc: Global,
+    others: u16,
+    stamp: u64,
+    from: u16,
+    fault: Option<StageFault>,
+) -> Result<Ready, AllocError>
+    requires can { CanBegin core.now }
+    requires waits { (entry : ℕ) × (op : GhostOp) × HasWaiting core.now from entry op × WasStaged core.now.replica op fault }
+    ensures made { IfOk result (λ ready. (entry : ℕ) (op : GhostOp) → HasWaiting core.now from entry op → IsMade others stamp (start_for_sends entry core.now op fault) ready) }
+    ensures lengths { IfOk result CanBeSent }
+{
+    let outgoing = core.start_for_sends(alloc, from, fault)?;
+    make_ready(alloc, stamp, others, &outgoing)
+}
+
+/// Begins the next request, where core 0 is idle and the links to its others take messages: the request of the least core
+/// that has one waiting, else the first of its own.
+pub(crate) fn begin<L: Links>(
+    core: &mut Core0,
+    links: &mut L,
+    alloc: Global,
+    others: u16,
+    clock: u64,
+    requests: &mut VecDeque<Op>,
+) -> Result<Option<Stamped>, Refusal>
+    requires between { BetweenSteps core.old }
+    requires others { core.old.coordinator.others ≡ others }
+    ensures acts { OnEvent result (Acts0 others clock (L.view links.old) (L.view links.new) core.old core.new) }
+    ensures requests { OnEvent result (λ s. requests.old.items ≡ begins s.done.event ++ requests.new.items) }
+    ensures jobs { OnEvent result (λ s. receives s.done.event ≡ []) }
+    ensures whole { OnEvent result (λ s. IsUnshortened s.done.event) }
+    ensures links { OnEvent result (λ s. L.same links.old links.new) }
+    ensures between { BetweenSteps core.new }
+    ensures idle { OnIdle result (CanBegin0 others core.old requests.old.items (L.view links.old) → ⊥) }
+    ensures can { OnErr result (CanBegin0 others core.old requests.old.items (L.view links.old)) }
+    ensures why { IfErr result (CannotStart0 clock core.old) }
+    ensures same { OnNone result ((core.new ≡ core.old) × (links.new ≡ links.old)) }
+    ensures same_requests { OnNone result (requests.new ≡ requests.old) }
+{
+    if !core.coordinator.idle() {
+        return Ok(None);
+    }
+    if !all_ready(links, others) {
+        return Ok(None);
+    }
+    match least_waiting(core, others) {
+        Some(from) => Ok(Some(start_for(core, links, alloc, others, clock, from)?)),
+        None => {
+            if requests.is_empty() {
+                return Ok(None);
+            }
+            Ok(Some(start(core, links, alloc, others, clock, requests)?))
+        }
+    }
+}
+
+// The least of the others that has a request waiting.
+fn least_waiting(core: &Core0, others: u16) -> Option<u16>
+    ensures some { IfSome result (λ from. (entry : ℕ) × (op : GhostOp) × HasWaiting core.now from entry op) }
+    ensures inside { IfSome result (λ from. from ≤ others) }
+    ensures least { IfSome result (λ from. (entry : ℕ) (op : GhostOp) → suc entry < from → slice_get core.now.coordinator.requests.waiting entry ≡ Some (Some op) → ⊥) }
+    ensures none { IfNone result ((entry : ℕ) (op : GhostOp) → entry < others → slice_get core.now.coordinator.requests.waiting entry ≡ Some (Some op) → ⊥) }
+{
+    for entry in 0..others {
+        if let Some(_) = core.coordinator.waiting(entry + 1) {
+            return Some(entry + 1);
+        }
+    }
+    None
+}

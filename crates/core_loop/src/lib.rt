@@ -1,0 +1,23 @@
+//! One core's turn over its links.
+#![tactic(auto)]
+
+mod cause;
+mod events;
+mod first;
+mod joined;
+mod laws;
+mod other;
+mod part;
+mod receiving;
+mod refusal;
+mod running;
+mod sending;
+
+pub use cause::{Cause, Turn};
+pub use core_links::{Busy, LineFault, Links, ListLinks, RingLinks};
+pub use laws::cores_compute;
+pub use running::Core;
+pub use world_histories::Stamped;
+
+#[cfg(test)]
+mod tests;

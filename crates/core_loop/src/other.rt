@@ -1,0 +1,212 @@
+//! The events of a core other than core 0.
+
+ghost use Rattle.std.specs.Prelude.{◌≡◌, ◌≢◌, ◌≤◌, ◌<◌, ◌+◌, ◌∷◌, ◌++◌, [], max, true, false, suc, ℕ, Bool, All, Option, option_to_list, IfOk, IfErr, OnErr, OnOk};
+ghost use Rattle.table_replica.specs.declared.Op.{Op as GhostOp};
+ghost use Rattle.monitor_messages.specs.declared.message.Message.{Message as GhostMessage};
+ghost use Rattle.monitor_messages.specs.Coding.{HasShortProgram};
+ghost use Rattle.core_steps.specs.declared.other_core.OtherCore.{OtherCore as GhostCore};
+ghost use Rattle.core_steps.specs.OtherCoreSteps.{IsBetweenSteps, Considers};
+ghost use Rattle.world_model.specs.declared.event.Event.TheVariants.{Submit, Take};
+ghost use Rattle.world_histories.specs.Histories.{with_stamp};
+ghost use Rattle.core_loop.specs.Carrying.{Hands, IsFirst};
+ghost use Rattle.monitor_messages.specs.declared.message.Message.TheVariants as message;
+ghost use Rattle.core_loop.specs.Sending.{CanBeHanded, IsPiece, IsReplyReady, CannotReply};
+ghost use Rattle.core_loop.specs.Outcomes.{OnEvent, OnNone, OnIdle};
+ghost use Rattle.core_loop.specs.Turning.{IsUnshortened};
+ghost use Rattle.core_loop.specs.Cores.{begins};
+ghost use Rattle.core_loop.specs.Receipts.{receives};
+ghost use Rattle.core_loop.specs.Beginning.{CanBeginOther};
+ghost use Rattle.core_loop.specs.Events.{ActsOther, CannotTakeOther, CannotSubmit};
+
+use crate::refusal::{Refusal, next_stamp};
+use crate::sending::hand;
+use core_links::Links;
+use core_steps::OtherCore;
+use monitor_messages::{Message, encode};
+use std::alloc::{AllocError, Global};
+use std::collections::VecDeque;
+use table_replica::Op;
+use world_histories::Stamped;
+use world_model::{Done, Event};
+
+/// The reply to a message, or none, as bytes under the stamp of the event.
+#[derive(Drop)]
+pub(crate) struct Reply {
+    pub(crate) stamp: u64,
+    pub(crate) piece: Option<Vec<u8>>,
+}
+
+/// Takes the first message that is kept of core 0, which this is, with its stamp.
+pub(crate) fn take<L: Links>(
+    core: &mut OtherCore,
+    links: &mut L,
+    alloc: Global,
+    number: u16,
+    clock: u64,
+    sent: u64,
+    message: Message,
+) -> Result<Stamped, Refusal>
+    requires between { IsBetweenSteps core.old }
+    requires first { IsFirst (L.view links.old 0) (record { stamp = sent; message = message }) }
+    ensures acts { IfOk result (λ s. (entry : ℕ) → number ≡ suc entry → ActsOther entry clock (L.view links.old) (L.view links.new) core.old core.new s) }
+    ensures event { IfOk result (λ s. s.done.event ≡ Take number 0 false) }
+    ensures links { OnOk result (L.same links.old links.new) }
+    ensures between { IsBetweenSteps core.new }
+    ensures why { IfErr result (CannotTakeOther clock core.old (record { stamp = sent; message = message }) (L.view links.old)) }
+    ensures same { OnErr result ((core.new ≡ core.old) × (links.new ≡ links.old)) }
+{
+    let Ok(reply) = core.consider(alloc, &message, false) else {
+        return Err(Refusal::Stranger);
+    };
+    match ready_reply(links, alloc, clock, sent, &reply) {
+        Err(refusal) => {
+            core.withdraw(&message);
+            Err(refusal)
+        }
+        Ok(ready) => {
+            let answer = core.take(&message, &reply);
+            let _ = links.give_up(0);
+            send_reply(links, ready.piece);
+            let event = Event::Take {
+                to: number,
+                from: 0,
+                short: false,
+            };
+            Ok(Stamped {
+                stamp: ready.stamp,
+                done: Done { event, answer },
+            })
+        }
+    }
+}
+
+// Makes a reply ready, which nothing is or the link to core 0 takes.
+fn ready_reply<L: Links>(
+    links: &L,
+    alloc: Global,
+    clock: u64,
+    sent: u64,
+    reply: &Option<Message>,
+) -> Result<Reply, Refusal>
+    requires { (short : Bool) × (before : GhostCore) × (m : GhostMessage) × (after : GhostCore) × Considers short before m reply.now after }
+    ensures stamp { IfOk result (λ ready. ready.stamp ≡ max clock sent + 1) }
+    ensures ready { IfOk result (λ ready. IsReplyReady ready.stamp reply.now ready.piece (L.view links.now 0)) }
+    ensures why { IfErr result (CannotReply clock sent (L.view links.now 0)) }
+{
+    if let Some(_) = reply
+        && !links.ready(0)
+    {
+        return Err(Refusal::NotReady);
+    }
+    let Some(stamp) = next_stamp(clock, sent) else {
+        return Err(Refusal::Spent);
+    };
+    match reply {
+        None => Ok(Reply { stamp, piece: None }),
+        Some(message) => match encode(alloc, stamp, message) {
+            Err(_) => Err(Refusal::NoMemory),
+            Ok(piece) => Ok(Reply {
+                stamp,
+                piece: Some(piece),
+            }),
+        },
+    }
+}
+
+fn send_reply<L: Links>(links: &mut L, piece: Option<Vec<u8>>)
+    requires { (stamp : ℕ) × (reply : Option GhostMessage) × IsReplyReady stamp reply piece (L.view links.old 0) }
+    ensures links { L.same links.old links.new }
+    ensures there { (stamp : ℕ) (reply : Option GhostMessage) → IsReplyReady stamp reply piece (L.view links.old 0) → Hands (L.view links.old 0) (L.view links.new 0) (with_stamp stamp (option_to_list reply)) }
+    ensures elsewhere { (p : ℕ) → p ≢ 0 → L.view links.new p ≡ L.view links.old p }
+{
+    if let Some(piece) = piece {
+        hand(links, 0, piece);
+    }
+}
+
+/// Submits the first of its requests. Nothing is outstanding, and the link to core 0 takes a message.
+pub(crate) fn submit<L: Links>(
+    core: &mut OtherCore,
+    links: &mut L,
+    alloc: Global,
+    number: u16,
+    clock: u64,
+    requests: &mut VecDeque<Op>,
+) -> Result<Stamped, Refusal>
+    requires between { IsBetweenSteps core.old }
+    requires free { core.old.participant.outstanding ≡ false }
+    requires some { requests.old.items ≢ [] }
+    requires short { All HasShortProgram requests.old.items }
+    requires ready { (L.view links.old 0).ready ≡ true }
+    ensures acts { IfOk result (λ s. (entry : ℕ) → number ≡ suc entry → ActsOther entry clock (L.view links.old) (L.view links.new) core.old core.new s) }
+    ensures event { IfOk result (λ s. (op : GhostOp) × (s.done.event ≡ Submit number op) × (requests.old.items ≡ op ∷ requests.new.items)) }
+    ensures links { OnOk result (L.same links.old links.new) }
+    ensures between { IsBetweenSteps core.new }
+    ensures why { IfErr result (CannotSubmit clock) }
+    ensures same { OnErr result ((core.new ≡ core.old) × (links.new ≡ links.old)) }
+    ensures same_requests { OnErr result (requests.new ≡ requests.old) }
+{
+    let Some(stamp) = next_stamp(clock, 0) else {
+        return Err(Refusal::Spent);
+    };
+    let Some(op) = requests.front() else {
+        unreachable!()
+    };
+    let Ok(piece) = submission(alloc, stamp, op) else {
+        return Err(Refusal::NoMemory);
+    };
+    let Some(op) = requests.pop_front() else {
+        unreachable!()
+    };
+    let answer = core.submit();
+    hand(links, 0, piece);
+    let event = Event::Submit { core: number, op };
+    Ok(Stamped {
+        stamp,
+        done: Done { event, answer },
+    })
+}
+
+// The bytes of a submission.
+fn submission(alloc: Global, stamp: u64, op: &Op) -> Result<Vec<u8>, AllocError>
+    requires { HasShortProgram op.now }
+    ensures { IfOk result (λ piece. CanBeHanded piece × IsPiece stamp (message.Submit op.now) piece) }
+{
+    let op = op.copy(alloc)?;
+    encode(alloc, stamp, &Message::Submit { op })
+}
+
+/// Submits the next request, where nothing is outstanding and the link to core 0 takes a message.
+pub(crate) fn begin<L: Links>(
+    core: &mut OtherCore,
+    links: &mut L,
+    alloc: Global,
+    number: u16,
+    clock: u64,
+    requests: &mut VecDeque<Op>,
+) -> Result<Option<Stamped>, Refusal>
+    requires between { IsBetweenSteps core.old }
+    requires short { All HasShortProgram requests.old.items }
+    ensures acts { OnEvent result (λ s. (entry : ℕ) → number ≡ suc entry → ActsOther entry clock (L.view links.old) (L.view links.new) core.old core.new s) }
+    ensures requests { OnEvent result (λ s. requests.old.items ≡ begins s.done.event ++ requests.new.items) }
+    ensures jobs { OnEvent result (λ s. receives s.done.event ≡ []) }
+    ensures whole { OnEvent result (λ s. IsUnshortened s.done.event) }
+    ensures links { OnEvent result (λ s. L.same links.old links.new) }
+    ensures between { IsBetweenSteps core.new }
+    ensures idle { OnIdle result (CanBeginOther core.old requests.old.items (L.view links.old) → ⊥) }
+    ensures can { OnErr result (CanBeginOther core.old requests.old.items (L.view links.old)) }
+    ensures why { IfErr result (CannotSubmit clock) }
+    ensures same { OnNone result ((core.new ≡ core.old) × (links.new ≡ links.old)) }
+    ensures same_requests { OnNone result (requests.new ≡ requests.old) }
+{
+    if requests.is_empty() {
+        return Ok(None);
+    }
+    if core.participant.outstanding() {
+        return Ok(None);
+    }
+    if !links.ready(0) {
+        return Ok(None);
+    }
+    Ok(Some(submit(core, links, alloc, number, clock, requests)?))
+}

@@ -1,0 +1,48 @@
+//! A core's part in the protocol.
+
+use core_steps::{Core0, OtherCore};
+use std::alloc::{AllocError, Global};
+use table_replica::Replica;
+
+/// Core 0 coordinates; every other core takes part. Each has its replica of the table.
+#[derive(Drop)]
+pub(crate) enum Part {
+    First(Core0),
+    Other(OtherCore),
+}
+
+impl Part {
+    ghost use Rattle.std.specs.Prelude.{◌≡◌, ◌<◌, ◌≤◌, [], ℕ, IfOk};
+    ghost use Rattle.core_links.specs.Views.{LinkView};
+    ghost use Rattle.core_loop.specs.Keeping.{IsStanding, replica_of};
+    ghost use Rattle.core_loop.specs.Standing.{IsSilent};
+
+    /// The part of a core of this number, which has done nothing yet.
+    pub(crate) fn new(
+        alloc: Global,
+        budget: u32,
+        number: u16,
+        cores: u16,
+    ) -> Result<Part, AllocError>
+        requires number { number < cores }
+        requires cores { cores ≤ 8 }
+        ensures stands { IfOk result (λ part. (view : ℕ → LinkView) → ((peer : ℕ) → IsSilent (view peer)) → IsStanding part number cores 0 [] view) }
+        ensures budget { IfOk result (λ part. (replica_of part).budget ≡ budget) }
+    {
+        if number == 0 {
+            Ok(Part::First(Core0::new(alloc, budget, cores)?))
+        } else {
+            Ok(Part::Other(OtherCore::new(alloc, budget)?))
+        }
+    }
+
+    /// The core's replica.
+    pub(crate) fn replica(&self) -> &Replica
+        ensures { result.now ≡ replica_of self.now }
+    {
+        match self {
+            Part::First(core) => &core.replica,
+            Part::Other(core) => &core.replica,
+        }
+    }
+}

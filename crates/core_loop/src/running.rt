@@ -1,0 +1,211 @@
+//! One core: its links, its jobs, its part in the protocol and its history.
+
+ghost use Rattle.std.specs.Prelude.{◌≡◌, ◌<◌, ◌≤◌, ℕ};
+
+use crate::cause::{Cause, Turn};
+use crate::events::next_event;
+use crate::part::Part;
+use crate::refusal::Halt;
+use core_links::Links;
+use rx_queue::{Intake, Job, Port};
+use std::alloc::{AllocError, Global};
+use std::collections::VecDeque;
+use std::marker::Model;
+use table_replica::{Op, Replica};
+use world_histories::Stamped;
+
+/// A core with its history.
+#[derive(Drop)]
+pub struct Core<L: Links> {
+    pub(crate) alloc: Global,
+    pub(crate) number: u16,
+    pub(crate) cores: u16,
+    pub(crate) links: L,
+    pub(crate) part: Part,
+    pub(crate) clock: u64,
+    pub(crate) requests: VecDeque<Op>,
+    pub(crate) intake: Intake,
+    pub(crate) history: Vec<Stamped>,
+    pub(crate) stopped: Option<Cause>,
+}
+
+impl<L: Links> Model for Core<L> {
+    ghost use Rattle.std.specs.Prelude.{◌<◌, ◌≤◌};
+    ghost use Rattle.core_loop.specs.Cores.{CoreState, AreShort};
+    ghost use Rattle.core_loop.specs.Keeping.{IsStanding};
+
+    ghost Value = { CoreState L };
+
+    ghost view = { λ c. record { number = c.number; cores = c.cores; links = c.links; part = c.part; clock = c.clock; pending = c.requests.items; intake = c.intake; history = c.history.items; stopped = c.stopped } };
+
+    ghost invariant = { λ c. (c.number < c.cores) × (c.cores ≤ 8) × IsStanding c.part c.number c.cores c.clock c.history.items (L.view c.links) × AreShort c.number c.requests.items };
+}
+
+impl<L: Links> Core<L> {
+    ghost use Rattle.std.specs.Prelude.{◌≡◌, ◌≢◌, ◌<◌, ◌≤◌, ◌++◌, ◌∷◌, ℕ, [], length, true, Some, None, IfOk, IfSome, IfNone};
+    ghost use mathlib.Core.List.{IsPrefix};
+    ghost use Rattle.rx_queue.specs.Queue.{jobs_put, jobs_taken, AreEnds, SamePort, SameIntake};
+    ghost use Rattle.rx_queue.specs.declared.job.Job.{Job as GhostJob};
+    ghost use Rattle.core_loop.specs.declared.cause.Cause.{Cause as GhostCause};
+    ghost use Rattle.core_loop.specs.declared.cause.Turn.TheVariants.{Did, Idle, Stopped, Spent};
+    ghost use Rattle.core_loop.specs.Cores.{Stands, AreShort, SameCore, NothingDone, DidOne, CanReceive, begun};
+    ghost use Rattle.core_loop.specs.Beginning.{CanBeginNext};
+    ghost use Rattle.core_loop.specs.Taking.{StopsAt};
+    ghost use Rattle.core_loop.specs.Turning.{IsSpent};
+    ghost use Rattle.core_loop.specs.Keeping.{replica_of};
+    ghost use Rattle.core_loop.specs.Standing.{IsSilent};
+
+    /// A core that has done nothing yet. Nothing was sent or taken over its links, and no job was taken. Requests of a core
+    /// other than 0 have programs of at most 4,096 instructions.
+    pub fn new(
+        alloc: Global,
+        links: L,
+        budget: u32,
+        number: u16,
+        cores: u16,
+        requests: VecDeque<Op>,
+        intake: Intake,
+    ) -> Result<Core<L>, AllocError>
+        requires number { number < cores }
+        requires cores { cores ≤ 8 }
+        requires short { AreShort number requests.items }
+        requires silent { (peer : ℕ) → IsSilent (L.view links peer) }
+        requires intake { jobs_taken intake ≡ [] }
+        ensures place { IfOk result (λ core. (core.number ≡ number) × (core.cores ≡ cores) × ((replica_of core.part).budget ≡ budget)) }
+        ensures parts { IfOk result (λ core. (core.links ≡ links) × (core.intake ≡ intake)) }
+        ensures history { IfOk result (λ core. core.history ≡ []) }
+        ensures running { IfOk result (λ core. core.stopped ≡ None) }
+        ensures requests { IfOk result (λ core. core.pending ≡ requests.items) }
+    {
+        let part = Part::new(alloc, budget, number, cores)?;
+        Ok(Core {
+            alloc,
+            number,
+            cores,
+            links,
+            part,
+            clock: 0,
+            requests,
+            intake,
+            history: Vec::new(alloc),
+            stopped: None,
+        })
+    }
+
+    /// What the core did, in order.
+    pub fn history(&self) -> &[Stamped]
+        ensures history { result.now ≡ self.now.history }
+        ensures stands { Stands L.view self.now }
+    {
+        self.history.as_slice()
+    }
+
+    /// What the core did, in order.
+    pub fn into_history(self) -> Vec<Stamped>
+        ensures history { result.items ≡ self.history }
+        ensures stands { Stands L.view self }
+    {
+        let Core {
+            alloc: _,
+            number: _,
+            cores: _,
+            links,
+            part,
+            clock: _,
+            requests,
+            intake,
+            history,
+            stopped: _,
+        } = self;
+        drop((links, part, requests, intake));
+        history
+    }
+
+    /// Does one event at most, without waiting: it takes the next message of the least peer that has one, or begins the next
+    /// request, or receives the front job where `rx` is true. After `Stopped` every turn answers the same.
+    pub fn turn(&mut self, rx: bool) -> Turn
+        ensures core { SameCore L.same self.old self.new }
+        ensures requests { begun self.new.history ++ self.new.pending ≡ begun self.old.history ++ self.old.pending }
+        ensures did { result ≡ Did → DidOne L.view self.old self.new }
+        ensures other { result ≢ Did → NothingDone L.view self.old self.new }
+        ensures stays { (cause : GhostCause) → self.old.stopped ≡ Some cause → (result ≡ Stopped cause) × (self.new ≡ self.old) }
+        ensures stopped { (cause : GhostCause) → result ≡ Stopped cause → self.new.stopped ≡ Some cause }
+        ensures running { ((cause : GhostCause) → result ≢ Stopped cause) → (self.old.stopped ≡ None) × (self.new.stopped ≡ None) }
+        ensures cause { (cause : GhostCause) → self.old.stopped ≡ None → result ≡ Stopped cause → (peer : ℕ) × StopsAt self.old.cores self.old.clock peer self.old.part (L.view self.new.links) cause }
+        ensures spent { result ≡ Spent → IsSpent self.old.cores self.old.clock self.old.part self.old.pending (L.view self.new.links) }
+        ensures idle { result ≡ Idle → CanBeginNext self.old.cores self.old.part self.old.pending (L.view self.old.links) → ⊥ }
+        ensures idle_job { result ≡ Idle → rx ≡ true → (job : GhostJob) → CanReceive self.old job → ⊥ }
+    {
+        if let Some(cause) = self.stopped {
+            return Turn::Stopped(cause);
+        }
+        if self.history.reserve(1).is_err() {
+            return Turn::NoMemory;
+        }
+        match next_event(
+            &mut self.part,
+            &mut self.links,
+            &mut self.requests,
+            &mut self.intake,
+            self.alloc,
+            self.number,
+            self.cores,
+            self.clock,
+            rx,
+        ) {
+            Ok(None) => Turn::Idle,
+            Ok(Some(stamped)) => {
+                self.clock = stamped.stamp;
+                self.history.push_reserved(stamped);
+                Turn::Did
+            }
+            Err(Halt::Spent) => Turn::Spent,
+            Err(Halt::NoMemory) => Turn::NoMemory,
+            Err(Halt::Stopped(cause)) => {
+                self.stopped = Some(cause);
+                Turn::Stopped(cause)
+            }
+        }
+    }
+
+    /// The core's number.
+    pub fn number(&self) -> u16
+        ensures { result ≡ self.now.number }
+    {
+        self.number
+    }
+
+    /// Its table.
+    pub fn replica(&self) -> &Replica
+        ensures { result.now ≡ replica_of self.now.part }
+    {
+        self.part.replica()
+    }
+
+    /// Its version of the table.
+    pub fn version(&self) -> u64
+        ensures { result ≡ (replica_of self.now.part).shown.version }
+    {
+        self.part.replica().version()
+    }
+
+    /// The number of requests that the core has not begun.
+    pub fn pending(&self) -> usize
+        ensures { result ≡ length (self.now.pending) }
+    {
+        self.requests.len()
+    }
+
+    /// The next job that was put for this core and not received.
+    pub fn unread(&mut self, port: &mut Port) -> Option<Job>
+        requires { AreEnds port.old self.old.intake }
+        ensures core { self.new ≡ record self.old { intake = self.new.intake } }
+        ensures intake { SameIntake self.old.intake self.new.intake }
+        ensures port { SamePort port.old port.new × (jobs_put port.new ≡ jobs_put port.old) }
+        ensures front { IsPrefix (jobs_taken self.new.intake) (jobs_put port.new) }
+        ensures some { IfSome result (λ job. jobs_taken self.new.intake ≡ jobs_taken self.old.intake ++ job ∷ []) }
+        ensures none { IfNone result ((jobs_taken self.new.intake ≡ jobs_taken self.old.intake) × (jobs_taken self.new.intake ≡ jobs_put port.new)) }
+    {
+        self.intake.rest(port)
+    }
+}
