@@ -44,3 +44,8 @@ CannotBegin cores clock (part.Other core) requests view r = CanBeginOther core r
 abbrev pub IsFitting : ℕ → ℕ → Part → Type 0
 IsFitting number cores (part.First core) = (number ≡ 0) × (core.coordinator.others ≡ cores - 1) × BetweenSteps core
 IsFitting number cores (part.Other core) = (entry : ℕ) × (number ≡ suc entry) × IsBetweenSteps core
+
+-- core 0 has no request under way and all its links take messages; another core has nothing outstanding
+abbrev pub HasNothingUnderWay : ℕ → Part → (ℕ → LinkView) → Type 0
+HasNothingUnderWay cores (part.First core) view = (core.coordinator.phase ≡ Idle) × ((entry : ℕ) → entry < cores - 1 → (view (suc entry)).ready ≡ true)
+HasNothingUnderWay cores (part.Other core) view = core.participant.outstanding ≡ false

@@ -6,6 +6,7 @@ use crate::cause::{Cause, Turn};
 use crate::events::next_event;
 use crate::part::Part;
 use crate::refusal::Halt;
+use crate::sending::all_ready;
 use core_links::Links;
 use rx_queue::{Intake, Job, Port};
 use std::alloc::{AllocError, Global};
@@ -42,14 +43,14 @@ impl<L: Links> Model for Core<L> {
 }
 
 impl<L: Links> Core<L> {
-    ghost use Rattle.std.specs.Prelude.{◌≡◌, ◌≢◌, ◌<◌, ◌≤◌, ◌++◌, ◌∷◌, ℕ, [], length, true, Some, None, IfOk, IfSome, IfNone};
+    ghost use Rattle.std.specs.Prelude.{◌≡◌, ◌≢◌, ◌<◌, ◌≤◌, ◌↔◌, ◌++◌, ◌∷◌, ℕ, [], length, true, Some, None, IfOk, IfSome, IfNone, IsTrue, MatchOption};
     ghost use mathlib.Core.List.{IsPrefix};
-    ghost use Rattle.rx_queue.specs.Queue.{jobs_put, jobs_taken, AreEnds, SamePort, SameIntake};
+    ghost use Rattle.rx_queue.specs.Queue.{jobs_put, jobs_seen, jobs_taken, AreEnds, SamePort, SameIntake};
     ghost use Rattle.rx_queue.specs.declared.job.Job.{Job as GhostJob};
     ghost use Rattle.core_loop.specs.declared.cause.Cause.{Cause as GhostCause};
     ghost use Rattle.core_loop.specs.declared.cause.Turn.TheVariants.{Did, Idle, Stopped, Spent};
     ghost use Rattle.core_loop.specs.Cores.{Stands, AreShort, SameCore, NothingDone, DidOne, CanReceive, begun};
-    ghost use Rattle.core_loop.specs.Beginning.{CanBeginNext};
+    ghost use Rattle.core_loop.specs.Beginning.{CanBeginNext, HasNothingUnderWay};
     ghost use Rattle.core_loop.specs.Taking.{StopsAt};
     ghost use Rattle.core_loop.specs.Turning.{IsSpent};
     ghost use Rattle.core_loop.specs.Keeping.{replica_of};
@@ -194,6 +195,34 @@ impl<L: Links> Core<L> {
         ensures { result ≡ length (self.now.pending) }
     {
         self.requests.len()
+    }
+
+    /// Whether the core has nothing under way: core 0 no request, and all its links take messages; another core no request
+    /// that core 0 has not answered.
+    pub fn idle(&self) -> bool
+        ensures { IsTrue result ↔ HasNothingUnderWay self.now.cores self.now.part (L.view self.now.links) }
+    {
+        match &self.part {
+            Part::First(core) => core.coordinator.idle() && all_ready(&self.links, self.cores - 1),
+            Part::Other(core) => !core.participant.outstanding(),
+        }
+    }
+
+    /// Looks whether a job is there, which `seen` then shows. These two are the front of the core's queue in two steps.
+    pub fn look(&mut self)
+        ensures core { self.new ≡ record self.old { intake = self.new.intake } }
+        ensures queue { SameIntake self.old.intake self.new.intake }
+        ensures taken { jobs_taken self.new.intake ≡ jobs_taken self.old.intake }
+        ensures seen { IsPrefix (jobs_seen self.old.intake) (jobs_seen self.new.intake) }
+    {
+        self.intake.look();
+    }
+
+    /// The first job that was seen and not received. It stays in the queue.
+    pub fn seen(&self) -> Option<&Job>
+        ensures { MatchOption result (jobs_seen self.now.intake ≡ []) (λ job. IsPrefix (job.now ∷ []) (jobs_seen self.now.intake)) }
+    {
+        self.intake.seen()
     }
 
     /// The next job that was put for this core and not received.
