@@ -18,16 +18,16 @@ use Rattle.core_loop.specs.declared.part.Part.{Part}
 use Rattle.core_loop.specs.declared.part.Part.TheVariants as part
 use Rattle.core_loop.specs.declared.refusal.Refusal.{Refusal}
 use Rattle.core_loop.specs.declared.refusal.Refusal.TheVariants as refusal
-use Rattle.core_loop.specs.Carrying.{Quiet, Carries0}
+use Rattle.core_loop.specs.Carrying.{Carries0}
 use Rattle.core_loop.specs.Standing.{Stands0, StandsOther}
 use Rattle.core_loop.specs.Keeping.{IsStanding, replica_of}
 use Rattle.core_loop.specs.Events.{Acts, ActsOther}
 use Rattle.core_loop.specs.Outcomes.{OnEvent, OnNone, OnIdle}
-use Rattle.core_loop.specs.Beginning.{IsFitting, CanBeginNext}
+use Rattle.core_loop.specs.Beginning.{IsFitting}
 use Rattle.core_loop.specs.Receipts.{Receives}
 use Rattle.core_loop.specs.Taking.{CannotTake}
 use Rattle.core_loop.proofs.Standings.{stands0_more, stands_other_more}
-use Rattle.core_loop.proofs.Carrying.{quiet_acts, start_carries, submit_carries}
+use Rattle.core_loop.proofs.Carrying.{start_carries, submit_carries}
 use Rattle.core_loop.proofs.Handing.{hands_none, hands_nothing}
 
 -- another core's event is one of the core with its number
@@ -44,11 +44,6 @@ pub other_acts_on : (number cores clock : ℕ) (v w : ℕ → LinkView) (p : Par
 other_acts_on number cores clock v w p x y (Ok (Some s)) e f h = other_acts number cores clock v w p x y s e f h
 other_acts_on number cores clock v w p x y (Ok None) e f h = tt
 other_acts_on number cores clock v w p x y (Err r) e f h = tt
-
-pub on_event_quiet : {E : Type 0} (number cores clock : ℕ) (u v w : ℕ → LinkView) (x x' y : Part) (r : Result (Option Stamped) E) → x' ≡ x → ((p : ℕ) → Quiet (u p) (v p)) → OnEvent r (Acts number cores clock v w x' y) → OnEvent r (Acts number cores clock u w x y)
-on_event_quiet number cores clock u v w x x' y (Ok (Some s)) e q a = subst (λ (z : Part). Acts number cores clock u w z y s) e (quiet_acts number cores clock u v w x' y s q a)
-on_event_quiet number cores clock u v w x x' y (Ok None) e q a = tt
-on_event_quiet number cores clock u v w x x' y (Err r) e q a = tt
 
 pub spent_take : (cores clock peer : ℕ) (p : Part) (m : Stamping) (view : ℕ → LinkView) → CannotTake cores clock peer p m view refusal.Spent → 18446744073709551615 ≤ max clock m.stamp
 spent_take cores clock peer (part.First x) m view h = h
@@ -124,16 +119,7 @@ receives_act number cores clock (part.Other core) s v f r = (
   },
 )
 
-pub receives_on : {E : Type 0} (number cores clock : ℕ) (x : Part) (v : ℕ → LinkView) (r : Result (Option Stamped) E) → IsFitting number cores x → OnEvent r (Receives number clock (replica_of x)) → OnEvent r (Acts number cores clock v v x x)
-receives_on number cores clock x v (Ok (Some s)) f h = receives_act number cores clock x s v f h
-receives_on number cores clock x v (Ok None) f h = tt
-receives_on number cores clock x v (Err e) f h = tt
-
 -- What can begin still can after a look
-
-pub can_begin_quiet : (cores : ℕ) (x : Part) (requests : List Op) (v w : ℕ → LinkView) → ((p : ℕ) → Quiet (v p) (w p)) → CanBeginNext cores x requests v → CanBeginNext cores x requests w
-can_begin_quiet cores (part.First core) requests v w q c = record { idle = c.idle; some = c.some; ready = λ e lt. (q (suc e)).still_ready (c.ready e lt) }
-can_begin_quiet cores (part.Other core) requests v w q c = record { some = c.some; free = c.free; ready = (q 0).still_ready c.ready }
 
 -- What comes after a look
 
@@ -142,7 +128,7 @@ on_none_map (Ok (Some s)) f h = tt
 on_none_map (Ok None) f h = f h
 on_none_map (Err x) f h = f h
 
-pub on_idle_map : {E : Type 0} {P Q : Type 0} (r : Result (Option Stamped) E) → (P → Q) → OnIdle r P → OnIdle r Q
-on_idle_map (Ok (Some s)) f h = tt
-on_idle_map (Ok None) f h = f h
-on_idle_map (Err x) f h = tt
+pub on_idle_both : {E : Type 0} {P Q R : Type 0} (r : Result (Option Stamped) E) → (P → Q → R) → OnIdle r P → OnNone r Q → OnIdle r R
+on_idle_both (Ok (Some s)) f h k = tt
+on_idle_both (Ok None) f h k = f h k
+on_idle_both (Err x) f h k = tt

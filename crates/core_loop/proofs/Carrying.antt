@@ -3,9 +3,6 @@ use Rattle.std.proofs.Common.{◌≡◌, ◌≢◌, ◌<◌, ◌⊎◌, inl, inr
 use mathlib.Core.List.{IsPrefix}
 use Rattle.std.specs.Prelude.{Vec, Result, option_to_list}
 use Rattle.ump_ring.specs.declared.fault.LineFault.{LineFault}
-use Rattle.core_loop.specs.declared.part.Part.{Part}
-use Rattle.core_loop.specs.declared.part.Part.TheVariants as part
-use Rattle.core_loop.specs.Events.{Acts}
 use Rattle.std.specs.Global.{Global}
 use Rattle.core_loop.specs.Sending.{IsReplyReady}
 use Rattle.std.proofs.lemmas.List.{append-nil}
@@ -64,6 +61,8 @@ same_quiet v w e = record {
   taken_same = ap (λ (x : LinkView). x.taken) e;
   still_kept = ([], append-nil v.kept ∙ sym (ap (λ (x : LinkView). x.kept) e));
   still_ready = λ r. ap (λ (x : LinkView). x.ready) e ∙ r;
+  told_same = ap (λ (x : LinkView). x.told) e;
+  all_shown = λ t. (ap (λ (x : LinkView). x.kept) e, ap (λ (x : LinkView). x.stopped) e);
 }
 
 -- core 0 takes a message of this core, and sends this
@@ -118,9 +117,6 @@ reply_stays stamp (Some m) (Some p) v w e r = (r.0, r.1, e ∙ r.2)
 
 -- Quiet looks
 
-pub quiet_itself : (v : LinkView) → Quiet v v
-quiet_itself v = same_quiet v v refl
-
 prefix_along : {A : Type 0} (xs ys zs : List A) → IsPrefix xs ys → IsPrefix ys zs → IsPrefix xs zs
 prefix_along xs ys zs p q = (p.0 ++ q.0, sym (append_assoc xs p.0 q.0) ∙ (ap (λ l. l ++ q.0) p.1 ∙ q.1))
 
@@ -130,50 +126,19 @@ quiet_along u v w p q = record {
   taken_same = q.taken_same ∙ p.taken_same;
   still_kept = prefix_along u.kept v.kept w.kept p.still_kept q.still_kept;
   still_ready = λ r. q.still_ready (p.still_ready r);
+  told_same = q.told_same ∙ p.told_same;
+  all_shown = λ t.
+      let a = p.all_shown t in
+      let b = q.all_shown (p.told_same ∙ t) in
+      (b.0 ∙ a.0, b.1 ∙ a.1);
 }
-
-pub quiet_carries : (u v w : LinkView) (sent taken : List Stamping) → Quiet u v → Carries v w sent taken → Carries u w sent taken
-quiet_carries u v w sent taken q c = record {
-  sends = (c.sends.0, c.sends.1 ∙ ap (λ (x : List (List ℕ)). x ++ c.sends.0) q.sent_same, c.sends.2);
-  takes = (c.takes.0, c.takes.1 ∙ ap (λ (x : List (List ℕ)). x ++ c.takes.0) q.taken_same, c.takes.2);
-  still_kept = prefix_along u.kept v.kept (c.takes.0 ++ w.kept) q.still_kept c.still_kept;
-  still_ready = λ n r. c.still_ready n (q.still_ready r);
-}
-
-pub quiet_acts : (number cores clock : ℕ) (u v w : ℕ → LinkView) (x y : Part) (s : Stamped) → ((p : ℕ) → Quiet (u p) (v p)) → Acts number cores clock v w x y s → Acts number cores clock u w x y s
-quiet_acts number cores clock u v w (part.First x) (part.First y) s q a = record {
-  m = a.m;
-  out = a.out;
-  leads = a.leads;
-  carries = record {
-    to_others = λ e lt. quiet_carries _ _ _ _ _ (q (suc e)) (a.carries.to_others e lt);
-    itself = quiet_along _ _ _ (q 0) a.carries.itself;
-    beyond = λ e le. quiet_along _ _ _ (q (suc e)) (a.carries.beyond e le);
-  };
-  same_budget = a.same_budget;
-}
-quiet_acts number cores clock u v w (part.First x) (part.Other y) s q a = absurd a
-quiet_acts number cores clock u v w (part.Other x) (part.First y) s q a = absurd a
-quiet_acts number cores clock u v w (part.Other x) (part.Other y) s q a = (
-  a.0,
-  a.1,
-  record {
-    m = a.2.m;
-    leads = a.2.leads;
-    carries = record {
-      to_first = quiet_carries _ _ _ _ _ (q 0) a.2.carries.to_first;
-      elsewhere = λ p. quiet_along _ _ _ (q (suc p)) (a.2.carries.elsewhere p);
-    };
-    same_budget = a.2.same_budget;
-  },
-)
 
 pub pulled_quiet : (peer : ℕ) (old new : ℕ → LinkView) (r : Result (Unit {0}) LineFault) → Pulled (old peer) (new peer) r → ((p : ℕ) → p ≢ peer → new p ≡ old p) → (p : ℕ) → Quiet (old p) (new p)
 pulled_quiet peer old new r here same p = by_place (same_or_not p peer)
   where
     by_place : ((p ≡ peer) ⊎ (p ≡ peer → ⊥)) → Quiet (old p) (new p)
-    by_place (inl e) = subst (λ (n : ℕ). Quiet (old n) (new n)) (sym e) (record { sent_same = here.arrived.sent; taken_same = here.taken; still_kept = here.arrived.kept; still_ready = here.arrived.ready })
+    by_place (inl e) = subst (λ (n : ℕ). Quiet (old n) (new n)) (sym e) (record { sent_same = here.arrived.sent; taken_same = here.taken; still_kept = here.arrived.kept; still_ready = here.arrived.ready; told_same = here.arrived.told; all_shown = here.arrived.all })
     by_place (inr ne) = same_quiet (old p) (new p) (same p ne)
 
 pub pumped_quiet : (v w : LinkView) → Pumped v w → Quiet v w
-pumped_quiet v w p = record { sent_same = p.sent; taken_same = p.taken; still_kept = ([], append-nil v.kept ∙ sym p.kept); still_ready = p.ready }
+pumped_quiet v w p = record { sent_same = p.sent; taken_same = p.taken; still_kept = ([], append-nil v.kept ∙ sym p.kept); still_ready = p.ready; told_same = p.told; all_shown = λ t. (p.kept, p.stopped) }

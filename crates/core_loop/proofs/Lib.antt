@@ -6,3 +6,4 @@ pub mod Steps
 pub mod Carrying
 pub mod Acting
 pub mod Resting
+pub mod Order

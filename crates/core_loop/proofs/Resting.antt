@@ -1,11 +1,16 @@
 -- A core whose turn did one event, or none.
-use Rattle.std.proofs.Common.{◌≡◌, ◌∙◌, ℕ, zero, suc, All, List, [], ◌∷◌, ◌++◌, sym, ap, subst, arith, append_assoc}
+use Rattle.std.proofs.Common.{◌≡◌, ◌≢◌, ◌⊎◌, inl, inr, ◌∙◌, ℕ, zero, suc, All, List, [], ◌∷◌, ◌++◌, sym, ap, subst, arith, append_assoc}
 use Rattle.std.proofs.lemmas.List.{append-nil}
 use Rattle.table_replica.specs.declared.Op.{Op}
 use Rattle.monitor_messages.specs.Coding.{HasShortProgram}
 use Rattle.world_histories.specs.declared.history.Stamped.{Stamped}
 use Rattle.world_histories.specs.Histories.{Stamping}
-use Rattle.core_links.specs.Views.{LinkView}
+use Rattle.std.specs.Prelude.{Result, Ok, Err, OnOk, IfErr}
+use Rattle.ump_ring.specs.declared.sender.Busy.{Busy}
+use Rattle.world_model.proofs.Lists.{same_or_not}
+use Rattle.core_links.specs.Views.{LinkView, AtPeer}
+use Rattle.core_links.specs.declared.list_links.ListLinks.{ListLinks}
+use Rattle.core_links.specs.ListSlots.{list_view, SameLists, GivesMessage}
 use Rattle.core_loop.specs.declared.part.Part.{Part}
 use Rattle.core_loop.specs.declared.part.Part.TheVariants as part
 use Rattle.core_loop.specs.Coded.{AreCoded}
@@ -18,12 +23,16 @@ use Rattle.core_loop.specs.Beginning.{IsFitting}
 coded_as : (xs ys : List (List ℕ)) (ms : List Stamping) → ys ≡ xs → AreCoded xs ms → AreCoded ys ms
 coded_as xs ys ms e a = subst (λ (l : List (List ℕ)). AreCoded l ms) (sym e) a
 
-still_silent : (v w : LinkView) → Quiet v w → IsSilent v → IsSilent w
-still_silent v w q s = (q.sent_same ∙ s.0, q.taken_same ∙ s.1)
+-- nothing more was sent or taken over the links
+abbrev pub SameTraffic : (ℕ → LinkView) → (ℕ → LinkView) → Type 0
+SameTraffic v w = (p : ℕ) → ((w p).sent ≡ (v p).sent) × ((w p).taken ≡ (v p).taken)
 
--- a look leaves it where it stands
-pub stands_quiet : (x : Part) (number cores clock : ℕ) (h : List Stamped) (v w : ℕ → LinkView) → IsStanding x number cores clock h v → ((p : ℕ) → Quiet (v p) (w p)) → IsStanding x number cores clock h w
-stands_quiet (part.First core) number cores clock h v w st q = (
+still_silent : (v w : ℕ → LinkView) (p : ℕ) → SameTraffic v w → IsSilent (v p) → IsSilent (w p)
+still_silent v w p q s = ((q p).0 ∙ s.0, (q p).1 ∙ s.1)
+
+-- then the core stands where it stood
+pub stands_same : (x : Part) (number cores clock : ℕ) (h : List Stamped) (v w : ℕ → LinkView) → IsStanding x number cores clock h v → SameTraffic v w → IsStanding x number cores clock h w
+stands_same (part.First core) number cores clock h v w st q = (
   st.0,
   st.1,
   st.2,
@@ -31,13 +40,13 @@ stands_quiet (part.First core) number cores clock h v w st q = (
     sent = st.3.sent;
     taken = st.3.taken;
     is_history = st.3.is_history;
-    has_sent = λ e lt. coded_as _ _ _ (q (suc e)).sent_same (st.3.has_sent e lt);
-    has_taken = λ e lt. coded_as _ _ _ (q (suc e)).taken_same (st.3.has_taken e lt);
-    itself = still_silent (v 0) (w 0) (q 0) st.3.itself;
-    beyond = λ e le. still_silent (v (suc e)) (w (suc e)) (q (suc e)) (st.3.beyond e le);
+    has_sent = λ e lt. coded_as _ _ _ (q (suc e)).0 (st.3.has_sent e lt);
+    has_taken = λ e lt. coded_as _ _ _ (q (suc e)).1 (st.3.has_taken e lt);
+    itself = still_silent v w 0 q st.3.itself;
+    beyond = λ e le. still_silent v w (suc e) q (st.3.beyond e le);
   },
 )
-stands_quiet (part.Other core) number cores clock h v w st q = (
+stands_same (part.Other core) number cores clock h v w st q = (
   st.0,
   st.1,
   st.2,
@@ -45,11 +54,29 @@ stands_quiet (part.Other core) number cores clock h v w st q = (
   record {
     taken = st.4.taken;
     is_history = st.4.is_history;
-    has_sent = coded_as _ _ _ (q 0).sent_same st.4.has_sent;
-    has_taken = coded_as _ _ _ (q 0).taken_same st.4.has_taken;
-    elsewhere = λ p. still_silent (v (suc p)) (w (suc p)) (q (suc p)) (st.4.elsewhere p);
+    has_sent = coded_as _ _ _ (q 0).0 st.4.has_sent;
+    has_taken = coded_as _ _ _ (q 0).1 st.4.has_taken;
+    elsewhere = λ p. still_silent v w (suc p) q (st.4.elsewhere p);
   },
 )
+
+-- a look leaves it where it stands
+pub stands_quiet : (x : Part) (number cores clock : ℕ) (h : List Stamped) (v w : ℕ → LinkView) → IsStanding x number cores clock h v → ((p : ℕ) → Quiet (v p) (w p)) → IsStanding x number cores clock h w
+stands_quiet x number cores clock h v w st q = stands_same x number cores clock h v w st (λ p. ((q p).sent_same, (q p).taken_same))
+
+-- Lists that the caller carries
+
+pub given_traffic : (old new : ListLinks) (peer : ℕ) (message : List ℕ) (r : Result (Unit {0}) Busy)
+    → OnOk r (GivesMessage old new peer message) → IfErr r (λ back. AtPeer SameLists list_view peer (λ v w. w ≡ v) old new) → SameTraffic (list_view old) (list_view new)
+given_traffic old new peer message (Ok u) g s = λ p. (g.sent p, g.taken p)
+given_traffic old new peer message (Err back) g s = λ p. by_place p (same_or_not p peer)
+  where
+    by_place : (p : ℕ) → ((p ≡ peer) ⊎ (p ≡ peer → ⊥)) → ((list_view new p).sent ≡ (list_view old p).sent) × ((list_view new p).taken ≡ (list_view old p).taken)
+    by_place p (inl e) = subst (λ (n : ℕ). ((list_view new n).sent ≡ (list_view old n).sent) × ((list_view new n).taken ≡ (list_view old n).taken)) (sym e) (ap (λ (v : LinkView). v.sent) s.1, ap (λ (v : LinkView). v.taken) s.1)
+    by_place p (inr ne) = (ap (λ (v : LinkView). v.sent) (s.2 p ne), ap (λ (v : LinkView). v.taken) (s.2 p ne))
+
+pub same_traffic : (v w : ℕ → LinkView) → ((p : ℕ) → w p ≡ v p) → SameTraffic v w
+same_traffic v w e = λ p. (ap (λ (k : LinkView). k.sent) (e p), ap (λ (k : LinkView). k.taken) (e p))
 
 pub fits : (x : Part) (number cores clock : ℕ) (h : List Stamped) (v : ℕ → LinkView) → IsStanding x number cores clock h v → IsFitting number cores x
 fits (part.First core) number cores clock h v st = (st.1, st.2.others_are, st.2.between)

@@ -8,12 +8,14 @@ use Rattle.world_histories.specs.Histories.{Stamping, for_entry, with_stamp, tak
 use Rattle.monitor_messages.specs.Coding.{Coded}
 use Rattle.core_loop.specs.Standing.{Grows}
 
--- the core looked at a link: more may have come, and nothing is sent or taken
+-- the core looked at a link: more may have come, but where all was told, and nothing is sent or taken
 pub record Quiet (v w : LinkView) : Type 0 where
   pub sent_same : w.sent ≡ v.sent
   pub taken_same : w.taken ≡ v.taken
   pub still_kept : IsPrefix v.kept w.kept
   pub still_ready : v.ready ≡ true → w.ready ≡ true
+  pub told_same : w.told ≡ v.told
+  pub all_shown : v.told ≡ true → (w.kept ≡ v.kept) × (w.stopped ≡ v.stopped)
 
 -- these messages are sent over a link and these taken; what was kept is taken or kept still, and a link that nothing is sent over stays ready
 pub record Carries (v w : LinkView) (sent taken : List Stamping) : Type 0 where

@@ -1,5 +1,5 @@
 -- What contracts see of a core.
-use Rattle.std.specs.Prelude.{◌≡◌, ◌≤◌, ◌++◌, ℕ, zero, suc, All, List, Option, flat_map, [], ◌∷◌}
+use Rattle.std.specs.Prelude.{◌≡◌, ◌++◌, ℕ, zero, suc, All, List, Option, flat_map, [], ◌∷◌}
 use Rattle.table_replica.specs.declared.Op.{Op}
 use Rattle.monitor_messages.specs.Coding.{HasShortProgram}
 use Rattle.rx_queue.specs.declared.job.Job.{Job}
@@ -12,10 +12,9 @@ use Rattle.world_histories.specs.declared.history.Stamped.{Stamped}
 use Rattle.core_links.specs.Views.{LinkView}
 use Rattle.core_loop.specs.declared.part.Part.{Part}
 use Rattle.core_loop.specs.declared.cause.Cause.{Cause}
-use Rattle.core_loop.specs.Receipts.{receives}
+use Rattle.core_loop.specs.Receipts.{receives, IsReceivable}
 use Rattle.core_loop.specs.Carrying.{Quiet}
-use Rattle.core_loop.specs.Events.{Acts}
-use Rattle.core_loop.specs.Turning.{IsUnshortened}
+use Rattle.core_loop.specs.Turning.{IsUnshortened, ActsFirst}
 use Rattle.core_loop.specs.Keeping.{IsStanding, replica_of}
 
 -- a core over links of one kind
@@ -72,17 +71,17 @@ pub record NothingDone {L : Type 0} (view : L → ℕ → LinkView) (old new : C
   pub jobs : jobs_taken new.intake ≡ jobs_taken old.intake
   pub seen : IsPrefix (jobs_seen old.intake) (jobs_seen new.intake)
 
--- the turn did one event, which is the last of the history: Event's case for this core, on its replica and the next message, request or job
+-- the turn did one event, which is the last of the history: the first that could be done, by Event's case for this core, on its replica and the
+-- next message, request or job
 pub record DidOne {L : Type 0} (view : L → ℕ → LinkView) (old new : CoreState L) : Type 0 where
   pub s : Stamped
   pub history : new.history ≡ old.history ++ s ∷ []
   pub clock : new.clock ≡ s.stamp
-  pub acts : Acts old.number old.cores old.clock (view old.links) (view new.links) old.part new.part s
+  pub acts : ActsFirst old.number old.cores old.clock old.pending (view old.links) (view new.links) old.part new.part s
   pub pending : old.pending ≡ begins s.done.event ++ new.pending
   pub jobs : jobs_taken new.intake ≡ jobs_taken old.intake ++ receives s.done.event
   pub unshortened : IsUnshortened s.done.event
 
 -- the job that the queue showed can be received
-pub record CanReceive {L : Type 0} (c : CoreState L) (job : Job) : Type 0 where
-  pub first : IsPrefix (job ∷ []) (jobs_seen c.intake)
-  pub floor : job.floor ≤ (replica_of c.part).shown.version
+abbrev pub CanReceive : {L : Type 0} → CoreState L → Job → Type 0
+CanReceive c job = IsReceivable (replica_of c.part).shown.version c.intake job

@@ -1,5 +1,7 @@
 -- One event of one core: Event's case from each state of its history that it stands in, and what its links carry with it.
 use Rattle.std.specs.Prelude.{◌≡◌, ◌⊎◌, ◌≤◌, ◌-◌, ℕ, suc, max, false, Option}
+use Rattle.monitor_messages.specs.declared.message.Message.{Message}
+use Rattle.monitor_messages.specs.declared.message.Message.TheVariants as message
 use Rattle.world_model.specs.Cases.{Outgoing, outgoing}
 use Rattle.world_model.specs.Agreement.{Expects}
 use Rattle.world_histories.specs.declared.history.Stamped.{Stamped}
@@ -63,9 +65,16 @@ CannotStart0 clock core refusal.Spent = (core.coordinator.last ≡ 1844674407370
 CannotStart0 clock core refusal.NoMemory = Unit {0}
 CannotStart0 clock core refusal.Stranger = ⊥
 
+-- a message that another core answers to core 0 at once
+abbrev pub IsAnswered : Message → Type 0
+IsAnswered (message.Prepare txn op) = Unit {0}
+IsAnswered (message.Commit txn) = Unit {0}
+IsAnswered (message.Abort txn) = Unit {0}
+IsAnswered m = ⊥
+
 -- why another core doesn't take a message of core 0 now
 abbrev pub CannotTakeOther : ℕ → OtherCore → Stamping → (ℕ → LinkView) → Refusal → Type 0
-CannotTakeOther clock core m view refusal.NotReady = (view 0).ready ≡ false
+CannotTakeOther clock core m view refusal.NotReady = ((view 0).ready ≡ false) × IsAnswered m.message
 CannotTakeOther clock core m view refusal.Spent = 18446744073709551615 ≤ max clock m.stamp
 CannotTakeOther clock core m view refusal.NoMemory = Unit {0}
 CannotTakeOther clock core m view refusal.Stranger = AwaitsHere core m.message → ⊥

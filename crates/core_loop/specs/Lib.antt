@@ -7,6 +7,7 @@ pub mod Events
 pub mod Outcomes
 pub mod Beginning
 pub mod Taking
+pub mod Choosing
 pub mod Turning
 pub mod Receipts
 pub mod Cores

@@ -1,7 +1,10 @@
 -- The receipt of a packet.
 use Rattle.std.specs.Prelude.{◌≡◌, ◌+◌, ◌≤◌, ℕ, List, [], ◌∷◌}
 use Rattle.table_replica.specs.Shown.{ReplicaState}
+use mathlib.Core.List.{IsPrefix}
 use Rattle.rx_queue.specs.declared.job.Job.{Job}
+use Rattle.rx_queue.specs.declared.intake.Intake.{Intake}
+use Rattle.rx_queue.specs.Queue.{jobs_seen}
 use Rattle.world_model.specs.declared.event.Event.{Event}
 use Rattle.world_model.specs.declared.event.Event.TheVariants.{Rx}
 use Rattle.world_model.specs.Cases.{ReceivesAt}
@@ -13,6 +16,11 @@ use Rattle.core_loop.specs.declared.refusal.Refusal.TheVariants as refusal
 abbrev pub receives : Event → List Job
 receives (Rx core number packet floor) = record { number = number; packet = packet; floor = floor } ∷ []
 receives event = []
+
+-- the queue has shown the job as the next one, and its floor is at most the version
+pub record IsReceivable (version : ℕ) (intake : Intake) (job : Job) : Type 0 where
+  pub first : IsPrefix (job ∷ []) (jobs_seen intake)
+  pub floor : job.floor ≤ version
 
 -- a core of this number, with this replica, receives a job
 pub record Receives (number clock : ℕ) (replica : ReplicaState) (s : Stamped) : Type 0 where

@@ -1,5 +1,5 @@
 -- Messages that are made ready to be sent.
-use Rattle.std.specs.Prelude.{◌≡◌, ◌<◌, ◌≤◌, ℕ, max, true, false, All, Option, None, Some, length, Vec}
+use Rattle.std.specs.Prelude.{◌≡◌, ◌≢◌, ◌<◌, ◌≤◌, ℕ, max, true, false, All, Option, None, Some, length, Vec}
 use Rattle.std.specs.Global.{Global}
 use Rattle.monitor_messages.specs.declared.message.Message.{Message}
 use Rattle.monitor_messages.specs.Coding.{Coded}
@@ -38,8 +38,8 @@ IsReplyReady stamp (Some m) (Some piece) v = CanBeHanded piece × IsPiece stamp 
 IsReplyReady stamp reply piece v = ⊥
 
 -- why it isn't made ready
-abbrev pub CannotReply : ℕ → ℕ → LinkView → Refusal → Type 0
-CannotReply clock sent v refusal.NotReady = v.ready ≡ false
-CannotReply clock sent v refusal.Spent = 18446744073709551615 ≤ max clock sent
-CannotReply clock sent v refusal.NoMemory = Unit {0}
-CannotReply clock sent v refusal.Stranger = ⊥
+abbrev pub CannotReply : ℕ → ℕ → Option Message → LinkView → Refusal → Type 0
+CannotReply clock sent reply v refusal.NotReady = (reply ≢ None) × (v.ready ≡ false)
+CannotReply clock sent reply v refusal.Spent = 18446744073709551615 ≤ max clock sent
+CannotReply clock sent reply v refusal.NoMemory = Unit {0}
+CannotReply clock sent reply v refusal.Stranger = ⊥

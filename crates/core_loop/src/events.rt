@@ -1,21 +1,21 @@
 //! The next event of a core, whichever part it has.
 
-ghost use Rattle.std.specs.Prelude.{◌≡◌, ◌≤◌, ◌<◌, ◌++◌, ◌∷◌, [], ℕ, true, false, IfOk, IfErr, OnErr, OnOk};
+ghost use Rattle.std.specs.Prelude.{◌≡◌, ◌≢◌, ◌≤◌, ◌<◌, ◌++◌, [], ℕ, false, IfOk, IfErr, IfSome, IfNone, IsTrue, OnErr, OnOk};
 ghost use Rattle.world_model.specs.declared.event.Event.TheVariants.{Take};
 ghost use mathlib.Core.List.{IsPrefix};
-ghost use Rattle.rx_queue.specs.declared.job.Job.{Job as GhostJob};
 ghost use Rattle.rx_queue.specs.Queue.{jobs_seen, jobs_taken, SameIntake};
-ghost use Rattle.core_loop.specs.Keeping.{replica_of};
-ghost use Rattle.core_loop.specs.Turning.{IsUnshortened, HaltsFor};
+ghost use Rattle.core_loop.specs.Turning.{IsUnshortened, MayReceive, HaltsFor};
 ghost use Rattle.core_loop.specs.Events.{Acts};
 ghost use Rattle.core_loop.specs.Outcomes.{OnEvent, OnNone, OnIdle};
 ghost use Rattle.core_loop.specs.Cores.{begins, AreShort};
 ghost use Rattle.core_loop.specs.Receipts.{receives};
 ghost use Rattle.core_loop.specs.Beginning.{CanBeginNext, CannotBegin, IsFitting};
 ghost use Rattle.core_loop.specs.Taking.{CannotTake, TakeHalts};
-ghost use Rattle.core_loop.specs.Carrying.{IsFirst, Quiet};
+ghost use Rattle.core_loop.specs.Carrying.{IsFirst};
+ghost use Rattle.core_loop.specs.Choosing.{ShowsNothing, IsLeastShowing, IsKnownAnswered, MustWait, NoMessageNow, IsNextRequest, IsNext};
 
 use crate::cause::Cause;
+use crate::context::Context;
 use crate::part::Part;
 use crate::receiving::receive;
 use crate::refusal::{Halt, Refusal};
@@ -23,7 +23,6 @@ use crate::{first, other};
 use core_links::Links;
 use monitor_messages::{DecodeFault, Message, decode};
 use rx_queue::Intake;
-use std::alloc::Global;
 use std::collections::VecDeque;
 use table_replica::Op;
 use world_histories::Stamped;
@@ -32,25 +31,29 @@ use world_histories::Stamped;
 pub(crate) fn begin<L: Links>(
     part: &mut Part,
     links: &mut L,
-    alloc: Global,
-    number: u16,
-    cores: u16,
-    clock: u64,
     requests: &mut VecDeque<Op>,
+    context: Context,
 ) -> Result<Option<Stamped>, Refusal>
-    requires cores { 1 ≤ cores }
-    requires fits { IsFitting number cores part.old }
-    requires short { AreShort number requests.old.items }
-    ensures acts { OnEvent result (Acts number cores clock (L.view links.old) (L.view links.new) part.old part.new) }
+    requires cores { 1 ≤ context.cores }
+    requires fits { IsFitting context.number context.cores part.old }
+    requires short { AreShort context.number requests.old.items }
+    ensures acts { OnEvent result (Acts context.number context.cores context.clock (L.view links.old) (L.view links.new) part.old part.new) }
+    ensures least { OnEvent result (λ s. IsNextRequest context.cores part.old s.done.event) }
     ensures requests { OnEvent result (λ s. requests.old.items ≡ begins s.done.event ++ requests.new.items) }
     ensures jobs { OnEvent result (λ s. receives s.done.event ≡ []) }
     ensures whole { OnEvent result (λ s. IsUnshortened s.done.event) }
-    ensures links { OnEvent result (λ s. L.same links.old links.new) }
-    ensures idle { OnIdle result (CanBeginNext cores part.old requests.old.items (L.view links.old) → ⊥) }
-    ensures why { IfErr result (CannotBegin cores clock part.old requests.old.items (L.view links.old)) }
+    ensures links { OnEvent result (λ _. L.same links.old links.new) }
+    ensures idle { OnIdle result (CanBeginNext context.cores part.old requests.old.items (L.view links.old) → ⊥) }
+    ensures why { IfErr result (CannotBegin context.cores context.clock part.old requests.old.items (L.view links.old)) }
     ensures same { OnNone result ((part.new ≡ part.old) × (links.new ≡ links.old)) }
     ensures same_requests { OnNone result (requests.new ≡ requests.old) }
 {
+    let Context {
+        alloc,
+        number,
+        cores,
+        clock,
+    } = context;
     match part {
         Part::First(core) => first::begin(core, links, alloc, cores - 1, clock, requests),
         Part::Other(core) => other::begin(core, links, alloc, number, clock, requests),
@@ -61,23 +64,26 @@ pub(crate) fn begin<L: Links>(
 pub(crate) fn take<L: Links>(
     part: &mut Part,
     links: &mut L,
-    alloc: Global,
-    number: u16,
-    cores: u16,
-    clock: u64,
     peer: u16,
     sent: u64,
     message: Message,
+    context: Context,
 ) -> Result<Stamped, Refusal>
-    requires inside { peer < cores }
-    requires fits { IsFitting number cores part.old }
+    requires inside { peer < context.cores }
+    requires fits { IsFitting context.number context.cores part.old }
     requires first { IsFirst (L.view links.old peer) (record { stamp = sent; message = message }) }
-    ensures acts { IfOk result (Acts number cores clock (L.view links.old) (L.view links.new) part.old part.new) }
-    ensures event { IfOk result (λ s. s.done.event ≡ Take number peer false) }
+    ensures acts { IfOk result (Acts context.number context.cores context.clock (L.view links.old) (L.view links.new) part.old part.new) }
+    ensures event { IfOk result (λ s. s.done.event ≡ Take context.number peer false) }
     ensures links { OnOk result (L.same links.old links.new) }
-    ensures why { IfErr result (CannotTake cores clock peer part.old (record { stamp = sent; message = message }) (L.view links.old)) }
+    ensures why { IfErr result (CannotTake context.cores context.clock peer part.old (record { stamp = sent; message = message }) (L.view links.old)) }
     ensures same { OnErr result ((part.new ≡ part.old) × (links.new ≡ links.old)) }
 {
+    let Context {
+        alloc,
+        number,
+        cores,
+        clock,
+    } = context;
     match part {
         Part::First(core) => first::take(core, links, alloc, cores - 1, clock, peer, sent, message),
         Part::Other(core) => {
@@ -89,22 +95,21 @@ pub(crate) fn take<L: Links>(
     }
 }
 
-/// Takes the first message that is kept of a peer, if there is one, where the links that its answer needs take messages.
+/// Takes the first message that is kept of a peer, which has one, where the links that its answer needs take messages.
 pub(crate) fn take_kept<L: Links>(
     part: &mut Part,
     links: &mut L,
-    alloc: Global,
-    number: u16,
-    cores: u16,
-    clock: u64,
     peer: u16,
+    context: Context,
 ) -> Result<Option<Stamped>, Halt>
-    requires inside { peer < cores }
-    requires fits { IsFitting number cores part.old }
-    ensures acts { OnEvent result (Acts number cores clock (L.view links.old) (L.view links.new) part.old part.new) }
-    ensures event { OnEvent result (λ s. s.done.event ≡ Take number peer false) }
-    ensures links { OnEvent result (λ s. L.same links.old links.new) }
-    ensures why { IfErr result (TakeHalts cores clock peer part.old (L.view links.old)) }
+    requires inside { peer < context.cores }
+    requires fits { IsFitting context.number context.cores part.old }
+    requires shows { (L.view links.old peer).kept ≢ [] }
+    ensures acts { OnEvent result (Acts context.number context.cores context.clock (L.view links.old) (L.view links.new) part.old part.new) }
+    ensures event { OnEvent result (λ s. s.done.event ≡ Take context.number peer false) }
+    ensures links { OnEvent result (λ _. L.same links.old links.new) }
+    ensures waits { OnIdle result (MustWait context.cores part.old peer (L.view links.old)) }
+    ensures why { IfErr result (TakeHalts context.cores context.clock peer part.old (L.view links.old)) }
     ensures same { OnNone result ((part.new ≡ part.old) × (links.new ≡ links.old)) }
 {
     let Some(bytes) = links.shown(peer) else {
@@ -113,14 +118,12 @@ pub(crate) fn take_kept<L: Links>(
     if is_answered(part, bytes) && !links.ready(0) {
         return Ok(None);
     }
-    let (sent, message) = match decode(alloc, bytes) {
+    let (sent, message) = match decode(context.alloc, bytes) {
         Err(DecodeFault::NoMemory) => return Err(Halt::NoMemory),
         Err(DecodeFault::BadMessage) => return Err(Halt::Stopped(Cause::BadMessage)),
         Ok(found) => found,
     };
-    match take(
-        part, links, alloc, number, cores, clock, peer, sent, message,
-    ) {
+    match take(part, links, peer, sent, message, context) {
         Ok(stamped) => Ok(Some(stamped)),
         Err(Refusal::NotReady) => Ok(None),
         Err(Refusal::Spent) => Err(Halt::Spent),
@@ -129,119 +132,46 @@ pub(crate) fn take_kept<L: Links>(
     }
 }
 
-// Whether a message of this kind is answered over the link to core 0. Its first byte tells, so a message that must wait isn't
-// decoded at each turn.
-fn is_answered(part: &Part, bytes: &[u8]) -> bool {
+/// Whether a message of this kind is answered over the link to core 0. Its first byte tells, so a message that must wait
+/// isn't decoded at each turn.
+pub(crate) fn is_answered(part: &Part, bytes: &[u8]) -> bool
+    ensures { IsTrue result → IsKnownAnswered part.now bytes.now }
+{
     match part {
         Part::First(_) => false,
         Part::Other(_) => matches!(bytes.first(), Some(1 | 3 | 4)),
     }
 }
 
-/// Takes the next message of the least peer that a whole one has come from, if there is one, as `take_kept` does.
-pub(crate) fn take_next<L: Links>(
-    part: &mut Part,
-    links: &mut L,
-    alloc: Global,
-    number: u16,
-    cores: u16,
-    clock: u64,
-) -> Result<Option<Stamped>, Halt>
-    requires fits { IsFitting number cores part.old }
-    ensures acts { OnEvent result (Acts number cores clock (L.view links.old) (L.view links.new) part.old part.new) }
-    ensures event { OnEvent result (λ s. (peer : ℕ) × (s.done.event ≡ Take number peer false)) }
-    ensures links { L.same links.old links.new }
-    ensures quiet { OnNone result ((p : ℕ) → Quiet (L.view links.old p) (L.view links.new p)) }
-    ensures why { IfErr result (λ halt. (peer : ℕ) × TakeHalts cores clock peer part.old (L.view links.new) halt) }
-    ensures same { OnNone result (part.new ≡ part.old) }
-{
-    for peer in 0..cores {
-        if let Err(fault) = links.pull(peer) {
-            return Err(Halt::Stopped(Cause::Line(fault)));
-        }
-        if has_message(links, peer) {
-            return take_kept(part, links, alloc, number, cores, clock, peer);
-        }
-    }
-    Ok(None)
-}
-
-fn has_message<L: Links>(links: &L, peer: u16) -> bool {
-    links.shown(peer).is_some()
-}
-
-/// Does the next event of a core of this number, if there is one: it takes the message of the least peer that has one, begins
-/// its next request, or receives its front job where `rx` is true.
-pub(crate) fn next_event<L: Links>(
+/// Begins the next request, or receives the front job where `rx` is true: what comes where no message can be taken.
+pub(crate) fn begin_or_receive<L: Links>(
     part: &mut Part,
     links: &mut L,
     requests: &mut VecDeque<Op>,
     intake: &mut Intake,
-    alloc: Global,
-    number: u16,
-    cores: u16,
-    clock: u64,
+    context: Context,
     rx: bool,
 ) -> Result<Option<Stamped>, Halt>
-    requires cores { 1 ≤ cores }
-    requires fits { IsFitting number cores part.old }
-    requires short { AreShort number requests.old.items }
-    ensures acts { OnEvent result (Acts number cores clock (L.view links.old) (L.view links.new) part.old part.new) }
+    requires cores { 1 ≤ context.cores }
+    requires fits { IsFitting context.number context.cores part.old }
+    requires short { AreShort context.number requests.old.items }
+    requires no_message { NoMessageNow context.cores part.old (L.view links.old) }
+    ensures acts { OnEvent result (Acts context.number context.cores context.clock (L.view links.old) (L.view links.new) part.old part.new) }
+    ensures next { OnEvent result (λ s. IsNext context.cores part.old requests.old.items (L.view links.old) s.done.event) }
     ensures requests { OnEvent result (λ s. requests.old.items ≡ begins s.done.event ++ requests.new.items) }
     ensures jobs { OnEvent result (λ s. jobs_taken intake.new ≡ jobs_taken intake.old ++ receives s.done.event) }
     ensures whole { OnEvent result (λ s. IsUnshortened s.done.event) }
-    ensures links { L.same links.old links.new }
+    ensures links { OnEvent result (λ _. L.same links.old links.new) }
     ensures queue { SameIntake intake.old intake.new }
-    ensures quiet { OnNone result ((p : ℕ) → Quiet (L.view links.old p) (L.view links.new p)) }
-    ensures same { OnNone result ((part.new ≡ part.old) × (requests.new ≡ requests.old)) }
+    ensures same { OnNone result ((part.new ≡ part.old) × (links.new ≡ links.old)) }
+    ensures same_requests { OnNone result (requests.new ≡ requests.old) }
     ensures same_jobs { OnNone result (jobs_taken intake.new ≡ jobs_taken intake.old) }
     ensures seen { OnNone result (IsPrefix (jobs_seen intake.old) (jobs_seen intake.new)) }
-    ensures idle { OnIdle result (CanBeginNext cores part.old requests.old.items (L.view links.old) → ⊥) }
-    ensures idle_job { OnIdle result (rx ≡ true → (job : GhostJob) → IsPrefix (job ∷ []) (jobs_seen intake.old) → job.floor ≤ (replica_of part.old).shown.version → ⊥) }
-    ensures why { IfErr result (HaltsFor cores clock part.old requests.old.items (L.view links.new)) }
+    ensures idle { OnIdle result (CanBeginNext context.cores part.old requests.old.items (L.view links.old) → ⊥) }
+    ensures idle_job { OnIdle result (MayReceive part.old rx intake.new → ⊥) }
+    ensures why { IfErr result (HaltsFor context.cores context.clock part.old requests.old.items (L.view links.old) rx intake.new) }
 {
-    links.pump();
-    match take_next(part, links, alloc, number, cores, clock) {
-        Ok(Some(stamped)) => Ok(Some(stamped)),
-        Err(halt) => Err(halt),
-        Ok(None) => {
-            begin_or_receive(
-                part, links, requests, intake, alloc, number, cores, clock, rx,
-            )
-        }
-    }
-}
-
-// What comes where no message can be taken.
-fn begin_or_receive<L: Links>(
-    part: &mut Part,
-    links: &mut L,
-    requests: &mut VecDeque<Op>,
-    intake: &mut Intake,
-    alloc: Global,
-    number: u16,
-    cores: u16,
-    clock: u64,
-    rx: bool,
-) -> Result<Option<Stamped>, Halt>
-    requires cores { 1 ≤ cores }
-    requires fits { IsFitting number cores part.old }
-    requires short { AreShort number requests.old.items }
-    ensures acts { OnEvent result (Acts number cores clock (L.view links.old) (L.view links.new) part.old part.new) }
-    ensures requests { OnEvent result (λ s. requests.old.items ≡ begins s.done.event ++ requests.new.items) }
-    ensures jobs { OnEvent result (λ s. jobs_taken intake.new ≡ jobs_taken intake.old ++ receives s.done.event) }
-    ensures whole { OnEvent result (λ s. IsUnshortened s.done.event) }
-    ensures links { OnEvent result (λ s. L.same links.old links.new) }
-    ensures queue { SameIntake intake.old intake.new }
-    ensures same_links { OnNone result (links.new ≡ links.old) }
-    ensures same { OnNone result ((part.new ≡ part.old) × (requests.new ≡ requests.old)) }
-    ensures same_jobs { OnNone result (jobs_taken intake.new ≡ jobs_taken intake.old) }
-    ensures seen { OnNone result (IsPrefix (jobs_seen intake.old) (jobs_seen intake.new)) }
-    ensures idle { OnIdle result (CanBeginNext cores part.old requests.old.items (L.view links.old) → ⊥) }
-    ensures idle_job { OnIdle result (rx ≡ true → (job : GhostJob) → IsPrefix (job ∷ []) (jobs_seen intake.old) → job.floor ≤ (replica_of part.old).shown.version → ⊥) }
-    ensures why { IfErr result (HaltsFor cores clock part.old requests.old.items (L.view links.new)) }
-{
-    match begin(part, links, alloc, number, cores, clock, requests) {
+    match begin(part, links, requests, context) {
         Ok(Some(stamped)) => Ok(Some(stamped)),
         Err(Refusal::Spent) => Err(Halt::Spent),
         Err(_) => Err(Halt::NoMemory),
@@ -249,12 +179,53 @@ fn begin_or_receive<L: Links>(
             if !rx {
                 return Ok(None);
             }
-            match receive(part.replica(), alloc, number, clock, intake) {
+            match receive(part.replica(), intake, context) {
                 Ok(None) => Ok(None),
                 Ok(Some(stamped)) => Ok(Some(stamped)),
                 Err(Refusal::Spent) => Err(Halt::Spent),
                 Err(_) => Err(Halt::NoMemory),
             }
         }
+    }
+}
+
+/// Does the first event that can be done, by what its links show: `shown` is the least peer that shows a message.
+pub(crate) fn first_event<L: Links>(
+    part: &mut Part,
+    links: &mut L,
+    requests: &mut VecDeque<Op>,
+    intake: &mut Intake,
+    shown: Option<u16>,
+    context: Context,
+    rx: bool,
+) -> Result<Option<Stamped>, Halt>
+    requires cores { 1 ≤ context.cores }
+    requires fits { IsFitting context.number context.cores part.old }
+    requires short { AreShort context.number requests.old.items }
+    requires least { IfSome shown (IsLeastShowing context.cores (L.view links.old)) }
+    requires none { IfNone shown ((p : ℕ) → p < context.cores → ShowsNothing (L.view links.old p)) }
+    ensures acts { OnEvent result (Acts context.number context.cores context.clock (L.view links.old) (L.view links.new) part.old part.new) }
+    ensures next { OnEvent result (λ s. IsNext context.cores part.old requests.old.items (L.view links.old) s.done.event) }
+    ensures requests { OnEvent result (λ s. requests.old.items ≡ begins s.done.event ++ requests.new.items) }
+    ensures jobs { OnEvent result (λ s. jobs_taken intake.new ≡ jobs_taken intake.old ++ receives s.done.event) }
+    ensures whole { OnEvent result (λ s. IsUnshortened s.done.event) }
+    ensures links { OnEvent result (λ _. L.same links.old links.new) }
+    ensures queue { SameIntake intake.old intake.new }
+    ensures same { OnNone result ((part.new ≡ part.old) × (links.new ≡ links.old)) }
+    ensures same_requests { OnNone result (requests.new ≡ requests.old) }
+    ensures same_jobs { OnNone result (jobs_taken intake.new ≡ jobs_taken intake.old) }
+    ensures seen { OnNone result (IsPrefix (jobs_seen intake.old) (jobs_seen intake.new)) }
+    ensures idle_message { OnIdle result (NoMessageNow context.cores part.old (L.view links.old)) }
+    ensures idle { OnIdle result (CanBeginNext context.cores part.old requests.old.items (L.view links.old) → ⊥) }
+    ensures idle_job { OnIdle result (MayReceive part.old rx intake.new → ⊥) }
+    ensures why { IfErr result (HaltsFor context.cores context.clock part.old requests.old.items (L.view links.old) rx intake.new) }
+{
+    let Some(peer) = shown else {
+        return begin_or_receive(part, links, requests, intake, context, rx);
+    };
+    match take_kept(part, links, peer, context) {
+        Ok(Some(stamped)) => Ok(Some(stamped)),
+        Err(halt) => Err(halt),
+        Ok(None) => begin_or_receive(part, links, requests, intake, context, rx),
     }
 }

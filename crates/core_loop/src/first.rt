@@ -14,6 +14,7 @@ ghost use Rattle.core_loop.specs.Turning.{IsUnshortened};
 ghost use Rattle.core_loop.specs.Cores.{begins};
 ghost use Rattle.core_loop.specs.Receipts.{receives};
 ghost use Rattle.core_loop.specs.Beginning.{CanBegin0};
+ghost use Rattle.core_loop.specs.Choosing.{IsLeastRequest};
 
 use crate::refusal::{Refusal, next_stamp};
 use crate::sending::{Ready, all_ready, can_carry, make_ready, send};
@@ -223,6 +224,7 @@ pub(crate) fn begin<L: Links>(
     ensures jobs { OnEvent result (λ s. receives s.done.event ≡ []) }
     ensures whole { OnEvent result (λ s. IsUnshortened s.done.event) }
     ensures links { OnEvent result (λ s. L.same links.old links.new) }
+    ensures least { OnEvent result (λ s. IsLeastRequest others core.old s.done.event) }
     ensures between { BetweenSteps core.new }
     ensures idle { OnIdle result (CanBegin0 others core.old requests.old.items (L.view links.old) → ⊥) }
     ensures can { OnErr result (CanBegin0 others core.old requests.old.items (L.view links.old)) }
@@ -247,8 +249,8 @@ pub(crate) fn begin<L: Links>(
     }
 }
 
-// The least of the others that has a request waiting.
-fn least_waiting(core: &Core0, others: u16) -> Option<u16>
+/// The least of the others that has a request waiting.
+pub(crate) fn least_waiting(core: &Core0, others: u16) -> Option<u16>
     ensures some { IfSome result (λ from. (entry : ℕ) × (op : GhostOp) × HasWaiting core.now from entry op) }
     ensures inside { IfSome result (λ from. from ≤ others) }
     ensures least { IfSome result (λ from. (entry : ℕ) (op : GhostOp) → suc entry < from → slice_get core.now.coordinator.requests.waiting entry ≡ Some (Some op) → ⊥) }

@@ -2,16 +2,20 @@
 #![tactic(auto)]
 
 mod cause;
+mod context;
 mod events;
 mod first;
 mod joined;
 mod laws;
+mod listed;
+mod looking;
 mod other;
 mod part;
 mod receiving;
 mod refusal;
 mod running;
 mod sending;
+mod turning;
 
 pub use cause::{Cause, Turn};
 pub use core_links::{Busy, LineFault, Links, ListLinks, RingLinks};

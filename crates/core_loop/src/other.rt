@@ -16,6 +16,7 @@ ghost use Rattle.core_loop.specs.Turning.{IsUnshortened};
 ghost use Rattle.core_loop.specs.Cores.{begins};
 ghost use Rattle.core_loop.specs.Receipts.{receives};
 ghost use Rattle.core_loop.specs.Beginning.{CanBeginOther};
+ghost use Rattle.core_loop.specs.Choosing.{IsSubmission};
 ghost use Rattle.core_loop.specs.Events.{ActsOther, CannotTakeOther, CannotSubmit};
 
 use crate::refusal::{Refusal, next_stamp};
@@ -91,7 +92,7 @@ fn ready_reply<L: Links>(
     requires { (short : Bool) × (before : GhostCore) × (m : GhostMessage) × (after : GhostCore) × Considers short before m reply.now after }
     ensures stamp { IfOk result (λ ready. ready.stamp ≡ max clock sent + 1) }
     ensures ready { IfOk result (λ ready. IsReplyReady ready.stamp reply.now ready.piece (L.view links.now 0)) }
-    ensures why { IfErr result (CannotReply clock sent (L.view links.now 0)) }
+    ensures why { IfErr result (CannotReply clock sent reply.now (L.view links.now 0)) }
 {
     if let Some(_) = reply
         && !links.ready(0)
@@ -192,6 +193,7 @@ pub(crate) fn begin<L: Links>(
     ensures jobs { OnEvent result (λ s. receives s.done.event ≡ []) }
     ensures whole { OnEvent result (λ s. IsUnshortened s.done.event) }
     ensures links { OnEvent result (λ s. L.same links.old links.new) }
+    ensures least { OnEvent result (λ s. IsSubmission s.done.event) }
     ensures between { IsBetweenSteps core.new }
     ensures idle { OnIdle result (CanBeginOther core.old requests.old.items (L.view links.old) → ⊥) }
     ensures can { OnErr result (CanBeginOther core.old requests.old.items (L.view links.old)) }

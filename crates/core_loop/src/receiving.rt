@@ -1,53 +1,52 @@
 //! The receipt of a packet.
 
-ghost use Rattle.std.specs.Prelude.{◌≡◌, ◌≤◌, ◌∷◌, ◌++◌, [], ℕ, IfErr};
+ghost use Rattle.std.specs.Prelude.{◌≡◌, ◌++◌, ℕ, IfErr, OnErr};
 ghost use mathlib.Core.List.{IsPrefix};
 ghost use Rattle.rx_queue.specs.declared.job.Job.{Job as GhostJob};
 ghost use Rattle.rx_queue.specs.Queue.{jobs_seen, jobs_taken, SameIntake};
 ghost use Rattle.core_loop.specs.Outcomes.{OnEvent, OnNone, OnIdle};
-ghost use Rattle.core_loop.specs.Receipts.{Receives, receives, CannotReceive};
+ghost use Rattle.core_loop.specs.Receipts.{IsReceivable, Receives, receives, CannotReceive};
 
+use crate::context::Context;
+use crate::looking::can_receive;
 use crate::refusal::{Refusal, next_stamp};
 use rx_queue::Intake;
-use std::alloc::Global;
 use table_replica::Replica;
 use world_histories::Stamped;
 use world_model::{Done, Event};
 
-/// Receives the front job of a core of this number, if it has one whose floor is at most its version.
+/// Receives the front job of a core, if it has one whose floor is at most its version.
 pub(crate) fn receive(
     replica: &Replica,
-    alloc: Global,
-    number: u16,
-    clock: u64,
     intake: &mut Intake,
+    context: Context,
 ) -> Result<Option<Stamped>, Refusal>
-    ensures receives { OnEvent result (Receives number clock replica.now) }
+    ensures receives { OnEvent result (Receives context.number context.clock replica.now) }
     ensures queue { SameIntake intake.old intake.new }
     ensures taken { OnEvent result (λ s. jobs_taken intake.new ≡ jobs_taken intake.old ++ receives s.done.event) }
     ensures kept { OnNone result (jobs_taken intake.new ≡ jobs_taken intake.old) }
     ensures seen { OnNone result (IsPrefix (jobs_seen intake.old) (jobs_seen intake.new)) }
-    ensures idle { OnIdle result ((job : GhostJob) → IsPrefix (job ∷ []) (jobs_seen intake.old) → job.floor ≤ replica.now.shown.version → ⊥) }
-    ensures why { IfErr result (CannotReceive clock) }
+    ensures idle { OnIdle result ((job : GhostJob) → IsReceivable replica.now.shown.version intake.new job → ⊥) }
+    ensures can { OnErr result ((job : GhostJob) × IsReceivable replica.now.shown.version intake.new job) }
+    ensures why { IfErr result (CannotReceive context.clock) }
 {
-    intake.look();
-    let Some(job) = intake.seen() else {
-        return Ok(None);
-    };
-    if job.floor > replica.version() {
+    if !can_receive(replica.version(), intake) {
         return Ok(None);
     }
-    let Some(stamp) = next_stamp(clock, 0) else {
+    let Some(job) = intake.seen() else {
+        unreachable!()
+    };
+    let Some(stamp) = next_stamp(context.clock, 0) else {
         return Err(Refusal::Spent);
     };
-    let Ok(answer) = core_steps::receive(replica, alloc, &job.packet) else {
+    let Ok(answer) = core_steps::receive(replica, context.alloc, &job.packet) else {
         return Err(Refusal::NoMemory);
     };
     let Some(job) = intake.next() else {
         unreachable!()
     };
     let event = Event::Rx {
-        core: number,
+        core: context.number,
         number: job.number,
         packet: job.packet,
         floor: job.floor,

@@ -3,10 +3,11 @@
 ghost use Rattle.std.specs.Prelude.{◌≡◌, ◌<◌, ◌≤◌, ℕ};
 
 use crate::cause::{Cause, Turn};
-use crate::events::next_event;
+use crate::context::Context;
 use crate::part::Part;
 use crate::refusal::Halt;
 use crate::sending::all_ready;
+use crate::turning::next_event;
 use core_links::Links;
 use rx_queue::{Intake, Job, Port};
 use std::alloc::{AllocError, Global};
@@ -48,11 +49,11 @@ impl<L: Links> Core<L> {
     ghost use Rattle.rx_queue.specs.Queue.{jobs_put, jobs_seen, jobs_taken, AreEnds, SamePort, SameIntake};
     ghost use Rattle.rx_queue.specs.declared.job.Job.{Job as GhostJob};
     ghost use Rattle.core_loop.specs.declared.cause.Cause.{Cause as GhostCause};
-    ghost use Rattle.core_loop.specs.declared.cause.Turn.TheVariants.{Did, Idle, Stopped, Spent};
+    ghost use Rattle.core_loop.specs.declared.cause.Turn.TheVariants.{Did, Idle, Stopped, Spent, NoMemory};
     ghost use Rattle.core_loop.specs.Cores.{Stands, AreShort, SameCore, NothingDone, DidOne, CanReceive, begun};
     ghost use Rattle.core_loop.specs.Beginning.{CanBeginNext, HasNothingUnderWay};
-    ghost use Rattle.core_loop.specs.Taking.{StopsAt};
-    ghost use Rattle.core_loop.specs.Turning.{IsSpent};
+    ghost use Rattle.core_loop.specs.Choosing.{NoMessageNow};
+    ghost use Rattle.core_loop.specs.Turning.{StopsFirst, IsSpent, HasWork};
     ghost use Rattle.core_loop.specs.Keeping.{replica_of};
     ghost use Rattle.core_loop.specs.Standing.{IsSilent};
 
@@ -122,8 +123,10 @@ impl<L: Links> Core<L> {
         history
     }
 
-    /// Does one event at most, without waiting: it takes the next message of the least peer that has one, or begins the next
-    /// request, or receives the front job where `rx` is true. After `Stopped` every turn answers the same.
+    /// Does one event at most, without waiting: it takes the next message of the least peer that has one, where the links that
+    /// its answer needs take messages; else it begins the next request; else it receives the front job where `rx` is true.
+    /// After `Stopped` every turn answers the same. It takes no memory where there is no message, no request and no job that
+    /// it can receive.
     pub fn turn(&mut self, rx: bool) -> Turn
         ensures core { SameCore L.same self.old self.new }
         ensures requests { begun self.new.history ++ self.new.pending ≡ begun self.old.history ++ self.old.pending }
@@ -132,26 +135,29 @@ impl<L: Links> Core<L> {
         ensures stays { (cause : GhostCause) → self.old.stopped ≡ Some cause → (result ≡ Stopped cause) × (self.new ≡ self.old) }
         ensures stopped { (cause : GhostCause) → result ≡ Stopped cause → self.new.stopped ≡ Some cause }
         ensures running { ((cause : GhostCause) → result ≢ Stopped cause) → (self.old.stopped ≡ None) × (self.new.stopped ≡ None) }
-        ensures cause { (cause : GhostCause) → self.old.stopped ≡ None → result ≡ Stopped cause → (peer : ℕ) × StopsAt self.old.cores self.old.clock peer self.old.part (L.view self.new.links) cause }
-        ensures spent { result ≡ Spent → IsSpent self.old.cores self.old.clock self.old.part self.old.pending (L.view self.new.links) }
-        ensures idle { result ≡ Idle → CanBeginNext self.old.cores self.old.part self.old.pending (L.view self.old.links) → ⊥ }
-        ensures idle_job { result ≡ Idle → rx ≡ true → (job : GhostJob) → CanReceive self.old job → ⊥ }
+        ensures cause { (cause : GhostCause) → self.old.stopped ≡ None → result ≡ Stopped cause → StopsFirst self.old.cores self.old.clock self.old.part (L.view self.new.links) cause }
+        ensures spent { result ≡ Spent → IsSpent self.old.cores self.old.clock self.old.part self.old.pending (L.view self.new.links) rx self.new.intake }
+        ensures no_memory { result ≡ NoMemory → HasWork self.old.cores self.old.part self.old.pending (L.view self.new.links) rx self.new.intake }
+        ensures idle_message { result ≡ Idle → NoMessageNow self.new.cores self.new.part (L.view self.new.links) }
+        ensures idle { result ≡ Idle → CanBeginNext self.new.cores self.new.part self.new.pending (L.view self.new.links) → ⊥ }
+        ensures idle_job { result ≡ Idle → rx ≡ true → (job : GhostJob) → CanReceive self.new job → ⊥ }
     {
         if let Some(cause) = self.stopped {
             return Turn::Stopped(cause);
         }
-        if self.history.reserve(1).is_err() {
-            return Turn::NoMemory;
-        }
+        let context = Context {
+            alloc: self.alloc,
+            number: self.number,
+            cores: self.cores,
+            clock: self.clock,
+        };
         match next_event(
             &mut self.part,
             &mut self.links,
             &mut self.requests,
             &mut self.intake,
-            self.alloc,
-            self.number,
-            self.cores,
-            self.clock,
+            &mut self.history,
+            context,
             rx,
         ) {
             Ok(None) => Turn::Idle,

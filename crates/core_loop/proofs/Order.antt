@@ -1,0 +1,128 @@
+-- In what order a core does its events.
+use Rattle.std.proofs.Common.{◌≡◌, ◌≢◌, ◌<◌, ◌⊎◌, inl, inr, ℕ, Bool, false, Option, Some, None, List, [], ◌∷◌, ◌+◌, refl, sym, ap, subst, arith}
+use Rattle.std.specs.Prelude.{Result, Ok, Err}
+use Rattle.table_replica.specs.declared.Op.{Op}
+use Rattle.rx_queue.specs.declared.job.Job.{Job}
+use Rattle.monitor_messages.specs.declared.message.Message.{Message}
+use Rattle.monitor_messages.specs.declared.message.Message.TheVariants as message
+use Rattle.monitor_messages.specs.Coding.{Coded}
+use Rattle.monitor_messages.proofs.Messages.{coded_once}
+use Rattle.world_model.specs.declared.event.Event.{Event}
+use Rattle.world_model.specs.declared.event.Event.TheVariants.{Start, StartFor, Submit, Take, Rx}
+use Rattle.world_model.proofs.Lists.{same_or_not}
+use Rattle.world_histories.specs.Histories.{Stamping}
+use Rattle.world_histories.specs.declared.history.Stamped.{Stamped}
+use Rattle.core_links.specs.Views.{LinkView, first_of}
+use Rattle.core_steps.specs.declared.other_core.OtherCore.{OtherCore}
+use Rattle.core_steps.specs.OtherCoreSteps.{Considers}
+use Rattle.core_loop.specs.declared.part.Part.{Part}
+use Rattle.core_loop.specs.declared.part.Part.TheVariants as part
+use Rattle.core_loop.specs.declared.refusal.Refusal.{Refusal}
+use Rattle.core_loop.specs.declared.refusal.Refusal.TheVariants as refusal
+use Rattle.core_loop.specs.Carrying.{IsFirst, Quiet}
+use Rattle.core_loop.specs.Outcomes.{OnEvent}
+use Rattle.core_loop.specs.Turning.{ActsFirst}
+use Rattle.core_loop.specs.Events.{IsAnswered, CannotTakeOther, Acts}
+use Rattle.core_loop.specs.Sending.{CannotReply}
+use Rattle.core_loop.specs.Taking.{CannotTake}
+use Rattle.core_loop.specs.Beginning.{CanBeginNext}
+use Rattle.core_loop.specs.Choosing.{ShowsNothing, IsLeastShowing, IsKnownAnswered, MustWait, NoMessageNow, IsNextRequest, IsNext}
+
+-- What must wait
+
+-- a message that another core considers and will answer is one of those that are answered
+considered : (short : Bool) (core : OtherCore) (m : Message) (reply : Option Message) (core' : OtherCore) → Considers short core m reply core' → reply ≢ None → IsAnswered m
+considered short core (message.Prepare txn op) reply core' h some = tt
+considered short core (message.Commit txn) reply core' h some = tt
+considered short core (message.Abort txn) reply core' h some = tt
+considered short core (message.Reply decision) None core' h some = absurd (some refl)
+considered short core (message.Reply decision) (Some r) core' h some = absurd h
+considered short core (message.Vote txn v) None core' h some = absurd h
+considered short core (message.Vote txn v) (Some r) core' h some = absurd h
+considered short core (message.Ack txn) None core' h some = absurd h
+considered short core (message.Ack txn) (Some r) core' h some = absurd h
+considered short core (message.Submit op) None core' h some = absurd h
+considered short core (message.Submit op) (Some r) core' h some = absurd h
+
+pub cannot_reply : (short : Bool) (clock : ℕ) (core core' : OtherCore) (m : Stamping) (reply : Option Message) (view : ℕ → LinkView) (r : Refusal)
+    → Considers short core m.message reply core' → CannotReply clock m.stamp reply (view 0) r → CannotTakeOther clock core m view r
+cannot_reply short clock core core' m reply view refusal.NotReady h c = (c.1, considered short core m.message reply core' h c.0)
+cannot_reply short clock core core' m reply view refusal.Spent h c = c
+cannot_reply short clock core core' m reply view refusal.NoMemory h c = tt
+cannot_reply short clock core core' m reply view refusal.Stranger h c = absurd c
+
+pub first_byte : List ℕ → ℕ
+first_byte [] = 0
+first_byte (b ∷ bs) = b
+
+-- the first byte of a message says whether it is answered
+pub answered_kind : (bytes : List ℕ) (stamp : ℕ) (m : Message) → (first_byte bytes ≡ 1) ⊎ ((first_byte bytes ≡ 3) ⊎ (first_byte bytes ≡ 4)) → Coded bytes stamp m → IsAnswered m
+unfolding first_byte
+answered_kind bytes stamp (message.Prepare txn op) k c = tt
+answered_kind bytes stamp (message.Commit txn) k c = tt
+answered_kind bytes stamp (message.Abort txn) k c = tt
+answered_kind bytes stamp (message.Vote txn v) k c = let b : first_byte bytes ≡ 2 = ap first_byte c.spelled in absurd (omega (arith, k, b))
+answered_kind bytes stamp (message.Ack txn) k c = let b : first_byte bytes ≡ 5 = ap first_byte c.spelled in absurd (omega (arith, k, b))
+answered_kind bytes stamp (message.Submit op) k c = let b : first_byte bytes ≡ 6 = ap first_byte c.spelled in absurd (omega (arith, k, b))
+answered_kind bytes stamp (message.Reply decision) k c = let b : first_byte bytes ≡ 7 = ap first_byte c.spelled in absurd (omega (arith, k, b))
+
+some_once : (a b : List ℕ) (o : Option (List ℕ)) → o ≡ Some a → o ≡ Some b → a ≡ b
+some_once a b o e f = cc
+
+-- two messages that are the first of a peer are one
+first_once : (v : LinkView) (m n : Stamping) → IsFirst v m → IsFirst v n → m.message ≡ n.message
+first_once v m n f g =
+    let same : f.bytes ≡ g.bytes = some_once f.bytes g.bytes (first_of v.kept) f.there g.there in
+    ap (λ (p : ℕ × Message). p.1) (coded_once f.bytes m.stamp n.stamp m.message n.message f.coded (subst (λ (b : List ℕ). Coded b n.stamp n.message) (sym same) g.coded))
+
+-- a message that could not be taken since a link took none must wait
+pub not_ready_waits : (cores clock peer : ℕ) (x : Part) (m : Stamping) (seen : ℕ → LinkView) → IsFirst (seen peer) m → CannotTake cores clock peer x m seen refusal.NotReady → MustWait cores x peer seen
+not_ready_waits cores clock peer (part.First core) m seen f c = (m, f, c)
+not_ready_waits cores clock peer (part.Other core) m seen f c = (c.0, λ n g. subst IsAnswered (first_once (seen peer) m n f g) c.1)
+
+-- a message whose first byte says that it is answered must wait for the link to core 0
+pub known_waits : (cores peer : ℕ) (x : Part) (bytes : List ℕ) (seen : ℕ → LinkView) → first_of (seen peer).kept ≡ Some bytes → IsKnownAnswered x bytes → (seen 0).ready ≡ false → MustWait cores x peer seen
+known_waits cores peer (part.First core) bytes seen e k r = absurd k
+known_waits cores peer (part.Other core) bytes seen e k r = (r, λ m f. k m.stamp m.message (subst (λ (b : List ℕ). Coded b m.stamp m.message) (some_once f.bytes bytes (first_of (seen peer).kept) f.there e) f.coded))
+
+-- What comes next
+
+pub next_request : (cores : ℕ) (x : Part) (requests : List Op) (seen : ℕ → LinkView) (e : Event) → NoMessageNow cores x seen → IsNextRequest cores x e → IsNext cores x requests seen e
+next_request cores x requests seen (Start op) n r = (n, r)
+next_request cores x requests seen (StartFor core) n r = (n, r)
+next_request cores x requests seen (Submit core op) n r = (n, r)
+next_request cores (part.First core) requests seen (Take to from short) n r = absurd r
+next_request cores (part.Other core) requests seen (Take to from short) n r = absurd r
+next_request cores (part.First core) requests seen (Rx to number packet floor) n r = absurd r
+next_request cores (part.Other core) requests seen (Rx to number packet floor) n r = absurd r
+
+pub next_take : (cores number peer : ℕ) (x : Part) (requests : List Op) (seen : ℕ → LinkView) (e : Event) → e ≡ Take number peer false → IsLeastShowing cores seen peer → IsNext cores x requests seen e
+next_take cores number peer x requests seen e is l = subst (λ (k : Event). IsNext cores x requests seen k) (sym is) l
+
+pub next_receipt : (cores number : ℕ) (job : Job) (x : Part) (requests : List Op) (seen : ℕ → LinkView) (e : Event) → e ≡ Rx number job.number job.packet job.floor → NoMessageNow cores x seen → (CanBeginNext cores x requests seen → ⊥) → IsNext cores x requests seen e
+next_receipt cores number job x requests seen e is n none = subst (λ (k : Event). IsNext cores x requests seen k) (sym is) (n, none)
+
+-- What is seen of the links
+
+nothing_kept : (kept : List (List ℕ)) → first_of kept ≡ None → kept ≡ []
+nothing_kept [] e = refl
+nothing_kept (b ∷ bs) e = absurd cc
+
+-- a peer that shows nothing, after those before it
+pub one_more : (peer : ℕ) (old new : ℕ → LinkView) → ((p : ℕ) → p < peer → ShowsNothing (old p)) → ((p : ℕ) → p ≢ peer → new p ≡ old p) → ((p : ℕ) → p < peer → ShowsNothing (new p))
+one_more peer old new before same p lt = subst ShowsNothing (sym (same p (λ e. absurd (omega (arith, e, lt))))) (before p lt)
+
+pub up_to_here : (peer : ℕ) (new : ℕ → LinkView) → ((p : ℕ) → p < peer → ShowsNothing (new p)) → ShowsNothing (new peer) → (p : ℕ) → p < peer + 1 → ShowsNothing (new p)
+up_to_here peer new before here p lt = by_place (same_or_not p peer)
+  where
+    by_place : ((p ≡ peer) ⊎ (p ≡ peer → ⊥)) → ShowsNothing (new p)
+    by_place (inl e) = subst (λ (n : ℕ). ShowsNothing (new n)) (sym e) here
+    by_place (inr ne) = before p (omega (arith, ne, lt))
+
+-- What comes after a look
+
+pub acts_first : {E : Type 0} (number cores clock : ℕ) (requests : List Op) (old seen new : ℕ → LinkView) (x y : Part) (r : Result (Option Stamped) E)
+    → ((p : ℕ) → Quiet (old p) (seen p)) → OnEvent r (λ s. IsNext cores x requests seen s.done.event) → OnEvent r (Acts number cores clock seen new x y) → OnEvent r (ActsFirst number cores clock requests old new x y)
+acts_first number cores clock requests old seen new x y (Ok (Some s)) q n a = record { seen = seen; looks = q; next = n; acts = a }
+acts_first number cores clock requests old seen new x y (Ok None) q n a = tt
+acts_first number cores clock requests old seen new x y (Err e) q n a = tt

@@ -1,6 +1,0 @@
-use Rattle.std.proofs.Common.{◌≡◌, ℕ}
-use Rattle.core_loop.specs.Carrying.{Quiet}
-use Rattle.core_loop.proofs.events.take_next.Given as goal
-
-abbrev pub invariant-loop-peer : goal.invariant-loop-peer
-invariant-loop-peer g l = g.L.Links.same l.initial.links l.links × ((p : ℕ) → Quiet (g.L.Links.view l.initial.links p) (g.L.Links.view l.links p)) × (l.part ≡ l.initial.part)

@@ -1,0 +1,71 @@
+//! What a core sees before it does anything.
+
+ghost use Rattle.std.specs.Prelude.{◌≡◌, ◌≢◌, ◌<◌, ◌≤◌, ◌∷◌, [], ℕ, Some, true, IfOk, IfErr, IfSome, IfNone, IsTrue, IsFalse};
+ghost use mathlib.Core.List.{IsPrefix};
+ghost use Rattle.rx_queue.specs.declared.job.Job.{Job as GhostJob};
+ghost use Rattle.rx_queue.specs.Queue.{jobs_seen, jobs_taken, SameIntake};
+ghost use Rattle.core_loop.specs.Carrying.{Quiet};
+ghost use Rattle.core_loop.specs.Receipts.{IsReceivable};
+ghost use Rattle.core_loop.specs.Turning.{HasRequest};
+ghost use Rattle.core_loop.specs.Choosing.{ShowsNothing, IsLeastShowing};
+
+use crate::first::least_waiting;
+use crate::part::Part;
+use core_links::{LineFault, Links};
+use rx_queue::Intake;
+use std::collections::VecDeque;
+use table_replica::Op;
+
+/// The least peer that shows a message. Peers after it are not looked at, and a link that has stopped ends the search.
+pub(crate) fn least_showing<L: Links>(links: &mut L, cores: u16) -> Result<Option<u16>, LineFault>
+    ensures links { L.same links.old links.new }
+    ensures quiet { (p : ℕ) → Quiet (L.view links.old p) (L.view links.new p) }
+    ensures least { IfOk result (λ shown. IfSome shown (IsLeastShowing cores (L.view links.new))) }
+    ensures none { IfOk result (λ shown. IfNone shown ((p : ℕ) → p < cores → ShowsNothing (L.view links.new p))) }
+    ensures fault { IfErr result (λ fault. (peer : ℕ) × (peer < cores) × ((p : ℕ) → p < peer → ShowsNothing (L.view links.new p)) × ((L.view links.new peer).stopped ≡ Some fault)) }
+{
+    for peer in 0..cores {
+        links.pull(peer)?;
+        if has_message(links, peer) {
+            return Ok(Some(peer));
+        }
+    }
+    Ok(None)
+}
+
+fn has_message<L: Links>(links: &L, peer: u16) -> bool
+    ensures some { IsTrue result → (L.view links.now peer).kept ≢ [] }
+    ensures none { IsFalse result → (L.view links.now peer).kept ≡ [] }
+{
+    links.shown(peer).is_some()
+}
+
+/// Whether the core has a request of its own, or core 0 has one waiting.
+pub(crate) fn has_request(part: &Part, cores: u16, requests: &VecDeque<Op>) -> bool
+    requires { 1 ≤ cores }
+    ensures some { IsTrue result → HasRequest cores part.now requests.now.items }
+    ensures none { IsFalse result → HasRequest cores part.now requests.now.items → ⊥ }
+{
+    if !requests.is_empty() {
+        return true;
+    }
+    match part {
+        Part::First(core) => least_waiting(core, cores - 1).is_some(),
+        Part::Other(_) => false,
+    }
+}
+
+/// Whether the queue shows a job that a table of this version can receive.
+pub(crate) fn can_receive(version: u64, intake: &mut Intake) -> bool
+    ensures queue { SameIntake intake.old intake.new }
+    ensures taken { jobs_taken intake.new ≡ jobs_taken intake.old }
+    ensures seen { IsPrefix (jobs_seen intake.old) (jobs_seen intake.new) }
+    ensures some { IsTrue result → (job : GhostJob) × IsReceivable version intake.new job }
+    ensures none { IsFalse result → (job : GhostJob) → IsReceivable version intake.new job → ⊥ }
+{
+    intake.look();
+    match intake.seen() {
+        Some(job) => job.floor <= version,
+        None => false,
+    }
+}

@@ -1,0 +1,95 @@
+//! The next event of a core.
+
+ghost use Rattle.std.specs.Prelude.{◌≡◌, ◌≤◌, ◌<◌, ◌⊎◌, ◌++◌, ℕ, None, IfErr, IsSome, IsTrue, IsFalse, vec_len, vec_capacity};
+ghost use mathlib.Core.List.{IsPrefix};
+ghost use Rattle.rx_queue.specs.Queue.{jobs_seen, jobs_taken, SameIntake};
+ghost use Rattle.core_loop.specs.declared.refusal.Halt.TheVariants.{NoMemory};
+ghost use Rattle.core_loop.specs.Carrying.{Quiet};
+ghost use Rattle.core_loop.specs.Cores.{begins, AreShort};
+ghost use Rattle.core_loop.specs.Receipts.{receives};
+ghost use Rattle.core_loop.specs.Outcomes.{OnEvent, OnNone, OnIdle};
+ghost use Rattle.core_loop.specs.Beginning.{CanBeginNext, IsFitting};
+ghost use Rattle.core_loop.specs.Choosing.{NoMessageNow};
+ghost use Rattle.core_loop.specs.Turning.{IsUnshortened, ActsFirst, MayReceive, HasRequest, HasWork, HaltsFor};
+
+use crate::cause::Cause;
+use crate::context::Context;
+use crate::events::first_event;
+use crate::looking::{can_receive, has_request, least_showing};
+use crate::part::Part;
+use crate::refusal::Halt;
+use core_links::Links;
+use rx_queue::Intake;
+use std::collections::VecDeque;
+use table_replica::Op;
+use world_histories::Stamped;
+
+/// Does the next event of a core, if there is one, and leaves room for it in the history. It takes no memory where there is
+/// no message, no request and no job that it can receive.
+pub(crate) fn next_event<L: Links>(
+    part: &mut Part,
+    links: &mut L,
+    requests: &mut VecDeque<Op>,
+    intake: &mut Intake,
+    history: &mut Vec<Stamped>,
+    context: Context,
+    rx: bool,
+) -> Result<Option<Stamped>, Halt>
+    requires cores { 1 ≤ context.cores }
+    requires fits { IsFitting context.number context.cores part.old }
+    requires short { AreShort context.number requests.old.items }
+    ensures acts { OnEvent result (ActsFirst context.number context.cores context.clock requests.old.items (L.view links.old) (L.view links.new) part.old part.new) }
+    ensures requests { OnEvent result (λ s. requests.old.items ≡ begins s.done.event ++ requests.new.items) }
+    ensures jobs { OnEvent result (λ s. jobs_taken intake.new ≡ jobs_taken intake.old ++ receives s.done.event) }
+    ensures whole { OnEvent result (λ s. IsUnshortened s.done.event) }
+    ensures room { OnEvent result (λ _. vec_len history.new < vec_capacity history.new) }
+    ensures history { history.new.items ≡ history.old.items }
+    ensures links { L.same links.old links.new }
+    ensures queue { SameIntake intake.old intake.new }
+    ensures quiet { OnNone result ((p : ℕ) → Quiet (L.view links.old p) (L.view links.new p)) }
+    ensures same { OnNone result ((part.new ≡ part.old) × (requests.new ≡ requests.old)) }
+    ensures same_jobs { OnNone result (jobs_taken intake.new ≡ jobs_taken intake.old) }
+    ensures seen { OnNone result (IsPrefix (jobs_seen intake.old) (jobs_seen intake.new)) }
+    ensures idle_message { OnIdle result (NoMessageNow context.cores part.old (L.view links.new)) }
+    ensures idle { OnIdle result (CanBeginNext context.cores part.old requests.old.items (L.view links.new) → ⊥) }
+    ensures idle_job { OnIdle result (MayReceive part.old rx intake.new → ⊥) }
+    ensures why { IfErr result (HaltsFor context.cores context.clock part.old requests.old.items (L.view links.new) rx intake.new) }
+    ensures memory { IfErr result (λ halt. halt ≡ NoMemory → HasWork context.cores part.old requests.old.items (L.view links.new) rx intake.new) }
+{
+    links.pump();
+    let shown = match least_showing(links, context.cores) {
+        Err(fault) => return Err(Halt::Stopped(Cause::Line(fault))),
+        Ok(shown) => shown,
+    };
+    if !has_work(part, requests, intake, shown, context.cores, rx) {
+        return Ok(None);
+    }
+    if history.reserve(1).is_err() {
+        return Err(Halt::NoMemory);
+    }
+    first_event(part, links, requests, intake, shown, context, rx)
+}
+
+// Whether there is a message, a request, or a job that can be received.
+fn has_work(
+    part: &Part,
+    requests: &VecDeque<Op>,
+    intake: &mut Intake,
+    shown: Option<u16>,
+    cores: u16,
+    rx: bool,
+) -> bool
+    requires { 1 ≤ cores }
+    ensures queue { SameIntake intake.old intake.new }
+    ensures taken { jobs_taken intake.new ≡ jobs_taken intake.old }
+    ensures seen { IsPrefix (jobs_seen intake.old) (jobs_seen intake.new) }
+    ensures some { IsTrue result → IsSome shown ⊎ (HasRequest cores part.now requests.now.items ⊎ MayReceive part.now rx intake.new) }
+    ensures no_message { IsFalse result → shown ≡ None }
+    ensures no_request { IsFalse result → HasRequest cores part.now requests.now.items → ⊥ }
+    ensures no_job { IsFalse result → MayReceive part.now rx intake.new → ⊥ }
+{
+    if shown.is_some() || has_request(part, cores, requests) {
+        return true;
+    }
+    rx && can_receive(part.replica().version(), intake)
+}
