@@ -1,0 +1,192 @@
+-- Where the cores of a machine end, and what holds of their histories.
+use Rattle.std.proofs.Common.{◌≡◌, ◌-◌, ◌<◌, ℕ, zero, suc, List, ◌∷◌, length, map, Some, slice_get, refl, sym, ap, ◌∙◌, subst, arith}
+use Rattle.std.proofs.lemmas.List.{length-map}
+use Rattle.table_replica.specs.declared.Op.{Op}
+use Rattle.table_replica.specs.Tables.{State, table}
+use Rattle.table_replica.specs.Shown.{ReplicaState}
+use Rattle.table_replica.proofs.Tables.{table_version}
+use Rattle.monitor_2pc.specs.Coordinators.{Idle}
+use Rattle.core_links.specs.Views.{LinkView}
+use Rattle.core_links.specs.RingSlots.{ring_view}
+use Rattle.world_model.proofs.Lists.{get_at, get_within, get_map}
+use Rattle.world_histories.specs.declared.history.Stamped.{Stamped}
+use Rattle.world_histories.specs.Histories.{Core0, Other, Computation}
+use Rattle.world_histories.specs.Agreement.{HistoriesAgree}
+use Rattle.world_histories.proofs.Agreement as agreement
+use Rattle.world_histories.proofs.Merge.{OneRun, one_run, merged_once, run_of}
+use Rattle.world_histories.proofs.Ends.{ends_once}
+use Rattle.world_histories.proofs.Deciding.{decided}
+use Rattle.world_histories.proofs.Replies.{replied}
+use Rattle.core_loop.specs.declared.part.Part.{Part}
+use Rattle.core_loop.specs.declared.part.Part.TheVariants as part
+use Rattle.core_loop.specs.Standing.{Stands0, StandsOther, AreBeside}
+use Rattle.core_loop.specs.Keeping.{IsStanding, replica_of}
+use Rattle.core_loop.specs.Cores.{Stands}
+use Rattle.core_loop.proofs.Conclusions.{concluded}
+use Rattle.core_join.specs.Machines.{RingCore, IsPeer, AreMachine}
+use Rattle.core_join.specs.Conclusions.{histories_of, StandsAt0, StandsAtOther, IsIdle0, version_of_core, ShowsTable, IsRight, Concludes}
+use Rattle.core_join.proofs.Lists.{Chosen, choose, same_some}
+
+-- The laws of histories
+
+computed : (budget : ℕ) (budgets : List ℕ) (core0 : List Stamped) (others : List (List Stamped)) (end : Core0) (ends : List Other) → Computation budget budgets core0 others end ends → IsRight budget budgets core0 others end ends
+computed budget budgets core0 others end ends h =
+    let one = one_run budget budgets core0 others end ends h in
+    record {
+      agree = agreement.agree budget budgets core0 others end ends h;
+      decided = decided budget budgets core0 others end ends h;
+      replied = replied budget budgets core0 others end ends h;
+      merged = one.merged;
+      is_merged = one.is_merged;
+      one_list = λ again m. merged_once core0 others again one.merged m one.is_merged;
+      run = run_of budget budgets core0 others end ends one.merged h one.is_merged;
+      in_run = λ core history before after s. agreement.in_run budget budgets core0 others end ends one.merged core history before after s h one.is_merged;
+      one_end = λ again ends_again x. ends_once budget budgets core0 others again end ends_again ends x h;
+    }
+
+-- Each core by itself
+
+-- core 0's part, clock, history and links are those of this end
+record Ends0 (others budget : ℕ) (x : Part) (clock : ℕ) (h : List Stamped) (view : ℕ → LinkView) : Type 0 where
+  end : Core0
+  stands : Stands0 others budget h view end
+  is_at : StandsAt0 others x clock end
+
+-- and another core's
+record EndsSo (entry budget : ℕ) (x : Part) (clock : ℕ) (h : List Stamped) (view : ℕ → LinkView) (end : Other) : Type 0 where
+  stands : StandsOther entry budget h view end
+  is_at : StandsAtOther x clock end
+
+end0_of : (others budget : ℕ) (x : Part) (number cores clock : ℕ) (h : List Stamped) (view : ℕ → LinkView) → IsStanding x number cores clock h view → number ≡ 0 → cores ≡ suc others → (replica_of x).budget ≡ budget → Ends0 others budget x clock h view
+end0_of others budget (part.First core) number cores clock h view s is_first count is_budget =
+    let same : cores - 1 ≡ others = omega (arith, count) in
+    record {
+      end = s.0;
+      stands = subst (λ (n : ℕ). Stands0 n budget h view s.0) same (subst (λ (b : ℕ). Stands0 (cores - 1) b h view s.0) is_budget s.3);
+      is_at = subst (λ (n : ℕ). StandsAt0 n (part.First core) clock s.0) same s.2;
+    }
+end0_of others budget (part.Other core) number cores clock h view s is_first count is_budget = absurd (let e : suc s.0 ≡ 0 = sym s.2 ∙ is_first in cc)
+
+end_of : (entry : ℕ) (x : Part) (number cores clock : ℕ) (h : List Stamped) (view : ℕ → LinkView) → IsStanding x number cores clock h view → number ≡ suc entry → (end : Other) × EndsSo entry (replica_of x).budget x clock h view end
+end_of entry (part.First core) number cores clock h view s is_other = absurd (let e : suc entry ≡ 0 = sym is_other ∙ s.1 in cc)
+end_of entry (part.Other core) number cores clock h view s is_other =
+    let same : s.0 ≡ entry = (let e : suc s.0 ≡ suc entry = sym s.2 ∙ is_other in cc) in
+    (s.1, record { stands = subst (λ (n : ℕ). StandsOther n core.replica.budget h view s.1) same s.4; is_at = s.3 })
+
+-- the table of a core is that of its own log
+shown0 : (others : ℕ) (x : Part) (clock : ℕ) (end : Core0) → StandsAt0 others x clock end → (replica_of x).shown ≡ table end.log (length end.log)
+shown0 others (part.First core) clock end s = s.shown_is
+shown0 others (part.Other core) clock end s = absurd s
+
+shown : (x : Part) (clock : ℕ) (end : Other) → StandsAtOther x clock end → (replica_of x).shown ≡ table end.log (length end.log)
+shown (part.First core) clock end s = absurd s
+shown (part.Other core) clock end s = s.shown_is
+
+idle_at : (others : ℕ) (x : Part) (clock : ℕ) (end : Core0) → StandsAt0 others x clock end → IsIdle0 x → end.place.phase ≡ Idle
+idle_at others (part.First core) clock end s idle = ap (λ p. p.phase) s.place_is ∙ idle
+idle_at others (part.Other core) clock end s idle = absurd s
+
+version_at_end : (r : ReplicaState) (log : List Op) → r.shown ≡ table log (length log) → r.shown.version ≡ length log
+version_at_end r log e = ap (λ (s : State). s.version) e ∙ table_version log
+
+-- All cores
+
+-- what the others end with
+pub record OthersEnd (budgets : List ℕ) (others : List RingCore) : Type 0 where
+  pub ends : List Other
+  pub all : length ends ≡ length budgets
+  pub stand : (i b : ℕ) (c : RingCore) (d : Other) → slice_get budgets i ≡ Some b → slice_get others i ≡ Some c → slice_get ends i ≡ Some d → StandsOther i b c.history (ring_view c.links) d
+  pub are_at : (i : ℕ) (c : RingCore) (d : Other) → slice_get others i ≡ Some c → slice_get ends i ≡ Some d → StandsAtOther c.part c.clock d
+
+others_end : (budget : ℕ) (budgets : List ℕ) (start : RingCore) (others : List RingCore) → AreMachine budget budgets start others → ((k : ℕ) (c : RingCore) → slice_get others k ≡ Some c → Stands ring_view c) → OthersEnd budgets others
+others_end budget budgets start others machine stands =
+    let chosen = choose (λ (k : ℕ) (c : RingCore) (d : Other). EndsSo k (replica_of c.part).budget c.part c.clock c.history (ring_view c.links) d) others (λ k c at.
+        let b = get_at budgets k (omega (arith, get_within others k c at, machine.all)) in
+        end_of k c.part c.number c.cores c.clock c.history (ring_view c.links) (stands k c at) (machine.peers k b.0 c b.1 at).place.number_is) in
+    record {
+      ends = chosen.ys;
+      all = chosen.long ∙ machine.all;
+      stand = λ i b c d at_b at_c at_d. subst (λ (x : ℕ). StandsOther i x c.history (ring_view c.links) d) (machine.peers i b c at_b at_c).place.budget_is (chosen.each i c d at_c at_d).stands;
+      are_at = λ i c d at_c at_d. (chosen.each i c d at_c at_d).is_at;
+    }
+
+-- the computation that the cores made
+computation_of : (budget : ℕ) (budgets : List ℕ) (start : RingCore) (others : List RingCore) (end : Core0) → AreMachine budget budgets start others → Stands0 (length budgets) budget start.history (ring_view start.links) end
+    → (o : OthersEnd budgets others) → ((k : ℕ) (c : RingCore) → slice_get others k ≡ Some c → AreBeside k (ring_view start.links) (ring_view c.links)) → Computation budget budgets start.history (histories_of others) end o.ends
+computation_of budget budgets start others end machine stands o beside =
+    let long_h : length (histories_of others) ≡ length budgets = length-map others (λ (c : RingCore). c.history) ∙ machine.all in
+    let long_v : length (map (λ (c : RingCore). ring_view c.links) others) ≡ length budgets = length-map others (λ (c : RingCore). ring_view c.links) ∙ machine.all in
+    concluded budget budgets start.history (histories_of others) (ring_view start.links) (map (λ (c : RingCore). ring_view c.links) others) end o.ends long_h long_v o.all stands (λ i b h v d at_b at_h at_v at_d.
+        let c = get_at others i (omega (arith, get_within budgets i b at_b, machine.all)) in
+        let x = get_map (λ (c : RingCore). c.history) others i h at_h in
+        let y = get_map (λ (c : RingCore). ring_view c.links) others i v at_v in
+        let is_h : c.0.history ≡ h = ap (λ (c : RingCore). c.history) (same_some c.0 x.0 (sym c.1 ∙ x.1)) ∙ sym x.2 in
+        let is_v : ring_view c.0.links ≡ v = ap (λ (c : RingCore). ring_view c.links) (same_some c.0 y.0 (sym c.1 ∙ y.1)) ∙ sym y.2 in
+        (
+          subst (λ (x : List Stamped). StandsOther i b x v d) is_h (subst (λ (x : ℕ → LinkView). StandsOther i b c.0.history x d) is_v (o.stand i b c.0 d at_b c.1 at_d)),
+          subst (λ (x : ℕ → LinkView). AreBeside i (ring_view start.links) x) is_v (beside i c.0 c.1),
+        ))
+
+-- another core's version and table, in a log of which its own is a front
+pub record ShowsAt (log : List Op) (c : RingCore) (d : Other) : Type 0 where
+  pub version : version_of_core c ≡ length d.log
+  pub table_is : ShowsTable log c
+
+shows_at : (budget : ℕ) (budgets : List ℕ) (core0 : List Stamped) (hs : List (List Stamped)) (end : Core0) (ends : List Other) (i b : ℕ) (c : RingCore) (d : Other) → HistoriesAgree budget budgets core0 hs end ends
+    → slice_get budgets i ≡ Some b → slice_get ends i ≡ Some d → StandsAtOther c.part c.clock d → ShowsAt end.log c d
+shows_at budget budgets core0 hs end ends i b c d agree at_b at_d s =
+    let own = shown c.part c.clock d s in
+    let version = version_at_end (replica_of c.part) d.log own in
+    record {
+      version = version;
+      table_is = own ∙ (agree.ended i b d at_b at_d).is_table ∙ ap (λ (v : ℕ). table end.log v) (sym version);
+    }
+
+-- what there is to conclude
+pub concludes : (budget : ℕ) (budgets : List ℕ) (start : RingCore) (others : List RingCore) → AreMachine budget budgets start others → Stands ring_view start
+    → ((k : ℕ) (c : RingCore) → slice_get others k ≡ Some c → Stands ring_view c) → ((k : ℕ) (c : RingCore) → slice_get others k ≡ Some c → AreBeside k (ring_view start.links) (ring_view c.links)) → Concludes budget budgets start others
+concludes budget budgets start others machine stands stand beside = record {
+  end = e.end;
+  ends = o.ends;
+  computation = computation;
+  right = right;
+  ends0 = e.is_at;
+  ends_other = o.are_at;
+  tables = tables;
+  newest = newest;
+  settled = settled;
+}
+  where
+    e : Ends0 (length budgets) budget start.part start.clock start.history (ring_view start.links)
+    e = end0_of (length budgets) budget start.part start.number start.cores start.clock start.history (ring_view start.links) stands machine.place.number_is machine.place.cores_are machine.place.budget_is
+
+    o : OthersEnd budgets others
+    o = others_end budget budgets start others machine stand
+
+    computation : Computation budget budgets start.history (histories_of others) e.end o.ends
+    computation = computation_of budget budgets start others e.end machine e.stands o beside
+
+    right : IsRight budget budgets start.history (histories_of others) e.end o.ends
+    right = computed budget budgets start.history (histories_of others) e.end o.ends computation
+
+    shown_is : (replica_of start.part).shown ≡ table e.end.log (length e.end.log)
+    shown_is = shown0 (length budgets) start.part start.clock e.end e.is_at
+
+    newest : version_of_core start ≡ length e.end.log
+    newest = version_at_end (replica_of start.part) e.end.log shown_is
+
+    end_at : (i : ℕ) (c : RingCore) → slice_get others i ≡ Some c → (d : Other) × (slice_get o.ends i ≡ Some d) × ShowsAt e.end.log c d
+    end_at i c at =
+        let b = get_at budgets i (omega (arith, get_within others i c at, machine.all)) in
+        let d = get_at o.ends i (omega (arith, get_within others i c at, machine.all, o.all)) in
+        (d.0, d.1, shows_at budget budgets start.history (histories_of others) e.end o.ends i b.0 c d.0 right.agree b.1 d.1 (o.are_at i c d.0 at d.1))
+
+    tables : (i : ℕ) (c : RingCore) → slice_get (start ∷ others) i ≡ Some c → ShowsTable e.end.log c
+    tables zero c at = subst (λ (x : RingCore). ShowsTable e.end.log x) (same_some start c at) (shown_is ∙ ap (λ (v : ℕ). table e.end.log v) (sym newest))
+    tables (suc i) c at = (end_at i c at).2.table_is
+
+    settled : IsIdle0 start.part → (i : ℕ) (c : RingCore) → slice_get (start ∷ others) i ≡ Some c → version_of_core c ≡ length e.end.log
+    settled idle zero c at = subst (λ (x : RingCore). version_of_core x ≡ length e.end.log) (same_some start c at) newest
+    settled idle (suc i) c at =
+        let d = end_at i c at in
+        d.2.version ∙ ap length (right.agree.settled (idle_at (length budgets) start.part start.clock e.end e.is_at idle) i d.0 d.1)

@@ -1,0 +1,80 @@
+-- What the joined cores of one machine did.
+use Rattle.std.specs.Prelude.{◌≡◌, ◌++◌, ℕ, List, ◌∷◌, length, map, Some, slice_get, Vec}
+use Rattle.std.specs.Global.{Global}
+use Rattle.table_replica.specs.declared.Op.{Op}
+use Rattle.table_replica.specs.Tables.{table}
+use Rattle.monitor_messages.specs.declared.message.Decision.{Decision}
+use Rattle.monitor_2pc.specs.Coordinators.{Idle}
+use Rattle.world_model.specs.declared.event.Answer.TheVariants.{TookReply}
+use Rattle.world_histories.specs.declared.history.Stamped.{Stamped}
+use Rattle.world_histories.specs.Histories.{Core0, Other, Computation}
+use Rattle.world_histories.specs.Merging.{Merged, IsRun}
+use Rattle.world_histories.specs.Agreement.{HistoriesAgree}
+use Rattle.world_histories.specs.Answers.{InRun, Replied}
+use Rattle.world_histories.specs.Decisions.{DecidesAs}
+use Rattle.core_loop.specs.declared.part.Part.{Part}
+use Rattle.core_loop.specs.declared.part.Part.TheVariants as part
+use Rattle.core_loop.specs.Keeping.{IsHome, IsOther, replica_of}
+use Rattle.core_join.specs.Machines.{RingCore, AreMachine}
+
+-- the histories of cores
+abbrev pub histories_of : List RingCore → List (List Stamped)
+histories_of cores = map (λ c. c.history) cores
+
+-- lists in memory, as lists
+abbrev pub listed_histories : List (Vec Stamped Global) → List (List Stamped)
+listed_histories histories = map (λ v. v.items) histories
+
+-- core 0, of which this is the part, stands at this end of its history: clock, place, requests and table are those
+abbrev pub StandsAt0 : ℕ → Part → ℕ → Core0 → Type 0
+StandsAt0 others (part.First core) clock end = IsHome others core clock end
+StandsAt0 others (part.Other core) clock end = ⊥
+
+-- another core stands at this end of its history
+abbrev pub StandsAtOther : Part → ℕ → Other → Type 0
+StandsAtOther (part.First core) clock end = ⊥
+StandsAtOther (part.Other core) clock end = IsOther core clock end
+
+-- it is core 0's part, and no request is being decided
+abbrev pub IsIdle0 : Part → Type 0
+IsIdle0 (part.First core) = core.coordinator.phase ≡ Idle
+IsIdle0 (part.Other core) = ⊥
+
+abbrev pub version_of_core : RingCore → ℕ
+version_of_core core = (replica_of core.part).shown.version
+
+-- the core shows the table that the log makes up to the core's version
+abbrev pub ShowsTable : List Op → RingCore → Type 0
+ShowsTable log core = (replica_of core.part).shown ≡ table log (version_of_core core)
+
+-- what holds of the histories of a computation, and of its end
+pub record IsRight (budget : ℕ) (budgets : List ℕ) (core0 : List Stamped) (others : List (List Stamped)) (end : Core0) (ends : List Other) : Type 0 where
+  pub agree : HistoriesAgree budget budgets core0 others end ends
+  pub decided : (before after : List Stamped) (s : Stamped) → core0 ≡ before ++ s ∷ after → DecidesAs budget budgets others end.log before s
+  pub replied : (entry : ℕ) (h before after : List Stamped) (s : Stamped) (decision : Decision) → slice_get others entry ≡ Some h → h ≡ before ++ s ∷ after →
+      s.done.answer ≡ TookReply decision → Replied core0 end.log entry before decision
+  -- by stamp and then by core the events make one list, which is a run
+  pub merged : List Stamped
+  pub is_merged : Merged core0 others merged
+  pub one_list : (again : List Stamped) → Merged core0 others again → again ≡ merged
+  pub run : IsRun budget budgets merged end ends
+  pub in_run : (core : ℕ) (h before after : List Stamped) (s : Stamped) → slice_get (core0 ∷ others) core ≡ Some h → h ≡ before ++ s ∷ after → InRun budget budgets core0 others end.log merged core before s
+  -- the histories tell where they end
+  pub one_end : (again : Core0) (ends_again : List Other) → Computation budget budgets core0 others again ends_again → (again ≡ end) × (ends_again ≡ ends)
+
+-- The histories of these cores are a computation under these budgets. Each core stands at its end, with the table of the log at its
+-- version; core 0's version is the log's length, and so is every core's where core 0 is idle.
+pub record Concludes (budget : ℕ) (budgets : List ℕ) (first : RingCore) (others : List RingCore) : Type 0 where
+  pub end : Core0
+  pub ends : List Other
+  pub computation : Computation budget budgets first.history (histories_of others) end ends
+  pub right : IsRight budget budgets first.history (histories_of others) end ends
+  pub ends0 : StandsAt0 (length budgets) first.part first.clock end
+  pub ends_other : (i : ℕ) (c : RingCore) (d : Other) → slice_get others i ≡ Some c → slice_get ends i ≡ Some d → StandsAtOther c.part c.clock d
+  pub tables : (i : ℕ) (c : RingCore) → slice_get (first ∷ others) i ≡ Some c → ShowsTable end.log c
+  pub newest : version_of_core first ≡ length end.log
+  pub settled : IsIdle0 first.part → (i : ℕ) (c : RingCore) → slice_get (first ∷ others) i ≡ Some c → version_of_core c ≡ length end.log
+
+-- whatever budgets make these cores a machine
+abbrev pub OfMachine : List RingCore → (ℕ → List ℕ → RingCore → List RingCore → Type 0) → Type 0
+OfMachine cores P = (budget : ℕ) (budgets : List ℕ) (first : RingCore) (others : List RingCore) → cores ≡ first ∷ others → AreMachine budget budgets first others → P budget budgets first others

@@ -1,0 +1,37 @@
+-- The cores of one machine.
+use Rattle.std.specs.Prelude.{◌≡◌, ℕ, suc, List, [], ◌∷◌, length, Some, slice_get}
+use Rattle.core_links.specs.declared.ring_links.RingLinks.{RingLinks}
+use Rattle.core_links.specs.RingSlots.{own_of, AreJoinedLinks, SameLinks}
+use Rattle.core_loop.specs.Keeping.{replica_of}
+use Rattle.core_loop.specs.Cores.{CoreState, SameCore}
+
+abbrev pub RingCore : Type 0
+RingCore = CoreState RingLinks
+
+-- a core of this number, among so many cores, with this budget and links of its own
+pub record HasPlace (number cores budget : ℕ) (core : RingCore) : Type 0 where
+  pub number_is : core.number ≡ number
+  pub cores_are : core.cores ≡ cores
+  pub budget_is : (replica_of core.part).budget ≡ budget
+  pub links_are : own_of core.links ≡ number
+
+-- another core of the machine with core 0, with this entry, which is its number less one; one pair of rings joins the two
+pub record IsPeer (others entry budget : ℕ) (first core : RingCore) : Type 0 where
+  pub place : HasPlace (suc entry) (suc others) budget core
+  pub joined : AreJoinedLinks first.links core.links
+
+-- core 0 with its budget, and the others with theirs, in the order of their numbers, each joined to core 0
+pub record AreMachine (budget : ℕ) (budgets : List ℕ) (first : RingCore) (others : List RingCore) : Type 0 where
+  pub place : HasPlace 0 (suc (length budgets)) budget first
+  pub all : length others ≡ length budgets
+  pub peers : (i b : ℕ) (c : RingCore) → slice_get budgets i ≡ Some b → slice_get others i ≡ Some c → IsPeer (length budgets) i b first c
+
+-- these are the cores of one machine with these budgets
+abbrev pub IsMachine : ℕ → List ℕ → List RingCore → Type 0
+IsMachine budget budgets [] = ⊥
+IsMachine budget budgets (first ∷ others) = AreMachine budget budgets first others
+
+-- the same cores, each on its own rings and queue, before and after they ran
+pub record AreSameCores (old new : List RingCore) : Type 0 where
+  pub all : length new ≡ length old
+  pub each : (i : ℕ) (c d : RingCore) → slice_get old i ≡ Some c → slice_get new i ≡ Some d → SameCore SameLinks c d

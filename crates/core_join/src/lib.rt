@@ -1,0 +1,8 @@
+//! What the joined cores of one machine did.
+#![tactic(auto)]
+
+mod conclusion;
+mod laws;
+
+pub use conclusion::{Histories, conclude};
+pub use laws::cores_stay_a_machine;
