@@ -1,5 +1,5 @@
 -- Lists by place.
-use Rattle.std.proofs.Common.{◌≡◌, ℕ, zero, suc, List, [], ◌∷◌, ◌++◌, length, Some, slice_get, refl, ap, subst}
+use Rattle.std.proofs.Common.{◌≡◌, ◌<◌, ℕ, zero, suc, List, [], ◌∷◌, length, None, Some, slice_get, slice_index_or, refl, sym, ap, subst, arith}
 
 -- an element for each place makes a list of them
 pub record Chosen {A B : Type 0} (P : ℕ → A → B → Type 0) (xs : List A) : Type 0 where
@@ -27,3 +27,18 @@ first_same a b xs ys e = cc
 
 pub rest_same : {A : Type 0} (a b : A) (xs ys : List A) → a ∷ xs ≡ b ∷ ys → xs ≡ ys
 rest_same a b xs ys e = cc
+
+-- an element that was indexed
+pub get_indexed : {A : Type 0} (xs : List A) (k : ℕ) (x : A) → x ≡ slice_index_or xs k x → k < length xs → slice_get xs k ≡ Some x
+get_indexed [] k x e lt = absurd (omega arith)
+get_indexed (y ∷ ys) zero x e lt = ap (λ z. Some z) (sym e)
+get_indexed (y ∷ ys) (suc k) x e lt = get_indexed ys k x e (omega arith)
+
+-- the first element, or none
+pub starts_with : {A : Type 0} (xs : List A) (x : A) → Some x ≡ slice_get xs 0 → (rest : List A) × (xs ≡ x ∷ rest)
+starts_with [] x e = absurd (cc)
+starts_with (y ∷ ys) x e = (ys, cc)
+
+pub is_empty : {A : Type 0} (xs : List A) → None ≡ slice_get xs 0 → xs ≡ []
+is_empty [] e = refl
+is_empty (y ∷ ys) e = absurd (cc)

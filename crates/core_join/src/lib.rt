@@ -3,6 +3,8 @@
 
 mod conclusion;
 mod laws;
+mod merging;
 
 pub use conclusion::{Histories, conclude};
 pub use laws::cores_stay_a_machine;
+pub use merging::merge;

@@ -214,12 +214,12 @@ first_before : (a b : Stamped) (earlier later : List Stamped) → IsInOrder (a �
 first_before a b [] later o = o.0
 first_before a b (x ∷ xs) later o = before_then a x b o.0 (first_before x b xs later o.1)
 
-rest_in_order : (a : Stamped) (rest : List Stamped) → IsInOrder (a ∷ rest) → IsInOrder rest
+pub rest_in_order : (a : Stamped) (rest : List Stamped) → IsInOrder (a ∷ rest) → IsInOrder rest
 rest_in_order a [] o = tt
 rest_in_order a (b ∷ rest) o = o.1
 
 -- an event that is first of its core, where another core's is first of all
-first_of_core : (a b : Stamped) (rest xs : List Stamped) → IsInOrder (a ∷ rest) → (core_of a.done.event ≡ core_of b.done.event → ⊥) → part (core_of b.done.event) (a ∷ rest) ≡ b ∷ xs → IsBefore a b
+pub first_of_core : (a b : Stamped) (rest xs : List Stamped) → IsInOrder (a ∷ rest) → (core_of a.done.event ≡ core_of b.done.event → ⊥) → part (core_of b.done.event) (a ∷ rest) ≡ b ∷ xs → IsBefore a b
 first_of_core a b rest xs o ne e =
     let here : part (core_of b.done.event) rest ≡ b ∷ xs = sym (part_other (core_of b.done.event) a rest ne) ∙ e in
     let p = placed (core_of b.done.event) rest [] b xs here in

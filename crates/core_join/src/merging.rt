@@ -1,0 +1,67 @@
+//! One list of what all cores did.
+
+ghost use Rattle.std.specs.Prelude.{◌≡◌, ◌∷◌, ℕ, List, IfOk, IfSome, IfNone};
+ghost use Rattle.world_histories.specs.declared.history.Stamped.{Stamped as GhostStamped};
+ghost use Rattle.world_histories.specs.Merging.{Merged, listed, as_listed};
+ghost use Rattle.core_join.specs.Conclusions.{listed_histories};
+ghost use Rattle.core_join.specs.Merges.{NoneLeft, IsLeast, shown_histories};
+
+use crate::conclusion::Histories;
+use monitor_messages::Vote;
+use std::alloc::{AllocError, Global};
+use world_histories::Stamped;
+use world_model::{Answer, Done, Event};
+
+/// All events of the histories, by stamp and then by core. A take that voted NoMemory has its `short` set.
+pub fn merge(alloc: Global, histories: &Histories) -> Result<Vec<Done>, AllocError>
+    ensures { IfOk result (λ list. (core0 : List GhostStamped) (others : List (List GhostStamped)) (merged : List GhostStamped) →
+        listed_histories histories.now.cores.items ≡ core0 ∷ others → Merged core0 others merged → list.items ≡ as_listed merged) }
+{
+    let mut left = Vec::with_capacity(alloc, histories.cores.len())?;
+    let mut count: usize = 0;
+    for history in &histories.cores {
+        left.push(history.as_slice())?;
+        count = count.checked_add(history.len()).ok_or(AllocError)?;
+    }
+    let mut list = Vec::with_capacity(alloc, count)?;
+    while let Some(core) = least(&left) {
+        let Some((event, later)) = left[core].split_first() else {
+            unreachable!()
+        };
+        list.push(listed_copy(alloc, event)?)?;
+        left[core] = later;
+    }
+    Ok(list)
+}
+
+// The core whose first event comes first of all: the least stamp, and of equal stamps the least core.
+fn least(left: &[&[Stamped]]) -> Option<usize>
+    ensures some { IfSome result (λ core. IsLeast (shown_histories left.now) core) }
+    ensures none { IfNone result (NoneLeft (shown_histories left.now)) }
+{
+    let mut least: Option<(usize, u64)> = None;
+    for (core, history) in left.iter().enumerate() {
+        let Some(event) = history.first() else {
+            continue;
+        };
+        match least {
+            Some((_, stamp)) if stamp <= event.stamp => {}
+            _ => least = Some((core, event.stamp)),
+        }
+    }
+    let (core, _) = least?;
+    Some(core)
+}
+
+// The event as the list has it.
+fn listed_copy(alloc: Global, stamped: &Stamped) -> Result<Done, AllocError>
+    ensures { IfOk result (λ done. done ≡ listed stamped.now) }
+{
+    let mut done = stamped.done.copy(alloc)?;
+    if let Event::Take { short, .. } = &mut done.event {
+        if let Answer::TookPrepare { vote: Vote::NoMemory, .. } = done.answer {
+            *short = true;
+        }
+    }
+    Ok(done)
+}
