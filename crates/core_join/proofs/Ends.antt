@@ -1,5 +1,5 @@
 -- Where the cores of a machine end, and what holds of their histories.
-use Rattle.std.proofs.Common.{◌≡◌, ◌-◌, ◌<◌, ℕ, zero, suc, List, ◌∷◌, length, map, Some, slice_get, refl, sym, ap, ◌∙◌, subst, arith}
+use Rattle.std.proofs.Common.{◌≡◌, ◌-◌, ℕ, zero, suc, List, ◌∷◌, length, map, Some, slice_get, sym, ap, ◌∙◌, subst, arith}
 use Rattle.std.proofs.lemmas.List.{length-map}
 use Rattle.table_replica.specs.declared.Op.{Op}
 use Rattle.table_replica.specs.Tables.{State, table}
@@ -13,7 +13,7 @@ use Rattle.world_histories.specs.declared.history.Stamped.{Stamped}
 use Rattle.world_histories.specs.Histories.{Core0, Other, Computation}
 use Rattle.world_histories.specs.Agreement.{HistoriesAgree}
 use Rattle.world_histories.proofs.Agreement as agreement
-use Rattle.world_histories.proofs.Merge.{OneRun, one_run, merged_once, run_of}
+use Rattle.world_histories.proofs.Merge.{one_run, merged_once, run_of}
 use Rattle.world_histories.proofs.Ends.{ends_once}
 use Rattle.world_histories.proofs.Deciding.{decided}
 use Rattle.world_histories.proofs.Replies.{replied}
@@ -23,9 +23,9 @@ use Rattle.core_loop.specs.Standing.{Stands0, StandsOther, AreBeside}
 use Rattle.core_loop.specs.Keeping.{IsStanding, replica_of}
 use Rattle.core_loop.specs.Cores.{Stands}
 use Rattle.core_loop.proofs.Conclusions.{concluded}
-use Rattle.core_join.specs.Machines.{RingCore, IsPeer, AreMachine}
+use Rattle.core_join.specs.Machines.{RingCore, AreMachine}
 use Rattle.core_join.specs.Conclusions.{histories_of, StandsAt0, StandsAtOther, IsIdle0, version_of_core, ShowsTable, IsRight, Concludes}
-use Rattle.core_join.proofs.Lists.{Chosen, choose, same_some}
+use Rattle.core_join.proofs.Lists.{choose, same_some}
 
 -- The laws of histories
 

@@ -1,11 +1,11 @@
 -- The joined cores, one after another.
-use Rattle.std.proofs.Common.{◌≡◌, ◌+◌, ◌<◌, ℕ, zero, suc, true, List, [], ◌∷◌, ◌++◌, length, map, Option, Some, None, slice_get, refl, sym, ap, ◌∙◌, subst, arith, ◌⊎◌, inl, inr}
+use Rattle.std.proofs.Common.{◌≡◌, ℕ, suc, List, [], ◌∷◌, ◌++◌, length, Some, slice_get, refl, sym, ap, ◌∙◌, subst, arith, inl, inr}
 use Rattle.std.proofs.lemmas.List.{map-append, append_assoc, append-nil}
 use mathlib.Core.List.{IsPrefix}
 use Rattle.core_links.specs.RingSlots.{own_of, ring_view, SameLinks, AreJoinedLinks}
 use Rattle.core_links.specs.RingLaws.{SameLinks-itself, SameLinks-along}
 use Rattle.core_links.specs.Views.{LinkView, IsSameView}
-use Rattle.world_model.proofs.Lists.{get_at, get_within, get_more, get_front, get_end}
+use Rattle.world_model.proofs.Lists.{get_at, get_within, get_more}
 use Rattle.world_histories.proofs.Lists.{get_next}
 use Rattle.world_histories.specs.declared.history.Stamped.{Stamped}
 use Rattle.core_loop.specs.Standing.{AreBeside}

@@ -1,11 +1,11 @@
 -- The cores of a machine that ran are its cores still.
-use Rattle.std.proofs.Common.{◌≡◌, ◌<◌, ℕ, zero, suc, List, [], ◌∷◌, length, Option, Some, None, slice_get, refl, sym, ◌∙◌, subst, arith, rules}
+use Rattle.std.proofs.Common.{◌≡◌, ℕ, suc, List, [], ◌∷◌, length, Option, Some, None, refl, sym, ◌∙◌, subst, arith, rules}
 use Rattle.core_links.specs.declared.ring_links.Link.{Link}
 use Rattle.core_links.specs.declared.ring_links.RingLinks.{RingLinks}
 use Rattle.core_links.specs.RingSlots.{own_of, link_to, SameSlot, SameLinks, AreJoinedSlots, AreJoinedLinks}
 use Rattle.core_loop.specs.Cores.{SameCore}
 use Rattle.world_model.proofs.Lists.{get_at, get_within}
-use Rattle.core_join.specs.Machines.{RingCore, HasPlace, IsPeer, AreMachine, IsMachine, AreSameCores}
+use Rattle.core_join.specs.Machines.{RingCore, HasPlace, IsMachine, AreSameCores}
 
 joined_slots : (a b c d : Option Link) → SameSlot a b → SameSlot c d → AreJoinedSlots a c → AreJoinedSlots b d
 joined_slots None b c d same other joined = absurd joined

@@ -1,5 +1,5 @@
 -- The least of the events that come first is the next of the one list.
-use Rattle.std.proofs.Common.{slice_index_or, ◌≡◌, ◌+◌, ◌<◌, ◌≤◌, ◌⊎◌, inl, inr, ℕ, zero, suc, Some, List, [], ◌∷◌, ◌++◌, length, map, slice_get, slice_set, refl, sym, ap, subst, ◌∙◌, arith, append_assoc}
+use Rattle.std.proofs.Common.{slice_index_or, ◌≡◌, ◌<◌, ◌≤◌, ◌⊎◌, inl, inr, ℕ, zero, suc, Some, List, [], ◌∷◌, ◌++◌, length, slice_get, slice_set, refl, sym, ap, subst, ◌∙◌, arith, append_assoc}
 use Rattle.std.proofs.lemmas.List.{length-map, map-append, append-nil}
 use Rattle.std.specs.Borrow.{Bor}
 use Rattle.world_model.specs.declared.event.Done.{Done}
@@ -8,8 +8,8 @@ use Rattle.world_histories.specs.declared.history.Stamped.{Stamped}
 use Rattle.world_histories.specs.Merging.{core_of, part, IsBefore, IsInOrder, Merged, listed, as_listed}
 use Rattle.world_histories.proofs.Lists.{size, size_set}
 use Rattle.world_histories.proofs.Parts.{part_own, part_other, placed}
-use Rattle.world_histories.proofs.Merge.{first_of_core, rest_in_order}
-use Rattle.core_join.specs.Merges.{shown_histories, NoneLeft, IsLeast}
+use Rattle.world_histories.proofs.Merge.{one_run, run_of, first_of_core, rest_in_order}
+use Rattle.core_join.specs.Merges.{ListsAll, ListsRuns, shown_histories, NoneLeft, IsLeast}
 use Rattle.core_join.proofs.Least.{shown_at}
 
 heads : (x y : Stamped) (xs ys : List Stamped) → x ∷ xs ≡ y ∷ ys → x ≡ y
@@ -115,12 +115,16 @@ no_rest left (x ∷ xs) none r =
     let at = get_at left (core_of x.done.event) (r.of_cores 0 x refl) in
     absurd (let e : x ∷ part (core_of x.done.event) xs ≡ [] = sym (part_own (core_of x.done.event) x xs refl) ∙ (r.of_each (core_of x.done.event) at.0 at.1 ∙ none (core_of x.done.event) at.0 at.1) in cc)
 
-pub merged_all : (all left : List (List Stamped)) (list : List Done) → NoneLeft left → MergesSo all left list
-    → (core0 : List Stamped) (others : List (List Stamped)) (merged : List Stamped) → all ≡ core0 ∷ others → Merged core0 others merged → list ≡ as_listed merged
+pub merged_all : (all left : List (List Stamped)) (list : List Done) → NoneLeft left → MergesSo all left list → ListsAll all list
 merged_all all left list none was core0 others merged e m =
     let w = was core0 others merged e m in
     let whole : w.done ≡ merged = sym (w.split ∙ ap (λ (r : List Stamped). w.done ++ r) (no_rest left w.rest none w.is_rest) ∙ append-nil w.done) in
     w.list_is ∙ ap as_listed whole
+
+pub runs : (all : List (List Stamped)) (list : List Done) → ListsAll all list → ListsRuns all list
+runs all list lists = λ budget budgets core0 others end ends e h.
+    let o = one_run budget budgets core0 others end ends h in
+    record { merged = o.merged; is_merged = o.is_merged; is_listed = lists core0 others o.merged e o.is_merged; run = run_of budget budgets core0 others end ends o.merged h o.is_merged }
 
 -- a slice is put in place of another
 pub shown_set : (left : List (Bor (List Stamped))) (core : ℕ) (h : Bor (List Stamped)) → shown_histories (slice_set left core h) ≡ slice_set (shown_histories left) core h.now

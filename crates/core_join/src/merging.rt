@@ -1,10 +1,9 @@
 //! One list of what all cores did.
 
-ghost use Rattle.std.specs.Prelude.{◌≡◌, ◌∷◌, ℕ, List, IfOk, IfSome, IfNone};
-ghost use Rattle.world_histories.specs.declared.history.Stamped.{Stamped as GhostStamped};
-ghost use Rattle.world_histories.specs.Merging.{Merged, listed, as_listed};
+ghost use Rattle.std.specs.Prelude.{◌≡◌, IfOk, IfSome, IfNone};
+ghost use Rattle.world_histories.specs.Merging.{listed};
 ghost use Rattle.core_join.specs.Conclusions.{listed_histories};
-ghost use Rattle.core_join.specs.Merges.{NoneLeft, IsLeast, shown_histories};
+ghost use Rattle.core_join.specs.Merges.{ListsAll, ListsRuns, NoneLeft, IsLeast, shown_histories};
 
 use crate::conclusion::Histories;
 use monitor_messages::Vote;
@@ -12,10 +11,12 @@ use std::alloc::{AllocError, Global};
 use world_histories::Stamped;
 use world_model::{Answer, Done, Event};
 
-/// All events of the histories, by stamp and then by core. A take that voted NoMemory has its `short` set.
+/// All events of the histories, by stamp and then by core. A take that voted NoMemory has its `short` set. Where the histories
+/// are a computation, as those that `conclude` gives are, the list is a run of the machine. The one error is that there is no
+/// memory.
 pub fn merge(alloc: Global, histories: &Histories) -> Result<Vec<Done>, AllocError>
-    ensures { IfOk result (λ list. (core0 : List GhostStamped) (others : List (List GhostStamped)) (merged : List GhostStamped) →
-        listed_histories histories.now.cores.items ≡ core0 ∷ others → Merged core0 others merged → list.items ≡ as_listed merged) }
+    ensures list { IfOk result (λ list. ListsAll (listed_histories histories.now.cores.items) list.items) }
+    ensures run { IfOk result (λ list. ListsRuns (listed_histories histories.now.cores.items) list.items) }
 {
     let mut left = Vec::with_capacity(alloc, histories.cores.len())?;
     let mut count: usize = 0;

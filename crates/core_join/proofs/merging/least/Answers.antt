@@ -1,4 +1,4 @@
-use Rattle.std.proofs.Common.{◌≡◌, ◌≤◌, List, length, arith}
+use Rattle.std.proofs.Common.{◌≡◌, List, length, arith}
 use Rattle.std.proofs.lemmas.List.{length-map}
 use Rattle.std.specs.Borrow.{Bor}
 use Rattle.world_histories.specs.declared.history.Stamped.{Stamped}

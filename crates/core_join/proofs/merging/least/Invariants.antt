@@ -1,4 +1,3 @@
-use Rattle.std.proofs.Common.{◌≤◌, length}
 use Rattle.core_join.specs.Merges.{shown_histories}
 use Rattle.core_join.proofs.Least.{FoundBelow}
 use Rattle.core_join.proofs.merging.least.Given as goal

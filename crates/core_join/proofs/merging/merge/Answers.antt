@@ -1,7 +1,7 @@
 use Rattle.std.proofs.Common.{◌≡◌, ◌∷◌, ◌++◌, [], slice_index_or, rules}
 use Rattle.world_histories.specs.Merging.{listed}
 use Rattle.core_join.specs.Merges.{shown_histories, IsLeast, NoneLeft}
-use Rattle.core_join.proofs.OneList.{splits_off, merges_step, size_step, merged_all}
+use Rattle.core_join.proofs.OneList.{splits_off, merges_step, size_step, merged_all, runs}
 use Rattle.core_join.proofs.merging.merge.Goals as goal
 
 pub loop-core-smaller : goal.loop-core-smaller
@@ -24,7 +24,12 @@ loop-core-preserved c =
     (merges_step _ left c.loop-core.list.items c.in-Some.core l c.in-Some-split_first.event.now c.in-Some-split_first.later
         (splits_off left c.in-Some.core l c.index.result.now c.in-Some-split_first.later c.in-Some-split_first.event.now at split) c.loop-core.invariant)
 
-pub returns : goal.returns
-returns c =
+pub returns-clause-list : goal.returns-clause-list
+returns-clause-list c =
     let none : NoneLeft (shown_histories c.loop-core.left.items) = rw c.deref.ensures.value at c.in_default.ensures.none in
     merged_all _ (shown_histories c.loop-core.left.items) c.loop-core.list.items none c.loop-core.invariant
+
+pub returns-clause-run : goal.returns-clause-run
+returns-clause-run c =
+    let none : NoneLeft (shown_histories c.loop-core.left.items) = rw c.deref.ensures.value at c.in_default.ensures.none in
+    runs _ c.loop-core.list.items (merged_all _ (shown_histories c.loop-core.left.items) c.loop-core.list.items none c.loop-core.invariant)

@@ -1,4 +1,4 @@
-use Rattle.std.proofs.Common.{◌≡◌, ℕ, take}
+use Rattle.std.proofs.Common.{◌≡◌, take}
 use Rattle.world_histories.proofs.Lists.{size}
 use Rattle.core_join.specs.Conclusions.{listed_histories}
 use Rattle.core_join.specs.Merges.{shown_histories}
