@@ -51,7 +51,7 @@ ends cores start first histories seen items was none stands budget budgets a oth
     let same = first_same start a was.others others whole in
     let rest = rest_same start a was.others others whole in
     let joining : Joining a others first histories others [] = subst (λ (x : RingCore). Joining x others first histories others []) same
-        (subst (λ (l : List RingCore). Joining start l first histories l []) rest (all_seen start was.others first histories seen items was.joining none)) in
+    (subst (λ (l : List RingCore). Joining start l first histories l []) rest (all_seen start was.others first histories seen items was.joining none)) in
     concludes budget budgets a others machine (stood a first joining.looked stands) joining.stands joining.beside
 
 pub all_listed : (cores : List RingCore) (start first : RingCore) (histories all : List (List Stamped)) (seen items : List RingCore) → Concluding cores start first histories seen items → items ≡ [] → all ≡ first.history ∷ histories → all ≡ histories_of cores

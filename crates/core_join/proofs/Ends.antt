@@ -101,8 +101,8 @@ pub record OthersEnd (budgets : List ℕ) (others : List RingCore) : Type 0 wher
 others_end : (budget : ℕ) (budgets : List ℕ) (start : RingCore) (others : List RingCore) → AreMachine budget budgets start others → ((k : ℕ) (c : RingCore) → slice_get others k ≡ Some c → Stands ring_view c) → OthersEnd budgets others
 others_end budget budgets start others machine stands =
     let chosen = choose (λ (k : ℕ) (c : RingCore) (d : Other). EndsSo k (replica_of c.part).budget c.part c.clock c.history (ring_view c.links) d) others (λ k c at.
-        let b = get_at budgets k (omega (arith, get_within others k c at, machine.all)) in
-        end_of k c.part c.number c.cores c.clock c.history (ring_view c.links) (stands k c at) (machine.peers k b.0 c b.1 at).place.number_is) in
+    let b = get_at budgets k (omega (arith, get_within others k c at, machine.all)) in
+    end_of k c.part c.number c.cores c.clock c.history (ring_view c.links) (stands k c at) (machine.peers k b.0 c b.1 at).place.number_is) in
     record {
       ends = chosen.ys;
       all = chosen.long ∙ machine.all;
@@ -117,15 +117,14 @@ computation_of budget budgets start others end machine stands o beside =
     let long_h : length (histories_of others) ≡ length budgets = length-map others (λ (c : RingCore). c.history) ∙ machine.all in
     let long_v : length (map (λ (c : RingCore). ring_view c.links) others) ≡ length budgets = length-map others (λ (c : RingCore). ring_view c.links) ∙ machine.all in
     concluded budget budgets start.history (histories_of others) (ring_view start.links) (map (λ (c : RingCore). ring_view c.links) others) end o.ends long_h long_v o.all stands (λ i b h v d at_b at_h at_v at_d.
-        let c = get_at others i (omega (arith, get_within budgets i b at_b, machine.all)) in
-        let x = get_map (λ (c : RingCore). c.history) others i h at_h in
-        let y = get_map (λ (c : RingCore). ring_view c.links) others i v at_v in
-        let is_h : c.0.history ≡ h = ap (λ (c : RingCore). c.history) (same_some c.0 x.0 (sym c.1 ∙ x.1)) ∙ sym x.2 in
-        let is_v : ring_view c.0.links ≡ v = ap (λ (c : RingCore). ring_view c.links) (same_some c.0 y.0 (sym c.1 ∙ y.1)) ∙ sym y.2 in
-        (
-          subst (λ (x : List Stamped). StandsOther i b x v d) is_h (subst (λ (x : ℕ → LinkView). StandsOther i b c.0.history x d) is_v (o.stand i b c.0 d at_b c.1 at_d)),
-          subst (λ (x : ℕ → LinkView). AreBeside i (ring_view start.links) x) is_v (beside i c.0 c.1),
-        ))
+    let c = get_at others i (omega (arith, get_within budgets i b at_b, machine.all)) in
+    let x = get_map (λ (c : RingCore). c.history) others i h at_h in
+    let y = get_map (λ (c : RingCore). ring_view c.links) others i v at_v in
+    let is_h : c.0.history ≡ h = ap (λ (c : RingCore). c.history) (same_some c.0 x.0 (sym c.1 ∙ x.1)) ∙ sym x.2 in
+    let is_v : ring_view c.0.links ≡ v = ap (λ (c : RingCore). ring_view c.links) (same_some c.0 y.0 (sym c.1 ∙ y.1)) ∙ sym y.2 in (
+      subst (λ (x : List Stamped). StandsOther i b x v d) is_h (subst (λ (x : ℕ → LinkView). StandsOther i b c.0.history x d) is_v (o.stand i b c.0 d at_b c.1 at_d)),
+      subst (λ (x : ℕ → LinkView). AreBeside i (ring_view start.links) x) is_v (beside i c.0 c.1),
+    ))
 
 -- another core's version and table, in a log of which its own is a front
 pub record ShowsAt (log : List Op) (c : RingCore) (d : Other) : Type 0 where

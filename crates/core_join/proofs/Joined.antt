@@ -101,9 +101,9 @@ beside_at : (k m n : ℕ) (start first other other' : RingCore) → m ≡ suc k 
     → AreBeside k (ring_view start.links) (ring_view other.links)
 beside_at k m n start first other other' is_m is_n l l' took gave =
     let took_at : IsPrefix (ring_view first.links (suc k)).taken (ring_view other'.links 0).sent =
-        subst (λ (x : ℕ). IsPrefix (ring_view first.links x).taken (ring_view other'.links 0).sent) is_m (subst (λ (x : ℕ). IsPrefix (ring_view first.links m).taken (ring_view other'.links x).sent) is_n took) in
+    subst (λ (x : ℕ). IsPrefix (ring_view first.links x).taken (ring_view other'.links 0).sent) is_m (subst (λ (x : ℕ). IsPrefix (ring_view first.links m).taken (ring_view other'.links x).sent) is_n took) in
     let gave_at : IsPrefix (ring_view other'.links 0).taken (ring_view first.links (suc k)).sent =
-        subst (λ (x : ℕ). IsPrefix (ring_view other'.links 0).taken (ring_view first.links x).sent) is_m (subst (λ (x : ℕ). IsPrefix (ring_view other'.links x).taken (ring_view first.links m).sent) is_n gave) in
+    subst (λ (x : ℕ). IsPrefix (ring_view other'.links 0).taken (ring_view first.links x).sent) is_m (subst (λ (x : ℕ). IsPrefix (ring_view other'.links x).taken (ring_view first.links m).sent) is_n gave) in
     record {
       up = prefix_between (ring_view first.links (suc k)).taken (ring_view other'.links 0).sent (ring_view start.links (suc k)).taken (ring_view other.links 0).sent (l.views (suc k)).taken (l'.views 0).sent took_at;
       down = prefix_between (ring_view other'.links 0).taken (ring_view first.links (suc k)).sent (ring_view other.links 0).taken (ring_view start.links (suc k)).sent (l'.views 0).taken (l.views (suc k)).sent gave_at;
@@ -118,14 +118,14 @@ joining_more budget budgets start others first other first' other' histories see
     let p = (next_peer budget budgets start others other seen rest machine was.split).1 in
     let looked = looked_along start first first' was.looked here in
     let beside : AreBeside (length seen) (ring_view start.links) (ring_view other.links) =
-        beside_at (length seen) (own_of other'.links) (own_of first'.links) start first' other other' (there.links.own ∙ p.place.links_are) (looked.links.own ∙ machine.place.links_are) looked there took gave in
+    beside_at (length seen) (own_of other'.links) (own_of first'.links) start first' other other' (there.links.own ∙ p.place.links_are) (looked.links.own ∙ machine.place.links_are) looked there took gave in
     record {
       split = was.split ∙ sym (append_assoc seen (other ∷ []) rest);
       looked = looked;
       listed = ap (λ (l : List (List Stamped)). l ++ other'.history ∷ []) was.listed ∙ ap (λ (c : RingCore). histories_of seen ++ c.history ∷ []) there.core
           ∙ sym (map-append (λ (c : RingCore). c.history) seen (other ∷ []));
       beside = λ k c at. elim (get_more seen other c k at) [
-        inl e ↦ subst (λ (j : ℕ). AreBeside j (ring_view start.links) (ring_view c.links)) (sym e.0) (subst (λ (x : RingCore). AreBeside (length seen) (ring_view start.links) (ring_view x.links)) (sym e.1) beside)
+        | inl e ↦ subst (λ (j : ℕ). AreBeside j (ring_view start.links) (ring_view c.links)) (sym e.0) (subst (λ (x : RingCore). AreBeside (length seen) (ring_view start.links) (ring_view x.links)) (sym e.1) beside)
         | inr h ↦ was.beside k c h.1
       ];
       stands = λ k c at. elim (get_more seen other c k at) [ inl e ↦ subst (λ (x : RingCore). Stands ring_view x) (sym e.1) (stood other other' there stands) | inr h ↦ was.stands k c h.1 ];

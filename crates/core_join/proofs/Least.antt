@@ -30,7 +30,7 @@ not_first t rest l k a b = let e : ◌≡◌ {A = Option (List Stamped)} (Some [
 -- the next core has nothing left
 pub found_none : (left : List (List Stamped)) (n : ℕ) (least : Option (ℕ × ℕ)) → slice_get left n ≡ Some [] → FoundBelow left n least → FoundBelow left (n + 1) least
 found_none left n None at found = λ k h below here. elim (less_or_same k n (omega (arith, below))) [
-  inl lt ↦ found k h lt here
+  | inl lt ↦ found k h lt here
   | inr e ↦ let at' : slice_get left k ≡ Some [] = subst (λ (j : ℕ). slice_get left j ≡ Some []) (sym e) at in cc
 ]
 found_none left n (Some p) at found = record {
@@ -40,7 +40,7 @@ found_none left n (Some p) at found = record {
   is_stamp = found.is_stamp;
   below = omega (arith, found.below);
   before_all = λ k t rest below here. elim (less_or_same k n (omega (arith, below))) [
-    inl lt ↦ found.before_all k t rest lt here
+    | inl lt ↦ found.before_all k t rest lt here
     | inr e ↦ absurd (not_first t rest left n at (subst (λ (j : ℕ). slice_get left j ≡ Some (t ∷ rest)) e here))
   ];
 }
@@ -54,7 +54,7 @@ found_kept left n core stamp x xs at le found = record {
   is_stamp = found.is_stamp;
   below = omega (arith, found.below);
   before_all = λ k t rest below here. elim (less_or_same k n (omega (arith, below))) [
-    inl lt ↦ found.before_all k t rest lt here
+    | inl lt ↦ found.before_all k t rest lt here
     | inr e ↦
         let same : t ≡ x = first_is t x rest xs left n (subst (λ (j : ℕ). slice_get left j ≡ Some (t ∷ rest)) e here) at in
         let is : t.stamp ≡ x.stamp = ap (λ (y : Stamped). y.stamp) same in
@@ -72,7 +72,7 @@ found_next left n least x xs at found earlier = record {
   is_stamp = refl;
   below = omega arith;
   before_all = λ k t rest below here. elim (less_or_same k n (omega (arith, below))) [
-    inl lt ↦ inl (before least found earlier k t rest lt here)
+    | inl lt ↦ inl (before least found earlier k t rest lt here)
     | inr e ↦ inr (ap (λ (y : Stamped). y.stamp) (sym (first_is t x rest xs left n (subst (λ (j : ℕ). slice_get left j ≡ Some (t ∷ rest)) e here) at)), omega (arith, e))
   ];
 }

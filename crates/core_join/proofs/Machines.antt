@@ -1,5 +1,5 @@
 -- The cores of a machine that ran are its cores still.
-use Rattle.std.proofs.Common.{◌≡◌, ℕ, suc, List, [], ◌∷◌, length, Option, Some, None, refl, sym, ◌∙◌, subst, arith, rules}
+use Rattle.std.proofs.Common.{◌≡◌, ℕ, zero, suc, List, [], ◌∷◌, length, Option, Some, None, slice_get, refl, sym, ap, ◌∙◌, subst, arith, rules}
 use Rattle.core_links.specs.declared.ring_links.Link.{Link}
 use Rattle.core_links.specs.declared.ring_links.RingLinks.{RingLinks}
 use Rattle.core_links.specs.RingSlots.{own_of, link_to, SameSlot, SameLinks, AreJoinedSlots, AreJoinedLinks}
@@ -18,7 +18,7 @@ joined_slots (Some a) (Some b) (Some c) (Some d) same other joined = search rule
 pub joined_links : (a b c d : RingLinks) → SameLinks a b → SameLinks c d → AreJoinedLinks a c → AreJoinedLinks b d
 joined_links a b c d same other joined =
     let here : AreJoinedSlots (link_to b (own_of c)) (link_to d (own_of a)) =
-        joined_slots (link_to a (own_of c)) (link_to b (own_of c)) (link_to c (own_of a)) (link_to d (own_of a)) (same.each (own_of c)) (other.each (own_of a)) joined in
+    joined_slots (link_to a (own_of c)) (link_to b (own_of c)) (link_to c (own_of a)) (link_to d (own_of a)) (same.each (own_of c)) (other.each (own_of a)) joined in
     let to_b : AreJoinedSlots (link_to b (own_of c)) (link_to d (own_of b)) = subst (λ (n : ℕ). AreJoinedSlots (link_to b (own_of c)) (link_to d n)) (sym same.own) here in
     subst (λ (n : ℕ). AreJoinedSlots (link_to b n) (link_to d (own_of b))) (sym other.own) to_b
 
@@ -48,3 +48,18 @@ machine_ran budget budgets (first ∷ others) (again ∷ others_again) machine s
             joined = joined_links first.links again.links c.0.links d.links ran0.links ran.links p.joined;
           };
     }
+
+-- lists of the same cores, one core after another
+pub same_none : AreSameCores [] []
+same_none = record { all = refl; each = λ i c d at. absurd (cc) }
+
+pub same_more : (c d : RingCore) (cs ds : List RingCore) → SameCore SameLinks c d → AreSameCores cs ds → AreSameCores (c ∷ cs) (d ∷ ds)
+same_more c d cs ds first rest = record { all = ap suc rest.all; each = at_each }
+  where
+    at_each : (i : ℕ) (x y : RingCore) → slice_get (c ∷ cs) i ≡ Some x → slice_get (d ∷ ds) i ≡ Some y → SameCore SameLinks x y
+    at_each zero x y e f = let is_x : c ≡ x = cc in let is_y : d ≡ y = cc in subst (λ (z : RingCore). SameCore SameLinks z y) is_x (subst (λ (z : RingCore). SameCore SameLinks c z) is_y first)
+    at_each (suc i) x y e f = rest.each i x y e f
+
+-- a machine of one core
+pub one_core : (budget : ℕ) (first : RingCore) → HasPlace 0 1 budget first → IsMachine budget [] (first ∷ [])
+one_core budget first place = record { place = place; all = refl; peers = λ i b c at. absurd (cc) }

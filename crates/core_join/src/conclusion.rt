@@ -16,10 +16,7 @@ pub struct Histories {
 /// The histories of the cores of one machine, in the order of the cores, which is that of their numbers. Whatever the order in
 /// time was, they are one computation: each core took the messages of each other in the order in which they were sent, and
 /// stands where its history ends.
-pub fn conclude(
-    alloc: Global,
-    cores: Vec<Core<RingLinks>>,
-) -> Result<Histories, AllocError>
+pub fn conclude(alloc: Global, cores: Vec<Core<RingLinks>>) -> Result<Histories, AllocError>
     requires { (budget : ℕ) × (budgets : List ℕ) × IsMachine budget budgets cores.items }
     ensures histories { IfOk result (λ h. listed_histories h.cores.items ≡ histories_of cores.items) }
     ensures computation { IfOk result (λ _. OfMachine cores.items Concludes) }

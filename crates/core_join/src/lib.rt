@@ -8,3 +8,6 @@ mod merging;
 pub use conclusion::{Histories, conclude};
 pub use laws::cores_stay_a_machine;
 pub use merging::merge;
+
+#[cfg(test)]
+mod tests;

@@ -60,7 +60,11 @@ fn listed_copy(alloc: Global, stamped: &Stamped) -> Result<Done, AllocError>
 {
     let mut done = stamped.done.copy(alloc)?;
     if let Event::Take { short, .. } = &mut done.event {
-        if let Answer::TookPrepare { vote: Vote::NoMemory, .. } = done.answer {
+        if let Answer::TookPrepare {
+            vote: Vote::NoMemory,
+            ..
+        } = done.answer
+        {
             *short = true;
         }
     }

@@ -18,16 +18,16 @@ loop-other-preserved c =
     let e = c.beside.ensures in
     let histories = listed_histories c.loop-other.histories.items in
     let pushed : listed_histories c.push.new.self.items ≡ histories ++ c.beside.new.other.history ∷ [] =
-        ap listed_histories c.in_ok-push.ensures.items ∙ map-append (λ v. v.items) c.loop-other.histories.items (c.into_history.result ∷ [])
-        ∙ ap (λ h. histories ++ h ∷ []) c.into_history.ensures.history in
+    ap listed_histories c.in_ok-push.ensures.items ∙ map-append (λ v. v.items) c.loop-other.histories.items (c.into_history.result ∷ [])
+    ∙ ap (λ h. histories ++ h ∷ []) c.into_history.ensures.history in
     rw pushed
     (goes_on c.requires.0 c.requires.1 _ _ c.loop-other.first c.in-Some-other.other c.beside.new.self c.beside.new.other histories c.loop-other.yielded _ _ c.requires.2 c.loop-other.invariant c.in-Some-other.ensures.steps.0
-        (record { core = e.core; links = e.links.0; views = e.here }) (record { core = e.other; links = e.links.1; views = e.there }) e.took e.gave c.into_history.ensures.stands)
+    (record { core = e.core; links = e.links.0; views = e.here }) (record { core = e.other; links = e.links.1; views = e.there }) e.took e.gave c.into_history.ensures.stands)
 
 pub returns-clause-histories : goal.returns-clause-histories
 returns-clause-histories c =
     let inserted : listed_histories c.insert.new.self.items ≡ c.loop-other.first.history ∷ listed_histories c.loop-other.histories.items =
-        ap listed_histories c.in_ok-insert.ensures.items ∙ ap (λ h. h ∷ listed_histories c.loop-other.histories.items) c.into_history-2.ensures.history in
+    ap listed_histories c.in_ok-insert.ensures.items ∙ ap (λ h. h ∷ listed_histories c.loop-other.histories.items) c.into_history-2.ensures.history in
     let none : into_iter_items c.loop-other.other-iterator ≡ [] = nil_from_length _ (sym c.loop-other.other-iterator.rest.ok.0 ∙ c.in-None.ensures.steps.0) in
     all_listed c.args.cores.items c.in-Some.first c.loop-other.first (listed_histories c.loop-other.histories.items) (listed_histories c.insert.new.self.items) c.loop-other.yielded _ c.loop-other.invariant none inserted
 

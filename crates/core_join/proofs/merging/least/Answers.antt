@@ -16,9 +16,9 @@ loop-core-preserved c =
     let left = shown_histories c.args.left.now in
     let first = shown_first c.args.left.now c.loop-core.core c.index-left-core.result c.in-Some.event.now c.index-left-core.is c.loop-core-test.true c.in-Some.ensures.value in
     elim c.match-least.branch [
-      in-Some-least w ↦ rw (w.least-is, w.in-Some-least.is) (found_kept left c.loop-core.core w.in-Some-least.field-0-0 w.in-Some-least.stamp c.in-Some.event.now first.0 first.1 w.if-stamp-event.true (rw w.in-Some-least.is at c.loop-core.invariant))
+      | in-Some-least w ↦ rw (w.least-is, w.in-Some-least.is) (found_kept left c.loop-core.core w.in-Some-least.field-0-0 w.in-Some-least.stamp c.in-Some.event.now first.0 first.1 w.if-stamp-event.true (rw w.in-Some-least.is at c.loop-core.invariant))
       | in_default-least w ↦ rw w.least-is (found_next left c.loop-core.core c.loop-core.least c.in-Some.event.now first.0 first.1 c.loop-core.invariant (elim w.in_default-least.branch [
-        in_default-least-via-in-Some-least+else-stamp-event v ↦ earlier c.loop-core.least v.in-Some-least.field-0-0 v.in-Some-least.stamp c.in-Some.event.now.stamp v.in-Some-least.is v.if-stamp-event.false
+        | in_default-least-via-in-Some-least+else-stamp-event v ↦ earlier c.loop-core.least v.in-Some-least.field-0-0 v.in-Some-least.stamp c.in-Some.event.now.stamp v.in-Some-least.is v.if-stamp-event.false
         | in_default-least-via-in_default-least v ↦ not_found c.loop-core.least c.in-Some.event.now.stamp v.in_default-least.is
       ]))
     ]

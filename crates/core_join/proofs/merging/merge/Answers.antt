@@ -22,7 +22,7 @@ loop-core-preserved c =
     let pushed : c.push-in-Some.new.self.items ≡ c.loop-core.list.items ++ listed c.in-Some-split_first.event.now ∷ [] = search rules in
     rw pushed
     (merges_step _ left c.loop-core.list.items c.in-Some.core l c.in-Some-split_first.event.now c.in-Some-split_first.later
-        (splits_off left c.in-Some.core l c.index.result.now c.in-Some-split_first.later c.in-Some-split_first.event.now at split) c.loop-core.invariant)
+    (splits_off left c.in-Some.core l c.index.result.now c.in-Some-split_first.later c.in-Some-split_first.event.now at split) c.loop-core.invariant)
 
 pub returns-clause-list : goal.returns-clause-list
 returns-clause-list c =
