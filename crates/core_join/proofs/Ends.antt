@@ -20,6 +20,7 @@ use Rattle.world_histories.proofs.Replies.{replied}
 use Rattle.core_loop.specs.declared.part.Part.{Part}
 use Rattle.core_loop.specs.declared.part.Part.TheVariants as part
 use Rattle.core_loop.specs.Standing.{Stands0, StandsOther, AreBeside}
+use Rattle.core_loop.specs.Beginning.{HasNothingUnderWay}
 use Rattle.core_loop.specs.Keeping.{IsStanding, replica_of}
 use Rattle.core_loop.specs.Cores.{Stands}
 use Rattle.core_loop.proofs.Conclusions.{concluded}
@@ -82,7 +83,12 @@ shown : (x : Part) (clock : ℕ) (end : Other) → StandsAtOther x clock end →
 shown (part.First core) clock end s = absurd s
 shown (part.Other core) clock end s = s.shown_is
 
-idle_at : (others : ℕ) (x : Part) (clock : ℕ) (end : Core0) → StandsAt0 others x clock end → IsIdle0 x → end.place.phase ≡ Idle
+-- core 0 with nothing under way is idle, and its history ends so
+pub idle_first : (others cores : ℕ) (x : Part) (clock : ℕ) (end : Core0) (view : ℕ → LinkView) → StandsAt0 others x clock end → HasNothingUnderWay cores x view → IsIdle0 x
+idle_first others cores (part.First core) clock end view s nothing = nothing.0
+idle_first others cores (part.Other core) clock end view s nothing = absurd s
+
+pub idle_at : (others : ℕ) (x : Part) (clock : ℕ) (end : Core0) → StandsAt0 others x clock end → IsIdle0 x → end.place.phase ≡ Idle
 idle_at others (part.First core) clock end s idle = ap (λ p. p.phase) s.place_is ∙ idle
 idle_at others (part.Other core) clock end s idle = absurd s
 
