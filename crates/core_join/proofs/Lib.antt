@@ -1,6 +1,5 @@
 pub mod Lists
 pub mod Machines
-pub mod Silent
 pub mod Joined
 pub mod Ends
 pub mod Concluding

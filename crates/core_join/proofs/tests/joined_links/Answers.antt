@@ -1,4 +1,4 @@
-use Rattle.core_join.proofs.Silent.{silent_empty, silent_more}
+use Rattle.core_loop.proofs.Silent.{silent_empty, silent_more}
 use Rattle.core_join.proofs.tests.joined_links.Goals as goal
 
 pub returns-clause-silent : goal.returns-clause-silent

@@ -1,0 +1,90 @@
+//! A core alone, one whose peer is silent, and one that is given messages which fit nothing.
+
+ghost use Rattle.std.specs.Prelude.{◌≤◌, vec_len};
+
+use super::{core_of, create, job};
+use crate::{Cause, Core, ListLinks, Turn};
+use monitor_messages::{Message, encode};
+use rx_queue::queue;
+use std::alloc::Global;
+use std::collections::VecDeque;
+use std::test::Fail;
+
+#[test]
+fn a_core_alone_commits_and_receives(rt: HostRuntime) -> Result<(), Fail> {
+    let alloc = rt.alloc();
+    let (mut port, intake) = queue(alloc, 4)?;
+    let mut requests = VecDeque::new(alloc);
+    requests.push_back(create())?;
+    let links = ListLinks::new(alloc, 0, 1, 4)?;
+    let mut core = Core::new(alloc, links, 100, 0, 1, requests, intake)?;
+    assert_eq!(rt; core.turn(true), Turn::Did);
+    assert_eq!(rt; core.version(), 1);
+    assert_eq!(rt; core.pending(), 0);
+    assert_eq!(rt; core.turn(true), Turn::Idle);
+    assert!(rt; port.put(job(alloc, 7, 2)?).is_ok());
+    assert_eq!(rt; core.turn(true), Turn::Idle);
+    assert_eq!(rt; core.unread(&mut port).map(|job| job.floor), Some(2));
+    assert!(rt; port.put(job(alloc, 7, 1)?).is_ok());
+    assert_eq!(rt; core.turn(false), Turn::Idle);
+    assert_eq!(rt; core.turn(true), Turn::Did);
+    assert_eq!(rt; core.turn(true), Turn::Idle);
+    assert_eq!(rt; core.history().len(), 2);
+    assert_eq!(rt; core.history().last().map(|event| event.stamp), Some(2));
+    Ok(())
+}
+
+#[test]
+fn a_core_sends_one_request_and_waits(rt: HostRuntime) -> Result<(), Fail> {
+    let alloc = rt.alloc();
+    let (_port, intake) = queue(alloc, 4)?;
+    let mut requests = VecDeque::new(alloc);
+    requests.push_back(create())?;
+    let links = ListLinks::new(alloc, 0, 2, 4)?;
+    let mut core = Core::new(alloc, links, 100, 0, 2, requests, intake)?;
+    assert_eq!(rt; core.turn(true), Turn::Did);
+    assert_eq!(rt; core.turn(true), Turn::Idle);
+    assert_eq!(rt; core.version(), 0);
+    assert_eq!(rt; core.into_history().len(), 1);
+    Ok(())
+}
+
+// What core 1 of two answers where this is given to it as core 0's, twice.
+fn turns_at(alloc: Global, message: Vec<u8>) -> Result<(Turn, Turn, u64, usize), Fail>
+    requires length { (1 ≤ vec_len message) × (vec_len message ≤ 32832) }
+{
+    let (mut core, _port) = core_of(alloc, 1, 2, 4)?;
+    let _ = core.give(0, message);
+    let first = core.turn(true);
+    let second = core.turn(true);
+    Ok((first, second, core.version(), core.history().len()))
+}
+
+#[test]
+fn a_bad_message_stops_a_core(rt: HostRuntime) -> Result<(), Fail> {
+    let alloc = rt.alloc();
+    let stopped = Turn::Stopped(Cause::BadMessage);
+    let found = turns_at(alloc, Vec::from_slice(alloc, &[9])?)?;
+    assert_eq!(rt; found, (stopped, stopped, 0, 0));
+    Ok(())
+}
+
+#[test]
+fn a_message_that_comes_too_early_stops_a_core(rt: HostRuntime) -> Result<(), Fail> {
+    let alloc = rt.alloc();
+    let stopped = Turn::Stopped(Cause::Stranger);
+    let commit = encode(alloc, 1, &Message::Commit { txn: 1 })?;
+    let found = turns_at(alloc, commit)?;
+    assert_eq!(rt; found, (stopped, stopped, 0, 0));
+    Ok(())
+}
+
+#[test]
+fn the_last_stamp_is_spent(rt: HostRuntime) -> Result<(), Fail> {
+    let alloc = rt.alloc();
+    let op = create();
+    let prepare = encode(alloc, u64::MAX, &Message::Prepare { txn: 1, op })?;
+    let found = turns_at(alloc, prepare)?;
+    assert_eq!(rt; found, (Turn::Spent, Turn::Spent, 0, 0));
+    Ok(())
+}

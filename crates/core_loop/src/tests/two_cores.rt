@@ -1,0 +1,230 @@
+//! Two cores that answer each other, over lists.
+
+use super::{carry, core_of, create, job};
+use crate::{Core, ListLinks, Stamped, Turn};
+use bpf_insn::read_ddd;
+use monitor_messages::{Decision, Vote};
+use rx_queue::{Port, queue};
+use std::alloc::{AllocError, Global};
+use std::collections::VecDeque;
+use std::test::Fail;
+use table_replica::{Kept, Made, Op, Program};
+use world_model::Answer;
+
+// What an event told.
+#[derive(Clone, Copy, PartialEq, Eq, Debug)]
+enum Shown {
+    Prepared(u64),
+    TookPrepare(u64, Vote),
+    TookVote(u64, Vote, Option<Decision>),
+    TookCommit(u64, u64),
+    TookAck(u64),
+    Delivered(u64, usize, Option<Kept>),
+    Else,
+}
+
+fn told(answer: &Answer) -> Shown {
+    match answer {
+        Answer::Prepared { txn } => Shown::Prepared(*txn),
+        Answer::TookPrepare { txn, vote } => Shown::TookPrepare(*txn, *vote),
+        Answer::TookVote { txn, vote, decided } => Shown::TookVote(*txn, *vote, *decided),
+        Answer::TookCommit { txn, version } => Shown::TookCommit(*txn, *version),
+        Answer::TookAck { txn } => Shown::TookAck(*txn),
+        Answer::Delivered { version, kept } => {
+            let kept = kept.as_slice();
+            Shown::Delivered(*version, kept.len(), kept.first().copied())
+        }
+        _ => Shown::Else,
+    }
+}
+
+// Whether a history has just these stamps and answers.
+fn has(history: &[Stamped], wanted: &[(u64, Shown)]) -> bool {
+    if history.len() != wanted.len() {
+        return false;
+    }
+    for (event, wanted) in history.iter().zip(wanted) {
+        if (event.stamp, told(&event.done.answer)) != *wanted {
+            return false;
+        }
+    }
+    true
+}
+
+// Core 0 of two, which is to create endpoint 7 and to install a filter that accepts every packet.
+fn core_0(alloc: Global, capacity: usize) -> Result<Core<ListLinks>, Fail> {
+    let (_port, intake) = queue(alloc, 4)?;
+    let links = ListLinks::new(alloc, 0, 2, capacity)?;
+    let mut requests = VecDeque::new(alloc);
+    requests.push_back(create())?;
+    let program = Program::from_vec(read_ddd(alloc, b"1,6 0 0 65535")?);
+    requests.push_back(Op::Install {
+        domain: 1,
+        cap: 1,
+        program,
+    })?;
+    Ok(Core::new(alloc, links, 100, 0, 2, requests, intake)?)
+}
+
+// Turns both cores, one after the other, and carries what they send.
+fn run(
+    alloc: Global,
+    first: &mut Core<ListLinks>,
+    other: &mut Core<ListLinks>,
+) -> Result<(), AllocError> {
+    for _ in 0..20 {
+        let _ = first.turn(true);
+        carry(alloc, first, other)?;
+        let _ = other.turn(true);
+        carry(alloc, other, first)?;
+    }
+    Ok(())
+}
+
+const FIRST: [(u64, Shown); 6] = [
+    (1, Shown::Prepared(1)),
+    (3, Shown::TookVote(1, Vote::Yes, Some(CREATED))),
+    (5, Shown::TookAck(1)),
+    (6, Shown::Prepared(2)),
+    (8, Shown::TookVote(2, Vote::Yes, Some(INSTALLED))),
+    (10, Shown::TookAck(2)),
+];
+
+const CREATED: Decision = Decision::Committed {
+    version: 1,
+    made: Made::Cap(1),
+};
+
+const INSTALLED: Decision = Decision::Committed {
+    version: 2,
+    made: Made::Filter(1),
+};
+
+const OTHER: [(u64, Shown); 5] = [
+    (2, Shown::TookPrepare(1, Vote::Yes)),
+    (4, Shown::TookCommit(1, 1)),
+    (7, Shown::TookPrepare(2, Vote::Yes)),
+    (9, Shown::TookCommit(2, 2)),
+    (10, Shown::Delivered(2, 1, Some(KEPT))),
+];
+
+const KEPT: Kept = Kept {
+    endpoint: 7,
+    kept: 5,
+};
+
+fn is_first(core: &Core<ListLinks>) -> bool {
+    has(core.history(), &FIRST)
+}
+
+fn is_other(core: &Core<ListLinks>) -> bool {
+    has(core.history(), &OTHER)
+}
+
+// Puts a job for version 2 and one for version 9.
+fn put_jobs(alloc: Global, port: &mut Port) -> Result<(), AllocError> {
+    for (number, floor) in [(1, 2), (2, 9)] {
+        let _ = port.put(job(alloc, number, floor)?);
+    }
+    Ok(())
+}
+
+// Core 1 of two, with these jobs.
+fn core_1(alloc: Global, capacity: usize) -> Result<Core<ListLinks>, AllocError> {
+    let (core, mut port) = core_of(alloc, 1, 2, capacity)?;
+    put_jobs(alloc, &mut port)?;
+    Ok(core)
+}
+
+// Both.
+fn two_cores(alloc: Global, capacity: usize) -> Result<(Core<ListLinks>, Core<ListLinks>), Fail> {
+    let first = core_0(alloc, capacity)?;
+    let other = core_1(alloc, capacity)?;
+    Ok((first, other))
+}
+
+// The number of the job in front.
+fn front(core: &mut Core<ListLinks>) -> Option<u64> {
+    core.look();
+    Some(core.seen()?.number)
+}
+
+#[test]
+fn two_cores_commit_and_receive(rt: HostRuntime) -> Result<(), Fail> {
+    let alloc = rt.alloc();
+    let (mut first, mut other) = two_cores(alloc, 8)?;
+    run(alloc, &mut first, &mut other)?;
+    assert!(rt; is_first(&first));
+    assert!(rt; is_other(&other));
+    assert!(rt; first.idle() && other.idle());
+    assert_eq!(rt; front(&mut other), Some(2));
+    Ok(())
+}
+
+// Whether core 0 did its first event, and core 1 answered it.
+fn is_answered(
+    alloc: Global,
+    first: &mut Core<ListLinks>,
+    other: &mut Core<ListLinks>,
+) -> Result<bool, AllocError> {
+    let started = first.turn(true) == Turn::Did;
+    carry(alloc, first, other)?;
+    let voted = other.turn(true) == Turn::Did;
+    carry(alloc, other, first)?;
+    Ok(started && voted)
+}
+
+// Whether a core finds nothing to do after its first event.
+fn is_idle(core: &mut Core<ListLinks>) -> bool {
+    core.turn(true) == Turn::Idle && core.history().len() == 1
+}
+
+#[test]
+fn a_vote_waits_for_its_answers_link(rt: HostRuntime) -> Result<(), Fail> {
+    let alloc = rt.alloc();
+    let (mut first, mut other) = two_cores(alloc, 1)?;
+    assert!(rt; is_answered(alloc, &mut first, &mut other)?);
+    assert!(rt; is_idle(&mut first));
+    Ok(())
+}
+
+// A turn; whether it was refused memory and then had changed something.
+fn is_torn(core: &mut Core<ListLinks>) -> bool {
+    let before = (core.history().len(), core.version(), core.pending());
+    core.turn(true) == Turn::NoMemory
+        && before != (core.history().len(), core.version(), core.pending())
+}
+
+// Turns both cores, and says whether a turn that was refused memory had changed something.
+fn is_any_torn(
+    alloc: Global,
+    first: &mut Core<ListLinks>,
+    other: &mut Core<ListLinks>,
+) -> Result<bool, AllocError> {
+    let mut torn = false;
+    for _ in 0..20 {
+        torn |= is_torn(first);
+        carry(alloc, first, other)?;
+        torn |= is_torn(other);
+        carry(alloc, other, first)?;
+    }
+    Ok(torn)
+}
+
+// Whether both are idle at one version, and have done what they do with ample memory where they are at the last one.
+fn agree(first: &Core<ListLinks>, other: &Core<ListLinks>) -> bool {
+    if !first.idle() || !other.idle() || first.version() != other.version() {
+        return false;
+    }
+    first.version() < 2 || is_first(first) && is_other(other)
+}
+
+// A change that lacked memory is refused on both cores; else all is as with ample memory.
+#[test]
+fn two_cores_with_a_refused_growth(rt: HostRuntime) -> Result<(), Fail> {
+    let alloc = rt.alloc();
+    let (mut first, mut other) = two_cores(alloc, 8)?;
+    let torn = is_any_torn(alloc, &mut first, &mut other)?;
+    assert!(rt; !torn && agree(&first, &other));
+    Ok(())
+}
