@@ -7,3 +7,4 @@ pub mod Carrying
 pub mod Acting
 pub mod Resting
 pub mod Order
+pub mod Silent

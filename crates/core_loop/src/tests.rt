@@ -1,67 +1,72 @@
-//! A core alone, and one whose peer is silent, over lists.
+//! Cores over lists, whose messages the tests carry.
 
-use super::*;
+mod alone;
+mod lines;
+mod two_cores;
+
+ghost use Rattle.std.specs.Prelude.{◌≤◌, ◌<◌};
+
+use crate::{Core, ListLinks};
 use pcap_reader::{Bytes, Packet};
-use rx_queue::{Job, queue};
-use std::alloc::Global;
+use rx_queue::{Job, Port, queue};
+use std::alloc::{AllocError, Global};
 use std::collections::VecDeque;
-use std::test::Fail;
 use table_replica::Op;
 
-// A job of a packet without bytes, for a table of this version or a later one.
-fn job(alloc: Global, floor: u64) -> Job {
-    Job {
-        number: 7,
+// A job of a packet of five bytes, for a table of this version or a later one.
+pub(crate) fn job(alloc: Global, number: u64, floor: u64) -> Result<Job, AllocError> {
+    Ok(Job {
+        number,
         packet: Packet {
-            bytes: Bytes::from_vec(Vec::new(alloc)),
-            original: 60,
+            bytes: Bytes::from_vec(Vec::from_slice(alloc, &[1, 2, 3, 4, 5])?),
+            original: 5,
         },
         floor,
-    }
+    })
 }
 
-fn create() -> Op {
+pub(crate) fn create() -> Op {
     Op::Create {
         domain: 1,
-        endpoint: 5,
+        endpoint: 7,
     }
 }
 
-#[test]
-fn a_core_alone_commits_and_receives(rt: HostRuntime) -> Result<(), Fail> {
-    let alloc = rt.alloc();
-    let (mut port, intake) = queue(alloc, 4)?;
-    let mut requests = VecDeque::new(alloc);
-    requests.push_back(create())?;
-    let links = ListLinks::new(alloc, 0, 1, 4)?;
-    let mut core = Core::new(alloc, links, 100, 0, 1, requests, intake)?;
-    assert_eq!(rt; core.turn(true), Turn::Did);
-    assert_eq!(rt; core.version(), 1);
-    assert_eq!(rt; core.pending(), 0);
-    assert_eq!(rt; core.turn(true), Turn::Idle);
-    assert!(rt; port.put(job(alloc, 2)).is_ok());
-    assert_eq!(rt; core.turn(true), Turn::Idle);
-    assert_eq!(rt; core.unread(&mut port).map(|job| job.floor), Some(2));
-    assert!(rt; port.put(job(alloc, 1)).is_ok());
-    assert_eq!(rt; core.turn(false), Turn::Idle);
-    assert_eq!(rt; core.turn(true), Turn::Did);
-    assert_eq!(rt; core.turn(true), Turn::Idle);
-    assert_eq!(rt; core.history().len(), 2);
-    assert_eq!(rt; core.history().last().map(|event| event.stamp), Some(2));
-    Ok(())
+// A core other than 0 has no requests.
+pub(crate) fn core_of(
+    alloc: Global,
+    number: u16,
+    cores: u16,
+    capacity: usize,
+) -> Result<(Core<ListLinks>, Port), AllocError>
+    requires number { 1 ≤ number × number < cores × cores ≤ 8 }
+{
+    let (port, intake) = queue(alloc, 4)?;
+    let links = ListLinks::new(alloc, number, cores, capacity)?;
+    let requests = VecDeque::new(alloc);
+    let core = Core::new(alloc, links, 100, number, cores, requests, intake)?;
+    Ok((core, port))
 }
 
-#[test]
-fn a_core_sends_one_request_and_waits(rt: HostRuntime) -> Result<(), Fail> {
-    let alloc = rt.alloc();
-    let (_port, intake) = queue(alloc, 4)?;
-    let mut requests = VecDeque::new(alloc);
-    requests.push_back(create())?;
-    let links = ListLinks::new(alloc, 0, 2, 4)?;
-    let mut core = Core::new(alloc, links, 100, 0, 2, requests, intake)?;
-    assert_eq!(rt; core.turn(true), Turn::Did);
-    assert_eq!(rt; core.turn(true), Turn::Idle);
-    assert_eq!(rt; core.version(), 0);
-    assert_eq!(rt; core.into_history().len(), 1);
+// Gives what a core sent to a peer to that peer.
+pub(crate) fn carry(
+    alloc: Global,
+    from: &mut Core<ListLinks>,
+    to: &mut Core<ListLinks>,
+) -> Result<(), AllocError> {
+    let (sender, peer) = (from.number(), to.number());
+    for _ in 0..8 {
+        if !from.mark_collected(peer) {
+            return Ok(());
+        }
+        let Some(bytes) = from.last_collected(peer) else {
+            return Ok(());
+        };
+        if bytes.is_empty() || bytes.len() > 32832 {
+            return Ok(());
+        }
+        let message = Vec::from_slice(alloc, bytes)?;
+        let _ = to.give(sender, message);
+    }
     Ok(())
 }

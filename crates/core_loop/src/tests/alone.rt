@@ -4,10 +4,11 @@ ghost use Rattle.std.specs.Prelude.{◌≤◌, vec_len};
 
 use super::{core_of, create, job};
 use crate::{Cause, Core, ListLinks, Turn};
-use monitor_messages::{Message, encode};
+use monitor_messages::{Message, Vote, encode};
 use rx_queue::queue;
-use std::alloc::Global;
+use std::alloc::{AllocError, Global};
 use std::collections::VecDeque;
+use std::process::Abort;
 use std::test::Fail;
 
 #[test]
@@ -86,5 +87,58 @@ fn the_last_stamp_is_spent(rt: HostRuntime) -> Result<(), Fail> {
     let prepare = encode(alloc, u64::MAX, &Message::Prepare { txn: 1, op })?;
     let found = turns_at(alloc, prepare)?;
     assert_eq!(rt; found, (Turn::Spent, Turn::Spent, 0, 0));
+    Ok(())
+}
+
+// A core of this many cores that is to create an endpoint, over links of capacity 1.
+fn creator(alloc: Global, cores: u16) -> Result<Core<ListLinks>, AllocError>
+    requires { 1 ≤ cores × cores ≤ 8 }
+{
+    let (_port, intake) = queue(alloc, 4)?;
+    let mut requests = VecDeque::new(alloc);
+    requests.push_back(create())?;
+    let links = ListLinks::new(alloc, 0, cores, 1)?;
+    Core::new(alloc, links, 100, 0, cores, requests, intake)
+}
+
+// What a core answers that starts a request and then is given this as core 1's, where its link takes no more.
+fn turns_of_full_links(alloc: Global, message: Vec<u8>) -> Result<(Turn, Turn, usize), AllocError>
+    requires length { (1 ≤ vec_len message) × (vec_len message ≤ 32832) }
+{
+    let mut core = creator(alloc, 2)?;
+    let first = core.turn(true);
+    let _ = core.give(1, message);
+    let second = core.turn(true);
+    Ok((first, second, core.history().len()))
+}
+
+#[test]
+fn a_vote_waits_for_its_answers_link(rt: HostRuntime) -> Result<(), Fail> {
+    let alloc = rt.alloc();
+    let yes = Vote::Yes;
+    let vote = encode(alloc, 2, &Message::Vote { txn: 1, vote: yes })?;
+    let found = turns_of_full_links(alloc, vote)?;
+    assert_eq!(rt; found, (Turn::Did, Turn::Idle, 1));
+    Ok(())
+}
+
+// A turn; one that is refused memory changes nothing.
+fn turn(rt: &impl Abort, core: &mut Core<ListLinks>) {
+    let before = (core.history().len(), core.version(), core.pending());
+    if core.turn(true) == Turn::NoMemory {
+        let after = (core.history().len(), core.version(), core.pending());
+        assert_eq!(rt; before, after);
+    }
+}
+
+// Turns that commit the request, or refuse it where it lacked memory.
+#[test]
+fn a_core_alone_with_a_refused_growth(rt: HostRuntime) -> Result<(), Fail> {
+    let mut core = creator(rt.alloc(), 1)?;
+    for _ in 0..4 {
+        turn(&rt, &mut core);
+    }
+    assert!(rt; core.idle() && core.pending() == 0);
+    assert_eq!(rt; core.history().len(), 1);
     Ok(())
 }

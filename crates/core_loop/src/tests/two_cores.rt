@@ -1,7 +1,7 @@
 //! Two cores that answer each other, over lists.
 
 use super::{carry, core_of, create, job};
-use crate::{Core, ListLinks, Stamped, Turn};
+use crate::{Core, ListLinks, Stamped};
 use bpf_insn::read_ddd;
 use monitor_messages::{Decision, Vote};
 use rx_queue::{Port, queue};
@@ -52,8 +52,8 @@ fn has(history: &[Stamped], wanted: &[(u64, Shown)]) -> bool {
 }
 
 // Core 0 of two, which is to create endpoint 7 and to install a filter that accepts every packet.
-fn core_0(alloc: Global, capacity: usize) -> Result<Core<ListLinks>, Fail> {
-    let (_port, intake) = queue(alloc, 4)?;
+fn core_0(alloc: Global, capacity: usize) -> Result<(Core<ListLinks>, Port), Fail> {
+    let (port, intake) = queue(alloc, 4)?;
     let links = ListLinks::new(alloc, 0, 2, capacity)?;
     let mut requests = VecDeque::new(alloc);
     requests.push_back(create())?;
@@ -63,7 +63,8 @@ fn core_0(alloc: Global, capacity: usize) -> Result<Core<ListLinks>, Fail> {
         cap: 1,
         program,
     })?;
-    Ok(Core::new(alloc, links, 100, 0, 2, requests, intake)?)
+    let core = Core::new(alloc, links, 100, 0, 2, requests, intake)?;
+    Ok((core, port))
 }
 
 // Turns both cores, one after the other, and carries what they send.
@@ -129,20 +130,6 @@ fn put_jobs(alloc: Global, port: &mut Port) -> Result<(), AllocError> {
     Ok(())
 }
 
-// Core 1 of two, with these jobs.
-fn core_1(alloc: Global, capacity: usize) -> Result<Core<ListLinks>, AllocError> {
-    let (core, mut port) = core_of(alloc, 1, 2, capacity)?;
-    put_jobs(alloc, &mut port)?;
-    Ok(core)
-}
-
-// Both.
-fn two_cores(alloc: Global, capacity: usize) -> Result<(Core<ListLinks>, Core<ListLinks>), Fail> {
-    let first = core_0(alloc, capacity)?;
-    let other = core_1(alloc, capacity)?;
-    Ok((first, other))
-}
-
 // The number of the job in front.
 fn front(core: &mut Core<ListLinks>) -> Option<u64> {
     core.look();
@@ -152,79 +139,13 @@ fn front(core: &mut Core<ListLinks>) -> Option<u64> {
 #[test]
 fn two_cores_commit_and_receive(rt: HostRuntime) -> Result<(), Fail> {
     let alloc = rt.alloc();
-    let (mut first, mut other) = two_cores(alloc, 8)?;
+    let (mut first, _port) = core_0(alloc, 8)?;
+    let (mut other, mut port) = core_of(alloc, 1, 2, 8)?;
+    put_jobs(alloc, &mut port)?;
     run(alloc, &mut first, &mut other)?;
     assert!(rt; is_first(&first));
     assert!(rt; is_other(&other));
     assert!(rt; first.idle() && other.idle());
     assert_eq!(rt; front(&mut other), Some(2));
-    Ok(())
-}
-
-// Whether core 0 did its first event, and core 1 answered it.
-fn is_answered(
-    alloc: Global,
-    first: &mut Core<ListLinks>,
-    other: &mut Core<ListLinks>,
-) -> Result<bool, AllocError> {
-    let started = first.turn(true) == Turn::Did;
-    carry(alloc, first, other)?;
-    let voted = other.turn(true) == Turn::Did;
-    carry(alloc, other, first)?;
-    Ok(started && voted)
-}
-
-// Whether a core finds nothing to do after its first event.
-fn is_idle(core: &mut Core<ListLinks>) -> bool {
-    core.turn(true) == Turn::Idle && core.history().len() == 1
-}
-
-#[test]
-fn a_vote_waits_for_its_answers_link(rt: HostRuntime) -> Result<(), Fail> {
-    let alloc = rt.alloc();
-    let (mut first, mut other) = two_cores(alloc, 1)?;
-    assert!(rt; is_answered(alloc, &mut first, &mut other)?);
-    assert!(rt; is_idle(&mut first));
-    Ok(())
-}
-
-// A turn; whether it was refused memory and then had changed something.
-fn is_torn(core: &mut Core<ListLinks>) -> bool {
-    let before = (core.history().len(), core.version(), core.pending());
-    core.turn(true) == Turn::NoMemory
-        && before != (core.history().len(), core.version(), core.pending())
-}
-
-// Turns both cores, and says whether a turn that was refused memory had changed something.
-fn is_any_torn(
-    alloc: Global,
-    first: &mut Core<ListLinks>,
-    other: &mut Core<ListLinks>,
-) -> Result<bool, AllocError> {
-    let mut torn = false;
-    for _ in 0..20 {
-        torn |= is_torn(first);
-        carry(alloc, first, other)?;
-        torn |= is_torn(other);
-        carry(alloc, other, first)?;
-    }
-    Ok(torn)
-}
-
-// Whether both are idle at one version, and have done what they do with ample memory where they are at the last one.
-fn agree(first: &Core<ListLinks>, other: &Core<ListLinks>) -> bool {
-    if !first.idle() || !other.idle() || first.version() != other.version() {
-        return false;
-    }
-    first.version() < 2 || is_first(first) && is_other(other)
-}
-
-// A change that lacked memory is refused on both cores; else all is as with ample memory.
-#[test]
-fn two_cores_with_a_refused_growth(rt: HostRuntime) -> Result<(), Fail> {
-    let alloc = rt.alloc();
-    let (mut first, mut other) = two_cores(alloc, 8)?;
-    let torn = is_any_torn(alloc, &mut first, &mut other)?;
-    assert!(rt; !torn && agree(&first, &other));
     Ok(())
 }
