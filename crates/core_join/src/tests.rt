@@ -1,12 +1,12 @@
 //! Machines of one core and of two in one thread, and histories written by hand.
 
-ghost use Rattle.std.specs.Prelude.{◌≡◌, ◌∷◌, [], ℕ, List, IfOk};
+ghost use Rattle.std.specs.Prelude.{◌≡◌, ◌<◌, ◌≤◌, ◌∷◌, [], ℕ, List, IfOk};
 ghost use Rattle.rx_queue.specs.Queue.{jobs_taken};
 ghost use Rattle.monitor_messages.specs.Coding.{HasShortProgram};
 ghost use Rattle.core_links.specs.RingSlots.{ring_view, own_of, AreJoinedLinks};
 ghost use Rattle.core_loop.specs.Standing.{IsSilent};
 ghost use Rattle.core_loop.specs.Cores.{AreShort};
-ghost use Rattle.core_join.specs.Machines.{IsMachine};
+ghost use Rattle.core_join.specs.Machines.{HasPlace, IsMachine};
 
 use super::*;
 use bpf_insn::{TextFault, read_ddd};
@@ -176,7 +176,26 @@ fn joined_links(alloc: Global) -> Result<(RingLinks, RingLinks), AllocError>
     Ok((first, second))
 }
 
-// Cores 0 and 1 of a machine, each with a job.
+// A core among so many, with a job of this number.
+fn core(
+    alloc: Global,
+    links: RingLinks,
+    number: u16,
+    cores: u16,
+    requests: VecDeque<Op>,
+    job: u64,
+) -> Result<Core<RingLinks>, AllocError>
+    requires number { (number < cores) × (cores ≤ 8) }
+    requires links { (own_of links ≡ number) × ((p : ℕ) → IsSilent (ring_view links p)) }
+    requires short { AreShort number requests.items }
+    ensures place { IfOk result (λ core. HasPlace number cores 100 core) }
+    ensures links { IfOk result (λ core. core.links ≡ links) }
+{
+    let jobs = intake(alloc, job)?;
+    Core::new(alloc, links, 100, number, cores, requests, jobs)
+}
+
+// Cores 0 and 1 of a machine.
 fn two_cores(
     alloc: Global,
     first: VecDeque<Op>,
@@ -186,10 +205,8 @@ fn two_cores(
     ensures { IfOk result (λ r. IsMachine 100 (100 ∷ []) (r.0 ∷ r.1 ∷ [])) }
 {
     let (links, other_links) = joined_links(alloc)?;
-    let jobs = intake(alloc, 7)?;
-    let first = Core::new(alloc, links, 100, 0, 2, first, jobs)?;
-    let jobs = intake(alloc, 8)?;
-    let second = Core::new(alloc, other_links, 100, 1, 2, second, jobs)?;
+    let first = core(alloc, links, 0, 2, first, 7)?;
+    let second = core(alloc, other_links, 1, 2, second, 8)?;
     Ok((first, second))
 }
 
@@ -215,10 +232,9 @@ fn take_turns_alone(core: &mut Core<RingLinks>)
 // What a core alone does, in one list.
 fn run_alone(alloc: Global, requests: VecDeque<Op>) -> Result<Vec<Done>, AllocError> {
     let links = RingLinks::new(alloc, 0, 1)?;
-    let jobs = intake(alloc, 7)?;
-    let mut core = Core::new(alloc, links, 100, 0, 1, requests, jobs)?;
-    take_turns_alone(&mut core);
-    let cores = vec![in alloc; core]?;
+    let mut first = core(alloc, links, 0, 1, requests, 7)?;
+    take_turns_alone(&mut first);
+    let cores = vec![in alloc; first]?;
     merge(alloc, &conclude(alloc, cores)?)
 }
 
@@ -328,23 +344,29 @@ fn abort(txn: u64) -> Answer {
     Answer::TookAbort { txn, version: 0 }
 }
 
+// Two events of a core.
+fn history(alloc: Global, earlier: Stamped, later: Stamped) -> Result<Vec<Stamped>, AllocError> {
+    Ok(vec![in alloc; earlier, later]?)
+}
+
+// Histories of four cores, the last one empty.
+fn by_hand(alloc: Global) -> Result<Histories, AllocError> {
+    let mut cores = Vec::new(alloc);
+    let submit = took(4, 0, 1, Answer::TookSubmit);
+    let ack = took(7, 0, 2, Answer::TookAck { txn: 3 });
+    cores.push(history(alloc, submit, ack)?)?;
+    let no_memory = took(4, 1, 0, vote(3, Vote::NoMemory));
+    cores.push(history(alloc, no_memory, took(9, 1, 0, abort(3)))?)?;
+    let over_budget = took(3, 2, 0, vote(3, Vote::Budget));
+    cores.push(history(alloc, over_budget, took(4, 2, 0, abort(3)))?)?;
+    cores.push(Vec::new(alloc))?;
+    Ok(Histories { cores })
+}
+
 #[test]
 fn histories_by_stamp_and_core(rt: HostRuntime) -> Result<(), Fail> {
     let alloc = rt.alloc();
-    let first = vec![in alloc;
-        took(4, 0, 1, Answer::TookSubmit),
-        took(7, 0, 2, Answer::TookAck { txn: 3 }),
-    ]?;
-    let second = vec![in alloc;
-        took(4, 1, 0, vote(3, Vote::NoMemory)),
-        took(9, 1, 0, abort(3)),
-    ]?;
-    let third = vec![in alloc;
-        took(3, 2, 0, vote(3, Vote::Budget)),
-        took(4, 2, 0, abort(3)),
-    ]?;
-    let cores = vec![in alloc; first, second, third, Vec::new(alloc)]?;
-    let list = merge(alloc, &Histories { cores })?;
+    let list = merge(alloc, &by_hand(alloc)?)?;
     lists(
         &rt,
         &list,
