@@ -5,7 +5,7 @@ use Rattle.core_links.specs.declared.ring_links.RingLinks.{RingLinks}
 use Rattle.core_links.specs.RingSlots.{own_of, link_to, SameSlot, SameLinks, AreJoinedSlots, AreJoinedLinks}
 use Rattle.core_loop.specs.Cores.{SameCore}
 use Rattle.world_model.proofs.Lists.{get_at, get_within}
-use Rattle.core_join.specs.Machines.{RingCore, HasPlace, IsMachine, AreSameCores}
+use Rattle.core_join.specs.Machines.{RingCore, HasPlace, IsPeer, IsMachine, AreSameCores}
 
 joined_slots : (a b c d : Option Link) → SameSlot a b → SameSlot c d → AreJoinedSlots a c → AreJoinedSlots b d
 joined_slots None b c d same other joined = absurd joined
@@ -63,3 +63,14 @@ same_more c d cs ds first rest = record { all = ap suc rest.all; each = at_each 
 -- a machine of one core
 pub one_core : (budget : ℕ) (first : RingCore) → HasPlace 0 1 budget first → IsMachine budget [] (first ∷ [])
 one_core budget first place = record { place = place; all = refl; peers = λ i b c at. absurd (cc) }
+
+-- and of two
+pub two_cores : (budget budget' : ℕ) (first second : RingCore) → HasPlace 0 2 budget first → HasPlace 1 2 budget' second → AreJoinedLinks first.links second.links → IsMachine budget (budget' ∷ []) (first ∷ second ∷ [])
+two_cores budget budget' first second place place' joined = record { place = place; all = refl; peers = at_each }
+  where
+    at_each : (i b : ℕ) (c : RingCore) → slice_get (budget' ∷ []) i ≡ Some b → slice_get (second ∷ []) i ≡ Some c → IsPeer 1 i b first c
+    at_each zero b c at_b at_c =
+        let is_b : budget' ≡ b = cc in
+        let is_c : second ≡ c = cc in
+        subst (λ (x : ℕ). IsPeer 1 0 x first c) is_b (subst (λ (x : RingCore). IsPeer 1 0 budget' first x) is_c (record { place = place'; joined = joined }))
+    at_each (suc i) b c at_b at_c = absurd (cc)

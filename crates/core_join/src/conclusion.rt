@@ -1,4 +1,4 @@
-//! What the joined cores of a machine did.
+//! The histories of the cores of a machine, once they are joined.
 
 ghost use Rattle.std.specs.Prelude.{◌≡◌, ◌∷◌, ℕ, List, IfOk};
 ghost use Rattle.core_join.specs.Machines.{IsMachine};
@@ -13,9 +13,9 @@ pub struct Histories {
     pub cores: Vec<Vec<Stamped>>,
 }
 
-/// The histories of the cores of one machine, in the order of the cores, which is that of their numbers. Whatever the order in
+/// The histories of all cores of one machine, in the order of the cores, which is that of their numbers. Whatever the order in
 /// time was, they are one computation: each core took the messages of each other in the order in which they were sent, and
-/// stands where its history ends.
+/// stands where its history ends. The one error is that there is no memory; the cores are gone then.
 pub fn conclude(alloc: Global, cores: Vec<Core<RingLinks>>) -> Result<Histories, AllocError>
     requires { (budget : ℕ) × (budgets : List ℕ) × IsMachine budget budgets cores.items }
     ensures histories { IfOk result (λ h. listed_histories h.cores.items ≡ histories_of cores.items) }

@@ -1,4 +1,4 @@
-use Rattle.std.proofs.Common.{[], ◌∷◌}
+use Rattle.std.proofs.Common.{[]}
 use Rattle.core_join.proofs.Machines.{one_core}
 use Rattle.core_join.proofs.tests.run_alone.Goals as goal
 
