@@ -1,0 +1,40 @@
+use Rattle.std.proofs.Common.{◌≡◌, ◌+◌, length, arith, refl, subst}
+use Rattle.filter_vm.specs.Machine.{Ends, Packet}
+use Rattle.filter_vm.proofs.Runs.{IsRunning-start, IsRunning-step, IsRunning-later, IsUsable-shaped, Ends-stop}
+use Rattle.filter_vm.proofs.Unique.{Ends-same}
+use Rattle.filter_vm.proofs.machine.run_sound.Goals as goal
+use Rattle.filter_vm.proofs.machine.run_sound.Goals.{After-steps-steps}
+
+pub run-init : goal.run-init
+run-init c = IsRunning-start _ _ _ c.requires.sound refl
+
+pub step-requires-clause-usable : goal.step-requires-clause-usable
+step-requires-clause-usable c =
+    IsUsable-shaped _ c.requires.sound.shaped _ _ c.form_there-form.ensures
+
+-- how the run ends
+ended : (c : After-steps-steps) → Ends c.args.code.now (record { bytes = c.args.packet.now; original = c.args.original }) c.in-Some.verdict c.steps-steps.result
+ended c =
+    let counted = c.run.invariant.counted in
+    let steps : c.run.invariant.steps + 1 ≡ c.steps-steps.result = omega (arith, counted, c.in-Some.ensures.counted, c.steps-steps.ensures) in
+    let ends = Ends-stop _ _ _ _ _ _ _ c.run.invariant c.form_there-form.ensures c.in-Some.ensures.stops in
+    let packet : Packet = record { bytes = c.args.packet.now; original = c.args.original } in
+    subst (λ n. Ends c.args.code.now packet c.in-Some.verdict n) steps ends
+
+pub returns-in-Some-clause-ends : goal.returns-in-Some-clause-ends
+returns-in-Some-clause-ends c = ended c
+
+pub returns-in-Some-clause-only : goal.returns-in-Some-clause-only
+returns-in-Some-clause-only c = λ verdict steps ends. Ends-same _ _ _ _ _ _ ends (ended c)
+
+pub run-smaller : goal.run-smaller
+run-smaller c =
+    let later = IsRunning-later _ _ _ _ _ c.step.new.registers c.step.new.scratch _ c.requires.sound c.run.invariant c.form_there-form.ensures (c.in_default.ensures.advances refl) in
+    let inside = c.run.invariant.inside in
+    omega arith
+
+pub run-preserved : goal.run-preserved
+run-preserved c =
+    let before = c.run.invariant.sixteen in
+    let sixteen : length c.step.new.scratch ≡ 16 = omega arith in
+    IsRunning-step _ _ _ _ _ _ _ _ c.requires.sound c.run.invariant c.form_there-form.ensures (c.in_default.ensures.advances refl) c.in_default.ensures.counted sixteen
