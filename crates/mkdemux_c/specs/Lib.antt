@@ -1,0 +1,4 @@
+pub mod Rooms
+pub mod Refusals
+pub mod Readings
+pub mod Assemblies

@@ -1,0 +1,16 @@
+//! The verifier, the machine and the texts of programs as functions for C. `mkdemux.h` declares them, and says what a caller
+//! owes that C can't check.
+//!
+//! A program is the caller's array of instructions, `struct bpf_insn` of libpcap and BSD or `struct sock_filter` of Linux. It is
+//! read where it lies. Nothing is kept from one call to the next.
+#![tactic(auto)]
+
+mod answers;
+mod assembling;
+mod reading;
+mod room;
+mod running;
+#[cfg(test)]
+mod tests;
+mod verifying;
+mod writing;

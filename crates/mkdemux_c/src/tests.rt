@@ -1,0 +1,1 @@
+//! Each function once, as a program in C would call it.
