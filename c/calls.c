@@ -1,0 +1,318 @@
+/* Each call of mkdemux.h, with what it answers and writes. It is linked with --wrap=malloc and --wrap=realloc, and lets each
+ * allocation fail in turn. Prints the checks that fail, then how many passed. Status 1 where one failed. */
+#include <stdio.h>
+
+#include "mkdemux.h"
+
+static int passed, failed;
+
+#define CHECK(fact) check((fact) != 0, #fact, __LINE__)
+
+static void check(int holds, const char *fact, int line)
+{
+    if (holds) {
+        passed++;
+    } else {
+        failed++;
+        printf("calls.c:%d: %s\n", line, fact);
+    }
+}
+
+/* ---- Memory that runs out. The allocation of this number fails, where it isn't 0 ---- */
+
+void *__real_malloc(size_t size);
+void *__real_realloc(void *block, size_t size);
+void *__wrap_malloc(size_t size);
+void *__wrap_realloc(void *block, size_t size);
+
+/* (volatile: a compiler may take it that malloc changes nothing that a program can see) */
+static volatile unsigned long failing, asked;
+
+static int is_refused(void)
+{
+    return ++asked == failing;
+}
+
+void *__wrap_malloc(size_t size)
+{
+    return is_refused() ? NULL : __real_malloc(size);
+}
+
+void *__wrap_realloc(void *block, size_t size)
+{
+    return is_refused() ? NULL : __real_realloc(block, size);
+}
+
+/* ---- Programs ---- */
+
+#define COUNT(array) (sizeof(array) / sizeof *(array))
+
+static const struct mkdemux_insn arp[] = {{40, 0, 0, 12}, {21, 0, 1, 2054}, {6, 0, 0, 262144}, {6, 0, 0, 0}};
+static const uint8_t arp_frame[14] = {255, 255, 255, 255, 255, 255, 0, 0x11, 0x22, 0x33, 0x44, 0x55, 8, 6};
+static const uint8_t ip_frame[14] = {255, 255, 255, 255, 255, 255, 0, 0x11, 0x22, 0x33, 0x44, 0x55, 8, 0};
+static struct mkdemux_insn longest[MKDEMUX_MAX_INSNS + 1];
+
+/* So many times `txa`, the last a return. */
+static const struct mkdemux_insn *txa(size_t count)
+{
+    size_t i;
+    for (i = 0; i < count; i++) {
+        longest[i].code = i + 1 < count ? 0x87 : 0x16;
+        longest[i].jt = longest[i].jf = 0;
+        longest[i].k = 0;
+    }
+    return longest;
+}
+
+/* The answer for two instructions, and whether the place is this one. */
+static uint32_t refused(uint16_t code, uint8_t jt, uint8_t jf, uint32_t k, uint32_t at)
+{
+    struct mkdemux_insn program[3] = {{0x87, 0, 0, 0}, {0, 0, 0, 0}, {6, 0, 0, 0}};
+    struct mkdemux_place place = {7, 7, 7};
+    uint32_t answer;
+    program[1].code = code;
+    program[1].jt = jt;
+    program[1].jf = jf;
+    program[1].k = k;
+    answer = mkdemux_verify(program, 3, &place, NULL, 0);
+    CHECK(place.place == at && place.word == 0 && place.path == 0);
+    return answer;
+}
+
+static void verifies(void)
+{
+    struct mkdemux_place place = {7, 7, 7};
+    uint32_t path[6] = {99, 99, 99, 99, 99, 99};
+    /* jeq #1, l2, l3; l2: st M[3]; l3: ldx M[3]; ret a: the way past the store is a path */
+    const struct mkdemux_insn unwritten[] = {{21, 0, 1, 1}, {2, 0, 0, 3}, {0x61, 0, 0, 3}, {0x16, 0, 0, 0}};
+    /* 0 for sound programs: a body that always refuses would be proved as well */
+    CHECK(mkdemux_verify(arp, COUNT(arp), &place, path, 6) == MKDEMUX_ACCEPTED);
+    CHECK(place.place == 0 && place.word == 0 && place.path == 0 && path[0] == 99 && path[5] == 99);
+    CHECK(mkdemux_verify(txa(1), 1, &place, NULL, 0) == MKDEMUX_ACCEPTED);
+    CHECK(mkdemux_verify(txa(MKDEMUX_MAX_INSNS), MKDEMUX_MAX_INSNS, &place, NULL, 0) == MKDEMUX_ACCEPTED);
+    place.place = place.word = place.path = 7;
+    CHECK(mkdemux_verify(NULL, 0, &place, NULL, 0) == MKDEMUX_EMPTY);
+    CHECK(place.place == 0 && place.word == 0 && place.path == 0);
+    CHECK(mkdemux_verify(txa(MKDEMUX_MAX_INSNS + 1), MKDEMUX_MAX_INSNS + 1, &place, path, 6) == MKDEMUX_TOO_LONG);
+    CHECK(refused(255, 0, 0, 0, 1) == MKDEMUX_BAD_CODE);
+    CHECK(refused(52, 0, 0, 0, 1) == MKDEMUX_ZERO_DIVISOR);
+    CHECK(refused(100, 0, 0, 32, 1) == MKDEMUX_BAD_SHIFT);
+    CHECK(refused(2, 0, 0, 16, 1) == MKDEMUX_BAD_WORD);
+    CHECK(refused(21, 0, 1, 0, 1) == MKDEMUX_JUMP_OUT);
+    CHECK(refused(48, 0, 0, 4294963200u, 1) == MKDEMUX_ANCILLARY);
+    CHECK(mkdemux_verify(arp, 2, &place, path, 6) == MKDEMUX_JUMP_OUT && place.place == 1);
+    CHECK(mkdemux_verify(arp, 1, &place, path, 6) == MKDEMUX_NO_RETURN && place.place == 0);
+    CHECK(path[0] == 99 && path[5] == 99);
+    CHECK(mkdemux_verify(unwritten, 4, &place, path, 6) == MKDEMUX_UNWRITTEN);
+    CHECK(place.place == 2 && place.word == 3 && place.path == 2);
+    CHECK(path[0] == 0 && path[1] == 2 && path[2] == 99 && path[5] == 99);
+    path[0] = path[1] = 99;
+    CHECK(mkdemux_verify(unwritten, 4, &place, path, 1) == MKDEMUX_UNWRITTEN);
+    CHECK(place.path == 2 && path[0] == 0 && path[1] == 99);
+}
+
+static void runs(void)
+{
+    const struct mkdemux_insn length[] = {{0x80, 0, 0, 0}, {0x16, 0, 0, 0}};
+    struct mkdemux_ending ending = mkdemux_run(arp, COUNT(arp), arp_frame, 14, 60);
+    CHECK(ending.verdict == 262144 && ending.steps == 3);
+    ending = mkdemux_run(arp, COUNT(arp), ip_frame, 14, 60);
+    CHECK(ending.verdict == 0 && ending.steps == 3);
+    ending = mkdemux_run(arp, COUNT(arp), arp_frame, 13, 60);
+    CHECK(ending.verdict == 0 && ending.steps == 1);
+    ending = mkdemux_run(arp, COUNT(arp), NULL, 0, 60);
+    CHECK(ending.verdict == 0 && ending.steps == 1);
+    CHECK(mkdemux_verdict(arp, COUNT(arp), arp_frame, 14, 60) == 262144);
+    CHECK(mkdemux_verdict(length, 2, NULL, 0, 1514) == 1514);
+    ending = mkdemux_run(txa(MKDEMUX_MAX_INSNS), MKDEMUX_MAX_INSNS, NULL, 0, 0);
+    CHECK(ending.verdict == 0 && ending.steps == MKDEMUX_MAX_INSNS);
+}
+
+static const char arp_text[] = "4\n40 0 0 12\n21 0 1 2054\n6 0 0 262144\n6 0 0 0\n";
+
+static void reads(void)
+{
+    struct mkdemux_insn room[5];
+    struct mkdemux_reading got;
+    memset(room, 0x5a, sizeof room);
+    got = mkdemux_read(arp_text, strlen(arp_text), room, 3);
+    CHECK(got.fault == MKDEMUX_NO_ROOM && got.count == 4 && got.piece == 0 && room[0].code == 0x5a5a);
+    got = mkdemux_read(arp_text, strlen(arp_text), NULL, 0);
+    CHECK(got.fault == MKDEMUX_NO_ROOM && got.count == 4);
+    got = mkdemux_read(arp_text, strlen(arp_text), room, 5);
+    CHECK(got.fault == MKDEMUX_DONE && got.count == 4 && got.piece == 0);
+    CHECK(!memcmp(room, arp, sizeof arp) && room[4].code == 0x5a5a && room[4].k == 0x5a5a5a5a);
+    got = mkdemux_read("1,6 0 0 0", 9, room, 1);
+    CHECK(got.fault == MKDEMUX_DONE && got.count == 1 && room[0].code == 6 && room[1].code == 21);
+    got = mkdemux_read("2,6 0 0 0,6 0 256 0", 19, room, 5);
+    CHECK(got.fault == MKDEMUX_BAD_NUMBER && got.piece == 2 && got.count == 0 && room[1].code == 21);
+    got = mkdemux_read(NULL, 0, room, 5);
+    CHECK(got.fault == MKDEMUX_BAD_NUMBER && got.piece == 0);
+    got = mkdemux_read("2,6 0 0 0", 9, room, 5);
+    CHECK(got.fault == MKDEMUX_COUNT_MISMATCH && got.piece == 0 && got.count == 0);
+    got = mkdemux_read("4097", 4, room, 5);
+    CHECK(got.fault == MKDEMUX_COUNT_TOO_LONG && got.piece == 0 && got.count == 0);
+}
+
+static struct mkdemux_insn assembled[8];
+
+/* What a text gives, in a room of eight instructions. */
+static struct mkdemux_assembly assemble(const char *text)
+{
+    memset(assembled, 0x5a, sizeof assembled);
+    return mkdemux_assemble(text, strlen(text), assembled, COUNT(assembled));
+}
+
+static int has_fault(const char *text, uint32_t fault, uint32_t line)
+{
+    struct mkdemux_assembly got = assemble(text);
+    return got.fault == fault && got.line == line && got.count == 0 && assembled[0].code == 0x5a5a;
+}
+
+static void assembles(void)
+{
+    static char text[4097 * 4 + 1];
+    struct mkdemux_assembly got = assemble("ldh [12]\njneq #2054, no ; ARP?\nret #262144\nno: ret #0\n");
+    int i;
+    CHECK(got.fault == MKDEMUX_DONE && got.count == 4 && got.line == 0);
+    CHECK(!memcmp(assembled, arp, sizeof arp) && assembled[4].code == 0x5a5a);
+    got = mkdemux_assemble("tax\ntxa\n", 8, assembled, 1);
+    CHECK(got.fault == MKDEMUX_NO_ROOM && got.count == 2 && assembled[0].code == 40);
+    got = mkdemux_assemble(NULL, 0, NULL, 0);
+    CHECK(got.fault == MKDEMUX_DONE && got.count == 0);
+    CHECK(has_fault("tax\nretreat\n", MKDEMUX_MNEMONIC, 2));
+    CHECK(has_fault("ld x\n", MKDEMUX_OPERAND, 1));
+    CHECK(has_fault("tax\n\nret #4294967296\n", MKDEMUX_NUMBER, 3));
+    CHECK(has_fault("jmp gone\nret a\n", MKDEMUX_NO_LABEL, 1));
+    CHECK(has_fault("l: tax\nl: ret a\n", MKDEMUX_TWICE_LABEL, 2));
+    CHECK(has_fault("l: tax\njmp l\n", MKDEMUX_BACKWARD, 2));
+    for (i = 0; i < 4097; i++)
+        memcpy(text + 4 * i, "txa\n", 4);
+    CHECK(has_fault(text, MKDEMUX_ASM_TOO_LONG, 4097));
+    memcpy(text, "jeq #0, far ;\n\n\n\n", 16);
+    memcpy(text + 4 * 300, "far:", 4);
+    CHECK(has_fault(text + 4 * 0, MKDEMUX_TOO_FAR, 1));
+}
+
+static void writes(void)
+{
+    static char room[MKDEMUX_MAX_DDD];
+    struct mkdemux_writing written;
+    size_t i;
+    memset(room, '?', sizeof room);
+    written = mkdemux_write_ddd(arp, COUNT(arp), room, strlen(arp_text) - 1);
+    CHECK(written.fault == MKDEMUX_NO_ROOM && written.length == strlen(arp_text) && room[0] == '?');
+    written = mkdemux_write_ddd(arp, COUNT(arp), room, sizeof room);
+    CHECK(written.fault == MKDEMUX_DONE && written.length == strlen(arp_text));
+    CHECK(!memcmp(room, arp_text, strlen(arp_text)) && room[strlen(arp_text)] == '?');
+    written = mkdemux_write_ddd(NULL, 0, room, 2);
+    CHECK(written.fault == MKDEMUX_DONE && written.length == 2 && !memcmp(room, "0\n", 2));
+    for (i = 0; i < MKDEMUX_MAX_INSNS; i++)
+        memset(longest + i, 255, sizeof *longest);
+    written = mkdemux_write_ddd(longest, MKDEMUX_MAX_INSNS, room, sizeof room);
+    CHECK(written.fault == MKDEMUX_DONE && written.length == MKDEMUX_MAX_DDD);
+}
+
+static void opens(void)
+{
+    struct mkdemux_insn own[COUNT(arp)];
+    uint8_t odd[sizeof arp + 1];
+    struct mkdemux_place place = {7, 7, 7};
+    uint32_t rule = 77;
+    const mkdemux_program *program;
+    memcpy(own, arp, sizeof arp);
+    program = mkdemux_open(own, COUNT(own), &rule, &place);
+    CHECK(program && rule == MKDEMUX_ACCEPTED && place.place == 0);
+    memset(own, 255, sizeof own); /* the copy runs */
+    CHECK(program && mkdemux_filter(program, arp_frame, 60, 14) == 262144);
+    CHECK(program && mkdemux_filter(program, NULL, 60, 0) == 0);
+    mkdemux_close(program);
+    memcpy(odd + 1, arp, sizeof arp);
+    program = mkdemux_open(odd + 1, COUNT(arp), NULL, NULL);
+    CHECK(program && mkdemux_filter(program, ip_frame, 60, 14) == 0);
+    mkdemux_close(program);
+    mkdemux_close(NULL);
+    CHECK(!mkdemux_open(arp, 2, &rule, &place) && rule == MKDEMUX_JUMP_OUT && place.place == 1);
+    CHECK(!mkdemux_open(NULL, 0, &rule, &place) && rule == MKDEMUX_EMPTY && place.place == 0);
+    CHECK(!mkdemux_open(txa(MKDEMUX_MAX_INSNS + 1), MKDEMUX_MAX_INSNS + 1, &rule, &place) && rule == MKDEMUX_TOO_LONG);
+    CHECK(!mkdemux_open(arp, (size_t)-1, &rule, NULL) && rule == MKDEMUX_TOO_LONG);
+    CHECK(!strcmp(mkdemux_rule_name(MKDEMUX_ACCEPTED), "accepted"));
+    CHECK(!strcmp(mkdemux_rule_name(MKDEMUX_UNWRITTEN), "Unwritten"));
+    CHECK(!strcmp(mkdemux_rule_name(MKDEMUX_NO_MEMORY), "NoMemory"));
+}
+
+/* Begins to count allocations, of which one is to fail. */
+static void let_fail(unsigned long number)
+{
+    asked = 0;
+    failing = number;
+}
+
+/* Whether the allocation that was to fail was asked for; none fails from here on. */
+static int has_failed(void)
+{
+    int reached = asked >= failing;
+    failing = 0;
+    return reached;
+}
+
+/* Each call again and again, with its first, second, .. allocation refused, until there is none left to refuse. */
+static void runs_out(void)
+{
+    static char text[200];
+    struct mkdemux_insn room[8];
+    const mkdemux_program *program;
+    struct mkdemux_place place;
+    struct mkdemux_reading got;
+    struct mkdemux_assembly made;
+    struct mkdemux_writing written;
+    unsigned long n, refusals = 0;
+    uint32_t rule;
+    int more = 1;
+    for (n = 1; more; n++) {
+        let_fail(n);
+        program = mkdemux_open(arp, COUNT(arp), &rule, &place);
+        more = has_failed();
+        CHECK(more ? !program && rule == MKDEMUX_NO_MEMORY && place.place == 0 : program && rule == 0);
+        mkdemux_close(program);
+        refusals += (unsigned)more;
+    }
+    for (n = 1, more = 1; more; n++) {
+        memset(room, 0x5a, sizeof room);
+        let_fail(n);
+        got = mkdemux_read(arp_text, strlen(arp_text), room, 8);
+        more = has_failed();
+        CHECK(more ? got.fault == MKDEMUX_NO_MEMORY && got.count == 0 && room[0].code == 0x5a5a : !got.fault && got.count == 4);
+        refusals += (unsigned)more;
+    }
+    for (n = 1, more = 1; more; n++) {
+        memset(room, 0x5a, sizeof room);
+        let_fail(n);
+        made = mkdemux_assemble("a: tax\njmp b\nb: ret #1", 22, room, 8);
+        more = has_failed();
+        CHECK(more ? made.fault == MKDEMUX_NO_MEMORY && made.count == 0 && room[0].code == 0x5a5a : !made.fault && made.count == 3);
+        refusals += (unsigned)more;
+    }
+    for (n = 1, more = 1; more; n++) {
+        memset(text, '?', sizeof text);
+        let_fail(n);
+        written = mkdemux_write_ddd(arp, COUNT(arp), text, sizeof text);
+        more = has_failed();
+        CHECK(more ? written.fault == MKDEMUX_NO_MEMORY && written.length == 0 && text[0] == '?' : !written.fault);
+        refusals += (unsigned)more;
+    }
+    CHECK(refusals >= 8);
+}
+
+int main(void)
+{
+    verifies();
+    runs();
+    reads();
+    assembles();
+    writes();
+    opens();
+    runs_out();
+    printf("%d checks passed, %d failed\n", passed, failed);
+    return failed != 0;
+}
