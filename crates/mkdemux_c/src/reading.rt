@@ -75,7 +75,7 @@ pub extern "C" fn mkdemux_read(alloc: Global, text: &[u8], room: &mut [Insn]) ->
     ensures fault { 0 < result.fault → result.fault < NO_ROOM
         → (fault : TextFault) × Faults text.now fault × (result ≡ unread_for fault) }
     ensures kept { 0 < result.fault → room.new ≡ room.old }
-    ensures memory { result.fault ≡ NO_MEMORY → IsCountRight text.now }
+    ensures memory { result.fault ≡ NO_MEMORY → (result.count ≡ 0) × IsCountRight text.now }
 
     // What the text stands for is answered, unless memory runs out.
     ensures only { (program : List Insn) → Ddd text.now program

@@ -27,6 +27,7 @@ pub extern "C" fn mkdemux_write_ddd(alloc: Global, code: &[Insn], room: &mut [u8
     ensures written { result.fault ≡ DONE → room.new ≡ laid (ddd_text code.now) room.old }
     ensures fits { result.fault ≡ DONE → result.length ≤ length room.old }
     ensures no_room { result.fault ≡ NO_ROOM → length room.old < result.length }
+    ensures memory { result.fault ≡ NO_MEMORY → result.length ≡ 0 }
     ensures answer { (result.fault ≡ DONE) ⊎ ((result.fault ≡ NO_ROOM) ⊎ (result.fault ≡ NO_MEMORY)) }
     ensures kept { 0 < result.fault → room.new ≡ room.old }
     ensures spells { result.fault ≡ DONE → length code.now ≤ 4096 → Ddd (take result.length room.new) code.now }
