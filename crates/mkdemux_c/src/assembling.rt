@@ -87,6 +87,7 @@ pub extern "C" fn mkdemux_assemble(alloc: Global, text: &[u8], room: &mut [Insn]
     ensures fault { 0 < result.fault → result.fault < TOO_LARGE
         → (fault : asm.Fault) × asm.Assembles text.now (Err fault) × (result ≡ unassembled_for fault) }
     ensures too_large { (result.fault ≡ TOO_LARGE) ↔ (2 ^ 32 ≤ length text.now) }
+    ensures within { result.fault ≤ NO_MEMORY }
     ensures memory { result.fault ≡ NO_MEMORY → result.count ≡ 0 }
     ensures kept { 0 < result.fault → room.new ≡ room.old }
 

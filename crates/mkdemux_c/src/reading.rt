@@ -74,6 +74,7 @@ pub extern "C" fn mkdemux_read(alloc: Global, text: &[u8], room: &mut [Insn]) ->
     // Any other answer is the text's first fault, or that memory ran out.
     ensures fault { 0 < result.fault → result.fault < NO_ROOM
         → (fault : TextFault) × Faults text.now fault × (result ≡ unread_for fault) }
+    ensures within { result.fault ≤ NO_MEMORY }
     ensures kept { 0 < result.fault → room.new ≡ room.old }
     ensures memory { result.fault ≡ NO_MEMORY → (result.count ≡ 0) × IsCountRight text.now }
 

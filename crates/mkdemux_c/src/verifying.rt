@@ -66,6 +66,7 @@ fn report(refusal: &Refusal, path: &mut [u32]) -> Place
 fn answer(refusal: &Refusal) -> u32
     ensures memory { number_of refusal.now ≡ 0 → result ≡ NO_MEMORY }
     ensures rule { 0 < number_of refusal.now → result ≡ number_of refusal.now }
+    ensures within { result ≤ NO_MEMORY }
 {
     match refusal.number() {
         0 => NO_MEMORY,
@@ -95,9 +96,10 @@ pub extern "C" fn mkdemux_verify(
         → (result ≡ NO_MEMORY) ⊎ ((result ≡ number_of refusal) × (place.new.place ≡ place_of refusal)) }
     ensures path_fits { place.new.path ≤ length code.now }
 
-    // No other answer reports a place.
+    // No other answer reports a place, and there is none above 255.
     ensures nothing { (result ≡ DONE) ⊎ (result ≡ NO_MEMORY) → (place.new ≡ nowhere) × (path.new ≡ path.old) }
     ensures memory { result ≡ NO_MEMORY → IsWellShaped code.now }
+    ensures within { result ≤ NO_MEMORY }
 {
     match verify(alloc, code) {
         Ok(_) => {
