@@ -96,13 +96,20 @@ build() {
     shift
     $cc $strict -D_DEFAULT_SOURCE -I. -o "$made/$program" "$program.c" "$archive" "$@"
 }
+# The page's program, on a capture of which it has to show two packets.
+shows_page() {
+    sed -n '/^```c$/,/^```$/p' ../docs/c-library.md | sed '1d;$d' > "$made/page.c" &&
+        $cc $strict -D_DEFAULT_SOURCE -I. -o "$made/page" "$made/page.c" "$archive" $pcap &&
+        "$made/page" $frames arp > "$made/shown" && [ "$(wc -l < "$made/shown")" -eq 2 ]
+}
 try "calls.c without a warning" build calls -Wl,--wrap=malloc,--wrap=realloc
 try "each call, and each allocation refused" "$made/calls"
+frames=../examples/frames.pcap
 if [ -n "$pcap" ]; then
     for program in pcapgrep difference bench; do
         try "$program.c without a warning" build $program $pcap
     done
-    frames=../examples/frames.pcap
+    try "the program of docs/c-library.md" shows_page
     try "pcapgrep, arp" writes pcapgrep-arp.out "$made/pcapgrep" $frames arp
     try "pcapgrep, tcp dst port 80" writes pcapgrep-port80.out "$made/pcapgrep" $frames 'tcp dst port 80'
     try "1,000,000 random programs beside libpcap" "$made/difference" 1000000 1
