@@ -11,7 +11,10 @@ Exit status:
   0  done
   1  a refused input: its line is on standard output
   2  a fault of the command line
-  3  out of memory, a FILE that can't be opened, or a device that failed: one line is on standard error";
+  3  out of memory, a FILE that can't be opened, or a device that failed: one line is on standard error,
+     unless nobody reads the output any more
+
+docs/messages.md has each word that is printed, with its meaning and its cure.";
 
 const MATCH_ABOUT: &str = "Run a filter on the packets of standard input";
 
@@ -56,7 +59,16 @@ Filters as tcpdump and bpf_asm write them are taken as they are:
 
 Packets of a device, while they come:
 
-    # tcpdump -U -w - | mkdemux match --stream --pcap \"$(tcpdump -ddd -y EN10MB arp)\"";
+    # tcpdump -U -w - | mkdemux match --stream --pcap \"$(tcpdump -ddd -y EN10MB arp)\"
+
+Exit status: 0 done; 1 a refused CODE or input, whose line is on standard output; 2 a fault of the command line; 3 out of
+memory or a device that failed, with one line on standard error.
+
+docs/messages.md has the meaning and the cure of each word that is printed:
+  after `code`     BadNumber CountMismatch TooLong
+  after `refused`  Ancillary BadCode BadShift BadWord Empty JumpOut NoReturn TooLong Unwritten ZeroDivisor
+  after `line N:`  BadHex
+  after `fault`    BadMagic BadVersion InputTooLong TooLong TruncatedHeader TruncatedRecord";
 
 const CODE_HELP: &str =
     "The filter in decimal text: the number of instructions, then CODE JT JF K for each, parted by commas or newlines";
@@ -73,7 +85,7 @@ Assemble the filter on standard input, and print it as the decimal text that `ma
 The filter is written in the mnemonics of Linux's bpf_asm: a line has any number of labels, `name:`, and one instruction at
 most; `;` begins a comment. At the first fault `line N: NAME` is printed, with status 1:
 
-    Mnemonic    no known mnemonic stands where one should
+    Mnemonic    there is no known mnemonic where one should be
     Operand     the operands fit no shape of the mnemonic
     Number      a number is out of range, or none
     TwiceLabel  a label is defined a second time
@@ -82,7 +94,9 @@ most; `;` begins a comment. At the first fault `line N: NAME` is printed, with s
     Backward    a jump doesn't go forward
     TooFar      a conditional jump passes over more than 255 instructions
 
-A text of more than 64 MiB prints `fault InputTooLong` alone, with status 1. The filter is not verified: `match` does that.
+A text of more than 64 MiB prints `fault InputTooLong` alone, with status 1.
+
+The filter is assembled and not verified: `mkdemux match CODE < /dev/null` verifies it.
 
 With --asm it is printed as assembler text, a labelled line for each instruction. A filter with a jump to the place after
 its end has none: `refused JumpOut pc P` is printed, with status 1.";
@@ -96,7 +110,15 @@ Example: write a filter and run it
           ret #-1
     drop: ret #0
     END
-    $ mkdemux match \"$(mkdemux check < arp.asm)\" < packets.hex";
+    $ mkdemux match \"$(mkdemux check < arp.asm)\" < packets.hex
+
+Exit status: 0 done; 1 a refused text, whose line is on standard output; 2 a fault of the command line; 3 out of memory or
+a device that failed, with one line on standard error.
+
+docs/messages.md has the meaning and the cure of each word that is printed:
+  after `line N:`  Backward Mnemonic NoLabel Number Operand TooFar TooLong TwiceLabel
+  after `refused`  JumpOut
+  after `fault`    InputTooLong";
 
 const ASM_HELP: &str = "Print assembler text in place of decimal text";
 
@@ -118,7 +140,13 @@ A packet's HEX is what `match` reads; it is `-` where no bytes were captured. A 
 const DUMP_EXAMPLE: &str = "\
 Example: the packets of a capture as lines for `match`
 
-    $ mkdemux dump < packets.pcap | sed -n 's/.* original [0-9]* //p' | sed 's/^-$//' > packets.hex";
+    $ mkdemux dump < packets.pcap | sed -n 's/.* original [0-9]* //p' | sed 's/^-$//' > packets.hex
+
+Exit status: 0 done; 1 a refused capture, whose line is on standard output; 2 a fault of the command line; 3 out of memory
+or a device that failed, with one line on standard error.
+
+docs/messages.md has the meaning and the cure of each word that is printed:
+  after `fault`  BadMagic BadVersion InputTooLong TooLong TruncatedHeader TruncatedRecord";
 
 const SIM_ABOUT: &str = "Run a script on the model of the cores";
 
@@ -129,7 +157,7 @@ A script says how many cores there are, which filters and packets, what domains 
 taken and packets received. FILEs are captures: `capture NAME N` in the script is the N-th, from 1. They are opened in order,
 before the script is read. A line of a script that is empty, or whose first word begins with `#`, is skipped.
 
-    cores B0 B1 ..                  1 to 8 cores, each with a budget of instructions; stands first
+    cores B0 B1 ..                  1 to 8 cores, each with a budget of instructions; the first line
     asm NAME .. end, ddd NAME TEXT  a filter
     packet NAME HEX [ORIGINAL]      a packet; HEX is `-` for no bytes
     capture NAME N                  the packets of a FILE
@@ -144,7 +172,7 @@ before the script is read. A line of a script that is empty, or whose first word
     replay NAME [FLOOR]             receive the packets of a capture, at the cores by turns
     settle                          take every message, and begin every request
     show CORE                       print a core's table
-    trace                           events follow as `sim` prints them, and are done again; before it stand only names,
+    trace                           events follow as `sim` prints them, and are done again; before it are only names,
                                     requests, and rx and replay, whose packets the events `rx CORE N:` name
 
 A request that is not allowed prints `refused NAME` and leaves the tables as they are; an event that can't be done prints
@@ -153,9 +181,9 @@ A request that is not allowed prints `refused NAME` and leaves the tables as the
 The script is read whole before its first event. Its first fault is printed as `line N: NAME`, with status 1:
 
     BadLine    an unknown word, a wrong number of words, a bad name or bad rights, `asm` without `end`
-    NoCores    something stands before `cores`
+    NoCores    there is a line before `cores`
     BadNumber  a number is out of its range, or none
-    Twice      `cores` stands a second time, or a name is taken
+    Twice      there is a second `cores`, or a name is taken
     NoName     there is no such filter, packet, capture or FILE
     BadBody    digits, a filter or a capture can't be read; what is wrong follows
 
@@ -179,7 +207,16 @@ Example: two filters for one endpoint, which gets the packet once, with the grea
     start: committed 1 cap 1
     start: committed 2 filter 1
     start: committed 3 filter 2
-    rx 0 1: version 3 7=10";
+    rx 0 1: version 3 7=10
+
+Exit status: 0 done; 1 a refused script or FILE, whose line is on standard output; 2 a fault of the command line; 3 out of
+memory, a FILE that can't be opened or a device that failed, with one line on standard error.
+
+docs/messages.md has the meaning and the cure of each word that is printed:
+  after `line N:`  BadBody BadLine BadNumber NoCores NoName Twice
+  after `refused`  BadProgram Budget CapsFull EndpointTaken FilterIdsSpent IdsSpent NoCap NoFilter NoMemory NoRight
+                   NotHolder NotOwner RightsExceed TableFull VersionsSpent
+  after `fault`    InputTooLong NoneWaiting NoSuchCore NotIdle NotReady Nothing Outstanding Spent";
 
 const FILES_HELP: &str = "Captures that the script names by number";
 

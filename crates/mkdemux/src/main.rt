@@ -1,17 +1,21 @@
 //! `mkdemux`: runs classic BPF filters on packets, and scripts on cores that replicate a table of filters.
 //!
 //! The exit status is 0; 1 for a refused input, whose line is on standard output; 2 for a fault of the command line; and 3
-//! for memory, a file that can't be opened or a device, with one line on standard error.
+//! for memory, a file that can't be opened or a device. Statuses 2 and 3 have a line on standard error, except where nobody
+//! reads the output any more.
 #![tactic(auto)]
 
 mod command_line;
+mod devices;
+mod usage;
 
 use clap::error::ErrorKind;
 use clap::{ArgMatches, Error};
 use console::{EngineFault, run_check, run_dump, run_match, run_stream};
+use devices::{Sink, Source};
 use sim_engine::run_sim;
 use std::fs::File;
-use std::io;
+use std::io::{self, IsTerminal};
 use std::process::ExitCode;
 
 /// The exit status for a fault of the command line.
@@ -28,14 +32,11 @@ fn main(rt: HostRuntime) -> ExitCode {
 fn status(rt: &HostRuntime) -> u8 {
     let words = match words(rt) {
         Ok(words) => words,
-        Err(error) if error.kind() == io::ErrorKind::InvalidData => {
-            let _ = eprintln!(rt; "error: an argument is not UTF-8");
-            return USAGE;
-        }
-        Err(_) => return failed(rt, EngineFault::NoMemory),
+        Err(error) if error.kind() == io::ErrorKind::InvalidData => return not_utf8(rt),
+        Err(_) => return failed(rt, "out of memory"),
     };
     let Ok(command) = command_line::command(rt.alloc()) else {
-        return failed(rt, EngineFault::NoMemory);
+        return failed(rt, "out of memory");
     };
     match command.try_get_matches_from(words.as_slice()) {
         Ok(matches) => dispatch(rt, &matches),
@@ -48,51 +49,71 @@ fn words(rt: &HostRuntime) -> io::Result<Vec<String>> {
     Ok(std::env::args(rt)?.collect(rt.alloc())?)
 }
 
-/// Runs the engine of the command that was given.
+/// Runs the command that was given.
 fn dispatch(rt: &HostRuntime, matches: &ArgMatches) -> u8 {
-    let answer = match matches.subcommand() {
-        Some(("match", found)) => run_packets(rt, found),
-        Some(("check", found)) => run_check(
-            rt.alloc(),
-            found.get_flag("asm"),
-            &mut rt.stdin(),
-            &mut rt.stdout(),
-        ),
-        Some(("dump", _)) => run_dump(rt.alloc(), &mut rt.stdin(), &mut rt.stdout()),
-        Some(("sim", found)) => return simulate(rt, found),
-        _ => return USAGE,
-    };
-    ended(rt, answer)
-}
-
-/// Runs a filter on the packets of standard input.
-fn run_packets(rt: &HostRuntime, found: &ArgMatches) -> Result<u8, EngineFault> {
-    let code = found.get_str("code").unwrap_or("").as_bytes();
-    let pcap = found.get_flag("pcap");
-    if found.get_flag("stream") {
-        run_stream(rt.alloc(), code, pcap, &mut rt.stdin(), &mut rt.stdout())
-    } else {
-        run_match(rt.alloc(), code, pcap, &mut rt.stdin(), &mut rt.stdout())
-    }
-}
-
-/// The exit status of an engine that ended.
-fn ended(rt: &HostRuntime, answer: Result<u8, EngineFault>) -> u8 {
-    match answer {
-        Ok(status) => status,
-        Err(fault) => failed(rt, fault),
+    match matches.subcommand() {
+        Some(("sim", found)) => simulate(rt, found),
+        Some((name, found)) => run(rt, name, found, Vec::new(rt.alloc())),
+        None => USAGE,
     }
 }
 
 /// Opens the files in order, then runs the script on standard input with them.
 fn simulate(rt: &HostRuntime, found: &ArgMatches) -> u8 {
     match open_files(rt, found.get_strs("files").unwrap_or(&[])) {
-        Ok(files) => ended(
-            rt,
-            run_sim(rt.alloc(), files, &mut rt.stdin(), &mut rt.stdout()),
-        ),
-        Err(OpenFault::Refused(name, error)) => not_opened(rt, name, error),
-        Err(OpenFault::NoMemory) => failed(rt, EngineFault::NoMemory),
+        Ok(files) => run(rt, "sim", found, files),
+        Err(fault) => not_opened(rt, fault),
+    }
+}
+
+/// Runs the engine of a command on standard input and these files.
+fn run(rt: &HostRuntime, name: &str, found: &ArgMatches, files: Vec<File>) -> u8 {
+    invite(rt, name, found);
+    let mut source = Source::new(rt.stdin());
+    let mut sink = Sink::new(rt.stdout());
+    let answer = match name {
+        "match" => run_packets(rt, found, &mut source, &mut sink),
+        "check" => run_check(rt.alloc(), found.get_flag("asm"), &mut source, &mut sink),
+        "dump" => run_dump(rt.alloc(), &mut source, &mut sink),
+        "sim" => run_sim(rt.alloc(), files, &mut source, &mut sink),
+        _ => return USAGE,
+    };
+    match answer {
+        Ok(status) => status,
+        Err(EngineFault::ReadFailed) => failed(rt, source.complaint()),
+        Err(EngineFault::WriteFailed) if sink.is_closed() => FAILED,
+        Err(EngineFault::WriteFailed) => failed(rt, "the output can't be written"),
+        Err(EngineFault::NoMemory) => failed(rt, "out of memory"),
+    }
+}
+
+/// Runs a filter on the packets of standard input.
+fn run_packets(
+    rt: &HostRuntime,
+    found: &ArgMatches,
+    source: &mut Source,
+    sink: &mut Sink,
+) -> Result<u8, EngineFault> {
+    let code = found.get_str("code").unwrap_or("").as_bytes();
+    let pcap = found.get_flag("pcap");
+    if found.get_flag("stream") {
+        run_stream(rt.alloc(), code, pcap, source, sink)
+    } else {
+        run_match(rt.alloc(), code, pcap, source, sink)
+    }
+}
+
+/// Says on standard error what is awaited, where standard input is a terminal.
+fn invite(rt: &HostRuntime, name: &str, found: &ArgMatches) {
+    let awaited = match name {
+        "match" if found.get_flag("pcap") => "a capture",
+        "match" => "packets, a line of hexadecimal digits each",
+        "check" => "a filter in assembler text",
+        "dump" => "a capture",
+        _ => "a script",
+    };
+    if rt.stdin().is_terminal() {
+        let _ = eprintln!(rt; "mkdemux: reading {awaited} from the terminal, to its end (Ctrl-D)");
     }
 }
 
@@ -100,6 +121,8 @@ fn simulate(rt: &HostRuntime, found: &ArgMatches) -> u8 {
 enum OpenFault<'a> {
     /// The file of this name can't be opened.
     Refused(&'a str, io::Error),
+    /// This is the name of a directory.
+    Directory(&'a str),
     /// There was no memory.
     NoMemory,
 }
@@ -108,12 +131,22 @@ enum OpenFault<'a> {
 fn open_files<'a>(rt: &HostRuntime, names: &[&'a str]) -> Result<Vec<File>, OpenFault<'a>> {
     let mut files = Vec::new(rt.alloc());
     for name in names {
-        match File::open(rt, *name) {
-            Ok(file) => files.push(file).map_err(|_| OpenFault::NoMemory)?,
-            Err(error) => return Err(open_fault(name, error)),
-        }
+        let file = open_file(rt, name)?;
+        files.push(file).map_err(|_| OpenFault::NoMemory)?;
     }
     Ok(files)
+}
+
+/// The file of this name.
+fn open_file<'a>(rt: &HostRuntime, name: &'a str) -> Result<File, OpenFault<'a>> {
+    let file = match File::open(rt, name) {
+        Ok(file) => file,
+        Err(error) => return Err(open_fault(name, error)),
+    };
+    match file.metadata() {
+        Ok(metadata) if metadata.is_dir() => Err(OpenFault::Directory(name)),
+        _ => Ok(file),
+    }
 }
 
 /// Why the file of this name is not open.
@@ -127,23 +160,44 @@ fn open_fault<'a>(name: &'a str, error: io::Error) -> OpenFault<'a> {
 /// Prints help, the version or what is wrong with the command line.
 fn not_a_command(rt: &HostRuntime, error: &Error) -> u8 {
     if let ErrorKind::OutOfMemory = error.kind() {
-        return failed(rt, EngineFault::NoMemory);
+        return failed(rt, "out of memory");
     }
-    match (error.print(rt), error.exit_code()) {
-        (Ok(()), 0) => 0,
-        (Err(_), 0) => failed(rt, EngineFault::WriteFailed),
-        _ => USAGE,
+    let Ok(text) = usage::with_input(rt.alloc(), error) else {
+        return failed(rt, "out of memory");
+    };
+    if error.use_stderr() {
+        let _ = eprint!(rt; "{text}");
+        return USAGE;
+    }
+    match print!(rt; "{text}") {
+        Ok(()) => 0,
+        Err(error) if error.kind() == io::ErrorKind::BrokenPipe => FAILED,
+        Err(_) => failed(rt, "the output can't be written"),
     }
 }
 
-/// Says on standard error why an engine ended early.
-fn failed(rt: &HostRuntime, fault: EngineFault) -> u8 {
-    let _ = eprintln!(rt; "mkdemux: {fault}");
+/// Says on standard error that the command line is no text.
+fn not_utf8(rt: &HostRuntime) -> u8 {
+    let _ = eprintln!(rt;
+        "error: an argument is not UTF-8\n\nUsage: mkdemux <COMMAND>\n\nFor more information, try '--help'."
+    );
+    USAGE
+}
+
+/// Says on standard error why the program ended early.
+fn failed(rt: &HostRuntime, why: &str) -> u8 {
+    let _ = eprintln!(rt; "mkdemux: {why}");
     FAILED
 }
 
 /// Says on standard error which file can't be opened, and why.
-fn not_opened(rt: &HostRuntime, name: &str, error: io::Error) -> u8 {
-    let _ = eprintln!(rt; "mkdemux: {name} can't be opened: {error}");
+fn not_opened(rt: &HostRuntime, fault: OpenFault) -> u8 {
+    let _ = match fault {
+        OpenFault::Refused(name, error) => {
+            eprintln!(rt; "mkdemux: {name:?} can't be opened: {error}")
+        }
+        OpenFault::Directory(name) => eprintln!(rt; "mkdemux: {name:?} is a directory"),
+        OpenFault::NoMemory => eprintln!(rt; "mkdemux: out of memory"),
+    };
     FAILED
 }
