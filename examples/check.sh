@@ -1,5 +1,6 @@
 #!/bin/sh
-# Runs each example script and compares what it prints. A line for each, then `N passed, M failed`; status 1 where one failed.
+# Runs each example script and the commands of the pages, and compares what they print. A line for each script and page, then
+# `N passed, M failed`; status 1 where one failed.
 cd "$(dirname "$0")" || exit 2
 made=$(mktemp -d) || exit 2
 trap 'rm -rf "$made"' EXIT
@@ -26,7 +27,7 @@ prints() {
     count "$out" $?
 }
 
-# SCRIPT FILE..: without its one `settle`, and with its output behind `trace`, the script prints this output again.
+# SCRIPT FILE..: without its one `settle`, and with its output after `trace`, the script prints this output again.
 repeats() {
     script=$1
     shift
@@ -57,5 +58,41 @@ prints files files frames.pcap two.pcap
 prints files-swapped files two.pcap frames.pcap
 repeats replay frames.pcap
 misses files missing.pcap frames.pcap missing.pcap
+
+# An output that nobody reads any more ends the program with status 3, and without a word.
+closes() {
+    yes 00 | head -n 100000 | {
+        ../mkdemux match '1,6 0 0 5' 2> "$made/said"
+        echo $? > "$made/status"
+    } | head -n 1 > "$made/printed"
+    echo 3 | cmp -s - "$made/status" && [ ! -s "$made/said" ]
+    count closed-output $?
+}
+
+# An argument that is no text is a fault of the command line.
+not_utf8() {
+    ../mkdemux match "$(printf '\377')" < /dev/null > "$made/printed" 2> "$made/said"
+    [ $? -eq 2 ] && [ ! -s "$made/printed" ] && grep -q '^Usage: ' "$made/said"
+    count not-utf-8 $?
+}
+
+# The words that the help of the commands lists are those that docs/messages.md explains.
+words() {
+    for command in match check dump sim; do
+        ../mkdemux "$command" --help | sed '1,/^docs\/messages.md/d' | tr ' ' '\n' | grep -x '[A-Z][A-Za-z]*'
+    done | sort -u > "$made/listed"
+    sed -n 's/^### //p' ../docs/messages.md | sort -u | cmp -s - "$made/listed"
+    count words $?
+}
+
+closes
+not_utf8
+words
+
+# The commands of each page, with what the page says that they print.
+for page in README.md docs/messages.md docs/recipes.md docs/scripts.md examples/commands.md; do
+    ./blocks.py "$page"
+    count "$page" $?
+done
 echo "$passed passed, $failed failed"
 [ "$failed" -eq 0 ]

@@ -66,7 +66,7 @@ memory or a device that failed, with one line on standard error.
 
 docs/messages.md has the meaning and the cure of each word that is printed:
   after `code`     BadNumber CountMismatch TooLong
-  after `refused`  Ancillary BadCode BadShift BadWord Empty JumpOut NoReturn TooLong Unwritten ZeroDivisor
+  after `refused`  Ancillary BadCode BadShift BadWord Empty JumpOut NoReturn Unwritten ZeroDivisor
   after `line N:`  BadHex
   after `fault`    BadMagic BadVersion InputTooLong TooLong TruncatedHeader TruncatedRecord";
 
@@ -185,7 +185,7 @@ The script is read whole before its first event. Its first fault is printed as `
     BadNumber  a number is out of its range, or none
     Twice      there is a second `cores`, or a name is taken
     NoName     there is no such filter, packet, capture or FILE
-    BadBody    digits, a filter or a capture can't be read; what is wrong follows
+    BadBody    digits, a filter or a capture can't be read; the words of check, match or dump follow
 
 A script or a FILE of more than 64 MiB prints `fault InputTooLong` alone, with status 1. A FILE that can't be opened is named
 on standard error, with status 3.";
