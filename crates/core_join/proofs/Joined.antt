@@ -53,6 +53,8 @@ quiet_back v w s = record {
   taken_same = sym s.taken;
   still_kept = ([], append-nil w.kept ∙ s.kept);
   still_ready = λ r. sym s.ready ∙ r;
+  told_same = sym s.told;
+  all_shown = λ told. (sym s.kept, sym s.stopped);
 }
 
 -- it stood as it stands
