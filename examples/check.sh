@@ -85,8 +85,16 @@ words() {
     count words $?
 }
 
+# A FILE that can't be read is named; this one is there on Linux, and none of its first bytes can be read.
+unread() {
+    ../mkdemux sim /proc/self/mem < files.script > "$made/printed" 2> "$made/said"
+    [ $? -eq 3 ] && [ ! -s "$made/printed" ] && grep -q -F '"/proc/self/mem"' "$made/said"
+    count unread $?
+}
+
 closes
 not_utf8
+unread
 words
 
 # The commands of each page, with what the page says that they print.

@@ -12,7 +12,7 @@ mod usage;
 use clap::error::ErrorKind;
 use clap::{ArgMatches, Error};
 use console::{EngineFault, run_check, run_dump, run_match, run_stream};
-use devices::{Sink, Source};
+use devices::{Named, Sink, Source};
 use sim_engine::run_sim;
 use std::fs::File;
 use std::io::{self, IsTerminal};
@@ -67,7 +67,7 @@ fn simulate(rt: &HostRuntime, found: &ArgMatches) -> u8 {
 }
 
 /// Runs the engine of a command on standard input and these files.
-fn run(rt: &HostRuntime, name: &str, found: &ArgMatches, files: Vec<File>) -> u8 {
+fn run(rt: &HostRuntime, name: &str, found: &ArgMatches, mut files: Vec<Named>) -> u8 {
     invite(rt, name, found);
     let mut source = Source::new(rt.stdin());
     let mut sink = Sink::new(rt.stdout());
@@ -75,12 +75,12 @@ fn run(rt: &HostRuntime, name: &str, found: &ArgMatches, files: Vec<File>) -> u8
         "match" => run_packets(rt, found, &mut source, &mut sink),
         "check" => run_check(rt.alloc(), found.get_flag("asm"), &mut source, &mut sink),
         "dump" => run_dump(rt.alloc(), &mut source, &mut sink),
-        "sim" => run_sim(rt.alloc(), files, &mut source, &mut sink),
+        "sim" => run_script(rt, &mut files, &mut source, &mut sink),
         _ => return USAGE,
     };
     match answer {
         Ok(status) => status,
-        Err(EngineFault::ReadFailed) => failed(rt, source.complaint()),
+        Err(EngineFault::ReadFailed) => not_read(rt, &source, files.as_slice()),
         Err(EngineFault::WriteFailed) if sink.is_closed() => FAILED,
         Err(EngineFault::WriteFailed) => failed(rt, "the output can't be written"),
         Err(EngineFault::NoMemory) => failed(rt, "out of memory"),
@@ -101,6 +101,19 @@ fn run_packets(
     } else {
         run_match(rt.alloc(), code, pcap, source, sink)
     }
+}
+
+/// Runs the script on standard input with these files.
+fn run_script(
+    rt: &HostRuntime,
+    files: &mut Vec<Named>,
+    source: &mut Source,
+    sink: &mut Sink,
+) -> Result<u8, EngineFault> {
+    let Ok(lent) = files.iter_mut().collect(rt.alloc()) else {
+        return Err(EngineFault::NoMemory);
+    };
+    run_sim(rt.alloc(), lent, source, sink)
 }
 
 /// Says on standard error what is awaited, where standard input is a terminal.
@@ -128,11 +141,13 @@ enum OpenFault<'a> {
 }
 
 /// The files of these names, opened in order up to one that can't be.
-fn open_files<'a>(rt: &HostRuntime, names: &[&'a str]) -> Result<Vec<File>, OpenFault<'a>> {
+fn open_files<'a>(rt: &HostRuntime, names: &[&'a str]) -> Result<Vec<Named<'a>>, OpenFault<'a>> {
     let mut files = Vec::new(rt.alloc());
     for name in names {
         let file = open_file(rt, name)?;
-        files.push(file).map_err(|_| OpenFault::NoMemory)?;
+        files
+            .push(Named::new(file, name))
+            .map_err(|_| OpenFault::NoMemory)?;
     }
     Ok(files)
 }
@@ -182,6 +197,17 @@ fn not_utf8(rt: &HostRuntime) -> u8 {
         "error: an argument is not UTF-8\n\nUsage: mkdemux <COMMAND>\n\nFor more information, try '--help'."
     );
     USAGE
+}
+
+/// Says on standard error which input could not be read.
+fn not_read(rt: &HostRuntime, source: &Source, files: &[Named]) -> u8 {
+    match files.iter().find_map(|file| file.failed()) {
+        Some(name) => {
+            let _ = eprintln!(rt; "mkdemux: {name:?} can't be read");
+            FAILED
+        }
+        None => failed(rt, source.complaint()),
+    }
 }
 
 /// Says on standard error why the program ended early.
