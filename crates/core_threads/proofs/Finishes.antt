@@ -1,0 +1,80 @@
+-- What the joined threads come to.
+use Rattle.std.proofs.Common.{All, ◌≡◌, ◌<◌, ℕ, List, inl, inr, Option, Some, None, slice_get, map, sym, ap, ◌∙◌, subst, arith, IfSome, MatchOption}
+use Rattle.std.proofs.lemmas.List.{length-map}
+use Rattle.world_model.proofs.Lists.{get_map, get_at, get_within, map_get}
+use Rattle.rx_queue.specs.declared.job.Job.{Job}
+use Rattle.core_join.specs.Machines.{RingCore}
+use Rattle.core_threads.specs.declared.feeding.Outlet.{Outlet}
+use Rattle.core_threads.specs.declared.halt.Halt.{Halt}
+use Rattle.core_threads.specs.declared.halt.Halt.TheVariants as halt
+use Rattle.core_threads.specs.declared.threads.Ran.{Ran}
+use Rattle.core_threads.specs.Ending.{IsAtEnd, HaltsFor, HaltsRightly}
+use Rattle.core_threads.specs.Lanes.{items_for}
+use Rattle.core_threads.specs.Leaving.{SameRan, SameButTaken, AreSameRan, AllLeft}
+use Rattle.core_threads.specs.Searching.{AreInPlace, HaltedAt, AreAtEnd, UnfinishedAt, IsHalt}
+use Rattle.core_threads.specs.Finishing.{CanFinish, Finishes}
+use Rattle.core_threads.specs.Runs.{StandsFor}
+
+abbrev cores_of : List Ran → List RingCore
+cores_of ran = map (λ r. r.core) ran
+
+module _ (old new : List Ran) (outlets : List Outlet) (can : CanFinish old outlets) (same : AreSameRan old new) where
+  before : (i : ℕ) (s : Ran) → slice_get new i ≡ Some s → (r : Ran) × (slice_get old i ≡ Some r) × SameRan r s
+  before i s at =
+      let r = get_at old i (omega (arith, get_within new i s at, same.all)) in
+      (r.0, r.1, same.each i r.0 s r.1 at)
+
+  pub in_place : AreInPlace new
+  in_place i s at =
+      let r = before i s at in
+      let o = get_at outlets i (omega (arith, get_within new i s at, same.all, can.fed.all)) in
+      ap (λ (c : RingCore). c.number) r.2.core.core ∙ (can.fed.each i r.0 o.0 r.1 o.1).number
+
+  stands_still : (why : Halt) (c d : RingCore) → SameButTaken c d → StandsFor why c → StandsFor why d
+  stands_still (halt.Cause cause) c d e stands = ap (λ (c : RingCore). c.stopped) e.core ∙ stands
+  stands_still halt.Spent c d e stands = tt
+  stands_still halt.NoMemory c d e stands = tt
+  stands_still halt.Limit c d e stands = tt
+  stands_still halt.Early c d e stands = stands
+
+  stands_at : (place : ℕ) (why : Halt) (h : HaltedAt new place why) → StandsFor why h.its.core
+  stands_at place why h =
+      let r = before place h.its h.there in
+      let P : Option Halt → Type 0 = λ o. IfSome o (λ w. StandsFor w r.0.core) in
+      let stands : StandsFor why r.0.core = subst P (sym r.2.halted ∙ h.halted) (can.halts place r.0 r.1) in
+      stands_still why r.0.core h.its.core r.2.core stands
+
+  halts_so : (left : List (ℕ × Job)) (place : ℕ) (why : Halt) (h : HaltedAt new place why) → StandsFor why h.its.core → HaltsFor (cores_of new) left place why
+  halts_so left place (halt.Cause cause) h stands = record { core = h.its.core; there = map_get (λ r. r.core) new place h.its h.there; stopped = stands }
+  halts_so left place halt.Spent h stands = omega (arith, get_within new place h.its h.there, length-map new (λ r. r.core))
+  halts_so left place halt.NoMemory h stands = omega (arith, get_within new place h.its h.there, length-map new (λ r. r.core))
+  halts_so left place halt.Limit h stands = omega (arith, get_within new place h.its h.there, length-map new (λ r. r.core))
+  halts_so left place halt.Early h stands = absurd stands
+
+  at_end : (left : List (ℕ × Job)) (i : ℕ) (c : RingCore) → ((r : Ran) → slice_get new i ≡ Some r → IsAtEnd (items_for i left) r.core) → slice_get (cores_of new) i ≡ Some c → IsAtEnd (items_for i left) c
+  at_end left i c ends at =
+      let r = get_map (λ (r : Ran). r.core) new i c at in
+      subst (λ (d : RingCore). IsAtEnd (items_for i left) d) (sym r.2) (ends r.0 r.1)
+
+  early_so : (left : List (ℕ × Job)) (place : ℕ) (why : Halt) → why ≡ halt.Early → UnfinishedAt new left place → HaltsFor (cores_of new) left place why
+  early_so left place why early u = subst (λ (w : Halt). HaltsFor (cores_of new) left place w) (sym early) (record {
+    core = u.its.core;
+    there = map_get (λ r. r.core) new place u.its u.there;
+    unfinished = u.unfinished;
+    lesser = λ i c less at. at_end left i c (λ r at_r. u.lesser i r less at_r) at;
+  })
+
+  pub rightly : (left : List (ℕ × Job)) (halted : Option (ℕ × Halt)) → MatchOption halted (AreAtEnd new left) (λ h. IsHalt new left h.0 h.1) → HaltsRightly (cores_of new) left halted
+  rightly left None ends = λ i c at. at_end left i c (λ r at_r. ends i r at_r) at
+  rightly left (Some h) (inl its) = halts_so left h.0 h.1 its (stands_at h.0 h.1 its)
+  rightly left (Some h) (inr early) = early_so left h.0 h.1 early.0 early.1
+
+  pub finishes : (cores : List RingCore) (left : List (ℕ × Job)) (halted : Option (ℕ × Halt)) → AllLeft old new outlets left → MatchOption halted (AreAtEnd new left) (λ h. IsHalt new left h.0 h.1) → cores ≡ cores_of new
+      → Finishes old outlets cores left halted
+  finishes cores left halted rest why is = subst (λ (l : List RingCore). Finishes old outlets l left halted) (sym is) (record {
+    all = length-map new (λ r. r.core) ∙ same.all;
+    same = λ i r c at_r at_c. (let s = get_map (λ (r : Ran). r.core) new i c at_c in subst (λ (d : RingCore). SameButTaken r.core d) (sym s.2) (same.each i r s.0 at_r s.1).core);
+    each = rest.each;
+    inside = subst (λ (n : ℕ). All (λ j. j.0 < n) left) (sym (length-map new (λ r. r.core) ∙ same.all)) rest.inside;
+    why = rightly left halted why;
+  })

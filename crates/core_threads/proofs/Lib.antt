@@ -1,0 +1,13 @@
+pub mod Crossing
+pub mod Dealing
+pub mod Pairs
+pub mod Outlets
+pub mod Lefts
+pub mod Emptying
+pub mod Searches
+pub mod Finishes
+pub mod Loads
+pub mod Wires
+pub mod ComingUp
+pub mod Machines
+pub mod Runs

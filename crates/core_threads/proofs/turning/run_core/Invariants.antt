@@ -1,0 +1,5 @@
+use Rattle.core_threads.specs.Runs.{CoreRan}
+use Rattle.core_threads.proofs.turning.run_core.Given as goal
+
+abbrev pub invariant-loop : goal.invariant-loop
+invariant-loop g l = CoreRan g.L.Links.same l.initial.core l.core

@@ -1,0 +1,57 @@
+-- How a run ended.
+use Rattle.std.specs.Prelude.{◌≡◌, ◌<◌, ◌++◌, ℕ, All, List, [], ◌∷◌, length, Option, Some, None, slice_get}
+use Rattle.rx_queue.specs.declared.job.Job.{Job}
+use Rattle.core_links.specs.RingSlots.{SameLinks, ring_view}
+use Rattle.core_loop.specs.declared.cause.Cause.{Cause}
+use Rattle.core_loop.specs.Beginning.{HasNothingUnderWay}
+use Rattle.core_loop.specs.Cores.{SameCore, begun, receipts}
+use Rattle.core_loop.specs.Keeping.{replica_of}
+use Rattle.core_join.specs.Machines.{RingCore}
+use Rattle.core_threads.specs.declared.halt.Halt.{Halt}
+use Rattle.core_threads.specs.declared.halt.Halt.TheVariants as halt
+use Rattle.core_threads.specs.Lanes.{items_for}
+
+-- a core, of whose jobs these are left, has nothing to do: each request is begun, nothing is under way, and the first job waits for a
+-- later version
+pub record IsAtEnd (left : List Job) (core : RingCore) : Type 0 where
+  pub pending : core.pending ≡ []
+  pub idle : HasNothingUnderWay core.cores core.part (ring_view core.links)
+  pub floor : (job : Job) (later : List Job) → left ≡ job ∷ later → (replica_of core.part).shown.version < job.floor
+
+-- this core is the least that has something to do
+pub record IsLeastUnfinished (cores : List RingCore) (left : List (ℕ × Job)) (place : ℕ) : Type 0 where
+  pub core : RingCore
+  pub there : slice_get cores place ≡ Some core
+  pub unfinished : IsAtEnd (items_for place left) core → ⊥
+  pub lesser : (i : ℕ) (c : RingCore) → i < place → slice_get cores i ≡ Some c → IsAtEnd (items_for i left) c
+
+-- the core in this place is stopped with the cause
+pub record IsStoppedAt (cores : List RingCore) (place : ℕ) (cause : Cause) : Type 0 where
+  pub core : RingCore
+  pub there : slice_get cores place ≡ Some core
+  pub stopped : core.stopped ≡ Some cause
+
+-- why a core halted is right
+abbrev pub HaltsFor : List RingCore → List (ℕ × Job) → ℕ → Halt → Type 0
+HaltsFor cores left place (halt.Cause cause) = IsStoppedAt cores place cause
+HaltsFor cores left place halt.Early = IsLeastUnfinished cores left place
+HaltsFor cores left place why = place < length cores
+
+-- no core halted, and each is at its end; or a core halted for this
+abbrev pub HaltsRightly : List RingCore → List (ℕ × Job) → Option (ℕ × Halt) → Type 0
+HaltsRightly cores left None = (i : ℕ) (c : RingCore) → slice_get cores i ≡ Some c → IsAtEnd (items_for i left) c
+HaltsRightly cores left (Some why) = HaltsFor cores left why.0 why.1
+
+-- a core after the run, of whose jobs these are left: it is on its rings and its queue, the requests given to it are those begun and then
+-- those pending, and the jobs given for it are those received and then those left
+pub record CoreEnds (jobs left : List Job) (old new : RingCore) : Type 0 where
+  pub core : SameCore SameLinks old new
+  pub requests : begun new.history ++ new.pending ≡ old.pending
+  pub received : receipts new.history ++ left ≡ jobs
+
+-- the run of these cores with these jobs ended so: each core once, in order, each job received or left once, and why it halted is right
+pub record EndsRightly (machine : List RingCore) (jobs : List (ℕ × Job)) (cores : List RingCore) (left : List (ℕ × Job)) (halted : Option (ℕ × Halt)) : Type 0 where
+  pub all : length cores ≡ length machine
+  pub each : (i : ℕ) (old new : RingCore) → slice_get machine i ≡ Some old → slice_get cores i ≡ Some new → CoreEnds (items_for i jobs) (items_for i left) old new
+  pub inside : All (λ j. j.0 < length cores) left
+  pub why : HaltsRightly cores left halted

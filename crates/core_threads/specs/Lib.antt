@@ -1,0 +1,12 @@
+pub mod Runs
+pub mod Lanes
+pub mod Feeding
+pub mod Joining
+pub mod Leaving
+pub mod Ending
+pub mod Booted
+pub mod Searching
+pub mod Finishing
+pub mod Loading
+pub mod Wiring
+pub mod Booting

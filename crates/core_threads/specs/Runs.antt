@@ -1,0 +1,31 @@
+-- What a core's thread leaves.
+use Rattle.std.specs.Prelude.{◌≡◌, ◌++◌, Option, Some, IfSome}
+use Rattle.rx_queue.specs.Queue.{jobs_taken}
+use Rattle.core_links.specs.RingSlots.{SameLinks}
+use Rattle.core_loop.specs.Cores.{CoreState, SameCore, begun, receipts}
+use Rattle.core_join.specs.Machines.{RingCore}
+use Rattle.core_threads.specs.declared.halt.Halt.{Halt}
+use Rattle.core_threads.specs.declared.halt.Halt.TheVariants as halt
+
+-- each job that the core took was received
+abbrev pub HasReceived : {L : Type 0} → CoreState L → Type 0
+HasReceived c = jobs_taken c.intake ≡ receipts c.history
+
+-- the same core after some turns
+pub record CoreRan {L : Type 0} (same : L → L → Type 0) (old new : CoreState L) : Type 0 where
+  pub core : SameCore same old new
+  -- the requests begun, and then those pending, are as before
+  pub requests : begun new.history ++ new.pending ≡ begun old.history ++ old.pending
+  -- each job that was taken meanwhile was received
+  pub received : HasReceived old → HasReceived new
+
+-- why a core halted stands: a cause is the one that it is stopped with. That work is left, no core says of itself
+abbrev pub StandsFor : {L : Type 0} → Halt → CoreState L → Type 0
+StandsFor (halt.Cause cause) c = c.stopped ≡ Some cause
+StandsFor halt.Early c = ⊥
+StandsFor why c = Unit {0}
+
+-- the core ran in a thread of its own, and halted for this, if it halted
+pub record ThreadRan (old new : RingCore) (halted : Option Halt) : Type 0 where
+  pub ran : CoreRan SameLinks old new
+  pub halts : IfSome halted (λ why. StandsFor why new)

@@ -1,0 +1,43 @@
+-- Which core halted, and which has something to do.
+use Rattle.std.specs.Prelude.{◌≡◌, ◌⊎◌, ◌<◌, ℕ, List, ◌∷◌, Some, slice_get}
+use Rattle.rx_queue.specs.declared.job.Job.{Job}
+use Rattle.core_threads.specs.declared.halt.Halt.{Halt}
+use Rattle.core_threads.specs.declared.halt.Halt.TheVariants as halt
+use Rattle.core_threads.specs.declared.threads.Ran.{Ran}
+use Rattle.core_threads.specs.Ending.{IsAtEnd}
+use Rattle.core_threads.specs.Lanes.{items_for}
+
+-- each core is in its place
+abbrev pub AreInPlace : List Ran → Type 0
+AreInPlace ran = (i : ℕ) (r : Ran) → slice_get ran i ≡ Some r → r.core.number ≡ i
+
+-- the core in this place halted for this
+pub record HaltedAt (ran : List Ran) (place : ℕ) (why : Halt) : Type 0 where
+  pub its : Ran
+  pub there : slice_get ran place ≡ Some its
+  pub halted : its.halted ≡ Some why
+
+-- the first of the jobs has this floor
+pub record IsFirstFloor (jobs : List Job) (floor : ℕ) : Type 0 where
+  pub job : Job
+  pub later : List Job
+  pub first : jobs ≡ job ∷ later
+  pub is : job.floor ≡ floor
+
+-- each core below this place has nothing to do
+abbrev pub AreAtEndBelow : List Ran → List (ℕ × Job) → ℕ → Type 0
+AreAtEndBelow ran left place = (i : ℕ) (r : Ran) → i < place → slice_get ran i ≡ Some r → IsAtEnd (items_for i left) r.core
+
+abbrev pub AreAtEnd : List Ran → List (ℕ × Job) → Type 0
+AreAtEnd ran left = (i : ℕ) (r : Ran) → slice_get ran i ≡ Some r → IsAtEnd (items_for i left) r.core
+
+-- the core in this place is the first that has something to do
+pub record UnfinishedAt (ran : List Ran) (left : List (ℕ × Job)) (place : ℕ) : Type 0 where
+  pub its : Ran
+  pub there : slice_get ran place ≡ Some its
+  pub unfinished : IsAtEnd (items_for place left) its.core → ⊥
+  pub lesser : AreAtEndBelow ran left place
+
+-- a core's thread says so, or there is something to do
+abbrev pub IsHalt : List Ran → List (ℕ × Job) → ℕ → Halt → Type 0
+IsHalt ran left place why = HaltedAt ran place why ⊎ ((why ≡ halt.Early) × UnfinishedAt ran left place)

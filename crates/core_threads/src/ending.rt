@@ -1,0 +1,85 @@
+//! Why a run ended.
+
+ghost use Rattle.std.specs.Prelude.{◌≡◌, ◌↔◌, [], map, IsTrue, IfOk, IfSome, MatchOption};
+ghost use Rattle.core_threads.specs.Ending.{IsAtEnd};
+ghost use Rattle.core_threads.specs.Lanes.{items_for};
+ghost use Rattle.core_threads.specs.Searching.{AreInPlace, HaltedAt, IsFirstFloor, AreAtEnd, UnfinishedAt, IsHalt};
+
+use crate::halt::Halt;
+use crate::threads::Ran;
+use core_loop::{Core, RingLinks};
+use rx_queue::Job;
+use std::alloc::{AllocError, Global};
+
+// The least core that halted, and why.
+fn first_halt(ran: &[Ran]) -> Option<(u16, Halt)>
+    requires { AreInPlace ran.now }
+    ensures { IfSome result (λ halted. HaltedAt ran.now halted.0 halted.1) }
+{
+    for ran in ran {
+        if let Some(why) = ran.halted {
+            return Some((ran.core.number(), why));
+        }
+    }
+    None
+}
+
+// The floor of a core's first job.
+fn first_floor(number: u16, left: &[(u16, Job)]) -> Option<u64>
+    ensures { MatchOption result (items_for number left.now ≡ []) (IsFirstFloor (items_for number left.now)) }
+{
+    for item in left {
+        if item.0 == number {
+            return Some(item.1.floor);
+        }
+    }
+    None
+}
+
+// Whether a core has nothing to do, where these are the jobs that are left.
+fn is_at_end(core: &Core<RingLinks>, left: &[(u16, Job)]) -> bool
+    ensures { IsTrue result ↔ IsAtEnd (items_for core.now.number left.now) core.now }
+{
+    if core.pending() != 0 || !core.idle() {
+        return false;
+    }
+    match first_floor(core.number(), left) {
+        Some(floor) => floor > core.version(),
+        None => true,
+    }
+}
+
+// The least core that has something to do, where these are the jobs that are left.
+fn first_unfinished(ran: &[Ran], left: &[(u16, Job)]) -> Option<u16>
+    requires { AreInPlace ran.now }
+    ensures { MatchOption result (AreAtEnd ran.now left.now) (UnfinishedAt ran.now left.now) }
+{
+    for ran in ran {
+        if !is_at_end(&ran.core, left) {
+            return Some(ran.core.number());
+        }
+    }
+    None
+}
+
+/// The least core that halted, and why, where these are the jobs that are left. Where no core did, `Early` says that there is
+/// work left.
+pub(crate) fn why_halted(ran: &[Ran], left: &[(u16, Job)]) -> Option<(u16, Halt)>
+    requires { AreInPlace ran.now }
+    ensures { MatchOption result (AreAtEnd ran.now left.now) (λ halted. IsHalt ran.now left.now halted.0 halted.1) }
+{
+    if let Some(halted) = first_halt(ran) {
+        return Some(halted);
+    }
+    match first_unfinished(ran, left) {
+        Some(core) => Some((core, Halt::Early)),
+        None => None,
+    }
+}
+
+/// The cores alone.
+pub(crate) fn cores_of(alloc: Global, ran: Vec<Ran>) -> Result<Vec<Core<RingLinks>>, AllocError>
+    ensures { IfOk result (λ cores. cores.items ≡ map (λ r. r.core) ran.items) }
+{
+    ran.into_iter().map(|ran| ran.core).collect(alloc)
+}

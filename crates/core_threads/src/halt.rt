@@ -1,0 +1,39 @@
+//! Why a core, or a whole run, ends before its work is done.
+
+ghost use Rattle.std.specs.Prelude.{◌≡◌};
+ghost use Rattle.core_threads.specs.declared.halt.RunFault.TheVariants as run_fault;
+
+use core_loop::Cause;
+use std::alloc::AllocError;
+
+/// Why a core halted.
+#[derive(Clone, Copy, PartialEq, Eq, Debug)]
+pub enum Halt {
+    /// The core is stopped for good.
+    Cause(Cause),
+    /// The next number or stamp would be too great.
+    Spent,
+    /// Memory was refused in a turn.
+    NoMemory,
+    /// As many turns in a row as the limit says did nothing.
+    Limit,
+    /// No core halted, but there is work left: a request that was not begun or not answered, or a job that may be received.
+    Early,
+}
+
+/// Why there is no end of a run: its machine and its jobs are gone.
+#[derive(Clone, Copy, PartialEq, Eq, Debug)]
+pub enum RunFault {
+    /// A thread could not be started. Those that were started are joined.
+    Spawn,
+    /// There was no memory.
+    NoMemory,
+}
+
+impl From<AllocError> for RunFault {
+    ghost from_gives = { λ _ fault. fault ≡ run_fault.NoMemory };
+
+    fn from(_: AllocError) -> RunFault {
+        RunFault::NoMemory
+    }
+}

@@ -1,0 +1,24 @@
+//! The cores of one machine as threads: one thread for each core, and one that puts the jobs.
+#![tactic(auto)]
+
+mod backoff;
+mod booting;
+mod ending;
+mod feeding;
+mod flags;
+mod gate;
+mod halt;
+mod lanes;
+mod leaving;
+mod machine;
+mod threads;
+mod turning;
+mod wiring;
+
+pub use booting::{BootFault, boot};
+pub use gate::{Free, Gate};
+pub use halt::{Halt, RunFault};
+pub use machine::{Ended, Machine, run_machine};
+
+#[cfg(test)]
+mod tests;

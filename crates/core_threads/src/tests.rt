@@ -1,0 +1,196 @@
+//! Machines whose cores run in threads.
+
+ghost use Rattle.std.specs.Prelude.{◌≤◌, length};
+
+use super::*;
+use bpf_insn::read_ddd;
+use pcap_reader::{Bytes, Packet};
+use rx_queue::Job;
+use std::alloc::Global;
+use std::process::Abort;
+use std::sync::Wait;
+use std::sync::atomic::{AtomicBool, AtomicU64, Ordering};
+use std::test::Fail;
+use std::thread::Threads;
+use std::time::Clock;
+use table_replica::{Kept, Op, Program};
+use world_model::{Answer, Event};
+
+// A limit that is never met.
+const LIMIT: u64 = 50_000_000;
+
+// Accepts every packet.
+const ALL: &str = "1,6 0 0 65535";
+
+// A job with a packet of five bytes.
+fn job(alloc: Global, number: u64, floor: u64) -> Result<Job, Fail> {
+    let bytes = Vec::from_slice(alloc, &[1, 2, 3, 4, 5])?;
+    Ok(Job {
+        number,
+        packet: Packet {
+            bytes: Bytes::from_vec(bytes),
+            original: 5,
+        },
+        floor,
+    })
+}
+
+// Runs a machine with these budgets. On core 0 domain 1 creates endpoint 7 and installs a filter that accepts every packet; job 1 of
+// core 1 waits for version 2, and job 2 for version 9.
+fn worked_run<R: Threads + Wait + Clock + Sync>(
+    rt: &R,
+    alloc: Global,
+    budgets: &[u32],
+) -> Result<Ended, Fail>
+    requires { (2 ≤ length budgets.now) × (length budgets.now ≤ 8) }
+{
+    let mut requests = Vec::new(alloc);
+    requests.push((
+        0,
+        Op::Create {
+            domain: 1,
+            endpoint: 7,
+        },
+    ))?;
+    requests.push((
+        0,
+        Op::Install {
+            domain: 1,
+            cap: 1,
+            program: Program::from_vec(read_ddd(alloc, ALL.as_bytes())?),
+        },
+    ))?;
+    let mut jobs = Vec::new(alloc);
+    jobs.push((1, job(alloc, 1, 2)?))?;
+    jobs.push((1, job(alloc, 2, 9)?))?;
+    let machine = boot(alloc, budgets, requests)?;
+    Ok(run_machine(rt, alloc, machine, jobs, &Free, LIMIT)?)
+}
+
+// The last event of a core where that is a receipt: the job's number, the version, how many endpoints get the packet, and the
+// first of them.
+fn last_receipt(ended: &Ended, place: usize) -> Option<(u64, u64, usize, Option<Kept>)> {
+    let last = ended.cores.get(place)?.history().last()?;
+    match (&last.done.event, &last.done.answer) {
+        (Event::Rx { number, .. }, Answer::Delivered { version, kept }) => {
+            let kept = kept.as_slice();
+            Some((*number, *version, kept.len(), kept.first().copied()))
+        }
+        _ => None,
+    }
+}
+
+fn ends_as_worked(rt: &impl Abort, ended: &Ended, cores: usize) {
+    assert_eq!(rt; ended.halted, None);
+    assert_eq!(rt; ended.cores.len(), cores);
+    for core in &ended.cores {
+        assert_eq!(rt; core.version(), 2);
+        assert_eq!(rt; core.pending(), 0);
+    }
+    let kept = Kept {
+        endpoint: 7,
+        kept: 5,
+    };
+    assert_eq!(rt; last_receipt(ended, 1), Some((1, 2, 1, Some(kept))));
+    assert_eq!(rt; ended.left.len(), 1);
+    let left = ended.left.first().map(|left| (left.0, left.1.number));
+    assert_eq!(rt; left, Some((1, 2)));
+}
+
+#[test]
+fn two_cores_commit_and_receive(rt: HostRuntime) -> Result<(), Fail> {
+    let ended = worked_run(&rt, rt.alloc(), &[100, 100])?;
+    ends_as_worked(&rt, &ended, 2);
+    Ok(())
+}
+
+#[test]
+fn eight_cores_commit_and_receive(rt: HostRuntime) -> Result<(), Fail> {
+    let ended = worked_run(&rt, rt.alloc(), &[100; 8])?;
+    ends_as_worked(&rt, &ended, 8);
+    Ok(())
+}
+
+// Lets no job through.
+struct Never;
+
+impl Gate for Never {
+    fn may(&self, _core: u16, _number: u64) -> bool {
+        false
+    }
+
+    fn did(&self, _core: u16, _number: u64) {}
+}
+
+#[test]
+fn a_core_halts_at_its_limit(rt: HostRuntime) -> Result<(), Fail> {
+    let alloc = rt.alloc();
+    let mut jobs = Vec::new(alloc);
+    jobs.push((0, job(alloc, 1, 0)?))?;
+    let machine = boot(alloc, &[100], Vec::new(alloc))?;
+    let ended = run_machine(&rt, alloc, machine, jobs, &Never, 1_000)?;
+    assert_eq!(rt; ended.halted, Some((0, Halt::Limit)));
+    let left = ended.left.first().map(|left| (left.0, left.1.number));
+    assert_eq!(rt; left, Some((0, 1)));
+    assert_eq!(rt; ended.left.len(), 1);
+    Ok(())
+}
+
+// Each core's first question sets its flag, and then looks for the other core's.
+#[derive(Drop)]
+struct Meeting {
+    here: [AtomicBool; 2],
+    met: AtomicU64,
+}
+
+impl Gate for Meeting {
+    fn may(&self, core: u16, _number: u64) -> bool {
+        let (own, other) = if core == 0 {
+            (&self.here[0], &self.here[1])
+        } else {
+            (&self.here[1], &self.here[0])
+        };
+        if own.swap(true, Ordering::SeqCst) {
+            return true;
+        }
+        for _ in 0..LIMIT {
+            if other.load(Ordering::SeqCst) {
+                self.met.fetch_add(1, Ordering::SeqCst);
+                return true;
+            }
+        }
+        true
+    }
+
+    fn did(&self, _core: u16, _number: u64) {}
+}
+
+#[test]
+fn two_cores_wait_for_each_other(rt: HostRuntime) -> Result<(), Fail> {
+    let alloc = rt.alloc();
+    let mut jobs = Vec::new(alloc);
+    jobs.push((0, job(alloc, 1, 0)?))?;
+    jobs.push((1, job(alloc, 2, 0)?))?;
+    let gate = Meeting {
+        here: [AtomicBool::new(false), AtomicBool::new(false)],
+        met: AtomicU64::new(0),
+    };
+    let machine = boot(alloc, &[100, 100], Vec::new(alloc))?;
+    let ended = run_machine(&rt, alloc, machine, jobs, &gate, LIMIT)?;
+    assert_eq!(rt; ended.halted, None);
+    assert_eq!(rt; gate.met.load(Ordering::SeqCst), 2);
+    assert_eq!(rt; last_receipt(&ended, 0), Some((1, 0, 0, None)));
+    assert_eq!(rt; last_receipt(&ended, 1), Some((2, 0, 0, None)));
+    assert!(rt; ended.left.is_empty());
+    Ok(())
+}
+
+#[test]
+fn a_machine_has_1_to_8_cores(rt: HostRuntime) -> Result<(), Fail> {
+    let alloc = rt.alloc();
+    let none = boot(alloc, &[], Vec::new(alloc));
+    assert_eq!(rt; none.err(), Some(BootFault::CoreCount));
+    let nine = boot(alloc, &[100; 9], Vec::new(alloc));
+    assert_eq!(rt; nine.err(), Some(BootFault::CoreCount));
+    Ok(())
+}
