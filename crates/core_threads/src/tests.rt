@@ -1,9 +1,11 @@
 //! Machines whose cores run in threads.
 
-ghost use Rattle.std.specs.Prelude.{◌≤◌, length};
+ghost use Rattle.std.specs.Prelude.{◌≤◌, ℕ, List, length, IfOk};
+ghost use Rattle.core_join.specs.Machines.{IsMachine};
 
 use super::*;
 use bpf_insn::read_ddd;
+use core_join::{conclude, merge};
 use pcap_reader::{Bytes, Packet};
 use rx_queue::Job;
 use std::alloc::Global;
@@ -43,6 +45,7 @@ fn worked_run<R: Threads + Wait + Clock + Sync>(
     budgets: &[u32],
 ) -> Result<Ended, Fail>
     requires { (2 ≤ length budgets.now) × (length budgets.now ≤ 8) }
+    ensures { IfOk result (λ ended. (budget : ℕ) × (rest : List ℕ) × IsMachine budget rest ended.cores.items) }
 {
     let mut requests = Vec::new(alloc);
     requests.push((
@@ -65,6 +68,21 @@ fn worked_run<R: Threads + Wait + Clock + Sync>(
     jobs.push((1, job(alloc, 2, 9)?))?;
     let machine = boot(alloc, budgets, requests)?;
     Ok(run_machine(rt, alloc, machine, jobs, &Free, LIMIT)?)
+}
+
+// How many events a machine of two cores has in its one list.
+fn count_events<R: Threads + Wait + Clock + Sync>(rt: &R, alloc: Global) -> Result<usize, Fail> {
+    let ended = worked_run(rt, alloc, &[100, 100])?;
+    let histories = conclude(alloc, ended.cores)?;
+    let list = merge(alloc, &histories)?;
+    Ok(list.len())
+}
+
+#[test]
+fn what_two_cores_did_is_one_run(rt: HostRuntime) -> Result<(), Fail> {
+    let count = count_events(&rt, rt.alloc())?;
+    assert_eq!(rt; count, 11);
+    Ok(())
 }
 
 // The last event of a core where that is a receipt: the job's number, the version, how many endpoints get the packet, and the
