@@ -29,19 +29,19 @@ pub(crate) struct Outlet {
 #[derive(Clone, Copy)]
 enum Fed {
     // Jobs were put.
-    Some,
+    Moved,
     // There are jobs, and no queue took one.
-    None,
+    Stuck,
     // No job is left to put, or its core has ended.
-    All,
+    Done,
 }
 
 // What two tries led to.
 fn both(first: Fed, second: Fed) -> Fed {
     match (first, second) {
-        (Fed::Some, _) | (_, Fed::Some) => Fed::Some,
-        (Fed::None, _) | (_, Fed::None) => Fed::None,
-        (Fed::All, Fed::All) => Fed::All,
+        (Fed::Moved, _) | (_, Fed::Moved) => Fed::Moved,
+        (Fed::Stuck, _) | (_, Fed::Stuck) => Fed::Stuck,
+        (Fed::Done, Fed::Done) => Fed::Done,
     }
 }
 
@@ -77,9 +77,9 @@ fn put_batch(outlet: &mut Outlet) -> Fed
         any = true;
     }
     match (any, outlet.held.is_some()) {
-        (true, _) => Fed::Some,
-        (false, true) => Fed::None,
-        (false, false) => Fed::All,
+        (true, _) => Fed::Moved,
+        (false, true) => Fed::Stuck,
+        (false, false) => Fed::Done,
     }
 }
 
@@ -88,7 +88,7 @@ fn put_for(core: usize, outlet: &mut Outlet, flags: &Flags) -> Fed
     ensures { SameOutlet outlet.old outlet.new }
 {
     if flags.has_ended(core) {
-        return Fed::All;
+        return Fed::Done;
     }
     put_batch(outlet)
 }
@@ -97,7 +97,7 @@ fn put_for(core: usize, outlet: &mut Outlet, flags: &Flags) -> Fed
 fn put_some(outlets: &mut [Outlet], flags: &Flags) -> Fed
     ensures { AllZip SameOutlet outlets.old outlets.new }
 {
-    let mut fed = Fed::All;
+    let mut fed = Fed::Done;
     for (core, outlet) in outlets.iter_mut().enumerate() {
         fed = both(fed, put_for(core, outlet, flags));
     }
@@ -114,9 +114,9 @@ pub(crate) fn put_jobs<R: Wait + Clock>(rt: &R, outlets: &mut [Outlet], flags: &
             return;
         }
         match put_some(outlets, flags) {
-            Fed::Some => backoff.reset(),
-            Fed::None => backoff.wait(rt),
-            Fed::All => return,
+            Fed::Moved => backoff.reset(),
+            Fed::Stuck => backoff.wait(rt),
+            Fed::Done => return,
         }
     }
 }
