@@ -4,48 +4,71 @@ ghost use Rattle.std.specs.Prelude.{◌≤◌, vec_len};
 
 use super::{core_of, create, job};
 use crate::{Cause, Core, ListLinks, Turn};
-use monitor_messages::{Message, Vote, encode};
-use rx_queue::queue;
+use monitor_messages::{Message, encode};
+use rx_queue::{Port, queue};
 use std::alloc::{AllocError, Global};
 use std::collections::VecDeque;
 use std::process::Abort;
 use std::test::Fail;
 
+// Whether a core commits its request, and then has nothing to do.
+fn commits(core: &mut Core<ListLinks>) -> bool {
+    let did = core.turn(true) == Turn::Did;
+    did && core.version() == 1 && core.pending() == 0 && core.turn(true) == Turn::Idle
+}
+
 #[test]
-fn a_core_alone_commits_and_receives(rt: HostRuntime) -> Result<(), Fail> {
-    let alloc = rt.alloc();
-    let (mut port, intake) = queue(alloc, 4)?;
-    let mut requests = VecDeque::new(alloc);
-    requests.push_back(create())?;
-    let links = ListLinks::new(alloc, 0, 1, 4)?;
-    let mut core = Core::new(alloc, links, 100, 0, 1, requests, intake)?;
-    assert_eq!(rt; core.turn(true), Turn::Did);
-    assert_eq!(rt; core.version(), 1);
-    assert_eq!(rt; core.pending(), 0);
-    assert_eq!(rt; core.turn(true), Turn::Idle);
-    assert!(rt; port.put(job(alloc, 7, 2)?).is_ok());
-    assert_eq!(rt; core.turn(true), Turn::Idle);
-    assert_eq!(rt; core.unread(&mut port).map(|job| job.floor), Some(2));
-    assert!(rt; port.put(job(alloc, 7, 1)?).is_ok());
-    assert_eq!(rt; core.turn(false), Turn::Idle);
-    assert_eq!(rt; core.turn(true), Turn::Did);
-    assert_eq!(rt; core.turn(true), Turn::Idle);
-    assert_eq!(rt; core.history().len(), 2);
-    assert_eq!(rt; core.history().last().map(|event| event.stamp), Some(2));
+fn a_core_alone_commits(rt: HostRuntime) -> Result<(), Fail> {
+    let (mut core, _port) = creator(rt.alloc(), 1)?;
+    assert!(rt; commits(&mut core));
     Ok(())
+}
+
+// Whether a core that has committed receives a job only in a turn that may.
+fn receives(
+    alloc: Global,
+    core: &mut Core<ListLinks>,
+    port: &mut Port,
+) -> Result<bool, AllocError> {
+    let _ = port.put(job(alloc, 7, 1)?);
+    let waited = core.turn(false) == Turn::Idle;
+    Ok(waited && core.turn(true) == Turn::Did && core.turn(true) == Turn::Idle)
+}
+
+#[test]
+fn a_core_alone_receives(rt: HostRuntime) -> Result<(), Fail> {
+    let alloc = rt.alloc();
+    let (mut core, mut port) = creator(alloc, 1)?;
+    assert!(rt; commits(&mut core));
+    assert!(rt; receives(alloc, &mut core, &mut port)?);
+    Ok(())
+}
+
+// Whether a job for a later version waits.
+fn waits(alloc: Global, core: &mut Core<ListLinks>, port: &mut Port) -> Result<bool, AllocError> {
+    let _ = port.put(job(alloc, 7, 2)?);
+    Ok(core.turn(true) == Turn::Idle)
+}
+
+#[test]
+fn a_job_for_a_later_version_waits(rt: HostRuntime) -> Result<(), Fail> {
+    let alloc = rt.alloc();
+    let (mut core, mut port) = creator(alloc, 1)?;
+    assert!(rt; commits(&mut core));
+    assert!(rt; waits(alloc, &mut core, &mut port)?);
+    Ok(())
+}
+
+// Whether a core sends its request and then waits.
+fn sends_and_waits(core: &mut Core<ListLinks>) -> bool {
+    let did = core.turn(true) == Turn::Did;
+    did && core.turn(true) == Turn::Idle && core.version() == 0 && !core.idle()
 }
 
 #[test]
 fn a_core_sends_one_request_and_waits(rt: HostRuntime) -> Result<(), Fail> {
-    let alloc = rt.alloc();
-    let (_port, intake) = queue(alloc, 4)?;
-    let mut requests = VecDeque::new(alloc);
-    requests.push_back(create())?;
-    let links = ListLinks::new(alloc, 0, 2, 4)?;
-    let mut core = Core::new(alloc, links, 100, 0, 2, requests, intake)?;
-    assert_eq!(rt; core.turn(true), Turn::Did);
-    assert_eq!(rt; core.turn(true), Turn::Idle);
-    assert_eq!(rt; core.version(), 0);
+    let (mut core, _port) = creator(rt.alloc(), 2)?;
+    assert!(rt; sends_and_waits(&mut core));
     assert_eq!(rt; core.into_history().len(), 1);
     Ok(())
 }
@@ -91,35 +114,15 @@ fn the_last_stamp_is_spent(rt: HostRuntime) -> Result<(), Fail> {
 }
 
 // A core of this many cores that is to create an endpoint, over links of capacity 1.
-fn creator(alloc: Global, cores: u16) -> Result<Core<ListLinks>, AllocError>
+fn creator(alloc: Global, cores: u16) -> Result<(Core<ListLinks>, Port), AllocError>
     requires { 1 ≤ cores × cores ≤ 8 }
 {
-    let (_port, intake) = queue(alloc, 4)?;
+    let (port, intake) = queue(alloc, 4)?;
     let mut requests = VecDeque::new(alloc);
     requests.push_back(create())?;
     let links = ListLinks::new(alloc, 0, cores, 1)?;
-    Core::new(alloc, links, 100, 0, cores, requests, intake)
-}
-
-// What a core answers that starts a request and then is given this as core 1's, where its link takes no more.
-fn turns_of_full_links(alloc: Global, message: Vec<u8>) -> Result<(Turn, Turn, usize), AllocError>
-    requires length { (1 ≤ vec_len message) × (vec_len message ≤ 32832) }
-{
-    let mut core = creator(alloc, 2)?;
-    let first = core.turn(true);
-    let _ = core.give(1, message);
-    let second = core.turn(true);
-    Ok((first, second, core.history().len()))
-}
-
-#[test]
-fn a_vote_waits_for_its_answers_link(rt: HostRuntime) -> Result<(), Fail> {
-    let alloc = rt.alloc();
-    let yes = Vote::Yes;
-    let vote = encode(alloc, 2, &Message::Vote { txn: 1, vote: yes })?;
-    let found = turns_of_full_links(alloc, vote)?;
-    assert_eq!(rt; found, (Turn::Did, Turn::Idle, 1));
-    Ok(())
+    let core = Core::new(alloc, links, 100, 0, cores, requests, intake)?;
+    Ok((core, port))
 }
 
 // A turn; one that is refused memory changes nothing.
@@ -134,7 +137,7 @@ fn turn(rt: &impl Abort, core: &mut Core<ListLinks>) {
 // Turns that commit the request, or refuse it where it lacked memory.
 #[test]
 fn a_core_alone_with_a_refused_growth(rt: HostRuntime) -> Result<(), Fail> {
-    let mut core = creator(rt.alloc(), 1)?;
+    let (mut core, _port) = creator(rt.alloc(), 1)?;
     for _ in 0..4 {
         turn(&rt, &mut core);
     }
