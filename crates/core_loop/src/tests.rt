@@ -5,6 +5,7 @@ mod lines;
 mod two_cores;
 
 ghost use Rattle.std.specs.Prelude.{◌≤◌, ◌<◌};
+ghost use Rattle.monitor_messages.specs.Coding.{HasShortProgram};
 
 use crate::{Core, ListLinks};
 use pcap_reader::{Bytes, Packet};
@@ -25,7 +26,9 @@ pub(crate) fn job(alloc: Global, number: u64, floor: u64) -> Result<Job, AllocEr
     })
 }
 
-pub(crate) fn create() -> Op {
+pub(crate) fn create() -> Op
+    ensures { HasShortProgram result }
+{
     Op::Create {
         domain: 1,
         endpoint: 7,
