@@ -16,3 +16,4 @@ pub mod Changes
 pub mod Reading
 pub mod Limits
 pub mod Orders
+pub mod Threads

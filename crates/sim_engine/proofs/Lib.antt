@@ -3,4 +3,3 @@ pub mod Begin
 pub mod Settle
 pub mod Settling
 pub mod Printed
-pub mod Inputs

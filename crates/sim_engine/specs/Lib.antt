@@ -4,6 +4,4 @@ pub mod Keeping
 pub mod Simulations
 pub mod Settling
 pub mod Writing
-pub mod Faults
-pub mod Inputs
 pub mod Showing

@@ -1,15 +1,14 @@
 -- What `sim` shows of a script and its files.
-use Rattle.std.specs.Prelude.{◌≡◌, ◌<◌, ◌≤◌, ◌⊎◌, ◌++◌, ◌∷◌, ℕ, false, List, Ok, Err, codes, length, Option}
+use Rattle.std.specs.Prelude.{◌≡◌, ◌⊎◌, ◌++◌, ◌∷◌, ℕ, false, List, Ok, Err, codes}
 use Rattle.world_model.specs.Worlds.{boot}
 use Rattle.mk_script.specs.declared.script.Item.{Item}
 use Rattle.mk_script.specs.declared.script.Script.{Script}
 use Rattle.mk_script.specs.declared.fault.ScriptFault.{ScriptFault}
 use Rattle.mk_script.specs.Drafts.{Settings}
 use Rattle.mk_script.specs.Scripts.{Stands}
-use Rattle.sim_engine.specs.Faults.{script_fault_line}
-use Rattle.sim_engine.specs.Inputs.{AllWithin, AreInputs, OneLonger}
+use Rattle.script_input.specs.Faults.{script_fault_line}
+use Rattle.script_input.specs.Inputs.{AllShort, SomeLong}
 use Rattle.sim_engine.specs.Simulations.{Simulation, Performs, just}
-use Rattle.console.specs.Reading.{IsInput}
 
 abbrev pub for_sim : List (List ℕ) → Settings
 for_sim files = record { files = files; threads = false }
@@ -27,8 +26,8 @@ ShowsScript files input status text =
 -- the script and each file have a limit
 abbrev pub ShowsSim : List (List ℕ) → List ℕ → ℕ → List ℕ → Type 0
 ShowsSim files input status text =
-    ((length input ≤ 67108864) × AllWithin files × ShowsScript files input status text)
-    ⊎ (((67108864 < length input) ⊎ OneLonger files) × (status ≡ 1) × (text ≡ codes "fault InputTooLong\n"))
+    (AllShort input files × ShowsScript files input status text)
+    ⊎ (SomeLong input files × (status ≡ 1) × (text ≡ codes "fault InputTooLong\n"))
 
 -- a front of what the first of the script's items print
 abbrev pub ShowsFront : List (List ℕ) → List ℕ → List ℕ → Type 0
@@ -38,8 +37,4 @@ ShowsFront files input text =
 
 -- such a front, where nothing is too long
 abbrev pub ShowsPart : List (List ℕ) → List ℕ → List ℕ → Type 0
-ShowsPart files input text = (length input ≤ 67108864) × AllWithin files × ShowsFront files input text
-
--- the inputs of `sim`, as far as they are known
-abbrev pub AreSimInputs : Option (List ℕ) → List (Option (List ℕ)) → List ℕ → List (List ℕ) → Type 0
-AreSimInputs known others input files = IsInput known input × AreInputs others files
+ShowsPart files input text = AllShort input files × ShowsFront files input text

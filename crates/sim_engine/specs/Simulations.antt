@@ -13,7 +13,7 @@ use Rattle.world_model.specs.Worlds.{World, Happens, version_at}
 use Rattle.world_core.specs.declared.fault.WorldFault.{WorldFault}
 use Rattle.world_core.specs.declared.fault.WorldFault.TheVariants.{NoMemory}
 use Rattle.world_core.specs.Refusals.{WorldRefuses, Settles, AllQuiet, waiting_at}
-use Rattle.sim_lines.specs.Events.{event_line}
+use Rattle.sim_lines.specs.Events.{event_line, done_line}
 use Rattle.sim_lines.specs.Tables.{table_text}
 use Rattle.mk_script.specs.declared.script.Item.{Item}
 use Rattle.mk_script.specs.declared.script.Item.TheVariants as item
@@ -74,9 +74,6 @@ pub data Next (s : Simulation) (event : Event) (rest : List Request) : Type 0 wh
 pub record NothingLeft (s : Simulation) : Type 0 where
   pub none_waits : NoneWaits s.world
   pub none_pending : s.pending ≡ []
-
-abbrev pub done_line : Done → List ℕ
-done_line d = event_line d.event (Ok d.answer)
 
 -- all messages are taken
 pub record Quiets (w : World) (w' : World) (text : List ℕ) : Type 0 where

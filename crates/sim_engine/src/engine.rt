@@ -1,20 +1,17 @@
 //! `sim`: runs a script.
 
-ghost use Rattle.std.specs.Prelude.{◌≡◌, ◌≢◌, ◌<◌, ◌^◌, ◌++◌, ◌⊎◌, length, codes, ℕ, List, map, IfOk, IfErr, IsErrOf};
+ghost use Rattle.std.specs.Prelude.{◌≡◌, ◌<◌, ◌^◌, ◌++◌, ◌⊎◌, length, ℕ, List, map, IfOk, IfErr, IsErrOf};
 ghost use Rattle.std.specs.Io.KnownBytes.{Appends};
 ghost use Rattle.console.specs.Matching.{IsEngineFault, IsPrintFault};
 ghost use Rattle.mk_script.specs.Limits.{HasLimits};
 ghost use Rattle.mk_script.specs.declared.script.Item.{Item as GhostItem};
-ghost use Rattle.sim_engine.specs.Faults.{script_fault_line};
-ghost use Rattle.sim_engine.specs.Showing.{AreSimInputs, ShowsSim, ShowsPart, ShowsFront, ShowsItems, ShowsScript};
+ghost use Rattle.script_input.specs.Inputs.{AreScriptInputs};
+ghost use Rattle.sim_engine.specs.Showing.{ShowsSim, ShowsPart, ShowsFront, ShowsItems, ShowsScript};
 
-use crate::faults::fault_line;
-use crate::files::read_files;
 use crate::running::perform_all;
-use console::{
-    EngineFault, INPUT_BYTES, INPUT_READS, Input, read_bounded, write_bytes, write_text,
-};
-use mk_script::{Script, ScriptFault, ScriptFaultKind, read_script};
+use console::EngineFault;
+use mk_script::{Script, read_script};
+use script_input::{read_inputs, refuse, refuse_long};
 use std::alloc::Global;
 use std::io::{Read, Write};
 use world_core::{BootFault, Channel, Messages, WorldOver};
@@ -33,11 +30,11 @@ pub fn run_sim<R: Read, F: Read + Drop, W: Write>(
     writer: &mut W,
 ) -> Result<u8, EngineFault>
     ensures shown { IfOk result (λ status. (text : List ℕ) × Appends (W.contents writer.old) (W.contents writer.new) text
-        × ((input : List ℕ) × (inputs : List (List ℕ)) × AreSimInputs (R.remaining reader.old) (map F.remaining files.items) input inputs × ShowsSim inputs input status text)) }
+        × ((input : List ℕ) × (inputs : List (List ℕ)) × AreScriptInputs (R.remaining reader.old) (map F.remaining files.items) input inputs × ShowsSim inputs input status text)) }
     ensures fault { IfErr result IsEngineFault }
     ensures silent { IsErrOf result EngineFault.ReadFailed → writer.new ≡ writer.old }
     ensures part { IsErrOf result EngineFault.NoMemory → (writer.new ≡ writer.old) ⊎ ((text : List ℕ) × Appends (W.contents writer.old) (W.contents writer.new) text
-        × ((input : List ℕ) × (inputs : List (List ℕ)) × AreSimInputs (R.remaining reader.old) (map F.remaining files.items) input inputs × ShowsPart inputs input text)) }
+        × ((input : List ℕ) × (inputs : List (List ℕ)) × AreScriptInputs (R.remaining reader.old) (map F.remaining files.items) input inputs × ShowsPart inputs input text)) }
 {
     run_sim_over::<Messages, R, F, W>(alloc, files, reader, writer)
 }
@@ -50,29 +47,16 @@ pub fn run_sim_over<C: Channel, R: Read, F: Read + Drop, W: Write>(
     writer: &mut W,
 ) -> Result<u8, EngineFault>
     ensures shown { IfOk result (λ status. (text : List ℕ) × Appends (W.contents writer.old) (W.contents writer.new) text
-        × ((input : List ℕ) × (inputs : List (List ℕ)) × AreSimInputs (R.remaining reader.old) (map F.remaining files.items) input inputs × ShowsSim inputs input status text)) }
+        × ((input : List ℕ) × (inputs : List (List ℕ)) × AreScriptInputs (R.remaining reader.old) (map F.remaining files.items) input inputs × ShowsSim inputs input status text)) }
     ensures fault { IfErr result IsEngineFault }
     ensures silent { IsErrOf result EngineFault.ReadFailed → writer.new ≡ writer.old }
     ensures part { IsErrOf result EngineFault.NoMemory → (writer.new ≡ writer.old) ⊎ ((text : List ℕ) × Appends (W.contents writer.old) (W.contents writer.new) text
-        × ((input : List ℕ) × (inputs : List (List ℕ)) × AreSimInputs (R.remaining reader.old) (map F.remaining files.items) input inputs × ShowsPart inputs input text)) }
+        × ((input : List ℕ) × (inputs : List (List ℕ)) × AreScriptInputs (R.remaining reader.old) (map F.remaining files.items) input inputs × ShowsPart inputs input text)) }
 {
-    let input = match read_bounded(alloc, reader, INPUT_BYTES, INPUT_READS)? {
-        Input::Whole(input) => input,
-        Input::TooLong => return too_long(writer),
+    let Some(inputs) = read_inputs(alloc, reader, files)? else {
+        return refuse_long(writer);
     };
-    let Some(inputs) = read_files(alloc, files)? else {
-        return too_long(writer);
-    };
-    run_text::<C, W>(alloc, input.as_slice(), inputs.as_slice(), writer)
-}
-
-/// Says that an input is too long.
-fn too_long<W: Write>(writer: &mut W) -> Result<u8, EngineFault>
-    ensures shown { IfOk result (λ status. (status ≡ 1) × Appends (W.contents writer.old) (W.contents writer.new) (codes "fault InputTooLong\n")) }
-    ensures fault { IfErr result (λ e. e ≡ EngineFault.WriteFailed) }
-{
-    write_text(writer, "fault InputTooLong\n")?;
-    Ok(1)
+    run_text::<C, W>(alloc, &inputs.script, &inputs.files, writer)
 }
 
 /// Runs a script that was read, with its files.
@@ -92,20 +76,6 @@ fn run_text<C: Channel, W: Write>(
         Ok(script) => run_script::<C, W>(alloc, &script, writer),
         Err(fault) => refuse(alloc, fault, writer),
     }
-}
-
-/// Prints the line for a script's fault.
-fn refuse<W: Write>(alloc: Global, fault: ScriptFault, writer: &mut W) -> Result<u8, EngineFault>
-    ensures shown { IfOk result (λ status. (status ≡ 1) × (fault.kind ≢ ScriptFaultKind.NoMemory) × Appends (W.contents writer.old) (W.contents writer.new) (script_fault_line fault)) }
-    ensures fault { IfErr result IsPrintFault }
-    ensures part { IsErrOf result EngineFault.NoMemory → writer.new ≡ writer.old }
-{
-    if let ScriptFaultKind::NoMemory = fault.kind {
-        return Err(EngineFault::NoMemory);
-    }
-    let line = fault_line(alloc, fault)?;
-    write_bytes(writer, line.as_bytes())?;
-    Ok(1)
 }
 
 /// Does what a script asks for.

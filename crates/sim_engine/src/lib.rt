@@ -2,8 +2,6 @@
 #![tactic(auto)]
 
 mod engine;
-mod faults;
-mod files;
 mod requests;
 mod running;
 mod simulation;

@@ -9,9 +9,9 @@ ghost use Rattle.table_replica.specs.declared.Op.{Op as GhostOp};
 ghost use Rattle.world_model.specs.declared.event.Answer.{Answer as GhostAnswer};
 ghost use Rattle.world_core.specs.declared.fault.WorldFault.{WorldFault as GhostFault};
 ghost use Rattle.world_core.specs.Refusals.{IsShortEvent, waiting_at};
-ghost use Rattle.sim_lines.specs.Events.{event_line};
+ghost use Rattle.sim_lines.specs.Events.{event_line, done_line};
 ghost use Rattle.sim_engine.specs.Keeping.{IsFirst};
-ghost use Rattle.sim_engine.specs.Simulations.{Tells, Begins, Quiets, BeginsNext, NoneWaits, SettlesAll, Shows, done_line, no_core_line, nothing_line, sim};
+ghost use Rattle.sim_engine.specs.Simulations.{Tells, Begins, Quiets, BeginsNext, NoneWaits, SettlesAll, Shows, no_core_line, nothing_line, sim};
 ghost use Rattle.sim_engine.specs.Ways.{event_of, way_of};
 
 use crate::requests::{CORES, Requests};

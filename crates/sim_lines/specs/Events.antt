@@ -7,6 +7,7 @@ use Rattle.monitor_messages.specs.declared.message.Decision.{Decision}
 use Rattle.world_model.specs.declared.event.Event.{Event}
 use Rattle.world_model.specs.declared.event.Event.TheVariants.{Start, Submit, StartFor, Take, Rx}
 use Rattle.world_model.specs.declared.event.Answer.{Answer}
+use Rattle.world_model.specs.declared.event.Done.{Done}
 use Rattle.world_model.specs.declared.event.Answer.TheVariants.{Prepared, Decided, Submitted, TookPrepare, TookVote, TookCommit, TookAbort, TookAck, TookSubmit, TookReply, Delivered}
 use Rattle.world_core.specs.declared.fault.WorldFault.{WorldFault}
 use Rattle.world_core.specs.declared.fault.WorldFault.TheVariants.{NoSuchCore, Nothing, NotReady, NotIdle, Spent, Outstanding, NoneWaiting, NoMemory}
@@ -64,3 +65,11 @@ told_words (Err fault) = codes "fault " ++ fault_name fault
 -- the line
 abbrev pub event_line : Event → Result Answer WorldFault → List ℕ
 event_line event told = event_words event ++ codes ": " ++ told_words told ++ codes "\n"
+
+-- that of an event that was done
+abbrev pub done_line : Done → List ℕ
+done_line d = event_line d.event (Ok d.answer)
+
+-- the line of a job of this core and of this number that was left
+abbrev pub left_line : ℕ → ℕ → List ℕ
+left_line core number = codes "left " ++ decimal core ++ codes " " ++ decimal number ++ codes "\n"

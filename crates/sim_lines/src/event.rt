@@ -1,7 +1,7 @@
 //! The line of an event.
 
 ghost use Rattle.std.specs.Prelude.{◌≡◌, ◌++◌, IfOk, OnOk, string_bytes};
-ghost use Rattle.sim_lines.specs.Events.{answer_words, decided_words, event_line, event_words, kept_words, told_words};
+ghost use Rattle.sim_lines.specs.Events.{answer_words, decided_words, event_line, event_words, kept_words, left_line as left_words, told_words};
 ghost use Rattle.sim_lines.specs.Events as spec;
 
 use crate::decision::{push_decision, vote_name};
@@ -25,6 +25,14 @@ pub fn line_of(
     line.push_str(": ")?;
     push_told(&mut line, told)?;
     line.push_str("\n")?;
+    Ok(line.into_bytes())
+}
+
+/// The line of a job of this core and of this number that was not received.
+pub fn left_line(alloc: Global, core: u16, number: u64) -> Result<Vec<u8>, AllocError>
+    ensures { IfOk result (λ line. line.items ≡ left_words core number) }
+{
+    let line = format!(in alloc; "left {core} {number}\n")?;
     Ok(line.into_bytes())
 }
 

@@ -1,6 +1,6 @@
 use Rattle.std.proofs.Common.{◌≡◌, ◌++◌}
 use Rattle.std.specs.List.{flat_map}
-use Rattle.sim_engine.specs.Simulations.{done_line}
+use Rattle.sim_lines.specs.Events.{done_line}
 use Rattle.sim_engine.proofs.simulation.push_taken.Given as goal
 
 abbrev pub invariant-loop-done : goal.invariant-loop-done

@@ -1,7 +1,7 @@
 -- Inputs that are read one after the other.
 use Rattle.std.proofs.Common.{◌≡◌, ◌<◌, ℕ, zero, suc, Bool, true, false, Option, Some, None, List, [], ◌∷◌, ◌++◌, length, map, slice_get, refl, ap, not, ◌≤◌}
 use Rattle.console.specs.Reading.{IsInput}
-use Rattle.sim_engine.specs.Inputs.{AreInputs, AllWithin, OneLonger, Kept, ReadSo}
+use Rattle.script_input.specs.Inputs.{AreInputs, AllWithin, OneLonger, Kept, ReadSo}
 
 some_input : (known : Option (List ℕ)) → (input : List ℕ) × IsInput known input
 some_input None = ([], cc)

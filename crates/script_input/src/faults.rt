@@ -1,7 +1,7 @@
 //! The line for the first fault of a script.
 
 ghost use Rattle.std.specs.Prelude.{◌≡◌, ◌++◌, IfOk, OnOk, string_bytes};
-ghost use Rattle.sim_engine.specs.Faults.{body_words, kind_words, script_fault_line};
+ghost use Rattle.script_input.specs.Faults.{body_words, kind_words, script_fault_line};
 
 use console::{name_of_asm_fault, push_capture_words, push_code_words};
 use mk_script::{BodyFault, ScriptFault, ScriptFaultKind};

@@ -2,7 +2,7 @@
 
 ghost use Rattle.std.specs.Prelude.{◌≡◌, ◌++◌, ◌∷◌, [], OnOk, Option, List, ℕ, map, IfOk, IfErr, MatchOption};
 ghost use Rattle.console.specs.Reading.{IsReadFault};
-ghost use Rattle.sim_engine.specs.Inputs.{AllWithin, AreInputs, Kept, LongAmong, ReadSo};
+ghost use Rattle.script_input.specs.Inputs.{AllWithin, AreInputs, Kept, LongAmong, ReadSo};
 
 use console::{EngineFault, INPUT_BYTES, INPUT_READS, Input, read_bounded};
 use std::alloc::{AllocError, Global};

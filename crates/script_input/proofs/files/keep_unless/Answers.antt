@@ -1,7 +1,7 @@
 use Rattle.std.proofs.Common.{map, subst, Bool}
-use Rattle.sim_engine.specs.Inputs.{ReadSo}
-use Rattle.sim_engine.proofs.Inputs.{read_one, skip_one}
-use Rattle.sim_engine.proofs.files.keep_unless.Goals as goal
+use Rattle.script_input.specs.Inputs.{ReadSo}
+use Rattle.script_input.proofs.Inputs.{read_one, skip_one}
+use Rattle.script_input.proofs.files.keep_unless.Goals as goal
 
 pub returns-then-long-clause-read : goal.returns-then-long-clause-read
 returns-then-long-clause-read g c = λ known so. skip_one known (map (λ v. v.items) c.args.held.now.items) (g.F.Read.remaining c.args.file.now)

@@ -1,5 +1,5 @@
--- What was read of a script's files.
-use Rattle.std.specs.Prelude.{◌≡◌, ◌<◌, ◌≤◌, ◌++◌, ◌∷◌, [], ℕ, ⊤, Bool, true, false, Option, Some, List, length, slice_get}
+-- What was read of a script and its files.
+use Rattle.std.specs.Prelude.{◌≡◌, ◌<◌, ◌≤◌, ◌++◌, ◌∷◌, ◌⊎◌, [], ℕ, ⊤, Bool, true, false, Option, Some, List, length, slice_get}
 use Rattle.console.specs.Reading.{IsInput}
 
 -- these are what the readers had, as far as that is known
@@ -29,3 +29,21 @@ Kept known held held' false = (held' ≡ held) × ((input : List ℕ) × IsInput
 abbrev pub ReadSo : List (Option (List ℕ)) → List (List ℕ) → Bool → Type 0
 ReadSo known held false = AreInputs known held × AllWithin held
 ReadSo known held true = LongAmong known
+
+-- The script and its files
+
+-- these are the script and the files that the readers had, as far as that is known
+abbrev pub AreScriptInputs : Option (List ℕ) → List (Option (List ℕ)) → List ℕ → List (List ℕ) → Type 0
+AreScriptInputs known others input files = IsInput known input × AreInputs others files
+
+-- the script and each file are within 64 MiB
+abbrev pub AllShort : List ℕ → List (List ℕ) → Type 0
+AllShort input files = (length input ≤ 67108864) × AllWithin files
+
+-- the script or a file is longer
+abbrev pub SomeLong : List ℕ → List (List ℕ) → Type 0
+SomeLong input files = (67108864 < length input) ⊎ OneLonger files
+
+-- so it is with what the readers had
+abbrev pub HadLong : Option (List ℕ) → List (Option (List ℕ)) → Type 0
+HadLong known others = (input : List ℕ) × (files : List (List ℕ)) × AreScriptInputs known others input files × SomeLong input files

@@ -1,6 +1,6 @@
 use Rattle.std.proofs.Common.{refl}
 use Rattle.console.proofs.MatchingLemmas.{long_input}
-use Rattle.sim_engine.proofs.files.keep.Goals as goal
+use Rattle.script_input.proofs.files.keep.Goals as goal
 
 pub returns-in-TooLong-clause-kept : goal.returns-in-TooLong-clause-kept
 returns-in-TooLong-clause-kept g c =

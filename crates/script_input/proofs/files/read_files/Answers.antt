@@ -1,7 +1,7 @@
 use Rattle.std.proofs.Common.{List, ℕ, Option, map, subst, sym}
-use Rattle.sim_engine.specs.Inputs.{ReadSo}
-use Rattle.sim_engine.proofs.Inputs.{map_push}
-use Rattle.sim_engine.proofs.files.read_files.Goals as goal
+use Rattle.script_input.specs.Inputs.{ReadSo}
+use Rattle.script_input.proofs.Inputs.{map_push}
+use Rattle.script_input.proofs.files.read_files.Goals as goal
 
 pub loop-file-preserved : goal.loop-file-preserved
 loop-file-preserved g c = subst (λ (known : List (Option (List ℕ))). ReadSo known (map (λ v. v.items) c.keep_unless.new.held.items) c.in_ok-long.long) (sym (map_push g.F.Read.remaining c.loop-file.yielded c.in-Some.file))

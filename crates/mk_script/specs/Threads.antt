@@ -1,0 +1,32 @@
+-- A script for cores that run by themselves: requests, each at the core where it enters, and packets, each at the core that
+-- receives it. It doesn't say in which order the cores do things.
+use Rattle.std.specs.Prelude.{◌≡◌, ◌<◌, ◌+◌, ℕ, List, [], ◌∷◌, Some, length, slice_get}
+use Rattle.std.specs.List.{All, flat_map}
+use Rattle.pcap_reader.specs.declared.capture.Packet.{Packet}
+use Rattle.world_model.specs.declared.event.Event.{Event}
+use Rattle.world_model.specs.declared.event.Event.TheVariants.{Rx}
+use Rattle.mk_script.specs.declared.script.Item.{Item}
+use Rattle.mk_script.specs.declared.script.Item.TheVariants.{Ask, Apply}
+use Rattle.mk_script.specs.declared.script.Script.{Script}
+
+-- a request that enters, or a packet that is received, at one of so many cores
+abbrev pub IsForThreads : ℕ → Item → Type 0
+IsForThreads cores (Ask core op) = core < cores
+IsForThreads cores (Apply (Rx core number packet floor)) = core < cores
+IsForThreads cores item = ⊥
+
+-- the receptions, in order
+abbrev pub received_in : Item → List Event
+received_in (Apply (Rx core number packet floor)) = Rx core number packet floor ∷ []
+received_in item = []
+
+abbrev pub received : List Item → List Event
+received items = flat_map received_in items
+
+-- packets are numbered from 1
+abbrev pub AreNumbered : List Event → Type 0
+AreNumbered events = (k core number floor : ℕ) (packet : Packet) → slice_get events k ≡ Some (Rx core number packet floor) → number ≡ k + 1
+
+pub record IsScriptForThreads (script : Script) : Type 0 where
+  pub items : All (IsForThreads (length script.budgets)) script.items
+  pub numbered : AreNumbered (received script.items)

@@ -1,0 +1,159 @@
+//! `run`: runs a script on cores that are threads.
+
+ghost use Rattle.std.specs.Prelude.{◌≡◌, ◌<◌, ◌^◌, ◌⊎◌, ℕ, List, length, map, IfOk, IfErr, IsErrOf, true};
+ghost use Rattle.std.specs.Io.KnownBytes.{Appends};
+ghost use Rattle.mk_script.specs.Limits.{HasLimits};
+ghost use Rattle.mk_script.specs.Threads.{IsScriptForThreads};
+ghost use Rattle.script_input.specs.Inputs.{AreScriptInputs};
+ghost use Rattle.run_engine.specs.Running.{HaveDone};
+ghost use Rattle.run_engine.specs.Showing.{Shows, ShowsRun};
+
+use crate::lines::{push_events, push_left};
+use crate::work::{Work, work_of};
+use console::{EngineFault, write_bytes};
+use core_join::{conclude, merge};
+use core_threads::{BootFault, Ended, Gate, Halt, RunFault, boot, run_machine};
+use mk_script::{Script, read_script};
+use script_input::{read_inputs, refuse, refuse_long};
+use std::alloc::{AllocError, Global};
+use std::io::{Read, Write};
+use std::sync::Wait;
+use std::thread::Threads;
+use std::time::Clock;
+
+/// Why a run has no status.
+#[derive(Clone, Copy, PartialEq, Eq, Debug)]
+pub enum RunFailure {
+    /// An input, the output or memory failed.
+    Engine(EngineFault),
+    /// A thread could not be started.
+    Spawn,
+    /// This core halted before the work was done.
+    Halted(u16, Halt),
+}
+
+impl From<EngineFault> for RunFailure {
+    ghost use Rattle.std.specs.Prelude.{◌≡◌};
+    ghost use Rattle.run_engine.specs.declared.engine.RunFailure.TheVariants.{Engine};
+
+    ghost from_gives = { λ fault failure. failure ≡ Engine fault };
+
+    fn from(fault: EngineFault) -> RunFailure {
+        RunFailure::Engine(fault)
+    }
+}
+
+impl From<AllocError> for RunFailure {
+    ghost use Rattle.std.specs.Prelude.{◌≡◌};
+    ghost use Rattle.console.specs.declared.fault.EngineFault.TheVariants.{NoMemory};
+    ghost use Rattle.run_engine.specs.declared.engine.RunFailure.TheVariants.{Engine};
+
+    ghost from_gives = { λ _ failure. failure ≡ Engine NoMemory };
+
+    fn from(_: AllocError) -> RunFailure {
+        RunFailure::Engine(EngineFault::NoMemory)
+    }
+}
+
+impl From<RunFault> for RunFailure {
+    fn from(fault: RunFault) -> RunFailure {
+        match fault {
+            RunFault::Spawn => RunFailure::Spawn,
+            RunFault::NoMemory => RunFailure::Engine(EngineFault::NoMemory),
+        }
+    }
+}
+
+/// Runs a script on cores that are threads, each on its own replica of the table, and prints one run that they did: a line for
+/// each event, by stamp and then by core, and then one for each job that is left, by its number. Answers the status.
+///
+/// The script is read to its end, then each file in order. Its first fault is printed as `line N: NAME`, status 1. Of a script
+/// or a file of more than 64 MiB only `fault InputTooLong` is printed, status 1. The gate is asked before each receipt, and told
+/// after it.
+///
+/// Nothing is written before the run has ended, and nothing where it halted, or where an input or memory failed. Where a write
+/// fails, a front of the text may have been written.
+pub fn run_run<T: Threads + Wait + Clock + Sync, G: Gate + Sync, R: Read, F: Read + Drop, W: Write>(
+    rt: &T,
+    alloc: Global,
+    gate: &G,
+    files: Vec<F>,
+    reader: &mut R,
+    writer: &mut W,
+) -> Result<u8, RunFailure>
+    ensures shown { IfOk result (λ status. (text : List ℕ) × Appends (W.contents writer.old) (W.contents writer.new) text
+        × ((input : List ℕ) × (inputs : List (List ℕ)) × AreScriptInputs (R.remaining reader.old) (map F.remaining files.items) input inputs × Shows inputs input status text)) }
+    ensures silent { IfErr result (λ failure. (failure ≡ RunFailure.Engine EngineFault.WriteFailed) ⊎ (writer.new ≡ writer.old)) }
+{
+    let Some(inputs) = read_inputs(alloc, reader, files)? else {
+        return Ok(refuse_long(writer)?);
+    };
+    match read_script(alloc, &inputs.script, &inputs.files, true) {
+        Ok(script) => run_script(rt, alloc, gate, script, writer),
+        Err(fault) => Ok(refuse(alloc, fault, writer)?),
+    }
+}
+
+/// Runs a script, and prints what its cores did.
+fn run_script<T: Threads + Wait + Clock + Sync, G: Gate + Sync, W: Write>(
+    rt: &T,
+    alloc: Global,
+    gate: &G,
+    script: Script,
+    writer: &mut W,
+) -> Result<u8, RunFailure>
+    requires limits { HasLimits script }
+    requires threads { IsScriptForThreads script }
+    ensures shown { IfOk result (λ status. (status ≡ 0) × ((text : List ℕ) × Appends (W.contents writer.old) (W.contents writer.new) text × ShowsRun script text)) }
+    ensures silent { IfErr result (λ failure. (failure ≡ RunFailure.Engine EngineFault.WriteFailed) ⊎ (writer.new ≡ writer.old)) }
+{
+    let text = text_of_run(rt, alloc, gate, script)?;
+    write_bytes(writer, &text)?;
+    Ok(0)
+}
+
+/// What the cores of a script did.
+fn text_of_run<T: Threads + Wait + Clock + Sync, G: Gate + Sync>(
+    rt: &T,
+    alloc: Global,
+    gate: &G,
+    script: Script,
+) -> Result<Vec<u8>, RunFailure>
+    requires limits { HasLimits script }
+    requires threads { IsScriptForThreads script }
+    ensures shown { IfOk result (λ text. ShowsRun script text.items) }
+{
+    let Ended { cores, left, .. } = run_cores(rt, alloc, gate, script)?;
+    let histories = conclude(alloc, cores)?;
+    let events = merge(alloc, &histories)?;
+    let mut text = Vec::new(alloc);
+    push_events(alloc, events, &mut text)?;
+    push_left(alloc, left, &mut text)?;
+    Ok(text)
+}
+
+/// Runs the cores of a script to their end.
+fn run_cores<T: Threads + Wait + Clock + Sync, G: Gate + Sync>(
+    rt: &T,
+    alloc: Global,
+    gate: &G,
+    script: Script,
+) -> Result<Ended, RunFailure>
+    requires limits { HasLimits script }
+    requires threads { IsScriptForThreads script }
+    ensures done { IfOk result (λ ended. HaveDone script.budgets script.items ended.cores.items ended.left.items) }
+{
+    let Script { budgets, items } = script;
+    let budgets = budgets.into_vec();
+    let Work { requests, jobs } = work_of(alloc, items.into_vec(), budgets.len())?;
+    let machine = match boot(alloc, &budgets, requests) {
+        Ok(machine) => machine,
+        Err(BootFault::CoreCount) => unreachable!(),
+        Err(BootFault::NoMemory) => return Err(RunFailure::Engine(EngineFault::NoMemory)),
+    };
+    let ended = run_machine(rt, alloc, machine, jobs, gate, u64::MAX)?;
+    match ended.halted {
+        Some((core, why)) => Err(RunFailure::Halted(core, why)),
+        None => Ok(ended),
+    }
+}

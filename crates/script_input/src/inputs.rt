@@ -1,0 +1,40 @@
+//! Reading a script and its files.
+
+ghost use Rattle.std.specs.Prelude.{map, IfOk, IfErr, MatchOption};
+ghost use Rattle.console.specs.Reading.{IsReadFault};
+ghost use Rattle.script_input.specs.Inputs.{AllShort, AreScriptInputs, HadLong};
+
+use crate::files::read_files;
+use console::{EngineFault, INPUT_BYTES, INPUT_READS, Input, read_bounded};
+use std::alloc::Global;
+use std::io::Read;
+
+/// A script and its files, each of at most 64 MiB.
+#[derive(Drop)]
+pub struct Inputs {
+    pub script: Vec<u8>,
+    /// The captures that the script names by number, from 1.
+    pub files: Vec<Vec<u8>>,
+}
+
+/// Reads the script to its end, then each file in order. Answers `None` as soon as one is longer than 64 MiB, and `ReadFailed`
+/// where a read fails or an input takes more reads than its limit.
+pub fn read_inputs<R: Read, F: Read + Drop>(
+    alloc: Global,
+    reader: &mut R,
+    files: Vec<F>,
+) -> Result<Option<Inputs>, EngineFault>
+    ensures read { IfOk result (λ read. MatchOption read (HadLong (R.remaining reader.old) (map F.remaining files.items))
+        (λ inputs. AreScriptInputs (R.remaining reader.old) (map F.remaining files.items) inputs.script.items (map (λ v. v.items) inputs.files.items)
+            × AllShort inputs.script.items (map (λ v. v.items) inputs.files.items))) }
+    ensures fault { IfErr result IsReadFault }
+{
+    let script = match read_bounded(alloc, reader, INPUT_BYTES, INPUT_READS)? {
+        Input::Whole(script) => script,
+        Input::TooLong => return Ok(None),
+    };
+    let Some(files) = read_files(alloc, files)? else {
+        return Ok(None);
+    };
+    Ok(Some(Inputs { script, files }))
+}
