@@ -3,6 +3,10 @@
 use clap::{Arg, ArgAction, Command};
 use std::alloc::{AllocError, Global};
 
+// The version, and the digest of the sources. dist/stamp.sh puts it in place of the text behind `sources`.
+const VERSION: &str =
+    "0.1.0 (sources no digest: this program was built without dist/stamp.sh ........)";
+
 const ABOUT: &str =
     "Run classic BPF filters on packets, and scripts on cores that replicate a table of filters, by engines that are proved";
 
@@ -11,8 +15,8 @@ Exit status:
   0  done
   1  a refused input: its line is on standard output
   2  a fault of the command line
-  3  out of memory, a FILE that can't be opened, or a device that failed: one line is on standard error,
-     unless nobody reads the output any more
+  3  out of memory, a FILE that can't be opened, a device that failed, or a run that halted: one line is on standard
+     error, unless nobody reads the output any more
 
 docs/messages.md has each word that is printed, with its meaning and its cure.";
 
@@ -218,19 +222,84 @@ docs/messages.md has the meaning and the cure of each word that is printed:
                    NotHolder NotOwner RightsExceed TableFull VersionsSpent
   after `fault`    InputTooLong NoneWaiting NoSuchCore NotIdle NotReady Nothing Outstanding Spent";
 
+const RUN_ABOUT: &str = "Run a script on cores that are threads";
+
+const RUN_DETAILS: &str = "\
+Run the script on standard input on cores that are threads, each with its own replica of the table, and print one run that
+they did: a line for each event.
+
+The script is one for `sim` without an order of events: `mkdemux sim --help` has its lines. These may stand in it:
+
+    cores B0 B1 ..                  1 to 8 cores, each with a budget of instructions; the first line
+    asm NAME .. end, ddd NAME TEXT, packet NAME HEX [ORIGINAL], capture NAME N
+                                    filters and packets
+    home D C                        requests of domain D enter at core C, not at core 0
+    create, mint, revoke, drop, install, remove, replace
+                                    requests, which the core where they enter begins in this order
+    rx CORE NAME [FLOOR]            a packet for a core, which receives it at version FLOOR or later
+    replay NAME [FLOOR]             the packets of a capture, for the cores by turns
+
+Each core begins its requests, takes its messages and receives its packets by itself, so two runs of a script may differ. Each
+is one that the protocol allows, with the events by the cores' logical clocks: `sim` takes the script, a line `trace` and this
+output, and prints the same.
+
+A packet whose floor is above the last version of its core is not received: after the events there is a line `left CORE NUMBER`
+for each such packet, by its number. On a terminal standard error shows every second how many packets were received.
+
+The first fault of a script is printed as by `sim`, with status 1; the words start, submit, startfor, take, settle, show and trace
+are unknown here, and a core number must be one of the script's.";
+
+const RUN_EXAMPLE: &str = "\
+Example: two cores; the packet waits for the second version, at which there is a filter
+
+    $ mkdemux run <<END
+    cores 100 100
+    ddd all 1,6 0 0 65535
+    packet q 0102030405
+    create 1 7
+    install 1 1 all
+    rx 1 q 2
+    END
+    start: prepared 1
+    take 1 0: prepare 1 Yes
+    take 0 1: vote 1 Yes committed 1 cap 1
+    take 1 0: commit 1 version 1
+    take 0 1: ack 1
+    start: prepared 2
+    take 1 0: prepare 2 Yes
+    take 0 1: vote 2 Yes committed 2 filter 1
+    take 1 0: commit 2 version 2
+    take 0 1: ack 2
+    rx 1 1: version 2 7=5
+
+Do the same run again, one event after the other:
+
+    $ mkdemux run < my.script > my.run
+    $ (cat my.script; echo trace; cat my.run) | mkdemux sim | cmp - my.run
+
+Exit status: 0 done; 1 a refused script or FILE, whose line is on standard output; 2 a fault of the command line; 3 out of
+memory, a FILE that can't be opened, a device that failed, or a core that halted, with one line on standard error.
+
+docs/messages.md has the meaning and the cure of each word that is printed:
+  after `line N:`  BadBody BadLine BadNumber NoCores NoName Twice
+  after `refused`  BadProgram Budget CapsFull EndpointTaken FilterIdsSpent IdsSpent NoCap NoFilter NoMemory NoRight
+                   NotHolder NotOwner RightsExceed TableFull VersionsSpent
+  after `fault`    InputTooLong";
+
 const FILES_HELP: &str = "Captures that the script names by number";
 
 /// The command line of the program.
 pub fn command<'a>(alloc: Global) -> Result<Command<'a>, AllocError> {
     Command::new(alloc, "mkdemux")
-        .version("0.1.0")
+        .version(VERSION)
         .about(ABOUT)
         .after_help(EXIT_STATUS)
         .subcommand_required(true)
         .subcommand(matching(alloc)?)?
         .subcommand(checking(alloc)?)?
         .subcommand(dumping(alloc))?
-        .subcommand(simulating(alloc)?)
+        .subcommand(simulating(alloc)?)?
+        .subcommand(running(alloc)?)
 }
 
 // `match CODE [--pcap] [--stream]`
@@ -279,13 +348,26 @@ fn dumping<'a>(alloc: Global) -> Command<'a> {
 
 // `sim [FILE]...`
 fn simulating<'a>(alloc: Global) -> Result<Command<'a>, AllocError> {
-    let files = Arg::new(alloc, "files")
-        .value_name("FILE")
-        .help(FILES_HELP)
-        .num_args(0..);
     Command::new(alloc, "sim")
         .about(SIM_ABOUT)
         .long_about(SIM_DETAILS)
         .after_help(SIM_EXAMPLE)
-        .arg(files)
+        .arg(files(alloc))
+}
+
+// `run [FILE]...`
+fn running<'a>(alloc: Global) -> Result<Command<'a>, AllocError> {
+    Command::new(alloc, "run")
+        .about(RUN_ABOUT)
+        .long_about(RUN_DETAILS)
+        .after_help(RUN_EXAMPLE)
+        .arg(files(alloc))
+}
+
+// The captures of a script.
+fn files<'a>(alloc: Global) -> Arg<'a> {
+    Arg::new(alloc, "files")
+        .value_name("FILE")
+        .help(FILES_HELP)
+        .num_args(0..)
 }

@@ -1,18 +1,23 @@
 //! `mkdemux`: runs classic BPF filters on packets, and scripts on cores that replicate a table of filters.
 //!
 //! The exit status is 0; 1 for a refused input, whose line is on standard output; 2 for a fault of the command line; and 3
-//! for memory, a file that can't be opened or a device. Statuses 2 and 3 have a line on standard error, except where nobody
-//! reads the output any more.
+//! for memory, a file that can't be opened, a device, or a run that halted. Statuses 2 and 3 have a line on standard error, except
+//! where nobody reads the output any more.
 #![tactic(auto)]
 
 mod command_line;
 mod devices;
+mod progress;
 mod usage;
 
 use clap::error::ErrorKind;
 use clap::{ArgMatches, Error};
 use console::{EngineFault, run_check, run_dump, run_match, run_stream};
+use core_loop::Cause;
+use core_threads::{Free, Halt};
 use devices::{Named, Sink, Source};
+use progress::Progress;
+use run_engine::{RunFailure, run_run};
 use sim_engine::run_sim;
 use std::fs::File;
 use std::io::{self, IsTerminal};
@@ -21,7 +26,7 @@ use std::process::ExitCode;
 /// The exit status for a fault of the command line.
 const USAGE: u8 = 2;
 
-/// The exit status for memory, a file that can't be opened or a device.
+/// The exit status for memory, a file that can't be opened, a device, or a run that halted.
 const FAILED: u8 = 3;
 
 fn main(rt: HostRuntime) -> ExitCode {
@@ -52,38 +57,60 @@ fn words(rt: &HostRuntime) -> io::Result<Vec<String>> {
 /// Runs the command that was given.
 fn dispatch(rt: &HostRuntime, matches: &ArgMatches) -> u8 {
     match matches.subcommand() {
-        Some(("sim", found)) => simulate(rt, found),
-        Some((name, found)) => run(rt, name, found, Vec::new(rt.alloc())),
+        Some((name, found)) if takes_files(name) => perform_with_files(rt, name, found),
+        Some((name, found)) => perform(rt, name, found, Vec::new(rt.alloc())),
         None => USAGE,
     }
 }
 
-/// Opens the files in order, then runs the script on standard input with them.
-fn simulate(rt: &HostRuntime, found: &ArgMatches) -> u8 {
+/// Whether a command takes captures beside its script.
+fn takes_files(name: &str) -> bool {
+    name == "sim" || name == "run"
+}
+
+/// Opens the files in order, then runs the engine of a command on the script on standard input with them.
+fn perform_with_files(rt: &HostRuntime, name: &str, found: &ArgMatches) -> u8 {
     match open_files(rt, found.get_strs("files").unwrap_or(&[])) {
-        Ok(files) => run(rt, "sim", found, files),
+        Ok(files) => perform(rt, name, found, files),
         Err(fault) => not_opened(rt, fault),
     }
 }
 
 /// Runs the engine of a command on standard input and these files.
-fn run(rt: &HostRuntime, name: &str, found: &ArgMatches, mut files: Vec<Named>) -> u8 {
+fn perform(rt: &HostRuntime, name: &str, found: &ArgMatches, mut files: Vec<Named>) -> u8 {
     invite(rt, name, found);
     let mut source = Source::new(rt.stdin());
     let mut sink = Sink::new(rt.stdout());
     let answer = match name {
-        "match" => run_packets(rt, found, &mut source, &mut sink),
-        "check" => run_check(rt.alloc(), found.get_flag("asm"), &mut source, &mut sink),
-        "dump" => run_dump(rt.alloc(), &mut source, &mut sink),
-        "sim" => run_script(rt, &mut files, &mut source, &mut sink),
-        _ => return USAGE,
+        "run" => run_threads(rt, &mut files, &mut source, &mut sink),
+        _ => run_engine(rt, name, found, &mut files, &mut source, &mut sink).map_err(RunFailure::Engine),
     };
     match answer {
         Ok(status) => status,
-        Err(EngineFault::ReadFailed) => not_read(rt, &source, files.as_slice()),
-        Err(EngineFault::WriteFailed) if sink.is_closed() => FAILED,
-        Err(EngineFault::WriteFailed) => failed(rt, "the output can't be written"),
-        Err(EngineFault::NoMemory) => failed(rt, "out of memory"),
+        Err(RunFailure::Engine(EngineFault::ReadFailed)) => not_read(rt, &source, files.as_slice()),
+        Err(RunFailure::Engine(EngineFault::WriteFailed)) if sink.is_closed() => FAILED,
+        Err(RunFailure::Engine(EngineFault::WriteFailed)) => failed(rt, "the output can't be written"),
+        Err(RunFailure::Engine(EngineFault::NoMemory)) => failed(rt, "out of memory"),
+        Err(RunFailure::Spawn) => failed(rt, "a thread can't be started"),
+        Err(RunFailure::Halted(core, why)) => halted(rt, core, why),
+    }
+}
+
+/// Runs the engine of a command that has one thread.
+fn run_engine(
+    rt: &HostRuntime,
+    name: &str,
+    found: &ArgMatches,
+    files: &mut Vec<Named>,
+    source: &mut Source,
+    sink: &mut Sink,
+) -> Result<u8, EngineFault> {
+    match name {
+        "match" => run_packets(rt, found, source, sink),
+        "check" => run_check(rt.alloc(), found.get_flag("asm"), source, sink),
+        "dump" => run_dump(rt.alloc(), source, sink),
+        "sim" => run_script(rt, files, source, sink),
+        _ => Ok(USAGE),
     }
 }
 
@@ -114,6 +141,46 @@ fn run_script(
         return Err(EngineFault::NoMemory);
     };
     run_sim(rt.alloc(), lent, source, sink)
+}
+
+/// Runs the script on standard input with these files, a thread for each of its cores. Says on standard error how far it is, where
+/// that is a terminal.
+fn run_threads(
+    rt: &HostRuntime,
+    files: &mut Vec<Named>,
+    source: &mut Source,
+    sink: &mut Sink,
+) -> Result<u8, RunFailure> {
+    let lent = files.iter_mut().collect(rt.alloc())?;
+    if !rt.stderr().is_terminal() {
+        return run_run(rt, rt.alloc(), &Free, lent, source, sink);
+    }
+    let progress = Progress::new(rt);
+    let answer = run_run(rt, rt.alloc(), &progress, lent, source, sink);
+    progress.end();
+    answer
+}
+
+/// Says on standard error which core halted, and why.
+fn halted(rt: &HostRuntime, core: u16, why: Halt) -> u8 {
+    let why = match why {
+        Halt::Cause(cause) => cause_words(cause),
+        Halt::Spent => "the next number or stamp would be too great",
+        Halt::NoMemory => "out of memory",
+        Halt::Limit => "it did nothing for too long",
+        Halt::Early => "there is work left",
+    };
+    let _ = eprintln!(rt; "mkdemux: core {core} halted: {why}");
+    FAILED
+}
+
+/// Why a core stopped for good.
+fn cause_words(cause: Cause) -> &'static str {
+    match cause {
+        Cause::Line(_) => "a ring gave it a bad line",
+        Cause::BadMessage => "a ring gave it bytes that are no message",
+        Cause::Stranger => "it got a message that fits no phase of the protocol",
+    }
 }
 
 /// Says on standard error what is awaited, where standard input is a terminal.

@@ -32,7 +32,7 @@ fn input_of(text: &str) -> &'static str {
         Some("match") => " < PACKETS",
         Some("check") => " < FILTER",
         Some("dump") => " < CAPTURE",
-        Some("sim") => " < SCRIPT",
+        Some("sim" | "run") => " < SCRIPT",
         _ => "",
     }
 }

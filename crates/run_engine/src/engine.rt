@@ -1,19 +1,19 @@
 //! `run`: runs a script on cores that are threads.
 
-ghost use Rattle.std.specs.Prelude.{◌≡◌, ◌<◌, ◌^◌, ◌⊎◌, ℕ, List, length, map, IfOk, IfErr, IsErrOf, true};
+ghost use Rattle.std.specs.Prelude.{◌≡◌, ◌<◌, ◌≤◌, ◌^◌, ◌⊎◌, ℕ, All, List, length, map, IfOk, IfErr};
 ghost use Rattle.std.specs.Io.KnownBytes.{Appends};
-ghost use Rattle.mk_script.specs.Limits.{HasLimits};
-ghost use Rattle.mk_script.specs.Threads.{IsScriptForThreads};
+ghost use Rattle.mk_script.specs.Limits.{HasLimits, IsLimited};
+ghost use Rattle.mk_script.specs.Threads.{IsForThreads, IsScriptForThreads};
 ghost use Rattle.script_input.specs.Inputs.{AreScriptInputs};
 ghost use Rattle.run_engine.specs.Running.{HaveDone};
-ghost use Rattle.run_engine.specs.Showing.{Shows, ShowsRun};
+ghost use Rattle.run_engine.specs.Showing.{Shows, ShowsRun, ShowsRunScript};
 
 use crate::lines::{push_events, push_left};
 use crate::work::{Work, work_of};
 use console::{EngineFault, write_bytes};
 use core_join::{conclude, merge};
 use core_threads::{BootFault, Ended, Gate, Halt, RunFault, boot, run_machine};
-use mk_script::{Script, read_script};
+use mk_script::{Item, Script, read_script};
 use script_input::{read_inputs, refuse, refuse_long};
 use std::alloc::{AllocError, Global};
 use std::io::{Read, Write};
@@ -88,7 +88,23 @@ pub fn run_run<T: Threads + Wait + Clock + Sync, G: Gate + Sync, R: Read, F: Rea
     let Some(inputs) = read_inputs(alloc, reader, files)? else {
         return Ok(refuse_long(writer)?);
     };
-    match read_script(alloc, &inputs.script, &inputs.files, true) {
+    run_text(rt, alloc, gate, &inputs.script, &inputs.files, writer)
+}
+
+/// Runs a script that was read, with its files.
+fn run_text<T: Threads + Wait + Clock + Sync, G: Gate + Sync, W: Write>(
+    rt: &T,
+    alloc: Global,
+    gate: &G,
+    input: &[u8],
+    files: &[Vec<u8>],
+    writer: &mut W,
+) -> Result<u8, RunFailure>
+    requires { length input.now < 2 ^ 32 }
+    ensures shown { IfOk result (λ status. (text : List ℕ) × Appends (W.contents writer.old) (W.contents writer.new) text × ShowsRunScript (map (λ v. v.items) files.now) input.now status text) }
+    ensures silent { IfErr result (λ failure. (failure ≡ RunFailure.Engine EngineFault.WriteFailed) ⊎ (writer.new ≡ writer.old)) }
+{
+    match read_script(alloc, input, files, true) {
         Ok(script) => run_script(rt, alloc, gate, script, writer),
         Err(fault) => Ok(refuse(alloc, fault, writer)?),
     }
@@ -123,7 +139,9 @@ fn text_of_run<T: Threads + Wait + Clock + Sync, G: Gate + Sync>(
     requires threads { IsScriptForThreads script }
     ensures shown { IfOk result (λ text. ShowsRun script text.items) }
 {
-    let Ended { cores, left, .. } = run_cores(rt, alloc, gate, script)?;
+    let Script { budgets, items } = script;
+    let ended = run_cores(rt, alloc, gate, budgets.as_slice(), items.into_vec())?;
+    let Ended { cores, left, .. } = ended;
     let histories = conclude(alloc, cores)?;
     let events = merge(alloc, &histories)?;
     let mut text = Vec::new(alloc);
@@ -132,21 +150,21 @@ fn text_of_run<T: Threads + Wait + Clock + Sync, G: Gate + Sync>(
     Ok(text)
 }
 
-/// Runs the cores of a script to their end.
+/// Runs cores with these budgets until they have done what the items give them.
 fn run_cores<T: Threads + Wait + Clock + Sync, G: Gate + Sync>(
     rt: &T,
     alloc: Global,
     gate: &G,
-    script: Script,
+    budgets: &[u32],
+    items: Vec<Item>,
 ) -> Result<Ended, RunFailure>
-    requires limits { HasLimits script }
-    requires threads { IsScriptForThreads script }
-    ensures done { IfOk result (λ ended. HaveDone script.budgets script.items ended.cores.items ended.left.items) }
+    requires count { (1 ≤ length budgets.now) × (length budgets.now ≤ 8) }
+    requires limited { All IsLimited items.items }
+    requires at_cores { All (IsForThreads (length budgets.now)) items.items }
+    ensures { IfOk result (λ ended. HaveDone budgets.now items.items ended.cores.items ended.left.items) }
 {
-    let Script { budgets, items } = script;
-    let budgets = budgets.into_vec();
-    let Work { requests, jobs } = work_of(alloc, items.into_vec(), budgets.len())?;
-    let machine = match boot(alloc, &budgets, requests) {
+    let Work { requests, jobs } = work_of(alloc, items, budgets.len())?;
+    let machine = match boot(alloc, budgets, requests) {
         Ok(machine) => machine,
         Err(BootFault::CoreCount) => unreachable!(),
         Err(BootFault::NoMemory) => return Err(RunFailure::Engine(EngineFault::NoMemory)),

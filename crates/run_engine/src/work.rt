@@ -1,8 +1,6 @@
 //! What a script gives the cores to do.
 
-ghost use Rattle.std.specs.Prelude.{◌≡◌, ◌++◌, ◌<◌, All, OnOk, IfOk};
-ghost use Rattle.core_threads.specs.Booting.{AreGivable};
-ghost use Rattle.mk_script.specs.Limits.{IsLimited};
+ghost use Rattle.std.specs.Prelude.{◌≡◌, ◌++◌, All, OnOk, IfOk};
 ghost use Rattle.mk_script.specs.Threads.{IsForThreads};
 ghost use Rattle.run_engine.specs.Work.{job_in, jobs_of, request_in, requests_of};
 
@@ -22,12 +20,8 @@ pub(crate) struct Work {
 /// What these items of a script for so many cores give them to do.
 pub(crate) fn work_of(alloc: Global, items: Vec<Item>, cores: usize) -> Result<Work, AllocError>
     requires at_cores { All (IsForThreads cores) items.items }
-    requires limited { All IsLimited items.items }
     ensures requests { IfOk result (λ work. work.requests.items ≡ requests_of items.items) }
     ensures jobs { IfOk result (λ work. work.jobs.items ≡ jobs_of items.items) }
-    ensures inside { IfOk result (λ work. All (λ r. r.0 < cores) work.requests.items) }
-    ensures short { IfOk result (λ work. AreGivable work.requests.items) }
-    ensures jobs_inside { IfOk result (λ work. All (λ j. j.0 < cores) work.jobs.items) }
 {
     let mut work = Work {
         requests: Vec::new(alloc),
@@ -42,7 +36,6 @@ pub(crate) fn work_of(alloc: Global, items: Vec<Item>, cores: usize) -> Result<W
 /// Adds what an item gives a core to do.
 fn add(work: &mut Work, item: Item, cores: usize) -> Result<(), AllocError>
     requires at_core { IsForThreads cores item }
-    requires limited { IsLimited item }
     ensures requests { OnOk result (work.new.requests.items ≡ work.old.requests.items ++ request_in item) }
     ensures jobs { OnOk result (work.new.jobs.items ≡ work.old.jobs.items ++ job_in item) }
 {

@@ -1,6 +1,6 @@
 use Rattle.std.proofs.Common.{map, subst, Bool}
 use Rattle.script_input.specs.Inputs.{ReadSo}
-use Rattle.script_input.proofs.Inputs.{read_one, skip_one}
+use Rattle.script_input.proofs.Reading.{read_one, skip_one}
 use Rattle.script_input.proofs.files.keep_unless.Goals as goal
 
 pub returns-then-long-clause-read : goal.returns-then-long-clause-read

@@ -1,6 +1,6 @@
 use Rattle.std.proofs.Common.{List, ℕ, Option, map, subst, sym}
 use Rattle.script_input.specs.Inputs.{ReadSo}
-use Rattle.script_input.proofs.Inputs.{map_push}
+use Rattle.script_input.proofs.Reading.{map_push}
 use Rattle.script_input.proofs.files.read_files.Goals as goal
 
 pub loop-file-preserved : goal.loop-file-preserved

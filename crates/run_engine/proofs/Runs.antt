@@ -1,0 +1,108 @@
+-- What cores did that were booted with a script's budgets, ran, and were joined.
+use Rattle.std.proofs.Common.{◌≡◌, ◌<◌, ◌++◌, All, ℕ, zero, suc, List, [], ◌∷◌, Option, Some, None, slice_get, length, map, refl, sym, ap, ◌∙◌, subst, arith}
+use Rattle.std.specs.List.{flat_map}
+use Rattle.std.proofs.lemmas.List.{append-nil}
+use Rattle.table_replica.specs.declared.Op.{Op}
+use Rattle.rx_queue.specs.declared.job.Job.{Job}
+use Rattle.monitor_2pc.specs.Coordinators.{Idle}
+use Rattle.world_model.specs.declared.event.Done.{Done}
+use Rattle.world_histories.specs.declared.history.Stamped.{Stamped}
+use Rattle.world_histories.specs.Histories.{Core0}
+use Rattle.core_links.specs.declared.ring_links.RingLinks.{RingLinks}
+use Rattle.core_links.specs.RingSlots.{ring_view}
+use Rattle.core_loop.specs.declared.part.Part.{Part}
+use Rattle.core_loop.specs.declared.part.Part.TheVariants as part
+use Rattle.core_loop.specs.Beginning.{HasNothingUnderWay}
+use Rattle.core_loop.specs.Cores.{begun}
+use Rattle.core_join.specs.Machines.{RingCore, IsMachine}
+use Rattle.core_join.specs.Conclusions.{Concludes, OfMachine, StandsAt0, histories_of}
+use Rattle.core_join.specs.Merges.{ListsRuns}
+use Rattle.core_threads.specs.declared.halt.Halt.{Halt}
+use Rattle.core_threads.specs.Booting.{HaveRequests, IsMachineOf}
+use Rattle.core_threads.specs.Ending.{EndsRightly}
+use Rattle.core_threads.specs.Lanes.{items_for}
+use Rattle.sim_lines.specs.Events.{done_line}
+use Rattle.mk_script.specs.declared.script.Item.{Item}
+use Rattle.mk_script.specs.declared.script.Script.{Script}
+use Rattle.run_engine.specs.Work.{requests_of, jobs_of}
+use Rattle.run_engine.specs.Showing.{DidItsWork, DidWork, ShowsLeft, ShowsRun}
+use Rattle.run_engine.specs.Running.{HaveDone}
+
+-- an element of the one list has an element of the other beside it
+beside : {A B : Type 0} (xs : List A) (ys : List B) (i : ℕ) (y : B) → length ys ≡ length xs → slice_get ys i ≡ Some y → (x : A) × (slice_get xs i ≡ Some x)
+beside [] [] i y same h = absurd cc
+beside [] (y' ∷ ys) i y same h = absurd cc
+beside (x ∷ xs) [] i y same h = absurd cc
+beside (x ∷ xs) (y' ∷ ys) zero y same h = (x, refl)
+beside (x ∷ xs) (y' ∷ ys) (suc i) y same h = beside xs ys i y (cc) h
+
+-- one core's part of the work
+core_did : (machine cores : List RingCore) (items : List Item) (left : List (ℕ × Job)) → EndsRightly machine (jobs_of items) cores left None → HaveRequests (requests_of items) machine
+    → (i : ℕ) (c : RingCore) → slice_get cores i ≡ Some c → DidItsWork items left i c.history
+core_did machine cores items left ends have i c at =
+    let old = beside machine cores i c ends.all at in
+    let core = ends.each i old.0 c old.1 at in
+    record {
+      requests = sym (append-nil (begun c.history)) ∙ ap (λ rest. begun c.history ++ rest) (sym (ends.why i c at).pending) ∙ core.requests ∙ have i old.0 old.1;
+      jobs = core.received;
+    }
+
+done_by : (budgets : List ℕ) (items : List Item) (machine cores : List RingCore) (left : List (ℕ × Job)) → IsMachineOf budgets machine → length machine ≡ length budgets → HaveRequests (requests_of items) machine
+    → EndsRightly machine (jobs_of items) cores left None → ((budget : ℕ) (others : List ℕ) → IsMachine budget others machine → IsMachine budget others cores) → HaveDone budgets items cores left
+done_by [] items machine cores left is count have ends keeps = absurd is
+done_by (budget ∷ others) items machine cores left is count have ends keeps = record {
+  budget = budget;
+  others = others;
+  are_budgets = refl;
+  machine = keeps budget others is;
+  work = core_did machine cores items left ends have;
+  ended = ends.why;
+  at_cores = subst (λ (n : ℕ). All (λ l. l.0 < n) left) (ends.all ∙ count) ends.inside;
+}
+
+-- a machine that was booted with these requests ran with these jobs, and no core halted
+pub have_done : (budgets : List ℕ) (items : List Item) (requests : List (ℕ × Op)) (jobs : List (ℕ × Job)) (machine cores : List RingCore) (left : List (ℕ × Job)) (halted : Option (ℕ × Halt))
+    → requests ≡ requests_of items → jobs ≡ jobs_of items → halted ≡ None → IsMachineOf budgets machine → length machine ≡ length budgets → HaveRequests requests machine
+    → EndsRightly machine jobs cores left halted → ((budget : ℕ) (others : List ℕ) → IsMachine budget others machine → IsMachine budget others cores) → HaveDone budgets items cores left
+have_done budgets items requests jobs machine cores left halted are_requests are_jobs none is count have ends keeps =
+    done_by budgets items machine cores left is count (subst (λ (rs : List (ℕ × Op)). HaveRequests rs machine) are_requests have)
+    (subst (λ (js : List (ℕ × Job)). EndsRightly machine js cores left None) are_jobs (subst (EndsRightly machine jobs cores left) none ends)) keeps
+
+-- core 0's history ends where no request is being decided
+settled_at : (cores others clock : ℕ) (p : Part) (end : Core0) (links : RingLinks) → HasNothingUnderWay cores p (ring_view links) → StandsAt0 others p clock end → end.place.phase ≡ Idle
+settled_at cores others clock (part.First core) end links idle stands = ap (λ place. place.phase) stands.place_is ∙ idle.0
+settled_at cores others clock (part.Other core) end links idle stands = absurd stands
+
+-- a history is that of a core
+of_core : (cores : List RingCore) (i : ℕ) (h : List Stamped) → slice_get (histories_of cores) i ≡ Some h → (c : RingCore) × (slice_get cores i ≡ Some c) × (h ≡ c.history)
+of_core [] i h at = absurd cc
+of_core (c ∷ cores) zero h at = (c, refl, cc)
+of_core (c ∷ cores) (suc i) h at = of_core cores i h at
+
+pub shows : (script : Script) (cores : List RingCore) (left : List (ℕ × Job)) (events : List Done) (text lines : List ℕ) → HaveDone script.budgets script.items cores left → OfMachine cores Concludes
+    → ListsRuns (histories_of cores) events → ShowsLeft left lines → text ≡ flat_map done_line events ++ lines → ShowsRun script text
+shows script [] left events text lines done computes lists shown printed = absurd done.machine
+shows script (first ∷ others) left events text lines done computes lists shown printed =
+    let c = computes done.budget done.others first others refl done.machine in
+    let r = lists done.budget done.others first.history (histories_of others) c.end c.ends refl c.computation in
+    record {
+      budget = done.budget;
+      budgets = done.others;
+      are_budgets = done.are_budgets;
+      merged = r.merged;
+      left = left;
+      did = record {
+        core0 = first.history;
+        others = histories_of others;
+        end = c.end;
+        ends = c.ends;
+        computation = c.computation;
+        settled = settled_at first.cores (length done.others) first.clock first.part c.end first.links (done.ended 0 first refl).idle c.ends0;
+        work = λ core h at. let own = of_core (first ∷ others) core h at in subst (DidItsWork script.items left core) (sym own.2) (done.work core own.0 own.1);
+        at_cores = subst (λ (bs : List ℕ). All (λ l. l.0 < length bs) left) done.are_budgets done.at_cores;
+        is_merged = r.is_merged;
+      };
+      last_lines = lines;
+      shows_left = shown;
+      printed = printed ∙ ap (λ (es : List Done). flat_map done_line es ++ lines) r.is_listed;
+    }

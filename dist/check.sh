@@ -1,0 +1,22 @@
+#!/bin/sh
+# Takes the program that `rt ci` has just built for `./mkdemux`, and compares it with dist/mkdemux where both are from the same sources:
+# another byte is a failure. A program of older sources in dist/ is none. The last line is `N passed, M failed`.
+cd "$(dirname "$0")/.." || exit 2
+digest=$(dist/digest.sh)
+built=crates/mkdemux/out/stamped
+if ! dist/stamp.sh crates/mkdemux/out/mkdemux $built "$digest"; then
+    echo "0 passed, 1 failed"
+    exit 1
+fi
+echo "$digest" > $built.sources
+if [ "$digest" != "$(cat dist/sources)" ]; then
+    echo "dist: dist/mkdemux was built from other sources, and is not compared"
+    echo "0 passed, 0 failed"
+elif cmp $built dist/mkdemux; then
+    echo "dist: dist/mkdemux is the program of these sources"
+    echo "1 passed, 0 failed"
+else
+    echo "dist: dist/mkdemux is another program than that of these sources"
+    echo "0 passed, 1 failed"
+    exit 1
+fi
