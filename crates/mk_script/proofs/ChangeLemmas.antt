@@ -18,16 +18,16 @@ use Rattle.mk_script.specs.declared.script.Item.TheVariants.{Ask, Apply}
 use Rattle.mk_script.specs.Meanings.{Meaning, Budgets, NamedProgram, NamedPacket, NamedCapture, Home, Does, Receives, Trace, Nothing, Jobs, Counted, Named, budgets_in, programs_in, packets_in, captures_in, jobs_in, is_trace, is_act, named, home_from, is_traced, jobs_behind, items_in, items_of}
 use Rattle.mk_script.specs.Changes.{KnowsParts, asks_in, events_in}
 
-push_flat : {A : Type 0} (f : Meaning → List A) (given : List Meaning) (m : Meaning) → flat_map f (given ++ m ∷ []) ≡ flat_map f given ++ f m
+pub push_flat : {A : Type 0} (f : Meaning → List A) (given : List Meaning) (m : Meaning) → flat_map f (given ++ m ∷ []) ≡ flat_map f given ++ f m
 push_flat f given m = flat_map-append f given (m ∷ []) ∙ ap (λ l. flat_map f given ++ l) (append-nil (f m))
 
-same_flat : {A : Type 0} (f : Meaning → List A) (given : List Meaning) (m : Meaning) → f m ≡ [] → flat_map f (given ++ m ∷ []) ≡ flat_map f given
+pub same_flat : {A : Type 0} (f : Meaning → List A) (given : List Meaning) (m : Meaning) → f m ≡ [] → flat_map f (given ++ m ∷ []) ≡ flat_map f given
 same_flat f given m e = push_flat f given m ∙ ap (λ l. flat_map f given ++ l) e ∙ append-nil (flat_map f given)
 
 push_any : (p : Meaning → Bool) (given : List Meaning) (m : Meaning) → list_any p (given ++ m ∷ []) ≡ (list_any p given || p m)
 push_any p given m = list_any-append p given (m ∷ []) ∙ ap (λ b. list_any p given || b) (or-false (p m))
 
-same_any : (p : Meaning → Bool) (given : List Meaning) (m : Meaning) → p m ≡ false → list_any p (given ++ m ∷ []) ≡ list_any p given
+pub same_any : (p : Meaning → Bool) (given : List Meaning) (m : Meaning) → p m ≡ false → list_any p (given ++ m ∷ []) ≡ list_any p given
 same_any p given m e = push_any p given m ∙ ap (λ b. list_any p given || b) e ∙ or-false (list_any p given)
 
 home_push : (core : ℕ) (given : List Meaning) (m : Meaning) (d : ℕ) → home_from core (given ++ m ∷ []) d ≡ home_from (home_from core given d) (m ∷ []) d
@@ -35,10 +35,10 @@ home_push core [] m d = refl
 home_push core (Home e c ∷ given) m d = home_push (if eqb e d then c else core) given m d
 home_push core (x ∷ given) m d = home_push core given m d
 
-same_jobs_behind : (given : List Meaning) (m : Meaning) → jobs_in m ≡ [] → is_trace m ≡ false → jobs_behind (given ++ m ∷ []) ≡ jobs_behind given
+pub same_jobs_behind : (given : List Meaning) (m : Meaning) → jobs_in m ≡ [] → is_trace m ≡ false → jobs_behind (given ++ m ∷ []) ≡ jobs_behind given
 same_jobs_behind given m none untraced = rw (same_any is_trace given m untraced, same_flat jobs_in given m none) refl
 
-items_push : (given : List Meaning) (m : Meaning) → is_trace m ≡ false → items_of (given ++ m ∷ []) ≡ items_of given ++ items_in (is_traced given) m
+pub items_push : (given : List Meaning) (m : Meaning) → is_trace m ≡ false → items_of (given ++ m ∷ []) ≡ items_of given ++ items_in (is_traced given) m
 items_push given m untraced = rw (same_any is_trace given m untraced) (push_flat (items_in (is_traced given)) given m)
 
 bytes_eq-comm : (xs ys : List ℕ) → bytes_eq xs ys ≡ bytes_eq ys xs

@@ -12,5 +12,6 @@ pub mod LawLemmas
 pub mod DecimalTotal
 pub mod TotalLemmas
 pub mod LimitLemmas
+pub mod ThreadLemmas
 pub mod EndLemmas
 pub mod OrderLemmas

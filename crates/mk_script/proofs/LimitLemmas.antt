@@ -46,29 +46,29 @@ use Rattle.mk_script.proofs.WordLemmas.{AllShort, word_short, lines_short}
 
 -- Steps that succeeded
 
-record Bound {A B : Type 0} (first : Result A ScriptFaultKind) (then' : A → Result B ScriptFaultKind) (last : B) : Type 0 where
+pub record Bound {A B : Type 0} (first : Result A ScriptFaultKind) (then' : A → Result B ScriptFaultKind) (last : B) : Type 0 where
   pub value : A
   pub gave : first ≡ Ok value
   pub next : then' value ≡ Ok last
 
-bound : {A B : Type 0} (first : Result A ScriptFaultKind) (then' : A → Result B ScriptFaultKind) (last : B) → (first >>= then') ≡ Ok last → Bound first then' last
+pub bound : {A B : Type 0} (first : Result A ScriptFaultKind) (then' : A → Result B ScriptFaultKind) (last : B) → (first >>= then') ≡ Ok last → Bound first then' last
 bound (Ok x) then' last e = record { value = x; gave = refl; next = e }
 bound (Err x) then' last e = absurd (cc)
 
-same_ok : {A E : Type 0} (x y : A) → (let this : Result A E = Ok x in let other : Result A E = Ok y in this ≡ other) → x ≡ y
+pub same_ok : {A E : Type 0} (x y : A) → (let this : Result A E = Ok x in let other : Result A E = Ok y in this ≡ other) → x ≡ y
 same_ok x y e = cc
 
-some_ok : {A E : Type 0} (o : Option A) (fault : E) (x : A) → ok_or o fault ≡ Ok x → o ≡ Some x
+pub some_ok : {A E : Type 0} (o : Option A) (fault : E) (x : A) → ok_or o fault ≡ Ok x → o ≡ Some x
 some_ok (Some y) fault x e = cc
 some_ok None fault x e = absurd (cc)
 
-passed : (test : Bool) (fault : ScriptFaultKind) (u : Unit {0}) → check test fault ≡ Ok u → test ≡ true
+pub passed : (test : Bool) (fault : ScriptFaultKind) (u : Unit {0}) → check test fault ≡ Ok u → test ≡ true
 passed true fault u e = refl
 passed false fault u e = absurd (cc)
 
 -- Each element of a list
 
-each_append : {X : Type 0} (P : X → Type 0) (xs ys : List X) → AllByRecursion P xs → AllByRecursion P ys → AllByRecursion P (xs ++ ys)
+pub each_append : {X : Type 0} (P : X → Type 0) (xs ys : List X) → AllByRecursion P xs → AllByRecursion P ys → AllByRecursion P (xs ++ ys)
 each_append P [] ys all others = others
 each_append P (x ∷ xs) ys all others = (all.0, each_append P xs ys all.1 others)
 
@@ -105,7 +105,7 @@ IsWithin (Receives events) = AllByRecursion IsTakeOrRx events
 IsWithin meaning = Unit {0}
 
 -- homes are below the number of cores, and requests enter below it
-abbrev EntersIn : ℕ → Meaning → Type 0
+abbrev pub EntersIn : ℕ → Meaning → Type 0
 EntersIn cores (Home domain core) = core < cores
 EntersIn cores (Does item) = EntersBelow cores item
 EntersIn cores meaning = Unit {0}
@@ -136,7 +136,7 @@ IsDraftWithin k draft = Unit {0}
 
 -- Requests
 
-some_budgets : (k : Known) → has_cores k ≡ true → 1 ≤ length k.budgets
+pub some_budgets : (k : Known) → has_cores k ≡ true → 1 ≤ length k.budgets
 some_budgets k e = grind (arith, nat_tests)
 
 create_short : (words : List (List ℕ)) (op : Op) → create_op words ≡ Ok op → HasShortProgram op
@@ -243,7 +243,7 @@ replay_within k received words d short e =
 
 -- Definitions
 
-numbers_length : (limit : ℕ) (words : List (List ℕ)) (numbers : List ℕ) → numbers_below limit words ≡ Ok numbers → length numbers ≡ length words
+pub numbers_length : (limit : ℕ) (words : List (List ℕ)) (numbers : List ℕ) → numbers_below limit words ≡ Ok numbers → length numbers ≡ length words
 numbers_length limit [] numbers e = ap length (sym (same_ok [] numbers e))
 numbers_length limit (word ∷ words) numbers e =
     let first = bound (number_below limit word) _ numbers e in
@@ -252,7 +252,7 @@ numbers_length limit (word ∷ words) numbers e =
     let is : length numbers ≡ length (first.value ∷ rest.value) = ap length (sym (same_ok (first.value ∷ rest.value) numbers rest.next)) in
     omega (arith, is, more)
 
-no_budgets : (k : Known) → not (has_cores k) ≡ true → length k.budgets ≡ 0
+pub no_budgets : (k : Known) → not (has_cores k) ≡ true → length k.budgets ≡ 0
 no_budgets k e = grind (arith, nat_tests)
 
 cores_within : (s : Settings) (k : Known) (words : List (List ℕ)) (d : Draft) → command_of s.threads words ≡ Some command.Cores → cores_draft k words ≡ Ok d → IsDraftWithin k d
@@ -312,7 +312,7 @@ below_some limit (Some v) n e = elim (cases_Bool (nat_lt v limit)) [
   | inr more ↦ let never = rw more at e in absurd (cc)
 ]
 
-below_is : (limit : ℕ) (word : List ℕ) (n : ℕ) → number_below limit word ≡ Ok n → n < limit
+pub below_is : (limit : ℕ) (word : List ℕ) (n : ℕ) → number_below limit word ≡ Ok n → n < limit
 below_is limit word n e = below_some limit (number_of word) n (some_ok (below limit (number_of word)) BadNumber n e)
 
 home_within : (k : Known) (words : List (List ℕ)) (d : Draft) → home_draft k words ≡ Ok d → IsDraftWithin k d
@@ -543,7 +543,7 @@ statements_within n number (Some o) (line ∷ lines) own all = elim (cases_Bool 
   | inr goes ↦ rw goes (statements_within n (number + 1) (Some (longer o line)) lines own all.1)
 ]
 
-record Kept (given : List Meaning) : Type 0 where
+pub record Kept (given : List Meaning) : Type 0 where
   pub each : AllByRecursion IsWithin given
   pub few : length (flat_map budgets_in given) ≤ 8
   pub enter : AllByRecursion (EntersIn (length (flat_map budgets_in given))) given
@@ -590,11 +590,14 @@ script_limited given script kept e = elim (cases_Bool (has_cores (known given)))
   | inr none ↦ let never = rw none at e in absurd (cc)
 ]
 
+pub kept_meanings : (s : Settings) (text : List ℕ) (given : List Meaning) → length text < 2 ^ 32 → MeanBehind s [] (statements text) (Ok given) → Kept given
+kept_meanings s text given few means =
+    let within = statements_within (length text) 1 None (text_lines text) tt (lines_short text) in
+    behind_kept s (length text) [] (statements text) given few within (record { each = cc; few = omega arith; enter = cc }) means
+
 by_meanings : (s : Settings) (text : List ℕ) (meanings : Result (List Meaning) ScriptFault) (script : Script) → length text < 2 ^ 32
     → MeanBehind s [] (statements text) meanings → Ok script ≡ script_of meanings → HasLimits script
-by_meanings s text (Ok given) script few means e =
-    let within = statements_within (length text) 1 None (text_lines text) tt (lines_short text) in
-    script_limited given script (behind_kept s (length text) [] (statements text) given few within (record { each = cc; few = omega arith; enter = cc }) means) e
+by_meanings s text (Ok given) script few means e = script_limited given script (kept_meanings s text given few means) e
 by_meanings s text (Err fault) script few means e = absurd (cc)
 
 has_limits : (s : Settings) (text : List ℕ) (script : Script) → length text < 2 ^ 32 → Stands s text (Ok script) → HasLimits script

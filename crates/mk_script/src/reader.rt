@@ -1,6 +1,6 @@
 //! Reading a whole script.
 
-ghost use Rattle.std.specs.Prelude.{◌≡◌, ◌≤◌, ◌<◌, ◌+◌, ◌^◌, ◌⊎◌, ◌++◌, ◌∷◌, ℕ, true, List, [], length, IfOk, IfErr, IsErrAnd, MatchResult, OnOk, Ok, Err};
+ghost use Rattle.std.specs.Prelude.{◌≡◌, ◌≤◌, ◌<◌, ◌+◌, ◌^◌, ◌⊎◌, ◌++◌, ◌∷◌, ℕ, true, List, [], length, IfOk, IfErr, IsErrAnd, IsTrue, MatchResult, OnOk, Ok, Err};
 ghost use Rattle.std.specs.List.{All};
 ghost use Rattle.bpf_insn.specs.Texts.{words_of};
 ghost use Rattle.filter_asm.specs.Program.{text_lines};
@@ -14,6 +14,7 @@ ghost use Rattle.mk_script.specs.Pieces.{BlockShort, statement_of};
 ghost use Rattle.mk_script.specs.Reading.{Advances, Reads, Refuses};
 ghost use Rattle.mk_script.specs.Scripts.{AreFiles, MeanBehind, OneOutcome, SomeOutcome, Stands, fault_at, settings};
 ghost use Rattle.mk_script.specs.Statements.{statements_from};
+ghost use Rattle.mk_script.specs.Threads.{IsScriptForThreads};
 ghost use Rattle.mk_script.specs.Views.{texts};
 ghost use Rattle.mk_script.specs.declared.fault.ScriptFault.{ScriptFault};
 ghost use Rattle.mk_script.specs.declared.script.Script.{Script};
@@ -201,6 +202,8 @@ pub fn read_script(
     ensures refused { IfErr result (λ fault. (fault.kind ≡ NoMemory) ⊎ Stands (settings files.now threads) text.now (Err fault)) }
     // That is within the limits of a machine and of its messages, and its requests enter at its cores.
     ensures limits { IfOk result HasLimits }
+    // For threads it has requests and packets alone, each at one of its cores, and the packets are numbered in order.
+    ensures threads { IsTrue threads → IfOk result IsScriptForThreads }
     // What the text stands for is answered, unless memory runs out.
     ensures only { (script : Script) → Stands (settings files.now threads) text.now (Ok script)
         → MatchResult result (λ found. found ≡ script) (λ fault. fault.kind ≡ NoMemory) }

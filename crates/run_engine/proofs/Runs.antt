@@ -1,5 +1,5 @@
 -- What cores did that were booted with a script's budgets, ran, and were joined.
-use Rattle.std.proofs.Common.{◌≡◌, ◌<◌, ◌++◌, All, ℕ, zero, suc, List, [], ◌∷◌, Option, Some, None, slice_get, length, map, refl, sym, ap, ◌∙◌, subst, arith}
+use Rattle.std.proofs.Common.{◌≡◌, ◌<◌, ◌++◌, All, ℕ, zero, suc, List, [], ◌∷◌, Option, Some, None, slice_get, length, refl, sym, ap, ◌∙◌, subst}
 use Rattle.std.specs.List.{flat_map}
 use Rattle.std.proofs.lemmas.List.{append-nil}
 use Rattle.table_replica.specs.declared.Op.{Op}
@@ -20,12 +20,11 @@ use Rattle.core_join.specs.Merges.{ListsRuns}
 use Rattle.core_threads.specs.declared.halt.Halt.{Halt}
 use Rattle.core_threads.specs.Booting.{HaveRequests, IsMachineOf}
 use Rattle.core_threads.specs.Ending.{EndsRightly}
-use Rattle.core_threads.specs.Lanes.{items_for}
 use Rattle.sim_lines.specs.Events.{done_line}
 use Rattle.mk_script.specs.declared.script.Item.{Item}
 use Rattle.mk_script.specs.declared.script.Script.{Script}
 use Rattle.run_engine.specs.Work.{requests_of, jobs_of}
-use Rattle.run_engine.specs.Showing.{DidItsWork, DidWork, ShowsLeft, ShowsRun}
+use Rattle.run_engine.specs.Showing.{DidItsWork, ShowsLeft, ShowsRun}
 use Rattle.run_engine.specs.Running.{HaveDone}
 
 -- an element of the one list has an element of the other beside it

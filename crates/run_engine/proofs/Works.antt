@@ -1,5 +1,5 @@
 -- What a script for threads gives its cores enters at them, and can be sent.
-use Rattle.std.proofs.Common.{◌≡◌, ◌<◌, All, ℕ, zero, suc, List, [], ◌∷◌, ◌++◌, subst, sym}
+use Rattle.std.proofs.Common.{◌≡◌, ◌<◌, All, ℕ, zero, suc, List, [], ◌∷◌, subst, sym}
 use Rattle.std.specs.List.{flat_map}
 use Rattle.std.proofs.lemmas.List.Elements.{All-nil, All-cons, All-head, All-tail, All-append}
 use Rattle.table_replica.specs.declared.Op.{Op}
@@ -7,7 +7,6 @@ use Rattle.rx_queue.specs.declared.job.Job.{Job}
 use Rattle.core_loop.specs.Cores.{AreShort}
 use Rattle.core_threads.specs.Booting.{AreGivable}
 use Rattle.monitor_messages.specs.Coding.{HasShortProgram}
-use Rattle.world_model.specs.declared.event.Event.{Event}
 use Rattle.world_model.specs.declared.event.Event.TheVariants.{Rx}
 use Rattle.world_model.specs.declared.event.Event.TheVariants as event
 use Rattle.mk_script.specs.declared.script.Item.{Item}

@@ -41,12 +41,14 @@ fn add(work: &mut Work, item: Item, cores: usize) -> Result<(), AllocError>
 {
     match item {
         Item::Ask(core, op) => work.requests.push((core, op))?,
-        Item::Apply(Event::Rx {
-            core,
-            number,
-            packet,
-            floor,
-        }) => work.jobs.push((
+        Item::Apply(
+            Event::Rx {
+                core,
+                number,
+                packet,
+                floor,
+            },
+        ) => work.jobs.push((
             core,
             Job {
                 number,

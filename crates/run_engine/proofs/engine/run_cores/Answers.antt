@@ -1,8 +1,23 @@
-use Rattle.std.proofs.Common.{◌≡◌, sym, subst}
+use Rattle.std.proofs.Common.{◌<◌, All, ℕ, length, sym, subst}
+use Rattle.rx_queue.specs.declared.job.Job.{Job}
 use Rattle.run_engine.proofs.Runs.{have_done}
+use Rattle.run_engine.proofs.Works.{requests_inside, requests_givable, jobs_inside}
 use Rattle.run_engine.proofs.engine.run_cores.Goals as goal
 
-pub returns : goal.returns
-returns g c = have_done c.args.budgets.now c.args.items.items c.in_ok-requests.requests.items c.in_ok-requests.jobs.items c.in-Ok.machine.cores c.in_ok-ended.ended.cores.items c.in_ok-ended.ended.left.items
+pub boot-requires-clause-inside : goal.boot-requires-clause-inside
+boot-requires-clause-inside g c =
+    requests_inside (length c.args.budgets.now) c.args.items.items c.in_ok-requests.field-0.requests.items c.requires.at_cores c.in_ok-requests.ensures.requests
+
+pub boot-requires-clause-short : goal.boot-requires-clause-short
+boot-requires-clause-short g c = requests_givable c.args.items.items c.in_ok-requests.field-0.requests.items c.requires.limited c.in_ok-requests.ensures.requests
+
+pub run_machine-requires-after_bounds : goal.run_machine-requires-after_bounds
+run_machine-requires-after_bounds g c =
+    let inside = subst (λ (n : ℕ). All (λ (j : ℕ × Job). j.0 < n) c.in_ok-requests.field-0.jobs.items) (sym c.in-Ok.ensures.cores)
+    (jobs_inside (length c.args.budgets.now) c.args.items.items c.in_ok-requests.field-0.jobs.items c.requires.at_cores c.in_ok-requests.ensures.jobs) in
+    search inside
+
+pub returns-in-None : goal.returns-in-None
+returns-in-None g c = have_done c.args.budgets.now c.args.items.items c.in_ok-requests.field-0.requests.items c.in_ok-requests.field-0.jobs.items c.in-Ok.machine.cores c.in_ok-ended.ended.cores.items c.in_ok-ended.ended.left.items
     c.in_ok-ended.ended.halted c.in_ok-requests.ensures.requests c.in_ok-requests.ensures.jobs c.in-None.is c.in-Ok.ensures.machine c.in-Ok.ensures.cores c.in-Ok.ensures.requests c.in_ok-ended.ensures.ended
     c.in_ok-ended.ensures.machine

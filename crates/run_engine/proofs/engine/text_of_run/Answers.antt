@@ -1,15 +1,19 @@
-use Rattle.std.proofs.Common.{◌≡◌, ◌∙◌, ◌++◌, List, ℕ, sym, ap, subst}
+use Rattle.std.proofs.Common.{◌∙◌, ◌++◌, List, ℕ, ap, subst}
+use Rattle.std.specs.List.{flat_map}
+use Rattle.sim_lines.specs.Events.{done_line}
 use Rattle.world_histories.specs.declared.history.Stamped.{Stamped}
-use Rattle.world_model.specs.declared.event.Done.{Done}
 use Rattle.core_join.specs.Merges.{ListsRuns}
+use Rattle.mk_script.specs.declared.script.Item.{Item}
+use Rattle.run_engine.specs.Running.{HaveDone}
 use Rattle.run_engine.proofs.Runs.{shows}
 use Rattle.run_engine.proofs.engine.text_of_run.Goals as goal
 
 pub returns : goal.returns
 returns g c = record {
   shown = shows c.args.script c.in_ok-ended.ended.cores.items c.in_ok-ended.ended.left.items c.in_ok-events.events.items c.push_left.new.text.items c.in_ok-push_left.ensures.0
-      (search c.in_ok-ended.ensures) c.in_ok-histories.ensures.computation
+      (subst (λ (bs : List ℕ). HaveDone bs c.args.script.items c.in_ok-ended.ended.cores.items c.in_ok-ended.ended.left.items) c.as_slice.ensures
+      (subst (λ (is : List Item). HaveDone c.as_slice.result.now is c.in_ok-ended.ended.cores.items c.in_ok-ended.ended.left.items) c.into_vec.ensures c.in_ok-ended.ensures)) c.in_ok-histories.ensures.computation
       (subst (λ (hs : List (List Stamped)). ListsRuns hs c.in_ok-events.events.items) c.in_ok-histories.ensures.histories c.in_ok-events.ensures.run)
       c.in_ok-push_left.ensures.1
-      (c.in_ok-push_left.ensures.2 ∙ ap (λ (t : List ℕ). t ++ c.in_ok-push_left.ensures.0) c.in_ok-push_events.ensures);
+      (c.in_ok-push_left.ensures.2 ∙ ap (λ (t : List ℕ). t ++ c.in_ok-push_left.ensures.0) (c.in_ok-push_events.ensures ∙ ap (λ (t : List ℕ). t ++ flat_map done_line c.in_ok-events.events.items) c.new-text.ensures.items));
 }

@@ -1,4 +1,4 @@
-use Rattle.std.proofs.Common.{◌≡◌, ℕ, List, refl, rules, sym, subst}
+use Rattle.std.proofs.Common.{ℕ, List, refl, rules, sym, subst}
 use Rattle.std.proofs.lemmas.List.Sorted.{IsNonDecreasingBy-from_sort_by_key}
 use Rattle.rx_queue.specs.declared.job.Job.{Job}
 use Rattle.run_engine.specs.Showing.{ShowsLeft, left_lines}
