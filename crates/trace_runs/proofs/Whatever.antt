@@ -1,0 +1,206 @@
+-- Whatever a trace shows is the run, or differs first by a want of memory.
+use Rattle.std.proofs.Common.{◌≡◌, ◌≢◌, ◌⊎◌, inl, inr, ℕ, Bool, true, false, List, [], ◌∷◌, ◌++◌, map, refl, ap, sym, ◌∙◌, subst, append_assoc}
+use Rattle.std.specs.Prelude.{Result, Ok, Err}
+use Rattle.std.specs.List.{All, flat_map}
+use Rattle.std.proofs.lemmas.List.{append-nil}
+use Rattle.std.proofs.lemmas.List.Elements.{All-head, All-tail}
+use Rattle.table_replica.specs.declared.Op.{Op}
+use Rattle.monitor_messages.specs.declared.message.Veto.TheVariants as veto
+use Rattle.monitor_messages.specs.declared.message.Decision.TheVariants.{Refused}
+use Rattle.world_model.specs.declared.event.Event.{Event}
+use Rattle.world_model.specs.declared.event.Event.TheVariants.{Start, Submit, StartFor, Take, Rx}
+use Rattle.world_model.specs.declared.event.Answer.{Answer}
+use Rattle.world_model.specs.declared.event.Answer.TheVariants.{Decided}
+use Rattle.world_model.specs.declared.event.Done.{Done}
+use Rattle.world_model.specs.Worlds.{World, boot, Happens, Runs, Run}
+use Rattle.world_model.proofs.Runs.{runs_more}
+use Rattle.world_core.specs.declared.fault.WorldFault.{WorldFault}
+use Rattle.world_core.specs.declared.fault.WorldFault.TheVariants.{NoSuchCore, Nothing, NotReady, NotIdle, Spent, Outstanding, NoneWaiting, NoMemory}
+use Rattle.world_core.specs.Refusals.{WorldRefuses, StandsFirst}
+use Rattle.sim_lines.specs.Events.{event_line, done_line}
+use Rattle.mk_script.specs.declared.script.Item.{Item}
+use Rattle.mk_script.specs.declared.script.Item.TheVariants as item
+use Rattle.sim_engine.specs.declared.requests.Request.{Request}
+use Rattle.sim_engine.specs.declared.way.Way.{Way}
+use Rattle.sim_engine.specs.declared.way.Way.TheVariants as way
+use Rattle.sim_engine.specs.Ways.{home_of, event_of}
+use Rattle.core_loop.specs.Cores.{begins}
+use Rattle.sim_engine.specs.Simulations.{Simulation, Tells, Applies, Does, Begins, nothing, done, refused, Performs}
+use Rattle.trace_runs.specs.Memory.{is_want, IsRefusedForMemory, WantsMemory}
+use Rattle.trace_runs.specs.Traces.{retold, item_of, trace_item, asks_of, begun_at}
+use Rattle.trace_runs.specs.Repeats.{BeginInOrder, PerformsTrace, HadMemoryAgain, Repeats, same, short_of_memory}
+use Rattle.trace_runs.proofs.SameRuns.{happens_once}
+use Rattle.trace_runs.proofs.Pending.{BeginsFirst, not_none, begun_first, as_request}
+use Rattle.trace_runs.proofs.Retake.{happens_retold}
+use Rattle.trace_runs.proofs.Again.{at, Begin, BeginWith, begin_still, asked, begin_asked}
+use Rattle.trace_runs.proofs.NotRefused.{none_stands}
+
+-- Whether memory was wanting
+
+refused_or_not : (answer : Answer) → IsRefusedForMemory answer ⊎ (IsRefusedForMemory answer → ⊥)
+refused_or_not (Decided (Refused core veto.NoMemory)) = inl tt
+refused_or_not answer = inr (λ h. h)
+
+short_or_not : (short votes : Bool) → ((short ≡ false) × (votes ≡ true)) ⊎ ((short ≡ false) × (votes ≡ true) → ⊥)
+short_or_not true votes = inr (λ h. let x = h.0 in cc)
+short_or_not false true = inl (refl, refl)
+short_or_not false false = inr (λ h. let x = h.1 in cc)
+
+wants_or_not : (event : Event) (answer : Answer) → WantsMemory event answer ⊎ (WantsMemory event answer → ⊥)
+wants_or_not (Start op) answer = refused_or_not answer
+wants_or_not (StartFor core) answer = refused_or_not answer
+wants_or_not (Take to from short) answer = short_or_not short (is_want answer)
+wants_or_not event answer = inr (λ h. h)
+
+-- What one event tells
+
+stands : (w : World) (event : Event) (fault : WorldFault) → fault ≢ NoMemory → WorldRefuses w event fault → StandsFirst w event fault
+stands w event NoMemory other h = absurd (other refl)
+stands w event NoSuchCore other h = h
+stands w event Nothing other h = h
+stands w event NotReady other h = h
+stands w event NotIdle other h = h
+stands w event Spent other h = h
+stands w event Outstanding other h = h
+stands w event NoneWaiting other h = h
+
+-- the same, or a want of memory
+data ToldOnce (event : Event) (answer : Answer) (mid w' : World) (told : Result Answer WorldFault) : Type 0 where
+  as_before : told ≡ Ok answer → w' ≡ mid → ToldOnce event answer mid w' told
+  wanting : (other : Answer) → WantsMemory event other → told ≡ Ok other → ToldOnce event answer mid w' told
+
+-- the item of an event as a trace tells it
+abbrev item_for : Event → Item
+item_for (Start op) = item.Begin
+item_for (Submit core op) = item.Submit core
+item_for (StartFor core) = item.StartFor core
+item_for (Take to from short) = item.Apply (Take to from short)
+item_for (Rx core number packet floor) = item.Apply (Rx core number packet floor)
+
+retold_item : (event : Event) (answer : Answer) → item_of event answer ≡ item_for (retold event answer)
+retold_item (Start op) answer = refl
+retold_item (Submit core op) answer = refl
+retold_item (StartFor core) answer = refl
+retold_item (Take to from short) answer = refl
+retold_item (Rx core number packet floor) answer = refl
+
+module _ (budget : ℕ) (budgets : List ℕ) (before : List Done) (w mid : World) (run : Run budget budgets before w) where
+  told_once : (event : Event) (answer : Answer) (w' : World) (told : Result Answer WorldFault) → Happens w event mid answer → (WantsMemory event answer → ⊥) → Tells w event told w' → ToldOnce event answer mid w' told
+  told_once event answer w' (Ok other) h had tells = by_memory (wants_or_not event other)
+    where
+      by_memory : WantsMemory event other ⊎ (WantsMemory event other → ⊥) → ToldOnce event answer mid w' (Ok other)
+      by_memory (inl wants) = wanting other wants refl
+      by_memory (inr had') = let one = happens_once w w' mid event other answer tells h had' had in as_before (ap (λ (a : Answer). Ok a) one.0) one.1
+  told_once event answer w' (Err fault) h had tells = absurd (none_stands budget budgets before w mid event answer fault run h (stands w event fault tells.0 tells.1))
+
+  not_refused : (event : Event) (answer : Answer) (fault : WorldFault) (w' : World) → Happens w event mid answer → Tells w event (Err fault) w' → ⊥
+  not_refused event answer fault w' h tells = none_stands budget budgets before w mid event answer fault run h (stands w event fault tells.0 tells.1)
+
+  -- the item's event, its line, and the requests that are left; or a want of memory
+  data Found (event : Event) (answer : Answer) (later : List Done) (s' : Simulation) (now : List ℕ) : Type 0 where
+    goes_on : s'.world ≡ mid → now ≡ event_line event (Ok answer) → Begin later s'.pending → Found event answer later s' now
+    lacks : (other : Answer) → WantsMemory event other → now ≡ event_line event (Ok other) → Found event answer later s' now
+
+  by_told : (event : Event) (answer : Answer) (later : List Done) (s' : Simulation) (now : List ℕ) (told : Result Answer WorldFault) → ToldOnce event answer mid s'.world told → now ≡ event_line event told → Begin later s'.pending → Found event answer later s' now
+  by_told event answer later s' now told (as_before e is) line begin = goes_on is (line ∙ ap (event_line event) e) begin
+  by_told event answer later s' now told (wanting other wants e) line begin = lacks other wants (line ∙ ap (event_line event) e)
+
+  found_begun : (by : Way) (op : Op) (answer : Answer) (later : List Done) (pending : List Request) (s' : Simulation) (now : List ℕ) → Happens w (event_of by op) mid answer → (WantsMemory (event_of by op) answer → ⊥)
+      → BeginsFirst (home_of by) op (λ core. begun_at core later) pending → Begins (at w pending) by s' now → Found (event_of by op) answer later s' now
+  found_begun by op answer later pending s' now h had b (nothing none is line) = absurd (not_none (home_of by) op (λ core. begun_at core later) pending b none)
+  found_begun by op answer later pending s' now h had b (done first f other tells line) =
+      let g = begun_first (home_of by) op (λ core. begun_at core later) pending first s'.pending b f in
+      by_told (event_of by op) answer later s' now (Ok other)
+      (told_once (event_of by op) answer s'.world (Ok other) h had (subst (λ (o : Op). Tells w (event_of by o) (Ok other) s'.world) g.is_op tells))
+      (line ∙ ap (λ (o : Op). event_line (event_of by o) (Ok other)) g.is_op) g.next
+  found_begun by op answer later pending s' now h had b (refused first rest f fault tells is line) =
+      let g = begun_first (home_of by) op (λ core. begun_at core later) pending first rest b f in
+      absurd (not_refused (event_of by op) answer fault s'.world h (subst (λ (o : Op). Tells w (event_of by o) (Err fault) s'.world) g.is_op tells))
+
+  found_applied : (event : Event) (answer : Answer) (later : List Done) (pending : List Request) (s' : Simulation) (now : List ℕ) → begins event ≡ [] → Happens w event mid answer → (WantsMemory event answer → ⊥) → BeginWith event later pending
+      → Applies (at w pending) event s' now → Found event answer later s' now
+  found_applied event answer later pending s' now none h had b does =
+      by_told event answer later s' now does.0 (told_once event answer s'.world does.0 h had does.1) does.3 (subst (Begin later) (sym does.2) (begin_still event later pending none b))
+
+  found : (event : Event) (answer : Answer) (later : List Done) (pending : List Request) (s' : Simulation) (now : List ℕ) → Happens w event mid answer → (WantsMemory event answer → ⊥) → BeginWith event later pending
+      → Does (at w pending) (item_for event) s' now → Found event answer later s' now
+  found (Start op) answer later pending s' now h had b does = found_begun way.Start op answer later pending s' now h had b does
+  found (Submit core op) answer later pending s' now h had b does = found_begun (way.Submit core) op answer later pending s' now h had b does
+  found (StartFor core) answer later pending s' now h had b does = found_applied (StartFor core) answer later pending s' now refl h had b does
+  found (Take to from short) answer later pending s' now h had b does = found_applied (Take to from short) answer later pending s' now refl h had b does
+  found (Rx core number packet floor) answer later pending s' now h had b does = found_applied (Rx core number packet floor) answer later pending s' now refl h had b does
+
+-- All events
+
+retold_line : (event : Event) (answer : Answer) (told : Result Answer WorldFault) → event_line (retold event answer) told ≡ event_line event told
+retold_line (Start op) answer told = refl
+retold_line (Submit core op) answer told = refl
+retold_line (StartFor core) answer told = refl
+retold_line (Take to from short) answer told = refl
+retold_line (Rx core number packet floor) answer told = refl
+
+retold_begins : (event : Event) (answer : Answer) (later : List Done) (pending : List Request) → BeginWith event later pending → BeginWith (retold event answer) later pending
+retold_begins (Start op) answer later pending b = b
+retold_begins (Submit core op) answer later pending b = b
+retold_begins (StartFor core) answer later pending b = b
+retold_begins (Take to from short) answer later pending b = b
+retold_begins (Rx core number packet floor) answer later pending b = b
+
+-- a line of the run first
+one_more : (d : Done) (ds : List Done) (w' end : World) (now later text : List ℕ) → now ≡ done_line d → text ≡ now ++ later → Repeats ds w' end later → Repeats (d ∷ ds) w' end text
+one_more d ds w' end now later text line whole (same e is) = same (whole ∙ rw (line, e) refl) is
+one_more d ds w' end now later text line whole (short_of_memory x) = short_of_memory (record {
+  before = d ∷ x.before;
+  done = x.done;
+  after = x.after;
+  is_among = ap (λ (xs : List Done). d ∷ xs) x.is_among;
+  answer = x.answer;
+  wants = x.wants;
+  more = x.more;
+  printed = whole ∙ (rw (line, x.printed) (sym (append_assoc (done_line d) (flat_map done_line x.before) (event_line x.done.event (Ok x.answer) ++ x.more))));
+})
+
+whatever : (budget : ℕ) (budgets : List ℕ) (before events : List Done) (w w' : World) (pending : List Request) (end : Simulation) (text : List ℕ) → Run budget budgets before w → Runs w events w' → Begin events pending → All HadMemoryAgain events
+    → Performs (at w pending) (map trace_item events) end text → Repeats events w' end.world text
+whatever budget budgets before [] w w' pending end text run r b had p = same p.1 (ap (λ (s : Simulation). s.world) p.0 ∙ sym r)
+whatever budget budgets before (d ∷ ds) w w' pending end text run r b had p =
+    by_found (found budget budgets before w r.0 run (retold d.event d.answer) d.answer ds pending p.0 p.1 (happens_retold w r.0 d.event d.answer r.1) (All-head HadMemoryAgain d ds had) (retold_begins d.event d.answer ds pending b)
+    (subst (λ (i : Item). Does (at w pending) i p.0 p.1) (retold_item d.event d.answer) p.3))
+    (λ begin rest. whatever budget budgets (before ++ d ∷ []) ds r.0 w' p.0.pending end p.2 (runs_more (boot budget budgets) w r.0 before d run r.1) r.2 begin (All-tail HadMemoryAgain d ds had) rest)
+  where
+    by_found : Found budget budgets before w r.0 run (retold d.event d.answer) d.answer ds p.0 p.1
+        → (Begin ds p.0.pending → Performs (at r.0 p.0.pending) (map trace_item ds) end p.2 → Repeats ds w' end.world p.2) → Repeats (d ∷ ds) w' end.world text
+    by_found (goes_on is line begin) rest =
+        one_more d ds w' end.world p.1 p.2 text (line ∙ retold_line d.event d.answer (Ok d.answer)) p.5 (rest begin (subst (λ (x : World). Performs (at x p.0.pending) (map trace_item ds) end p.2) is p.4))
+    by_found (lacks other wants line) rest = short_of_memory (record {
+      before = [];
+      done = d;
+      after = ds;
+      is_among = refl;
+      answer = other;
+      wants = wants;
+      more = p.2;
+      printed = p.5 ∙ ap (λ (xs : List ℕ). xs ++ p.2) (line ∙ retold_line d.event d.answer (Ok other));
+    })
+
+-- The requests first
+
+after_asks : (w : World) (pending : List Request) (items later : List Item) (end : Simulation) (text : List ℕ) → Performs (at w pending) (asks_of items ++ later) end text → Performs (at w (pending ++ asked items)) later end text
+after_asks w pending [] later end text p = subst (λ (rs : List Request). Performs (at w rs) later end text) (sym (append-nil pending)) p
+after_asks w pending (item.Ask home op ∷ items) later end text p =
+    let more : (pending ++ as_request (home, op) ∷ []) ++ asked items ≡ pending ++ as_request (home, op) ∷ asked items = append_assoc pending (as_request (home, op) ∷ []) (asked items) in
+    let printed : text ≡ p.2 = p.5 ∙ ap (λ (xs : List ℕ). xs ++ p.2) p.3.1 in
+    let rest : Performs (at w (pending ++ as_request (home, op) ∷ [])) (asks_of items ++ later) end p.2 = subst (λ (s : Simulation). Performs s (asks_of items ++ later) end p.2) p.3.0 p.4 in
+    subst (λ (xs : List ℕ). Performs (at w (pending ++ as_request (home, op) ∷ asked items)) later end xs) (sym printed)
+    (subst (λ (rs : List Request). Performs (at w rs) later end p.2) more (after_asks w (pending ++ as_request (home, op) ∷ []) items later end p.2 rest))
+after_asks w pending (item.Begin ∷ items) later end text p = after_asks w pending items later end text p
+after_asks w pending (item.Submit core ∷ items) later end text p = after_asks w pending items later end text p
+after_asks w pending (item.StartFor core ∷ items) later end text p = after_asks w pending items later end text p
+after_asks w pending (item.Apply event ∷ items) later end text p = after_asks w pending items later end text p
+after_asks w pending (item.Settle ∷ items) later end text p = after_asks w pending items later end text p
+after_asks w pending (item.Show core ∷ items) later end text p = after_asks w pending items later end text p
+
+pub repeats : (budget : ℕ) (budgets : List ℕ) (items : List Item) (events : List Done) (w : World) (end : Simulation) (text : List ℕ) → Run budget budgets events w → BeginInOrder items events → All HadMemoryAgain events
+    → PerformsTrace budget budgets items events end text → Repeats events w end.world text
+repeats budget budgets items events w end text r h had p =
+    whatever budget budgets [] events (boot budget budgets) w (asked items) end text refl r (begin_asked items events h) had (after_asks (boot budget budgets) [] items (map trace_item events) end text p)
