@@ -7,3 +7,4 @@ pub mod Again
 pub mod NotRefused
 pub mod Whatever
 pub mod Merged
+pub mod Shown

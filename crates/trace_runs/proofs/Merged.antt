@@ -23,7 +23,8 @@ use Rattle.world_histories.specs.Histories.{Core0, Other}
 use Rattle.world_histories.specs.Merging.{IsRun}
 use Rattle.world_histories.proofs.Merge.{run_of}
 use Rattle.sim_lines.specs.Events.{done_line}
-use Rattle.trace_runs.specs.Repeats.{BeginInOrder, PerformsTrace, HadMemoryAgain, DiffersByMemory, Repeats, same, short_of_memory, RanScript, CanRepeatMerged, ShowsTrace}
+use Rattle.trace_runs.specs.Memory.{WasNotRefused}
+use Rattle.trace_runs.specs.Repeats.{BeginInOrder, PerformsTrace, DiffersByMemory, Repeats, same, short_of_memory, RanScript, CanRepeatMerged, ShowsTrace}
 use Rattle.trace_runs.proofs.Again.{can_repeat}
 use Rattle.trace_runs.proofs.Whatever.{repeats}
 
@@ -90,7 +91,7 @@ text_is : (events : List Done) (w end : World) (text : List ℕ) → Repeats eve
 text_is events w end text (same e is) = inl e
 text_is events w end text (short_of_memory d) = inr d
 
-pub only : (budget : ℕ) (budgets : List ℕ) (items : List Item) (end : Core0) (ends : List Other) (merged : List Stamped) (text : List ℕ) → RanScript budget budgets items end ends merged → All HadMemoryAgain (as_listed merged)
+pub only : (budget : ℕ) (budgets : List ℕ) (items : List Item) (end : Core0) (ends : List Other) (merged : List Stamped) (text : List ℕ) → RanScript budget budgets items end ends merged → All WasNotRefused (as_listed merged)
     → ShowsTrace (budget ∷ budgets) items (as_listed merged) text → (text ≡ flat_map done_line (as_listed merged)) ⊎ DiffersByMemory (as_listed merged) text
 only budget budgets items end ends merged text h had s =
     text_is (as_listed merged) run.world s.3.0.world text

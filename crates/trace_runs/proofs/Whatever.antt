@@ -26,9 +26,9 @@ use Rattle.sim_engine.specs.declared.way.Way.TheVariants as way
 use Rattle.sim_engine.specs.Ways.{home_of, event_of}
 use Rattle.core_loop.specs.Cores.{begins}
 use Rattle.sim_engine.specs.Simulations.{Simulation, Tells, Applies, Does, Begins, nothing, done, refused, Performs}
-use Rattle.trace_runs.specs.Memory.{is_want, IsRefusedForMemory, WantsMemory}
+use Rattle.trace_runs.specs.Memory.{is_want, IsRefusedForMemory, WantsMemory, WasNotRefused}
 use Rattle.trace_runs.specs.Traces.{retold, item_of, trace_item, asks_of, begun_at}
-use Rattle.trace_runs.specs.Repeats.{BeginInOrder, PerformsTrace, HadMemoryAgain, Repeats, same, short_of_memory}
+use Rattle.trace_runs.specs.Repeats.{BeginInOrder, PerformsTrace, Repeats, same, short_of_memory}
 use Rattle.trace_runs.proofs.SameRuns.{happens_once}
 use Rattle.trace_runs.proofs.Pending.{BeginsFirst, not_none, begun_first, as_request}
 use Rattle.trace_runs.proofs.Retake.{happens_retold}
@@ -51,6 +51,14 @@ wants_or_not (Start op) answer = refused_or_not answer
 wants_or_not (StartFor core) answer = refused_or_not answer
 wants_or_not (Take to from short) answer = short_or_not short (is_want answer)
 wants_or_not event answer = inr (λ h. h)
+
+-- a trace tells of each vote for want of memory
+had_again : (event : Event) (answer : Answer) → (IsRefusedForMemory answer → ⊥) → WantsMemory (retold event answer) answer → ⊥
+had_again (Start op) answer had wants = had wants
+had_again (StartFor core) answer had wants = had wants
+had_again (Take to from short) answer had wants = let x = wants.0 in let y = wants.1 in cc
+had_again (Submit core op) answer had wants = wants
+had_again (Rx core number packet floor) answer had wants = wants
 
 -- What one event tells
 
@@ -160,13 +168,13 @@ one_more d ds w' end now later text line whole (short_of_memory x) = short_of_me
   printed = whole ∙ (rw (line, x.printed) (sym (append_assoc (done_line d) (flat_map done_line x.before) (event_line x.done.event (Ok x.answer) ++ x.more))));
 })
 
-whatever : (budget : ℕ) (budgets : List ℕ) (before events : List Done) (w w' : World) (pending : List Request) (end : Simulation) (text : List ℕ) → Run budget budgets before w → Runs w events w' → Begin events pending → All HadMemoryAgain events
+whatever : (budget : ℕ) (budgets : List ℕ) (before events : List Done) (w w' : World) (pending : List Request) (end : Simulation) (text : List ℕ) → Run budget budgets before w → Runs w events w' → Begin events pending → All WasNotRefused events
     → Performs (at w pending) (map trace_item events) end text → Repeats events w' end.world text
 whatever budget budgets before [] w w' pending end text run r b had p = same p.1 (ap (λ (s : Simulation). s.world) p.0 ∙ sym r)
 whatever budget budgets before (d ∷ ds) w w' pending end text run r b had p =
-    by_found (found budget budgets before w r.0 run (retold d.event d.answer) d.answer ds pending p.0 p.1 (happens_retold w r.0 d.event d.answer r.1) (All-head HadMemoryAgain d ds had) (retold_begins d.event d.answer ds pending b)
+    by_found (found budget budgets before w r.0 run (retold d.event d.answer) d.answer ds pending p.0 p.1 (happens_retold w r.0 d.event d.answer r.1) (had_again d.event d.answer (All-head WasNotRefused d ds had)) (retold_begins d.event d.answer ds pending b)
     (subst (λ (i : Item). Does (at w pending) i p.0 p.1) (retold_item d.event d.answer) p.3))
-    (λ begin rest. whatever budget budgets (before ++ d ∷ []) ds r.0 w' p.0.pending end p.2 (runs_more (boot budget budgets) w r.0 before d run r.1) r.2 begin (All-tail HadMemoryAgain d ds had) rest)
+    (λ begin rest. whatever budget budgets (before ++ d ∷ []) ds r.0 w' p.0.pending end p.2 (runs_more (boot budget budgets) w r.0 before d run r.1) r.2 begin (All-tail WasNotRefused d ds had) rest)
   where
     by_found : Found budget budgets before w r.0 run (retold d.event d.answer) d.answer ds p.0 p.1
         → (Begin ds p.0.pending → Performs (at r.0 p.0.pending) (map trace_item ds) end p.2 → Repeats ds w' end.world p.2) → Repeats (d ∷ ds) w' end.world text
@@ -200,7 +208,7 @@ after_asks w pending (item.Apply event ∷ items) later end text p = after_asks 
 after_asks w pending (item.Settle ∷ items) later end text p = after_asks w pending items later end text p
 after_asks w pending (item.Show core ∷ items) later end text p = after_asks w pending items later end text p
 
-pub repeats : (budget : ℕ) (budgets : List ℕ) (items : List Item) (events : List Done) (w : World) (end : Simulation) (text : List ℕ) → Run budget budgets events w → BeginInOrder items events → All HadMemoryAgain events
+pub repeats : (budget : ℕ) (budgets : List ℕ) (items : List Item) (events : List Done) (w : World) (end : Simulation) (text : List ℕ) → Run budget budgets events w → BeginInOrder items events → All WasNotRefused events
     → PerformsTrace budget budgets items events end text → Repeats events w end.world text
 repeats budget budgets items events w end text r h had p =
     whatever budget budgets [] events (boot budget budgets) w (asked items) end text refl r (begin_asked items events h) had (after_asks (boot budget budgets) [] items (map trace_item events) end text p)

@@ -1,6 +1,6 @@
--- What is left to chance in a run whose events are given: whether a core has memory (Lamport 1978, "Time, clocks, and the ordering
--- of events in a distributed system", section "Ordering the events totally": each process runs the same state machine on the same
--- events in the same order).
+-- The one thing that the events of a run don't tell of their answers: whether a core had memory (Lamport 1978, "Time, clocks, and
+-- the ordering of events in a distributed system", section "Ordering the events totally": a state machine that does the same events
+-- in the same order does the same).
 use Rattle.std.specs.Prelude.{◌≡◌, Bool, true, false}
 use Rattle.monitor_messages.specs.declared.message.Vote.TheVariants as vote
 use Rattle.monitor_messages.specs.declared.message.Veto.TheVariants as veto
@@ -21,7 +21,10 @@ abbrev pub IsRefusedForMemory : Answer → Type 0
 IsRefusedForMemory (Decided (Refused core veto.NoMemory)) = Unit {0}
 IsRefusedForMemory answer = ⊥
 
--- the answer tells a want of memory that the event doesn't tell
+abbrev pub WasNotRefused : Done → Type 0
+WasNotRefused done = IsRefusedForMemory done.answer → ⊥
+
+-- the answer tells a want of memory, and the event doesn't
 abbrev pub WantsMemory : Event → Answer → Type 0
 WantsMemory (Start op) answer = IsRefusedForMemory answer
 WantsMemory (StartFor core) answer = IsRefusedForMemory answer

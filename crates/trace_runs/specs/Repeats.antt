@@ -31,11 +31,7 @@ pub record CanRepeat (budget : ℕ) (budgets : List ℕ) (items : List Item) (ev
   pub performs : PerformsTrace budget budgets items events end (flat_map done_line events)
   pub same_world : end.world ≡ w
 
--- no request is refused for want of memory (a vote for want of memory is told by the trace)
-abbrev pub HadMemoryAgain : Done → Type 0
-HadMemoryAgain done = WantsMemory (retold done.event done.answer) done.answer → ⊥
-
--- the lines of the events before one, and then a line that tells a want of memory in place of its answer
+-- the lines of the events before one, and then its line, but with an answer that tells a want of memory
 pub record DiffersByMemory (events : List Done) (text : List ℕ) : Type 0 where
   pub before : List Done
   pub done : Done
@@ -46,7 +42,7 @@ pub record DiffersByMemory (events : List Done) (text : List ℕ) : Type 0 where
   pub more : List ℕ
   pub printed : text ≡ flat_map done_line before ++ (event_line done.event (Ok answer) ++ more)
 
--- the text and the world at its end are those of these events, or the first line that isn't theirs tells a want of memory
+-- the text and the world at its end are those of these events, or the first line that differs tells a want of memory
 pub data Repeats (events : List Done) (w end : World) (text : List ℕ) : Type 0 where
   same : text ≡ flat_map done_line events → end ≡ w → Repeats events w end text
   short_of_memory : DiffersByMemory events text → Repeats events w end text

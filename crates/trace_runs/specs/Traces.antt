@@ -1,5 +1,5 @@
--- A run as a script: its events, one after the other, behind the requests that they begin.
-use Rattle.std.specs.Prelude.{◌==◌, ℕ, List, [], ◌∷◌, filter, if◌then◌else◌}
+-- A run as a script: the requests that it begins, and then its events, one after the other.
+use Rattle.std.specs.Prelude.{◌==◌, ◌++◌, map, ℕ, List, [], ◌∷◌, filter, if◌then◌else◌}
 use Rattle.std.specs.List.{flat_map}
 use Rattle.table_replica.specs.declared.Op.{Op}
 use Rattle.world_model.specs.declared.event.Event.{Event}
@@ -10,6 +10,7 @@ use Rattle.world_histories.specs.Merging.{core_of}
 use Rattle.core_loop.specs.Cores.{begins}
 use Rattle.mk_script.specs.declared.script.Item.{Item}
 use Rattle.mk_script.specs.declared.script.Item.TheVariants as item
+use Rattle.mk_script.specs.declared.script.Script.{Script}
 use Rattle.mk_script.specs.Meanings.{is_request}
 use Rattle.trace_runs.specs.Memory.{is_want}
 
@@ -35,11 +36,16 @@ trace_item d = item_of d.event d.answer
 abbrev pub asks_of : List Item → List Item
 asks_of items = filter is_request items
 
+-- the requests of a script, and then the events of a run
+abbrev pub traced : Script → List Done → Script
+traced script events = record { budgets = script.budgets; items = asks_of script.items ++ map trace_item events }
+
+-- a request with the core where it enters
 abbrev pub request_in : Item → List (ℕ × Op)
 request_in (item.Ask core op) = (core, op) ∷ []
 request_in item = []
 
--- the requests, each with the core where it enters
+-- those of a script, in order
 abbrev pub requests_of : List Item → List (ℕ × Op)
 requests_of items = flat_map request_in items
 

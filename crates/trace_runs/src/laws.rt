@@ -1,6 +1,6 @@
 //! Laws, each the contract of a function that does nothing.
 
-ghost use Rattle.std.specs.Prelude.{◌≡◌, ◌∷◌, ◌⊎◌, ℕ, All, List, map};
+ghost use Rattle.std.specs.Prelude.{◌≡◌, ◌∷◌, ◌⊎◌, ℕ, All, List, Ok, map};
 ghost use Rattle.std.specs.List.{flat_map};
 ghost use Rattle.world_model.specs.declared.event.Answer.{Answer};
 ghost use Rattle.world_model.specs.declared.event.Done.{Done};
@@ -11,12 +11,18 @@ ghost use Rattle.world_histories.specs.Histories.{Core0, Other};
 ghost use Rattle.world_histories.specs.Merging.{as_listed};
 ghost use Rattle.sim_lines.specs.Events.{done_line};
 ghost use Rattle.mk_script.specs.declared.script.Item.{Item};
+ghost use Rattle.mk_script.specs.declared.script.Script.{Script};
+ghost use Rattle.mk_script.specs.Scripts.{AreFiles, Stands};
+ghost use Rattle.script_input.specs.Inputs.{AllShort};
+ghost use Rattle.sim_engine.specs.Showing.{ShowsSim, for_sim};
 ghost use Rattle.sim_engine.specs.Simulations.{Simulation};
-ghost use Rattle.trace_runs.specs.Memory.{WantsMemory, HadMemory};
-ghost use Rattle.trace_runs.specs.Repeats.{BeginInOrder, PerformsTrace, CanRepeat, HadMemoryAgain, DiffersByMemory, Repeats, RanScript, CanRepeatMerged, ShowsTrace};
+ghost use Rattle.trace_runs.specs.Memory.{WantsMemory, HadMemory, WasNotRefused};
+ghost use Rattle.trace_runs.specs.Traces.{traced};
+ghost use Rattle.trace_runs.specs.Repeats.{BeginInOrder, PerformsTrace, CanRepeat, DiffersByMemory, Repeats, RanScript, CanRepeatMerged, ShowsTrace};
 
-/// A run's events alone tell their answers and the world at its end, but for want of memory: where two runs of the same events
-/// differ, in one of them core 0 refused a request for want of memory, or a core voted so that the event doesn't tell of.
+/// From one world the events of a run alone tell their answers and the world at its end, but for want of memory: two runs of the
+/// same events are the same where core 0 refused no request for want of memory in either, and each core that voted so was short of
+/// memory by its event.
 pub fn answers_follow_from_events()
     ensures event { (w w1 w2 : World) (event : Event) (a1 a2 : Answer) → Happens w event w1 a1 → Happens w event w2 a2 →
         (WantsMemory event a1 → ⊥) → (WantsMemory event a2 → ⊥) → (a1 ≡ a2) × (w1 ≡ w2) }
@@ -24,26 +30,41 @@ pub fn answers_follow_from_events()
         map (λ done. done.event) done1 ≡ map (λ done. done.event) done2 → All HadMemory done1 → All HadMemory done2 → (done1 ≡ done2) × (w1 ≡ w2) }
 {}
 
-/// Behind a script's requests `sim` can do the events of any run whose cores begin those requests in order, and prints the lines
-/// of the events with their answers. Where that run refused no request for want of memory, it is all that `sim` prints for them,
-/// unless memory is wanting: then the first other line tells so.
+/// After a script's requests `sim` can do the events of any run whose cores begin those requests in order, prints the lines of the
+/// events with their answers, and ends in the run's world. Where core 0 refused no request for want of memory in that run, `sim`
+/// does and prints nothing else for them, unless memory runs out: then the first line that differs says so.
 pub fn runs_are_done_again()
     ensures can { (budget : ℕ) (budgets : List ℕ) (items : List Item) (events : List Done) (w : World) →
         Run budget budgets events w → BeginInOrder items events → CanRepeat budget budgets items events w }
     ensures only { (budget : ℕ) (budgets : List ℕ) (items : List Item) (events : List Done) (w : World) (end : Simulation) (text : List ℕ) →
-        Run budget budgets events w → BeginInOrder items events → All HadMemoryAgain events → PerformsTrace budget budgets items events end text →
+        Run budget budgets events w → BeginInOrder items events → All WasNotRefused events → PerformsTrace budget budgets items events end text →
         Repeats events w end.world text }
 {}
 
-/// Of cores that ran beside each other on a script: behind the script's requests `sim` can do the one list of all their events,
-/// shows a line for each, and ends where the cores end. Where core 0 refused no request for want of memory, `sim` shows nothing
-/// else, unless memory is wanting: then the first other line tells so.
+/// Of cores that ran beside each other on a script: after the script's requests `sim` can do the one list of all their events, shows
+/// a line for each, and ends where the cores end. Where core 0 refused no request for want of memory, `sim` shows nothing else,
+/// unless memory runs out: then the first line that differs says so.
 pub fn merged_runs_are_done_again()
     ensures can { (budget : ℕ) (budgets : List ℕ) (items : List Item) (end : Core0) (ends : List Other) (merged : List Stamped) →
         RanScript budget budgets items end ends merged → CanRepeatMerged budget budgets items end ends merged }
     ensures shown { (budget : ℕ) (budgets : List ℕ) (items : List Item) (end : Core0) (ends : List Other) (merged : List Stamped) →
         RanScript budget budgets items end ends merged → ShowsTrace (budget ∷ budgets) items (as_listed merged) (flat_map done_line (as_listed merged)) }
     ensures only { (budget : ℕ) (budgets : List ℕ) (items : List Item) (end : Core0) (ends : List Other) (merged : List Stamped) (text : List ℕ) →
-        RanScript budget budgets items end ends merged → All HadMemoryAgain (as_listed merged) → ShowsTrace (budget ∷ budgets) items (as_listed merged) text →
+        RanScript budget budgets items end ends merged → All WasNotRefused (as_listed merged) → ShowsTrace (budget ∷ budgets) items (as_listed merged) text →
         (text ≡ flat_map done_line (as_listed merged)) ⊎ DiffersByMemory (as_listed merged) text }
+{}
+
+/// `sim` can show, of a text that stands for a script's requests and then the events of cores that ran on the script, a line for
+/// each event, with status 0. Where core 0 refused no request for want of memory, it shows nothing else, unless memory runs out:
+/// then the first line that differs says so.
+///
+/// The text and its files have to be within the limits of `sim`.
+pub fn sim_shows_the_trace()
+    ensures shown { (files : List (List ℕ)) (input : List ℕ) (script : Script) (budget : ℕ) (budgets : List ℕ) (end : Core0) (ends : List Other) (merged : List Stamped) →
+        AllShort input files → script.budgets ≡ budget ∷ budgets → RanScript budget budgets script.items end ends merged → Stands (for_sim files) input (Ok (traced script (as_listed merged))) →
+        ShowsSim files input 0 (flat_map done_line (as_listed merged)) }
+    ensures only { (files : List (List ℕ)) (input : List ℕ) (script : Script) (budget : ℕ) (budgets : List ℕ) (end : Core0) (ends : List Other) (merged : List Stamped) (status : ℕ) (text : List ℕ) →
+        AreFiles files → AllShort input files → script.budgets ≡ budget ∷ budgets → RanScript budget budgets script.items end ends merged → All WasNotRefused (as_listed merged) →
+        Stands (for_sim files) input (Ok (traced script (as_listed merged))) → ShowsSim files input status text →
+        (status ≡ 0) × ((text ≡ flat_map done_line (as_listed merged)) ⊎ DiffersByMemory (as_listed merged) text) }
 {}

@@ -1,8 +1,13 @@
-//! Laws of a run whose events are done again from their lines: with the same memory the answers are the same, and `sim` can do a
-//! merged run of cores behind the requests of its script, and shows it (Lamport, "Time, clocks, and the ordering of events in a
-//! distributed system", CACM 1978).
+//! A run's events, done again: the answers are the same but for want of memory, and `sim` does a merged run of cores again after
+//! the requests of its script, and shows the same lines (Lamport, "Time, clocks, and the ordering of events in a distributed
+//! system", CACM 1978).
+//!
+//! Here are laws alone, each the contract of a function that does nothing.
 #![tactic(auto)]
 
 mod laws;
 
-pub use laws::{answers_follow_from_events, merged_runs_are_done_again, runs_are_done_again};
+pub use laws::{
+    answers_follow_from_events, merged_runs_are_done_again, runs_are_done_again,
+    sim_shows_the_trace,
+};

@@ -1,0 +1,56 @@
+-- What `sim` shows of a text that stands for a trace.
+use Rattle.std.proofs.Common.{◌≡◌, ◌≤◌, ◌⊎◌, inl, inr, ℕ, zero, suc, Some, List, [], ◌∷◌, length, slice_get, refl, ap, sym, subst, arith}
+use Rattle.std.specs.Prelude.{Ok, Err}
+use Rattle.std.specs.List.{All, flat_map}
+use Rattle.world_histories.specs.declared.history.Stamped.{Stamped}
+use Rattle.world_histories.specs.Histories.{Core0, Other}
+use Rattle.world_histories.specs.Merging.{as_listed}
+use Rattle.sim_lines.specs.Events.{done_line}
+use Rattle.mk_script.specs.declared.script.Script.{Script}
+use Rattle.mk_script.specs.Scripts.{AreFiles, Stands}
+use Rattle.mk_script.proofs.LawLemmas.{one_outcome}
+use Rattle.script_input.specs.Inputs.{AllWithin, AllShort, SomeLong}
+use Rattle.sim_engine.specs.Showing.{ShowsItems, ShowsScript, ShowsSim, for_sim}
+use Rattle.trace_runs.specs.Traces.{traced}
+use Rattle.trace_runs.specs.Memory.{WasNotRefused}
+use Rattle.trace_runs.specs.Repeats.{DiffersByMemory, RanScript}
+use Rattle.trace_runs.proofs.Merged.{shown, only}
+
+none_longer : (files : List (List ℕ)) (k : ℕ) (file : List ℕ) → AllWithin files → slice_get files k ≡ Some file → length file ≤ 67108864
+none_longer [] k file all at = absurd cc
+none_longer (f ∷ files) zero file all at = let same : f ≡ file = cc in omega (arith, ap length same, all.0)
+none_longer (f ∷ files) (suc k) file all at = none_longer files k file all.1 at
+
+not_long : (input : List ℕ) (files : List (List ℕ)) → AllShort input files → SomeLong input files → ⊥
+not_long input files short (inl long) = omega (arith, short.0, long)
+not_long input files short (inr long) = omega (arith, none_longer files long.0 long.1 short.1 long.2, long.3)
+
+module _ (files : List (List ℕ)) (input : List ℕ) (script : Script) (budget : ℕ) (budgets : List ℕ) (end : Core0) (ends : List Other) (merged : List Stamped)
+    (short : AllShort input files) (are_budgets : script.budgets ≡ budget ∷ budgets) (ran : RanScript budget budgets script.items end ends merged)
+    (stands : Stands (for_sim files) input (Ok (traced script (as_listed merged)))) where
+  pub sim_shown : ShowsSim files input 0 (flat_map done_line (as_listed merged))
+  sim_shown = inl (
+    short,
+    inl (
+      traced script (as_listed merged),
+      stands,
+      refl,
+      subst (λ (bs : List ℕ). ShowsItems bs (traced script (as_listed merged)).items (flat_map done_line (as_listed merged))) (sym are_budgets) (shown budget budgets script.items end ends merged ran),
+    ),
+  )
+
+  abbrev pub IsOrDiffers : List ℕ → Type 0
+  IsOrDiffers text = (text ≡ flat_map done_line (as_listed merged)) ⊎ DiffersByMemory (as_listed merged) text
+
+  module _ (are_files : AreFiles files) (had : All WasNotRefused (as_listed merged)) (status : ℕ) (text : List ℕ) where
+    of_script : ShowsScript files input status text → (status ≡ 0) × IsOrDiffers text
+    of_script (inl s) =
+        let is : Ok (traced script (as_listed merged)) ≡ Ok s.0 = one_outcome (for_sim files) are_files input (Ok (traced script (as_listed merged))) (Ok s.0) stands s.1 in
+        let same : s.0 ≡ traced script (as_listed merged) = cc in
+        let items : ShowsItems script.budgets (traced script (as_listed merged)).items text = subst (λ (x : Script). ShowsItems x.budgets x.items text) same s.3 in
+        (s.2, only budget budgets script.items end ends merged text ran had (subst (λ (bs : List ℕ). ShowsItems bs (traced script (as_listed merged)).items text) are_budgets items))
+    of_script (inr f) = absurd (let is = one_outcome (for_sim files) are_files input (Ok (traced script (as_listed merged))) (Err f.0) stands f.1 in cc)
+
+    pub sim_only : ShowsSim files input status text → (status ≡ 0) × IsOrDiffers text
+    sim_only (inl s) = of_script s.1
+    sim_only (inr s) = absurd (not_long input files short s.0)
