@@ -22,6 +22,9 @@ use sim_engine::run_sim;
 use std::fs::File;
 use std::io::{self, IsTerminal};
 use std::process::ExitCode;
+use std::sync::Wait;
+use std::thread::Threads;
+use std::time::Clock;
 
 /// The exit status for a fault of the command line.
 const USAGE: u8 = 2;
@@ -30,11 +33,11 @@ const USAGE: u8 = 2;
 const FAILED: u8 = 3;
 
 fn main(rt: HostRuntime) -> ExitCode {
-    ExitCode::from(status(&rt))
+    ExitCode::from(status(&rt, &rt))
 }
 
 /// Does what the command line says, and answers the exit status.
-fn status(rt: &HostRuntime) -> u8 {
+fn status<T: Threads + Wait + Clock + Sync>(rt: &HostRuntime, threads: &T) -> u8 {
     let words = match words(rt) {
         Ok(words) => words,
         Err(error) if error.kind() == io::ErrorKind::InvalidData => return not_utf8(rt),
@@ -44,7 +47,7 @@ fn status(rt: &HostRuntime) -> u8 {
         return failed(rt, "out of memory");
     };
     match command.try_get_matches_from(words.as_slice()) {
-        Ok(matches) => dispatch(rt, &matches),
+        Ok(matches) => dispatch(rt, threads, &matches),
         Err(error) => not_a_command(rt, &error),
     }
 }
@@ -55,10 +58,14 @@ fn words(rt: &HostRuntime) -> io::Result<Vec<String>> {
 }
 
 /// Runs the command that was given.
-fn dispatch(rt: &HostRuntime, matches: &ArgMatches) -> u8 {
+fn dispatch<T: Threads + Wait + Clock + Sync>(
+    rt: &HostRuntime,
+    threads: &T,
+    matches: &ArgMatches,
+) -> u8 {
     match matches.subcommand() {
-        Some((name, found)) if takes_files(name) => perform_with_files(rt, name, found),
-        Some((name, found)) => perform(rt, name, found, Vec::new(rt.alloc())),
+        Some((name, found)) if takes_files(name) => perform_with_files(rt, threads, name, found),
+        Some((name, found)) => perform(rt, threads, name, found, Vec::new(rt.alloc())),
         None => USAGE,
     }
 }
@@ -69,27 +76,43 @@ fn takes_files(name: &str) -> bool {
 }
 
 /// Opens the files in order, then runs the engine of a command on the script on standard input with them.
-fn perform_with_files(rt: &HostRuntime, name: &str, found: &ArgMatches) -> u8 {
+fn perform_with_files<T: Threads + Wait + Clock + Sync>(
+    rt: &HostRuntime,
+    threads: &T,
+    name: &str,
+    found: &ArgMatches,
+) -> u8 {
     match open_files(rt, found.get_strs("files").unwrap_or(&[])) {
-        Ok(files) => perform(rt, name, found, files),
+        Ok(files) => perform(rt, threads, name, found, files),
         Err(fault) => not_opened(rt, fault),
     }
 }
 
 /// Runs the engine of a command on standard input and these files.
-fn perform(rt: &HostRuntime, name: &str, found: &ArgMatches, mut files: Vec<Named>) -> u8 {
+fn perform<T: Threads + Wait + Clock + Sync>(
+    rt: &HostRuntime,
+    threads: &T,
+    name: &str,
+    found: &ArgMatches,
+    mut files: Vec<Named>,
+) -> u8 {
     invite(rt, name, found);
     let mut source = Source::new(rt.stdin());
     let mut sink = Sink::new(rt.stdout());
     let answer = match name {
-        "run" => run_threads(rt, &mut files, &mut source, &mut sink),
-        _ => run_engine(rt, name, found, &mut files, &mut source, &mut sink).map_err(RunFailure::Engine),
+        "run" => run_threads(rt, threads, &mut files, &mut source, &mut sink),
+        _ => run_engine(rt, name, found, &mut files, &mut source, &mut sink).map_err(
+            RunFailure::Engine,
+        ),
     };
     match answer {
         Ok(status) => status,
         Err(RunFailure::Engine(EngineFault::ReadFailed)) => not_read(rt, &source, files.as_slice()),
         Err(RunFailure::Engine(EngineFault::WriteFailed)) if sink.is_closed() => FAILED,
-        Err(RunFailure::Engine(EngineFault::WriteFailed)) => failed(rt, "the output can't be written"),
+        Err(RunFailure::Engine(EngineFault::WriteFailed)) => failed(
+            rt,
+            "the output can't be written",
+        ),
         Err(RunFailure::Engine(EngineFault::NoMemory)) => failed(rt, "out of memory"),
         Err(RunFailure::Spawn) => failed(rt, "a thread can't be started"),
         Err(RunFailure::Halted(core, why)) => halted(rt, core, why),
@@ -145,18 +168,19 @@ fn run_script(
 
 /// Runs the script on standard input with these files, a thread for each of its cores. Says on standard error how far it is, where
 /// that is a terminal.
-fn run_threads(
+fn run_threads<T: Threads + Wait + Clock + Sync>(
     rt: &HostRuntime,
+    threads: &T,
     files: &mut Vec<Named>,
     source: &mut Source,
     sink: &mut Sink,
 ) -> Result<u8, RunFailure> {
     let lent = files.iter_mut().collect(rt.alloc())?;
     if !rt.stderr().is_terminal() {
-        return run_run(rt, rt.alloc(), &Free, lent, source, sink);
+        return run_run(threads, rt.alloc(), &Free, lent, source, sink);
     }
     let progress = Progress::new(rt);
-    let answer = run_run(rt, rt.alloc(), &progress, lent, source, sink);
+    let answer = run_run(threads, rt.alloc(), &progress, lent, source, sink);
     progress.end();
     answer
 }
