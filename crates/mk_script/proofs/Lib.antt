@@ -13,5 +13,6 @@ pub mod DecimalTotal
 pub mod TotalLemmas
 pub mod LimitLemmas
 pub mod ThreadLemmas
+pub mod SimulationLemmas
 pub mod EndLemmas
 pub mod OrderLemmas

@@ -1,6 +1,6 @@
 -- A script for cores that run by themselves: requests, each at the core where it enters, and packets, each at the core that
 -- receives it. It doesn't say in which order the cores do things.
-use Rattle.std.specs.Prelude.{◌≡◌, ◌<◌, ◌+◌, ℕ, List, [], ◌∷◌, Some, length, slice_get}
+use Rattle.std.specs.Prelude.{◌≡◌, ◌<◌, ◌+◌, ℕ, true, false, List, [], ◌∷◌, Some, length, slice_get}
 use Rattle.std.specs.List.{All, flat_map}
 use Rattle.pcap_reader.specs.declared.capture.Packet.{Packet}
 use Rattle.world_model.specs.declared.event.Event.{Event}
@@ -8,6 +8,7 @@ use Rattle.world_model.specs.declared.event.Event.TheVariants.{Rx}
 use Rattle.mk_script.specs.declared.script.Item.{Item}
 use Rattle.mk_script.specs.declared.script.Item.TheVariants.{Ask, Apply}
 use Rattle.mk_script.specs.declared.script.Script.{Script}
+use Rattle.mk_script.specs.Drafts.{Settings}
 
 -- a request that enters, or a packet that is received, at one of so many cores
 abbrev pub IsForThreads : ℕ → Item → Type 0
@@ -30,3 +31,10 @@ AreNumbered events = (k core number floor : ℕ) (packet : Packet) → slice_get
 pub record IsScriptForThreads (script : Script) : Type 0 where
   pub items : All (IsForThreads (length script.budgets)) script.items
   pub numbered : AreNumbered (received script.items)
+
+-- with these files a text is read for threads, or for a simulation
+abbrev pub for_threads : List (List ℕ) → Settings
+for_threads files = record { files = files; threads = true }
+
+abbrev pub for_simulation : List (List ℕ) → Settings
+for_simulation files = record { files = files; threads = false }

@@ -27,6 +27,6 @@ mod trace;
 mod words;
 
 pub use fault::{BodyFault, ScriptFault, ScriptFaultKind};
-pub use laws::faults_are_told_in_order;
+pub use laws::{faults_are_told_in_order, scripts_for_threads_are_scripts};
 pub use reader::read_script;
 pub use script::{BudgetList, Item, ItemList, Script};
