@@ -1,4 +1,4 @@
--- What a script for threads means, it means for a simulation, and behind its last line the text of a simulation may go on.
+-- What a script for threads means, it means for a simulation too, and more lines may follow it there.
 use Rattle.std.proofs.Common.{◌≡◌, ℕ, ◌+◌, ◌^◌, ◌≤◌, Bool, true, false, ◌||◌, ltb, List, [], ◌∷◌, ◌++◌, length, Option, Some, None, Result, Ok, Err, refl, sym, ap, ◌∙◌, subst, inl, inr, arith, append-nil}
 use Rattle.std.specs.Prelude.{◌⊎◌, codes, option_and_then}
 use Rattle.std.specs.Option.{ok_or}
@@ -147,7 +147,7 @@ module _ (files : List (List ℕ)) where
       inl (x.0, means_more given st x.0 read x.1, rest x.0 (statement_suited (for_threads files) given st x.0 refl read x.1) x.2)
   head_on given st sts others meanings outcome read (inr x) rest = let never = x.2 in absurd (cc)
 
-  -- behind the lines of a script for threads, what follows them means what it means behind its meanings
+  -- a script for threads and more lines mean, for a simulation, what these lines mean after what the script means
   pub reads_on : (given : List Meaning) (n : ℕ) (o : Option Opened) (lines : List (List ℕ)) (meanings : List Meaning) (more : List (List ℕ)) (outcome : Result (List Meaning) ScriptFault) → ReadForThreads given → IsAsm o
       → MeanBehind (for_threads files) given (statements_from n o lines) (Ok meanings)
       → ((k : ℕ) → k ≡ n + length lines → MeanBehind (for_simulation files) meanings (statements_from k None more) outcome) → MeanBehind (for_simulation files) given (statements_from n o (lines ++ more)) outcome

@@ -1,4 +1,4 @@
--- A text that stands for a script, read for threads, has requests at its cores, and packets at its cores, numbered in order.
+-- A script that was read for threads has requests and packets alone, each at one of its cores, and packets are numbered in order.
 use Rattle.std.proofs.Common.{◌≡◌, ℕ, zero, suc, ◌+◌, ◌^◌, ◌≤◌, ◌<◌, Bool, true, false, not, List, [], ◌∷◌, ◌++◌, length, drop, Option, Some, None, Result, Ok, Err, refl, sym, ap, ◌∙◌, subst, inl, inr, arith, length-append, length-drop, append-nil, add-zero, slice_get}
 use Rattle.std.specs.Prelude.{map, IfOk, option_and_then, unwrap_or, ◌||◌}
 use Rattle.std.specs.Option.{ok_or}
@@ -114,7 +114,7 @@ command_threaded (word ∷ words) c e = by_threaded words (find (λ r. bytes_eq 
 
 -- Meanings for threads
 
--- receptions at one of so many cores, which are numbered behind those before
+-- receptions at one of so many cores, numbered after so many others
 abbrev pub AreReceivedAt : ℕ → ℕ → List Event → Type 0
 AreReceivedAt cores before [] = Unit {0}
 AreReceivedAt cores before (Rx core number packet floor ∷ events) = (core < cores) × (number ≡ before + 1) × AreReceivedAt cores (before + 1) events
@@ -390,14 +390,14 @@ jobs_received_at cores before [] all = tt
 jobs_received_at cores before (Receives events ∷ given) all = received_append cores before events (flat_map jobs_in given) all.0 (jobs_received_at cores (before + length events) given all.1)
 jobs_received_at cores before (m ∷ given) all = rw add-zero at (jobs_received_at cores (before + 0) given all.1)
 
-numbered_behind : (cores before : ℕ) (events : List Event) (k core number floor : ℕ) (packet : Packet) → AreReceivedAt cores before events → slice_get events k ≡ Some (Rx core number packet floor) → number ≡ (before + k) + 1
-numbered_behind cores before [] k core number floor packet all e = absurd (cc)
-numbered_behind cores before (Rx c n p f ∷ events) zero core number floor packet all e = let same : n ≡ number = cc in omega (arith, same, all.1)
-numbered_behind cores before (Rx c n p f ∷ events) (suc k) core number floor packet all e = omega (arith, numbered_behind cores (before + 1) events k core number floor packet all.2 e)
-numbered_behind cores before (event ∷ events) k core number floor packet all e = absurd all
+numbered_after : (cores before : ℕ) (events : List Event) (k core number floor : ℕ) (packet : Packet) → AreReceivedAt cores before events → slice_get events k ≡ Some (Rx core number packet floor) → number ≡ (before + k) + 1
+numbered_after cores before [] k core number floor packet all e = absurd (cc)
+numbered_after cores before (Rx c n p f ∷ events) zero core number floor packet all e = let same : n ≡ number = cc in omega (arith, same, all.1)
+numbered_after cores before (Rx c n p f ∷ events) (suc k) core number floor packet all e = omega (arith, numbered_after cores (before + 1) events k core number floor packet all.2 e)
+numbered_after cores before (event ∷ events) k core number floor packet all e = absurd all
 
 numbered : (cores : ℕ) (events : List Event) → AreReceivedAt cores 0 events → AreNumbered events
-numbered cores events all k core number floor packet e = omega (arith, numbered_behind cores 0 events k core number floor packet all e)
+numbered cores events all k core number floor packet e = omega (arith, numbered_after cores 0 events k core number floor packet all e)
 
 script_threaded : (given : List Meaning) (script : Script) → ReadForThreads given → Kept given → Ok script ≡ script_of (Ok given) → IsScriptForThreads script
 script_threaded given script read kept e = elim (cases_Bool (has_cores (known given))) [
