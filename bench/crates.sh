@@ -20,3 +20,33 @@ build_library() {
         exit 1
     }
 }
+
+# build_program FOLDER NAME LINE CRATE..: proves and builds the program of NAME.rattle, with the proofs of NAME.proofs if it needs some, over
+# these crates; LINE is what crates.txt says of it.
+# Takes what the repository's own checks have kept of the crates. From nothing, their proofs take half an hour to an hour.
+build_program() {
+    work=$1
+    program=$2
+    line=$3
+    shift 3
+    take_crates "$work" "$@"
+    for name in "$@"; do
+        kept=$here/../crates/$name/out
+        [ -d "$work/crates/$name/out" ] || [ ! -d "$kept" ] || cp -a "$kept" "$work/crates/$name/out"
+    done
+    mkdir -p "$work/crates/${program}_bench/src"
+    cp "$here/../HANDLES" "$work/HANDLES"
+    cp "$here/$program.rattle" "$work/crates/${program}_bench/src/main.rt"
+    rm -rf "$work/crates/${program}_bench/proofs"
+    [ ! -d "$here/$program.proofs" ] || cp -R "$here/$program.proofs" "$work/crates/${program}_bench/proofs"
+    {
+        for name in "$@"; do
+            grep "^$name[ :]" "$here/../crates.txt"
+        done
+        echo "${program}_bench$line"
+    } > "$work/crates.txt"
+    (cd "$work/crates/${program}_bench" && rt run > "$work/$program.log" 2>&1) || {
+        tail -20 "$work/$program.log"
+        exit 1
+    }
+}

@@ -6,23 +6,9 @@ set -e
 here=$(cd "$(dirname "$0")" && pwd)
 work=${1:-$(mktemp -d)}
 . "$here/crates.sh"
-crates='bpf_insn filter_verify filter_vm pcap_reader endpoint_caps table_replica ump_ring
-    monitor_messages monitor_2pc world_model core_steps ghost_log world_channels world_core'
-take_crates "$work" $crates
-for name in $crates; do
-    kept=$here/../crates/$name/out
-    [ -d "$work/crates/$name/out" ] || [ ! -d "$kept" ] || cp -a "$kept" "$work/crates/$name/out"
-done
-mkdir -p "$work/crates/world_bench/src"
-echo 'Handles allowed: none.' > "$work/HANDLES"
-cp "$here/world.rattle" "$work/crates/world_bench/src/main.rt"
-{
-    for name in $crates; do
-        grep "^$name[ :]" "$here/../crates.txt"
-    done
-    echo 'world_bench: bpf_insn table_replica world_channels world_core'
-} > "$work/crates.txt"
-(cd "$work/crates/world_bench" && rt run > "$work/build.log" 2>&1) || { tail -20 "$work/build.log"; exit 1; }
+build_program "$work" world ': bpf_insn table_replica world_channels world_core' \
+    bpf_insn filter_verify filter_vm pcap_reader endpoint_caps table_replica ump_ring monitor_messages monitor_2pc world_model core_steps \
+    ghost_log world_channels world_core
 for round in 1 2 3 4 5 6 7 8 9; do
     "$work/crates/world_bench/out/world_bench"
 done | sort -t: -k1,1 -s | awk -F': ' '
