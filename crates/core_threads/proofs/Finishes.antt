@@ -1,5 +1,5 @@
 -- What the joined threads come to.
-use Rattle.std.proofs.Common.{All, ◌≡◌, ◌<◌, ℕ, List, inl, inr, Option, Some, None, slice_get, map, sym, ap, ◌∙◌, subst, arith, IfSome, MatchOption}
+use Rattle.std.proofs.Common.{All, ◌≡◌, ◌<◌, ℕ, suc, length, List, inl, inr, Option, Some, None, slice_get, map, sym, ap, ◌∙◌, subst, arith, MatchOption}
 use Rattle.std.proofs.lemmas.List.{length-map}
 use Rattle.world_model.proofs.Lists.{get_map, get_at, get_within, map_get}
 use Rattle.rx_queue.specs.declared.job.Job.{Job}
@@ -8,12 +8,13 @@ use Rattle.core_threads.specs.declared.feeding.Outlet.{Outlet}
 use Rattle.core_threads.specs.declared.halt.Halt.{Halt}
 use Rattle.core_threads.specs.declared.halt.Halt.TheVariants as halt
 use Rattle.core_threads.specs.declared.threads.Ran.{Ran}
-use Rattle.core_threads.specs.Ending.{IsAtEnd, HaltsFor, HaltsRightly}
+use Rattle.core_threads.specs.Ending.{IsAtEnd, HaltsFor, HaltsRightly, AreUnstopped, unstopped, IsLeast}
 use Rattle.core_threads.specs.Lanes.{items_for}
 use Rattle.core_threads.specs.Leaving.{SameRan, SameButTaken, AreSameRan, AllLeft}
-use Rattle.core_threads.specs.Searching.{AreInPlace, HaltedAt, AreAtEnd, UnfinishedAt, IsHalt}
+use Rattle.core_threads.specs.Searching.{AreInPlace, HaltedAt, NoneHalted, AreAtEnd, UnfinishedAt, IsHalt, IsWhole}
 use Rattle.core_threads.specs.Finishing.{CanFinish, Finishes}
-use Rattle.core_threads.specs.Runs.{StandsFor}
+use Rattle.core_threads.proofs.Emptying.{below_or}
+use Rattle.core_threads.specs.Runs.{StandsFor, StandsSo}
 
 abbrev cores_of : List Ran → List RingCore
 cores_of ran = map (λ r. r.core) ran
@@ -32,17 +33,53 @@ module _ (old new : List Ran) (outlets : List Outlet) (can : CanFinish old outle
 
   stands_still : (why : Halt) (c d : RingCore) → SameButTaken c d → StandsFor why c → StandsFor why d
   stands_still (halt.Cause cause) c d e stands = ap (λ (c : RingCore). c.stopped) e.core ∙ stands
-  stands_still halt.Spent c d e stands = tt
-  stands_still halt.NoMemory c d e stands = tt
-  stands_still halt.Limit c d e stands = tt
+  stands_still halt.Spent c d e stands = ap (λ (c : RingCore). c.stopped) e.core ∙ stands
+  stands_still halt.NoMemory c d e stands = ap (λ (c : RingCore). c.stopped) e.core ∙ stands
+  stands_still halt.Limit c d e stands = ap (λ (c : RingCore). c.stopped) e.core ∙ stands
   stands_still halt.Early c d e stands = stands
 
   stands_at : (place : ℕ) (why : Halt) (h : HaltedAt new place why) → StandsFor why h.its.core
   stands_at place why h =
       let r = before place h.its h.there in
-      let P : Option Halt → Type 0 = λ o. IfSome o (λ w. StandsFor w r.0.core) in
-      let stands : StandsFor why r.0.core = subst P (sym r.2.halted ∙ h.halted) (can.halts place r.0 r.1) in
+      let P : Option Halt → Type 0 = λ o. StandsSo o r.0.core in
+      let stands : StandsFor why r.0.core = subst P (sym r.2.halted ∙ h.halted) (can.stands place r.0 r.1) in
       stands_still why r.0.core h.its.core r.2.core stands
+
+  unstopped_at : (i : ℕ) (s : Ran) → slice_get new i ≡ Some s → s.halted ≡ None → s.core.stopped ≡ None
+  unstopped_at i s at none =
+      let r = before i s at in
+      let P : Option Halt → Type 0 = λ o. StandsSo o r.0.core in
+      let stands : r.0.core.stopped ≡ None = subst P (sym r.2.halted ∙ none) (can.stands i r.0 r.1) in
+      ap (λ (c : RingCore). c.stopped) r.2.core.core ∙ stands
+
+  unstopped_so : (count : ℕ) → ((i : ℕ) (s : Ran) → i < count → slice_get new i ≡ Some s → s.core.stopped ≡ None) → AreUnstopped (cores_of new) count
+  unstopped_so count running i c below at =
+      let s = get_map (λ (s : Ran). s.core) new i c at in
+      ap (λ (d : RingCore). d.stopped) s.2 ∙ running i s.0 below s.1
+
+  unstopped_all : NoneHalted new → AreUnstopped (cores_of new) (length (cores_of new))
+  unstopped_all none = unstopped_so (length (cores_of new)) (λ i s below at. unstopped_at i s at (none i s at))
+
+  unstopped_upto : (place : ℕ) (why : Halt) (h : HaltedAt new place why) → h.its.core.stopped ≡ None → AreUnstopped (cores_of new) (suc place)
+  unstopped_upto place why h running = unstopped_so (suc place) (λ i s below at. elim (below_or i place (omega (arith, below))) [
+    | inl less ↦ unstopped_at i s at (h.lesser i s less at)
+    | inr is ↦ (let f : slice_get new place ≡ Some s = subst (λ (n : ℕ). slice_get new n ≡ Some s) is at in
+        let g : slice_get new place ≡ Some h.its = h.there in
+        let e : h.its ≡ s = cc in
+        subst (λ (x : Ran). x.core.stopped ≡ None) e running)
+  ])
+
+  least_so : (place : ℕ) (why : Halt) (h : HaltedAt new place why) → StandsFor why h.its.core → AreUnstopped (cores_of new) (unstopped (cores_of new) place why)
+  least_so place (halt.Cause cause) h stands = unstopped_so place (λ i s below at. unstopped_at i s at (h.lesser i s below at))
+  least_so place halt.Spent h stands = unstopped_upto place halt.Spent h stands
+  least_so place halt.NoMemory h stands = unstopped_upto place halt.NoMemory h stands
+  least_so place halt.Limit h stands = unstopped_upto place halt.Limit h stands
+  least_so place halt.Early h stands = absurd stands
+
+  pub least : (left : List (ℕ × Job)) (halted : Option (ℕ × Halt)) → MatchOption halted (IsWhole new left) (λ h. IsHalt new left h.0 h.1) → IsLeast (cores_of new) halted
+  least left None ends = unstopped_all ends.0
+  least left (Some h) (inl its) = least_so h.0 h.1 its (stands_at h.0 h.1 its)
+  least left (Some h) (inr early) = subst (λ (w : Halt). AreUnstopped (cores_of new) (unstopped (cores_of new) h.0 w)) (sym early.0) (unstopped_all early.1.0)
 
   halts_so : (left : List (ℕ × Job)) (place : ℕ) (why : Halt) (h : HaltedAt new place why) → StandsFor why h.its.core → HaltsFor (cores_of new) left place why
   halts_so left place (halt.Cause cause) h stands = record { core = h.its.core; there = map_get (λ r. r.core) new place h.its h.there; stopped = stands }
@@ -64,12 +101,12 @@ module _ (old new : List Ran) (outlets : List Outlet) (can : CanFinish old outle
     lesser = λ i c less at. at_end left i c (λ r at_r. u.lesser i r less at_r) at;
   })
 
-  pub rightly : (left : List (ℕ × Job)) (halted : Option (ℕ × Halt)) → MatchOption halted (AreAtEnd new left) (λ h. IsHalt new left h.0 h.1) → HaltsRightly (cores_of new) left halted
-  rightly left None ends = λ i c at. at_end left i c (λ r at_r. ends i r at_r) at
+  pub rightly : (left : List (ℕ × Job)) (halted : Option (ℕ × Halt)) → MatchOption halted (IsWhole new left) (λ h. IsHalt new left h.0 h.1) → HaltsRightly (cores_of new) left halted
+  rightly left None ends = λ i c at. at_end left i c (λ r at_r. ends.1 i r at_r) at
   rightly left (Some h) (inl its) = halts_so left h.0 h.1 its (stands_at h.0 h.1 its)
-  rightly left (Some h) (inr early) = early_so left h.0 h.1 early.0 early.1
+  rightly left (Some h) (inr early) = early_so left h.0 h.1 early.0 early.1.1
 
-  pub finishes : (cores : List RingCore) (left : List (ℕ × Job)) (halted : Option (ℕ × Halt)) → AllLeft old new outlets left → MatchOption halted (AreAtEnd new left) (λ h. IsHalt new left h.0 h.1) → cores ≡ cores_of new
+  pub finishes : (cores : List RingCore) (left : List (ℕ × Job)) (halted : Option (ℕ × Halt)) → AllLeft old new outlets left → MatchOption halted (IsWhole new left) (λ h. IsHalt new left h.0 h.1) → cores ≡ cores_of new
       → Finishes old outlets cores left halted
   finishes cores left halted rest why is = subst (λ (l : List RingCore). Finishes old outlets l left halted) (sym is) (record {
     all = length-map new (λ r. r.core) ∙ same.all;
@@ -77,4 +114,5 @@ module _ (old new : List Ran) (outlets : List Outlet) (can : CanFinish old outle
     each = rest.each;
     inside = subst (λ (n : ℕ). All (λ j. j.0 < n) left) (sym (length-map new (λ r. r.core) ∙ same.all)) rest.inside;
     why = rightly left halted why;
+    least = least left halted why;
   })

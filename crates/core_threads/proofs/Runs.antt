@@ -1,5 +1,5 @@
 -- A run of a machine, from its boot to its end.
-use Rattle.std.proofs.Common.{◌≡◌, ◌++◌, ℕ, zero, suc, List, [], ◌∷◌, Option, Some, slice_get, length, refl, sym, ap, ◌∙◌, subst, arith, rules}
+use Rattle.std.proofs.Common.{◌≡◌, ◌++◌, ℕ, zero, suc, List, [], ◌∷◌, Option, Some, None, slice_get, length, refl, sym, ap, ◌∙◌, subst, arith, rules}
 use Rattle.std.specs.List.{AllZip}
 use Rattle.world_model.proofs.Lists.{get_at, get_within}
 use Rattle.rx_queue.specs.declared.job.Job.{Job}
@@ -89,10 +89,15 @@ module _ (machine : List RingCore) (ports : List Port) (jobs : List (ℕ × Job)
             (subst (λ (p : Port). AreEnds p a.core.intake) (sym a.is_loaded.same_port) a.is_booted.queue);
       }
 
+  is_running : (i : ℕ) (c : RingCore) → slice_get machine i ≡ Some c → c.stopped ≡ None
+  is_running i c at_c =
+      let p = get_at ports i (omega (arith, get_within machine i c at_c, booted.all)) in
+      (booted.each i c p.0 at_c p.1).running
+
   pub can_finish : CanFinish ran outlets
   can_finish = record {
     fed = record { all = long_outlets; each = is_fed };
-    halts = λ i r at_r. (pair_at (λ c r. ThreadRan c r.core r.halted) machine ran i r have_ran at_r).2.halts;
+    stands = λ i r at_r. (let a = pair_at (λ c r. ThreadRan c r.core r.halted) machine ran i r have_ran at_r in a.2.stands (is_running i a.0 a.1));
   }
 
   -- the jobs of the outlet are those that were given
@@ -131,6 +136,7 @@ module _ (machine : List RingCore) (ports : List Port) (jobs : List (ℕ × Job)
       each = core_ends;
       inside = finishes.inside;
       why = finishes.why;
+      least = finishes.least;
     }
 
 -- the cores of a machine that ended are its cores still

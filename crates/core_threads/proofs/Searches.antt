@@ -1,5 +1,5 @@
 -- The first core that halted, and the first that has something to do.
-use Rattle.std.proofs.Common.{◌≡◌, ◌<◌, ◌≤◌, ◌+◌, ◌∷◌, [], ◌++◌, ◌==◌, inl, inr, ℕ, suc, List, Some, slice_get, get_or, drop, length, sym, ap, ◌∙◌, subst, arith, add-one, drop-cons, if◌then◌else◌}
+use Rattle.std.proofs.Common.{◌≡◌, ◌<◌, ◌≤◌, ◌+◌, ◌∷◌, [], ◌++◌, ◌==◌, inl, inr, ℕ, suc, List, Some, None, slice_get, get_or, drop, length, sym, ap, ◌∙◌, subst, arith, add-one, drop-cons, if◌then◌else◌}
 use Rattle.std.proofs.lemmas.Grind.{common_steps}
 use Rattle.std.proofs.lemmas.Option.{slice_get_within}
 use Rattle.rx_queue.specs.declared.job.Job.{Job}
@@ -7,13 +7,30 @@ use Rattle.core_threads.specs.declared.halt.Halt.{Halt}
 use Rattle.core_threads.specs.declared.threads.Ran.{Ran}
 use Rattle.core_threads.specs.Ending.{IsAtEnd}
 use Rattle.core_threads.specs.Lanes.{items_for}
-use Rattle.core_threads.specs.Searching.{AreInPlace, HaltedAt, AreAtEndBelow, AreAtEnd, UnfinishedAt}
+use Rattle.core_threads.specs.Searching.{AreInPlace, HaltedAt, NoneHaltedBelow, NoneHalted, AreAtEndBelow, AreAtEnd, UnfinishedAt}
 use Rattle.core_threads.proofs.Emptying.{below_or}
 
-pub halted_at : (ran : List Ran) (place number : ℕ) (r : Ran) (why : Halt) → AreInPlace ran → slice_get ran place ≡ Some r → number ≡ r.core.number → r.halted ≡ Some why → HaltedAt ran number why
-halted_at ran place number r why placed at is halted =
+pub halted_at : (ran : List Ran) (place number : ℕ) (r : Ran) (why : Halt) → AreInPlace ran → slice_get ran place ≡ Some r → number ≡ r.core.number → r.halted ≡ Some why → NoneHaltedBelow ran place
+    → HaltedAt ran number why
+halted_at ran place number r why placed at is halted lesser =
     let e : place ≡ number = sym (is ∙ placed place r at) in
-    record { its = r; there = subst (λ (n : ℕ). slice_get ran n ≡ Some r) e at; halted = halted }
+    record {
+      its = r;
+      there = subst (λ (n : ℕ). slice_get ran n ≡ Some r) e at;
+      halted = halted;
+      lesser = subst (λ (n : ℕ). NoneHaltedBelow ran n) e lesser;
+    }
+
+pub none_halted_more : (ran : List Ran) (place : ℕ) (r : Ran) → slice_get ran place ≡ Some r → r.halted ≡ None → NoneHaltedBelow ran place → NoneHaltedBelow ran (place + 1)
+none_halted_more ran place r at halted lesser i s below at_s = elim (below_or i place below) [
+  | inl less ↦ lesser i s less at_s
+  | inr is ↦ (let f : slice_get ran place ≡ Some s = subst (λ (n : ℕ). slice_get ran n ≡ Some s) is at_s in
+      let e : r ≡ s = cc in
+      subst (λ (x : Ran). x.halted ≡ None) e halted)
+]
+
+pub none_halted_all : (ran : List Ran) (place : ℕ) → length ran ≤ place → NoneHaltedBelow ran place → NoneHalted ran
+none_halted_all ran place all lesser i r at = lesser i r (let below = slice_get_within ran i r at in omega arith) at
 
 pub unfinished_at : (ran : List Ran) (left : List (ℕ × Job)) (place number : ℕ) (r : Ran) → AreInPlace ran → slice_get ran place ≡ Some r → number ≡ r.core.number
     → (IsAtEnd (items_for r.core.number left) r.core → ⊥) → AreAtEndBelow ran left place → UnfinishedAt ran left number

@@ -1,5 +1,5 @@
 -- A machine that was booted and has not run.
-use Rattle.std.specs.Prelude.{◌≡◌, ℕ, List, [], length, Some, slice_get}
+use Rattle.std.specs.Prelude.{◌≡◌, ℕ, List, [], length, Some, None, slice_get}
 use Rattle.rx_queue.specs.declared.port.Port.{Port}
 use Rattle.rx_queue.specs.Queue.{jobs_put, jobs_taken, AreEnds}
 use Rattle.core_join.specs.Machines.{RingCore}
@@ -13,6 +13,7 @@ pub record MachineState : Type 0 where
 pub record IsBooted (place : ℕ) (core : RingCore) (port : Port) : Type 0 where
   pub number : core.number ≡ place
   pub history : core.history ≡ []
+  pub running : core.stopped ≡ None
   pub taken : jobs_taken core.intake ≡ []
   pub put : jobs_put port ≡ []
   pub queue : AreEnds port core.intake

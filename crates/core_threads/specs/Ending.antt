@@ -1,5 +1,5 @@
 -- How a run ended.
-use Rattle.std.specs.Prelude.{◌≡◌, ◌<◌, ◌++◌, ℕ, All, List, [], ◌∷◌, length, Option, Some, None, slice_get}
+use Rattle.std.specs.Prelude.{◌≡◌, ◌<◌, ◌++◌, ℕ, suc, All, List, [], ◌∷◌, length, Option, Some, None, slice_get}
 use Rattle.rx_queue.specs.declared.job.Job.{Job}
 use Rattle.core_links.specs.RingSlots.{SameLinks, ring_view}
 use Rattle.core_loop.specs.declared.cause.Cause.{Cause}
@@ -42,6 +42,22 @@ abbrev pub HaltsRightly : List RingCore → List (ℕ × Job) → Option (ℕ ×
 HaltsRightly cores left None = (i : ℕ) (c : RingCore) → slice_get cores i ≡ Some c → IsAtEnd (items_for i left) c
 HaltsRightly cores left (Some why) = HaltsFor cores left why.0 why.1
 
+-- so many cores, from core 0 on, are surely not stopped where the core in this place halted for this: those below a core that is stopped, that
+-- core and those below it where it halted for something else, and all where none halted
+abbrev pub unstopped : List RingCore → ℕ → Halt → ℕ
+unstopped cores place (halt.Cause cause) = place
+unstopped cores place halt.Early = length cores
+unstopped cores place why = suc place
+
+-- none of so many cores is stopped
+abbrev pub AreUnstopped : List RingCore → ℕ → Type 0
+AreUnstopped cores count = (i : ℕ) (c : RingCore) → i < count → slice_get cores i ≡ Some c → c.stopped ≡ None
+
+-- no lesser core is stopped than the one that halted; where none halted, none is stopped
+abbrev pub IsLeast : List RingCore → Option (ℕ × Halt) → Type 0
+IsLeast cores None = AreUnstopped cores (length cores)
+IsLeast cores (Some halted) = AreUnstopped cores (unstopped cores halted.0 halted.1)
+
 -- a core after the run, of whose jobs these are left: it is on its rings and its queue, the requests given to it are those begun and then
 -- those pending, and the jobs given for it are those received and then those left
 pub record CoreEnds (jobs left : List Job) (old new : RingCore) : Type 0 where
@@ -49,9 +65,11 @@ pub record CoreEnds (jobs left : List Job) (old new : RingCore) : Type 0 where
   pub requests : begun new.history ++ new.pending ≡ old.pending
   pub received : receipts new.history ++ left ≡ jobs
 
--- the run of these cores with these jobs ended so: each core once, in order, each job received or left once, and why it halted is right
+-- the run of these cores with these jobs ended so: each core once, in order, each job received or left once, why it halted is right, and no
+-- lesser core is stopped
 pub record EndsRightly (machine : List RingCore) (jobs : List (ℕ × Job)) (cores : List RingCore) (left : List (ℕ × Job)) (halted : Option (ℕ × Halt)) : Type 0 where
   pub all : length cores ≡ length machine
   pub each : (i : ℕ) (old new : RingCore) → slice_get machine i ≡ Some old → slice_get cores i ≡ Some new → CoreEnds (items_for i jobs) (items_for i left) old new
   pub inside : All (λ j. j.0 < length cores) left
   pub why : HaltsRightly cores left halted
+  pub least : IsLeast cores halted

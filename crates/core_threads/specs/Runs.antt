@@ -1,7 +1,9 @@
 -- What a core's thread leaves.
-use Rattle.std.specs.Prelude.{◌≡◌, ◌++◌, Option, Some, IfSome}
+use Rattle.std.specs.Prelude.{◌≡◌, ◌++◌, Option, Some, None}
 use Rattle.rx_queue.specs.Queue.{jobs_taken}
 use Rattle.core_links.specs.RingSlots.{SameLinks}
+use Rattle.core_loop.specs.declared.cause.Turn.{Turn}
+use Rattle.core_loop.specs.declared.cause.Turn.TheVariants.{Stopped}
 use Rattle.core_loop.specs.Cores.{CoreState, SameCore, begun, receipts}
 use Rattle.core_join.specs.Machines.{RingCore}
 use Rattle.core_threads.specs.declared.halt.Halt.{Halt}
@@ -19,13 +21,24 @@ pub record CoreRan {L : Type 0} (same : L → L → Type 0) (old new : CoreState
   -- each job that was taken meanwhile was received
   pub received : HasReceived old → HasReceived new
 
--- why a core halted stands: a cause is the one that it is stopped with. That work is left, no core says of itself
+-- after a turn that answers this, the core is stopped with the cause that it gives, and else not stopped
+abbrev pub AfterTurn : {L : Type 0} → Turn → CoreState L → Type 0
+AfterTurn (Stopped cause) c = c.stopped ≡ Some cause
+AfterTurn turn c = c.stopped ≡ None
+
+-- why a core halted stands: a cause is the one that it is stopped with, and for all else it is not stopped. That work is left, no core says of
+-- itself
 abbrev pub StandsFor : {L : Type 0} → Halt → CoreState L → Type 0
 StandsFor (halt.Cause cause) c = c.stopped ≡ Some cause
 StandsFor halt.Early c = ⊥
-StandsFor why c = Unit {0}
+StandsFor why c = c.stopped ≡ None
+
+-- the core stands so where its thread ends, which halted for this, if it halted
+abbrev pub StandsSo : {L : Type 0} → Option Halt → CoreState L → Type 0
+StandsSo None c = c.stopped ≡ None
+StandsSo (Some why) c = StandsFor why c
 
 -- the core ran in a thread of its own, and halted for this, if it halted
 pub record ThreadRan (old new : RingCore) (halted : Option Halt) : Type 0 where
   pub ran : CoreRan SameLinks old new
-  pub halts : IfSome halted (λ why. StandsFor why new)
+  pub stands : old.stopped ≡ None → StandsSo halted new

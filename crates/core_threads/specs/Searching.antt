@@ -1,5 +1,5 @@
 -- Which core halted, and which has something to do.
-use Rattle.std.specs.Prelude.{◌≡◌, ◌⊎◌, ◌<◌, ℕ, List, ◌∷◌, Some, slice_get}
+use Rattle.std.specs.Prelude.{◌≡◌, ◌⊎◌, ◌<◌, ℕ, List, ◌∷◌, Some, None, slice_get}
 use Rattle.rx_queue.specs.declared.job.Job.{Job}
 use Rattle.core_threads.specs.declared.halt.Halt.{Halt}
 use Rattle.core_threads.specs.declared.halt.Halt.TheVariants as halt
@@ -11,11 +11,19 @@ use Rattle.core_threads.specs.Lanes.{items_for}
 abbrev pub AreInPlace : List Ran → Type 0
 AreInPlace ran = (i : ℕ) (r : Ran) → slice_get ran i ≡ Some r → r.core.number ≡ i
 
--- the core in this place halted for this
+-- no core below this place halted
+abbrev pub NoneHaltedBelow : List Ran → ℕ → Type 0
+NoneHaltedBelow ran place = (i : ℕ) (r : Ran) → i < place → slice_get ran i ≡ Some r → r.halted ≡ None
+
+abbrev pub NoneHalted : List Ran → Type 0
+NoneHalted ran = (i : ℕ) (r : Ran) → slice_get ran i ≡ Some r → r.halted ≡ None
+
+-- the core in this place is the first that halted, for this
 pub record HaltedAt (ran : List Ran) (place : ℕ) (why : Halt) : Type 0 where
   pub its : Ran
   pub there : slice_get ran place ≡ Some its
   pub halted : its.halted ≡ Some why
+  pub lesser : NoneHaltedBelow ran place
 
 -- the first of the jobs has this floor
 pub record IsFirstFloor (jobs : List Job) (floor : ℕ) : Type 0 where
@@ -38,6 +46,10 @@ pub record UnfinishedAt (ran : List Ran) (left : List (ℕ × Job)) (place : ℕ
   pub unfinished : IsAtEnd (items_for place left) its.core → ⊥
   pub lesser : AreAtEndBelow ran left place
 
--- a core's thread says so, or there is something to do
+-- a core's thread says so, or none halted and there is something to do
 abbrev pub IsHalt : List Ran → List (ℕ × Job) → ℕ → Halt → Type 0
-IsHalt ran left place why = HaltedAt ran place why ⊎ ((why ≡ halt.Early) × UnfinishedAt ran left place)
+IsHalt ran left place why = HaltedAt ran place why ⊎ ((why ≡ halt.Early) × (NoneHalted ran × UnfinishedAt ran left place))
+
+-- no core halted, and each has nothing to do
+abbrev pub IsWhole : List Ran → List (ℕ × Job) → Type 0
+IsWhole ran left = NoneHalted ran × AreAtEnd ran left

@@ -1,9 +1,9 @@
 //! Why a run ended.
 
-ghost use Rattle.std.specs.Prelude.{◌≡◌, ◌↔◌, [], map, IsTrue, IfOk, IfSome, MatchOption};
+ghost use Rattle.std.specs.Prelude.{◌≡◌, ◌↔◌, [], map, IsTrue, IfOk, MatchOption};
 ghost use Rattle.core_threads.specs.Ending.{IsAtEnd};
 ghost use Rattle.core_threads.specs.Lanes.{items_for};
-ghost use Rattle.core_threads.specs.Searching.{AreInPlace, HaltedAt, IsFirstFloor, AreAtEnd, UnfinishedAt, IsHalt};
+ghost use Rattle.core_threads.specs.Searching.{AreInPlace, HaltedAt, NoneHalted, IsFirstFloor, AreAtEnd, UnfinishedAt, IsHalt, IsWhole};
 
 use crate::halt::Halt;
 use crate::threads::Ran;
@@ -14,11 +14,12 @@ use std::alloc::{AllocError, Global};
 // The least core that halted, and why.
 fn first_halt(ran: &[Ran]) -> Option<(u16, Halt)>
     requires { AreInPlace ran.now }
-    ensures { IfSome result (λ halted. HaltedAt ran.now halted.0 halted.1) }
+    ensures { MatchOption result (NoneHalted ran.now) (λ halted. HaltedAt ran.now halted.0 halted.1) }
 {
     for ran in ran {
-        if let Some(why) = ran.halted {
-            return Some((ran.core.number(), why));
+        match ran.halted {
+            Some(why) => return Some((ran.core.number(), why)),
+            None => {}
         }
     }
     None
@@ -66,7 +67,7 @@ fn first_unfinished(ran: &[Ran], left: &[(u16, Job)]) -> Option<u16>
 /// work left.
 pub(crate) fn why_halted(ran: &[Ran], left: &[(u16, Job)]) -> Option<(u16, Halt)>
     requires { AreInPlace ran.now }
-    ensures { MatchOption result (AreAtEnd ran.now left.now) (λ halted. IsHalt ran.now left.now halted.0 halted.1) }
+    ensures { MatchOption result (IsWhole ran.now left.now) (λ halted. IsHalt ran.now left.now halted.0 halted.1) }
 {
     if let Some(halted) = first_halt(ran) {
         return Some(halted);

@@ -48,7 +48,8 @@ pub struct Ended {
     pub cores: Vec<Core<RingLinks>>,
     /// The jobs that were not received, each with the number of its core, and each core's in order.
     pub left: Vec<(u16, Job)>,
-    /// The least core that halted, and why.
+    /// The least core that halted, and why. No lesser core is stopped; nor is this one, but for a `Halt::Cause`. Where no core halted, and where
+    /// this is `Halt::Early`, none is stopped.
     pub halted: Option<(u16, Halt)>,
 }
 

@@ -1,9 +1,7 @@
 //! The turns of one core in its thread.
 
-ghost use Rattle.std.specs.Prelude.{◌≡◌, Some, IfSome};
-ghost use Rattle.core_loop.specs.declared.cause.Cause.{Cause as GhostCause};
-ghost use Rattle.core_loop.specs.declared.cause.Turn.TheVariants.{Stopped};
-ghost use Rattle.core_threads.specs.Runs.{CoreRan, StandsFor};
+ghost use Rattle.std.specs.Prelude.{◌≡◌, None};
+ghost use Rattle.core_threads.specs.Runs.{CoreRan, AfterTurn, StandsSo};
 
 use crate::backoff::Backoff;
 use crate::flags::Flags;
@@ -38,7 +36,7 @@ fn may_receive<L: Links, G: Gate>(core: &mut Core<L>, gate: &G) -> bool
 // Takes one turn. It may receive the job in front where the gate says so.
 fn take_turn<L: Links, G: Gate>(core: &mut Core<L>, gate: &G) -> Turn
     ensures ran { CoreRan L.same core.old core.new }
-    ensures stopped { (cause : GhostCause) → result ≡ Stopped cause → core.new.stopped ≡ Some cause }
+    ensures stopped { AfterTurn result core.new }
 {
     let rx = may_receive(core, gate);
     core.turn(rx)
@@ -72,7 +70,8 @@ fn is_settled<L: Links>(core: &Core<L>, began: u64, bounds: Bounds) -> bool {
 
 // Whether nothing is left for the core to do. The flags are read before the queue is looked at.
 fn is_done<L: Links>(core: &mut Core<L>, flags: &Flags) -> bool
-    ensures { CoreRan L.same core.old core.new }
+    ensures ran { CoreRan L.same core.old core.new }
+    ensures stopped { core.new.stopped ≡ core.old.stopped }
 {
     if !flags.is_settled() || !core.idle() {
         return false;
@@ -94,7 +93,7 @@ pub(crate) fn run_core<L: Links, R: Wait + Clock, G: Gate>(
     bounds: Bounds,
 ) -> Option<Halt>
     ensures ran { CoreRan L.same core.old core.new }
-    ensures halts { IfSome result (λ why. StandsFor why core.new) }
+    ensures stands { core.old.stopped ≡ None → StandsSo result core.new }
 {
     let mut backoff = Backoff::new();
     let mut began = 0u64;
