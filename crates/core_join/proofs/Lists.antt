@@ -1,5 +1,5 @@
 -- Lists by place.
-use Rattle.std.proofs.Common.{◌≡◌, ◌<◌, ℕ, zero, suc, List, [], ◌∷◌, length, None, Some, slice_get, slice_index_or, refl, sym, ap, subst, arith}
+use Rattle.std.proofs.Common.{◌≡◌, ◌<◌, ℕ, zero, suc, List, [], ◌∷◌, ◌++◌, length, map, None, Some, slice_get, slice_index_or, refl, sym, ap, subst, arith}
 
 -- an element for each place makes a list of them
 pub record Chosen {A B : Type 0} (P : ℕ → A → B → Type 0) (xs : List A) : Type 0 where
@@ -42,3 +42,7 @@ starts_with (y ∷ ys) x e = (ys, cc)
 pub is_empty : {A : Type 0} (xs : List A) → None ≡ slice_get xs 0 → xs ≡ []
 is_empty [] e = refl
 is_empty (y ∷ ys) e = absurd (cc)
+
+pub map_push : {A B : Type 0} (f : A → B) (xs : List A) (x : A) → map f (xs ++ x ∷ []) ≡ map f xs ++ f x ∷ []
+map_push f [] x = refl
+map_push {A} {B} f (y ∷ ys) x = ap (λ (zs : List B). f y ∷ zs) (map_push f ys x)

@@ -4,7 +4,7 @@ use Rattle.std.specs.Borrow.{Bor}
 use Rattle.world_model.specs.declared.event.Done.{Done}
 use Rattle.world_histories.specs.declared.history.Stamped.{Stamped}
 use Rattle.world_histories.specs.Histories.{Core0, Other, Computation}
-use Rattle.world_histories.specs.Merging.{Merged, IsRun, as_listed}
+use Rattle.world_histories.specs.Merging.{Merged, IsRun, as_listed, listed}
 
 -- the list has the events of these histories by stamp and then by core, wherever they have such an order
 abbrev pub ListsAll : List (List Stamped) → List Done → Type 0
@@ -21,6 +21,10 @@ pub record ListsRun (budget : ℕ) (budgets : List ℕ) (core0 : List Stamped) (
 abbrev pub ListsRuns : List (List Stamped) → List Done → Type 0
 ListsRuns histories list = (budget : ℕ) (budgets : List ℕ) (core0 : List Stamped) (others : List (List Stamped)) (end : Core0) (ends : List Other) → histories ≡ core0 ∷ others →
     Computation budget budgets core0 others end ends → ListsRun budget budgets core0 others end ends list
+
+-- events in memory, as the list has them
+abbrev pub shown_list : List (Bor Stamped) → List Done
+shown_list events = map (λ e. listed e.now) events
 
 -- What is left of each history while they are merged
 

@@ -7,7 +7,7 @@ mod merging;
 
 pub use conclusion::{Histories, conclude};
 pub use laws::cores_stay_a_machine;
-pub use merging::merge;
+pub use merging::{in_order, merge};
 
 #[cfg(test)]
 mod tests;

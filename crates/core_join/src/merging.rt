@@ -3,7 +3,7 @@
 ghost use Rattle.std.specs.Prelude.{◌≡◌, IfOk, IfSome, IfNone};
 ghost use Rattle.world_histories.specs.Merging.{listed};
 ghost use Rattle.core_join.specs.Conclusions.{listed_histories};
-ghost use Rattle.core_join.specs.Merges.{ListsAll, ListsRuns, NoneLeft, IsLeast, shown_histories};
+ghost use Rattle.core_join.specs.Merges.{ListsAll, ListsRuns, NoneLeft, IsLeast, shown_histories, shown_list};
 
 use crate::conclusion::Histories;
 use monitor_messages::Vote;
@@ -11,12 +11,12 @@ use std::alloc::{AllocError, Global};
 use world_histories::Stamped;
 use world_model::{Answer, Done, Event};
 
-/// All events of the histories, by stamp and then by core. A take that voted NoMemory has its `short` set. Where the histories
-/// are a computation, as those that `conclude` gives are, the list is a run of the machine. The one error is that there is no
-/// memory.
-pub fn merge(alloc: Global, histories: &Histories) -> Result<Vec<Done>, AllocError>
-    ensures list { IfOk result (λ list. ListsAll (listed_histories histories.now.cores.items) list.items) }
-    ensures run { IfOk result (λ list. ListsRuns (listed_histories histories.now.cores.items) list.items) }
+/// All events of the histories, by stamp and then by core. Where the histories are a computation, as those that `conclude` gives
+/// are, the list is a run of the machine, once a take that voted NoMemory has its `short` set, as `merge` sets it. The one error
+/// is that there is no memory.
+pub fn in_order(alloc: Global, histories: &Histories) -> Result<Vec<&Stamped>, AllocError>
+    ensures list { IfOk result (λ list. ListsAll (listed_histories histories.now.cores.items) (shown_list list.items)) }
+    ensures run { IfOk result (λ list. ListsRuns (listed_histories histories.now.cores.items) (shown_list list.items)) }
 {
     let mut left = Vec::with_capacity(alloc, histories.cores.len())?;
     let mut count: usize = 0;
@@ -29,10 +29,32 @@ pub fn merge(alloc: Global, histories: &Histories) -> Result<Vec<Done>, AllocErr
         let Some((event, later)) = left[core].split_first() else {
             unreachable!()
         };
-        list.push(listed_copy(alloc, event)?)?;
+        list.push(event)?;
         left[core] = later;
     }
     Ok(list)
+}
+
+/// All events of the histories, by stamp and then by core. A take that voted NoMemory has its `short` set. Where the histories
+/// are a computation, as those that `conclude` gives are, the list is a run of the machine. The one error is that there is no
+/// memory.
+pub fn merge(alloc: Global, histories: &Histories) -> Result<Vec<Done>, AllocError>
+    ensures list { IfOk result (λ list. ListsAll (listed_histories histories.now.cores.items) list.items) }
+    ensures run { IfOk result (λ list. ListsRuns (listed_histories histories.now.cores.items) list.items) }
+{
+    let events = in_order(alloc, histories)?;
+    copy_listed(alloc, &events)
+}
+
+// The events as the list has them.
+fn copy_listed(alloc: Global, events: &[&Stamped]) -> Result<Vec<Done>, AllocError>
+    ensures { IfOk result (λ list. list.items ≡ shown_list events.now) }
+{
+    let mut copies = Vec::with_capacity(alloc, events.len())?;
+    for event in events {
+        copies.push(listed_copy(alloc, event)?)?;
+    }
+    Ok(copies)
 }
 
 // The core whose first event comes first of all: the least stamp, and of equal stamps the least core.

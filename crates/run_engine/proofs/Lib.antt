@@ -1,2 +1,3 @@
 pub mod Works
 pub mod Runs
+pub mod Printed

@@ -1,6 +1,6 @@
 //! `run`: runs a script on cores that are threads.
 
-ghost use Rattle.std.specs.Prelude.{◌≡◌, ◌<◌, ◌≤◌, ◌^◌, ◌⊎◌, ℕ, All, List, length, map, IfOk, IfErr};
+ghost use Rattle.std.specs.Prelude.{◌≡◌, ◌<◌, ◌≤◌, ◌^◌, ◌⊎◌, ℕ, All, List, length, map, IfOk, IfErr, string_bytes};
 ghost use Rattle.std.specs.Io.KnownBytes.{Appends};
 ghost use Rattle.mk_script.specs.Limits.{HasLimits, IsLimited};
 ghost use Rattle.mk_script.specs.Threads.{IsForThreads, IsScriptForThreads};
@@ -8,10 +8,10 @@ ghost use Rattle.script_input.specs.Inputs.{AreScriptInputs};
 ghost use Rattle.run_engine.specs.Running.{HaveDone};
 ghost use Rattle.run_engine.specs.Showing.{Shows, ShowsRun, ShowsRunScript};
 
-use crate::lines::{push_events, push_left};
+use crate::lines::{push_all_left, push_events};
 use crate::work::{Work, work_of};
 use console::{EngineFault, write_bytes};
-use core_join::{conclude, merge};
+use core_join::{conclude, in_order};
 use core_threads::{BootFault, Ended, Gate, Halt, RunFault, boot, run_machine};
 use mk_script::{Item, Script, read_script};
 use script_input::{read_inputs, refuse, refuse_long};
@@ -124,7 +124,7 @@ fn run_script<T: Threads + Wait + Clock + Sync, G: Gate + Sync, W: Write>(
     ensures silent { IfErr result (λ failure. (failure ≡ RunFailure.Engine EngineFault.WriteFailed) ⊎ (writer.new ≡ writer.old)) }
 {
     let text = text_of_run(rt, alloc, gate, script)?;
-    write_bytes(writer, &text)?;
+    write_bytes(writer, text.as_bytes())?;
     Ok(0)
 }
 
@@ -134,19 +134,19 @@ fn text_of_run<T: Threads + Wait + Clock + Sync, G: Gate + Sync>(
     alloc: Global,
     gate: &G,
     script: Script,
-) -> Result<Vec<u8>, RunFailure>
+) -> Result<String, RunFailure>
     requires limits { HasLimits script }
     requires threads { IsScriptForThreads script }
-    ensures shown { IfOk result (λ text. ShowsRun script text.items) }
+    ensures shown { IfOk result (λ text. ShowsRun script (string_bytes text)) }
 {
     let Script { budgets, items } = script;
     let ended = run_cores(rt, alloc, gate, budgets.as_slice(), items.into_vec())?;
     let Ended { cores, left, .. } = ended;
     let histories = conclude(alloc, cores)?;
-    let events = merge(alloc, &histories)?;
-    let mut text = Vec::new(alloc);
-    push_events(alloc, events, &mut text)?;
-    push_left(alloc, left, &mut text)?;
+    let events = in_order(alloc, &histories)?;
+    let mut text = String::new(alloc);
+    push_events(&mut text, &events)?;
+    push_all_left(&mut text, left)?;
     Ok(text)
 }
 

@@ -1,50 +1,51 @@
 //! The lines of a run.
 
-ghost use Rattle.std.specs.Prelude.{◌≡◌, ◌++◌, ℕ, List, OnOk};
+ghost use Rattle.std.specs.Prelude.{◌≡◌, ◌++◌, ℕ, List, OnOk, string_bytes};
 ghost use Rattle.std.specs.List.{flat_map};
 ghost use Rattle.sim_lines.specs.Events.{done_line};
+ghost use Rattle.world_histories.specs.Merging.{listed};
+ghost use Rattle.core_join.specs.Merges.{shown_list};
 ghost use Rattle.run_engine.specs.Showing.{ShowsLeft, left_lines};
 
+use core_loop::Stamped;
 use rx_queue::Job;
-use sim_lines::{left_line, line_of};
-use std::alloc::{AllocError, Global};
-use world_model::Done;
+use sim_lines::{push_done, push_left};
+use std::alloc::AllocError;
 
 /// Adds the lines of events.
-pub(crate) fn push_events(
-    alloc: Global,
-    events: Vec<Done>,
-    text: &mut Vec<u8>,
-) -> Result<(), AllocError>
-    ensures { OnOk result (text.new.items ≡ text.old.items ++ flat_map done_line events.items) }
+pub(crate) fn push_events(text: &mut String, events: &[&Stamped]) -> Result<(), AllocError>
+    ensures { OnOk result (string_bytes text.new ≡ string_bytes text.old ++ flat_map done_line (shown_list events.now)) }
 {
-    for done in events {
-        let Done { event, answer } = done;
-        let line = line_of(alloc, &event, &Ok(answer))?;
-        text.extend_from_slice(line.as_slice())?;
+    for event in events {
+        push_event(text, event)?;
     }
     Ok(())
 }
 
+/// Adds the line of an event. That a take was short of memory isn't part of it.
+fn push_event(text: &mut String, event: &Stamped) -> Result<(), AllocError>
+    ensures { OnOk result (string_bytes text.new ≡ string_bytes text.old ++ done_line (listed event.now)) }
+{
+    push_done(text, &event.done.event, &event.done.answer)
+}
+
 /// Adds the lines of jobs left, by the jobs' numbers.
-pub(crate) fn push_left(
-    alloc: Global,
+pub(crate) fn push_all_left(
+    text: &mut String,
     mut left: Vec<(u16, Job)>,
-    text: &mut Vec<u8>,
 ) -> Result<(), AllocError>
-    ensures { OnOk result ((lines : List ℕ) × ShowsLeft left.items lines × (text.new.items ≡ text.old.items ++ lines)) }
+    ensures { OnOk result ((lines : List ℕ) × ShowsLeft left.items lines × (string_bytes text.new ≡ string_bytes text.old ++ lines)) }
 {
     left.sort_by_key(|l| l.1.number)?;
-    push_in_order(alloc, left.as_slice(), text)
+    push_in_order(text, left.as_slice())
 }
 
 /// Adds the lines of jobs in their order.
-fn push_in_order(alloc: Global, left: &[(u16, Job)], text: &mut Vec<u8>) -> Result<(), AllocError>
-    ensures { OnOk result (text.new.items ≡ text.old.items ++ left_lines left.now) }
+fn push_in_order(text: &mut String, left: &[(u16, Job)]) -> Result<(), AllocError>
+    ensures { OnOk result (string_bytes text.new ≡ string_bytes text.old ++ left_lines left.now) }
 {
     for (core, job) in left {
-        let line = left_line(alloc, *core, job.number)?;
-        text.extend_from_slice(line.as_slice())?;
+        push_left(text, *core, job.number)?;
     }
     Ok(())
 }

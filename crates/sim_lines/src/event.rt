@@ -1,7 +1,7 @@
 //! The line of an event.
 
-ghost use Rattle.std.specs.Prelude.{◌≡◌, ◌++◌, IfOk, OnOk, string_bytes};
-ghost use Rattle.sim_lines.specs.Events.{answer_words, decided_words, event_line, event_words, kept_words, left_line as left_words, told_words};
+ghost use Rattle.std.specs.Prelude.{◌≡◌, ◌++◌, IfOk, Ok, OnOk, string_bytes};
+ghost use Rattle.sim_lines.specs.Events.{answer_words, decided_words, event_line, event_words, kept_words, left_line, told_words};
 ghost use Rattle.sim_lines.specs.Events as spec;
 
 use crate::decision::{push_decision, vote_name};
@@ -28,12 +28,21 @@ pub fn line_of(
     Ok(line.into_bytes())
 }
 
-/// The line of a job of this core and of this number that was not received.
-pub fn left_line(alloc: Global, core: u16, number: u64) -> Result<Vec<u8>, AllocError>
-    ensures { IfOk result (λ line. line.items ≡ left_words core number) }
+/// Adds the line of an event that was done.
+pub fn push_done(text: &mut String, event: &Event, answer: &Answer) -> Result<(), AllocError>
+    ensures { OnOk result (string_bytes text.new ≡ string_bytes text.old ++ event_line event.now (Ok answer.now)) }
 {
-    let line = format!(in alloc; "left {core} {number}\n")?;
-    Ok(line.into_bytes())
+    push_event(text, event)?;
+    text.push_str(": ")?;
+    push_answer(text, answer)?;
+    text.push_str("\n")
+}
+
+/// Adds the line of a job of this core and of this number that was not received.
+pub fn push_left(text: &mut String, core: u16, number: u64) -> Result<(), AllocError>
+    ensures { OnOk result (string_bytes text.new ≡ string_bytes text.old ++ left_line core number) }
+{
+    writeln!(text, "left {core} {number}")
 }
 
 /// Prints what the event is.

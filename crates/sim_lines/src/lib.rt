@@ -22,5 +22,5 @@ mod table;
 #[cfg(test)]
 mod tests;
 
-pub use event::{left_line, line_of};
+pub use event::{line_of, push_done, push_left};
 pub use table::show_core;

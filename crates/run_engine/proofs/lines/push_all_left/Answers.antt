@@ -3,7 +3,7 @@ use Rattle.std.proofs.lemmas.List.Sorted.{IsNonDecreasingBy-from_sort_by_key}
 use Rattle.rx_queue.specs.declared.job.Job.{Job}
 use Rattle.run_engine.specs.Showing.{ShowsLeft, left_lines}
 use Rattle.std.proofs.lemmas.Result.{IfOk-weaker}
-use Rattle.run_engine.proofs.lines.push_left.Goals as goal
+use Rattle.run_engine.proofs.lines.push_all_left.Goals as goal
 
 pub returns : goal.returns
 returns c =

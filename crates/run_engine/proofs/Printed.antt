@@ -1,0 +1,33 @@
+-- The line of an event doesn't say whether a take was short of memory.
+use Rattle.std.proofs.Common.{◌≡◌, ◌++◌, ℕ, List, Ok, refl, ap}
+use Rattle.std.specs.Prelude.{codes}
+use Rattle.monitor_messages.specs.declared.message.Vote.TheVariants.{Yes, Budget, NoMemory}
+use Rattle.world_model.specs.declared.event.Event.{Event}
+use Rattle.world_model.specs.declared.event.Event.TheVariants.{Start, Submit, StartFor, Take, Rx}
+use Rattle.world_model.specs.declared.event.Answer.{Answer}
+use Rattle.world_model.specs.declared.event.Answer.TheVariants as answer
+use Rattle.world_histories.specs.declared.history.Stamped.{Stamped}
+use Rattle.world_histories.specs.Merging.{as_short, listed}
+use Rattle.sim_lines.specs.Events.{answer_words, done_line, event_line, event_words}
+
+same_words : (e : Event) (a : Answer) → event_words (as_short e a) ≡ event_words e
+same_words (Take to from short) (answer.TookPrepare txn Yes) = refl
+same_words (Take to from short) (answer.TookPrepare txn Budget) = refl
+same_words (Take to from short) (answer.TookPrepare txn NoMemory) = refl
+same_words (Take to from short) (answer.Prepared txn) = refl
+same_words (Take to from short) (answer.Decided decision) = refl
+same_words (Take to from short) answer.Submitted = refl
+same_words (Take to from short) (answer.TookVote txn vote decided) = refl
+same_words (Take to from short) (answer.TookCommit txn version) = refl
+same_words (Take to from short) (answer.TookAbort txn version) = refl
+same_words (Take to from short) (answer.TookAck txn) = refl
+same_words (Take to from short) answer.TookSubmit = refl
+same_words (Take to from short) (answer.TookReply decision) = refl
+same_words (Take to from short) (answer.Delivered version kept) = refl
+same_words (Start op) a = refl
+same_words (Submit core op) a = refl
+same_words (StartFor core) a = refl
+same_words (Rx core number packet floor) a = refl
+
+pub same_line : (s : Stamped) → done_line (listed s) ≡ event_line s.done.event (Ok s.done.answer)
+same_line s = ap (λ (words : List ℕ). words ++ codes ": " ++ answer_words s.done.answer ++ codes "\n") (same_words s.done.event s.done.answer)
