@@ -51,7 +51,7 @@ pub(crate) fn core_of(
     Ok((core, port))
 }
 
-// Gives what a core sent to a peer to that peer.
+// Gives what a core sent to a peer to that peer. A copy that is refused memory once is tried again, so that no message is lost.
 pub(crate) fn carry(
     alloc: Global,
     from: &mut Core<ListLinks>,
@@ -68,7 +68,10 @@ pub(crate) fn carry(
         if bytes.is_empty() || bytes.len() > 32832 {
             return Ok(());
         }
-        let message = Vec::from_slice(alloc, bytes)?;
+        let message = match Vec::from_slice(alloc, bytes) {
+            Ok(message) => message,
+            Err(_) => Vec::from_slice(alloc, bytes)?,
+        };
         let _ = to.give(sender, message);
     }
     Ok(())

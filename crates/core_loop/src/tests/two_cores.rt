@@ -1,12 +1,15 @@
 //! Two cores that answer each other, over lists.
 
+ghost use Rattle.std.specs.Prelude.{◌≤◌, vec_len};
+
 use super::{carry, core_of, create, job};
-use crate::{Core, ListLinks, Stamped};
+use crate::{Core, ListLinks, Stamped, Turn};
 use bpf_insn::read_ddd;
-use monitor_messages::{Decision, Vote};
+use monitor_messages::{Decision, Message, Veto, Vote, encode};
 use rx_queue::{Port, queue};
 use std::alloc::{AllocError, Global};
 use std::collections::VecDeque;
+use std::process::Abort;
 use std::test::Fail;
 use table_replica::{Kept, Made, Op, Program};
 use world_model::Answer;
@@ -136,16 +139,133 @@ fn front(core: &mut Core<ListLinks>) -> Option<u64> {
     Some(core.seen()?.number)
 }
 
+// The two commit, and core 1 receives the job that it can.
+fn commit_and_receive(
+    rt: &impl Abort,
+    alloc: Global,
+    first: &mut Core<ListLinks>,
+    other: &mut Core<ListLinks>,
+    port: &mut Port,
+) -> Result<(), AllocError> {
+    put_jobs(alloc, port)?;
+    run(alloc, first, other)?;
+    assert!(rt; is_first(first));
+    assert!(rt; is_other(other));
+    assert!(rt; first.idle() && other.idle());
+    assert_eq!(rt; front(other), Some(2));
+    Ok(())
+}
+
+// Core 1 comes up beside core 0.
+fn meet(rt: &impl Abort, alloc: Global, first: &mut Core<ListLinks>) -> Result<(), AllocError> {
+    let (mut other, mut port) = core_of(alloc, 1, 2, 8)?;
+    commit_and_receive(rt, alloc, first, &mut other, &mut port)
+}
+
 #[test]
 fn two_cores_commit_and_receive(rt: HostRuntime) -> Result<(), Fail> {
+    let (mut first, _port) = core_0(rt.alloc(), 8)?;
+    meet(&rt, rt.alloc(), &mut first)?;
+    Ok(())
+}
+
+// Whether core 0 starts its request.
+fn starts(core: &mut Core<ListLinks>) -> bool {
+    core.turn(true) == Turn::Did && core.history().len() == 1
+}
+
+// Whether core 0, which is given this as core 1's, waits with it.
+fn waits_with(core: &mut Core<ListLinks>, message: Vec<u8>) -> bool
+    requires length { (1 ≤ vec_len message) × (vec_len message ≤ 32832) }
+{
+    core.give(1, message).is_ok() && core.turn(true) == Turn::Idle && core.history().len() == 1
+}
+
+// A link of one message holds the Prepare, so core 0 could not send the Commit that answers the vote.
+#[test]
+fn a_vote_waits_for_a_full_link(rt: HostRuntime) -> Result<(), Fail> {
     let alloc = rt.alloc();
-    let (mut first, _port) = core_0(alloc, 8)?;
-    let (mut other, mut port) = core_of(alloc, 1, 2, 8)?;
-    put_jobs(alloc, &mut port)?;
-    run(alloc, &mut first, &mut other)?;
-    assert!(rt; is_first(&first));
-    assert!(rt; is_other(&other));
-    assert!(rt; first.idle() && other.idle());
-    assert_eq!(rt; front(&mut other), Some(2));
+    let txn = 1;
+    let message = Message::Vote {
+        txn,
+        vote: Vote::Yes,
+    };
+    let vote = encode(alloc, 2, &message)?;
+    let (mut first, _port) = core_0(alloc, 1)?;
+    assert!(rt; starts(&mut first));
+    assert!(rt; waits_with(&mut first, vote));
+    Ok(())
+}
+
+// A turn; one that is refused memory changes nothing, and the next is as the first would have been.
+fn sure_turn(rt: &impl Abort, core: &mut Core<ListLinks>) {
+    let before = (core.history().len(), core.version(), core.pending());
+    if core.turn(true) != Turn::NoMemory {
+        return;
+    }
+    let after = (core.history().len(), core.version(), core.pending());
+    assert_eq!(rt; before, after);
+    assert!(rt; core.turn(true) != Turn::NoMemory);
+}
+
+// Turns both cores, of which one may be refused memory once.
+fn run_surely(
+    rt: &impl Abort,
+    alloc: Global,
+    first: &mut Core<ListLinks>,
+    other: &mut Core<ListLinks>,
+) -> Result<(), AllocError> {
+    for _ in 0..20 {
+        sure_turn(rt, first);
+        carry(alloc, first, other)?;
+        sure_turn(rt, other);
+        carry(alloc, other, first)?;
+    }
+    agree(rt, first, other);
+    Ok(())
+}
+
+// Core 1 comes up beside core 0.
+fn meet_surely(
+    rt: &impl Abort,
+    alloc: Global,
+    first: &mut Core<ListLinks>,
+) -> Result<(), AllocError> {
+    let (mut other, _port) = core_of(alloc, 1, 2, 8)?;
+    run_surely(rt, alloc, first, &mut other)
+}
+
+// Whether the core voted, or decided, that there was no memory.
+fn lacked_memory(history: &[Stamped]) -> bool {
+    history.iter().any(|event| match told(&event.done.answer) {
+        Shown::TookPrepare(_, Vote::NoMemory) => true,
+        Shown::TookVote(
+            _,
+            _,
+            Some(
+                Decision::Refused {
+                    why: Veto::NoMemory,
+                    ..
+                },
+            ),
+        ) => true,
+        _ => false,
+    })
+}
+
+// Both cores are done and agree. They did what they do with ample memory, unless one of them voted, or decided, that there was none.
+fn agree(rt: &impl Abort, first: &Core<ListLinks>, other: &Core<ListLinks>) {
+    assert!(rt; first.idle() && other.idle() && first.pending() == 0);
+    assert_eq!(rt; first.version(), other.version());
+    if !lacked_memory(first.history()) && !lacked_memory(other.history()) {
+        assert!(rt; is_first(first));
+        assert!(rt; has(other.history(), OTHER.split_at(4).0));
+    }
+}
+
+#[test]
+fn two_cores_with_a_refused_growth(rt: HostRuntime) -> Result<(), Fail> {
+    let (mut first, _port) = core_0(rt.alloc(), 8)?;
+    meet_surely(&rt, rt.alloc(), &mut first)?;
     Ok(())
 }
