@@ -7,7 +7,7 @@
 #include <stdlib.h>
 #include <unistd.h>
 
-static unsigned long calls;
+static _Atomic unsigned long calls;
 
 static int is_refused(void) {
     const char *at = getenv("REFUSE_AT");

@@ -237,20 +237,22 @@ fn meet_surely(
 
 // Whether the core voted, or decided, that there was no memory.
 fn lacked_memory(history: &[Stamped]) -> bool {
-    history.iter().any(|event| match told(&event.done.answer) {
-        Shown::TookPrepare(_, Vote::NoMemory) => true,
-        Shown::TookVote(
-            _,
-            _,
-            Some(
-                Decision::Refused {
-                    why: Veto::NoMemory,
-                    ..
-                },
-            ),
-        ) => true,
+    history.iter().any(|event| match &event.done.answer {
+        Answer::TookPrepare { vote, .. } => *vote == Vote::NoMemory,
+        Answer::Decided(decision) => is_for_memory(*decision),
+        Answer::TookVote {
+            decided: Some(decision),
+            ..
+        } => is_for_memory(*decision),
         _ => false,
     })
+}
+
+fn is_for_memory(decision: Decision) -> bool {
+    match decision {
+        Decision::Refused { why, .. } => why == Veto::NoMemory,
+        Decision::Committed { .. } => false,
+    }
 }
 
 // Both cores are done and agree. They did what they do with ample memory, unless one of them voted, or decided, that there was none.
