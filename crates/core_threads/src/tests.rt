@@ -1,14 +1,17 @@
 //! Machines whose cores run in threads.
 
-ghost use Rattle.std.specs.Prelude.{◌≤◌, ℕ, List, length, IfOk};
+ghost use Rattle.std.specs.Prelude.{◌≤◌, ◌<◌, ℕ, All, List, length, IfOk};
 ghost use Rattle.core_join.specs.Machines.{IsMachine};
+ghost use Rattle.core_threads.specs.Booting.{AreGivable};
 
 use super::*;
 use bpf_insn::read_ddd;
 use core_join::{conclude, merge};
+use core_loop::{Core, RingLinks};
+use monitor_messages::{Decision, Veto, Vote};
 use pcap_reader::{Bytes, Packet};
 use rx_queue::Job;
-use std::alloc::Global;
+use std::alloc::{AllocError, Global};
 use std::process::Abort;
 use std::sync::Wait;
 use std::sync::atomic::{AtomicBool, AtomicU64, Ordering};
@@ -16,7 +19,7 @@ use std::test::Fail;
 use std::thread::Threads;
 use std::time::Clock;
 use table_replica::{Kept, Op, Program};
-use world_model::{Answer, Event};
+use world_model::{Answer, Done, Event};
 
 // A limit that is never met.
 const LIMIT: u64 = 50_000_000;
@@ -37,16 +40,13 @@ fn job(alloc: Global, number: u64, floor: u64) -> Result<Job, Fail> {
     })
 }
 
-// Runs a machine with these budgets. On core 0 domain 1 creates endpoint 7 and installs a filter that accepts every packet; job 1 of
-// core 1 waits for version 2, and job 2 for version 9.
-fn worked_run<R: Threads + Wait + Clock + Sync>(
-    rt: &R,
-    alloc: Global,
-    budgets: &[u32],
-) -> Result<Ended, Fail>
-    requires { (2 ≤ length budgets.now) × (length budgets.now ≤ 8) }
-    ensures { IfOk result (λ ended. (budget : ℕ) × (rest : List ℕ) × IsMachine budget rest ended.cores.items) }
+// On core 0 of so many, domain 1 creates endpoint 7 and installs a filter that accepts every packet.
+fn requests(alloc: Global, cores: usize) -> Result<Vec<(u16, Op)>, Fail>
+    requires { 1 ≤ cores }
+    ensures inside { IfOk result (λ requests. All (λ r. r.0 < cores) requests.items) }
+    ensures short { IfOk result (λ requests. AreGivable requests.items) }
 {
+    let _cores = cores;
     let mut requests = Vec::new(alloc);
     requests.push((
         0,
@@ -63,9 +63,32 @@ fn worked_run<R: Threads + Wait + Clock + Sync>(
             program: Program::from_vec(read_ddd(alloc, ALL.as_bytes())?),
         },
     ))?;
+    Ok(requests)
+}
+
+// Job 1 of core 1, among so many, waits for version 2, and its job 2 for version 9.
+fn waiting_jobs(alloc: Global, cores: usize) -> Result<Vec<(u16, Job)>, Fail>
+    requires { 2 ≤ cores }
+    ensures { IfOk result (λ jobs. All (λ j. j.0 < cores) jobs.items) }
+{
+    let _cores = cores;
     let mut jobs = Vec::new(alloc);
     jobs.push((1, job(alloc, 1, 2)?))?;
     jobs.push((1, job(alloc, 2, 9)?))?;
+    Ok(jobs)
+}
+
+// Runs a machine with these budgets.
+fn worked_run<R: Threads + Wait + Clock + Sync>(
+    rt: &R,
+    alloc: Global,
+    budgets: &[u32],
+) -> Result<Ended, Fail>
+    requires { (2 ≤ length budgets.now) × (length budgets.now ≤ 8) }
+    ensures { IfOk result (λ ended. (budget : ℕ) × (rest : List ℕ) × IsMachine budget rest ended.cores.items) }
+{
+    let requests = requests(alloc, budgets.len())?;
+    let jobs = waiting_jobs(alloc, budgets.len())?;
     let machine = boot(alloc, budgets, requests)?;
     Ok(run_machine(rt, alloc, machine, jobs, &Free, LIMIT)?)
 }
@@ -210,5 +233,82 @@ fn a_machine_has_1_to_8_cores(rt: HostRuntime) -> Result<(), Fail> {
     assert_eq!(rt; none.err(), Some(BootFault::CoreCount));
     let nine = boot(alloc, &[100; 9], Vec::new(alloc));
     assert_eq!(rt; nine.err(), Some(BootFault::CoreCount));
+    Ok(())
+}
+
+// Runs a machine of two cores that may be refused memory: its end, or why there is none.
+fn run_within<R: Threads + Wait + Clock + Sync>(
+    rt: &R,
+    alloc: Global,
+    requests: Vec<(u16, Op)>,
+    jobs: Vec<(u16, Job)>,
+) -> Result<Ended, RunFault>
+    requires inside { All (λ r. r.0 < 2) requests.items }
+    requires short { AreGivable requests.items }
+    requires jobs { All (λ j. j.0 < 2) jobs.items }
+    ensures { IfOk result (λ ended. (budget : ℕ) × (rest : List ℕ) × IsMachine budget rest ended.cores.items) }
+{
+    let Ok(machine) = boot(alloc, &[100, 100], requests) else {
+        return Err(RunFault::NoMemory);
+    };
+    Ok(run_machine(rt, alloc, machine, jobs, &Free, LIMIT)?)
+}
+
+// The list of what two cores did, or none where there was no memory for it.
+fn list_of(alloc: Global, cores: Vec<Core<RingLinks>>) -> Result<Vec<Done>, AllocError>
+    requires { (budget : ℕ) × (rest : List ℕ) × IsMachine budget rest cores.items }
+{
+    merge(alloc, &conclude(alloc, cores)?)
+}
+
+// Whether a core voted, or decided, that there was no memory.
+fn lacked_memory(list: &[Done]) -> bool {
+    list.iter().any(|done| match &done.answer {
+        Answer::TookPrepare { vote, .. } => *vote == Vote::NoMemory,
+        Answer::Decided(decision) => is_for_memory(*decision),
+        Answer::TookVote {
+            decided: Some(decision),
+            ..
+        } => is_for_memory(*decision),
+        _ => false,
+    })
+}
+
+fn is_for_memory(decision: Decision) -> bool {
+    match decision {
+        Decision::Refused { why, .. } => why == Veto::NoMemory,
+        Decision::Committed { .. } => false,
+    }
+}
+
+// An end with ample memory has all events. Else a core halted, voted or decided that there was none.
+fn ends_within<A: Abort>(rt: &A, alloc: Global, ended: Ended)
+    requires { (budget : ℕ) × (rest : List ℕ) × IsMachine budget rest ended.cores.items }
+{
+    let Ended {
+        cores,
+        left,
+        halted,
+    } = ended;
+    if let Some((_, why)) = halted {
+        assert_eq!(rt; why, Halt::NoMemory);
+        drop((cores, left));
+        return;
+    }
+    assert!(rt; !left.is_empty() && left.len() <= 2);
+    if let Ok(list) = list_of(alloc, cores) {
+        assert!(rt; list.len() == 11 || lacked_memory(&list));
+    }
+}
+
+#[test]
+fn a_machine_with_a_refused_growth(rt: HostRuntime) -> Result<(), Fail> {
+    let alloc = rt.alloc();
+    let requests = requests(alloc, 2)?;
+    let jobs = waiting_jobs(alloc, 2)?;
+    match run_within(&rt, alloc, requests, jobs) {
+        Ok(ended) => ends_within(&rt, alloc, ended),
+        Err(fault) => assert!(rt; matches!(fault, RunFault::NoMemory | RunFault::Spawn)),
+    }
     Ok(())
 }
