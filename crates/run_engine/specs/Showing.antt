@@ -1,5 +1,5 @@
 -- What `run` shows of a script and its files: the events of one run of its cores, and the jobs that are left.
-use Rattle.std.specs.Prelude.{◌≡◌, ◌⊎◌, ◌++◌, ◌∷◌, ◌<◌, ℕ, true, All, List, Ok, Err, Some, codes, length, slice_get}
+use Rattle.std.specs.Prelude.{◌≡◌, ◌⊎◌, ◌++◌, ◌∷◌, ◌<◌, ℕ, All, List, Ok, Err, Some, codes, length, slice_get}
 use Rattle.std.specs.List.{flat_map}
 use Rattle.std.specs.List.Sorted.{IsNonDecreasingBy, IsPermutation}
 use Rattle.rx_queue.specs.declared.job.Job.{Job}
@@ -13,14 +13,11 @@ use Rattle.sim_lines.specs.Events.{done_line, left_line}
 use Rattle.mk_script.specs.declared.script.Item.{Item}
 use Rattle.mk_script.specs.declared.script.Script.{Script}
 use Rattle.mk_script.specs.declared.fault.ScriptFault.{ScriptFault}
-use Rattle.mk_script.specs.Drafts.{Settings}
 use Rattle.mk_script.specs.Scripts.{Stands}
+use Rattle.mk_script.specs.Threads.{for_threads}
 use Rattle.script_input.specs.Faults.{script_fault_line}
 use Rattle.script_input.specs.Inputs.{AllShort, SomeLong}
 use Rattle.run_engine.specs.Work.{requests_of, jobs_of}
-
-abbrev pub for_run : List (List ℕ) → Settings
-for_run files = record { files = files; threads = true }
 
 -- the core began all requests that the script has for it, in order, and received the jobs that it has for it, in order, but for those left
 pub record DidItsWork (items : List Item) (left : List (ℕ × Job)) (core : ℕ) (history : List Stamped) : Type 0 where
@@ -65,8 +62,8 @@ pub record ShowsRun (script : Script) (text : List ℕ) : Type 0 where
 -- what a run of the script shows, or the line of its first fault
 abbrev pub ShowsRunScript : List (List ℕ) → List ℕ → ℕ → List ℕ → Type 0
 ShowsRunScript files input status text =
-    ((script : Script) × Stands (for_run files) input (Ok script) × (status ≡ 0) × ShowsRun script text)
-    ⊎ ((fault : ScriptFault) × Stands (for_run files) input (Err fault) × (status ≡ 1) × (text ≡ script_fault_line fault))
+    ((script : Script) × Stands (for_threads files) input (Ok script) × (status ≡ 0) × ShowsRun script text)
+    ⊎ ((fault : ScriptFault) × Stands (for_threads files) input (Err fault) × (status ≡ 1) × (text ≡ script_fault_line fault))
 
 -- the script and each file have a limit
 abbrev pub Shows : List (List ℕ) → List ℕ → ℕ → List ℕ → Type 0

@@ -8,7 +8,7 @@ use console::{EngineFault, INPUT_BYTES, INPUT_READS, Input, read_bounded};
 use std::alloc::{AllocError, Global};
 use std::io::Read;
 
-/// What the files hold, in order, or `None` where one is too long; those behind it are not read.
+/// What the files hold, in order, or `None` where one is too long; those after it are not read.
 pub(crate) fn read_files<F: Read + Drop>(
     alloc: Global,
     files: Vec<F>,

@@ -26,7 +26,7 @@ pub fn read_inputs<R: Read, F: Read + Drop>(
 ) -> Result<Option<Inputs>, EngineFault>
     ensures read { IfOk result (λ read. MatchOption read (HadLong (R.remaining reader.old) (map F.remaining files.items))
         (λ inputs. AreScriptInputs (R.remaining reader.old) (map F.remaining files.items) inputs.script.items (map (λ v. v.items) inputs.files.items)
-            × AllShort inputs.script.items (map (λ v. v.items) inputs.files.items))) }
+        × AllShort inputs.script.items (map (λ v. v.items) inputs.files.items))) }
     ensures fault { IfErr result IsReadFault }
 {
     let script = match read_bounded(alloc, reader, INPUT_BYTES, INPUT_READS)? {

@@ -22,7 +22,11 @@ pub fn refuse_long<W: Write>(writer: &mut W) -> Result<u8, EngineFault>
 
 /// Prints the line for a script's fault, and answers the status. A script that was refused memory is no refused input:
 /// `NoMemory`, with nothing written.
-pub fn refuse<W: Write>(alloc: Global, fault: ScriptFault, writer: &mut W) -> Result<u8, EngineFault>
+pub fn refuse<W: Write>(
+    alloc: Global,
+    fault: ScriptFault,
+    writer: &mut W,
+) -> Result<u8, EngineFault>
     ensures shown { IfOk result (λ status. (status ≡ 1) × (fault.kind ≢ ScriptFaultKind.NoMemory) × Appends (W.contents writer.old) (W.contents writer.new) (script_fault_line fault)) }
     ensures fault { IfErr result IsPrintFault }
     ensures silent { IsErrOf result EngineFault.NoMemory → writer.new ≡ writer.old }

@@ -17,7 +17,9 @@ use Rattle.mk_script.specs.declared.script.Item.{Item}
 use Rattle.mk_script.specs.declared.script.Item.TheVariants as item
 use Rattle.sim_engine.specs.declared.requests.Request.{Request}
 use Rattle.sim_engine.specs.Simulations.{Simulation, Does, done, Performs}
-use Rattle.trace_runs.specs.Traces.{item_of, trace_item, asks_of, requests_of, begun_at}
+use Rattle.run_engine.specs.Work.{requests_of}
+use Rattle.trace_text.specs.Traces.{item_of, trace_item, asks_of}
+use Rattle.trace_runs.specs.Traces.{begun_at}
 use Rattle.trace_runs.specs.Repeats.{BeginInOrder, CanRepeat}
 use Rattle.trace_runs.proofs.Pending.{ops_at, AreFirst, begins_it, begun_first, as_request, ops_for}
 use Rattle.trace_runs.proofs.Retake.{happens_retold}

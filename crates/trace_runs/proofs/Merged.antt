@@ -15,7 +15,8 @@ use Rattle.world_histories.proofs.Parts.{part_own, part_other}
 use Rattle.core_loop.specs.Cores.{begins, begun}
 use Rattle.core_threads.specs.Lanes.{items_for}
 use Rattle.mk_script.specs.declared.script.Item.{Item}
-use Rattle.trace_runs.specs.Traces.{requests_of, begun_at}
+use Rattle.run_engine.specs.Work.{requests_of}
+use Rattle.trace_runs.specs.Traces.{begun_at}
 use Rattle.std.specs.List.{All, flat_map}
 use Rattle.world_model.specs.declared.event.Done.{Done}
 use Rattle.world_model.specs.Worlds.{World}

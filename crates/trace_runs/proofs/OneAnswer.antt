@@ -1,4 +1,4 @@
--- From one world an event has one answer, where memory isn't wanting.
+-- From one world an event has one answer, where no core is out of memory.
 use Rattle.std.proofs.Common.{◌≡◌, ◌+◌, ◌<◌, ◌⊎◌, inl, inr, ℕ, zero, suc, Bool, true, false, Option, Some, None, List, ◌∷◌, slice_get, slice_set, refl, ap, sym, ◌∙◌, subst, arith}
 use Rattle.bpf_insn.specs.declared.insn.Insn.{Insn}
 use Rattle.filter_verify.proofs.Reasons.{Refuses-sound}
@@ -24,7 +24,8 @@ use Rattle.world_model.specs.declared.event.Answer.{Answer}
 use Rattle.world_model.specs.declared.event.Answer.TheVariants.{Prepared, Decided, TookPrepare, TookVote, TookCommit, TookAbort, Delivered}
 use Rattle.world_model.specs.Cases.{raised, captured, start_told, TakesUpAt, TakesDownAt, Took, ReceivesAt}
 use Rattle.world_model.specs.Worlds.{Peer, World, newest, HappensStart, HappensStartFor, HappensUp, HappensDown, HappensRx, Happens}
-use Rattle.trace_runs.specs.Memory.{is_want, IsRefusedForMemory, WantsMemory}
+use Rattle.trace_text.specs.Traces.{lacked_memory}
+use Rattle.trace_runs.specs.Memory.{IsRefusedForMemory, LacksMemory}
 use Rattle.trace_runs.proofs.Receivers.{receivers_once}
 
 -- Whether an operation is allowed
@@ -160,7 +161,7 @@ up_answer w w1 w2 i a1 a2 a b = up_case (newest w) w.place a.place b.place w.req
 
 -- What another core takes
 
--- a vote where memory isn't wanting
+-- a vote where memory isn't lacking
 casts_once : (short : Bool) (s : State) (budget : ℕ) (op : Op) (v v' : Vote) → Casts short s budget op v → Casts short s budget op v' → (v ≡ vote.NoMemory → short ≡ true) → (v' ≡ vote.NoMemory → short ≡ true) → v ≡ v'
 casts_once short s budget op vote.Yes vote.Yes c c' had had' = refl
 casts_once short s budget op vote.Yes vote.Budget c c' had had' = absurd (omega (arith, c.1, c'.1))
@@ -172,15 +173,15 @@ casts_once short s budget op vote.NoMemory vote.Yes c c' had had' = absurd (let 
 casts_once short s budget op vote.NoMemory vote.Budget c c' had had' = absurd (omega (arith, c.1, c'.1))
 casts_once short s budget op vote.NoMemory vote.NoMemory c c' had had' = refl
 
--- a vote NoMemory that isn't a want of memory is told by the event
-had_told : (short : Bool) (txn : ℕ) (v : Vote) (answer : Answer) → answer ≡ TookPrepare txn v → ((short ≡ false) × (is_want answer ≡ true) → ⊥) → v ≡ vote.NoMemory → short ≡ true
+-- the event says of a vote NoMemory that the core is short of memory
+had_told : (short : Bool) (txn : ℕ) (v : Vote) (answer : Answer) → answer ≡ TookPrepare txn v → ((short ≡ false) × (lacked_memory answer ≡ true) → ⊥) → v ≡ vote.NoMemory → short ≡ true
 had_told true txn v answer e had is = refl
 had_told false txn v answer e had is = absurd (had (refl, rw (e, is) refl))
 
 prepare_answer : (short : Bool) (s : State) (budget v1 v2 : ℕ) (place p1 p2 : ParticipantPlace) (txn : ℕ) (op : Op) (reply1 reply2 : Message) (a1 a2 : Answer)
     → Answers short s budget place (message.Prepare txn op) p1 reply1 → Took (message.Prepare txn op) reply1 v1 a1
     → Answers short s budget place (message.Prepare txn op) p2 reply2 → Took (message.Prepare txn op) reply2 v2 a2
-    → ((short ≡ false) × (is_want a1 ≡ true) → ⊥) → ((short ≡ false) × (is_want a2 ≡ true) → ⊥) → a1 ≡ a2
+    → ((short ≡ false) × (lacked_memory a1 ≡ true) → ⊥) → ((short ≡ false) × (lacked_memory a2 ≡ true) → ⊥) → a1 ≡ a2
 prepare_answer short s budget v1 v2 place p1 p2 txn op (message.Vote n1 x) (message.Vote n2 y) a1 a2 a t a' t' had1 had2 =
     t ∙ (ap (TookPrepare txn) (casts_once short s budget op x y a.2 a'.2 (had_told short txn x a1 t had1) (had_told short txn y a2 t' had2)) ∙ sym t')
 prepare_answer short s budget v1 v2 place p1 p2 txn op (message.Vote n1 x) reply2 a1 a2 a t a' t' had1 had2 = absurd a'
@@ -188,7 +189,7 @@ prepare_answer short s budget v1 v2 place p1 p2 txn op reply1 reply2 a1 a2 a t a
 
 down_case : (short : Bool) (s : State) (budget version : ℕ) (place p1 p2 : ParticipantPlace) (out o1 o2 : Bool) (m : Message) (c1 c2 : Option Op) (a1 a2 : Answer)
     → TakesDownAt short s budget version place out m p1 o1 c1 a1 → TakesDownAt short s budget version place out m p2 o2 c2 a2
-    → ((short ≡ false) × (is_want a1 ≡ true) → ⊥) → ((short ≡ false) × (is_want a2 ≡ true) → ⊥) → a1 ≡ a2
+    → ((short ≡ false) × (lacked_memory a1 ≡ true) → ⊥) → ((short ≡ false) × (lacked_memory a2 ≡ true) → ⊥) → a1 ≡ a2
 down_case short s budget version place p1 p2 out o1 o2 (message.Reply d) c1 c2 a1 a2 x y had1 had2 = x.is_answer ∙ sym y.is_answer
 down_case short s budget version place p1 p2 out o1 o2 (message.Prepare txn op) c1 c2 a1 a2 x y had1 had2 =
     prepare_answer short s budget _ _ place p1 p2 txn op x.reply y.reply a1 a2 x.answers x.is_answer y.answers y.is_answer had1 had2
@@ -201,7 +202,7 @@ down_case short s budget version place p1 p2 out o1 o2 (message.Ack txn) c1 c2 a
 down_case short s budget version place p1 p2 out o1 o2 (message.Submit op) c1 c2 a1 a2 x y had1 had2 = absurd x.answers
 
 down_answer : (w w1 w2 : World) (i : ℕ) (short : Bool) (a1 a2 : Answer) → HappensDown w i short w1 a1 → HappensDown w i short w2 a2
-    → ((short ≡ false) × (is_want a1 ≡ true) → ⊥) → ((short ≡ false) × (is_want a2 ≡ true) → ⊥) → a1 ≡ a2
+    → ((short ≡ false) × (lacked_memory a1 ≡ true) → ⊥) → ((short ≡ false) × (lacked_memory a2 ≡ true) → ⊥) → a1 ≡ a2
 down_answer w w1 w2 i short a1 a2 a b had1 had2 =
     down_case short (newest w) b.peer.budget b.peer.version b.peer.place a.place b.place b.peer.outstanding a.outstanding b.outstanding b.m a.committed b.committed a1 a2 at_b b.here had1 had2
   where
@@ -230,7 +231,7 @@ rx_answer w w1 w2 core packet floor a1 a2 a b =
 
 -- All events
 
-pub one_answer : (w w1 w2 : World) (event : Event) (a1 a2 : Answer) → Happens w event w1 a1 → Happens w event w2 a2 → (WantsMemory event a1 → ⊥) → (WantsMemory event a2 → ⊥) → a1 ≡ a2
+pub one_answer : (w w1 w2 : World) (event : Event) (a1 a2 : Answer) → Happens w event w1 a1 → Happens w event w2 a2 → (LacksMemory event a1 → ⊥) → (LacksMemory event a2 → ⊥) → a1 ≡ a2
 one_answer w w1 w2 (Start op) a1 a2 x y had1 had2 = start_answer w w1 w2 op a1 a2 x y had1 had2
 one_answer w w1 w2 (Submit (suc i) op) a1 a2 x y had1 had2 = x.here.is_answer ∙ sym y.here.is_answer
 one_answer w w1 w2 (StartFor (suc i)) a1 a2 x y had1 had2 = start_for_answer w w1 w2 i a1 a2 x y had1 had2

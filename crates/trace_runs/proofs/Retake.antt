@@ -13,26 +13,26 @@ use Rattle.world_model.specs.declared.event.Answer.{Answer}
 use Rattle.world_model.specs.declared.event.Answer.TheVariants.{TookPrepare}
 use Rattle.world_model.specs.Cases.{Took, TakesDownAt}
 use Rattle.world_model.specs.Worlds.{World, Happens}
-use Rattle.trace_runs.specs.Memory.{is_want}
+use Rattle.trace_text.specs.Traces.{lacked_memory}
 use Rattle.trace_runs.specs.Traces.{retold}
 
 -- the vote that was cast can be cast where the core is short of memory exactly if it voted so
-recast : (short : Bool) (s : State) (budget : ℕ) (op : Op) (txn : ℕ) (v : Vote) → Casts short s budget op v → Casts (is_want (TookPrepare txn v)) s budget op v
+recast : (short : Bool) (s : State) (budget : ℕ) (op : Op) (txn : ℕ) (v : Vote) → Casts short s budget op v → Casts (lacked_memory (TookPrepare txn v)) s budget op v
 recast short s budget op txn vote.Yes c = (c.0, c.1, refl)
 recast short s budget op txn vote.Budget c = c
 recast short s budget op txn vote.NoMemory c = c
 
 reanswers : (short : Bool) (s : State) (budget version : ℕ) (place place' : ParticipantPlace) (m reply : Message) (answer : Answer) → Answers short s budget place m place' reply → Took m reply version answer
-    → Answers (is_want answer) s budget place m place' reply
+    → Answers (lacked_memory answer) s budget place m place' reply
 reanswers short s budget version place place' (message.Prepare txn op) (message.Vote n v) answer a t =
-    let c : Casts (is_want answer) s budget op v = subst (λ (x : Answer). Casts (is_want x) s budget op v) (sym t) (recast short s budget op txn v a.2) in
+    let c : Casts (lacked_memory answer) s budget op v = subst (λ (x : Answer). Casts (lacked_memory x) s budget op v) (sym t) (recast short s budget op txn v a.2) in
     (a.0, a.1, c, a.3, a.4)
 reanswers short s budget version place place' (message.Commit txn) (message.Ack n) answer a t = a
 reanswers short s budget version place place' (message.Abort txn) (message.Ack n) answer a t = a
 reanswers short s budget version place place' m reply answer a t = absurd a
 
 retaken : (short : Bool) (s : State) (budget version : ℕ) (place place' : ParticipantPlace) (out out' : Bool) (m : Message) (committed : Option Op) (answer : Answer)
-    → TakesDownAt short s budget version place out m place' out' committed answer → TakesDownAt (is_want answer) s budget version place out m place' out' committed answer
+    → TakesDownAt short s budget version place out m place' out' committed answer → TakesDownAt (lacked_memory answer) s budget version place out m place' out' committed answer
 retaken short s budget version place place' out out' (message.Reply d) committed answer h = h
 retaken short s budget version place place' out out' (message.Prepare txn op) committed answer h =
     record { reply = h.reply; answers = reanswers short s budget _ place place' (message.Prepare txn op) h.reply answer h.answers h.is_answer; same_outstanding = h.same_outstanding; is_committed = h.is_committed; is_answer = h.is_answer }

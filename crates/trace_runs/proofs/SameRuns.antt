@@ -1,4 +1,4 @@
--- Runs of the same events are the same, where memory isn't wanting.
+-- Runs of the same events are the same, where memory isn't lacking.
 use Rattle.std.proofs.Common.{◌≡◌, List, [], ◌∷◌, map, refl, ap, sym, ◌∙◌, subst}
 use Rattle.std.specs.List.{All}
 use Rattle.std.proofs.lemmas.List.Elements.{All-head, All-tail}
@@ -7,14 +7,14 @@ use Rattle.world_model.specs.declared.event.Answer.{Answer}
 use Rattle.world_model.specs.declared.event.Done.{Done}
 use Rattle.world_model.specs.Worlds.{World, Happens, Runs}
 use Rattle.world_histories.proofs.Once.{runs_once}
-use Rattle.trace_runs.specs.Memory.{WantsMemory, HadMemory}
+use Rattle.trace_runs.specs.Memory.{LacksMemory, HadMemory}
 use Rattle.trace_runs.proofs.OneAnswer.{one_answer}
 
 -- with one answer an event leads to one world
 pub world_once : (w w1 w2 : World) (event : Event) (answer : Answer) → Happens w event w1 answer → Happens w event w2 answer → w1 ≡ w2
 world_once w w1 w2 event answer a b = runs_once w w1 w2 (record { event = event; answer = answer } ∷ []) (w1, a, refl) (w2, b, refl)
 
-pub happens_once : (w w1 w2 : World) (event : Event) (a1 a2 : Answer) → Happens w event w1 a1 → Happens w event w2 a2 → (WantsMemory event a1 → ⊥) → (WantsMemory event a2 → ⊥) → (a1 ≡ a2) × (w1 ≡ w2)
+pub happens_once : (w w1 w2 : World) (event : Event) (a1 a2 : Answer) → Happens w event w1 a1 → Happens w event w2 a2 → (LacksMemory event a1 → ⊥) → (LacksMemory event a2 → ⊥) → (a1 ≡ a2) × (w1 ≡ w2)
 happens_once w w1 w2 event a1 a2 x y had1 had2 =
     let same : a1 ≡ a2 = one_answer w w1 w2 event a1 a2 x y had1 had2 in
     (same, world_once w w1 w2 event a2 (subst (λ (a : Answer). Happens w event w1 a) same x) y)
@@ -33,8 +33,8 @@ runs_same w w1 w2 (c ∷ cs) (d ∷ ds) a b e had1 had2 =
     later : map (λ (done : Done). done.event) cs ≡ map (λ (done : Done). done.event) ds
     later = cc
 
-    first_had : WantsMemory d.event c.answer → ⊥
-    first_had = subst (λ (event : Event). WantsMemory event c.answer → ⊥) same_event (All-head HadMemory c cs had1)
+    first_had : LacksMemory d.event c.answer → ⊥
+    first_had = subst (λ (event : Event). LacksMemory event c.answer → ⊥) same_event (All-head HadMemory c cs had1)
 
     here : (c.answer ≡ d.answer) × (a.0 ≡ b.0)
     here = happens_once w a.0 b.0 d.event c.answer d.answer (subst (λ (event : Event). Happens w event a.0 c.answer) same_event a.1) b.1 first_had (All-head HadMemory d ds had2)

@@ -10,8 +10,9 @@ use Rattle.mk_script.specs.declared.script.Script.{Script}
 use Rattle.mk_script.specs.Scripts.{AreFiles, Stands}
 use Rattle.mk_script.proofs.LawLemmas.{one_outcome}
 use Rattle.script_input.specs.Inputs.{AllWithin, AllShort, SomeLong}
-use Rattle.sim_engine.specs.Showing.{ShowsItems, ShowsScript, ShowsSim, for_sim}
-use Rattle.trace_runs.specs.Traces.{traced}
+use Rattle.mk_script.specs.Threads.{for_simulation}
+use Rattle.sim_engine.specs.Showing.{ShowsItems, ShowsScript, ShowsSim}
+use Rattle.trace_text.specs.Traces.{traced_script}
 use Rattle.trace_runs.specs.Memory.{WasNotRefused}
 use Rattle.trace_runs.specs.Repeats.{DiffersByMemory, RanScript}
 use Rattle.trace_runs.proofs.Merged.{shown, only}
@@ -27,15 +28,15 @@ not_long input files short (inr long) = omega (arith, none_longer files long.0 l
 
 module _ (files : List (List ℕ)) (input : List ℕ) (script : Script) (budget : ℕ) (budgets : List ℕ) (end : Core0) (ends : List Other) (merged : List Stamped)
     (short : AllShort input files) (are_budgets : script.budgets ≡ budget ∷ budgets) (ran : RanScript budget budgets script.items end ends merged)
-    (stands : Stands (for_sim files) input (Ok (traced script (as_listed merged)))) where
+    (stands : Stands (for_simulation files) input (Ok (traced_script script (as_listed merged)))) where
   pub sim_shown : ShowsSim files input 0 (flat_map done_line (as_listed merged))
   sim_shown = inl (
     short,
     inl (
-      traced script (as_listed merged),
+      traced_script script (as_listed merged),
       stands,
       refl,
-      subst (λ (bs : List ℕ). ShowsItems bs (traced script (as_listed merged)).items (flat_map done_line (as_listed merged))) (sym are_budgets) (shown budget budgets script.items end ends merged ran),
+      subst (λ (bs : List ℕ). ShowsItems bs (traced_script script (as_listed merged)).items (flat_map done_line (as_listed merged))) (sym are_budgets) (shown budget budgets script.items end ends merged ran),
     ),
   )
 
@@ -45,11 +46,11 @@ module _ (files : List (List ℕ)) (input : List ℕ) (script : Script) (budget 
   module _ (are_files : AreFiles files) (had : All WasNotRefused (as_listed merged)) (status : ℕ) (text : List ℕ) where
     of_script : ShowsScript files input status text → (status ≡ 0) × IsOrDiffers text
     of_script (inl s) =
-        let is : Ok (traced script (as_listed merged)) ≡ Ok s.0 = one_outcome (for_sim files) are_files input (Ok (traced script (as_listed merged))) (Ok s.0) stands s.1 in
-        let same : s.0 ≡ traced script (as_listed merged) = cc in
-        let items : ShowsItems script.budgets (traced script (as_listed merged)).items text = subst (λ (x : Script). ShowsItems x.budgets x.items text) same s.3 in
-        (s.2, only budget budgets script.items end ends merged text ran had (subst (λ (bs : List ℕ). ShowsItems bs (traced script (as_listed merged)).items text) are_budgets items))
-    of_script (inr f) = absurd (let is = one_outcome (for_sim files) are_files input (Ok (traced script (as_listed merged))) (Err f.0) stands f.1 in cc)
+        let is : Ok (traced_script script (as_listed merged)) ≡ Ok s.0 = one_outcome (for_simulation files) are_files input (Ok (traced_script script (as_listed merged))) (Ok s.0) stands s.1 in
+        let same : s.0 ≡ traced_script script (as_listed merged) = cc in
+        let items : ShowsItems script.budgets (traced_script script (as_listed merged)).items text = subst (λ (x : Script). ShowsItems x.budgets x.items text) same s.3 in
+        (s.2, only budget budgets script.items end ends merged text ran had (subst (λ (bs : List ℕ). ShowsItems bs (traced_script script (as_listed merged)).items text) are_budgets items))
+    of_script (inr f) = absurd (let is = one_outcome (for_simulation files) are_files input (Ok (traced_script script (as_listed merged))) (Err f.0) stands f.1 in cc)
 
     pub sim_only : ShowsSim files input status text → (status ≡ 0) × IsOrDiffers text
     sim_only (inl s) = of_script s.1

@@ -1,4 +1,4 @@
--- Whatever a trace shows is the run, or differs first by a want of memory.
+-- Whatever a trace shows is the run, or differs first where a core is out of memory.
 use Rattle.std.proofs.Common.{◌≡◌, ◌≢◌, ◌⊎◌, inl, inr, ℕ, Bool, true, false, List, [], ◌∷◌, ◌++◌, map, refl, ap, sym, ◌∙◌, subst, append_assoc}
 use Rattle.std.specs.Prelude.{Result, Ok, Err}
 use Rattle.std.specs.List.{All, flat_map}
@@ -26,8 +26,9 @@ use Rattle.sim_engine.specs.declared.way.Way.TheVariants as way
 use Rattle.sim_engine.specs.Ways.{home_of, event_of}
 use Rattle.core_loop.specs.Cores.{begins}
 use Rattle.sim_engine.specs.Simulations.{Simulation, Tells, Applies, Does, Begins, nothing, done, refused, Performs}
-use Rattle.trace_runs.specs.Memory.{is_want, IsRefusedForMemory, WantsMemory, WasNotRefused}
-use Rattle.trace_runs.specs.Traces.{retold, item_of, trace_item, asks_of, begun_at}
+use Rattle.trace_text.specs.Traces.{lacked_memory, item_of, trace_item, asks_of}
+use Rattle.trace_runs.specs.Memory.{IsRefusedForMemory, LacksMemory, WasNotRefused}
+use Rattle.trace_runs.specs.Traces.{retold, begun_at}
 use Rattle.trace_runs.specs.Repeats.{BeginInOrder, PerformsTrace, Repeats, same, short_of_memory}
 use Rattle.trace_runs.proofs.SameRuns.{happens_once}
 use Rattle.trace_runs.proofs.Pending.{BeginsFirst, not_none, begun_first, as_request}
@@ -35,7 +36,7 @@ use Rattle.trace_runs.proofs.Retake.{happens_retold}
 use Rattle.trace_runs.proofs.Again.{at, Begin, BeginWith, begin_still, asked, begin_asked}
 use Rattle.trace_runs.proofs.NotRefused.{none_stands}
 
--- Whether memory was wanting
+-- Whether a core was out of memory
 
 refused_or_not : (answer : Answer) → IsRefusedForMemory answer ⊎ (IsRefusedForMemory answer → ⊥)
 refused_or_not (Decided (Refused core veto.NoMemory)) = inl tt
@@ -46,19 +47,19 @@ short_or_not true votes = inr (λ h. let x = h.0 in cc)
 short_or_not false true = inl (refl, refl)
 short_or_not false false = inr (λ h. let x = h.1 in cc)
 
-wants_or_not : (event : Event) (answer : Answer) → WantsMemory event answer ⊎ (WantsMemory event answer → ⊥)
-wants_or_not (Start op) answer = refused_or_not answer
-wants_or_not (StartFor core) answer = refused_or_not answer
-wants_or_not (Take to from short) answer = short_or_not short (is_want answer)
-wants_or_not event answer = inr (λ h. h)
+lacks_or_not : (event : Event) (answer : Answer) → LacksMemory event answer ⊎ (LacksMemory event answer → ⊥)
+lacks_or_not (Start op) answer = refused_or_not answer
+lacks_or_not (StartFor core) answer = refused_or_not answer
+lacks_or_not (Take to from short) answer = short_or_not short (lacked_memory answer)
+lacks_or_not event answer = inr (λ h. h)
 
--- a trace tells of each vote for want of memory
-had_again : (event : Event) (answer : Answer) → (IsRefusedForMemory answer → ⊥) → WantsMemory (retold event answer) answer → ⊥
-had_again (Start op) answer had wants = had wants
-had_again (StartFor core) answer had wants = had wants
-had_again (Take to from short) answer had wants = let x = wants.0 in let y = wants.1 in cc
-had_again (Submit core op) answer had wants = wants
-had_again (Rx core number packet floor) answer had wants = wants
+-- a trace tells of each vote NoMemory
+had_again : (event : Event) (answer : Answer) → (IsRefusedForMemory answer → ⊥) → LacksMemory (retold event answer) answer → ⊥
+had_again (Start op) answer had out = had out
+had_again (StartFor core) answer had out = had out
+had_again (Take to from short) answer had out = let x = out.0 in let y = out.1 in cc
+had_again (Submit core op) answer had out = out
+had_again (Rx core number packet floor) answer had out = out
 
 -- What one event tells
 
@@ -72,10 +73,10 @@ stands w event Spent other h = h
 stands w event Outstanding other h = h
 stands w event NoneWaiting other h = h
 
--- the same, or a want of memory
+-- the same, or out of memory
 data ToldOnce (event : Event) (answer : Answer) (mid w' : World) (told : Result Answer WorldFault) : Type 0 where
   as_before : told ≡ Ok answer → w' ≡ mid → ToldOnce event answer mid w' told
-  wanting : (other : Answer) → WantsMemory event other → told ≡ Ok other → ToldOnce event answer mid w' told
+  lacking : (other : Answer) → LacksMemory event other → told ≡ Ok other → ToldOnce event answer mid w' told
 
 -- the item of an event as a trace tells it
 abbrev item_for : Event → Item
@@ -93,27 +94,27 @@ retold_item (Take to from short) answer = refl
 retold_item (Rx core number packet floor) answer = refl
 
 module _ (budget : ℕ) (budgets : List ℕ) (before : List Done) (w mid : World) (run : Run budget budgets before w) where
-  told_once : (event : Event) (answer : Answer) (w' : World) (told : Result Answer WorldFault) → Happens w event mid answer → (WantsMemory event answer → ⊥) → Tells w event told w' → ToldOnce event answer mid w' told
-  told_once event answer w' (Ok other) h had tells = by_memory (wants_or_not event other)
+  told_once : (event : Event) (answer : Answer) (w' : World) (told : Result Answer WorldFault) → Happens w event mid answer → (LacksMemory event answer → ⊥) → Tells w event told w' → ToldOnce event answer mid w' told
+  told_once event answer w' (Ok other) h had tells = by_memory (lacks_or_not event other)
     where
-      by_memory : WantsMemory event other ⊎ (WantsMemory event other → ⊥) → ToldOnce event answer mid w' (Ok other)
-      by_memory (inl wants) = wanting other wants refl
+      by_memory : LacksMemory event other ⊎ (LacksMemory event other → ⊥) → ToldOnce event answer mid w' (Ok other)
+      by_memory (inl out) = lacking other out refl
       by_memory (inr had') = let one = happens_once w w' mid event other answer tells h had' had in as_before (ap (λ (a : Answer). Ok a) one.0) one.1
   told_once event answer w' (Err fault) h had tells = absurd (none_stands budget budgets before w mid event answer fault run h (stands w event fault tells.0 tells.1))
 
   not_refused : (event : Event) (answer : Answer) (fault : WorldFault) (w' : World) → Happens w event mid answer → Tells w event (Err fault) w' → ⊥
   not_refused event answer fault w' h tells = none_stands budget budgets before w mid event answer fault run h (stands w event fault tells.0 tells.1)
 
-  -- the item's event, its line, and the requests that are left; or a want of memory
+  -- the item's event, its line, and the requests that are left; or out of memory
   data Found (event : Event) (answer : Answer) (later : List Done) (s' : Simulation) (now : List ℕ) : Type 0 where
     goes_on : s'.world ≡ mid → now ≡ event_line event (Ok answer) → Begin later s'.pending → Found event answer later s' now
-    lacks : (other : Answer) → WantsMemory event other → now ≡ event_line event (Ok other) → Found event answer later s' now
+    lacked : (other : Answer) → LacksMemory event other → now ≡ event_line event (Ok other) → Found event answer later s' now
 
   by_told : (event : Event) (answer : Answer) (later : List Done) (s' : Simulation) (now : List ℕ) (told : Result Answer WorldFault) → ToldOnce event answer mid s'.world told → now ≡ event_line event told → Begin later s'.pending → Found event answer later s' now
   by_told event answer later s' now told (as_before e is) line begin = goes_on is (line ∙ ap (event_line event) e) begin
-  by_told event answer later s' now told (wanting other wants e) line begin = lacks other wants (line ∙ ap (event_line event) e)
+  by_told event answer later s' now told (lacking other out e) line begin = lacked other out (line ∙ ap (event_line event) e)
 
-  found_begun : (by : Way) (op : Op) (answer : Answer) (later : List Done) (pending : List Request) (s' : Simulation) (now : List ℕ) → Happens w (event_of by op) mid answer → (WantsMemory (event_of by op) answer → ⊥)
+  found_begun : (by : Way) (op : Op) (answer : Answer) (later : List Done) (pending : List Request) (s' : Simulation) (now : List ℕ) → Happens w (event_of by op) mid answer → (LacksMemory (event_of by op) answer → ⊥)
       → BeginsFirst (home_of by) op (λ core. begun_at core later) pending → Begins (at w pending) by s' now → Found (event_of by op) answer later s' now
   found_begun by op answer later pending s' now h had b (nothing none is line) = absurd (not_none (home_of by) op (λ core. begun_at core later) pending b none)
   found_begun by op answer later pending s' now h had b (done first f other tells line) =
@@ -125,12 +126,12 @@ module _ (budget : ℕ) (budgets : List ℕ) (before : List Done) (w mid : World
       let g = begun_first (home_of by) op (λ core. begun_at core later) pending first rest b f in
       absurd (not_refused (event_of by op) answer fault s'.world h (subst (λ (o : Op). Tells w (event_of by o) (Err fault) s'.world) g.is_op tells))
 
-  found_applied : (event : Event) (answer : Answer) (later : List Done) (pending : List Request) (s' : Simulation) (now : List ℕ) → begins event ≡ [] → Happens w event mid answer → (WantsMemory event answer → ⊥) → BeginWith event later pending
+  found_applied : (event : Event) (answer : Answer) (later : List Done) (pending : List Request) (s' : Simulation) (now : List ℕ) → begins event ≡ [] → Happens w event mid answer → (LacksMemory event answer → ⊥) → BeginWith event later pending
       → Applies (at w pending) event s' now → Found event answer later s' now
   found_applied event answer later pending s' now none h had b does =
       by_told event answer later s' now does.0 (told_once event answer s'.world does.0 h had does.1) does.3 (subst (Begin later) (sym does.2) (begin_still event later pending none b))
 
-  found : (event : Event) (answer : Answer) (later : List Done) (pending : List Request) (s' : Simulation) (now : List ℕ) → Happens w event mid answer → (WantsMemory event answer → ⊥) → BeginWith event later pending
+  found : (event : Event) (answer : Answer) (later : List Done) (pending : List Request) (s' : Simulation) (now : List ℕ) → Happens w event mid answer → (LacksMemory event answer → ⊥) → BeginWith event later pending
       → Does (at w pending) (item_for event) s' now → Found event answer later s' now
   found (Start op) answer later pending s' now h had b does = found_begun way.Start op answer later pending s' now h had b does
   found (Submit core op) answer later pending s' now h had b does = found_begun (way.Submit core) op answer later pending s' now h had b does
@@ -163,7 +164,7 @@ one_more d ds w' end now later text line whole (short_of_memory x) = short_of_me
   after = x.after;
   is_among = ap (λ (xs : List Done). d ∷ xs) x.is_among;
   answer = x.answer;
-  wants = x.wants;
+  lacks = x.lacks;
   more = x.more;
   printed = whole ∙ (rw (line, x.printed) (sym (append_assoc (done_line d) (flat_map done_line x.before) (event_line x.done.event (Ok x.answer) ++ x.more))));
 })
@@ -180,13 +181,13 @@ whatever budget budgets before (d ∷ ds) w w' pending end text run r b had p =
         → (Begin ds p.0.pending → Performs (at r.0 p.0.pending) (map trace_item ds) end p.2 → Repeats ds w' end.world p.2) → Repeats (d ∷ ds) w' end.world text
     by_found (goes_on is line begin) rest =
         one_more d ds w' end.world p.1 p.2 text (line ∙ retold_line d.event d.answer (Ok d.answer)) p.5 (rest begin (subst (λ (x : World). Performs (at x p.0.pending) (map trace_item ds) end p.2) is p.4))
-    by_found (lacks other wants line) rest = short_of_memory (record {
+    by_found (lacked other out line) rest = short_of_memory (record {
       before = [];
       done = d;
       after = ds;
       is_among = refl;
       answer = other;
-      wants = wants;
+      lacks = out;
       more = p.2;
       printed = p.5 ∙ ap (λ (xs : List ℕ). xs ++ p.2) (line ∙ retold_line d.event d.answer (Ok other));
     })

@@ -14,8 +14,10 @@ use Rattle.core_threads.specs.Lanes.{items_for}
 use Rattle.mk_script.specs.declared.script.Item.{Item}
 use Rattle.sim_engine.specs.Simulations.{Simulation, just, Performs}
 use Rattle.sim_engine.specs.Showing.{ShowsItems}
-use Rattle.trace_runs.specs.Memory.{WantsMemory}
-use Rattle.trace_runs.specs.Traces.{retold, trace_item, asks_of, requests_of, begun_at}
+use Rattle.trace_runs.specs.Memory.{LacksMemory}
+use Rattle.run_engine.specs.Work.{requests_of}
+use Rattle.trace_text.specs.Traces.{trace_item, asks_of}
+use Rattle.trace_runs.specs.Traces.{retold, begun_at}
 
 -- each core begins its requests in the order in which the script has them, all of them or the first
 abbrev pub BeginInOrder : List Item → List Done → Type 0
@@ -31,18 +33,18 @@ pub record CanRepeat (budget : ℕ) (budgets : List ℕ) (items : List Item) (ev
   pub performs : PerformsTrace budget budgets items events end (flat_map done_line events)
   pub same_world : end.world ≡ w
 
--- the lines of the events before one, and then its line, but with an answer that tells a want of memory
+-- the lines of the events before one, and then its line, but with an answer that says that a core was out of memory
 pub record DiffersByMemory (events : List Done) (text : List ℕ) : Type 0 where
   pub before : List Done
   pub done : Done
   pub after : List Done
   pub is_among : events ≡ before ++ done ∷ after
   pub answer : Answer
-  pub wants : WantsMemory (retold done.event done.answer) answer
+  pub lacks : LacksMemory (retold done.event done.answer) answer
   pub more : List ℕ
   pub printed : text ≡ flat_map done_line before ++ (event_line done.event (Ok answer) ++ more)
 
--- the text and the world at its end are those of these events, or the first line that differs tells a want of memory
+-- the text and the world at its end are those of these events, or the first line that differs says that a core was out of memory
 pub data Repeats (events : List Done) (w end : World) (text : List ℕ) : Type 0 where
   same : text ≡ flat_map done_line events → end ≡ w → Repeats events w end text
   short_of_memory : DiffersByMemory events text → Repeats events w end text

@@ -14,24 +14,25 @@ ghost use Rattle.mk_script.specs.declared.script.Item.{Item};
 ghost use Rattle.mk_script.specs.declared.script.Script.{Script};
 ghost use Rattle.mk_script.specs.Scripts.{AreFiles, Stands};
 ghost use Rattle.script_input.specs.Inputs.{AllShort};
-ghost use Rattle.sim_engine.specs.Showing.{ShowsSim, for_sim};
+ghost use Rattle.mk_script.specs.Threads.{for_simulation};
+ghost use Rattle.sim_engine.specs.Showing.{ShowsSim};
 ghost use Rattle.sim_engine.specs.Simulations.{Simulation};
-ghost use Rattle.trace_runs.specs.Memory.{WantsMemory, HadMemory, WasNotRefused};
-ghost use Rattle.trace_runs.specs.Traces.{traced};
+ghost use Rattle.trace_text.specs.Traces.{traced_script};
+ghost use Rattle.trace_runs.specs.Memory.{LacksMemory, HadMemory, WasNotRefused};
 ghost use Rattle.trace_runs.specs.Repeats.{BeginInOrder, PerformsTrace, CanRepeat, DiffersByMemory, Repeats, RanScript, CanRepeatMerged, ShowsTrace};
 
-/// From one world the events of a run alone tell their answers and the world at its end, but for want of memory: two runs of the
-/// same events are the same where core 0 refused no request for want of memory in either, and each core that voted so was short of
-/// memory by its event.
+/// From one world the events of a run alone tell their answers and the world at its end, unless a core is out of memory: two runs
+/// of the same events are the same where core 0 refused no request for lack of memory in either, and each core that voted so was
+/// short of memory by its event.
 pub fn answers_follow_from_events()
     ensures event { (w w1 w2 : World) (event : Event) (a1 a2 : Answer) → Happens w event w1 a1 → Happens w event w2 a2 →
-        (WantsMemory event a1 → ⊥) → (WantsMemory event a2 → ⊥) → (a1 ≡ a2) × (w1 ≡ w2) }
+        (LacksMemory event a1 → ⊥) → (LacksMemory event a2 → ⊥) → (a1 ≡ a2) × (w1 ≡ w2) }
     ensures runs { (w w1 w2 : World) (done1 done2 : List Done) → Runs w done1 w1 → Runs w done2 w2 →
         map (λ done. done.event) done1 ≡ map (λ done. done.event) done2 → All HadMemory done1 → All HadMemory done2 → (done1 ≡ done2) × (w1 ≡ w2) }
 {}
 
 /// After a script's requests `sim` can do the events of any run whose cores begin those requests in order, prints the lines of the
-/// events with their answers, and ends in the run's world. Where core 0 refused no request for want of memory in that run, `sim`
+/// events with their answers, and ends in the run's world. Where core 0 refused no request for lack of memory in that run, `sim`
 /// does and prints nothing else for them, unless memory runs out: then the first line that differs says so.
 pub fn runs_are_done_again()
     ensures can { (budget : ℕ) (budgets : List ℕ) (items : List Item) (events : List Done) (w : World) →
@@ -42,7 +43,7 @@ pub fn runs_are_done_again()
 {}
 
 /// Of cores that ran beside each other on a script: after the script's requests `sim` can do the one list of all their events, shows
-/// a line for each, and ends where the cores end. Where core 0 refused no request for want of memory, `sim` shows nothing else,
+/// a line for each, and ends where the cores end. Where core 0 refused no request for lack of memory, `sim` shows nothing else,
 /// unless memory runs out: then the first line that differs says so.
 pub fn merged_runs_are_done_again()
     ensures can { (budget : ℕ) (budgets : List ℕ) (items : List Item) (end : Core0) (ends : List Other) (merged : List Stamped) →
@@ -55,16 +56,16 @@ pub fn merged_runs_are_done_again()
 {}
 
 /// `sim` can show, of a text that stands for a script's requests and then the events of cores that ran on the script, a line for
-/// each event, with status 0. Where core 0 refused no request for want of memory, it shows nothing else, unless memory runs out:
+/// each event, with status 0. Where core 0 refused no request for lack of memory, it shows nothing else, unless memory runs out:
 /// then the first line that differs says so.
 ///
 /// The text and its files have to be within the limits of `sim`.
 pub fn sim_shows_the_trace()
     ensures shown { (files : List (List ℕ)) (input : List ℕ) (script : Script) (budget : ℕ) (budgets : List ℕ) (end : Core0) (ends : List Other) (merged : List Stamped) →
-        AllShort input files → script.budgets ≡ budget ∷ budgets → RanScript budget budgets script.items end ends merged → Stands (for_sim files) input (Ok (traced script (as_listed merged))) →
+        AllShort input files → script.budgets ≡ budget ∷ budgets → RanScript budget budgets script.items end ends merged → Stands (for_simulation files) input (Ok (traced_script script (as_listed merged))) →
         ShowsSim files input 0 (flat_map done_line (as_listed merged)) }
     ensures only { (files : List (List ℕ)) (input : List ℕ) (script : Script) (budget : ℕ) (budgets : List ℕ) (end : Core0) (ends : List Other) (merged : List Stamped) (status : ℕ) (text : List ℕ) →
         AreFiles files → AllShort input files → script.budgets ≡ budget ∷ budgets → RanScript budget budgets script.items end ends merged → All WasNotRefused (as_listed merged) →
-        Stands (for_sim files) input (Ok (traced script (as_listed merged))) → ShowsSim files input status text →
+        Stands (for_simulation files) input (Ok (traced_script script (as_listed merged))) → ShowsSim files input status text →
         (status ≡ 0) × ((text ≡ flat_map done_line (as_listed merged)) ⊎ DiffersByMemory (as_listed merged) text) }
 {}

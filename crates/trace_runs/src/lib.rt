@@ -1,6 +1,6 @@
-//! A run's events, done again: the answers are the same but for want of memory, and `sim` does a merged run of cores again after
-//! the requests of its script, and shows the same lines (Lamport, "Time, clocks, and the ordering of events in a distributed
-//! system", CACM 1978).
+//! A run's events, done again: the answers are the same unless a core is out of memory, and `sim` does a merged run of cores
+//! again after the requests of its script, and shows the same lines (Lamport, "Time, clocks, and the ordering of events in a
+//! distributed system", CACM 1978).
 //!
 //! Here are laws alone, each the contract of a function that does nothing.
 #![tactic(auto)]

@@ -57,7 +57,7 @@ fn a_cut_capture_is_refused(rt: HostRuntime) {
     shows(&rt, rt.alloc(), script, Some(&CAPTURE[..74]), 1, shown);
 }
 
-/// A script for a run, and what the run printed for it behind `trace`.
+/// A script for a run, and what the run printed for it after `trace`.
 const TRACED: (&str, &str) = (
     "cores 100 100\n\
      ddd all 1,6 0 0 65535\n\

@@ -224,7 +224,7 @@ fn a_file_has_a_limit(rt: HostRuntime) {
 }
 
 #[test]
-fn nothing_is_read_behind_an_input_that_is_too_long(rt: HostRuntime) {
+fn nothing_is_read_after_an_input_that_is_too_long(rt: HostRuntime) {
     let long = "fault InputTooLong\n";
     refuses(
         &rt,

@@ -49,7 +49,7 @@ fn tells_no_memory(text: &[u8]) -> bool {
     text.windows(8).any(|word| word == b"NoMemory".as_slice())
 }
 
-/// A script shows all of this text, or ends early behind a front of it, or goes on behind a vote for want of memory.
+/// A script shows all of this text, or ends early after a front of it, or goes on after a vote NoMemory.
 fn shows_or_tells(rt: &impl Abort, alloc: Global, script: &str, shown: &str) {
     let files: Vec<Cursor<&[u8]>> = Vec::new(alloc);
     let mut page = Page {
