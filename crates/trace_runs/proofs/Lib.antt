@@ -8,3 +8,6 @@ pub mod NotRefused
 pub mod Whatever
 pub mod Merged
 pub mod Shown
+pub mod Naming
+pub mod Counting
+pub mod Joined

@@ -1,3 +1,4 @@
 pub mod Memory
 pub mod Traces
 pub mod Repeats
+pub mod Printed

@@ -14,11 +14,13 @@ ghost use Rattle.mk_script.specs.declared.script.Item.{Item};
 ghost use Rattle.mk_script.specs.declared.script.Script.{Script};
 ghost use Rattle.mk_script.specs.Scripts.{AreFiles, Stands};
 ghost use Rattle.script_input.specs.Inputs.{AllShort};
-ghost use Rattle.mk_script.specs.Threads.{for_simulation};
+ghost use Rattle.mk_script.specs.Threads.{for_simulation, for_threads};
 ghost use Rattle.sim_engine.specs.Showing.{ShowsSim};
 ghost use Rattle.sim_engine.specs.Simulations.{Simulation};
-ghost use Rattle.trace_text.specs.Traces.{traced_script};
+ghost use Rattle.run_engine.specs.Showing.{ShowsRun};
+ghost use Rattle.trace_text.specs.Traces.{EndsInLf, traced_script};
 ghost use Rattle.trace_runs.specs.Memory.{LacksMemory, HadMemory, WasNotRefused};
+ghost use Rattle.trace_runs.specs.Printed.{event_lines, events_of, with_trace};
 ghost use Rattle.trace_runs.specs.Repeats.{BeginInOrder, PerformsTrace, CanRepeat, DiffersByMemory, Repeats, RanScript, CanRepeatMerged, ShowsTrace};
 
 /// From one world the events of a run alone tell their answers and the world at its end, unless a core is out of memory: two runs
@@ -68,4 +70,19 @@ pub fn sim_shows_the_trace()
         AreFiles files → AllShort input files → script.budgets ≡ budget ∷ budgets → RanScript budget budgets script.items end ends merged → All WasNotRefused (as_listed merged) →
         Stands (for_simulation files) input (Ok (traced_script script (as_listed merged))) → ShowsSim files input status text →
         (status ≡ 0) × ((text ≡ flat_map done_line (as_listed merged)) ⊎ DiffersByMemory (as_listed merged) text) }
+{}
+
+/// What `run` printed of a script, given to `sim` after the script and a line `trace`: `sim` can show the lines of the run's events
+/// once more, with status 0, and none of what was left. Where core 0 refused no request for lack of memory in the run, `sim` shows
+/// nothing else, unless memory runs out: then the first line that differs says so.
+///
+/// The script's text has to end in LF, and all of this has to be within the limits of `sim`.
+pub fn printed_runs_are_done_again()
+    ensures shown { (files : List (List ℕ)) (input : List ℕ) (script : Script) (text : List ℕ) (run : ShowsRun script text) →
+        Stands (for_threads files) input (Ok script) → EndsInLf input → AllShort (with_trace input text) files →
+        ShowsSim files (with_trace input text) 0 (event_lines run) }
+    ensures only { (files : List (List ℕ)) (input : List ℕ) (script : Script) (text : List ℕ) (run : ShowsRun script text) (status : ℕ) (text' : List ℕ) →
+        AreFiles files → Stands (for_threads files) input (Ok script) → EndsInLf input → AllShort (with_trace input text) files →
+        All WasNotRefused (events_of run) → ShowsSim files (with_trace input text) status text' →
+        (status ≡ 0) × ((text' ≡ event_lines run) ⊎ DiffersByMemory (events_of run) text') }
 {}
