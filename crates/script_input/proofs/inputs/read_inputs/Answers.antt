@@ -1,5 +1,5 @@
-use Rattle.std.proofs.Common.{map, inl, inr}
-use Rattle.console.proofs.MatchingLemmas.{long_input, whole_input}
+use Rattle.std.proofs.Common.{map, inl}
+use Rattle.console.proofs.MatchingLemmas.{long_input}
 use Rattle.script_input.proofs.Reading.{some_inputs}
 use Rattle.script_input.proofs.inputs.read_inputs.Goals as goal
 
