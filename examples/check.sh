@@ -78,7 +78,7 @@ not_utf8() {
 
 # The words that the help of the commands lists are those that docs/messages.md explains.
 words() {
-    for command in match check dump sim; do
+    for command in match check dump sim run; do
         ../mkdemux "$command" --help | sed '1,/^docs\/messages.md/d' | tr ' ' '\n' | grep -x '[A-Z][A-Za-z]*'
     done | sort -u > "$made/listed"
     sed -n 's/^### //p' ../docs/messages.md | sort -u | cmp -s - "$made/listed"
@@ -98,7 +98,7 @@ unread
 words
 
 # The commands of each page, with what the page says that they print.
-for page in README.md docs/messages.md docs/recipes.md docs/scripts.md examples/commands.md; do
+for page in README.md docs/messages.md docs/recipes.md docs/scripts.md docs/run.md examples/commands.md; do
     ./blocks.py "$page"
     count "$page" $?
 done

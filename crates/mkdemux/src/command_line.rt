@@ -241,7 +241,7 @@ The script is one for `sim` without an order of events: `mkdemux sim --help` has
 
 Each core begins its requests, takes its messages and receives its packets by itself, so two runs of a script may differ. Each
 is one that the protocol allows, with the events by the cores' logical clocks: `sim` takes the script, a line `trace` and this
-output, and prints the same.
+output, and prints the lines of its events again.
 
 A packet whose floor is above the last version of its core is not received: after the events there is a line `left CORE NUMBER`
 for each such packet, by its number. On a terminal standard error shows every second how many packets were received.
