@@ -1,5 +1,5 @@
 -- A core whose turn did one event, or none.
-use Rattle.std.proofs.Common.{◌≡◌, ◌≢◌, ◌⊎◌, inl, inr, ◌∙◌, ℕ, zero, suc, All, List, [], ◌∷◌, ◌++◌, sym, ap, subst, arith, append_assoc}
+use Rattle.std.proofs.Common.{◌≡◌, ◌⊎◌, inl, inr, ◌∙◌, ℕ, zero, suc, All, List, [], ◌∷◌, ◌++◌, sym, ap, subst, arith, append_assoc}
 use Rattle.std.proofs.lemmas.List.{append-nil}
 use Rattle.table_replica.specs.declared.Op.{Op}
 use Rattle.monitor_messages.specs.Coding.{HasShortProgram}
