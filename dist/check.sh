@@ -3,12 +3,13 @@
 # another byte is a failure. A program of older sources in dist/ is none. The last line is `N passed, M failed`.
 cd "$(dirname "$0")/.." || exit 2
 digest=$(dist/digest.sh)
-built=crates/mkdemux/out/stamped
+built=crates/mkdemux/out/stamped/mkdemux
+mkdir -p ${built%/*}
 if ! dist/stamp.sh crates/mkdemux/out/mkdemux $built "$digest"; then
     echo "0 passed, 1 failed"
     exit 1
 fi
-echo "$digest" > $built.sources
+echo "$digest" > ${built%/*}/sources
 if [ "$digest" != "$(cat dist/sources)" ]; then
     echo "dist: dist/mkdemux was built from other sources, and is not compared"
     echo "0 passed, 0 failed"
