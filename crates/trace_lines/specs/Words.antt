@@ -1,0 +1,34 @@
+-- The words of a line.
+use Rattle.std.specs.Prelude.{ℕ, ◌==◌, ◌&&◌, ◌||◌, nat_lt, Bool, List, [], length, slice_get, unwrap_or, codes}
+use Rattle.std.specs.List.{list_all}
+use Rattle.std.specs.Char.{is_ascii_alphanumeric, is_ascii_digit}
+use Rattle.std.specs.Str.{bytes_eq}
+
+-- the word at a place, or no bytes where there is none
+abbrev pub word_at : List (List ℕ) → ℕ → List ℕ
+word_at words place = unwrap_or (slice_get words place) []
+
+-- one decimal digit or more
+abbrev pub is_number : List ℕ → Bool
+is_number word = nat_lt 0 (length word) && list_all is_ascii_digit word
+
+-- the first word is this one
+abbrev pub says : List ℕ → List (List ℕ) → Bool
+says word words = bytes_eq (word_at words 0) word
+
+-- and a number follows
+abbrev pub says_number : List ℕ → List (List ℕ) → Bool
+says_number word words = says word words && is_number (word_at words 1)
+
+-- a letter, a digit, a space, `:` or `=`: no byte that means something to XML
+abbrev pub is_plain : ℕ → Bool
+is_plain b = (is_ascii_alphanumeric b || b == 32) || (b == 58 || b == 61)
+
+-- a word of a refusal, a veto or an event that wasn't done
+abbrev pub is_no : List ℕ → Bool
+is_no word =
+    (bytes_eq word (codes "refused") || bytes_eq word (codes "fault")) || (bytes_eq word (codes "Budget") || (bytes_eq word (codes "NoMemory") || bytes_eq word (codes "abort")))
+
+-- no line of an event: the empty one, those of tables and of packets that were left
+abbrev pub is_other : List ℕ → Bool
+is_other word = (bytes_eq word [] || bytes_eq word (codes "left")) || (bytes_eq word (codes "show") || (bytes_eq word (codes "cap") || bytes_eq word (codes "filter")))

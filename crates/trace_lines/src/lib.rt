@@ -1,0 +1,12 @@
+//! The lines that `sim` and `run` print, read back: the events of a trace, and which of them sent the message that another
+//! takes.
+#![tactic(auto)]
+
+mod event;
+mod lines;
+mod trace;
+mod words;
+
+pub use event::{Act, Event, Told};
+pub use lines::{Line, Read};
+pub use trace::{TraceFault, read_trace};
