@@ -1,4 +1,5 @@
-pub mod Words
 pub mod Lines
+pub mod Links
 pub mod Traces
 pub mod Views
+pub mod Words

@@ -4,9 +4,13 @@
 
 mod event;
 mod lines;
+mod messages;
+mod picture;
 mod trace;
 mod words;
 
 pub use event::{Act, Event, Told};
 pub use lines::{Line, Read};
+pub use messages::{Effect, Kind, Message};
+pub use picture::{Picture, Row, link_events};
 pub use trace::{TraceFault, read_trace};
