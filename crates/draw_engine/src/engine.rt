@@ -1,0 +1,84 @@
+//! `draw`: the picture of a trace.
+
+ghost use Rattle.std.specs.Prelude.{◌≡◌, ◌⊎◌, ℕ, List, IfOk, IfErr, Err};
+ghost use Rattle.std.specs.Io.KnownBytes.{Appends};
+ghost use Rattle.console.specs.Matching.{IsEngineFault};
+ghost use Rattle.console.specs.Reading.{IsInput};
+ghost use Rattle.draw_engine.specs.Drawing.{Shows, ShowsDraw, bad_line};
+ghost use Rattle.std.specs.Prelude.{string_bytes};
+ghost use Rattle.trace_lines.specs.Traces.{trace_of};
+
+use crate::svg::svg;
+use console::{
+    EngineFault, INPUT_BYTES, INPUT_READS, Input, read_bounded, write_bytes, write_text,
+};
+use std::alloc::{AllocError, Global};
+use std::io::{Read, Write};
+use trace_lines::{TraceFault, link_events, read_trace};
+
+/// Draws the trace of the input, and answers the status.
+///
+/// The input is what `sim` or `run` printed. The picture is an SVG file: a column for each core, a row for each event, with
+/// its line, and an arrow for each message, from the event that sent it to the event that took it, or to a row below the
+/// events where it is still under way. The first line that no trace has is printed as `line N: BadLine`, status 1; and of an
+/// input of more than 64 MiB only `fault InputTooLong`, status 1.
+///
+/// Answers `ReadFailed` or `NoMemory`, with nothing written, or `WriteFailed`.
+pub fn run_draw<R: Read, W: Write>(
+    alloc: Global,
+    reader: &mut R,
+    writer: &mut W,
+) -> Result<u8, EngineFault>
+    ensures shown { IfOk result (λ status. (text : List ℕ) × Appends (W.contents writer.old) (W.contents writer.new) text
+        × ((input : List ℕ) × IsInput (R.remaining reader.old) input × ShowsDraw input status text)) }
+    ensures fault { IfErr result IsEngineFault }
+    ensures silent { (result ≡ Err EngineFault.ReadFailed) ⊎ (result ≡ Err EngineFault.NoMemory) → writer.new ≡ writer.old }
+{
+    match read_bounded(alloc, reader, INPUT_BYTES, INPUT_READS)? {
+        Input::TooLong => {
+            write_text(writer, "fault InputTooLong\n")?;
+            Ok(1)
+        }
+        Input::Whole(input) => {
+            let drawing = draw_text(alloc, input.as_slice())?;
+            write_bytes(writer, drawing.text.as_slice())?;
+            Ok(drawing.status)
+        }
+    }
+}
+
+/// What is shown of a text, and the status that goes with it.
+#[derive(Drop)]
+struct Drawing {
+    text: Vec<u8>,
+    status: u8,
+}
+
+/// What is shown of a trace.
+fn draw_text(alloc: Global, text: &[u8]) -> Result<Drawing, AllocError>
+    ensures { IfOk result (λ drawing. Shows (trace_of text.now) drawing.status drawing.text.items) }
+{
+    match read_trace(alloc, text) {
+        Ok(lines) => {
+            let picture = link_events(alloc, lines.as_slice())?;
+            let text = svg(alloc, &picture)?;
+            Ok(Drawing { text, status: 0 })
+        }
+        Err(TraceFault::BadLine(number)) => {
+            let line = fault_line(alloc, number)?;
+            Ok(Drawing {
+                text: line.into_bytes(),
+                status: 1,
+            })
+        }
+        Err(TraceFault::NoMemory) => Err(AllocError),
+    }
+}
+
+/// The line for the first bad line of a text.
+fn fault_line(alloc: Global, number: usize) -> Result<String, AllocError>
+    ensures { IfOk result (λ line. string_bytes line ≡ bad_line number) }
+{
+    let line = format!(in alloc; "line {number}: BadLine\n")?;
+    Ok(line)
+}
