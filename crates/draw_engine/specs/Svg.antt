@@ -83,13 +83,13 @@ words_class refused = if refused then codes "w" else codes "t"
 
 -- the version that the core comes to
 abbrev pub version : ℕ → ℕ → List ℕ → List ℕ
-version core row number = if length number == 0 then [] else label (codes "v") (130 * core + 50) (22 * row + 88) (codes "v" ++ number)
+version core row number = if length number == 0 then [] else label (codes "v") (130 * core + 46) (22 * row + 88) (codes "v" ++ number)
 
 abbrev pub dot : List ℕ → ℕ → ℕ → List ℕ
 dot class core row = stroke class (x_of core) (y_of row) (x_of core) (y_of row)
 
 abbrev pub words_at : List ℕ → ℕ → ℕ → List ℕ → List ℕ
-words_at class core y words = label class (130 * core + 70) (y + 4) words
+words_at class core y words = label class (130 * core + 75) (y + 4) words
 
 -- an event's dot, version and line
 abbrev pub mark : Drawn → List ℕ

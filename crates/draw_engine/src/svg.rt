@@ -208,7 +208,7 @@ fn push_version(text: &mut Vec<u8>, core: u16, row: usize, number: &[u8]) -> Res
         return Ok(());
     }
     let at = Point {
-        x: 130 * u128::from(core) + 50,
+        x: 130 * u128::from(core) + 46,
         y: 22 * row as u128 + 88,
     };
     open_label(text, b"v", at)?;
@@ -220,10 +220,10 @@ fn push_version(text: &mut Vec<u8>, core: u16, row: usize, number: &[u8]) -> Res
 /// Words beside a core begin.
 fn open_words(text: &mut Vec<u8>, class: &[u8], core: u16, y: u128) -> Result<(), AllocError>
     requires { y < 2 ^ 100 }
-    ensures { OnOk result (text.new.items ≡ text.old.items ++ spec.text_tag class.now (130 * core + 70) (y + 4)) }
+    ensures { OnOk result (text.new.items ≡ text.old.items ++ spec.text_tag class.now (130 * core + 75) (y + 4)) }
 {
     let at = Point {
-        x: 130 * u128::from(core) + 70,
+        x: 130 * u128::from(core) + 75,
         y: y + 4,
     };
     open_label(text, class, at)

@@ -286,6 +286,31 @@ docs/messages.md has the meaning and the cure of each word that is printed:
                    NotHolder NotOwner RightsExceed TableFull VersionsSpent
   after `fault`    InputTooLong";
 
+const DRAW_ABOUT: &str = "Draw what sim or run printed";
+
+const DRAW_DETAILS: &str = "\
+Draw the trace on standard input, which is what `sim` or `run` printed, as a message sequence diagram: an SVG file.
+
+A column is a core, and a row an event, with its line. An arrow leads from the event that sent a message to the event that
+took it; between two cores that is first in, first out. A message that is still under way is a dashed arrow to a row below
+the events. A square is a packet, and what is red was refused, vetoed or not done. `v2` says that a core comes to version 2.
+
+The lines of tables and of packets that were left are not drawn, nor are events at cores that aren't there. The first line
+that is no line of a trace prints `line N: BadLine` alone, with status 1, and a trace of more than 64 MiB
+`fault InputTooLong`.";
+
+const DRAW_EXAMPLE: &str = "\
+Example: a picture of two-phase commit
+
+    $ mkdemux sim < examples/two-phase.script | mkdemux draw > two-phase.svg
+
+Exit status: 0 done; 1 a refused trace, whose line is on standard output; 2 a fault of the command line; 3 out of memory or
+a device that failed, with one line on standard error.
+
+docs/messages.md has the meaning and the cure of each word that is printed:
+  after `line N:`  BadLine
+  after `fault`    InputTooLong";
+
 const FILES_HELP: &str = "Captures that the script names by number";
 
 /// The command line of the program.
@@ -299,7 +324,8 @@ pub fn command<'a>(alloc: Global) -> Result<Command<'a>, AllocError> {
         .subcommand(checking(alloc)?)?
         .subcommand(dumping(alloc))?
         .subcommand(simulating(alloc)?)?
-        .subcommand(running(alloc)?)
+        .subcommand(running(alloc)?)?
+        .subcommand(drawing(alloc))
 }
 
 // `match CODE [--pcap] [--stream]`
@@ -362,6 +388,14 @@ fn running<'a>(alloc: Global) -> Result<Command<'a>, AllocError> {
         .long_about(RUN_DETAILS)
         .after_help(RUN_EXAMPLE)
         .arg(files(alloc))
+}
+
+// `draw`
+fn drawing<'a>(alloc: Global) -> Command<'a> {
+    Command::new(alloc, "draw")
+        .about(DRAW_ABOUT)
+        .long_about(DRAW_DETAILS)
+        .after_help(DRAW_EXAMPLE)
 }
 
 // The captures of a script.

@@ -16,6 +16,7 @@ use console::{EngineFault, run_check, run_dump, run_match, run_stream};
 use core_loop::Cause;
 use core_threads::{Free, Halt};
 use devices::{Named, Sink, Source};
+use draw_engine::run_draw;
 use progress::Progress;
 use run_engine::{RunFailure, run_run};
 use sim_engine::run_sim;
@@ -132,6 +133,7 @@ fn run_engine(
         "match" => run_packets(rt, found, source, sink),
         "check" => run_check(rt.alloc(), found.get_flag("asm"), source, sink),
         "dump" => run_dump(rt.alloc(), source, sink),
+        "draw" => run_draw(rt.alloc(), source, sink),
         "sim" => run_script(rt, files, source, sink),
         _ => Ok(USAGE),
     }
@@ -214,6 +216,7 @@ fn invite(rt: &HostRuntime, name: &str, found: &ArgMatches) {
         "match" => "packets, a line of hexadecimal digits each",
         "check" => "a filter in assembler text",
         "dump" => "a capture",
+        "draw" => "what sim or run printed",
         _ => "a script",
     };
     if rt.stdin().is_terminal() {

@@ -32,6 +32,7 @@ fn input_of(text: &str) -> &'static str {
         Some("match") => " < PACKETS",
         Some("check") => " < FILTER",
         Some("dump") => " < CAPTURE",
+        Some("draw") => " < TRACE",
         Some("sim" | "run") => " < SCRIPT",
         _ => "",
     }
