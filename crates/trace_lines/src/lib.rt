@@ -6,6 +6,8 @@ mod event;
 mod lines;
 mod messages;
 mod picture;
+#[cfg(test)]
+mod tests;
 mod trace;
 mod words;
 
