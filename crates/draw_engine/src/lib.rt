@@ -3,5 +3,7 @@
 
 mod engine;
 mod svg;
+#[cfg(test)]
+mod tests;
 
 pub use engine::run_draw;
