@@ -36,6 +36,14 @@ repeats() {
     count "$script-traced" $?
 }
 
+# OUT: this is drawn as its picture, which is well-formed where xmllint is there to say so.
+draws() {
+    picture=../docs/pictures/$1.svg
+    ../mkdemux draw < "$1.out" > "$made/printed" && cmp -s "$made/printed" "$picture" &&
+        { ! command -v xmllint > /dev/null || xmllint --noout "$picture"; }
+    count "$1-drawn" $?
+}
+
 # SCRIPT MISSING FILE..: a file is missing, so nothing is printed, its name is on standard error, the status is 3, and all of
 # standard input is still there.
 misses() {
@@ -54,9 +62,16 @@ misses() {
 prints two-phase two-phase
 prints revoked revoked
 prints replay replay frames.pcap
+prints veto veto
+prints home home
 prints files files frames.pcap two.pcap
 prints files-swapped files two.pcap frames.pcap
 repeats replay frames.pcap
+draws two-phase
+draws revoked
+draws replay
+draws veto
+draws home
 misses files missing.pcap frames.pcap missing.pcap
 
 # An output that nobody reads any more ends the program with status 3, and without a word.
