@@ -38,7 +38,11 @@ build_program() {
     cp "$here/../HANDLES" "$work/HANDLES"
     cp "$here/$program.rattle" "$work/crates/${program}_bench/src/main.rt"
     rm -rf "$work/crates/${program}_bench/proofs"
-    [ ! -d "$here/$program.proofs" ] || cp -R "$here/$program.proofs" "$work/crates/${program}_bench/proofs"
+    # (only the files of a crate may end in .antt)
+    [ ! -d "$here/$program.proofs" ] || (cd "$here/$program.proofs" && find . -name '*.proof') | while read -r file; do
+        mkdir -p "$work/crates/${program}_bench/proofs/${file%/*}"
+        cp "$here/$program.proofs/$file" "$work/crates/${program}_bench/proofs/${file%.proof}.antt"
+    done
     {
         for name in "$@"; do
             grep "^$name[ :]" "$here/../crates.txt"
