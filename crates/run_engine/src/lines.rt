@@ -30,10 +30,7 @@ fn push_event(text: &mut String, event: &Stamped) -> Result<(), AllocError>
 }
 
 /// Adds the lines of jobs left, by the jobs' numbers.
-pub(crate) fn push_all_left(
-    text: &mut String,
-    mut left: Vec<(u16, Job)>,
-) -> Result<(), AllocError>
+pub(crate) fn push_all_left(text: &mut String, mut left: Vec<(u16, Job)>) -> Result<(), AllocError>
     ensures { OnOk result ((lines : List ℕ) × ShowsLeft left.items lines × (string_bytes text.new ≡ string_bytes text.old ++ lines)) }
 {
     left.sort_by_key(|l| l.1.number)?;
