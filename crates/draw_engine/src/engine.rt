@@ -9,6 +9,7 @@ ghost use Rattle.std.specs.Prelude.{string_bytes};
 ghost use Rattle.trace_lines.specs.Traces.{trace_of};
 
 use crate::svg::svg;
+use crate::text::draw_as_text;
 use console::{
     EngineFault, INPUT_BYTES, INPUT_READS, Input, read_bounded, write_bytes, write_text,
 };
@@ -18,7 +19,7 @@ use trace_lines::{TraceFault, link_events, read_trace};
 
 /// Draws the trace of the input, and answers the status.
 ///
-/// The input is what `sim` or `run` printed. The picture is an SVG file: a column for each core, a row for each event, with
+/// The input is what `sim` or `run` printed. The picture is an SVG file, or text where `plain` is true: a column for each core, a row for each event, with
 /// its line, and an arrow for each message, from the event that sent it to the event that took it, or to a row below the
 /// events where it is still under way. The first line that no trace has is printed as `line N: BadLine`, status 1; and of an
 /// input of more than 64 MiB only `fault InputTooLong`, status 1.
@@ -26,11 +27,12 @@ use trace_lines::{TraceFault, link_events, read_trace};
 /// Answers `ReadFailed` or `NoMemory`, with nothing written, or `WriteFailed`.
 pub fn run_draw<R: Read, W: Write>(
     alloc: Global,
+    plain: bool,
     reader: &mut R,
     writer: &mut W,
 ) -> Result<u8, EngineFault>
     ensures shown { IfOk result (λ status. (text : List ℕ) × Appends (W.contents writer.old) (W.contents writer.new) text
-        × ((input : List ℕ) × IsInput (R.remaining reader.old) input × ShowsDraw input status text)) }
+        × ((input : List ℕ) × IsInput (R.remaining reader.old) input × ShowsDraw plain input status text)) }
     ensures fault { IfErr result IsEngineFault }
     ensures silent { (result ≡ Err EngineFault.ReadFailed) ⊎ (result ≡ Err EngineFault.NoMemory) → writer.new ≡ writer.old }
 {
@@ -40,7 +42,7 @@ pub fn run_draw<R: Read, W: Write>(
             Ok(1)
         }
         Input::Whole(input) => {
-            let drawing = draw_text(alloc, input.as_slice())?;
+            let drawing = draw_text(alloc, plain, input.as_slice())?;
             write_bytes(writer, drawing.text.as_slice())?;
             Ok(drawing.status)
         }
@@ -55,13 +57,17 @@ struct Drawing {
 }
 
 /// What is shown of a trace.
-fn draw_text(alloc: Global, text: &[u8]) -> Result<Drawing, AllocError>
-    ensures { IfOk result (λ drawing. Shows (trace_of text.now) drawing.status drawing.text.items) }
+fn draw_text(alloc: Global, plain: bool, text: &[u8]) -> Result<Drawing, AllocError>
+    ensures { IfOk result (λ drawing. Shows plain (trace_of text.now) drawing.status drawing.text.items) }
 {
     match read_trace(alloc, text) {
         Ok(lines) => {
             let picture = link_events(alloc, lines.as_slice())?;
-            let text = svg(alloc, &picture)?;
+            let text = if plain {
+                draw_as_text(alloc, &picture)?
+            } else {
+                svg(alloc, &picture)?
+            };
             Ok(Drawing { text, status: 0 })
         }
         Err(TraceFault::BadLine(number)) => {

@@ -10,7 +10,7 @@ use itoa::Buffer;
 use std::alloc::{AllocError, Global};
 use trace_lines::{Act, Kind, Message, Picture, Row};
 
-const CORES: [u16; 8] = [0, 1, 2, 3, 4, 5, 6, 7];
+pub(crate) const CORES: [u16; 8] = [0, 1, 2, 3, 4, 5, 6, 7];
 
 const HEAD_END: &[u8] =
     b"' font-family='monospace' font-size='11'>\n<title>Messages between cores</title>\n";
@@ -42,7 +42,7 @@ fn y_below(rows: usize, more: usize) -> u128
     y_of(rows) + 22 * more as u128
 }
 
-fn core_of(act: Act) -> u16
+pub(crate) fn core_of(act: Act) -> u16
     ensures { result ≡ spec.core_of act }
 {
     match act {
@@ -60,7 +60,7 @@ fn from_of(act: Act) -> u16
     }
 }
 
-fn push_number(text: &mut Vec<u8>, number: u128) -> Result<(), AllocError>
+pub(crate) fn push_number(text: &mut Vec<u8>, number: u128) -> Result<(), AllocError>
     ensures { OnOk result (text.new.items ≡ text.old.items ++ decimal number) }
 {
     let mut digits = Buffer::new();
@@ -251,7 +251,7 @@ fn push_marks(text: &mut Vec<u8>, rows: &[Row<'_>]) -> Result<(), AllocError>
     Ok(())
 }
 
-fn kind_word(kind: Kind) -> &'static [u8]
+pub(crate) fn kind_word(kind: Kind) -> &'static [u8]
     ensures { result.now ≡ spec.kind_word kind }
 {
     match kind {

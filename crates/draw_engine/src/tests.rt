@@ -7,9 +7,9 @@ use std::io;
 use std::io::{Cursor, ErrorKind, Read};
 
 /// The status of a trace, and what is drawn.
-fn draw(alloc: Global, trace: &str) -> (Result<u8, EngineFault>, Vec<u8>) {
+fn draw(alloc: Global, plain: bool, trace: &str) -> (Result<u8, EngineFault>, Vec<u8>) {
     let mut out = Vec::new(alloc);
-    let answer = run_draw(alloc, &mut Cursor::new(trace.as_bytes()), &mut out);
+    let answer = run_draw(alloc, plain, &mut Cursor::new(trace.as_bytes()), &mut out);
     (answer, out)
 }
 
@@ -40,9 +40,23 @@ const DRAWN: &str = "<text class='c' x='60' y='56'>core 0</text>\n\
 
 #[test]
 fn a_trace_is_drawn(rt: HostRuntime) {
-    let (answer, out) = draw(rt.alloc(), TRACE);
+    let (answer, out) = draw(rt.alloc(), false, TRACE);
     assert_eq!(rt; answer, Ok(0));
     assert!(rt; out.as_slice().ends_with(DRAWN.as_bytes()));
+}
+
+const PLAIN: &str = "core 0  core 1  \n\
+    *       |       1 start: prepared 1\n\
+    |       *       2 take 1 0: prepare 1 Yes <- 1\n\
+    |       #       3 rx 1 1: version 0 7=5\n\
+    x       |       4 start: fault NotIdle\n\
+    under way: vote to core 0 <- 2\n";
+
+#[test]
+fn a_trace_is_drawn_as_text(rt: HostRuntime) {
+    let (answer, out) = draw(rt.alloc(), true, TRACE);
+    assert_eq!(rt; answer, Ok(0));
+    assert_eq!(rt; out.as_slice(), PLAIN.as_bytes());
 }
 
 #[test]
@@ -59,7 +73,7 @@ fn other_lines_are_refused(rt: HostRuntime) {
         ("start: refused <NoCap>\n", "line 1: BadLine\n"),
     ];
     for (trace, shown) in cases {
-        let (answer, out) = draw(rt.alloc(), trace);
+        let (answer, out) = draw(rt.alloc(), false, trace);
         assert_eq!(rt; answer, Ok(1), "{trace}");
         assert_eq!(rt; out.as_slice(), shown.as_bytes(), "{trace}");
     }
@@ -85,7 +99,7 @@ impl Read for Broken {
 #[test]
 fn nothing_is_drawn_where_a_read_fails(rt: HostRuntime) {
     let mut out = Vec::new(rt.alloc());
-    let answer = run_draw(rt.alloc(), &mut Broken { gave: false }, &mut out);
+    let answer = run_draw(rt.alloc(), false, &mut Broken { gave: false }, &mut out);
     assert_eq!(rt; answer, Err(EngineFault::ReadFailed));
     assert!(rt; out.is_empty());
 }

@@ -295,6 +295,10 @@ A column is a core, and a row an event, with its line. An arrow leads from the e
 took it; between two cores that is first in, first out. A message that is still under way is a dashed arrow to a row below
 the events. A square is a packet, and what is red was refused, vetoed or not done. `v2` says that a core comes to version 2.
 
+With --text it is text for a terminal: a row has its number and its line, and `<- 3` says that the message that was taken was
+sent in row 3. At the event's core is `*`, `#` for a packet, `x` for what was refused, vetoed or not done, or the version to
+which the core comes.
+
 The lines of tables and of packets that were left are not drawn, nor are events at cores that aren't there. The first line
 that is no line of a trace prints `line N: BadLine` alone, with status 1, and a trace of more than 64 MiB
 `fault InputTooLong`.";
@@ -311,6 +315,8 @@ docs/messages.md has the meaning and the cure of each word that is printed:
   after `line N:`  BadLine
   after `fault`    InputTooLong";
 
+const TEXT_HELP: &str = "Draw text for a terminal in place of an SVG file";
+
 const FILES_HELP: &str = "Captures that the script names by number";
 
 /// The command line of the program.
@@ -325,7 +331,7 @@ pub fn command<'a>(alloc: Global) -> Result<Command<'a>, AllocError> {
         .subcommand(dumping(alloc))?
         .subcommand(simulating(alloc)?)?
         .subcommand(running(alloc)?)?
-        .subcommand(drawing(alloc))
+        .subcommand(drawing(alloc)?)
 }
 
 // `match CODE [--pcap] [--stream]`
@@ -390,12 +396,17 @@ fn running<'a>(alloc: Global) -> Result<Command<'a>, AllocError> {
         .arg(files(alloc))
 }
 
-// `draw`
-fn drawing<'a>(alloc: Global) -> Command<'a> {
+// `draw [--text]`
+fn drawing<'a>(alloc: Global) -> Result<Command<'a>, AllocError> {
+    let text = Arg::new(alloc, "text")
+        .long("text")
+        .help(TEXT_HELP)
+        .action(ArgAction::SetTrue);
     Command::new(alloc, "draw")
         .about(DRAW_ABOUT)
         .long_about(DRAW_DETAILS)
         .after_help(DRAW_EXAMPLE)
+        .arg(text)
 }
 
 // The captures of a script.

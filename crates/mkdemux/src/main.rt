@@ -133,7 +133,7 @@ fn run_engine(
         "match" => run_packets(rt, found, source, sink),
         "check" => run_check(rt.alloc(), found.get_flag("asm"), source, sink),
         "dump" => run_dump(rt.alloc(), source, sink),
-        "draw" => run_draw(rt.alloc(), source, sink),
+        "draw" => run_draw(rt.alloc(), found.get_flag("text"), source, sink),
         "sim" => run_script(rt, files, source, sink),
         _ => Ok(USAGE),
     }
