@@ -10,8 +10,8 @@ if ! dist/stamp.sh crates/mkdemux/out/mkdemux $built "$digest"; then
     exit 1
 fi
 echo "$digest" > ${built%/*}/sources
-if [ "$digest" != "$(cat dist/sources)" ]; then
-    echo "dist: dist/mkdemux was built from other sources, and is not compared"
+if [ "$digest" != "$(cat dist/sources 2> /dev/null)" ]; then
+    echo "dist: there is no dist/mkdemux of these sources to compare"
     echo "0 passed, 0 failed"
 elif cmp $built dist/mkdemux; then
     echo "dist: dist/mkdemux is the program of these sources"
