@@ -4,6 +4,7 @@ use Rattle.std.specs.Prelude.{ℕ, ◌+◌, ◌<◌, ◌≤◌, List, [], ◌∷
 use Rattle.std.specs.Option.{option_map_or}
 use Rattle.std.specs.List.{flat_map, enumerate_from}
 use Rattle.std.specs.Fmt.{decimal}
+use Rattle.bpf_insn.specs.declared.insn.TheConstants.{MAX_INSNS}
 use Rattle.bpf_insn.specs.declared.insn.Insn.{Insn}
 use Rattle.bpf_insn.specs.declared.form.Size.{Size}
 use Rattle.bpf_insn.specs.declared.form.Size.TheVariants.{Word, Half, Byte}
@@ -13,7 +14,7 @@ use Rattle.bpf_insn.specs.declared.form.Test.{Test}
 use Rattle.bpf_insn.specs.declared.form.Test.TheVariants.{Equal, Greater, GreaterOrEqual, AnyBit}
 use Rattle.bpf_insn.specs.declared.form.Form.{Form}
 use Rattle.bpf_insn.specs.declared.form.Form.TheVariants.{LdImm, LdAbs, LdInd, LdMem, LdLen, LdxImm, LdxMem, LdxLen, LdxMsh, St, Stx, AluK, AluX, Neg, Ja, JmpK, JmpX, RetK, RetA, Tax, Txa}
-use Rattle.bpf_insn.specs.Program.{FormAt, JumpsTo}
+use Rattle.bpf_insn.specs.Program.{FormAt, JumpsOut}
 use Rattle.bpf_insn.specs.Table.{form_of}
 
 -- the mnemonics of the loads by their sizes
@@ -82,11 +83,11 @@ asm_line pc form = label pc ++ codes ": " ++ printed pc form ++ 10 ∷ []
 abbrev pub asm_text : List Insn → List ℕ
 asm_text program = flat_map (λ at. option_map_or (asm_line at.0) (form_of at.1) []) (enumerate_from 0 program)
 
--- the instruction at a place has a form, and the targets of a jump there are inside the program
+-- the instruction at a place has a form, and is no jump that leads outside the program
 abbrev pub PrintsAt : List Insn → ℕ → Type 0
-PrintsAt program pc = (form : Form) × FormAt program pc form × ((to : ℕ) → JumpsTo pc form to → to < length program)
+PrintsAt program pc = ((form : Form) × FormAt program pc form) × (JumpsOut program pc → ⊥)
 
 -- a program that has a text: each instruction has one, and each label that it names stands at a line
 pub record IsPrintable (program : List Insn) : Type 0 where
-  pub short : length program ≤ 4096
+  pub short : length program ≤ MAX_INSNS
   pub each : (pc : ℕ) → pc < length program → PrintsAt program pc

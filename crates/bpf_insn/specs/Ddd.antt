@@ -3,6 +3,7 @@
 use Rattle.std.specs.Prelude.{◌≡◌, ◌≢◌, ℕ, ◌+◌, ◌^◌, ◌<◌, ◌≤◌, ◌==◌, ◌||◌, Bool, List, [], ◌∷◌, ◌++◌, length, All, ◌⊎◌, Some, map}
 use Rattle.std.specs.List.{slice_split, AllZip}
 use Rattle.bpf_insn.specs.Texts.{number_of, words_of}
+use Rattle.bpf_insn.specs.declared.insn.TheConstants.{MAX_INSNS}
 use Rattle.bpf_insn.specs.declared.insn.Insn.{Insn}
 use Rattle.bpf_insn.specs.declared.ddd.TextFault.{TextFault}
 use Rattle.bpf_insn.specs.declared.ddd.TextFault.TheVariants.{BadNumber, CountMismatch, TooLong, NoMemory}
@@ -56,13 +57,13 @@ pub record SpellsInsn (words : List (List ℕ)) (insn : Insn) : Type 0 where
 abbrev pub IsInsn : List (List ℕ) → Type 0
 IsInsn words = (insn : Insn) × SpellsInsn words insn
 
--- the text spells the program: its length, at most 4096, and each of its instructions
+-- the text spells the program: its length, at most MAX_INSNS, and each of its instructions
 pub record Ddd (text : List ℕ) (program : List Insn) : Type 0 where
   pub first : List (List ℕ)
   pub rest : List (List (List ℕ))
   pub pieces : IsPieces text (first ∷ rest)
   pub count : SpellsCount first (length program)
-  pub short : length program ≤ 4096
+  pub short : length program ≤ MAX_INSNS
   pub each : AllZip SpellsInsn rest program
 
 -- the first piece is the number n
@@ -70,10 +71,10 @@ abbrev pub Counts : List (List (List ℕ)) → ℕ → Type 0
 Counts [] n = ⊥
 Counts (first ∷ rest) n = SpellsCount first n
 
--- the count is right: the first piece is the number n, at most 4096, and n pieces follow it
+-- the count is right: the first piece is the number n, at most MAX_INSNS, and n pieces follow it
 pub record IsCounted (pieces : List (List (List ℕ))) (n : ℕ) : Type 0 where
   pub count : Counts pieces n
-  pub short : n ≤ 4096
+  pub short : n ≤ MAX_INSNS
   pub number : length pieces ≡ n + 1
 
 -- piece number place is the first after the count that spells no instruction
@@ -92,8 +93,8 @@ pub record IsFirstBad (pieces : List (List (List ℕ))) (place : ℕ) : Type 0 w
 abbrev pub HasFault : List (List (List ℕ)) → TextFault → Type 0
 HasFault pieces (BadNumber place) = ((place ≡ 0) × ((n : ℕ) → ¬ (Counts pieces n)))
     ⊎ ((n : ℕ) × IsCounted pieces n × IsFirstBad pieces place)
-HasFault pieces TooLong = (n : ℕ) × Counts pieces n × (4096 < n)
-HasFault pieces CountMismatch = (n : ℕ) × Counts pieces n × (n ≤ 4096) × (length pieces ≢ n + 1)
+HasFault pieces TooLong = (n : ℕ) × Counts pieces n × (MAX_INSNS < n)
+HasFault pieces CountMismatch = (n : ℕ) × Counts pieces n × (n ≤ MAX_INSNS) × (length pieces ≢ n + 1)
 HasFault pieces NoMemory = ⊥
 
 -- the first fault of a text
@@ -103,3 +104,7 @@ Faults text fault = (pieces : List (List (List ℕ))) × IsPieces text pieces ×
 -- the count of a text is right
 abbrev pub IsCountRight : List ℕ → Type 0
 IsCountRight text = (pieces : List (List (List ℕ))) × (n : ℕ) × IsPieces text pieces × IsCounted pieces n
+
+-- the text spells a program, or has a first fault
+abbrev pub HasOutcome : List ℕ → Type 0
+HasOutcome text = ((program : List Insn) × Ddd text program) ⊎ ((fault : TextFault) × Faults text fault)

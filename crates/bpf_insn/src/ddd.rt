@@ -2,17 +2,14 @@
 
 ghost use Rattle.std.specs.Prelude.{◌≡◌, ◌≢◌, ◌≤◌, ◌<◌, ◌+◌, ◌^◌, ◌⊎◌, ◌∷◌, [], ℕ, List, Some, length, min, IfOk, IfErr, IsErrAnd, MatchOption, MatchResult};
 ghost use Rattle.std.specs.Option.{option_copied};
-ghost use Rattle.bpf_insn.specs.Ddd.{Ddd, Faults, IsCountRight, IsInsn, IsPieces, SpellsCount, SpellsInsn};
+ghost use Rattle.bpf_insn.specs.Ddd.{Ddd, Faults, HasOutcome, IsCountRight, IsInsn, IsPieces, SpellsCount, SpellsInsn};
 ghost use Rattle.bpf_insn.specs.Parts.{IsBadAt, IsCountedText, SpellsFirst, StartsWithNumber, parts_of};
 ghost use Rattle.bpf_insn.specs.Texts.{number_of, words_of};
 
-use crate::Insn;
 use crate::number::{HUGE, number};
 use crate::pieces::{first_piece, first_word};
+use crate::{Insn, MAX_INSNS};
 use std::alloc::{AllocError, AllocFailed, Global};
-
-/// The most instructions that a text may spell.
-pub const MOST: u64 = 4096;
 
 /// Why a text spells no program. The first that applies is reported: the count, then its bound, then the number of
 /// instructions, then the instructions in order.
@@ -23,7 +20,7 @@ pub enum TextFault {
     BadNumber(u32),
     /// The count isn't the number of instructions that follow it.
     CountMismatch,
-    /// The count is above 4096.
+    /// The count is above `MAX_INSNS`.
     TooLong,
     /// Memory ran out. This says nothing of the text but that its count is right.
     NoMemory,
@@ -55,19 +52,26 @@ impl<T: Drop> From<AllocFailed<T>> for TextFault {
 /// the numbers of one. What is empty at the end doesn't count, and numbers may have leading zeros. So this reads what
 /// `tcpdump -ddd` writes, line by line, and what `bpf_asm` writes and the bpf match of iptables takes, with commas.
 ///
-/// At most 4096 instructions are read. Whether they make a program that can run isn't looked at.
+/// At most `MAX_INSNS` instructions are read. Whether they make a program that can run isn't looked at.
 pub fn read_ddd(alloc: Global, text: &[u8]) -> Result<Vec<Insn>, TextFault>
     ensures spelled { IfOk result (λ program. Ddd text.now program.items) }
     ensures fault { IfErr result (λ fault. (fault ≡ TextFault.NoMemory) ⊎ Faults text.now fault) }
 
-    // A text stands for one program at most, or for one fault.
+    // What the text stands for is answered, unless memory runs out.
     ensures only { (program : List Insn) → Ddd text.now program
         → MatchResult result (λ found. found.items ≡ program) (λ fault. fault ≡ TextFault.NoMemory) }
     ensures first { (fault : TextFault) → Faults text.now fault
         → IsErrAnd result (λ found. (found ≡ TextFault.NoMemory) ⊎ (found ≡ fault)) }
 
-    // Want of memory never stands in the place of a wrong count.
+    // A wrong count is reported even where memory runs out.
     ensures memory { result ≡ Err TextFault.NoMemory → IsCountRight text.now }
+
+    // Whatever is answered, the text stands for a program or for a fault ..
+    ensures some { HasOutcome text.now }
+    // .. and for no two things.
+    ensures one_program { (program other : List Insn) → Ddd text.now program → Ddd text.now other → program ≡ other }
+    ensures one_fault { (fault other : TextFault) → Faults text.now fault → Faults text.now other → fault ≡ other }
+    ensures apart { (program : List Insn) (fault : TextFault) → Ddd text.now program → Faults text.now fault → ⊥ }
 {
     let (count, rest) = read_count(text)?;
     read_insns(alloc, rest, count)
@@ -84,7 +88,7 @@ fn read_count(text: &[u8]) -> Result<(usize, Option<&[u8]>), TextFault>
     }
     let (first, rest) = first_piece(text);
     let count = count_of(first).ok_or(TextFault::BadNumber(0))?;
-    if count > MOST {
+    if count > MAX_INSNS as u64 {
         return Err(TextFault::TooLong);
     }
     if count as usize != number - 1 {
@@ -96,7 +100,7 @@ fn read_count(text: &[u8]) -> Result<(usize, Option<&[u8]>), TextFault>
 /// The instructions in the next pieces, the first of which is piece 1.
 fn read_insns(alloc: Global, rest: Option<&[u8]>, count: usize) -> Result<Vec<Insn>, TextFault>
     requires within { count ≤ length (parts_of (option_copied rest)) }
-    requires short { count ≤ 4096 }
+    requires short { count ≤ MAX_INSNS }
     ensures spelled { IfOk result (λ program. SpellsFirst (parts_of (option_copied rest.entry)) count program.items) }
     ensures fault { IfErr result (λ fault. (fault ≡ TextFault.NoMemory)
         ⊎ ((place : ℕ) × (fault ≡ TextFault.BadNumber place) × IsBadAt (parts_of (option_copied rest.entry)) count place)) }

@@ -10,6 +10,7 @@
 mod ddd;
 mod form;
 mod insn;
+mod jumps;
 mod number;
 mod pieces;
 mod printing;
@@ -18,5 +19,6 @@ mod tests;
 
 pub use ddd::{TextFault, read_ddd};
 pub use form::{AluOp, Form, Size, Test};
-pub use insn::Insn;
-pub use printing::{printable, write_asm, write_ddd};
+pub use insn::{Insn, MAX_INSNS};
+pub use jumps::jumps_out;
+pub use printing::{printable, push_form, write_asm, write_ddd};

@@ -5,18 +5,16 @@ ghost use Rattle.std.specs.String.{string_bytes};
 ghost use Rattle.bpf_insn.specs.AsmText.{IsPrintable, PrintsAt, alu_word, arms, asm_line, asm_text, load_word, printed, test_word};
 ghost use Rattle.bpf_insn.specs.Ddd.{Ddd};
 ghost use Rattle.bpf_insn.specs.DddText.{ddd_text, insn_line};
-ghost use Rattle.bpf_insn.specs.Program.{JumpsTo};
 ghost use Rattle.bpf_insn.specs.Table.{InRange};
 
-use crate::ddd::MOST;
-use crate::{AluOp, Form, Insn, Size, Test};
+use crate::{AluOp, Form, Insn, MAX_INSNS, Size, Test, jumps_out};
 use std::alloc::{AllocError, Global};
 
 /// The decimal text of a program, as `tcpdump -ddd` writes it: the number of instructions, then for each its code, jt,
-/// jf and k, on lines of their own. `read_ddd` gives the program back, if it has at most 4096 instructions.
+/// jf and k, on lines of their own. `read_ddd` gives the program back, if it has at most `MAX_INSNS` instructions.
 pub fn write_ddd(alloc: Global, program: &[Insn]) -> Result<Vec<u8>, AllocError>
     ensures text { IfOk result (λ text. text.items ≡ ddd_text program.now) }
-    ensures spells { length program.now ≤ 4096 → IfOk result (λ text. Ddd text.items program.now) }
+    ensures spells { length program.now ≤ MAX_INSNS → IfOk result (λ text. Ddd text.items program.now) }
 {
     let mut text = format!(in alloc; "{}\n", program.len())?;
     for insn in program {
@@ -34,12 +32,12 @@ fn push_insn(text: &mut String, insn: Insn) -> Result<(), AllocError>
     writeln!(text, "{code} {jt} {jf} {k}")
 }
 
-/// Whether a program has an assembler text: it has at most 4096 instructions, each with the code of a form, and each
+/// Whether a program has an assembler text: it has at most `MAX_INSNS` instructions, each with the code of a form, and each
 /// jump leads to one of them.
 pub fn printable(program: &[Insn]) -> bool
     ensures { IsTrue result ↔ IsPrintable program.now }
 {
-    if program.len() as u64 > MOST {
+    if program.len() > MAX_INSNS {
         return false;
     }
     for place in 0..program.len() {
@@ -50,28 +48,15 @@ pub fn printable(program: &[Insn]) -> bool
     true
 }
 
-/// Whether the instruction at a place has a form, and leads to places inside the program.
+/// Whether the instruction at a place has a form, and is no jump that leads outside the program.
 fn prints_at(program: &[Insn], place: usize) -> bool
-    requires { place < length program.now }
+    requires inside { place < length program.now }
+    requires short { length program.now ≤ MAX_INSNS }
     ensures { IsTrue result ↔ PrintsAt program.now place }
 {
     match program[place].form() {
-        Some(form) => jumps_inside(form, place, program.len()),
+        Some(form) => !jumps_out(form, place, program.len()),
         None => false,
-    }
-}
-
-/// Whether each target that a form at a place names is inside a program of this length.
-fn jumps_inside(form: Form, place: usize, len: usize) -> bool
-    requires { place < len }
-    ensures { IsTrue result ↔ ((to : ℕ) → JumpsTo place form to → to < len) }
-{
-    let left = len - place - 1;
-    match form {
-        Form::Ja { k } => (k as usize) < left,
-        Form::JmpK { jt, jf, .. } => usize::from(jt.max(jf)) < left,
-        Form::JmpX { jt, jf, .. } => usize::from(jt.max(jf)) < left,
-        _ => true,
     }
 }
 
@@ -94,7 +79,7 @@ pub fn write_asm(alloc: Global, program: &[Insn]) -> Result<Vec<u8>, AllocError>
 
 /// Writes the line of an instruction of a form at a place.
 fn push_line(text: &mut String, place: usize, form: Form) -> Result<(), AllocError>
-    requires { place < 4096 }
+    requires { place < MAX_INSNS }
     ensures { OnOk result (string_bytes text.new ≡ string_bytes text.old ++ asm_line place form) }
 {
     write!(text, "l{place}: ")?;
@@ -102,9 +87,9 @@ fn push_line(text: &mut String, place: usize, form: Form) -> Result<(), AllocErr
     text.push_str("\n")
 }
 
-/// Writes an instruction of a form at a place.
-fn push_form(text: &mut String, place: usize, form: Form) -> Result<(), AllocError>
-    requires { place < 4096 }
+/// Writes an instruction of a form at a place, as on its line of `write_asm`, without the label of the line.
+pub fn push_form(text: &mut String, place: usize, form: Form) -> Result<(), AllocError>
+    requires { place < MAX_INSNS }
     ensures { OnOk result (string_bytes text.new ≡ string_bytes text.old ++ printed place form) }
 {
     match form {
@@ -140,7 +125,7 @@ fn push_form(text: &mut String, place: usize, form: Form) -> Result<(), AllocErr
 
 /// Writes the two targets of a conditional jump at a place.
 fn push_arms(text: &mut String, place: usize, jt: u8, jf: u8) -> Result<(), AllocError>
-    requires { place < 4096 }
+    requires { place < MAX_INSNS }
     ensures { OnOk result (string_bytes text.new ≡ string_bytes text.old ++ arms place jt jf) }
 {
     let next = place + 1;

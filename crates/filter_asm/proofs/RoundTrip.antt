@@ -245,8 +245,14 @@ same_length n pc (i ∷ program) (form ∷ forms) is = omega (arith, same_length
 prints_at : (program : List Insn) → IsPrintable program → (k : ℕ) → k < length program → (form : Form) × (option_and_then form_of (slice_get program k) ≡ Some form) × ((to : ℕ) → JumpsTo (0 + k) form to → to < length program)
 unfolding form_at
 prints_at program printable k lt =
-    let at = printable.each k lt in
-    (at.0, at.1, λ to jumps. at.2 to (subst (λ (place : ℕ). JumpsTo place at.0 to) (omega arith) jumps))
+    let at = printable.each k lt in (
+      at.0.0,
+      at.0.1,
+      λ to jumps. elim (cases_lt to (length program)) [
+        | inl inside ↦ inside
+        | inr past ↦ absurd (at.1 (at.0.0, to, at.0.1, subst (λ (place : ℕ). JumpsTo place at.0.0 to) (omega arith) jumps, past))
+      ],
+    )
 
 pub stands_for_itself : (program : List Insn) → IsPrintable program → All InRange program → Asm (asm_text program) (map cleared program)
 stands_for_itself program printable range =

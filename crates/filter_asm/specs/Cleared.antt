@@ -1,11 +1,13 @@
 -- Instructions with the fields that their forms don't use set to 0: assembler text doesn't write these.
 -- McCanne and Jacobson 1993, section 3.3; Linux Documentation/networking/filter, "BPF engine and instruction set".
-use Rattle.std.specs.Prelude.{List, map}
+use Rattle.std.specs.Prelude.{List, All, map}
 use Rattle.std.specs.Option.{option_map_or}
-use Rattle.bpf_insn.specs.Table.{form_of}
+use Rattle.bpf_insn.specs.AsmText.{IsPrintable, asm_text}
+use Rattle.bpf_insn.specs.Table.{InRange, form_of}
 use Rattle.bpf_insn.specs.declared.insn.Insn.{Insn}
 use Rattle.bpf_insn.specs.declared.form.Form.{Form}
 use Rattle.bpf_insn.specs.declared.form.Form.TheVariants.{LdLen, LdxLen, AluX, Neg, JmpK, JmpX, RetA, Tax, Txa}
+use Rattle.filter_asm.specs.Program.{Asm}
 
 -- no distances, where the form is no conditional jump
 abbrev pub without_distances : Insn → Insn
@@ -34,3 +36,7 @@ cleared i = option_map_or (λ form. cleared_as form i) (form_of i) i
 -- a program with its unused fields 0
 abbrev pub cleared_program : List Insn → List Insn
 cleared_program program = map cleared program
+
+-- the text that is printed of a program stands for it, but for fields that its forms don't use: these are 0
+unfoldable pub PrintedStands : Type 0
+PrintedStands = (program : List Insn) → IsPrintable program → All InRange program → Asm (asm_text program) (cleared_program program)

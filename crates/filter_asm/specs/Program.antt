@@ -5,6 +5,7 @@ use Rattle.std.specs.Option.{option_to_list, ok_or}
 use Rattle.std.specs.List.{slice_split, list_any, flat_map}
 use Rattle.std.specs.Map.{lookup}
 use Rattle.std.specs.Str.{bytes_eq}
+use Rattle.bpf_insn.specs.declared.insn.TheConstants.{MAX_INSNS}
 use Rattle.bpf_insn.specs.declared.insn.Insn.{Insn}
 use Rattle.filter_asm.specs.declared.fault.AsmFaultKind.{AsmFaultKind}
 use Rattle.filter_asm.specs.declared.fault.AsmFaultKind.TheVariants as kind
@@ -87,13 +88,9 @@ abbrev pub value_of : Option Numeral → Result ℕ AsmFaultKind
 value_of None = Ok 0
 value_of (Some n) = ok_or (number n.negative n.digits) kind.Number
 
--- at most this many instructions stand in a program
-abbrev pub max_instructions : ℕ
-max_instructions = 4096
-
 -- a place for one more instruction behind `count` others
 abbrev pub room_behind : ℕ → Result ℕ AsmFaultKind
-room_behind count = if nat_lt count max_instructions then Ok count else Err kind.TooLong
+room_behind count = if nat_lt count MAX_INSNS then Ok count else Err kind.TooLong
 
 -- the instruction of a mnemonic and its operands, behind `count` others
 unfoldable pub instruction : ℕ → ℕ → List ℕ → List (List ℕ) → Result Draft AsmFaultKind

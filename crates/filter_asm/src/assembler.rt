@@ -6,10 +6,8 @@ ghost use Rattle.filter_asm.specs.declared.fault.AsmFaultKind.TheVariants.{NoMem
 ghost use Rattle.filter_asm.specs.DraftViews.{draft_of, drafts_of};
 ghost use Rattle.filter_asm.specs.Texts.{texts};
 ghost use Rattle.filter_asm.specs.Program as spec;
-ghost use Rattle.std.specs.List.{All, before_first, after_first};
-ghost use Rattle.bpf_insn.specs.AsmText.{IsPrintable, asm_text};
-ghost use Rattle.bpf_insn.specs.Table.{InRange};
-ghost use Rattle.filter_asm.specs.Cleared.{cleared_program};
+ghost use Rattle.std.specs.List.{before_first, after_first};
+ghost use Rattle.filter_asm.specs.Cleared.{PrintedStands};
 ghost use Rattle.filter_asm.specs.Leads.{LinksLead};
 ghost use Rattle.filter_asm.specs.Fits.{FittingOperandsAreRead, ReadOperandsFit};
 ghost use Rattle.filter_asm.specs.Faults.{fault_of};
@@ -17,6 +15,7 @@ ghost use Rattle.filter_asm.specs.Answers.{Answers, IsNext};
 ghost use Rattle.filter_asm.specs.Knows.{Knows};
 ghost use Rattle.filter_asm.specs.Passed.{Passed, PassedOneMore, LineRefused};
 ghost use Rattle.bpf_insn.specs.declared.insn.Insn.{Insn};
+ghost use Rattle.bpf_insn.specs.declared.insn.TheConstants.{MAX_INSNS};
 
 use crate::define::define_labels;
 use crate::draft::{Draft, instruction};
@@ -44,7 +43,7 @@ fn body_draft<'a>(
     count: usize,
     body: &[Token<'a>],
 ) -> Result<Option<Draft<'a>>, AsmFaultKind>
-    ensures room { IfOk result (λ draft. IsSome draft → count < 4096) }
+    ensures room { IfOk result (λ draft. IsSome draft → count < MAX_INSNS) }
     ensures gives { result_map_both (option_map draft_of) (λ e. e) result ≡ spec.instruction_of number count (texts body.now) }
 {
     let Some((word, operands)) = body.split_first() else {
@@ -186,8 +185,7 @@ pub fn assemble(alloc: Global, text: &[u8]) -> Result<Vec<Insn>, AsmFault>
     ensures only { (program : List Insn) → spec.Asm text.now program → MatchResult result (λ found. found.items ≡ program) (λ fault. fault.kind ≡ NoMemory) }
     ensures first { (fault : spec.Fault) → spec.Assembles text.now (Err fault) → IsErrAnd result (λ given. (given.kind ≡ NoMemory) ⊎ (fault_of given ≡ fault)) }
     // The text that is printed of a program stands for it, but for fields that its forms don't use: these are 0.
-    ensures printed { (program : List Insn) → IsPrintable program → All InRange program → text.now ≡ asm_text program
-        → MatchResult result (λ found. found.items ≡ cleared_program program) (λ fault. fault.kind ≡ NoMemory) }
+    ensures printed { PrintedStands }
     // Operands are read by a shape that they fit, and they fit one shape of their mnemonic at most.
     ensures read_fit { ReadOperandsFit }
     ensures fit_read { FittingOperandsAreRead }

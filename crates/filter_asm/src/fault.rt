@@ -21,7 +21,7 @@ pub enum AsmFaultKind {
     Backward,
     /// A conditional jump passes over more than 255 instructions.
     TooFar,
-    /// The program has more than 4096 instructions.
+    /// The program has more than `MAX_INSNS` instructions.
     TooLong,
     /// Memory ran out.
     NoMemory,

@@ -4,12 +4,13 @@
 -- ancillary data or offsets from its headers: here all of them are refused. The kernel finds unwritten words by one pass,
 -- in which the words of a return flow on to the next instruction: here the rule is about paths, and a return ends them.
 use Rattle.std.specs.Prelude.{◌≡◌, ℕ, ◌-◌, ◌<◌, ◌≤◌, ◌⊎◌, List, length, None}
+use Rattle.bpf_insn.specs.declared.insn.TheConstants.{MAX_INSNS}
 use Rattle.bpf_insn.specs.declared.insn.Insn.{Insn}
 use Rattle.bpf_insn.specs.declared.form.Size.{Size}
 use Rattle.bpf_insn.specs.declared.form.AluOp.TheVariants.{Div, Lsh, Rsh, Mod}
 use Rattle.bpf_insn.specs.declared.form.Form.{Form}
 use Rattle.bpf_insn.specs.declared.form.Form.TheVariants.{LdAbs, AluK, RetK, RetA}
-use Rattle.bpf_insn.specs.Program.{FormAt, form_at, JumpsTo}
+use Rattle.bpf_insn.specs.Program.{FormAt, form_at, JumpsOut}
 use Rattle.filter_verify.specs.declared.rules.Refusal.{Refusal}
 use Rattle.filter_verify.specs.declared.rules.Refusal.TheVariants.{Empty, TooLong, BadCode, ZeroDivisor, BadShift, BadWord, JumpOut, Ancillary, NoReturn, Unwritten, NoMemory}
 use Rattle.filter_verify.specs.Paths.{LoadsWord, StoresWord, IsUnwritten, LoadsOnlyWritten}
@@ -20,7 +21,7 @@ BreaksAt program pc (BadCode at) = (at ≡ pc) × (form_at program pc ≡ None)
 BreaksAt program pc (ZeroDivisor at) = (at ≡ pc) × (FormAt program pc (AluK Div 0) ⊎ FormAt program pc (AluK Mod 0))
 BreaksAt program pc (BadShift at) = (at ≡ pc) × ((k : ℕ) × (32 ≤ k) × (FormAt program pc (AluK Lsh k) ⊎ FormAt program pc (AluK Rsh k)))
 BreaksAt program pc (BadWord at) = (at ≡ pc) × ((word : ℕ) × (16 ≤ word) × (LoadsWord program pc word ⊎ StoresWord program pc word))
-BreaksAt program pc (JumpOut at) = (at ≡ pc) × ((form : Form) × (to : ℕ) × FormAt program pc form × JumpsTo pc form to × (length program ≤ to))
+BreaksAt program pc (JumpOut at) = (at ≡ pc) × JumpsOut program pc
 BreaksAt program pc (Ancillary at) = (at ≡ pc) × ((size : Size) × (k : ℕ) × (2147483648 ≤ k) × FormAt program pc (LdAbs size k))
 BreaksAt program pc _ = ⊥
 
@@ -38,9 +39,9 @@ IsReturn _ = ⊥
 abbrev pub EndsInReturn : List Insn → Type 0
 EndsInReturn program = (form : Form) × FormAt program (length program - 1) form × IsReturn form
 
--- from 1 to 4,096 instructions
+-- from 1 to MAX_INSNS instructions
 abbrev pub IsSized : List Insn → Type 0
-IsSized program = (0 < length program) × (length program ≤ 4096)
+IsSized program = (0 < length program) × (length program ≤ MAX_INSNS)
 
 -- each rule on single instructions is kept
 pub record IsWellShaped (program : List Insn) : Type 0 where
@@ -61,7 +62,7 @@ IsFirst program pc = IsSized program × (pc < length program) × ((q : ℕ) → 
 -- place at which a path ends at a load of a word that nothing on it stores
 abbrev pub Refuses : List Insn → Refusal → Type 0
 Refuses program Empty = length program ≡ 0
-Refuses program TooLong = 4096 < length program
+Refuses program TooLong = MAX_INSNS < length program
 Refuses program NoReturn = IsSized program × ((q : ℕ) → q < length program → IsFine program q) × (EndsInReturn program → ⊥)
 Refuses program (Unwritten pc word path) =
     IsWellShaped program × IsUnwritten program pc word path
@@ -73,3 +74,7 @@ Refuses program (BadShift pc) = IsFirst program pc × BreaksAt program pc (BadSh
 Refuses program (BadWord pc) = IsFirst program pc × BreaksAt program pc (BadWord pc)
 Refuses program (JumpOut pc) = IsFirst program pc × BreaksAt program pc (JumpOut pc)
 Refuses program (Ancillary pc) = IsFirst program pc × BreaksAt program pc (Ancillary pc)
+
+-- the program is accepted, or refused for a reason
+unfoldable pub IsDecided : List Insn → Type 0
+IsDecided program = Sound program ⊎ ((refusal : Refusal) × Refuses program refusal)

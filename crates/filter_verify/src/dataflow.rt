@@ -2,6 +2,7 @@
 
 ghost use Rattle.std.specs.Prelude.{◌≡◌, ℕ, ◌+◌, ◌<◌, ◌≤◌, ◌↔◌, Some, length, IsTrue, OnOk, IfOk, IfErr};
 ghost use Rattle.bpf_insn.specs.Program.{FormAt, LeadsTo};
+ghost use Rattle.bpf_insn.specs.declared.insn.TheConstants.{MAX_INSNS};
 ghost use Rattle.filter_verify.specs.Exits.{StoresForm};
 ghost use Rattle.filter_verify.specs.Kept.{IsKept};
 ghost use Rattle.filter_verify.specs.Flows.{Flows, IsAfter, IsSettled, LacksAt, Narrows, PassesBy};
@@ -38,7 +39,7 @@ fn words_after(before: Words, form: Form) -> Words
 /// Takes into account the effect of the instruction of that form at a place.
 fn flow_through(written: &mut [Words], pc: usize, form: Form)
     requires inside { pc < length written.old }
-    requires limited { pc ≤ 4096 }
+    requires limited { pc ≤ MAX_INSNS }
     requires words { (word : ℕ) → StoresForm form word → word < 16 }
     requires targets { (to : ℕ) → LeadsTo pc form to → to < length written.old }
     ensures { Flows pc form written.old written.new }
@@ -57,7 +58,7 @@ fn flow_through(written: &mut [Words], pc: usize, form: Form)
 
 /// Whether control may go from an instruction of that form at a place to another place.
 fn leads_to(form: Form, pc: usize, to: usize) -> bool
-    requires { pc ≤ 4096 }
+    requires { pc ≤ MAX_INSNS }
     ensures { IsTrue result ↔ LeadsTo pc form to }
 {
     match exit_of(form, pc) {
@@ -70,7 +71,7 @@ fn leads_to(form: Form, pc: usize, to: usize) -> bool
 
 /// Whether an instruction of that form at a place leads to another with a word still unwritten.
 fn lets_pass(form: Form, pc: usize, before: Words, to: usize, word: u32) -> bool
-    requires limited { pc ≤ 4096 }
+    requires limited { pc ≤ MAX_INSNS }
     requires word { word < 16 }
     ensures yes { IsTrue result → LeadsTo pc form to × LacksWord before word × (StoresForm form word → ⊥) }
     ensures no { (IsTrue result → ⊥) → LeadsTo pc form to → LacksWord before word → (StoresForm form word → ⊥) → ⊥ }
@@ -81,7 +82,7 @@ fn lets_pass(form: Form, pc: usize, before: Words, to: usize, word: u32) -> bool
 /// Whether a place leads to another with a word still unwritten.
 fn passes_by(code: &[Insn], written: &[Words], pc: usize, to: usize, word: u32) -> bool
     requires inside { pc < length code.now }
-    requires limited { length code.now ≤ 4096 }
+    requires limited { length code.now ≤ MAX_INSNS }
     requires same_length { length written.now ≡ length code.now }
     requires word { word < 16 }
     ensures yes { IsTrue result → PassesBy code.now written.now pc to word }
@@ -102,7 +103,7 @@ fn path_to(
     word: u32,
 ) -> Result<Places, AllocError>
     requires inside { pc < length code.now }
-    requires limited { length code.now ≤ 4096 }
+    requires limited { length code.now ≤ MAX_INSNS }
     requires settled { IsSettled code.now pc written.now }
     requires word { word < 16 }
     requires loads { LoadsWord code.now pc word }

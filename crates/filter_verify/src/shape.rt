@@ -1,15 +1,11 @@
 //! The rules on a program's size, on each instruction, and on its end.
 
 ghost use Rattle.std.specs.Prelude.{ℕ, ◌<◌, ◌≤◌, length, IfErr, OnOk, IsTrue};
-ghost use Rattle.bpf_insn.specs.Program.{FormAt, JumpsTo};
+ghost use Rattle.bpf_insn.specs.Program.{FormAt};
 ghost use Rattle.filter_verify.specs.Rules.{BreaksAt, EndsInReturn, IsFine, IsReturn, IsWellShaped, Refuses};
 
-use crate::flow::{Exit, exit_of};
 use crate::rules::Refusal;
-use bpf_insn::{AluOp, Form, Insn};
-
-/// How many instructions a program may have, as in the Linux kernel.
-pub const MAX_INSNS: usize = 4096;
+use bpf_insn::{AluOp, Form, Insn, MAX_INSNS, jumps_out};
 
 /// How many scratch words there are.
 const WORDS: u32 = 16;
@@ -17,24 +13,10 @@ const WORDS: u32 = 16;
 /// The first place of an absolute load that stands for ancillary data.
 const ANCILLARY: u32 = 0x8000_0000;
 
-/// Whether a jump of that form at a place has a target outside a program of `len` instructions.
-pub fn jumps_out(form: Form, pc: usize, len: usize) -> bool
-    requires { pc ≤ 4096 }
-    ensures out { IsTrue result → (to : ℕ) × JumpsTo pc form to × (len ≤ to) }
-    ensures inside { (IsTrue result → ⊥) → (to : ℕ) → JumpsTo pc form to → to < len }
-{
-    match exit_of(form, pc) {
-        Exit::On => false,
-        Exit::To(place) => place >= len,
-        Exit::Either(place, other) => place >= len || other >= len,
-        Exit::Nowhere => false,
-    }
-}
-
 /// Refuses an instruction of that form at a place, if it breaks a rule.
 fn check_form(code: &[Insn], pc: usize, form: Form) -> Result<(), Refusal>
     requires inside { pc < length code.now }
-    requires limited { length code.now ≤ 4096 }
+    requires limited { length code.now ≤ MAX_INSNS }
     requires form { FormAt code.now pc form }
     ensures ok { OnOk result (IsFine code.now pc) }
     ensures err { IfErr result (λ refusal. BreaksAt code.now pc refusal) }
@@ -61,7 +43,7 @@ fn check_form(code: &[Insn], pc: usize, form: Form) -> Result<(), Refusal>
 /// Refuses the instruction at a place, if it breaks a rule.
 fn check_insn(code: &[Insn], pc: usize) -> Result<(), Refusal>
     requires inside { pc < length code.now }
-    requires limited { length code.now ≤ 4096 }
+    requires limited { length code.now ≤ MAX_INSNS }
     ensures ok { OnOk result (IsFine code.now pc) }
     ensures err { IfErr result (λ refusal. BreaksAt code.now pc refusal) }
 {

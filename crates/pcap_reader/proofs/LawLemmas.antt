@@ -8,12 +8,8 @@ use Rattle.pcap_reader.specs.declared.capture.Packet.{Packet}
 use Rattle.pcap_reader.specs.declared.capture.CaptureFault.{CaptureFault}
 use Rattle.pcap_reader.specs.declared.capture.CaptureFault.TheVariants.{BadMagic, BadVersion, TruncatedHeader, TruncatedRecord, TooLong, NoMemory}
 use Rattle.pcap_reader.specs.Savefile.{number, captured, IsMagic, IsVersion, IsHeader, IsRecord, IsPart, IsLong, HasNoHeader, HasRecords, EndsWith, Reads, ReadsFront}
+use Rattle.pcap_reader.specs.Answers.{HasOneReading}
 use Rattle.pcap_reader.proofs.Fronts.{word_at-front, magic-on, version-on}
-
--- two readings of some bytes are the same
-abbrev pub HasOneReading : List ℕ → Type 0
-HasOneReading bytes = (h h' : Option Header) (ks ks' : List Packet) (f f' : Option CaptureFault)
-    → Reads bytes h ks f → Reads bytes h' ks' f' → (h ≡ h') × (ks ≡ ks') × (f ≡ f')
 
 -- the packets of a front are the first packets of the whole
 abbrev pub HasFronts : List ℕ → Type 0

@@ -38,6 +38,11 @@ GivesOnly bytes answer = (header : Option Header) (packets : List Packet) (fault
 abbrev pub HasReading : List ℕ → Type 0
 HasReading bytes = (header : Option Header) × (packets : List Packet) × (fault : Option CaptureFault) × Reads bytes header packets fault
 
+-- the bytes hold one thing at most
+abbrev pub HasOneReading : List ℕ → Type 0
+HasOneReading bytes = (header header' : Option Header) (packets packets' : List Packet) (fault fault' : Option CaptureFault)
+    → Reads bytes header packets fault → Reads bytes header' packets' fault' → (header ≡ header') × (packets ≡ packets') × (fault ≡ fault')
+
 -- a piece's answer, with which these bytes are fed: the fault in them that stands whatever follows, or that memory was refused
 abbrev pub Tells : List ℕ → Result (Unit {0}) CaptureFault → Type 0
 Tells fed (Ok done) = (header : Option Header) (packets : List Packet) (fault : CaptureFault)

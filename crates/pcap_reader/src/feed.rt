@@ -3,7 +3,7 @@
 ghost use Rattle.std.specs.Prelude.{◌≡◌, ◌≢◌, ◌≤◌, ◌<◌, ◌+◌, ◌++◌, ◌^◌, ◌⊎◌, [], ℕ, List, Option, Some, None, Err, Bool, length, IsSome, IfOk, IfErr, IfSome, OnOk, MatchOption, MatchResult};
 ghost use Rattle.pcap_reader.specs.declared.capture.Packet.{Packet as Captured};
 ghost use Rattle.pcap_reader.specs.Savefile.{IsMagic, IsHeader, IsLong, HasNoHeader, IsLasting, ReadsFront};
-ghost use Rattle.pcap_reader.specs.Answers.{GivesWhole, GivesFront, GivesOnly, HasReading, Tells};
+ghost use Rattle.pcap_reader.specs.Answers.{GivesWhole, GivesFront, GivesOnly, HasOneReading, HasReading, Tells};
 ghost use Rattle.pcap_reader.specs.Held.{Holds, HoldsBehind, IsEnding, Says, Grows, SeesWhole, TakesFront, TakesWhole, held_header, held_packets, held_fault, seen_packet};
 ghost use Rattle.pcap_reader.specs.Growth.{GoesOn, IsGrown, IsWanted, IsShort, IsWhole, IsPacket, SplitsRecord};
 
@@ -38,7 +38,8 @@ pub struct Feed {
 impl Feed {
     /// A feed that was fed nothing. Takes no memory: the feed keeps the allocator for its pieces.
     pub fn new(alloc: Global) -> Feed
-        ensures { Holds [] result }
+        ensures holds { Holds [] result }
+        ensures going { held_fault result ≡ None }
     {
         Feed {
             alloc,
@@ -365,6 +366,7 @@ pub fn read_capture(alloc: Global, bytes: &[u8]) -> Result<Capture, Stop>
     ensures gives { GivesWhole bytes.now result ⊎ GivesFront bytes.now result }
     ensures only { GivesOnly bytes.now result }
     ensures readable { HasReading bytes.now }
+    ensures one { HasOneReading bytes.now }
 {
     let mut feed = Feed::new(alloc);
     let _ = feed.piece(bytes);

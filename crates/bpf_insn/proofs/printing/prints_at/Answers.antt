@@ -4,7 +4,7 @@ use Rattle.bpf_insn.proofs.PrintsLemmas.{no_form_no_print, form_prints}
 use Rattle.bpf_insn.proofs.printing.prints_at.Goals as goal
 
 pub returns-in-None : goal.returns-in-None
-returns-in-None c = no_form_no_print _ _ (form_at_is _ _ _ None c.requires (sym c.in-None.is ∙ c.form.ensures))
+returns-in-None c = no_form_no_print _ _ (form_at_is _ _ _ None c.requires.inside (sym c.in-None.is ∙ c.form.ensures))
 
 pub returns-in-Some : goal.returns-in-Some
-returns-in-Some c = form_prints _ _ _ _ (form_at_is _ _ _ (Some c.in-Some.form) c.requires (sym c.in-Some.is ∙ c.form.ensures)) c.jumps_inside.ensures
+returns-in-Some c = form_prints _ _ c.in-Some.form c.jumps_out.result (form_at_is _ _ _ (Some c.in-Some.form) c.requires.inside (sym c.in-Some.is ∙ c.form.ensures)) c.jumps_out.ensures.out c.jumps_out.ensures.inside

@@ -1,5 +1,5 @@
 use Rattle.filter_asm.proofs.LawLemmas.{each_stands_for_some, none_stands_for_two, only_from, first_from}
-use Rattle.filter_asm.specs.Cleared.{cleared_program}
+use Rattle.filter_asm.specs.Cleared.{PrintedStands}
 use Rattle.filter_asm.proofs.FitsLemmas.{fitting_operands_are_read, read_operands_fit}
 use Rattle.filter_asm.proofs.LeadsLemmas.{links_lead}
 use Rattle.filter_asm.proofs.RoundTrip.{stands_for_itself}
@@ -18,9 +18,8 @@ pub returns-clause-first : goal.returns-clause-first
 returns-clause-first c = first_from c.args.text.now c.two_passes.result c.two_passes.ensures.found c.two_passes.ensures.refused
 
 pub returns-clause-printed : goal.returns-clause-printed
-returns-clause-printed c = λ program printable range is.
-    only_from c.args.text.now c.two_passes.result c.two_passes.ensures.found c.two_passes.ensures.refused (cleared_program program)
-    (rw is (stands_for_itself program printable range))
+unfolding PrintedStands
+returns-clause-printed c = stands_for_itself
 
 pub returns-clause-read_fit : goal.returns-clause-read_fit
 returns-clause-read_fit c = read_operands_fit

@@ -1,6 +1,7 @@
 use Rattle.std.proofs.Common.{◌≡◌, ◌+◌, length, arith, refl, subst}
 use Rattle.filter_vm.specs.Machine.{Ends, Packet}
-use Rattle.filter_vm.proofs.Runs.{IsRunning-start, IsRunning-step, IsRunning-later, IsUsable-shaped, Ends-stop}
+use Rattle.filter_vm.proofs.Reaching.{IsUsable-shaped}
+use Rattle.filter_vm.proofs.Runs.{IsRunning-start, IsRunning-step, IsRunning-later, Ends-stop}
 use Rattle.filter_vm.proofs.Unique.{Ends-same}
 use Rattle.filter_vm.proofs.machine.run_sound.Goals as goal
 use Rattle.filter_vm.proofs.machine.run_sound.Goals.{After-steps-steps}
@@ -30,7 +31,7 @@ returns-in-Some-clause-only c = λ verdict steps ends. Ends-same _ _ _ _ _ _ end
 pub run-smaller : goal.run-smaller
 run-smaller c =
     let later = IsRunning-later _ _ _ _ _ c.step.new.registers c.step.new.scratch _ c.requires.sound c.run.invariant c.form_there-form.ensures (c.in_default.ensures.advances refl) in
-    let inside = c.run.invariant.inside in
+    let inside = c.run.invariant.reached.inside in
     omega arith
 
 pub run-preserved : goal.run-preserved
