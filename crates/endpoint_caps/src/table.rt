@@ -1,5 +1,5 @@
 //! The table of capabilities.
-ghost use Rattle.std.specs.Prelude.{◌≡◌, ◌==◌, ◌+◌, ◌<◌, ◌++◌, ◌||◌, ℕ, nat_eq, None, Some, is_none, false, [], ◌∷◌, IfOk, IfErr, OnOk, OnErr, not, filter};
+ghost use Rattle.std.specs.Prelude.{◌≡◌, ◌==◌, ◌+◌, ◌<◌, ◌++◌, ◌||◌, ℕ, nat_eq, None, Some, is_none, false, [], ◌∷◌, IsOk, IfOk, IfErr, OnOk, OnErr, not, filter};
 ghost use Rattle.std.specs.List.{list_any};
 ghost use Rattle.std.specs.Option.{option_copied, ForSome};
 ghost use Rattle.std.specs.Result.{result_err};
@@ -36,16 +36,18 @@ impl Caps {
     /// How many capabilities may be held.
     pub const LIMIT: usize = 1024;
 
-    /// An empty table, whose first id is 1. `alloc` is what later capabilities are kept in; nothing is allocated yet.
+    /// An empty table, whose first id is 1. `alloc` is what later capabilities are kept in. Takes no memory yet.
     pub fn new(alloc: Global) -> Result<Caps, AllocError>
-        ensures { IfOk result (λ caps. caps ≡ no_caps) }
+        ensures empty { IfOk result (λ caps. caps ≡ no_caps) }
+        ensures ok { IsOk result }
     {
         Caps::resume(alloc, 1)
     }
 
     /// An empty table whose next id is `next`. `alloc` is as in `new`.
     pub fn resume(alloc: Global, next: u32) -> Result<Caps, AllocError>
-        ensures { IfOk result (λ caps. caps ≡ record { held = []; next = next }) }
+        ensures empty { IfOk result (λ caps. caps ≡ record { held = []; next = next }) }
+        ensures ok { IsOk result }
     {
         Ok(Caps {
             by_id: IndexMap::new(alloc),

@@ -94,20 +94,29 @@ fn ids_are_spent(rt: HostRuntime) -> Result<(), Fail> {
     let mut last = Caps::resume(rt.alloc(), u32::MAX - 1)?;
     assert_eq!(rt; last.create(1, 7), Ok(u32::MAX - 1));
     assert_eq!(rt; last.create(1, 8), Err(CapFault::IdsSpent));
+    let mut minting = Caps::resume(rt.alloc(), u32::MAX - 2)?;
+    assert_eq!(rt; minting.create(1, 7), Ok(u32::MAX - 2));
+    let last = minting.mint(1, u32::MAX - 2, 2, Rights::R);
+    assert_eq!(rt; last, Ok(u32::MAX - 1));
     Ok(())
 }
 
 #[test]
 fn table_is_full(rt: HostRuntime) -> Result<(), Fail> {
     let mut caps = Caps::new(rt.alloc())?;
-    for endpoint in 0..1024u16 {
+    for endpoint in 0..1023u16 {
         caps.create(1, endpoint)?;
     }
+    assert_eq!(rt; caps.mint(1, 1, 1, Rights::R), Ok(1024));
+    assert_eq!(rt; caps.create(1, 1024), Err(CapFault::CapsFull));
+    caps.drop_cap(1, 1024)?;
+    assert_eq!(rt; caps.create(1, 1023), Ok(1025));
+    assert_eq!(rt; caps.copy(rt.alloc())?.list(), caps.list());
     assert_eq!(rt; caps.create(1, 1024), Err(CapFault::CapsFull));
     assert_eq!(rt; caps.create(1, 0), Err(CapFault::EndpointTaken));
     assert_eq!(rt; caps.mint(1, 1, 1, Rights::R), Err(CapFault::CapsFull));
     caps.drop_cap(1, 1)?;
-    assert_eq!(rt; caps.create(1, 1024), Ok(1025));
+    assert_eq!(rt; caps.create(1, 1024), Ok(1026));
     Ok(())
 }
 

@@ -3,11 +3,11 @@
 use Rattle.std.specs.Prelude.{◌≡◌, ◌≢◌, ◌+◌, ◌<◌, ℕ, suc, Bool, true, false, cond, Option, Some, None, IsSome, List, length, slice_get, slice_set}
 use Rattle.std.specs.List.{list_all}
 use Rattle.std.proofs.Common.{replicate}
-use Rattle.endpoint_caps.specs.Capabilities.{first}
 use Rattle.table_replica.specs.declared.Op.{Op}
 use Rattle.table_replica.specs.declared.StageFault.{StageFault}
 use Rattle.table_replica.specs.declared.StageFault.TheVariants as stage_fault
-use Rattle.table_replica.specs.Tables.{State, made, tests, Allowed}
+use Rattle.table_replica.specs.Tables.{State, made, Allowed}
+use Rattle.table_replica.specs.Staging.{AsksForMemory}
 use Rattle.monitor_messages.specs.declared.message.Vote.{Vote}
 use Rattle.monitor_messages.specs.declared.message.Vote.TheVariants as vote
 use Rattle.monitor_messages.specs.declared.message.Veto.{Veto}
@@ -75,8 +75,8 @@ pub data Starts (others : ℕ) (s : State) (budget : ℕ) (place : CoordinatorPl
   refused : (fault : StageFault) → Allowed s budget op (Some fault)
       → place' ≡ place → committed ≡ None → told ≡ step place.last None (Some (Refused 0 (veto_of fault)))
       → Starts others s budget place op place' committed told
-  -- memory was refused to core 0, once no test but the verifier's was left
-  unstaged : first (tests s budget op) ≡ None → place' ≡ place → committed ≡ None → told ≡ step place.last None (Some (Refused 0 veto.NoMemory))
+  -- memory was refused to core 0, where staging asks for it
+  unstaged : AsksForMemory s budget op → place' ≡ place → committed ≡ None → told ≡ step place.last None (Some (Refused 0 veto.NoMemory))
       → Starts others s budget place op place' committed told
   -- one core alone commits at once
   alone : Allowed s budget op None → others ≡ 0

@@ -1,11 +1,11 @@
 -- Two-phase commit at a core other than core 0, case by case (Gray 1978, "Notes on data base operating systems", section 5.8.3;
 -- Baumann et al. 2009, "The Multikernel", section 4.4: agreement between monitors).
 use Rattle.std.specs.Prelude.{◌≡◌, ◌+◌, ◌<◌, ◌≤◌, ℕ, Bool, false, Option, Some, None, IsSome}
-use Rattle.endpoint_caps.specs.Capabilities.{first}
 use Rattle.table_replica.specs.declared.Op.{Op}
 use Rattle.table_replica.specs.declared.OpFault.{OpFault}
 use Rattle.table_replica.specs.declared.StageFault.TheVariants.{Rule, Budget}
-use Rattle.table_replica.specs.Tables.{State, after, instructions, tests, Allowed}
+use Rattle.table_replica.specs.Tables.{State, after, instructions, Allowed}
+use Rattle.table_replica.specs.Staging.{AsksForMemory}
 use Rattle.monitor_messages.specs.declared.message.Message.{Message}
 use Rattle.monitor_messages.specs.declared.message.Message.TheVariants as message
 use Rattle.monitor_messages.specs.declared.message.Vote.{Vote}
@@ -37,11 +37,11 @@ StagedByVote v staged = staged ≡ None
 
 -- A core with this table and budget may cast the vote: Budget exactly where the instructions would exceed the budget, else Yes
 -- or NoMemory. Where `short` is true it has no memory for the operation; where it is false, memory may still be refused to it.
--- An operation that a rule refuses gets no vote (where memory is refused, the program of the operation was not verified).
+-- An operation that a rule refuses gets no vote (where memory is refused, the words of its program are not looked at).
 abbrev pub Casts : Bool → State → ℕ → Op → Vote → Type 0
 Casts short s budget op vote.Yes = Allowed s budget op None × (instructions (after s op) ≤ budget) × (short ≡ false)
 Casts short s budget op vote.Budget = Allowed s budget op (Some Budget) × (budget < instructions (after s op))
-Casts short s budget op vote.NoMemory = (first (tests s budget op) ≡ None) × (instructions (after s op) ≤ budget)
+Casts short s budget op vote.NoMemory = AsksForMemory s budget op × (instructions (after s op) ≤ budget)
 
 -- the operation stays staged where the vote is Yes
 abbrev pub staged_by : Vote → Op → Option Op

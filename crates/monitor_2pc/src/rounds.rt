@@ -2,6 +2,7 @@
 
 use crate::{Coordinator, Decision, Message, Participant, Say, StartFault, Step, Veto, Vote};
 use bpf_insn::read_ddd;
+use endpoint_caps::Rights;
 use std::alloc::Global;
 use std::marker::Model;
 use std::process::Abort;
@@ -24,14 +25,48 @@ enum Ask {
     Create,
     /// A filter under capability 1, of this program.
     Install(&'static str),
+    /// Of filter 1 another program.
+    Replace(&'static str),
+    /// A capability minted from capability 1.
+    Mint,
+    /// All that was minted from capability 1 goes.
+    Revoke,
+    /// Filter 1 goes.
+    Remove,
+    /// Capability 1 goes.
+    DropCap,
+}
+
+/// A request about capability 1 or filter 1 that brings no program.
+fn plain(ask: Ask) -> Op {
+    let (domain, cap, filter) = (1, 1, 1);
+    match ask {
+        Ask::Mint => Op::Mint {
+            domain,
+            cap,
+            to: 2,
+            rights: Rights::R,
+        },
+        Ask::Revoke => Op::Revoke { domain, cap },
+        Ask::Remove => Op::Remove { domain, filter },
+        Ask::DropCap => Op::DropCap { domain, cap },
+        Ask::Create | Ask::Install(_) | Ask::Replace(_) => Op::Create {
+            domain,
+            endpoint: 7,
+        },
+    }
 }
 
 fn op(alloc: Global, ask: Ask) -> Result<Op, Fail> {
     match ask {
-        Ask::Create => Ok(Op::Create {
-            domain: 1,
-            endpoint: 7,
-        }),
+        Ask::Replace(text) => {
+            let code = read_ddd(alloc, text.as_bytes())?;
+            Ok(Op::Replace {
+                domain: 1,
+                filter: 1,
+                program: Program::from_vec(code),
+            })
+        }
         Ask::Install(text) => {
             let code = read_ddd(alloc, text.as_bytes())?;
             Ok(Op::Install {
@@ -40,6 +75,7 @@ fn op(alloc: Global, ask: Ask) -> Result<Op, Fail> {
                 program: Program::from_vec(code),
             })
         }
+        _ => Ok(plain(ask)),
     }
 }
 
@@ -329,6 +365,33 @@ fn among_four(
     expects_short(rt, alloc, home, peers, Ask::Install(ARP), 1)?;
     expects(rt, alloc, home, peers, Ask::Install(THREE), fits)?;
     are_at(rt, peers, 2, 3);
+    Ok(())
+}
+
+/// Where there is memory, each kind of request is agreed on by all.
+#[test]
+fn each_kind_is_agreed_on(rt: HostRuntime) -> Result<(), Fail> {
+    let mut home = Home::new(rt.alloc(), 4, 8)?;
+    let mut peers = peers(rt.alloc(), &[4, 4, 4, 4, 4, 4, 4])?;
+    agree(&rt, rt.alloc(), &mut home, &mut peers)
+}
+
+fn agree(rt: &impl Abort, alloc: Global, home: &mut Home, peers: &mut [Peer]) -> Result<(), Fail> {
+    let mut version = 0u64;
+    for (ask, made) in [
+        (Ask::Create, Made::Cap(1)),
+        (Ask::Mint, Made::Cap(2)),
+        (Ask::Install(THREE), Made::Filter(1)),
+        (Ask::Replace(ARP), Made::Nothing),
+        (Ask::Revoke, Made::Nothing),
+        (Ask::Remove, Made::Nothing),
+        (Ask::DropCap, Made::Nothing),
+    ] {
+        version = version.saturating_add(1);
+        expects(rt, alloc, home, peers, ask, committed(version, made))?;
+        assert_eq!(rt; home.table.version(), version);
+    }
+    are_at(rt, peers, 7, 0);
     Ok(())
 }
 

@@ -1,4 +1,5 @@
 pub mod Loop
+pub mod Carrying
 pub mod Programs
 pub mod Numbers
 pub mod Operations

@@ -22,11 +22,11 @@ goes_on front count i bytes n after total lt h so_far =
     let one : with_front front (insns_at (count - i) bytes) ≡ with_front (front ++ n ∷ []) (insns_at (count - (i + 1)) after) = rw (k, h) (regroup front n (insns_at (count - (i + 1)) after)) in
     sym one ∙ so_far
 
-pub ends : (e : DecodeFault) (front : List Insn) (count i : ℕ) (bytes : List ℕ) (total : Option (List Insn × List ℕ)) → i < count → Fails e (insn_at bytes)
-    → with_front front (insns_at (count - i) bytes) ≡ total → Fails e total
+pub ends : (asks : Type 0) (e : DecodeFault) (front : List Insn) (count i : ℕ) (bytes : List ℕ) (total : Option (List Insn × List ℕ)) → i < count → Fails ⊥ e (insn_at bytes)
+    → with_front front (insns_at (count - i) bytes) ≡ total → Fails asks e total
 unfolding insns_at
-ends faults.NoMemory front count i bytes total lt h so_far = tt
-ends faults.BadMessage front count i bytes total lt h so_far =
+ends asks faults.NoMemory front count i bytes total lt h so_far = absurd h
+ends asks faults.BadMessage front count i bytes total lt h so_far =
     let k : count - i ≡ suc (count - (i + 1)) = omega arith in
     let one : with_front front (insns_at (count - i) bytes) ≡ None = rw (k, h) refl in
     sym so_far ∙ one

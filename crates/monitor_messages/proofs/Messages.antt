@@ -133,12 +133,18 @@ message_again bytes stamp m c = ap message_in c.spelled ∙ body_again stamp m c
 pub coded_once : (bytes : List ℕ) (stamp stamp' : ℕ) (m m' : Message) → Coded bytes stamp m → Coded bytes stamp' m' → ◌≡◌ {A = ℕ × Message} (stamp, m) (stamp', m')
 coded_once bytes stamp stamp' m m' c c' = same_Some (stamp, m) (stamp', m') (sym (message_again bytes stamp m c) ∙ message_again bytes stamp' m' c')
 
-pub is_found : (bytes : List ℕ) (r : Result (ℕ × Message) DecodeFault) → IsBytes bytes → Gives (λ found. found) r (message_in bytes) → IfOk r (λ found. Coded bytes found.0 found.1)
-is_found bytes (Ok x) fits g = message_takes bytes x.0 x.1 fits g
-is_found bytes (Err e) fits g = tt
+pub is_found : (asks : Type 0) (bytes : List ℕ) (r : Result (ℕ × Message) DecodeFault) → IsBytes bytes → Gives asks (λ found. found) r (message_in bytes) → IfOk r (λ found. Coded bytes found.0 found.1)
+is_found asks bytes (Ok x) fits g = message_takes bytes x.0 x.1 fits g
+is_found asks bytes (Err e) fits g = tt
 
-pub is_only : (bytes : List ℕ) (r : Result (ℕ × Message) DecodeFault) → Gives (λ found. found) r (message_in bytes)
+pub is_only : (asks : Type 0) (bytes : List ℕ) (r : Result (ℕ × Message) DecodeFault) → Gives asks (λ found. found) r (message_in bytes)
     → (stamp : ℕ) (m : Message) → Coded bytes stamp m → MatchResult r (λ found. found ≡ (stamp, m)) (λ e. e ≡ faults.NoMemory)
-is_only bytes (Ok x) g stamp m c = same_Some x (stamp, m) (sym g ∙ message_again bytes stamp m c)
-is_only bytes (Err faults.NoMemory) g stamp m c = refl
-is_only bytes (Err faults.BadMessage) g stamp m c = absurd (let e = sym g ∙ message_again bytes stamp m c in cc)
+is_only asks bytes (Ok x) g stamp m c = same_Some x (stamp, m) (sym g ∙ message_again bytes stamp m c)
+is_only asks bytes (Err faults.NoMemory) g stamp m c = refl
+is_only asks bytes (Err faults.BadMessage) g stamp m c = absurd (let e = sym g ∙ message_again bytes stamp m c in cc)
+
+-- memory runs out only where it is asked for
+pub is_asked : (asks : Type 0) (bytes : List ℕ) (r : Result (ℕ × Message) DecodeFault) → Gives asks (λ found. found) r (message_in bytes) → r ≡ Err faults.NoMemory → asks
+is_asked asks bytes (Ok x) g is = absurd cc
+is_asked asks bytes (Err faults.NoMemory) g is = g
+is_asked asks bytes (Err faults.BadMessage) g is = absurd cc

@@ -1,2 +1,3 @@
 pub mod Coding
+pub mod Carrying
 pub mod Reading

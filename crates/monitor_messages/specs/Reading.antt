@@ -26,14 +26,14 @@ abbrev pub ◌>>=◌ : {A B : Type 0} → Option A → (A → Option B) → Opti
 None >>= f = None
 (Some x) >>= f = f x
 
--- What a function returned, seen by view, is what reading gives, unless memory ran out.
-abbrev pub Fails : {Y : Type 0} → DecodeFault → Option Y → Type 0
-Fails faults.NoMemory read = Unit {0}
-Fails faults.BadMessage read = read ≡ None
+-- What a function returned, seen by view, is what reading gives, unless memory ran out, which happens only where `asks` holds.
+abbrev pub Fails : {Y : Type 0} → Type 0 → DecodeFault → Option Y → Type 0
+Fails asks faults.NoMemory read = asks
+Fails asks faults.BadMessage read = read ≡ None
 
-abbrev pub Gives : {X Y : Type 0} → (X → Y) → Result X DecodeFault → Option Y → Type 0
-Gives view (Ok x) read = read ≡ Some (view x)
-Gives view (Err e) read = Fails e read
+abbrev pub Gives : {X Y : Type 0} → Type 0 → (X → Y) → Result X DecodeFault → Option Y → Type 0
+Gives asks view (Ok x) read = read ≡ Some (view x)
+Gives asks view (Err e) read = Fails asks e read
 
 -- what stands beside a number, if it is one of the rows
 abbrev pub choose : {A : Type 0} → ℕ → List (ℕ × Option A) → Option A

@@ -1,6 +1,7 @@
 //! The messages.
 
-ghost use Rattle.std.specs.Prelude.{◌≡◌, IfOk};
+ghost use Rattle.std.specs.Prelude.{◌≡◌, None, IsOk, IfOk};
+ghost use Rattle.monitor_messages.specs.Carrying.{program_in};
 
 use std::alloc::{AllocError, Global};
 use table_replica::{Made, Op, OpFault};
@@ -56,9 +57,10 @@ pub enum Message {
 }
 
 impl Message {
-    /// An equal message.
+    /// An equal message. Takes memory only for the program of an operation.
     pub fn copy(&self, alloc: Global) -> Result<Message, AllocError>
-        ensures { IfOk result (λ message. message ≡ self.now) }
+        ensures equal { IfOk result (λ message. message ≡ self.now) }
+        ensures memory { program_in self.now ≡ None → IsOk result }
     {
         match self {
             Message::Prepare { txn, op } => {

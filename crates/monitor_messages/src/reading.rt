@@ -1,9 +1,10 @@
 //! Messages read from bytes.
 
-ghost use Rattle.std.specs.Prelude.{◌≡◌, ℕ, IfOk, MatchResult};
+ghost use Rattle.std.specs.Prelude.{◌≡◌, ℕ, ⊤, IfOk, MatchResult};
 ghost use Rattle.monitor_messages.specs.declared.message.Message.{Message as GhostMessage};
 ghost use Rattle.monitor_messages.specs.declared.fault.DecodeFault.TheVariants.{NoMemory};
 ghost use Rattle.monitor_messages.specs.Coding.{Coded};
+ghost use Rattle.monitor_messages.specs.Carrying.{IsLoading, LoadsAt, CarriesFrom, CarriesProgram};
 ghost use Rattle.monitor_messages.specs.Reading as spec;
 ghost use Rattle.monitor_messages.specs.Reading.{Gives};
 
@@ -14,9 +15,10 @@ use endpoint_caps::Rights;
 use std::alloc::Global;
 use table_replica::{Made, Op, OpFault, Program};
 
-/// The stamp and the message whose bytes these are, all of the bytes.
+/// The stamp and the message whose bytes these are, all of the bytes. Memory is taken only for the program of an operation.
 pub fn decode(alloc: Global, bytes: &[u8]) -> Result<(u64, Message), DecodeFault>
     ensures found { IfOk result (λ found. Coded bytes.now found.0 found.1) }
+    ensures memory { result ≡ Err DecodeFault.NoMemory → CarriesProgram bytes.now }
     ensures only { (stamp : ℕ) (message : GhostMessage) → Coded bytes.now stamp message → MatchResult result (λ found. found ≡ (stamp, message)) (λ fault. fault ≡ NoMemory) }
 {
     message_in(alloc, bytes)
@@ -24,7 +26,7 @@ pub fn decode(alloc: Global, bytes: &[u8]) -> Result<(u64, Message), DecodeFault
 
 #[tactic(auto, unfolding(crate::specs::Reading::message_in))]
 fn message_in(alloc: Global, bytes: &[u8]) -> Result<(u64, Message), DecodeFault>
-    ensures { Gives (λ found. found) result (spec.message_in bytes.now) }
+    ensures { Gives (CarriesProgram bytes.now) (λ found. found) result (spec.message_in bytes.now) }
 {
     let (kind, rest) = u8_at(bytes)?;
     let (stamp, rest) = u64_at(rest)?;
@@ -34,7 +36,7 @@ fn message_in(alloc: Global, bytes: &[u8]) -> Result<(u64, Message), DecodeFault
 
 #[tactic(auto, unfolding(crate::specs::Reading::body_of))]
 fn body_of(alloc: Global, kind: u8, bytes: &[u8]) -> Result<Message, DecodeFault>
-    ensures { Gives (λ message. message) result (spec.body_of kind bytes.now) }
+    ensures { Gives (CarriesFrom kind bytes.now) (λ message. message) result (spec.body_of kind bytes.now) }
 {
     match kind {
         1 => prepare_in(alloc, bytes),
@@ -65,7 +67,7 @@ fn body_of(alloc: Global, kind: u8, bytes: &[u8]) -> Result<Message, DecodeFault
 
 #[tactic(auto, unfolding(crate::specs::Reading::prepare_in))]
 fn prepare_in(alloc: Global, bytes: &[u8]) -> Result<Message, DecodeFault>
-    ensures { Gives (λ message. message) result (spec.prepare_in bytes.now) }
+    ensures { Gives (LoadsAt 8 bytes.now) (λ message. message) result (spec.prepare_in bytes.now) }
 {
     let (txn, rest) = u64_at(bytes)?;
     let op = op_in(alloc, rest)?;
@@ -74,7 +76,7 @@ fn prepare_in(alloc: Global, bytes: &[u8]) -> Result<Message, DecodeFault>
 
 #[tactic(auto, unfolding(crate::specs::Reading::vote_in, crate::specs::Reading::last_u8))]
 fn vote_in(bytes: &[u8]) -> Result<Message, DecodeFault>
-    ensures { Gives (λ message. message) result (spec.vote_in bytes.now) }
+    ensures { Gives ⊥ (λ message. message) result (spec.vote_in bytes.now) }
 {
     let (txn, rest) = u64_at(bytes)?;
     let vote = match last_u8(rest)? {
@@ -90,7 +92,7 @@ fn vote_in(bytes: &[u8]) -> Result<Message, DecodeFault>
 
 #[tactic(auto, unfolding(crate::specs::Reading::op_in))]
 fn op_in(alloc: Global, bytes: &[u8]) -> Result<Op, DecodeFault>
-    ensures { Gives (λ op. op) result (spec.op_in bytes.now) }
+    ensures { Gives (LoadsAt 0 bytes.now) (λ op. op) result (spec.op_in bytes.now) }
 {
     let (kind, rest) = u8_at(bytes)?;
     let (domain, rest) = u16_at(rest)?;
@@ -99,7 +101,7 @@ fn op_in(alloc: Global, bytes: &[u8]) -> Result<Op, DecodeFault>
 
 #[tactic(auto, unfolding(crate::specs::Reading::op_of))]
 fn op_of(alloc: Global, kind: u8, domain: u16, bytes: &[u8]) -> Result<Op, DecodeFault>
-    ensures { Gives (λ op. op) result (spec.op_of kind domain bytes.now) }
+    ensures { Gives (IsLoading kind) (λ op. op) result (spec.op_of kind domain bytes.now) }
 {
     match kind {
         1 => {
@@ -141,7 +143,7 @@ fn op_of(alloc: Global, kind: u8, domain: u16, bytes: &[u8]) -> Result<Op, Decod
 
 #[tactic(auto, unfolding(crate::specs::Reading::mint_in))]
 fn mint_in(domain: u16, bytes: &[u8]) -> Result<Op, DecodeFault>
-    ensures { Gives (λ op. op) result (spec.mint_in domain bytes.now) }
+    ensures { Gives ⊥ (λ op. op) result (spec.mint_in domain bytes.now) }
 {
     let (cap, rest) = u32_at(bytes)?;
     let (to, rest) = u16_at(rest)?;
@@ -156,7 +158,7 @@ fn mint_in(domain: u16, bytes: &[u8]) -> Result<Op, DecodeFault>
 
 #[tactic(auto, unfolding(crate::specs::Reading::rights_in))]
 fn rights_in(bytes: &[u8]) -> Result<Rights, DecodeFault>
-    ensures { Gives (λ rights. rights) result (spec.rights_in bytes.now) }
+    ensures { Gives ⊥ (λ rights. rights) result (spec.rights_in bytes.now) }
 {
     match last_u8(bytes)? {
         1 => Ok(Rights::R),
@@ -169,7 +171,7 @@ fn rights_in(bytes: &[u8]) -> Result<Rights, DecodeFault>
 // An id and a program.
 #[tactic(auto, unfolding(crate::specs::Reading::loaded_in))]
 fn loaded_in(alloc: Global, bytes: &[u8]) -> Result<(u32, Program), DecodeFault>
-    ensures { Gives (λ loaded. loaded) result (spec.loaded_in bytes.now) }
+    ensures { Gives ⊤ (λ loaded. loaded) result (spec.loaded_in bytes.now) }
 {
     let (id, rest) = u32_at(bytes)?;
     let program = program_in(alloc, rest)?;
@@ -178,7 +180,7 @@ fn loaded_in(alloc: Global, bytes: &[u8]) -> Result<(u32, Program), DecodeFault>
 
 #[tactic(auto, unfolding(crate::specs::Reading::program_in))]
 fn program_in(alloc: Global, bytes: &[u8]) -> Result<Program, DecodeFault>
-    ensures { Gives (λ program. program) result (spec.program_in bytes.now) }
+    ensures { Gives ⊤ (λ program. program) result (spec.program_in bytes.now) }
 {
     let (count, rest) = u16_at(bytes)?;
     if count > 4096 {
@@ -192,7 +194,7 @@ fn program_in(alloc: Global, bytes: &[u8]) -> Result<Program, DecodeFault>
 }
 
 fn insns_at(alloc: Global, count: u16, bytes: &[u8]) -> Result<(Vec<Insn>, &[u8]), DecodeFault>
-    ensures { Gives (λ x. (x.0.items, x.1.now)) result (spec.insns_at count bytes.now) }
+    ensures { Gives ⊤ (λ x. (x.0.items, x.1.now)) result (spec.insns_at count bytes.now) }
 {
     let mut code = Vec::new(alloc);
     let mut rest = bytes;
@@ -206,7 +208,7 @@ fn insns_at(alloc: Global, count: u16, bytes: &[u8]) -> Result<(Vec<Insn>, &[u8]
 
 #[tactic(auto, unfolding(crate::specs::Reading::insn_at))]
 fn insn_at(bytes: &[u8]) -> Result<(Insn, &[u8]), DecodeFault>
-    ensures { Gives (λ x. (x.0, x.1.now)) result (spec.insn_at bytes.now) }
+    ensures { Gives ⊥ (λ x. (x.0, x.1.now)) result (spec.insn_at bytes.now) }
 {
     let (code, rest) = u16_at(bytes)?;
     let (jt, rest) = u8_at(rest)?;
@@ -219,7 +221,7 @@ fn insn_at(bytes: &[u8]) -> Result<(Insn, &[u8]), DecodeFault>
 
 #[tactic(auto, unfolding(crate::specs::Reading::decision_in))]
 fn decision_in(bytes: &[u8]) -> Result<Decision, DecodeFault>
-    ensures { Gives (λ decision. decision) result (spec.decision_in bytes.now) }
+    ensures { Gives ⊥ (λ decision. decision) result (spec.decision_in bytes.now) }
 {
     let (kind, rest) = u8_at(bytes)?;
     match kind {
@@ -231,7 +233,7 @@ fn decision_in(bytes: &[u8]) -> Result<Decision, DecodeFault>
 
 #[tactic(auto, unfolding(crate::specs::Reading::committed_in))]
 fn committed_in(bytes: &[u8]) -> Result<Decision, DecodeFault>
-    ensures { Gives (λ decision. decision) result (spec.committed_in bytes.now) }
+    ensures { Gives ⊥ (λ decision. decision) result (spec.committed_in bytes.now) }
 {
     let (version, rest) = u64_at(bytes)?;
     let made = made_in(rest)?;
@@ -240,7 +242,7 @@ fn committed_in(bytes: &[u8]) -> Result<Decision, DecodeFault>
 
 #[tactic(auto, unfolding(crate::specs::Reading::refused_in))]
 fn refused_in(bytes: &[u8]) -> Result<Decision, DecodeFault>
-    ensures { Gives (λ decision. decision) result (spec.refused_in bytes.now) }
+    ensures { Gives ⊥ (λ decision. decision) result (spec.refused_in bytes.now) }
 {
     let (core, rest) = u16_at(bytes)?;
     let why = veto_in(rest)?;
@@ -249,7 +251,7 @@ fn refused_in(bytes: &[u8]) -> Result<Decision, DecodeFault>
 
 #[tactic(auto, unfolding(crate::specs::Reading::made_in))]
 fn made_in(bytes: &[u8]) -> Result<Made, DecodeFault>
-    ensures { Gives (λ made. made) result (spec.made_in bytes.now) }
+    ensures { Gives ⊥ (λ made. made) result (spec.made_in bytes.now) }
 {
     let (made, rest) = u8_at(bytes)?;
     match made {
@@ -271,7 +273,7 @@ fn made_in(bytes: &[u8]) -> Result<Made, DecodeFault>
 
 #[tactic(auto, unfolding(crate::specs::Reading::veto_in))]
 fn veto_in(bytes: &[u8]) -> Result<Veto, DecodeFault>
-    ensures { Gives (λ why. why) result (spec.veto_in bytes.now) }
+    ensures { Gives ⊥ (λ why. why) result (spec.veto_in bytes.now) }
 {
     let (why, rest) = u8_at(bytes)?;
     match why {
@@ -293,7 +295,7 @@ fn veto_in(bytes: &[u8]) -> Result<Veto, DecodeFault>
 
 #[tactic(auto, unfolding(crate::specs::Reading::fault_in))]
 fn fault_in(bytes: &[u8]) -> Result<OpFault, DecodeFault>
-    ensures { Gives (λ fault. fault) result (spec.fault_in bytes.now) }
+    ensures { Gives ⊥ (λ fault. fault) result (spec.fault_in bytes.now) }
 {
     let (number, rest) = u8_at(bytes)?;
     if number == 17 {
@@ -304,7 +306,7 @@ fn fault_in(bytes: &[u8]) -> Result<OpFault, DecodeFault>
 }
 
 fn plain_fault(number: u8) -> Result<OpFault, DecodeFault>
-    ensures { Gives (λ fault. fault) result (spec.plain_fault number) }
+    ensures { Gives ⊥ (λ fault. fault) result (spec.plain_fault number) }
 {
     match number {
         1 => Ok(OpFault::NoCap),
@@ -325,7 +327,7 @@ fn plain_fault(number: u8) -> Result<OpFault, DecodeFault>
 
 #[tactic(auto, unfolding(crate::specs::Reading::bad_program_in))]
 fn bad_program_in(bytes: &[u8]) -> Result<OpFault, DecodeFault>
-    ensures { Gives (λ fault. fault) result (spec.bad_program_in bytes.now) }
+    ensures { Gives ⊥ (λ fault. fault) result (spec.bad_program_in bytes.now) }
 {
     let (rule, rest) = u8_at(bytes)?;
     let pc = last_u16(rest)?;
@@ -338,7 +340,7 @@ fn bad_program_in(bytes: &[u8]) -> Result<OpFault, DecodeFault>
 // Numbers
 
 fn ended(bytes: &[u8]) -> Result<(), DecodeFault>
-    ensures { Gives (λ unit. unit) result (spec.ended bytes.now record {}) }
+    ensures { Gives ⊥ (λ unit. unit) result (spec.ended bytes.now record {}) }
 {
     if !bytes.is_empty() {
         return Err(DecodeFault::BadMessage);
@@ -348,7 +350,7 @@ fn ended(bytes: &[u8]) -> Result<(), DecodeFault>
 
 #[tactic(auto, unfolding(crate::specs::Reading::last_u8))]
 fn last_u8(bytes: &[u8]) -> Result<u8, DecodeFault>
-    ensures { Gives (λ n. n) result (spec.last_u8 bytes.now) }
+    ensures { Gives ⊥ (λ n. n) result (spec.last_u8 bytes.now) }
 {
     let (number, rest) = u8_at(bytes)?;
     ended(rest)?;
@@ -357,7 +359,7 @@ fn last_u8(bytes: &[u8]) -> Result<u8, DecodeFault>
 
 #[tactic(auto, unfolding(crate::specs::Reading::last_u16))]
 fn last_u16(bytes: &[u8]) -> Result<u16, DecodeFault>
-    ensures { Gives (λ n. n) result (spec.last_u16 bytes.now) }
+    ensures { Gives ⊥ (λ n. n) result (spec.last_u16 bytes.now) }
 {
     let (number, rest) = u16_at(bytes)?;
     ended(rest)?;
@@ -366,7 +368,7 @@ fn last_u16(bytes: &[u8]) -> Result<u16, DecodeFault>
 
 #[tactic(auto, unfolding(crate::specs::Reading::last_u32))]
 fn last_u32(bytes: &[u8]) -> Result<u32, DecodeFault>
-    ensures { Gives (λ n. n) result (spec.last_u32 bytes.now) }
+    ensures { Gives ⊥ (λ n. n) result (spec.last_u32 bytes.now) }
 {
     let (number, rest) = u32_at(bytes)?;
     ended(rest)?;
@@ -375,7 +377,7 @@ fn last_u32(bytes: &[u8]) -> Result<u32, DecodeFault>
 
 #[tactic(auto, unfolding(crate::specs::Reading::last_u64))]
 fn last_u64(bytes: &[u8]) -> Result<u64, DecodeFault>
-    ensures { Gives (λ n. n) result (spec.last_u64 bytes.now) }
+    ensures { Gives ⊥ (λ n. n) result (spec.last_u64 bytes.now) }
 {
     let (number, rest) = u64_at(bytes)?;
     ended(rest)?;
@@ -384,7 +386,7 @@ fn last_u64(bytes: &[u8]) -> Result<u64, DecodeFault>
 
 #[tactic(auto, unfolding(crate::specs::Reading::u8_at))]
 fn u8_at(bytes: &[u8]) -> Result<(u8, &[u8]), DecodeFault>
-    ensures { Gives (λ x. (x.0, x.1.now)) result (spec.u8_at bytes.now) }
+    ensures { Gives ⊥ (λ x. (x.0, x.1.now)) result (spec.u8_at bytes.now) }
 {
     match bytes {
         [a, rest @ ..] => Ok((*a, rest)),
@@ -394,7 +396,7 @@ fn u8_at(bytes: &[u8]) -> Result<(u8, &[u8]), DecodeFault>
 
 #[tactic(auto, unfolding(crate::specs::Reading::u16_at))]
 fn u16_at(bytes: &[u8]) -> Result<(u16, &[u8]), DecodeFault>
-    ensures { Gives (λ x. (x.0, x.1.now)) result (spec.u16_at bytes.now) }
+    ensures { Gives ⊥ (λ x. (x.0, x.1.now)) result (spec.u16_at bytes.now) }
 {
     match bytes {
         [a, b, rest @ ..] => Ok((u16::from_le_bytes([*a, *b]), rest)),
@@ -404,7 +406,7 @@ fn u16_at(bytes: &[u8]) -> Result<(u16, &[u8]), DecodeFault>
 
 #[tactic(auto, unfolding(crate::specs::Reading::u32_at))]
 fn u32_at(bytes: &[u8]) -> Result<(u32, &[u8]), DecodeFault>
-    ensures { Gives (λ x. (x.0, x.1.now)) result (spec.u32_at bytes.now) }
+    ensures { Gives ⊥ (λ x. (x.0, x.1.now)) result (spec.u32_at bytes.now) }
 {
     match bytes {
         [a, b, c, d, rest @ ..] => Ok((u32::from_le_bytes([*a, *b, *c, *d]), rest)),
@@ -414,7 +416,7 @@ fn u32_at(bytes: &[u8]) -> Result<(u32, &[u8]), DecodeFault>
 
 #[tactic(auto, unfolding(crate::specs::Reading::u64_at))]
 fn u64_at(bytes: &[u8]) -> Result<(u64, &[u8]), DecodeFault>
-    ensures { Gives (λ x. (x.0, x.1.now)) result (spec.u64_at bytes.now) }
+    ensures { Gives ⊥ (λ x. (x.0, x.1.now)) result (spec.u64_at bytes.now) }
 {
     match bytes {
         [a, b, c, d, e, f, g, h, rest @ ..] => {

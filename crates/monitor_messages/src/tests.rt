@@ -219,6 +219,17 @@ fn the_longest_message(rt: HostRuntime) -> Result<(), Fail> {
     let code = program.into_vec();
     assert_eq!(rt; code.len(), 4096);
     assert_eq!(rt; code[4095], insn(0, 0, 0, 4095));
+    let program = Program::from_vec(code);
+    let op = Op::Replace {
+        domain: 1,
+        filter: 1,
+        program,
+    };
+    let message = Message::Submit { op };
+    let bytes = encode(alloc, 1, &message.copy(alloc)?)?;
+    assert_eq!(rt; bytes.len(), 32_786);
+    let (_, read) = decode(alloc, &bytes)?;
+    assert_eq!(rt; encode(alloc, 1, &read)?.as_slice(), bytes.as_slice());
     Ok(())
 }
 

@@ -1,5 +1,5 @@
 -- What no refusal leaves known of an operation, and what each refusal says.
-use Rattle.std.proofs.Common.{◌≡◌, ◌+◌, ◌<◌, ◌≤◌, ◌==◌, inl, inr, ℕ, Bool, true, false, Option, Some, None, List, [], ◌∷◌, length, refl, ap, sym, ◌∙◌, arith}
+use Rattle.std.proofs.Common.{◌≡◌, ◌+◌, ◌<◌, ◌≤◌, ◌==◌, inl, inr, ℕ, Bool, true, false, Option, Some, None, List, [], ◌∷◌, length, refl, ap, sym, subst, ◌∙◌, arith}
 use Rattle.std.proofs.lemmas.Bool.Decides.{nat_tests}
 use Rattle.std.specs.List.{list_any}
 use Rattle.bpf_insn.specs.declared.insn.Insn.{Insn}
@@ -8,8 +8,10 @@ use Rattle.table_replica.specs.declared.Op.{Op}
 use Rattle.table_replica.specs.declared.Op.TheVariants.{Create, Mint, Revoke, DropCap, Install, Remove, Replace}
 use Rattle.table_replica.specs.declared.StageFault.{StageFault}
 use Rattle.table_replica.specs.declared.StageFault.TheVariants.{AlreadyStaged, Rule, Budget, NoMemory}
-use Rattle.table_replica.specs.Tables.{State, tests, Allowed, Verifies, program_of, instructions, instructions_of, replaced, after}
-use Rattle.table_replica.specs.Staging.{CannotStage}
+use Rattle.table_replica.specs.Tables.{State, tests, Allowed, Verifies, AnswersFirst, program_of, instructions, instructions_of, replaced, after}
+use Rattle.filter_verify.specs.declared.rules.Refusal.{Refusal}
+use Rattle.filter_verify.specs.Rules.{IsWellShaped}
+use Rattle.table_replica.specs.Staging.{VerifierAsks, AsksForMemory, CannotStage}
 use Rattle.table_replica.specs.Replicas.{RefusesAs}
 use Rattle.table_replica.proofs.Tables.{first_none, allowed_fits}
 
@@ -77,6 +79,10 @@ cannot_first s budget op (Rule fault) h = (refl, refused_if s budget op (Rule fa
 cannot_first s budget op Budget h = (refl, refused_if s budget op Budget h)
 cannot_first s budget op NoMemory h = absurd (let x = first_of is_other (tests s budget op) NoMemory (no_other s budget op) h in cc)
 
+-- no test finds that memory is lacking
+pub never_memory : (s : State) (budget : ℕ) (op : Op) → first (tests s budget op) ≡ Some NoMemory → ⊥
+never_memory s budget op h = absurd (let x = first_of is_other (tests s budget op) NoMemory (no_other s budget op) h in cc)
+
 pub cannot_program : (s : State) (budget : ℕ) (op : Op) (f : StageFault) → first (tests s budget op) ≡ None → RefusesAs (program_of op) f → CannotStage s budget op None f
 cannot_program s budget op AlreadyStaged h r = absurd (never (program_of op) r)
   where
@@ -86,7 +92,33 @@ cannot_program s budget op AlreadyStaged h r = absurd (never (program_of op) r)
     never (Some p) (inr v) = cc (v.2)
 cannot_program s budget op (Rule fault) h r = (refl, allowed_if s budget op (Some (Rule fault)) h r)
 cannot_program s budget op Budget h r = (refl, allowed_if s budget op (Some Budget) h r)
-cannot_program s budget op NoMemory h r = (refl, h)
+cannot_program s budget op NoMemory h r = (refl, record { passed = h; shaped = asked (program_of op) r })
+  where
+    asked : (brought : Option (List Insn)) → VerifierAsks brought → (program : List Insn) → brought ≡ Some program → IsWellShaped program
+    asked None asks program is = absurd asks
+    asked (Some other) asks program is = let same : other ≡ program = cc in subst IsWellShaped same asks
+
+-- a program that is verified is well shaped
+verified_shape : (brought : Option (List Insn)) → Verifies brought None → (program : List Insn) → brought ≡ Some program → IsWellShaped program
+verified_shape None v program is = absurd cc
+verified_shape (Some other) (inl v) program is = let same : other ≡ program = cc in subst IsWellShaped same v.0.shaped
+verified_shape (Some other) (inr v) program is = absurd (let x = v.2 in cc)
+
+pub asks_verified : (s : State) (budget : ℕ) (op : Op) → first (tests s budget op) ≡ None → Verifies (program_of op) None → AsksForMemory s budget op
+asks_verified s budget op h v = record { passed = h; shaped = verified_shape (program_of op) v }
+
+-- the table after the operation is not made
+pub cannot_change : (s : State) (budget : ℕ) (op : Op) → first (tests s budget op) ≡ None → Verifies (program_of op) None → CannotStage s budget op None NoMemory
+cannot_change s budget op h v = (refl, asks_verified s budget op h v)
+
+-- staging an operation that is allowed asks for memory
+pub asks_allowed : (s : State) (budget : ℕ) (op : Op) → Allowed s budget op None → AsksForMemory s budget op
+unfolding Allowed
+asks_allowed s budget op allowed = by_first (first (tests s budget op)) refl allowed
+  where
+    by_first : (f : Option StageFault) → first (tests s budget op) ≡ f → AnswersFirst f op None → AsksForMemory s budget op
+    by_first None e v = asks_verified s budget op e v
+    by_first (Some fault) e v = absurd cc
 
 pub fits_after : (s : State) (budget : ℕ) (op : Op) → Allowed s budget op None → instructions_of s.filters ≤ budget → instructions_of (after s op).filters ≤ budget
 unfolding instructions

@@ -8,6 +8,7 @@ use Rattle.table_replica.specs.declared.StageFault.TheVariants.{NoMemory}
 use Rattle.table_replica.specs.declared.replica.Staged.{Staged}
 use Rattle.table_replica.specs.Soundness.{IsSoundTable}
 use Rattle.table_replica.specs.Tables.{State, after, made, instructions_of, Verifies}
+use Rattle.table_replica.specs.Staging.{VerifierAsks}
 
 abbrev pub staged_op : Option Staged → Option Op
 staged_op None = None
@@ -19,7 +20,7 @@ IsStaged budget shown None = Unit {0}
 IsStaged budget shown (Some staged) =
     (staged.next ≡ after shown staged.op.value) × (staged.made ≡ made shown staged.op.value) × (instructions_of staged.next.filters ≤ budget) × IsSoundTable staged.next
 
--- why a program is not verified: the verifier's refusal, or want of memory
+-- why a program is not verified: the verifier's refusal, or it asked for memory and got none
 abbrev pub RefusesAs : Option (List Insn) → StageFault → Type 0
-RefusesAs program NoMemory = Unit {0}
+RefusesAs program NoMemory = VerifierAsks program
 RefusesAs program fault = Verifies program (Some fault)

@@ -1,12 +1,12 @@
 //! A table, and what an operation does to it.
-ghost use Rattle.std.specs.Prelude.{◌≡◌, ◌+◌, ◌<◌, ◌≤◌, [], None, Some, length, IfOk, IfErr, OnOk};
+ghost use Rattle.std.specs.Prelude.{◌≡◌, ◌+◌, ◌<◌, ◌≤◌, [], None, Some, length, IsOk, IfOk, IfErr, OnOk};
 ghost use Rattle.std.specs.Option.{option_map};
 ghost use Rattle.std.specs.Result.{result_err};
 ghost use Rattle.endpoint_caps.specs.Capabilities.{first, cap_at, mint_tests};
 ghost use Rattle.table_replica.specs.Tables.{State, Accepting, Allowed, after, made, tests, as_rules, rule_of, instructions, instructions_of, replaced, program_of, endpoint_of, Verifies, owner_tests, install_tests, replace_tests, cap_of, filter_at};
 ghost use Rattle.filter_verify.specs.Rules.{Sound, Refuses};
 ghost use Rattle.filter_verify.specs.Numbers.{number_of, place_of};
-ghost use Rattle.table_replica.specs.Staging.{CannotStage};
+ghost use Rattle.table_replica.specs.Staging.{CannotStage, VerifierAsks};
 ghost use Rattle.table_replica.specs.Replicas.{RefusesAs};
 ghost use Rattle.table_replica.specs.Soundness.{IsSoundTable};
 
@@ -65,7 +65,8 @@ impl Contents {
         next_cap: u32,
         next_filter: u32,
     ) -> Result<Contents, AllocError>
-        ensures { IfOk result (λ table. table ≡ record { version = version; caps = record { held = []; next = next_cap }; filters = []; next_filter = next_filter }) }
+        ensures ok { IsOk result }
+        ensures empty { IfOk result (λ table. table ≡ record { version = version; caps = record { held = []; next = next_cap }; filters = []; next_filter = next_filter }) }
     {
         let caps = Caps::resume(alloc, next_cap)?;
         let filters = Filters::new(alloc, &caps);
@@ -134,12 +135,13 @@ impl Contents {
         }
     }
 
-    /// The first refusal, the verifier's aside, as what stands in the way of staging.
-    #[tactic(auto, using(crate::proofs::Changes::cannot_first))]
+    /// The first refusal, the verifier's aside, as what stands in the way of staging. Takes no memory.
+    #[tactic(auto, using(crate::proofs::Changes::cannot_first, crate::proofs::Changes::never_memory))]
     fn tested(&self, budget: u32, op: &Op) -> Result<(), StageFault>
         requires { instructions_of self.now.filters ≤ budget }
         ensures ok { OnOk result (first (tests self.now budget op.now) ≡ None) }
         ensures err { IfErr result (CannotStage self.now budget op.now None) }
+        ensures memory { result ≡ Err StageFault.NoMemory → ⊥ }
     {
         match self.refusal(budget, op) {
             Ok(()) => Ok(()),
@@ -206,7 +208,7 @@ impl Contents {
     }
 
     /// The table after an operation, or the first refusal.
-    #[tactic(auto, using(crate::proofs::Changes::allowed_if, crate::proofs::Changes::cannot_program))]
+    #[tactic(auto, using(crate::proofs::Changes::allowed_if, crate::proofs::Changes::cannot_program, crate::proofs::Changes::cannot_change))]
     pub(crate) fn after(&self, alloc: Global, budget: u32, op: &Op) -> Result<Contents, StageFault>
         requires fits { instructions_of self.now.filters ≤ budget }
         requires sound { IsSoundTable self.now }
@@ -228,6 +230,7 @@ impl Contents {
         requires { instructions_of self.now.filters ≤ budget }
         ensures ok { OnOk result (Allowed self.now budget op.now None) }
         ensures err { IfErr result (CannotStage self.now budget op.now None) }
+        ensures memory { result ≡ Err StageFault.NoMemory → VerifierAsks (program_of op.now) }
     {
         self.tested(budget, op)?;
         verified(alloc, op)?;

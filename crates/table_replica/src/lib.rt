@@ -4,7 +4,8 @@
 //! (Baumann and others, "The Multikernel", SOSP 2009: replicated state, changed by two-phase commit).
 #![tactic(auto)]
 
-ghost use Rattle.std.specs.Prelude.{◌≡◌, IfOk};
+ghost use Rattle.std.specs.Prelude.{◌≡◌, None, IsOk, IfOk};
+ghost use Rattle.table_replica.specs.Tables.{program_of};
 
 mod contents;
 mod filters;
@@ -71,9 +72,10 @@ pub enum Op {
 }
 
 impl Op {
-    /// An equal operation.
+    /// An equal operation. Takes memory only for a program.
     pub fn copy(&self, alloc: Global) -> Result<Op, AllocError>
-        ensures { IfOk result (λ op. op ≡ self.now) }
+        ensures equal { IfOk result (λ op. op ≡ self.now) }
+        ensures memory { program_of self.now ≡ None → IsOk result }
     {
         match self {
             Op::Create { domain, endpoint } => Ok(Op::Create {
@@ -171,7 +173,7 @@ pub enum StageFault {
     Rule(OpFault),
     /// The instructions of the filters would exceed this replica's budget.
     Budget,
-    /// There was no memory. No test but the verifier's was left.
+    /// There was no memory. No test but the verifier's search for unwritten words was left.
     NoMemory,
 }
 

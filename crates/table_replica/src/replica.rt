@@ -1,8 +1,8 @@
 //! The replica of a core: the table that it shows, and the one that is staged beside it.
-ghost use Rattle.std.specs.Prelude.{◌≡◌, ◌≤◌, [], None, Some, IsSome, is_some, IfOk, IfErr, OnOk, OnErr};
-ghost use Rattle.table_replica.specs.Tables.{Accepting, Allowed, after, instructions, instructions_of, made};
+ghost use Rattle.std.specs.Prelude.{◌≡◌, ◌≤◌, [], None, Some, IsSome, is_some, IsOk, IfOk, IfErr, OnOk, OnErr};
+ghost use Rattle.table_replica.specs.Tables.{Accepting, Allowed, after, instructions, instructions_of, made, program_of};
 ghost use Rattle.table_replica.specs.Lent.{AreDifferent};
-ghost use Rattle.table_replica.specs.Staging.{CannotStage};
+ghost use Rattle.table_replica.specs.Staging.{CannotStage, VerifierAsks};
 ghost use Rattle.table_replica.specs.Soundness.{IsSoundTable, IdsGrow};
 ghost use Rattle.table_replica.specs.declared.Op.{Op as GhostOp};
 
@@ -44,15 +44,16 @@ impl Model for Replica {
 }
 
 impl Replica {
-    /// An empty replica at version 0 whose filters may have `budget` instructions together; the first ids are 1. Nothing is
-    /// allocated yet.
+    /// An empty replica at version 0 whose filters may have `budget` instructions together; the first ids are 1. Takes no memory
+    /// yet.
     pub fn new(alloc: Global, budget: u32) -> Result<Replica, AllocError>
-        ensures { IfOk result (λ replica. replica ≡ record { budget = budget; shown = record { version = 0; caps = record { held = []; next = 1 }; filters = []; next_filter = 1 }; staged = None }) }
+        ensures ok { IsOk result }
+        ensures empty { IfOk result (λ replica. replica ≡ record { budget = budget; shown = record { version = 0; caps = record { held = []; next = 1 }; filters = []; next_filter = 1 }; staged = None }) }
     {
         Replica::resume(alloc, budget, 0, 1, 1)
     }
 
-    /// An empty replica at a version, with the next ids of a capability and of a filter.
+    /// An empty replica at a version, with the next ids of a capability and of a filter. Takes no memory yet.
     #[tactic(auto, using(crate::proofs::Soundness::sound_empty))]
     pub fn resume(
         alloc: Global,
@@ -61,7 +62,8 @@ impl Replica {
         next_cap: u32,
         next_filter: u32,
     ) -> Result<Replica, AllocError>
-        ensures { IfOk result (λ replica. replica ≡ record { budget = budget; shown = record { version = version; caps = record { held = []; next = next_cap }; filters = []; next_filter = next_filter }; staged = None }) }
+        ensures ok { IsOk result }
+        ensures empty { IfOk result (λ replica. replica ≡ record { budget = budget; shown = record { version = version; caps = record { held = []; next = next_cap }; filters = []; next_filter = next_filter }; staged = None }) }
     {
         let shown = Contents::resume(alloc, version, next_cap, next_filter)?;
         Ok(Replica {
@@ -140,11 +142,13 @@ impl Replica {
         self.shown.filters().accepting(alloc, bytes, original)
     }
 
-    /// What `stage` would answer, memory aside. Nothing changes.
+    /// What `stage` would answer, memory aside. Nothing changes. Memory is taken only to verify a program whose size,
+    /// instructions and end are right.
     pub fn check(&self, alloc: Global, op: &Op) -> Result<(), StageFault>
         ensures ok { OnOk result (Allowed self.now.shown self.now.budget op.now None) }
         ensures nothing_staged { OnOk result (self.now.staged ≡ None) }
         ensures err { IfErr result (CannotStage self.now.shown self.now.budget op.now self.now.staged) }
+        ensures memory { result ≡ Err StageFault.NoMemory → VerifierAsks (program_of op.now) }
         ensures fits { instructions_of self.now.shown.filters ≤ self.now.budget }
     {
         let _ = &self.shown;
@@ -154,7 +158,8 @@ impl Replica {
         self.shown.check(alloc, self.budget, op)
     }
 
-    /// Makes the table after the operation, beside the one that is shown, so that `commit` and `abort` take no memory.
+    /// Makes the table after the operation, beside the one that is shown, so that `commit` and `abort` take no memory. Memory is
+    /// asked for only once no test but the verifier's search for unwritten words is left.
     pub fn stage(&mut self, alloc: Global, op: &Op) -> Result<(), StageFault>
         ensures ok { OnOk result (Allowed self.old.shown self.old.budget op.now None) }
         ensures nothing_staged { OnOk result (self.old.staged ≡ None) }

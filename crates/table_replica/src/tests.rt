@@ -1,6 +1,6 @@
 //! The worked calls on a replica.
 use crate::{Kept, Made, NothingStaged, Op, OpFault, Program, Replica, StageFault};
-use bpf_insn::{TextFault, read_ddd};
+use bpf_insn::{Insn, TextFault, read_ddd};
 use endpoint_caps::{Cap, Rights};
 use std::alloc::Global;
 use std::process::Abort;
@@ -446,6 +446,131 @@ fn refuses(rt: &impl Abort, alloc: Global, replica: &mut Replica) {
     expects(rt, alloc, replica, Ask::Create(1, 7), Ok(Made::Cap(1)));
     expects(rt, alloc, replica, divides, zero);
     expects(rt, alloc, replica, loads, unwritten);
+}
+
+/// The program of these instructions is refused by the rule of this number, at this place.
+fn breaks(
+    rt: &impl Abort,
+    alloc: Global,
+    replica: &mut Replica,
+    code: Vec<Insn>,
+    rule_number: u8,
+    pc: u16,
+) {
+    let wanted = rule(OpFault::BadProgram {
+        rule: rule_number,
+        pc,
+    });
+    let install = Op::Install {
+        domain: 1,
+        cap: 1,
+        program: Program::from_vec(code),
+    };
+    assert_eq!(rt; outcome(rt, alloc, replica, &install), wanted);
+}
+
+fn insn(code: u16, jt: u8, jf: u8, k: u32) -> Insn {
+    Insn { code, jt, jf, k }
+}
+
+/// So many instructions, the last of which is a return.
+fn long(alloc: Global, count: usize) -> Result<Vec<Insn>, Fail> {
+    let mut code = vec![in alloc; insn(135, 0, 0, 0); count.saturating_sub(1)]?;
+    code.push(insn(6, 0, 0, 5))?;
+    Ok(code)
+}
+
+/// Each rule of the verifier is named, with the place; there is memory for each answer.
+#[test]
+fn each_rule_is_named(rt: HostRuntime) -> Result<(), Fail> {
+    let alloc = rt.alloc();
+    let mut replica = Replica::new(alloc, 8192)?;
+    expects(
+        &rt,
+        alloc,
+        &mut replica,
+        Ask::Create(1, 7),
+        Ok(Made::Cap(1)),
+    );
+    breaks(&rt, alloc, &mut replica, Vec::new(alloc), 1, 0);
+    breaks(&rt, alloc, &mut replica, long(alloc, 4097)?, 2, 0);
+    for (number, broken) in [
+        (3, insn(255, 0, 0, 0)),
+        (4, insn(52, 0, 0, 0)),
+        (5, insn(100, 0, 0, 32)),
+        (6, insn(2, 0, 0, 16)),
+        (7, insn(21, 9, 0, 0)),
+        (8, insn(48, 0, 0, 0x8000_0000)),
+        (10, insn(96, 0, 0, 3)),
+    ] {
+        let code = [insn(0, 0, 0, 0), broken, insn(6, 0, 0, 5)];
+        breaks(&rt, alloc, &mut replica, code.to_vec(alloc)?, number, 1);
+    }
+    breaks(
+        &rt,
+        alloc,
+        &mut replica,
+        [insn(0, 0, 0, 7)].to_vec(alloc)?,
+        9,
+        0,
+    );
+    Ok(())
+}
+
+/// The longest program is staged, by an Install and by a Replace.
+#[test]
+fn the_longest_program(rt: HostRuntime) -> Result<(), Fail> {
+    let alloc = rt.alloc();
+    let mut replica = Replica::new(alloc, 4096)?;
+    expects(
+        &rt,
+        alloc,
+        &mut replica,
+        Ask::Create(1, 7),
+        Ok(Made::Cap(1)),
+    );
+    let install = Op::Install {
+        domain: 1,
+        cap: 1,
+        program: Program::from_vec(long(alloc, 4096)?),
+    };
+    assert_eq!(rt;
+        outcome(&rt, alloc, &mut replica, &install),
+        Ok(Made::Filter(1))
+    );
+    let replace = Op::Replace {
+        domain: 1,
+        filter: 1,
+        program: Program::from_vec(long(alloc, 4096)?),
+    };
+    assert_eq!(rt;
+        outcome(&rt, alloc, &mut replica, &replace),
+        Ok(Made::Nothing)
+    );
+    assert_eq!(rt; handed(&rt, alloc, &replica, 60), (1, keeps(7, 5), None));
+    Ok(())
+}
+
+/// The last ids and the last version are given out.
+#[test]
+fn the_last_ids(rt: HostRuntime) -> Result<(), Fail> {
+    let alloc = rt.alloc();
+    let mut replica = Replica::resume(alloc, 9, u64::MAX - 3, u32::MAX - 2, u32::MAX - 1)?;
+    let cap = u32::MAX - 2;
+    let mint = Ask::Mint(1, cap, 2, Rights::R);
+    let install = Ask::Install(1, cap, FIVE);
+    let last = Ok(Made::Filter(u32::MAX - 1));
+    expects(
+        &rt,
+        alloc,
+        &mut replica,
+        Ask::Create(1, 7),
+        Ok(Made::Cap(cap)),
+    );
+    expects(&rt, alloc, &mut replica, mint, Ok(Made::Cap(cap + 1)));
+    expects(&rt, alloc, &mut replica, install, last);
+    assert_eq!(rt; replica.version(), u64::MAX);
+    Ok(())
 }
 
 fn aborts(rt: &impl Abort, alloc: Global, replica: &mut Replica) {

@@ -120,12 +120,12 @@ head-later size bytes number place h =
     ap (λ (b : Bool). ((if b then size else 0) * 0x1_0000_0000 + number) ∷ drop 1 (line_at 0 bytes number place)) (sym none)
 
 -- what a line without a fault says
-record IsSound (number size : ℕ) (bytes line : List ℕ) : Type 0 where
-  numbered : number_of line ≡ number
-  sized : (if is_open size bytes then length_of line == 0 else nat_le 1 (length_of line) && nat_le (length_of line) 32832) ≡ true
-  zeros : list_all (λ b. b == 0) (drop (room_for size bytes line) (payload line)) ≡ true
+pub record IsSound (number size : ℕ) (bytes line : List ℕ) : Type 0 where
+  pub numbered : number_of line ≡ number
+  pub sized : (if is_open size bytes then length_of line == 0 else nat_le 1 (length_of line) && nat_le (length_of line) 32832) ≡ true
+  pub zeros : list_all (λ b. b == 0) (drop (room_for size bytes line) (payload line)) ≡ true
 
-sound-from : (number size : ℕ) (bytes line : List ℕ) → line_fault number size bytes line ≡ None → IsSound number size bytes line
+pub sound-from : (number size : ℕ) (bytes line : List ℕ) → line_fault number size bytes line ≡ None → IsSound number size bytes line
 sound-from number size bytes line h =
     let (p, q, r) = by_tests (number_of line == number) (if is_open size bytes then length_of line == 0 else nat_le 1 (length_of line) && nat_le (length_of line) 32832)
     (list_all (λ b. b == 0) (drop (room_for size bytes line) (payload line))) h in
@@ -138,7 +138,7 @@ sound-from number size bytes line h =
     by_tests false q r e = cc
 
 -- the bytes that a line adds
-length-taken : (room : ℕ) (line : List ℕ) → length line ≡ 8 → length (take room (payload line)) ≡ min room 56
+pub length-taken : (room : ℕ) (line : List ℕ) → length line ≡ 8 → length (take room (payload line)) ≡ min room 56
 length-taken room line eight = length-take room (payload line) ∙ ap (min room) (length-payload line eight)
 
 joined-open : (number size : ℕ) (bytes : List ℕ) (done lines : List (List ℕ)) (line : List ℕ) → length line ≡ 8 → ((k : ℕ) → slice_index line k < 2 ^ 64)

@@ -7,5 +7,6 @@ pub mod Laws
 pub mod Prefixes
 pub mod Reading
 pub mod Receiving
+pub mod Rows
 pub mod Sending
 pub mod Windows

@@ -1,5 +1,5 @@
 -- What a look at a receiver leaves, and what a take leaves.
-use Rattle.std.specs.Prelude.{◌≡◌, ◌≢◌, ◌++◌, ℕ, List, ⊤, Option, Some, None, Result, MatchResult}
+use Rattle.std.specs.Prelude.{◌≡◌, ◌≢◌, ◌++◌, ℕ, List, [], ⊤, Option, Some, None, Result, MatchResult}
 use mathlib.Core.List.{IsPrefix}
 use mathlib.Core.Option.{none}
 use Rattle.std.specs.Borrow.{MutBor, Bor, Fml}
@@ -10,7 +10,7 @@ use Rattle.ump_ring.specs.contracts.receiver.Receiver.{the_row}
 use Rattle.ump_ring.specs.Lines.{messages_in}
 use Rattle.ump_ring.specs.Reading.{StopsAt}
 use Rattle.ump_ring.specs.Joiners.{shown_items, shown_list}
-use Rattle.ump_ring.specs.Receivers.{lines_received, messages_taken, message_kept, stopped, SameReceiver}
+use Rattle.ump_ring.specs.Receivers.{lines_received, lines_known, messages_taken, message_kept, stopped, SameReceiver}
 
 abbrev pub Lent : Type 0
 Lent = Result (Option (Bor (List ℕ))) LineFault
@@ -23,17 +23,21 @@ Answers old new lent P =
     (λ shown. (stopped new ≡ None) × (message_kept old ≢ None → shown_items shown ≡ message_kept old) × P (shown_items shown))
     (λ fault. (stopped new ≡ Some fault) × StopsAt fault (lines_received new) × (messages_taken new ≡ messages_taken old))
 
--- nothing is taken. What is shown is kept: with the messages taken it is all that came whole
+-- nothing is taken. What is shown is kept: with the messages taken it is all that came whole. Nothing is shown only where no line
+-- is left in the ring that the receiver knows of
 abbrev pub Looks : Receiver → Receiver → Lent → Type 0
 Looks old new lent = Answers old new lent
     (λ shown. (messages_taken new ≡ messages_taken old) × (shown ≡ message_kept new)
-    × (messages_taken new ++ shown_list shown ≡ messages_in (lines_received new)))
+    × (messages_taken new ++ shown_list shown ≡ messages_in (lines_received new))
+    × (shown ≡ None → lines_known new ≡ []))
 
--- what is shown is taken, and so is all that came whole
+-- what is shown is taken, and so is all that came whole. Nothing is shown only where no line is left in the ring that the receiver
+-- knows of
 abbrev pub Takes : Receiver → Receiver → Lent → Type 0
 Takes old new lent = Answers old new lent
     (λ shown. (messages_taken new ≡ messages_taken old ++ shown_list shown) × (message_kept new ≡ None)
-    × (messages_taken new ≡ messages_in (lines_received new)))
+    × (messages_taken new ≡ messages_in (lines_received new))
+    × (shown ≡ None → lines_known new ≡ []))
 
 -- once the borrow is over, the receiver is one that was looked at, or taken from, so
 abbrev pub LendsLook : MutBor Receiver → Lent → Fml

@@ -37,3 +37,11 @@ messages_taken r = messages_of r.kept (messages_in (sound_lines r.joiner.fault (
 -- the same end of the same ring, before and after a call
 abbrev pub SameReceiver : Receiver → Receiver → Type 0
 SameReceiver old new = ring.SameConsumer old.consumer new.consumer
+
+-- the lines in the ring that it knows of and has not received
+abbrev pub lines_known : Receiver → List (List ℕ)
+lines_known r = ring.known_items r.consumer
+
+-- how many lines the ring holds
+abbrev pub receiver_capacity : Receiver → ℕ
+receiver_capacity r = ring.consumer_capacity r.consumer

@@ -21,3 +21,11 @@ messages_offered s = messages_in (settled s.out (ring.sent s.producer)) ++ messa
 -- the same end of the same ring, before and after a call
 abbrev pub SameSender : Sender → Sender → Type 0
 SameSender old new = ring.SameProducer old.producer new.producer
+
+-- how many free places of the ring it knows of
+abbrev pub room_known : Sender → ℕ
+room_known s = ring.known_free s.producer
+
+-- how many lines the ring holds
+abbrev pub sender_capacity : Sender → ℕ
+sender_capacity s = ring.producer_capacity s.producer

@@ -31,7 +31,7 @@ impl Receiver {
     ghost use Rattle.ump_ring.specs.Joiners.{AfterLines, shown_items, shown_list};
     ghost use Rattle.std.specs.Borrow.{sem};
     ghost use Rattle.ump_ring.specs.Lending.{LendsLook, LendsTake};
-    ghost use Rattle.ump_ring.specs.Receivers.{lines_received, messages_taken, message_kept, stopped, SameReceiver, message_last};
+    ghost use Rattle.ump_ring.specs.Receivers.{lines_received, lines_known, messages_taken, message_kept, stopped, SameReceiver, message_last};
 
     /// The receiving end over a ring's consumer of which nothing was received, whatever writes to the ring, with a
     /// joiner that has read nothing. Takes no memory.
@@ -49,7 +49,7 @@ impl Receiver {
         }
     }
 
-    /// Receives lines until a whole message is kept, or there are none. After a fault every call answers the same. `pull` and
+    /// Receives lines until a whole message is kept, or there are none, as this end sees it. After a fault every call answers the same. `pull` and
     /// `shown` are `look` in two steps, for a type that holds the receiver and lends the message out of itself. Likewise
     /// `pull`, `give_up` and `last` are `take`. Takes no memory.
     pub fn pull(&mut self) -> Result<(), LineFault>
@@ -59,6 +59,7 @@ impl Receiver {
         ensures stays { stopped self.old ≢ None → stopped self.new ≡ stopped self.old }
         ensures kept { message_kept self.old ≢ None → message_kept self.new ≡ message_kept self.old }
         ensures ok { OnOk result (stopped self.new ≡ None) }
+        ensures spent { OnOk result (message_kept self.new ≡ None → lines_known self.new ≡ []) }
         ensures err { IfErr result (λ fault. (stopped self.new ≡ Some fault) × StopsAt fault (lines_received self.new)) }
     {
         if let Some(fault) = self.joiner.fault() {
@@ -96,6 +97,7 @@ impl Receiver {
     pub fn give_up(&mut self) -> bool
         ensures ring { SameReceiver self.old self.new }
         ensures lines { lines_received self.new ≡ lines_received self.old }
+        ensures known { lines_known self.new ≡ lines_known self.old }
         ensures some { IsTrue result → message_kept self.old ≢ None }
         ensures none { IsFalse result → message_kept self.old ≡ None }
         ensures kept { message_kept self.new ≡ None }
@@ -116,8 +118,8 @@ impl Receiver {
         self.joiner.message()
     }
 
-    /// Lends the first whole message, and keeps it. After a fault every call answers the same. Takes no
-    /// memory.
+    /// Lends the first whole message, and keeps it; none only where no line is left, as this end sees it. After a fault every
+    /// call answers the same. Takes no memory.
     pub fn look(&mut self) -> Result<Option<&[u8]>, LineFault>
         ensures* looked { sem 𝓛 (LendsLook self.entry result) }
     {
@@ -125,8 +127,8 @@ impl Receiver {
         Ok(self.shown())
     }
 
-    /// Lends the first whole message, and gives it up. After a fault every call answers the same. Takes
-    /// no memory.
+    /// Lends the first whole message, and gives it up; none only where no line is left, as this end sees it. After a fault
+    /// every call answers the same. Takes no memory.
     pub fn take(&mut self) -> Result<Option<&[u8]>, LineFault>
         ensures* taken { sem 𝓛 (LendsTake self.entry result) }
     {

@@ -1,8 +1,8 @@
 //! Rings of messages, and what is known where both ends are together.
 ghost use Rattle.std.specs.Prelude.{◌≡◌, ◌≤◌, [], None, IfOk};
 ghost use mathlib.Core.List.{IsPrefix};
-ghost use Rattle.ump_ring.specs.Senders.{SameSender, messages_offered, current};
-ghost use Rattle.ump_ring.specs.Receivers.{SameReceiver, messages_taken, message_kept, stopped};
+ghost use Rattle.ump_ring.specs.Senders.{SameSender, messages_offered, current, room_known, sender_capacity};
+ghost use Rattle.ump_ring.specs.Receivers.{SameReceiver, messages_taken, message_kept, receiver_capacity, stopped};
 ghost use Rattle.ump_ring.specs.Ends.{AreEnds};
 
 use crate::joiner::Joiner;
@@ -16,6 +16,8 @@ use std::alloc::{AllocError, Global};
 pub fn ring(alloc: Global, capacity: usize) -> Result<(Sender, Receiver), AllocError>
     requires { 1 ≤ capacity }
     ensures ends { IfOk result (λ r. AreEnds r.0 r.1) }
+    ensures capacity { IfOk result (λ r. (sender_capacity r.0 ≡ capacity) × (receiver_capacity r.1 ≡ capacity)) }
+    ensures room { IfOk result (λ r. room_known r.0 ≡ capacity) }
     ensures sender { IfOk result (λ r. (messages_offered r.0 ≡ []) × (current r.0 ≡ None)) }
     ensures receiver { IfOk result (λ r. (messages_taken r.1 ≡ []) × (message_kept r.1 ≡ None) × (stopped r.1 ≡ None)) }
 {

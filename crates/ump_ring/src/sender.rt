@@ -3,7 +3,7 @@ ghost use Rattle.std.specs.Prelude.{◌≡◌, ◌+◌, ◌<◌, ◌≤◌, ◌+
 ghost use mathlib.Core.List.{IsPrefix};
 ghost use Rattle.ump_ring.specs.Lines.{line_count, lines_below, number_after};
 ghost use Rattle.ump_ring.specs.Sending.{IsSending};
-ghost use Rattle.rtrb.specs.Ring.{sent, SameProducer};
+ghost use Rattle.rtrb.specs.Ring.{sent, known_free, SameProducer};
 
 use crate::line::{Line, MESSAGE_MOST, line_at};
 use rtrb::Producer;
@@ -34,7 +34,7 @@ pub struct Pushed {
     pub whole: bool,
 }
 
-// Pushes the lines of a message from a place on, as far as the ring takes them. The result is how many.
+// Pushes the lines of a message from a place on, until none is left or the ring is full. The result is how many.
 fn push_lines(producer: &mut Producer<Line>, message: &[u8], out: u32, number: u32) -> u32
     requires length { length message.now ≤ MESSAGE_MOST }
     requires out { out ≤ line_count (length message.now) }
@@ -43,6 +43,8 @@ fn push_lines(producer: &mut Producer<Line>, message: &[u8], out: u32, number: u
     ensures out { out + result ≤ line_count (length message.now) }
     ensures grown { IsPrefix (sent producer.old) (sent producer.new) }
     ensures pushed { length (sent producer.new) ≡ length (sent producer.old) + result }
+    ensures room { known_free producer.old ≤ known_free producer.new + result }
+    ensures full { out + result < line_count (length message.now) → known_free producer.new ≡ 0 }
     ensures lines { (before : List (List ℕ)) → sent producer.old ≡ before ++ lines_below (length message.now) message.now (length before) out → sent producer.new ≡ before ++ lines_below (length message.now) message.now (length before) (out + result) }
 {
     let count = message.len().div_ceil(56) as u32;
@@ -59,11 +61,11 @@ fn push_lines(producer: &mut Producer<Line>, message: &[u8], out: u32, number: u
 }
 
 impl Sender {
-    ghost use Rattle.std.specs.Prelude.{◌≡◌, ◌+◌, ◌<◌, ◌≤◌, ◌↔◌, ◌≢◌, ◌++◌, ◌∷◌, ℕ, List, [], length, vec_len, IsTrue, OnOk, IfErr, None, Some};
+    ghost use Rattle.std.specs.Prelude.{◌≡◌, ◌+◌, ◌<◌, ◌≤◌, ◌↔◌, ◌≢◌, ◌++◌, ◌∷◌, ℕ, List, [], length, vec_len, IsTrue, IsFalse, OnOk, IfErr, None, Some};
     ghost use mathlib.Core.List.{IsPrefix};
     ghost use Rattle.rtrb.specs.Ring.{sent};
     ghost use Rattle.ump_ring.specs.Lines.{stream};
-    ghost use Rattle.ump_ring.specs.Senders.{lines_sent, current, messages_offered, SameSender};
+    ghost use Rattle.ump_ring.specs.Senders.{lines_sent, current, messages_offered, room_known, SameSender};
 
     // The sending end of a ring to which nothing was pushed.
     pub(crate) fn new(producer: Producer<Line>) -> Sender
@@ -103,7 +105,7 @@ impl Sender {
         Ok(())
     }
 
-    /// Pushes lines until the message is out or the ring takes no more. Takes no memory.
+    /// Pushes lines until the message is out or the ring is full, as this end sees it. Takes no memory.
     pub fn push_some(&mut self) -> Pushed
         ensures ring { SameSender self.old self.new }
         ensures offered { messages_offered self.new ≡ messages_offered self.old }
@@ -112,6 +114,8 @@ impl Sender {
         ensures lines { IsPrefix (lines_sent self.new) (stream 0 (messages_offered self.new)) }
         ensures all { IsTrue result.whole → lines_sent self.new ≡ stream 0 (messages_offered self.new) }
         ensures whole { IsTrue result.whole ↔ (current self.new ≡ None) }
+        ensures room { room_known self.old ≤ room_known self.new + result.lines }
+        ensures full { IsFalse result.whole → room_known self.new ≡ 0 }
     {
         let Some(message) = &self.message else {
             return Pushed {

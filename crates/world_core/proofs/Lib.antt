@@ -2,6 +2,7 @@ pub mod Keeping
 pub mod WorldKeeping
 pub mod PeerKeeping
 pub mod EventKeeping
+pub mod Standing
 pub mod BootKeeping
 pub mod HomeKeeping
 pub mod HomeSteps

@@ -24,7 +24,7 @@ abbrev pub waiting_at : World → ℕ → Option Op
 waiting_at w zero = None
 waiting_at w (suc entry) = option_and_then (λ waits. waits) (slice_get w.requests.waiting entry)
 
--- the fault, which is not want of memory, is the first that stands
+-- the fault, which is not NoMemory, is the first that stands
 abbrev pub StandsFirst : World → Event → WorldFault → Type 0
 StandsFirst w (Start op) NotIdle = w.place.phase ≢ Idle
 StandsFirst w (Start op) Spent = (w.place.phase ≡ Idle) × (w.place.last ≡ 18446744073709551615)
@@ -40,9 +40,13 @@ StandsFirst w (Rx core number packet floor) NoSuchCore = version_at w core ≡ N
 StandsFirst w (Rx core number packet floor) NotReady = (version : ℕ) × (version_at w core ≡ Some version) × (version < floor)
 StandsFirst w event fault = ⊥
 
--- want of memory is told where nothing else stands
+-- no fault stands
+abbrev pub NoneStands : World → Event → Type 0
+NoneStands w event = (fault : WorldFault) → StandsFirst w event fault → ⊥
+
+-- that memory ran out is reported where nothing else stands
 abbrev pub WorldRefuses : World → Event → WorldFault → Type 0
-WorldRefuses w event NoMemory = (fault : WorldFault) → StandsFirst w event fault → ⊥
+WorldRefuses w event NoMemory = NoneStands w event
 WorldRefuses w event fault = StandsFirst w event fault
 
 -- a machine has 1 to 8 cores

@@ -50,8 +50,8 @@ impl<C: Channel> WorldOver<C> {
     ghost use Rattle.world_model.specs.Worlds as worlds;
     ghost use Rattle.monitor_messages.specs.Coding.{HasShortProgram};
     ghost use Rattle.world_model.specs.declared.event.Event.TheVariants.{Start, Submit, StartFor, Take, Rx};
-    ghost use Rattle.world_core.specs.Refusals.{WorldRefuses, BootRefuses, Extends, HasCores, Reached, IsShortEvent, waiting_at};
-    ghost use Rattle.world_model.specs.Agreement.{Agrees, Grows, NoStranger, TellsVersions};
+    ghost use Rattle.world_core.specs.Refusals.{channel, NoneStands, WorldRefuses, BootRefuses, Extends, HasCores, Reached, IsShortEvent, waiting_at};
+    ghost use Rattle.world_model.specs.Agreement.{Agrees, Grows, IsSoundLog, NoStranger, TellsVersions};
     ghost use Rattle.world_model.specs.Decisions.{Delivers, DecidesRightly, RepliesRightly};
     ghost use Rattle.world_model.specs.declared.event.Done.{Done as GhostDone};
     ghost use Rattle.world_core.specs.Shown.{ShowsReplica};
@@ -112,7 +112,7 @@ impl<C: Channel> WorldOver<C> {
         self.home.core.coordinator.waiting(core)
     }
 
-    /// Does one event, and answers what its core tells. A fault changes nothing.
+    /// Does one event where no fault stands, and answers what its core tells. A fault changes nothing.
     ///
     /// The faults, in the order in which they are looked for:
     ///
@@ -127,12 +127,14 @@ impl<C: Channel> WorldOver<C> {
     pub fn apply(&mut self, event: &Event) -> Result<Answer, WorldFault>
         requires { IsShortEvent event.now }
         ensures happens { IfOk result (worlds.Happens self.old event.now self.new) }
+        ensures none_stands { OnOk result (NoneStands self.old event.now) }
         ensures fault { IfErr result (WorldRefuses self.old event.now) }
         ensures same { OnErr result (self.new ≡ self.old) }
         ensures extends { IfOk result (λ answer. Extends self.old (record { event = event.now; answer = answer } ∷ []) self.new) }
         ensures grows { IfOk result (λ _. (budget : ℕ) (budgets : List ℕ) (events : List GhostDone) → worlds.Run budget budgets events self.old → Grows self.old self.new) }
         ensures one_log { (budget : ℕ) (budgets : List ℕ) (events : List GhostDone) → worlds.Run budget budgets events self.new → Agrees budget budgets self.new }
         ensures versions_counted { (budget : ℕ) (budgets : List ℕ) (events : List GhostDone) → worlds.Run budget budgets events self.new → TellsVersions events self.new }
+        ensures sound { (budget : ℕ) (budgets : List ℕ) (events : List GhostDone) → worlds.Run budget budgets events self.new → IsSoundLog self.new.log }
         ensures all_expected { (budget : ℕ) (budgets : List ℕ) (events : List GhostDone) → worlds.Run budget budgets events self.new → NoStranger self.new }
         ensures delivers { (budget : ℕ) (budgets : List ℕ) (events : List GhostDone) → worlds.Run budget budgets events self.new → Delivers self.new.log events }
         ensures decides { IfOk result (λ answer. (budget : ℕ) (budgets : List ℕ) (events : List GhostDone) → worlds.Run budget budgets events self.old → DecidesRightly events self.old event.now self.new answer) }
@@ -145,6 +147,7 @@ impl<C: Channel> WorldOver<C> {
     fn perform(&mut self, event: &Event) -> Result<Answer, WorldFault>
         requires { IsShortEvent event.now }
         ensures happens { IfOk result (worlds.Happens self.old event.now self.new) }
+        ensures none_stands { OnOk result (NoneStands self.old event.now) }
         ensures fault { IfErr result (WorldRefuses self.old event.now) }
         ensures same { OnErr result (self.new ≡ self.old) }
     {
@@ -180,6 +183,7 @@ impl<C: Channel> WorldOver<C> {
     // Core 0 starts the request that another core has waiting.
     fn start_for(&mut self, core: u16) -> Result<Answer, WorldFault>
         ensures happens { IfOk result (worlds.Happens self.old (StartFor core) self.new) }
+        ensures joined { OnOk result (channel self.old 0 core ≢ None) }
         ensures fault { IfErr result (WorldRefuses self.old (StartFor core)) }
         ensures same { OnErr result (self.new ≡ self.old) }
     {

@@ -5,6 +5,7 @@ use mathlib.Core.List.{IsPrefix}
 use Rattle.table_replica.specs.declared.Op.{Op}
 use Rattle.table_replica.specs.declared.Made.{Made}
 use Rattle.table_replica.specs.Tables.{State, after, made, table, instructions, Allowed}
+use Rattle.table_replica.specs.Staging.{AsksForMemory}
 use Rattle.table_replica.proofs.Tables.{table_front}
 use Rattle.monitor_messages.specs.declared.message.Message.{Message}
 use Rattle.monitor_messages.specs.declared.message.Message.TheVariants as message
@@ -283,7 +284,7 @@ vetoed budget budgets core0 others end ends before event answer x txn op core wh
       voted = subst (λ (k : ℕ). vote_of k txn (unstamped g.0) ≡ Some h.against) (sym h.is_core) (voted_by budget budgets core0 others end ends before event answer x txn h.entry g.0 h.against g.1 (subst (λ (c : ℕ). vote_of c txn (as_listed x.earlier) ≡ Some h.against) h.is_core h.voted));
       budget = h.budget;
       is_budget = known.budgets_are h.entry p.0 p.1 ∙ ap (λ (n : ℕ). Some n) p.2;
-      reason = subst (λ (s : State). ((h.against ≡ vote.NoMemory) × (why ≡ veto.NoMemory)) ⊎ ((h.against ≡ vote.Budget) × (why ≡ veto.Budget) × (h.budget < instructions (after s op)))) x.newest_is h.reason;
+      reason = subst (λ (s : State). ((h.against ≡ vote.NoMemory) × (why ≡ veto.NoMemory) × AsksForMemory s h.budget op) ⊎ ((h.against ≡ vote.Budget) × (why ≡ veto.Budget) × (h.budget < instructions (after s op)))) x.newest_is h.reason;
     }
 
 votes_decide : (budget : ℕ) (budgets : List ℕ) (core0 : List Stamped) (others : List (List Stamped)) (end : Core0) (ends : List Other) (before : List Stamped) (event : Event) (answer : Answer) (x : Context budget budgets core0 others end ends before event answer) (txn : ℕ) (op : Op) (d : Decision)

@@ -5,6 +5,7 @@ use mathlib.Core.List.{IsPrefix}
 use Rattle.table_replica.specs.declared.Op.{Op}
 use Rattle.table_replica.specs.declared.Made.{Made}
 use Rattle.table_replica.specs.Tables.{after, made, table, instructions, Allowed}
+use Rattle.table_replica.specs.Staging.{AsksForMemory}
 use Rattle.monitor_messages.specs.declared.message.Vote.{Vote}
 use Rattle.monitor_messages.specs.declared.message.Vote.TheVariants as vote
 use Rattle.monitor_messages.specs.declared.message.Veto.{Veto}
@@ -64,7 +65,7 @@ pub record VetoedBy (budgets : List ℕ) (others : List (List Stamped)) (log : L
   pub voted : vote_of core txn (unstamped history) ≡ Some against
   pub budget : ℕ
   pub is_budget : slice_get budgets entry ≡ Some budget
-  pub reason : ((against ≡ vote.NoMemory) × (why ≡ veto.NoMemory)) ⊎ ((against ≡ vote.Budget) × (why ≡ veto.Budget) × (budget < instructions (after (table log v) op)))
+  pub reason : ((against ≡ vote.NoMemory) × (why ≡ veto.NoMemory) × AsksForMemory (table log v) budget op) ⊎ ((against ≡ vote.Budget) × (why ≡ veto.Budget) × (budget < instructions (after (table log v) op)))
 
 -- the votes in the histories decide: all are Yes, or one is a veto
 abbrev pub VotesDecideIn : List ℕ → List (List Stamped) → List Op → ℕ → ℕ → Op → Decision → Type 0

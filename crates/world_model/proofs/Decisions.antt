@@ -3,6 +3,7 @@ use Rattle.std.proofs.Common.{◌≡◌, ◌≢◌, ◌+◌, ◌<◌, ◌⊎◌,
 use Rattle.std.specs.Prelude.{option_map}
 use Rattle.table_replica.specs.declared.Op.{Op}
 use Rattle.table_replica.specs.Tables.{State, table, after, instructions, Allowed}
+use Rattle.table_replica.specs.Staging.{AsksForMemory}
 use Rattle.table_replica.proofs.Tables.{table_version}
 use Rattle.monitor_messages.specs.declared.message.Message.{Message}
 use Rattle.monitor_messages.specs.declared.message.Message.TheVariants as message
@@ -121,10 +122,10 @@ cast_at log last votes op i q v at (acked acks ph at' is) = absurd cc
 cast_at log last votes op i q v at (finished acks ph at' is) = absurd cc
 
 veto_holds : (short : Bool) (s : State) (b : ℕ) (op : Op) (v : Vote) → v ≢ vote.Yes → Casts short s b op v
-    → ((v ≡ vote.NoMemory) × (veto_by v ≡ veto.NoMemory)) ⊎ ((v ≡ vote.Budget) × (veto_by v ≡ veto.Budget) × (b < instructions (after s op)))
+    → ((v ≡ vote.NoMemory) × (veto_by v ≡ veto.NoMemory) × AsksForMemory s b op) ⊎ ((v ≡ vote.Budget) × (veto_by v ≡ veto.Budget) × (b < instructions (after s op)))
 veto_holds short s b op vote.Yes ne c = absurd (ne refl)
 veto_holds short s b op vote.Budget ne c = inr (refl, refl, c.1)
-veto_holds short s b op vote.NoMemory ne c = inl (refl, refl)
+veto_holds short s b op vote.NoMemory ne c = inl (refl, refl, c.0)
 
 -- a core that gives up a message keeps its place, budget and version
 abbrev Stands : ℕ → Peer → Peer → Type 0

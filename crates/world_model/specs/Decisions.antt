@@ -3,12 +3,12 @@
 -- systems", section 5.8.3).
 use Rattle.std.specs.Prelude.{◌≡◌, ◌+◌, ◌<◌, ◌≤◌, ◌⊎◌, ℕ, suc, Option, Some, None, List, [], ◌∷◌, ◌++◌, length, map, slice_get, slice_set}
 use Rattle.std.proofs.Common.{replicate}
-use Rattle.endpoint_caps.specs.Capabilities.{first}
 use Rattle.table_replica.specs.declared.Op.{Op}
 use Rattle.table_replica.specs.declared.Kept.{Kept}
 use Rattle.table_replica.specs.declared.Made.{Made}
 use Rattle.table_replica.specs.declared.StageFault.{StageFault}
-use Rattle.table_replica.specs.Tables.{State, after, made, table, instructions, tests, Allowed, Accepting}
+use Rattle.table_replica.specs.Tables.{State, after, made, table, instructions, Allowed, Accepting}
+use Rattle.table_replica.specs.Staging.{AsksForMemory}
 use Rattle.monitor_messages.specs.declared.message.Message.TheVariants as message
 use Rattle.monitor_messages.specs.declared.message.Vote.{Vote}
 use Rattle.monitor_messages.specs.declared.message.Vote.TheVariants as vote
@@ -46,11 +46,11 @@ pub record CommitsNext (w : World) (op : Op) (w' : World) (version : ℕ) (id : 
   pub is_version : version ≡ length w.log + 1
   pub is_made : id ≡ made (newest w) op
 
--- Core 0, with this table and this budget, refuses at once: by the first refusal that stands, or, where no test but the verifier's
--- is left, for want of memory.
+-- Core 0, with this table and this budget, refuses at once: by the first refusal that stands, or since it is out of memory, where
+-- staging asks for it.
 abbrev pub HasReason : State → ℕ → Op → Veto → Type 0
 HasReason s budget op why =
-    ((why ≡ veto.NoMemory) × (first (tests s budget op) ≡ None))
+    ((why ≡ veto.NoMemory) × AsksForMemory s budget op)
     ⊎ ((fault : StageFault) × Allowed s budget op (Some fault) × (why ≡ veto_of fault))
 
 -- every other core is asked, under a number that no operation had before
@@ -87,7 +87,7 @@ pub record HasVeto (events : List Done) (w : World) (txn : ℕ) (op : Op) (core 
   pub voted : vote_of core txn events ≡ Some against
   pub budget : ℕ
   pub is_budget : budget_at w core ≡ Some budget
-  pub reason : ((against ≡ vote.NoMemory) × (why ≡ veto.NoMemory)) ⊎ ((against ≡ vote.Budget) × (why ≡ veto.Budget) × (budget < instructions (after (newest w) op)))
+  pub reason : ((against ≡ vote.NoMemory) × (why ≡ veto.NoMemory) × AsksForMemory (newest w) budget op) ⊎ ((against ≡ vote.Budget) × (why ≡ veto.Budget) × (budget < instructions (after (newest w) op)))
 
 -- the votes decide: all are Yes, or one is a veto
 abbrev pub VotesDecide : List Done → World → ℕ → Op → World → Decision → Type 0

@@ -1,3 +1,4 @@
+use Rattle.std.specs.Prelude.{⊤}
 use Rattle.std.proofs.lemmas.Result.{err_from_is_err_and}
 use Rattle.monitor_messages.specs.Reading.{insns_at}
 use Rattle.monitor_messages.proofs.Loop.{goes_on, ends, is_done}
@@ -6,7 +7,7 @@ use Rattle.monitor_messages.proofs.reading.insns_at.Goals as goal
 pub returns-in_err-insn : goal.returns-in_err-insn
 returns-in_err-insn c =
     let p = err_from_is_err_and c.from_residual.result c.from_residual.ensures.1 in
-    rw (p.1, p.2) (ends c.in_err-insn.field-0.0 c.loop.code.items c.args.count c.loop.counter c.loop.rest.now (insns_at c.args.count c.args.bytes.now) c.loop-test.true c.in_err-insn.ensures c.loop.invariant)
+    rw (p.1, p.2) (ends ⊤ c.in_err-insn.field-0.0 c.loop.code.items c.args.count c.loop.counter c.loop.rest.now (insns_at c.args.count c.args.bytes.now) c.loop-test.true c.in_err-insn.ensures c.loop.invariant)
 
 pub loop-preserved : goal.loop-preserved
 loop-preserved c =

@@ -5,6 +5,7 @@ use Rattle.ump_ring.specs.Reading.{sound_lines}
 use Rattle.ump_ring.specs.Lines.{messages_in}
 use Rattle.ump_ring.proofs.Prefixes.{prefix-more}
 use Rattle.ump_ring.proofs.Receiving.{pulled}
+use Rattle.ump_ring.proofs.Rows.{row_more}
 use Rattle.ump_ring.proofs.receiver.Receiver.pull.Goals as goal
 
 pub invariant_of-self-then-branch : goal.invariant_of-self-then-branch
@@ -32,6 +33,7 @@ loop-preserved c = record {
   ring = search rules;
   lines = prefix-more _ _ _ _ c.loop.invariant.lines c.in-Ok.ensures.ok.0;
   none_before = c.loop.invariant.none_before;
+  many = λ some. row_more c.loop.self.joiner c.line.new.self c.in-Ok.line c.loop.counter c.in_ok-line.field-0 (search rules) c.loop.invariant.sound c.in_ok-line.ensures.rule c.in_ok-line.ensures.ok.0 c.in_ok-line.ensures.ok.1 c.if-branch.false c.line.new.self.filled c.loop.invariant.many;
   taken = ap (λ k. messages_of k (messages_in (sound_lines c.line.new.self.fault (received c.pop.new.self)))) (c.loop.invariant.none_kept ∙ sym c.if-branch.false)
       ∙ (pulled c.loop.self.joiner c.line.new.self (received c.loop.self.consumer) (received c.pop.new.self) c.in-Ok.line c.in_ok-line.field-0 c.loop.self.kept (messages_taken c.args.self.now)
       c.loop.invariant.sound c.loop.self.receiving c.in-Ok.ensures.ok.0 c.in_ok-line.ensures.read c.in_ok-line.ensures.ok.1 c.loop.invariant.none_kept c.loop.invariant.taken).1;

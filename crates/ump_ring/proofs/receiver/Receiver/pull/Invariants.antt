@@ -1,4 +1,4 @@
-use Rattle.std.proofs.Common.{◌≡◌, None, false}
+use Rattle.std.proofs.Common.{◌≡◌, ◌≤◌, ◌<◌, ◌*◌, length, None, false}
 use mathlib.Core.List.{IsPrefix}
 use Rattle.ump_ring.specs.Receivers.{lines_received, messages_taken, stopped, SameReceiver}
 use Rattle.ump_ring.proofs.receiver.Receiver.pull.Given as goal
@@ -10,5 +10,6 @@ invariant-loop l = record {
   taken : messages_taken l.self ≡ messages_taken l.initial.self;
   sound : stopped l.self ≡ None;
   none_kept : l.self.kept ≡ false;
+  many : 1 ≤ l.counter → (56 * l.counter ≤ length l.self.joiner.bytes.items) × (length l.self.joiner.bytes.items < l.self.joiner.size);
   none_before : l.initial.self.kept ≡ false;
 }

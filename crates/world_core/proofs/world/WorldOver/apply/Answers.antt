@@ -1,6 +1,7 @@
 use Rattle.world_model.proofs.Runs.{runs_more}
 use Rattle.world_model.proofs.RunLaws.{run_agrees, run_no_stranger, run_grows, run_versions, run_delivers, run_replies}
 use Rattle.world_model.proofs.Decisions.{run_decides}
+use Rattle.world_model.proofs.SoundLogs.{run_sound}
 use Rattle.world_core.proofs.EventKeeping.{done_as}
 use Rattle.world_core.proofs.world.WorldOver.apply.Goals as goal
 
@@ -12,6 +13,9 @@ returns-clause-one_log g c = λ budget budgets events run. run_agrees budget bud
 
 pub returns-clause-versions_counted : goal.returns-clause-versions_counted
 returns-clause-versions_counted g c = λ budget budgets events run. run_versions budget budgets events c.perform.new.self run
+
+pub returns-clause-sound : goal.returns-clause-sound
+returns-clause-sound g c = λ budget budgets events run. run_sound budget budgets events c.perform.new.self run
 
 pub returns-clause-delivers : goal.returns-clause-delivers
 returns-clause-delivers g c = λ budget budgets events run. run_delivers budget budgets events c.perform.new.self run

@@ -3,6 +3,7 @@ use Rattle.std.proofs.lemmas.List.{with_items_is}
 use Rattle.monitor_2pc.specs.Coordinators.{Idle}
 use Rattle.world_core.specs.Keeping.{seen_world}
 use Rattle.world_core.proofs.EventKeeping.{told_as, start_for_refuses, has_channel}
+use Rattle.world_core.proofs.Standing.{ok_stands}
 use Rattle.world_core.proofs.world.WorldOver.start_for.Goals as goal
 
 pub begin_for-requires-clause-kept : goal.begin_for-requires-clause-kept
@@ -20,3 +21,9 @@ returns-clause-fault g c =
     let idle : c.self.inside.home.core.coordinator.phase ≡ Idle = search (rules, c.idle.ensures, c.if-not-idle.ensures, c.if-not-idle.false) in
     let unspent : c.self.inside.home.core.coordinator.last ≢ 18446744073709551615 = (λ e. omega (arith, e, c.last.ensures, c.if-last.false)) in
     rw (← c.self.view_is) (told_as c.begin_for.result _ _ (λ fault h. start_for_refuses (seen_world g.C.Channel.messages c.self.inside.home c.self.inside.peers.items) c.args.core fault there idle unspent h) (rw c.deref_mut.ensures.value at c.begin_for.ensures.fault))
+
+pub returns-clause-joined : goal.returns-clause-joined
+returns-clause-joined g c =
+    let core_is : c.args.core ≡ suc (c.args.core - 1) = omega (arith, c.if-core-eq0.false) in
+    let inside : c.args.core - 1 < length c.self.inside.peers.items = omega (arith, c.if-core-eq0.false, c.if-from-len.false, c.from.ensures, c.len.ensures, c.self.inside.peers.ok.0) in
+    rw (← c.self.view_is) (ok_stands c.begin_for.result _ (has_channel g.C.Channel.messages c.self.inside.home c.self.inside.peers.items c.args.core (c.args.core - 1) core_is inside))
