@@ -1,23 +1,23 @@
 -- What `match` has shown of a capture.
-use Rattle.std.proofs.Common.{◌≡◌, ℕ, ◌++◌, List, [], Option, Bool, Result, Ok, Err, IfOk, refl, sym, append-nil, flat_map, inl, inr, true, false, codes}
+use Rattle.std.proofs.Common.{◌≡◌, ℕ, ◌++◌, List, [], Option, Bool, Result, Ok, Err, IfOk, refl, sym, append-nil, flat_map, inl, inr, true, false}
 use Rattle.std.specs.Io.KnownBytes.{Appends}
 use Rattle.bpf_insn.specs.declared.insn.Insn.{Insn}
 use Rattle.filter_vm.specs.declared.machine.Outcome.{Outcome}
 use Rattle.pcap_reader.specs.declared.capture.CaptureFault.{CaptureFault}
 use Rattle.pcap_reader.specs.declared.feed.Feed.{Feed}
+use Rattle.console.specs.declared.input.TheConstants.{INPUT_BYTES}
 use Rattle.console.specs.declared.fault.EngineFault.{EngineFault}
-use Rattle.console.specs.Reading.{BeginsWith, IsInput}
+use Rattle.console.specs.Reading.{BeginsWith, IsInput, LostTooMany}
 use Rattle.console.specs.Faults.{fault_status, fault_text}
 use Rattle.console.specs.Matching.{ShowsInput, ShowsRead, outcome_line}
 use Rattle.console.specs.Running.{EndsRun, HasRun, RunsInput}
 use Rattle.console.proofs.KnownBytesLemmas.{appends-then}
-use Rattle.console.proofs.MatchingLemmas.{long_input, whole_input}
+use Rattle.console.proofs.MatchingLemmas.{whole_input}
 
 -- an input that is too long
-pub capture_long : (old new : Option (List ℕ)) (program : List Insn) (feed : Feed) (outcomes : List Outcome) (whole : Bool) → RunsInput old new program feed outcomes whole → whole ≡ false
-    → (input : List ℕ) × IsInput old input × ShowsInput program true input 1 (codes "fault InputTooLong\n")
+pub capture_long : (old new : Option (List ℕ)) (program : List Insn) (feed : Feed) (outcomes : List Outcome) (whole : Bool) → RunsInput old new program feed outcomes whole → whole ≡ false → LostTooMany old new INPUT_BYTES
 capture_long old new program feed outcomes true gave e = absurd (cc)
-capture_long old new program feed outcomes false gave e = let input = long_input old new gave.0 67108864 gave.1 gave.2 in (input.0, input.1, inr (input.2, refl, refl))
+capture_long old new program feed outcomes false gave e = gave
 
 -- a capture whose packets were run
 pub capture_shown : (old new : Option (List ℕ)) (program : List Insn) (feed : Feed) (outcomes : List Outcome) (whole : Bool) (fault : Option CaptureFault) (status : ℕ)
@@ -56,6 +56,7 @@ capture_part old new program feed outcomes true fault text gave e ends begins =
     inr (
       gave.0,
       gave.1,
+      whole_input old new gave.0 gave.1 gave.2,
       gave.3,
       (
         run.0,

@@ -7,19 +7,20 @@ use Rattle.pcap_reader.specs.declared.capture.CaptureFault.TheVariants as faults
 use Rattle.pcap_reader.specs.Savefile.{Reads}
 use Rattle.pcap_reader.specs.Held.{Holds}
 use Rattle.pcap_reader.specs.Answers.{GivesWhole, GivesFront}
+use Rattle.console.specs.declared.input.TheConstants.{INPUT_BYTES}
 use Rattle.console.specs.declared.captured.Captured.{Captured}
 use Rattle.console.specs.Reading.{Fed, GaveCapture}
 
 -- more was read than the limit
-pub gave_long : (old new : Option (List ℕ)) (feed : Feed) (whole : Bool) → Fed old new 67108864 feed whole → whole ≡ false → GaveCapture old new None
-gave_long old new feed true fed e = absurd (cc)
-gave_long old new feed false fed e = fed
+pub gave_long : (old new : Option (List ℕ)) (before feed : Feed) (whole : Bool) → Fed old new INPUT_BYTES before feed whole → whole ≡ false → GaveCapture old new None
+gave_long old new before feed true fed e = absurd (cc)
+gave_long old new before feed false fed e = fed
 
 -- all was read
-pub gave_read : (old new : Option (List ℕ)) (feed : Feed) (whole : Bool) (c : Captured) → Fed old new 67108864 feed whole → whole ≡ true
+pub gave_read : (old new : Option (List ℕ)) (before feed : Feed) (whole : Bool) (c : Captured) → Fed old new INPUT_BYTES before feed whole → whole ≡ true
     → ((fed : List ℕ) → Holds fed feed → Reads fed c.header c.packets c.fault) → GaveCapture old new (Some c)
-gave_read old new feed false c fed e reads = absurd (cc)
-gave_read old new feed true c fed e reads = (fed.0, fed.1, fed.3, fed.4, reads fed.0 fed.2)
+gave_read old new before feed false c fed e reads = absurd (cc)
+gave_read old new before feed true c fed e reads = (fed.0, fed.1, fed.3, fed.4, reads fed.0 fed.2)
 
 -- a feed that gives a capture has met no want of memory
 pub capture_reads : (bytes : List ℕ) (capture : Capture) (memory : Type 0) → ((memory → ⊥) → GivesWhole bytes (Ok capture)) → (memory → GivesFront bytes (Ok capture))

@@ -1,14 +1,10 @@
 -- What `dump` has shown of what it read.
-use Rattle.std.proofs.Common.{◌≡◌, ℕ, List, ◌++◌, append_assoc, Option, Some, None, refl, inl, inr, codes}
+use Rattle.std.proofs.Common.{◌≡◌, ℕ, List, ◌++◌, append_assoc, Option, Some, refl, inl, inr}
 use Rattle.console.specs.declared.captured.Captured.{Captured}
 use Rattle.console.specs.Reading.{BeginsWith, GaveCapture, IsInput}
 use Rattle.console.specs.Faults.{fault_status}
 use Rattle.console.specs.Dumping.{ShowsDump, ShowsDumpPart, dump_text}
-use Rattle.console.proofs.MatchingLemmas.{long_input, whole_input}
-
--- an input that is too long
-pub dump_long : (old new : Option (List ℕ)) → GaveCapture old new None → (input : List ℕ) × IsInput old input × ShowsDump input 1 (codes "fault InputTooLong\n")
-dump_long old new gave = let input = long_input old new gave.0 67108864 gave.1 gave.2 in (input.0, input.1, inr (input.2, refl, refl))
+use Rattle.console.proofs.MatchingLemmas.{whole_input}
 
 -- an input that was read
 pub dump_read : (old new : Option (List ℕ)) (c : Captured) → GaveCapture old new (Some c)

@@ -4,6 +4,9 @@ pub mod LineFeedLemmas
 pub mod StreamingLemmas
 pub mod StreamLemmas
 pub mod SourceLemmas
+pub mod WholeLemmas
+pub mod OnceLemmas
+pub mod BadCodeLemmas
 pub mod MatchingLemmas
 pub mod CodeLemmas
 pub mod HexLemmas
@@ -13,4 +16,5 @@ pub mod PrintingLemmas
 pub mod CapturedLemmas
 pub mod DumpingLemmas
 pub mod CaptureLemmas
+pub mod TakingLemmas
 pub mod CheckingLemmas

@@ -10,11 +10,13 @@ use Rattle.std.specs.Result.{IsErrOf}
 use Rattle.console.specs.declared.fault.EngineFault.{EngineFault}
 use Rattle.console.specs.declared.fault.EngineFault.TheVariants.{NoMemory}
 use Rattle.console.specs.Code.{IsGoodCode, ShowsBadCode}
-use Rattle.console.specs.Reading.{IsInput}
+use Rattle.console.specs.declared.input.TheConstants.{INPUT_BYTES}
+use Rattle.console.specs.Reading.{IsInput, LostTooMany, too_long_line}
 use Rattle.pcap_reader.specs.declared.capture.Packet.{Packet as Captured}
 use Rattle.pcap_reader.specs.declared.capture.CaptureFault.{CaptureFault}
 use Rattle.console.specs.Faults.{fault_status, fault_text}
 use Rattle.console.specs.Matching.{Answers, AnswersCaptured, ShowsLines, ShowsCapture, ShowsFirst, ShowsGoodCode, ShowsInput, ShowsPart, ShowsRead, outcome_line, bad_line}
+use Rattle.console.proofs.WholeLemmas.{packets_front}
 use Rattle.console.proofs.KnownBytesLemmas.{appends-then, appends-nothing}
 
 -- all is lines that were answered and the rest, and the answers are written but for what is kept back
@@ -41,13 +43,13 @@ so_far_start Gives all known = record {
 }
 
 -- one more pair at the end
-AllZip-push : {A B : Type 0} (R : A → B → Type 0) (xs : List A) (ys : List B) (x : A) (y : B) → AllZip R xs ys → R x y → AllZip R (xs ++ x ∷ []) (ys ++ y ∷ [])
+pub AllZip-push : {A B : Type 0} (R : A → B → Type 0) (xs : List A) (ys : List B) (x : A) (y : B) → AllZip R xs ys → R x y → AllZip R (xs ++ x ∷ []) (ys ++ y ∷ [])
 AllZip-push R [] [] x y each last = (last, tt)
 AllZip-push R [] (b ∷ ys) x y each last = absurd each
 AllZip-push R (a ∷ xs) [] x y each last = absurd each
 AllZip-push R (a ∷ xs) (b ∷ ys) x y each last = (each.0, AllZip-push R xs ys x y each.1 last)
 
-flat_map-push : {A B : Type 0} (f : A → List B) (xs : List A) (x : A) → flat_map f (xs ++ x ∷ []) ≡ flat_map f xs ++ f x
+pub flat_map-push : {A B : Type 0} (f : A → List B) (xs : List A) (x : A) → flat_map f (xs ++ x ∷ []) ≡ flat_map f xs ++ f x
 flat_map-push f [] x = append-nil (f x)
 flat_map-push f (a ∷ xs) x = ap (λ t. f a ++ t) (flat_map-push f xs x) ∙ sym (append_assoc (f a) (flat_map f xs) (f x))
 
@@ -156,6 +158,15 @@ long_input None new given n lost long = (given, tt, long)
 long_input (Some xs) None given n lost long = absurd lost
 long_input (Some xs) (Some ys) given n lost long = (xs, refl, omega (arith, ap length lost, length-append given ys))
 
+-- what is shown where an input is too long
+pub shown_long : (r : Result ℕ EngineFault) (known lost old new : Option (List ℕ)) (Shows : List ℕ → ℕ → List ℕ → Type 0) → LostTooMany known lost INPUT_BYTES
+    → ((input : List ℕ) → INPUT_BYTES < length input → Shows input 1 too_long_line) → IfOk r (λ status. (status ≡ 1) × Appends old new too_long_line)
+    → IfOk r (λ status. (text : List ℕ) × Appends old new text × ((input : List ℕ) × IsInput known input × Shows input status text))
+shown_long (Ok status) known lost old new Shows gave shows wrote =
+    let input = long_input known lost gave.0 INPUT_BYTES gave.1 gave.2 in
+    (too_long_line, wrote.1, (input.0, input.1, rw wrote.0 (shows input.0 input.2)))
+shown_long (Err e) known lost old new Shows gave shows wrote = tt
+
 -- a reader that lost these bytes and then was at its end had just these
 pub whole_input : (old new : Option (List ℕ)) (held : List ℕ) → Consumes old new held → IsAtEnd new → IsInput old held
 whole_input None new held lost end = tt
@@ -173,4 +184,17 @@ shown_of (Err fault) code program pcap known old new good s = tt
 pub part_of : (r : Result ℕ EngineFault) (code : List ℕ) (program : List Insn) (pcap : Bool) (known left old new : Option (List ℕ)) → IsGoodCode code program
     → (IsErrOf r NoMemory → (text : List ℕ) × ShowsRead program pcap known left text × Appends old new text)
     → IsErrOf r NoMemory → (text : List ℕ) × ShowsPart code pcap known left text × Appends old new text
-part_of r code program pcap known left old new good part = λ memory. let p = part memory in (p.0, inr (program, good, p.1), p.2)
+part_of r code program pcap known left old new good part = λ memory. let p = part memory in (p.0, by p.0 p.1, p.2)
+  where
+    by : (text : List ℕ) → ShowsRead program pcap known left text → ShowsPart code pcap known left text
+    by text (inl nothing) = inl nothing
+    by text (inr read) = inr (record {
+      program = program;
+      good = good;
+      input = read.0;
+      lost = read.1;
+      is = read.2;
+      short = read.3;
+      front = packets_front program good.1 pcap read.0 text read.4;
+      packets = read.4;
+    })

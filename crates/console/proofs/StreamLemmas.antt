@@ -10,10 +10,11 @@ use Rattle.filter_vm.specs.declared.machine.Outcome.{Outcome}
 use Rattle.console.specs.declared.source.Source.{Source}
 use Rattle.console.specs.declared.fault.EngineFault.{EngineFault}
 use Rattle.console.specs.Reading.{BeginsWith}
-use Rattle.console.specs.Matching.{ShowsBytes, ShowsFront, outcome_line}
+use Rattle.console.specs.Matching.{ShowsBytes, ShowsPackets, outcome_line}
 use Rattle.console.specs.Running.{RunsTo}
 use Rattle.console.specs.Code.{IsGoodCode, ShowsBadCode}
 use Rattle.console.specs.Streaming.{ShowsSome, SourceEnded, SourceRan, StreamLeaves, StreamShows, is_capture}
+use Rattle.console.proofs.WholeLemmas.{some_front}
 use Rattle.console.proofs.KnownBytesLemmas.{appends-then, appends-nothing, consumes-then}
 use Rattle.console.proofs.FeedingLemmas.{consumes-kept, consumes-nothing}
 use Rattle.console.proofs.StreamingLemmas.{Streamed, begins_itself, ended_front, no_bytes, ran_front}
@@ -114,14 +115,14 @@ either_run program true piece old new before after r = record { front = r.front;
 either_run program false piece old new before after r = record { front = r.front; parts = r.parts; more = r.more; pushed = r.pushed; runs = λ fed outcomes has short. r.runs fed outcomes has short }
 
 pub either_front : (program : List Insn) (stopped : Bool) (taken : List ℕ) (source : Source) (outcomes : List Outcome) (text : List ℕ) → RanOrStopped program stopped taken source outcomes
-    → BeginsWith text (flat_map outcome_line outcomes) → ShowsFront program (is_capture source) taken text
+    → BeginsWith text (flat_map outcome_line outcomes) → ShowsPackets program (is_capture source) taken text
 either_front program true taken source outcomes text has begins = ended_front program true taken source outcomes text has begins
 either_front program false taken source outcomes text has begins = rw (append-nil taken) at (ran_front program taken [] source outcomes text has no_bytes begins)
 
 -- what is left where the outcomes couldn't be written
 pub left_took : {T E : Type 0} (r : Result T E) (To : List ℕ → List Outcome → Type 0) (program : List Insn) (pcap : Bool) (from at old new last : Option (List ℕ)) (source : Source) (outcomes : List Outcome) (turns : ℕ)
     → Took To pcap from at old new source outcomes turns
-    → ((input : List ℕ) (outcomes : List Outcome) (text : List ℕ) → To input outcomes → BeginsWith text (flat_map outcome_line outcomes) → ShowsFront program (is_capture source) input text)
+    → ((input : List ℕ) (outcomes : List Outcome) (text : List ℕ) → To input outcomes → BeginsWith text (flat_map outcome_line outcomes) → ShowsPackets program (is_capture source) input text)
     → (front : List ℕ) × BeginsWith front (flat_map outcome_line outcomes) × Appends new last front
     → OnErr r ((input : List ℕ) × Consumes from at input × ((text : List ℕ) × Appends old last text × ShowsSome program pcap input text))
 left_took (Ok v) To program pcap from at old new last source outcomes turns so fronts failed = tt
@@ -219,7 +220,7 @@ pub left_of_code : (r : Result ℕ EngineFault) (code : List ℕ) (program : Lis
     → OnErr r ((text : List ℕ) × Appends old new text × ((text ≡ []) ⊎ (((whole : List ℕ) × ShowsBadCode code whole × BeginsWith text whole)
     ⊎ ((input : List ℕ) × Consumes from at input × StreamLeaves code pcap input text))))
 left_of_code (Ok v) code program pcap kind from at old new good same left = tt
-left_of_code (Err e) code program pcap kind from at old new good same left = (left.2.0, left.2.1, inr (inr (left.0, left.1, (program, good, rw same at left.2.2))))
+left_of_code (Err e) code program pcap kind from at old new good same left = (left.2.0, left.2.1, inr (inr (left.0, left.1, (program, good, rw same at (some_front program good.1 kind left.0 left.2.0 left.2.2)))))
 
 -- where the line of a bad code couldn't be written
 pub bad_code_left : {T E : Type 0} (r : Result T E) (code line : List ℕ) (pcap : Bool) (from at old new : Option (List ℕ)) → ShowsBadCode code line → (front : List ℕ) × BeginsWith front line × Appends old new front

@@ -23,7 +23,7 @@ use Rattle.console.specs.declared.source.Source.TheVariants.{Lines, Capture}
 use Rattle.console.specs.declared.fault.EngineFault.{EngineFault}
 use Rattle.console.specs.Reading.{BeginsWith, HasStopped}
 use Rattle.console.specs.Faults.{fault_status, fault_text}
-use Rattle.console.specs.Matching.{ShowsBytes, ShowsFront, bad_line, outcome_line}
+use Rattle.console.specs.Matching.{ShowsBytes, ShowsPackets, bad_line, outcome_line}
 use Rattle.console.specs.Running.{EndsRun, HasRun}
 use Rattle.console.specs.Streaming.{LinesEnded, LinesStopped, ShowsSome, SourceEnded, SourceRan, is_capture}
 
@@ -45,7 +45,7 @@ behind_first fed rest packets all feed (Some f) header fault small (inr refused)
 
 -- a front of the lines for the packets that were run
 run_front : (program : List Insn) (fed rest : List ℕ) (feed : Feed) (outcomes : List Outcome) (text : List ℕ) → HasRun program fed feed outcomes → All (λ b. b < 256) rest
-    → BeginsWith text (flat_map outcome_line outcomes) → ShowsFront program true (fed ++ rest) text
+    → BeginsWith text (flat_map outcome_line outcomes) → ShowsPackets program true (fed ++ rest) text
 run_front program fed rest feed outcomes text has small begins =
     let all = All-append (λ b. b < 256) fed rest has.holds.0 small in
     let reading = has_reading (fed ++ rest) in
@@ -68,7 +68,7 @@ run_front program fed rest feed outcomes text has small begins =
 
 -- the same of what a source took, and of more
 pub ran_front : (program : List Insn) (fed rest : List ℕ) (source : Source) (outcomes : List Outcome) (text : List ℕ) → SourceRan program fed source outcomes → All (λ b. b < 256) rest
-    → BeginsWith text (flat_map outcome_line outcomes) → ShowsFront program (is_capture source) (fed ++ rest) text
+    → BeginsWith text (flat_map outcome_line outcomes) → ShowsPackets program (is_capture source) (fed ++ rest) text
 ran_front program fed rest (Lines feed) outcomes text has small begins = record {
   good = has.good;
   left = lines (feed.part.items ++ rest);
@@ -85,7 +85,7 @@ no_bytes = λ k d within. absurd (omega arith)
 
 -- and of all that a source took
 pub ended_front : (program : List Insn) (stopped : Bool) (taken : List ℕ) (source : Source) (outcomes : List Outcome) (text : List ℕ) → SourceEnded program stopped taken source outcomes
-    → BeginsWith text (flat_map outcome_line outcomes) → ShowsFront program (is_capture source) taken text
+    → BeginsWith text (flat_map outcome_line outcomes) → ShowsPackets program (is_capture source) taken text
 ended_front program false taken (Lines feed) outcomes text has begins = record {
   good = lines taken;
   left = [];

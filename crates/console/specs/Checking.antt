@@ -2,11 +2,12 @@
 use Rattle.std.specs.Prelude.{◌≡◌, ℕ, ◌<◌, ◌≤◌, ◌⊎◌, Bool, true, false, List, ◌++◌, length, codes, Err}
 use Rattle.std.specs.Fmt.{decimal}
 use Rattle.bpf_insn.specs.declared.insn.Insn.{Insn}
+use Rattle.bpf_insn.specs.Program.{JumpsOut}
 use Rattle.bpf_insn.specs.AsmText.{IsPrintable, asm_text}
 use Rattle.bpf_insn.specs.DddText.{ddd_text}
 use Rattle.filter_asm.specs.Program.{Asm, Assembles, Fault}
-use Rattle.filter_verify.specs.declared.rules.Refusal.TheVariants.{JumpOut}
-use Rattle.filter_verify.specs.Rules.{BreaksAt}
+use Rattle.console.specs.declared.input.TheConstants.{INPUT_BYTES}
+use Rattle.console.specs.Reading.{ShowsTooLong}
 use Rattle.console.specs.Words.{asm_fault_name}
 
 -- the line for the first fault of a text
@@ -15,7 +16,7 @@ asm_fault_line fault = codes "line " ++ decimal fault.line ++ codes ": " ++ asm_
 
 -- the least place of a jump that leads outside the program
 abbrev pub IsFirstOut : List Insn → ℕ → Type 0
-IsFirstOut program pc = BreaksAt program pc (JumpOut pc) × ((earlier : ℕ) → earlier < pc → BreaksAt program earlier (JumpOut earlier) → ⊥)
+IsFirstOut program pc = JumpsOut program pc × ((earlier : ℕ) → earlier < pc → JumpsOut program earlier → ⊥)
 
 -- the line for such a program, which has no assembler text
 abbrev pub jump_out_line : ℕ → List ℕ
@@ -37,5 +38,5 @@ ShowsAsm asm input status text =
 -- what `check` shows of an input, whose length has a limit
 abbrev pub ShowsCheck : Bool → List ℕ → ℕ → List ℕ → Type 0
 ShowsCheck asm input status text =
-    ((length input ≤ 67108864) × ShowsAsm asm input status text)
-    ⊎ ((67108864 < length input) × (status ≡ 1) × (text ≡ codes "fault InputTooLong\n"))
+    ((length input ≤ INPUT_BYTES) × ShowsAsm asm input status text)
+    ⊎ ((INPUT_BYTES < length input) × ShowsTooLong status text)

@@ -19,20 +19,24 @@ commas (n ∷ m ∷ others) = decimal n ++ codes "," ++ commas (m ∷ others)
 abbrev pub code_line : TextFault → List ℕ
 code_line fault = codes "code " ++ code_words fault ++ codes "\n"
 
--- the line that says why a program is refused
+-- the rule by which a program is refused, and where
+abbrev pub refusal_words : Refusal → List ℕ
+refusal_words refusals.Empty = codes "Empty"
+refusal_words refusals.TooLong = codes "TooLong"
+refusal_words (refusals.BadCode pc) = codes "BadCode pc " ++ decimal pc
+refusal_words (refusals.ZeroDivisor pc) = codes "ZeroDivisor pc " ++ decimal pc
+refusal_words (refusals.BadShift pc) = codes "BadShift pc " ++ decimal pc
+refusal_words (refusals.BadWord pc) = codes "BadWord pc " ++ decimal pc
+refusal_words (refusals.JumpOut pc) = codes "JumpOut pc " ++ decimal pc
+refusal_words (refusals.Ancillary pc) = codes "Ancillary pc " ++ decimal pc
+refusal_words refusals.NoReturn = codes "NoReturn"
+refusal_words (refusals.Unwritten pc word path) =
+    codes "Unwritten pc " ++ decimal pc ++ codes " word " ++ decimal word ++ codes " path " ++ commas path
+refusal_words refusals.NoMemory = []
+
+-- the line that says so
 abbrev pub refused_line : Refusal → List ℕ
-refused_line refusals.Empty = codes "refused Empty\n"
-refused_line refusals.TooLong = codes "refused TooLong\n"
-refused_line (refusals.BadCode pc) = codes "refused BadCode pc " ++ decimal pc ++ codes "\n"
-refused_line (refusals.ZeroDivisor pc) = codes "refused ZeroDivisor pc " ++ decimal pc ++ codes "\n"
-refused_line (refusals.BadShift pc) = codes "refused BadShift pc " ++ decimal pc ++ codes "\n"
-refused_line (refusals.BadWord pc) = codes "refused BadWord pc " ++ decimal pc ++ codes "\n"
-refused_line (refusals.JumpOut pc) = codes "refused JumpOut pc " ++ decimal pc ++ codes "\n"
-refused_line (refusals.Ancillary pc) = codes "refused Ancillary pc " ++ decimal pc ++ codes "\n"
-refused_line refusals.NoReturn = codes "refused NoReturn\n"
-refused_line (refusals.Unwritten pc word path) =
-    codes "refused Unwritten pc " ++ decimal pc ++ codes " word " ++ decimal word ++ codes " path " ++ commas path ++ codes "\n"
-refused_line refusals.NoMemory = []
+refused_line refusal = codes "refused " ++ refusal_words refusal ++ codes "\n"
 
 -- the code spells a program that the verifier accepts
 abbrev pub IsGoodCode : List ℕ → List Insn → Type 0
@@ -43,3 +47,9 @@ abbrev pub ShowsBadCode : List ℕ → List ℕ → Type 0
 ShowsBadCode code text =
     ((fault : TextFault) × Faults code fault × (text ≡ code_line fault))
     ⊎ ((program : List Insn) × Ddd code program × (refusal : Refusal) × Refuses program refusal × (text ≡ refused_line refusal))
+
+-- two lines of one code are the same, but where a word is unwritten they may name two paths
+abbrev pub SameButPath : List ℕ → List ℕ → Type 0
+SameButPath text other = (text ≡ other)
+    ⊎ ((pc : ℕ) × (word : ℕ) × (path : List ℕ) × (another : List ℕ)
+    × (text ≡ refused_line (refusals.Unwritten pc word path)) × (other ≡ refused_line (refusals.Unwritten pc word another)))

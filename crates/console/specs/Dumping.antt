@@ -6,8 +6,9 @@ use Rattle.pcap_reader.specs.declared.capture.Header.{Header}
 use Rattle.pcap_reader.specs.declared.capture.Packet.{Packet}
 use Rattle.pcap_reader.specs.declared.capture.CaptureFault.{CaptureFault}
 use Rattle.pcap_reader.specs.Savefile.{Reads}
+use Rattle.console.specs.declared.input.TheConstants.{INPUT_BYTES}
 use Rattle.console.specs.Faults.{fault_status, fault_text}
-use Rattle.console.specs.Reading.{BeginsWith, IsInput}
+use Rattle.console.specs.Reading.{BeginsWith, IsInput, ShowsTooLong}
 
 abbrev pub order_name : Bool → List ℕ
 order_name true = codes "big"
@@ -43,9 +44,9 @@ dump_text header packets fault = header_line header ++ (packet_lines 1 packets +
 -- what `dump` shows of an input, whose length has a limit
 abbrev pub ShowsDump : List ℕ → ℕ → List ℕ → Type 0
 ShowsDump input status text =
-    ((length input ≤ 67108864) × (header : Option Header) × (packets : List Packet) × (fault : Option CaptureFault)
+    ((length input ≤ INPUT_BYTES) × (header : Option Header) × (packets : List Packet) × (fault : Option CaptureFault)
     × Reads input header packets fault × (text ≡ dump_text header packets fault) × (status ≡ fault_status fault))
-    ⊎ ((67108864 < length input) × (status ≡ 1) × (text ≡ codes "fault InputTooLong\n"))
+    ⊎ ((INPUT_BYTES < length input) × ShowsTooLong status text)
 
 -- text is nothing, or a front of what `dump` shows of the input
 abbrev pub ShowsDumpPart : Option (List ℕ) → List ℕ → Type 0

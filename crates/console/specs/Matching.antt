@@ -13,6 +13,8 @@ use Rattle.pcap_reader.specs.declared.capture.Packet.{Packet as Captured}
 use Rattle.pcap_reader.specs.declared.capture.CaptureFault.{CaptureFault}
 use Rattle.pcap_reader.specs.Savefile.{Reads}
 use Rattle.console.specs.Code.{IsGoodCode}
+use Rattle.console.specs.declared.input.TheConstants.{INPUT_BYTES}
+use Rattle.console.specs.Reading.{BeginsWith, IsInput, ShowsTooLong}
 use Rattle.console.specs.Faults.{fault_status, fault_text}
 use Rattle.console.specs.declared.fault.EngineFault.{EngineFault}
 use Rattle.console.specs.declared.fault.EngineFault.TheVariants.{ReadFailed, WriteFailed, NoMemory}
@@ -71,8 +73,8 @@ ShowsBytes program true input status text =
 -- what is shown of an input, where it isn't too long
 abbrev pub ShowsInput : List Insn → Bool → List ℕ → ℕ → List ℕ → Type 0
 ShowsInput program pcap input status text =
-    ((length input ≤ 67108864) × ShowsBytes program pcap input status text)
-    ⊎ ((67108864 < length input) × (status ≡ 1) × (text ≡ codes "fault InputTooLong\n"))
+    ((length input ≤ INPUT_BYTES) × ShowsBytes program pcap input status text)
+    ⊎ ((INPUT_BYTES < length input) × ShowsTooLong status text)
 
 -- what `match` shows of a good code and an input
 abbrev pub ShowsGoodCode : List ℕ → Bool → List ℕ → ℕ → List ℕ → Type 0
@@ -91,20 +93,34 @@ pub record ShowsFirst {A : Type 0} (Gives : A → Outcome → Type 0) (all : Lis
 
 -- text is a front of what is shown of bytes
 abbrev pub ShowsFront : List Insn → Bool → List ℕ → List ℕ → Type 0
-ShowsFront program false input text = ShowsFirst (Answers program) (lines input) text
-ShowsFront program true input text =
+ShowsFront program pcap input text = (status : ℕ) × (whole : List ℕ) × ShowsBytes program pcap input status whole × BeginsWith text whole
+
+-- text is a front of what is shown of the first packets of bytes
+abbrev pub ShowsPackets : List Insn → Bool → List ℕ → List ℕ → Type 0
+ShowsPackets program false input text = ShowsFirst (Answers program) (lines input) text
+ShowsPackets program true input text =
     (header : Option Header) × (packets : List Captured) × (fault : Option CaptureFault)
     × Reads input header packets fault × ShowsFirst (AnswersCaptured program) packets text
 
--- text is nothing, or a front of what is shown of the bytes that the reader lost, which aren't too many
+-- text is nothing, or such a front of an input, which the reader lost whole and which isn't too long
 abbrev pub ShowsRead : List Insn → Bool → Option (List ℕ) → Option (List ℕ) → List ℕ → Type 0
 ShowsRead program pcap old new text = (text ≡ [])
-    ⊎ ((input : List ℕ) × Consumes old new input × (length input ≤ 67108864) × ShowsFront program pcap input text)
+    ⊎ ((input : List ℕ) × Consumes old new input × IsInput old input × (length input ≤ INPUT_BYTES) × ShowsPackets program pcap input text)
 
--- text is nothing, or such a front for a good code
+-- text is a front of what is shown of a good code and of an input, which the reader lost whole: of its first packets alone
+pub record ShowsGoodPart (code : List ℕ) (pcap : Bool) (old new : Option (List ℕ)) (text : List ℕ) : Type 0 where
+  pub program : List Insn
+  pub good : IsGoodCode code program
+  pub input : List ℕ
+  pub lost : Consumes old new input
+  pub is : IsInput old input
+  pub short : length input ≤ INPUT_BYTES
+  pub front : ShowsFront program pcap input text
+  pub packets : ShowsPackets program pcap input text
+
+-- text is nothing, or such a front
 abbrev pub ShowsPart : List ℕ → Bool → Option (List ℕ) → Option (List ℕ) → List ℕ → Type 0
-ShowsPart code pcap old new text = (text ≡ [])
-    ⊎ ((program : List Insn) × IsGoodCode code program × ShowsRead program pcap old new text)
+ShowsPart code pcap old new text = (text ≡ []) ⊎ ShowsGoodPart code pcap old new text
 
 -- what can go wrong while text is printed
 abbrev pub IsPrintFault : EngineFault → Type 0

@@ -10,6 +10,8 @@ use Rattle.pcap_reader.specs.declared.capture.Packet.{Packet}
 use Rattle.pcap_reader.specs.declared.capture.CaptureFault.{CaptureFault}
 use Rattle.pcap_reader.specs.Savefile.{Reads}
 use Rattle.pcap_reader.specs.Held.{HoldsBehind, held_packets}
+use Rattle.console.specs.declared.input.TheConstants.{INPUT_BYTES}
+use Rattle.console.specs.Reading.{LostTooMany}
 use Rattle.console.specs.Matching.{AnswersCaptured}
 
 -- a feed was fed these bytes, holds no packet, and the packets that it gave up ended with these outcomes
@@ -35,8 +37,8 @@ RunsOn program = RunsTo (HasRun program) (HasRun program)
 -- a reader lost just these bytes, whose whole packets were run, and then was at its end; or it lost more than 64 MiB
 abbrev pub RunsInput : Option (List ℕ) → Option (List ℕ) → List Insn → Feed → List Outcome → Bool → Type 0
 RunsInput old new program feed outcomes true =
-    (given : List ℕ) × Consumes old new given × IsAtEnd new × (length given ≤ 67108864) × HasRun program given feed outcomes
-RunsInput old new program feed outcomes false = (given : List ℕ) × Consumes old new given × (67108864 < length given)
+    (given : List ℕ) × Consumes old new given × IsAtEnd new × (length given ≤ INPUT_BYTES) × HasRun program given feed outcomes
+RunsInput old new program feed outcomes false = LostTooMany old new INPUT_BYTES
 
 -- bytes hold a capture with these packets' outcomes, and this fault behind them
 abbrev pub EndsRun : List Insn → List ℕ → List Outcome → Option CaptureFault → Type 0

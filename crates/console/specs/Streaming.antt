@@ -9,22 +9,21 @@ use Rattle.console.specs.declared.line_feed.LineFeed.{LineFeed}
 use Rattle.console.specs.declared.source.Source.{Source}
 use Rattle.console.specs.declared.source.Source.TheVariants.{Lines, Capture}
 use Rattle.console.specs.Code.{IsGoodCode}
-use Rattle.console.specs.Reading.{BeginsWith, HasStopped}
-use Rattle.console.specs.Matching.{Answers, ShowsBytes, ShowsFront}
+use Rattle.console.specs.Reading.{HasStopped}
+use Rattle.console.specs.Matching.{Answers, ShowsBytes, ShowsFront, ShowsPackets}
 use Rattle.console.specs.Running.{HasRun}
 
 -- what a stream shows of a code and of the bytes that it read
 abbrev pub StreamShows : List ℕ → Bool → List ℕ → ℕ → List ℕ → Type 0
 StreamShows code pcap input status text = (program : List Insn) × IsGoodCode code program × ShowsBytes program pcap input status text
 
--- text is a front of what is shown of bytes: of the lines for their first packets, or of all that is shown
+-- text is a front of what is shown of the first packets of bytes, or of all that is shown
 abbrev pub ShowsSome : List Insn → Bool → List ℕ → List ℕ → Type 0
-ShowsSome program pcap input text =
-    ShowsFront program pcap input text ⊎ ((status : ℕ) × (whole : List ℕ) × ShowsBytes program pcap input status whole × BeginsWith text whole)
+ShowsSome program pcap input text = ShowsPackets program pcap input text ⊎ ShowsFront program pcap input text
 
 -- what a stream that failed has shown of a code and of the bytes that it read
 abbrev pub StreamLeaves : List ℕ → Bool → List ℕ → List ℕ → Type 0
-StreamLeaves code pcap input text = (program : List Insn) × IsGoodCode code program × ShowsSome program pcap input text
+StreamLeaves code pcap input text = (program : List Insn) × IsGoodCode code program × ShowsFront program pcap input text
 
 -- no byte is a newline
 abbrev pub IsOneLine : List ℕ → Type 0

@@ -3,21 +3,20 @@
 ghost use Rattle.std.specs.Prelude.{◌≡◌, ◌≢◌, ◌<◌, ◌≤◌, ◌^◌, ◌⊎◌, ℕ, List, length, IfOk, IfErr, Err, IsTrue, MatchOption, string_bytes};
 ghost use Rattle.std.specs.Io.KnownBytes.{Appends};
 ghost use Rattle.bpf_insn.specs.declared.form.Form.{Form as AnyForm};
-ghost use Rattle.bpf_insn.specs.Program.{FormAt};
+ghost use Rattle.bpf_insn.specs.Program.{FormAt, JumpsOut};
+ghost use Rattle.bpf_insn.specs.declared.insn.TheConstants.{MAX_INSNS};
 ghost use Rattle.filter_asm.specs.declared.fault.AsmFaultKind.TheVariants.{NoMemory};
-ghost use Rattle.filter_verify.specs.declared.rules.Refusal.TheVariants.{JumpOut};
-ghost use Rattle.filter_verify.specs.Rules.{BreaksAt};
 ghost use Rattle.console.specs.Checking.{IsFirstOut, ShowsAsm, ShowsCheck, ShowsProgram, asm_fault_line};
 ghost use Rattle.console.specs.Matching.{IsEngineFault};
-ghost use Rattle.console.specs.Reading.{IsInput};
+ghost use Rattle.console.specs.Reading.{IsInput, LosesAtMost, most_taken, ShowsOne};
 
 use crate::EngineFault;
 use crate::fault_words::name_of_asm_fault;
 use crate::input::{INPUT_BYTES, INPUT_READS, Input, read_bounded};
-use crate::output::{write_bytes, write_text};
-use bpf_insn::{Insn, write_asm, write_ddd};
+use crate::output::write_bytes;
+use crate::too_long::refuse_long;
+use bpf_insn::{Insn, jumps_out, write_asm, write_ddd};
 use filter_asm::{AsmFaultKind, assemble};
-use filter_verify::jumps_out;
 use std::alloc::{AllocError, Global};
 use std::io::{Read, Write};
 
@@ -38,14 +37,13 @@ pub fn run_check<R: Read, W: Write>(
 ) -> Result<u8, EngineFault>
     ensures shown { IfOk result (λ status. (text : List ℕ) × Appends (W.contents writer.old) (W.contents writer.new) text
         × ((input : List ℕ) × IsInput (R.remaining reader.old) input × ShowsCheck asm input status text)) }
+    ensures taken { IfOk result (λ _. LosesAtMost (R.remaining reader.old) (R.remaining reader.new) most_taken) }
+    ensures only { (input : List ℕ) → ShowsOne (ShowsCheck asm input) }
     ensures fault { IfErr result IsEngineFault }
     ensures silent { (result ≡ Err EngineFault.ReadFailed) ⊎ (result ≡ Err EngineFault.NoMemory) → writer.new ≡ writer.old }
 {
     match read_bounded(alloc, reader, INPUT_BYTES, INPUT_READS)? {
-        Input::TooLong => {
-            write_text(writer, "fault InputTooLong\n")?;
-            Ok(1)
-        }
+        Input::TooLong => refuse_long(writer),
         Input::Whole(input) => {
             let shown = check_text(alloc, asm, input.as_slice())?;
             write_bytes(writer, shown.text.as_slice())?;
@@ -83,7 +81,7 @@ fn check_text(alloc: Global, asm: bool, text: &[u8]) -> Result<Shown, AllocError
 
 /// What is shown of an assembled program.
 fn show_program(alloc: Global, asm: bool, program: &[Insn]) -> Result<Shown, AllocError>
-    requires short { length program.now ≤ 4096 }
+    requires short { length program.now ≤ MAX_INSNS }
     requires formed { (pc : ℕ) → pc < length program.now → (form : AnyForm) × FormAt program.now pc form }
     ensures { IfOk result (λ shown. ShowsProgram asm program.now shown.status shown.text.items) }
 {
@@ -107,8 +105,8 @@ fn show_program(alloc: Global, asm: bool, program: &[Insn]) -> Result<Shown, All
 
 /// The least place of a jump that leads outside.
 fn first_jump_out(program: &[Insn]) -> Option<usize>
-    requires { length program.now ≤ 4096 }
-    ensures { MatchOption result ((pc : ℕ) → BreaksAt program.now pc (JumpOut pc) → ⊥) (IsFirstOut program.now) }
+    requires { length program.now ≤ MAX_INSNS }
+    ensures { MatchOption result ((pc : ℕ) → JumpsOut program.now pc → ⊥) (IsFirstOut program.now) }
 {
     for pc in 0..program.len() {
         if jumps_out_at(program, pc) {
@@ -120,10 +118,10 @@ fn first_jump_out(program: &[Insn]) -> Option<usize>
 
 /// Whether a jump at a place leads outside.
 fn jumps_out_at(program: &[Insn], pc: usize) -> bool
-    requires short { length program.now ≤ 4096 }
+    requires short { length program.now ≤ MAX_INSNS }
     requires inside { pc < length program.now }
-    ensures out { IsTrue result → BreaksAt program.now pc (JumpOut pc) }
-    ensures stays { (IsTrue result → ⊥) → BreaksAt program.now pc (JumpOut pc) → ⊥ }
+    ensures out { IsTrue result → JumpsOut program.now pc }
+    ensures stays { (IsTrue result → ⊥) → JumpsOut program.now pc → ⊥ }
 {
     match program[pc].form() {
         Some(form) => jumps_out(form, pc, program.len()),
@@ -131,8 +129,8 @@ fn jumps_out_at(program: &[Insn], pc: usize) -> bool
     }
 }
 
-/// The line for the first fault of a text.
-fn fault_line(alloc: Global, line: u32, kind: AsmFaultKind) -> Result<String, AllocError>
+/// The line for the first fault of an assembler text.
+pub fn fault_line(alloc: Global, line: u32, kind: AsmFaultKind) -> Result<String, AllocError>
     ensures { IfOk result (λ text. (kind ≢ NoMemory) × (string_bytes text ≡ asm_fault_line (record { line = line; kind = kind }))) }
 {
     let Some(name) = name_of_asm_fault(kind) else {

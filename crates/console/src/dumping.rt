@@ -2,7 +2,7 @@
 
 ghost use Rattle.std.specs.Prelude.{◌≡◌, ◌++◌, ℕ, List, Option, Some, IfOk, IfErr, IsErrOf, OnOk, string_bytes};
 ghost use Rattle.std.specs.Io.KnownBytes.{Appends};
-ghost use Rattle.console.specs.Reading.{BeginsWith, IsInput};
+ghost use Rattle.console.specs.Reading.{AreBytes, BeginsWith, IsInput, LosesAtMost, most_taken, ShowsOne};
 ghost use Rattle.console.specs.Faults.{fault_status};
 ghost use Rattle.console.specs.Matching.{IsEngineFault, IsPrintFault};
 ghost use Rattle.console.specs.Dumping.{ShowsDump, ShowsDumpPart, digits, dump_text, header_line, packet_line};
@@ -10,7 +10,8 @@ ghost use Rattle.console.specs.Dumping.{ShowsDump, ShowsDumpPart, digits, dump_t
 use crate::EngineFault;
 use crate::capture_fault::write_ending;
 use crate::captured::read_packets;
-use crate::output::{BLOCK, write_bytes, write_text};
+use crate::output::{BLOCK, write_bytes};
+use crate::too_long::refuse_long;
 use itoa::Buffer;
 use pcap_reader::{CaptureFault, Header, Packet};
 use std::alloc::{AllocError, Global};
@@ -33,14 +34,15 @@ pub fn run_dump<R: Read, W: Write>(
 ) -> Result<u8, EngineFault>
     ensures shown { IfOk result (λ status. (text : List ℕ) × Appends (W.contents writer.old) (W.contents writer.new) text
         × ((input : List ℕ) × IsInput (R.remaining reader.old) input × ShowsDump input status text)) }
+    ensures taken { IfOk result (λ _. LosesAtMost (R.remaining reader.old) (R.remaining reader.new) most_taken) }
+    ensures only { (input : List ℕ) → AreBytes input → ShowsOne (ShowsDump input) }
     ensures fault { IfErr result IsEngineFault }
     ensures silent { IsErrOf result EngineFault.ReadFailed → writer.new ≡ writer.old }
     ensures part { IsErrOf result EngineFault.NoMemory → (text : List ℕ)
         × ShowsDumpPart (R.remaining reader.old) text × Appends (W.contents writer.old) (W.contents writer.new) text }
 {
     let Some(captured) = read_packets(alloc, reader)? else {
-        write_text(writer, "fault InputTooLong\n")?;
-        return Ok(1);
+        return refuse_long(writer);
     };
     let packets = captured.packets.as_slice();
     dump(alloc, captured.header, packets, captured.fault, writer)

@@ -1,10 +1,14 @@
-//! The words for what is wrong with a decimal text, an assembler text or a capture. Want of memory is wrong with none of them.
+//! The words for what is wrong with a decimal text, a program, an assembler text or a capture. Lack of memory is wrong with none
+//! of them.
 
-ghost use Rattle.std.specs.Prelude.{◌≡◌, ◌≢◌, ◌++◌, MatchOption, OnOk, string_bytes};
+ghost use Rattle.std.specs.Prelude.{◌≡◌, ◌≢◌, ◌++◌, MatchOption, OnOk, codes, string_bytes};
+ghost use Rattle.std.specs.Fmt.{decimal};
+ghost use Rattle.console.specs.Code.{commas, refusal_words};
 ghost use Rattle.console.specs.Words.{asm_fault_name, capture_words, code_words};
 
 use bpf_insn::TextFault;
 use filter_asm::AsmFaultKind;
+use filter_verify::Refusal;
 use pcap_reader::CaptureFault;
 use std::alloc::AllocError;
 use std::fmt::Write;
@@ -33,6 +37,54 @@ pub fn push_capture_words(text: &mut String, fault: CaptureFault) -> Result<(), 
         CaptureFault::TooLong(place) => write!(text, "TooLong {place}"),
         CaptureFault::NoMemory => Err(AllocError),
     }
+}
+
+/// Appends the rule by which a program is refused, with the place, if a single one is refused.
+pub fn push_refusal_words(text: &mut String, refusal: &Refusal) -> Result<(), AllocError>
+    ensures { OnOk result ((refusal.now ≢ Refusal.NoMemory) × (string_bytes text.new ≡ string_bytes text.old ++ refusal_words refusal.now)) }
+{
+    match refusal {
+        Refusal::Empty => text.push_str("Empty"),
+        Refusal::TooLong => text.push_str("TooLong"),
+        Refusal::BadCode(pc) => write!(text, "BadCode pc {pc}"),
+        Refusal::ZeroDivisor(pc) => write!(text, "ZeroDivisor pc {pc}"),
+        Refusal::BadShift(pc) => write!(text, "BadShift pc {pc}"),
+        Refusal::BadWord(pc) => write!(text, "BadWord pc {pc}"),
+        Refusal::JumpOut(pc) => write!(text, "JumpOut pc {pc}"),
+        Refusal::Ancillary(pc) => write!(text, "Ancillary pc {pc}"),
+        Refusal::NoReturn => text.push_str("NoReturn"),
+        Refusal::Unwritten { pc, word, path } => {
+            push_unwritten(text, *pc, *word, path.as_slice())?;
+            Ok(())
+        }
+        Refusal::NoMemory => Err(AllocError),
+    }
+}
+
+/// Appends the words for a load of a word that a path leaves unwritten.
+fn push_unwritten(text: &mut String, pc: u32, word: u32, path: &[u32]) -> Result<(), AllocError>
+    ensures { OnOk result (string_bytes text.new ≡ string_bytes text.old
+        ++ (codes "Unwritten pc " ++ decimal pc ++ codes " word " ++ decimal word ++ codes " path " ++ commas path.now)) }
+{
+    write!(text, "Unwritten pc {pc} word {word} path ")?;
+    push_places(text, path)?;
+    Ok(())
+}
+
+/// Appends places, parted by commas.
+fn push_places(text: &mut String, places: &[u32]) -> Result<(), AllocError>
+    ensures { OnOk result (string_bytes text.new ≡ string_bytes text.old ++ commas places.now) }
+{
+    let mut rest = places;
+    while let Some((place, more)) = rest.split_first() {
+        rest = more;
+        if more.is_empty() {
+            write!(text, "{place}")?;
+        } else {
+            write!(text, "{place},")?;
+        }
+    }
+    Ok(())
 }
 
 /// The name of an assembler text's fault.

@@ -2,7 +2,7 @@
 
 ghost use Rattle.std.specs.Prelude.{◌<◌, ◌^◌, ◌++◌, ℕ, List, [], length, IfOk, IfErr, OnOk, IsTrue};
 ghost use Rattle.pcap_reader.specs.Held.{Holds};
-ghost use Rattle.console.specs.Reading.{Fed, Gave, HasStopped, IsReadFault, LosesSome};
+ghost use Rattle.console.specs.Reading.{Fed, Gave, HadMemory, HasStopped, IsReadFault, LosesSome};
 
 use crate::EngineFault;
 use pcap_reader::{CaptureFault, Feed};
@@ -66,7 +66,7 @@ pub fn read_bounded<R: Read>(
 /// Reads to the end and feeds what each read gave, at most 65,536 bytes a read; false where more than `bytes` bytes came.
 ///
 /// The reads count as those of `read_bounded`. After a fault of the capture it reads on without feeding, so that an input
-/// that is too long is told all the same. `feed` was given nothing before.
+/// that is too long is reported all the same. Where memory is refused it answers `NoMemory`. `feed` was given nothing before.
 pub fn feed_bounded<R: Read>(
     reader: &mut R,
     feed: &mut Feed,
@@ -74,7 +74,7 @@ pub fn feed_bounded<R: Read>(
     reads: u64,
 ) -> Result<bool, EngineFault>
     requires { Holds [] feed.old }
-    ensures fed { IfOk result (Fed (R.remaining reader.old) (R.remaining reader.new) bytes feed.new) }
+    ensures fed { IfOk result (Fed (R.remaining reader.old) (R.remaining reader.new) bytes feed.old feed.new) }
     ensures fault { IfErr result IsReadFault }
     ensures taken { LosesSome (R.remaining reader.old) (R.remaining reader.new) }
 {
@@ -106,13 +106,16 @@ fn hand_on(feed: &mut Feed, stopped: bool, piece: &[u8]) -> Result<bool, AllocEr
     requires { IsTrue stopped → HasStopped feed.old }
     ensures stopped { IfOk result (λ now. IsTrue now → HasStopped feed.new) }
     ensures holds { OnOk result ((fed : List ℕ) → Holds fed feed.old → length (fed ++ piece.now) < 2 ^ 64 → Holds (fed ++ piece.now) feed.new) }
+    ensures memory { OnOk result (HadMemory feed.old → HadMemory feed.new) }
 {
     if stopped {
         return Ok(true);
     }
     match feed.piece(piece) {
         Ok(()) => Ok(false),
-        Err(CaptureFault::NoMemory) => Err(AllocError),
-        Err(_) => Ok(true),
+        Err(fault) => match fault {
+            CaptureFault::NoMemory => Err(AllocError),
+            _ => Ok(true),
+        },
     }
 }

@@ -20,15 +20,22 @@ mod output;
 mod running;
 mod source;
 mod streaming;
+mod too_long;
 
-pub use checking::run_check;
+pub use checking::{fault_line, run_check};
+pub use code::read_code;
 pub use dumping::run_dump;
 pub use fault::EngineFault;
-pub use fault_words::{name_of_asm_fault, push_capture_words, push_code_words};
+pub use fault_words::{name_of_asm_fault, push_capture_words, push_code_words, push_refusal_words};
+pub use hexadecimal::decode;
 pub use input::{INPUT_BYTES, INPUT_READS, Input, feed_bounded, read_bounded};
+pub use lines::first_line;
+pub use match_lines::push_bad_line;
 pub use matching::run_match;
+pub use outcome::push_outcome;
 pub use output::{BLOCK, write_bytes, write_text};
 pub use streaming::run_stream;
+pub use too_long::refuse_long;
 
 #[cfg(test)]
 mod tests;

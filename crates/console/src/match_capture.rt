@@ -2,13 +2,14 @@
 
 ghost use Rattle.std.specs.Prelude.{◌≡◌, ℕ, List, true, IfOk, IfErr, IsErrOf};
 ghost use Rattle.std.specs.Io.KnownBytes.{Appends};
-ghost use Rattle.console.specs.Reading.{IsInput};
+ghost use Rattle.console.specs.Reading.{IsInput, LosesAtMost, most_taken};
 ghost use Rattle.console.specs.Matching.{IsEngineFault, ShowsInput, ShowsRead};
 
 use crate::EngineFault;
 use crate::capture_fault::write_ending;
-use crate::output::{write_outcomes, write_text};
+use crate::output::write_outcomes;
 use crate::running::{fault_behind, run_input};
+use crate::too_long::refuse_long;
 use filter_verify::Verified;
 use pcap_reader::Feed;
 use std::alloc::Global;
@@ -23,6 +24,7 @@ pub fn match_input<R: Read, W: Write>(
 ) -> Result<u8, EngineFault>
     ensures shown { IfOk result (λ status. (text : List ℕ) × Appends (W.contents writer.old) (W.contents writer.new) text
         × ((input : List ℕ) × IsInput (R.remaining reader.old) input × ShowsInput program.now true input status text)) }
+    ensures taken { IfOk result (λ _. LosesAtMost (R.remaining reader.old) (R.remaining reader.new) most_taken) }
     ensures fault { IfErr result IsEngineFault }
     ensures silent { IsErrOf result EngineFault.ReadFailed → writer.new ≡ writer.old }
     ensures part { IsErrOf result EngineFault.NoMemory → (text : List ℕ)
@@ -32,8 +34,7 @@ pub fn match_input<R: Read, W: Write>(
     let mut feed = Feed::new(alloc);
     let mut outcomes = Vec::new(alloc);
     if !run_input(program, reader, &mut feed, &mut outcomes)? {
-        write_text(writer, "fault InputTooLong\n")?;
-        return Ok(1);
+        return refuse_long(writer);
     }
     let fault = fault_behind(&feed)?;
     let mut text = String::new(alloc);

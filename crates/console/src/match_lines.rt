@@ -4,13 +4,14 @@ ghost use Rattle.std.specs.Prelude.{◌≡◌, ◌+◌, ◌<◌, ◌++◌, ◌^�
 ghost use Rattle.std.specs.Io.KnownBytes.{Appends};
 ghost use Rattle.std.specs.Str.Lines.{lines};
 ghost use Rattle.hex.specs.Hex.{decode_of};
-ghost use Rattle.console.specs.Reading.{IsInput};
+ghost use Rattle.console.specs.Reading.{IsInput, LosesAtMost, most_taken};
 ghost use Rattle.console.specs.Matching.{Answers, IsEngineFault, IsPrintFault, ShowsFirst, ShowsInput, ShowsLines, ShowsRead, bad_line};
 
 use crate::input::{INPUT_BYTES, INPUT_READS, Input, read_bounded};
 use crate::lines::first_line;
 use crate::outcome::push_outcome;
 use crate::output::{BLOCK, write_text};
+use crate::too_long::refuse_long;
 use crate::{EngineFault, hexadecimal};
 use filter_verify::Verified;
 use filter_vm::{Outcome, run};
@@ -27,6 +28,7 @@ pub fn match_input<R: Read, W: Write>(
 ) -> Result<u8, EngineFault>
     ensures shown { IfOk result (λ status. (text : List ℕ) × Appends (W.contents writer.old) (W.contents writer.new) text
         × ((input : List ℕ) × IsInput (R.remaining reader.old) input × ShowsInput program.now false input status text)) }
+    ensures taken { IfOk result (λ _. LosesAtMost (R.remaining reader.old) (R.remaining reader.new) most_taken) }
     ensures fault { IfErr result IsEngineFault }
     ensures silent { IsErrOf result EngineFault.ReadFailed → writer.new ≡ writer.old }
     ensures part { IsErrOf result EngineFault.NoMemory → (text : List ℕ)
@@ -34,10 +36,7 @@ pub fn match_input<R: Read, W: Write>(
         × Appends (W.contents writer.old) (W.contents writer.new) text }
 {
     match read_bounded(alloc, reader, INPUT_BYTES, INPUT_READS)? {
-        Input::TooLong => {
-            write_text(writer, "fault InputTooLong\n")?;
-            Ok(1)
-        }
+        Input::TooLong => refuse_long(writer),
         Input::Whole(input) => {
             let status = match_lines(alloc, program, input.as_slice(), writer)?;
             Ok(status)

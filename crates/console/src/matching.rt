@@ -3,8 +3,8 @@
 ghost use Rattle.std.specs.Prelude.{◌≡◌, ◌⊎◌, ℕ, List, IfOk, IfErr, IsErrOf};
 ghost use Rattle.std.specs.Io.KnownBytes.{Appends};
 ghost use Rattle.bpf_insn.specs.declared.insn.Insn.{Insn};
-ghost use Rattle.console.specs.Code.{IsGoodCode, ShowsBadCode};
-ghost use Rattle.console.specs.Reading.{IsInput};
+ghost use Rattle.console.specs.Code.{IsGoodCode, SameButPath, ShowsBadCode};
+ghost use Rattle.console.specs.Reading.{AreBytes, IsInput, LosesAtMost, most_taken, ShowsOne};
 ghost use Rattle.console.specs.Matching.{IsEngineFault, ShowsGoodCode, ShowsPart};
 
 use crate::code::read_code;
@@ -28,7 +28,7 @@ use std::io::{Read, Write};
 /// Packets of a capture are run while it is read, and 8 bytes of each are kept to its end; lines are kept whole.
 ///
 /// Answers `ReadFailed`, with nothing written, where a read fails; `WriteFailed`; and `NoMemory`, where a front of the
-/// text may have been written.
+/// text may have been written: of the lines for packets alone.
 pub fn run_match<R: Read, W: Write>(
     alloc: Global,
     code: &[u8],
@@ -39,6 +39,10 @@ pub fn run_match<R: Read, W: Write>(
     ensures shown { IfOk result (λ status. (text : List ℕ) × Appends (W.contents writer.old) (W.contents writer.new) text
         × ((ShowsBadCode code.now text × (status ≡ 1))
         ⊎ ((input : List ℕ) × IsInput (R.remaining reader.old) input × ShowsGoodCode code.now pcap input status text))) }
+    ensures taken { IfOk result (λ _. LosesAtMost (R.remaining reader.old) (R.remaining reader.new) most_taken) }
+    ensures only { (input : List ℕ) → AreBytes input → ShowsOne (ShowsGoodCode code.now pcap input) }
+    ensures bad_only { (text other : List ℕ) → ShowsBadCode code.now text → ShowsBadCode code.now other → SameButPath text other }
+    ensures good_or_bad { (program : List Insn) (text : List ℕ) → IsGoodCode code.now program → ShowsBadCode code.now text → ⊥ }
     ensures unread { ((program : List Insn) → IsGoodCode code.now program → ⊥) → reader.new ≡ reader.old }
     ensures fault { IfErr result IsEngineFault }
     ensures silent { IsErrOf result EngineFault.ReadFailed → writer.new ≡ writer.old }

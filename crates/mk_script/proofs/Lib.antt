@@ -9,7 +9,6 @@ pub mod RowLemmas
 pub mod ReaderLemmas
 pub mod FileLemmas
 pub mod LawLemmas
-pub mod DecimalTotal
 pub mod TotalLemmas
 pub mod LimitLemmas
 pub mod ThreadLemmas

@@ -19,7 +19,7 @@ use Rattle.mk_script.specs.Drafts.{Settings, Draft, Whole, Assembler, Decimal, S
 use Rattle.mk_script.specs.Meanings.{Meaning, NamedProgram, NamedCapture, Known, known}
 use Rattle.mk_script.specs.Scripts.{MeanBehind, SomeOutcome, script_of, fault_at}
 use Rattle.mk_script.specs.Statements.{Statement, statements}
-use Rattle.mk_script.proofs.DecimalTotal.{spelled_or_fault}
+use Rattle.bpf_insn.proofs.DecimalTotal.{spelled_or_fault}
 
 -- a meaning, or a fault
 abbrev Some_ : (Result Meaning ScriptFaultKind → Type 0) → Type 0

@@ -1,5 +1,5 @@
 -- What `run` shows of a script and its files: the events of one run of its cores, and the jobs that are left.
-use Rattle.std.specs.Prelude.{◌≡◌, ◌⊎◌, ◌++◌, ◌∷◌, ◌<◌, ℕ, All, List, Ok, Err, Some, codes, length, slice_get}
+use Rattle.std.specs.Prelude.{◌≡◌, ◌⊎◌, ◌++◌, ◌∷◌, ◌<◌, ℕ, All, List, Ok, Err, Some, length, slice_get}
 use Rattle.std.specs.List.{flat_map}
 use Rattle.std.specs.List.Sorted.{IsNonDecreasingBy, IsPermutation}
 use Rattle.rx_queue.specs.declared.job.Job.{Job}
@@ -16,6 +16,7 @@ use Rattle.mk_script.specs.declared.fault.ScriptFault.{ScriptFault}
 use Rattle.mk_script.specs.Scripts.{Stands}
 use Rattle.mk_script.specs.Threads.{for_threads}
 use Rattle.script_input.specs.Faults.{script_fault_line}
+use Rattle.console.specs.Reading.{ShowsTooLong}
 use Rattle.script_input.specs.Inputs.{AllShort, SomeLong}
 use Rattle.run_engine.specs.Work.{requests_of, jobs_of}
 
@@ -69,4 +70,4 @@ ShowsRunScript files input status text =
 abbrev pub Shows : List (List ℕ) → List ℕ → ℕ → List ℕ → Type 0
 Shows files input status text =
     (AllShort input files × ShowsRunScript files input status text)
-    ⊎ (SomeLong input files × (status ≡ 1) × (text ≡ codes "fault InputTooLong\n"))
+    ⊎ (SomeLong input files × ShowsTooLong status text)

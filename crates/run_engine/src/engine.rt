@@ -10,11 +10,11 @@ ghost use Rattle.run_engine.specs.Showing.{Shows, ShowsRun, ShowsRunScript};
 
 use crate::lines::{push_all_left, push_events};
 use crate::work::{Work, work_of};
-use console::{EngineFault, write_bytes};
+use console::{EngineFault, refuse_long, write_bytes};
 use core_join::{conclude, in_order};
 use core_threads::{BootFault, Ended, Gate, Halt, RunFault, boot, run_machine};
 use mk_script::{Item, Script, read_script};
-use script_input::{read_inputs, refuse, refuse_long};
+use script_input::{read_inputs, refuse};
 use std::alloc::{AllocError, Global};
 use std::io::{Read, Write};
 use std::sync::Wait;

@@ -1,7 +1,8 @@
 -- Inputs that are read one after the other.
-use Rattle.std.proofs.Common.{◌≡◌, ◌<◌, ℕ, zero, suc, Bool, true, false, Option, Some, None, List, [], ◌∷◌, ◌++◌, length, map, slice_get, refl, ap, not, ◌≤◌}
+use Rattle.std.proofs.Common.{◌≡◌, ◌<◌, ℕ, zero, suc, Bool, true, false, Option, Some, None, List, [], ◌∷◌, ◌++◌, length, map, slice_get, refl, ap, not, ◌≤◌, inl, inr, arith}
+use Rattle.console.specs.declared.input.TheConstants.{INPUT_BYTES}
 use Rattle.console.specs.Reading.{IsInput}
-use Rattle.script_input.specs.Inputs.{AreInputs, AllWithin, OneLonger, Kept, ReadSo}
+use Rattle.script_input.specs.Inputs.{AllShort, AllWithin, AreInputs, Kept, OneLonger, ReadSo, SomeLong}
 
 some_input : (known : Option (List ℕ)) → (input : List ℕ) × IsInput known input
 some_input None = ([], cc)
@@ -17,7 +18,7 @@ inputs_push [] (i ∷ is) k input are is' = absurd are
 inputs_push (k' ∷ ks) [] k input are is = absurd are
 inputs_push (k' ∷ ks) (i ∷ is) k input are is' = (are.0, inputs_push ks is k input are.1 is')
 
-within_push : (inputs : List (List ℕ)) (input : List ℕ) → AllWithin inputs → length input ≤ 67108864 → AllWithin (inputs ++ input ∷ [])
+within_push : (inputs : List (List ℕ)) (input : List ℕ) → AllWithin inputs → length input ≤ INPUT_BYTES → AllWithin (inputs ++ input ∷ [])
 within_push [] input all le = (le, cc)
 within_push (i ∷ is) input all le = (all.0, within_push is input all.1 le)
 
@@ -29,7 +30,7 @@ longer_push inputs input long = (long.0, long.1, front inputs long.0 long.2, lon
     front (i ∷ is) zero h = h
     front (i ∷ is) (suc k) h = front is k h
 
-longer_last : (known : List (Option (List ℕ))) (inputs : List (List ℕ)) (input : List ℕ) → AreInputs known inputs → 67108864 < length input → OneLonger (inputs ++ input ∷ [])
+longer_last : (known : List (Option (List ℕ))) (inputs : List (List ℕ)) (input : List ℕ) → AreInputs known inputs → INPUT_BYTES < length input → OneLonger (inputs ++ input ∷ [])
 longer_last known inputs input are lt = (length inputs, input, at inputs, lt)
   where
     at : (is : List (List ℕ)) → slice_get (is ++ input ∷ []) (length is) ≡ Some input
@@ -48,3 +49,13 @@ skip_one known held k so = let input = some_input k in (so.0 ++ input.0 ∷ [], 
 pub map_push : {A B : Type 0} (f : A → B) (xs : List A) (x : A) → map f (xs ++ x ∷ []) ≡ map f xs ++ f x ∷ []
 map_push f [] x = refl
 map_push {A} {B} f (y ∷ xs) x = ap (λ (ys : List B). f y ∷ ys) (map_push f xs x)
+
+-- what is within the limit isn't longer
+none_longer : (files : List (List ℕ)) (k : ℕ) (file : List ℕ) → AllWithin files → slice_get files k ≡ Some file → length file ≤ INPUT_BYTES
+none_longer [] k file all at = absurd cc
+none_longer (f ∷ files) zero file all at = let same : f ≡ file = cc in omega (arith, ap length same, all.0)
+none_longer (f ∷ files) (suc k) file all at = none_longer files k file all.1 at
+
+pub not_long : (input : List ℕ) (files : List (List ℕ)) → AllShort input files → SomeLong input files → ⊥
+not_long input files short (inl long) = omega (arith, short.0, long)
+not_long input files short (inr long) = omega (arith, none_longer files long.0 long.1 short.1 long.2, long.3)

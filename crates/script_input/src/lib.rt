@@ -7,4 +7,4 @@ mod inputs;
 mod refusals;
 
 pub use inputs::{Inputs, read_inputs};
-pub use refusals::{refuse, refuse_long};
+pub use refusals::refuse;

@@ -1,24 +1,15 @@
 //! What is printed in place of what a script does.
 
-ghost use Rattle.std.specs.Prelude.{◌≡◌, ◌≢◌, codes, IfOk, IfErr, IsErrOf};
+ghost use Rattle.std.specs.Prelude.{◌≡◌, ◌≢◌, IfOk, IfErr, IsErrOf};
 ghost use Rattle.std.specs.Io.KnownBytes.{Appends};
 ghost use Rattle.console.specs.Matching.{IsPrintFault};
 ghost use Rattle.script_input.specs.Faults.{script_fault_line};
 
 use crate::faults::fault_line;
-use console::{EngineFault, write_bytes, write_text};
+use console::{EngineFault, write_bytes};
 use mk_script::{ScriptFault, ScriptFaultKind};
 use std::alloc::Global;
 use std::io::Write;
-
-/// Prints that an input is too long, and answers the status.
-pub fn refuse_long<W: Write>(writer: &mut W) -> Result<u8, EngineFault>
-    ensures shown { IfOk result (λ status. (status ≡ 1) × Appends (W.contents writer.old) (W.contents writer.new) (codes "fault InputTooLong\n")) }
-    ensures fault { IfErr result (λ e. e ≡ EngineFault.WriteFailed) }
-{
-    write_text(writer, "fault InputTooLong\n")?;
-    Ok(1)
-}
 
 /// Prints the line for a script's fault, and answers the status. A script that was refused memory is no refused input:
 /// `NoMemory`, with nothing written.

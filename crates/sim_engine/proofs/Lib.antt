@@ -3,3 +3,4 @@ pub mod Begin
 pub mod Settle
 pub mod Settling
 pub mod Printed
+pub mod Once

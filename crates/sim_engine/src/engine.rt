@@ -5,13 +5,14 @@ ghost use Rattle.std.specs.Io.KnownBytes.{Appends};
 ghost use Rattle.console.specs.Matching.{IsEngineFault, IsPrintFault};
 ghost use Rattle.mk_script.specs.Limits.{HasLimits};
 ghost use Rattle.mk_script.specs.declared.script.Item.{Item as GhostItem};
+ghost use Rattle.mk_script.specs.Scripts.{AreFiles};
 ghost use Rattle.script_input.specs.Inputs.{AreScriptInputs};
-ghost use Rattle.sim_engine.specs.Showing.{ShowsSim, ShowsPart, ShowsFront, ShowsItems, ShowsScript};
+ghost use Rattle.sim_engine.specs.Showing.{ShowsSim, ShowsOneStatus, ShowsPart, ShowsFront, ShowsItems, ShowsScript};
 
 use crate::running::perform_all;
-use console::EngineFault;
+use console::{EngineFault, refuse_long};
 use mk_script::{Script, read_script};
-use script_input::{read_inputs, refuse, refuse_long};
+use script_input::{read_inputs, refuse};
 use std::alloc::Global;
 use std::io::{Read, Write};
 use world_core::{BootFault, Channel, Messages, WorldOver};
@@ -31,6 +32,7 @@ pub fn run_sim<R: Read, F: Read + Drop, W: Write>(
 ) -> Result<u8, EngineFault>
     ensures shown { IfOk result (λ status. (text : List ℕ) × Appends (W.contents writer.old) (W.contents writer.new) text
         × ((input : List ℕ) × (inputs : List (List ℕ)) × AreScriptInputs (R.remaining reader.old) (map F.remaining files.items) input inputs × ShowsSim inputs input status text)) }
+    ensures only { (input : List ℕ) (inputs : List (List ℕ)) → AreFiles inputs → ShowsOneStatus (ShowsSim inputs input) }
     ensures fault { IfErr result IsEngineFault }
     ensures silent { IsErrOf result EngineFault.ReadFailed → writer.new ≡ writer.old }
     ensures part { IsErrOf result EngineFault.NoMemory → (writer.new ≡ writer.old) ⊎ ((text : List ℕ) × Appends (W.contents writer.old) (W.contents writer.new) text

@@ -15,3 +15,6 @@ returns-in_ok-line-in-Err c =
       | inl memory ↦ absurd (line.0 memory)
       | inr refused ↦ inr (_, refused, refl, search (rules, line.1))
     ]
+
+pub returns-in_ok-shown-in-Ok : goal.returns-in_ok-shown-in-Ok
+returns-in_ok-shown-in-Ok c = inl (c.in-Ok.program.items, c.in-Ok.ensures.found, rw c.as_slice.ensures.value at c.in_ok-shown-in-Ok.ensures)

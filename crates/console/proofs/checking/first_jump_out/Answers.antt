@@ -6,4 +6,4 @@ pub loop-pc-preserved : goal.loop-pc-preserved
 loop-pc-preserved c = below_more _ _ c.loop-pc.invariant (c.jumps_out_at.ensures.stays (λ t. let e = c.if-jumps_out_at.false in cc))
 
 pub returns : goal.returns
-returns c = λ pc broken. c.loop-pc.invariant pc (omega (arith, FormAt-inside c.args.program.now pc broken.1.0 broken.1.2)) broken
+returns c = λ pc broken. c.loop-pc.invariant pc (omega (arith, FormAt-inside c.args.program.now pc broken.0 broken.2)) broken

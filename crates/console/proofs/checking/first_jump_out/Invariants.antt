@@ -1,7 +1,6 @@
 use Rattle.std.proofs.Common.{ℕ, ◌<◌}
-use Rattle.filter_verify.specs.declared.rules.Refusal.TheVariants.{JumpOut}
-use Rattle.filter_verify.specs.Rules.{BreaksAt}
+use Rattle.bpf_insn.specs.Program.{JumpsOut}
 use Rattle.console.proofs.checking.first_jump_out.Given as goal
 
 abbrev pub invariant-loop-pc : goal.invariant-loop-pc
-invariant-loop-pc l = (earlier : ℕ) → earlier < l.pc → BreaksAt l.program earlier (JumpOut earlier) → ⊥
+invariant-loop-pc l = (earlier : ℕ) → earlier < l.pc → JumpsOut l.program earlier → ⊥

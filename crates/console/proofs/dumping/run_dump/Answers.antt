@@ -1,12 +1,32 @@
-use Rattle.console.proofs.DumpingLemmas.{dump_long, dump_read, dump_part}
+use Rattle.std.proofs.Common.{refl, inr}
+use Rattle.console.specs.Dumping.{ShowsDump}
+use Rattle.console.proofs.DumpingLemmas.{dump_read, dump_part}
+use Rattle.console.proofs.MatchingLemmas.{shown_long}
+use Rattle.console.proofs.OnceLemmas.{dump_once}
+use Rattle.console.proofs.TakingLemmas.{capture_taken, on_ok}
 use Rattle.console.proofs.dumping.run_dump.Goals as goal
 
 pub returns-in_default-clause-shown : goal.returns-in_default-clause-shown
 returns-in_default-clause-shown g c =
-    (_, c.in_ok-write_text.ensures.written, dump_long _ _ (rw c.in_default.is at c.in_ok-captured.ensures.read))
+    shown_long c.refuse_long.result _ _ _ _ ShowsDump (rw c.in_default.is at c.in_ok-captured.ensures.read) (λ input long. inr (long, (refl, refl))) c.refuse_long.ensures.shown
 
 pub returns-clause-part : goal.returns-clause-part
 returns-clause-part g c = λ memory.
     let part = rw c.as_slice-packets.ensures at (c.dump.ensures.part memory) in
     let read = dump_read _ _ c.in-Some.captured (rw c.in-Some.is at c.in_ok-captured.ensures.read) in
     (part.0, dump_part _ _ _ _ _ read.1 read.2 part.1, part.2)
+
+pub returns-in_err-captured-clause-only : goal.returns-in_err-captured-clause-only
+returns-in_err-captured-clause-only g c = dump_once
+
+pub returns-in_default-clause-only : goal.returns-in_default-clause-only
+returns-in_default-clause-only g c = dump_once
+
+pub returns-clause-only : goal.returns-clause-only
+returns-clause-only g c = dump_once
+
+pub returns-in_default-clause-taken : goal.returns-in_default-clause-taken
+returns-in_default-clause-taken g c = on_ok c.refuse_long.result _ (capture_taken _ _ _ c.in_ok-captured.ensures.read)
+
+pub returns-clause-taken : goal.returns-clause-taken
+returns-clause-taken g c = on_ok c.dump.result _ (capture_taken _ _ _ c.in_ok-captured.ensures.read)

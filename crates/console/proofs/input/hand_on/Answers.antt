@@ -1,4 +1,6 @@
-use Rattle.std.proofs.Common.{[], arith}
+use Rattle.std.proofs.Common.{◌≡◌, [], Some, arith}
+use Rattle.pcap_reader.specs.declared.capture.CaptureFault.TheVariants.{NoMemory}
+use Rattle.pcap_reader.specs.Held.{held_fault}
 use Rattle.console.proofs.FeedingLemmas.{stopped_holds}
 use Rattle.console.proofs.input.hand_on.Goals as goal
 
@@ -9,5 +11,12 @@ returns-then-stopped-clause-holds c = λ fed held short.
 pub returns-in-Ok-clause-holds : goal.returns-in-Ok-clause-holds
 returns-in-Ok-clause-holds c = c.piece.ensures.holds []
 
-pub returns-in-Err : goal.returns-in-Err
-returns-in-Err c = record { stopped = λ _. (c.in-Err.field-0, c.in-Err.ensures.says); holds = c.piece.ensures.holds [] }
+pub returns-in_default : goal.returns-in_default
+returns-in_default c = record {
+  stopped = λ _. (c.in-Err.fault, c.in-Err.ensures.says);
+  holds = c.piece.ensures.holds [];
+  memory = λ _ refused.
+      let says : held_fault c.piece.new.self ≡ Some c.in-Err.fault = c.in-Err.ensures.says in
+      let same : c.in-Err.fault ≡ NoMemory = cc in
+      c.in_default.not-NoMemory same;
+}

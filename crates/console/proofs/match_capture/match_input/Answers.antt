@@ -1,11 +1,13 @@
-use Rattle.std.proofs.Common.{[], flat_map, sym, append-nil}
-use Rattle.console.specs.Matching.{outcome_line}
+use Rattle.std.proofs.Common.{[], flat_map, refl, sym, append-nil, inr, true}
+use Rattle.console.specs.Matching.{ShowsInput, outcome_line}
+use Rattle.console.proofs.MatchingLemmas.{shown_long}
+use Rattle.console.proofs.TakingLemmas.{on_ok, run_taken}
 use Rattle.console.proofs.CaptureLemmas.{capture_long, capture_ended, capture_part}
 use Rattle.console.proofs.match_capture.match_input.Goals as goal
 
 pub returns-then-not-branch-clause-shown : goal.returns-then-not-branch-clause-shown
 returns-then-not-branch-clause-shown g c =
-    (_, c.in_ok-write_text.ensures.written, capture_long _ _ _ _ _ _ c.in_ok-run_input.ensures.run c.if-not-branch.true)
+    shown_long c.refuse_long.result _ _ _ _ (ShowsInput c.args.program.now true) (capture_long _ _ _ _ _ _ c.in_ok-run_input.ensures.run c.if-not-branch.true) (λ input long. inr (long, (refl, refl))) c.refuse_long.ensures.shown
 
 pub returns-in_err-write_outcomes-clause-part : goal.returns-in_err-write_outcomes-clause-part
 returns-in_err-write_outcomes-clause-part g c = λ _.
@@ -24,3 +26,9 @@ returns-clause-part g c = λ memory.
       capture_part _ _ _ _ _ _ _ _ c.in_ok-run_input.ensures.run c.if-not-branch.false c.in_ok-fault.ensures.ends ([], sym (append-nil _)),
       rw (c.write_ending.ensures.part memory) written,
     )
+
+pub returns-then-not-branch-clause-taken : goal.returns-then-not-branch-clause-taken
+returns-then-not-branch-clause-taken g c = on_ok c.refuse_long.result _ (run_taken _ _ _ _ _ _ c.in_ok-run_input.ensures.run)
+
+pub returns-clause-taken : goal.returns-clause-taken
+returns-clause-taken g c = on_ok c.write_ending.result _ (run_taken _ _ _ _ _ _ c.in_ok-run_input.ensures.run)

@@ -1,5 +1,8 @@
-use Rattle.std.proofs.Common.{refl, inl, true, false}
+use Rattle.std.proofs.Common.{[], arith, refl, inl, true, false}
+use Rattle.console.proofs.FeedingLemmas.{consumes-nothing}
+use Rattle.console.proofs.BadCodeLemmas.{bad_code_once, good_not_bad}
 use Rattle.console.proofs.MatchingLemmas.{shown_of, part_of}
+use Rattle.console.proofs.OnceLemmas.{good_code_once}
 use Rattle.console.proofs.matching.run_match.Goals as goal
 
 pub returns-in-Err-clause-shown : goal.returns-in-Err-clause-shown
@@ -20,3 +23,51 @@ returns-clause-shown g c = rw c.if-pcap.false (shown_of _ _ c.in-Ok.program fals
 
 pub returns-clause-part : goal.returns-clause-part
 returns-clause-part g c = rw c.if-pcap.false (part_of _ _ c.in-Ok.program false _ _ _ _ (rw c.in-Ok.is at c.in_ok-program.ensures) c.match_input-else-pcap.ensures.part)
+
+pub returns-in_err-program-clause-only : goal.returns-in_err-program-clause-only
+returns-in_err-program-clause-only g c = good_code_once c.args.code.now c.args.pcap
+
+pub returns-in_err-program-clause-bad_only : goal.returns-in_err-program-clause-bad_only
+returns-in_err-program-clause-bad_only g c = bad_code_once c.args.code.now
+
+pub returns-in_err-program-clause-good_or_bad : goal.returns-in_err-program-clause-good_or_bad
+returns-in_err-program-clause-good_or_bad g c = good_not_bad c.args.code.now
+
+pub returns-in_err-write_text-in-Err-clause-only : goal.returns-in_err-write_text-in-Err-clause-only
+returns-in_err-write_text-in-Err-clause-only g c = good_code_once c.args.code.now c.args.pcap
+
+pub returns-in_err-write_text-in-Err-clause-bad_only : goal.returns-in_err-write_text-in-Err-clause-bad_only
+returns-in_err-write_text-in-Err-clause-bad_only g c = bad_code_once c.args.code.now
+
+pub returns-in_err-write_text-in-Err-clause-good_or_bad : goal.returns-in_err-write_text-in-Err-clause-good_or_bad
+returns-in_err-write_text-in-Err-clause-good_or_bad g c = good_not_bad c.args.code.now
+
+pub returns-in-Err-clause-only : goal.returns-in-Err-clause-only
+returns-in-Err-clause-only g c = good_code_once c.args.code.now c.args.pcap
+
+pub returns-in-Err-clause-bad_only : goal.returns-in-Err-clause-bad_only
+returns-in-Err-clause-bad_only g c = bad_code_once c.args.code.now
+
+pub returns-in-Err-clause-good_or_bad : goal.returns-in-Err-clause-good_or_bad
+returns-in-Err-clause-good_or_bad g c = good_not_bad c.args.code.now
+
+pub returns-then-pcap-clause-only : goal.returns-then-pcap-clause-only
+returns-then-pcap-clause-only g c = good_code_once c.args.code.now c.args.pcap
+
+pub returns-then-pcap-clause-bad_only : goal.returns-then-pcap-clause-bad_only
+returns-then-pcap-clause-bad_only g c = bad_code_once c.args.code.now
+
+pub returns-then-pcap-clause-good_or_bad : goal.returns-then-pcap-clause-good_or_bad
+returns-then-pcap-clause-good_or_bad g c = good_not_bad c.args.code.now
+
+pub returns-clause-only : goal.returns-clause-only
+returns-clause-only g c = good_code_once c.args.code.now c.args.pcap
+
+pub returns-clause-bad_only : goal.returns-clause-bad_only
+returns-clause-bad_only g c = bad_code_once c.args.code.now
+
+pub returns-clause-good_or_bad : goal.returns-clause-good_or_bad
+returns-clause-good_or_bad g c = good_not_bad c.args.code.now
+
+pub returns-in-Err-clause-taken : goal.returns-in-Err-clause-taken
+returns-in-Err-clause-taken g c = ([], consumes-nothing _, omega arith)

@@ -9,6 +9,7 @@ returns-then-count-taken-clause-run g c = (
   c.loop.invariant.so.given ++ take c.in-Ok.count c.read.new.buf,
   consumes-then _ _ _ _ _ c.loop.invariant.so.lost c.in-Ok.ensures.bytes.0,
   simp (length-append, length-take-le) (omega (arith, c.in-Ok.ensures.bound, c.loop.invariant.so.count)),
+  simp (length-append, length-take-le) (omega (arith, c.in-Ok.ensures.bound, c.loop.invariant.so.count, c.loop.invariant.within)),
 )
 
 pub returns-then-count-taken-clause-taken : goal.returns-then-count-taken-clause-taken

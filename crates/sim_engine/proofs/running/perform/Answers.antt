@@ -13,7 +13,7 @@ returns-in_ok-op-in-Ask g c = rw c.in-Ask.is (on_ok c.push.result c.push.ensures
   [],
   (
     ap (sim c.args.world.now) pushed ∙ ap (λ (rs : List Request). the_sim c.args.world.now rs)
-        (left_push c.args.requests.now (record { home = c.in-Ask.home; op = c.in_ok-op-in-Ask.op }) ∙ ap (λ (op : Op). left c.args.requests.now ++ record { home = c.in-Ask.home; op = op } ∷ []) c.in_ok-op-in-Ask.ensures),
+        (left_push c.args.requests.now (record { home = c.in-Ask.home; op = c.in_ok-op-in-Ask.op }) ∙ ap (λ (op : Op). left c.args.requests.now ++ record { home = c.in-Ask.home; op = op } ∷ []) c.in_ok-op-in-Ask.ensures.equal),
     refl,
   ),
   sym (append-nil c.args.text.now.items),
