@@ -1,6 +1,8 @@
 -- What `draw` shows of an input: the picture of its trace, or its first bad line.
 use Rattle.std.specs.Prelude.{◌≡◌, Bool, true, false, ℕ, ◌<◌, ◌≤◌, ◌⊎◌, List, ◌++◌, length, codes, Result, Ok, Err}
 use Rattle.std.specs.Fmt.{decimal}
+use Rattle.console.specs.declared.input.TheConstants.{INPUT_BYTES}
+use Rattle.console.specs.Reading.{ShowsTooLong}
 use Rattle.trace_lines.specs.Lines.{Shown}
 use Rattle.trace_lines.specs.Traces.{trace_of}
 use Rattle.draw_engine.specs.Svg.{svg}
@@ -21,5 +23,5 @@ Shows plain (Err number) status text = (status ≡ 1) × (text ≡ bad_line numb
 -- an input's length has a limit
 abbrev pub ShowsDraw : Bool → List ℕ → ℕ → List ℕ → Type 0
 ShowsDraw plain input status text =
-    ((length input ≤ 67108864) × Shows plain (trace_of input) status text)
-    ⊎ ((67108864 < length input) × (status ≡ 1) × (text ≡ codes "fault InputTooLong\n"))
+    ((length input ≤ INPUT_BYTES) × Shows plain (trace_of input) status text)
+    ⊎ ((INPUT_BYTES < length input) × ShowsTooLong status text)

@@ -11,7 +11,7 @@ ghost use Rattle.trace_lines.specs.Traces.{trace_of};
 use crate::svg::svg;
 use crate::text::draw_as_text;
 use console::{
-    EngineFault, INPUT_BYTES, INPUT_READS, Input, read_bounded, write_bytes, write_text,
+    EngineFault, INPUT_BYTES, INPUT_READS, Input, read_bounded, refuse_long, write_bytes,
 };
 use std::alloc::{AllocError, Global};
 use std::io::{Read, Write};
@@ -37,10 +37,7 @@ pub fn run_draw<R: Read, W: Write>(
     ensures silent { (result ≡ Err EngineFault.ReadFailed) ⊎ (result ≡ Err EngineFault.NoMemory) → writer.new ≡ writer.old }
 {
     match read_bounded(alloc, reader, INPUT_BYTES, INPUT_READS)? {
-        Input::TooLong => {
-            write_text(writer, "fault InputTooLong\n")?;
-            Ok(1)
-        }
+        Input::TooLong => refuse_long(writer),
         Input::Whole(input) => {
             let drawing = draw_text(alloc, plain, input.as_slice())?;
             write_bytes(writer, drawing.text.as_slice())?;

@@ -1,1 +1,3 @@
+pub mod Fronts
+pub mod Linking
 pub mod Outcomes

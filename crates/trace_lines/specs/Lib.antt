@@ -1,3 +1,4 @@
+pub mod Following
 pub mod Lines
 pub mod Links
 pub mod Traces

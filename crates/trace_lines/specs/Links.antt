@@ -1,7 +1,7 @@
 -- Which event sent the message that an event takes. Two-phase commit (Baumann et al., "The Multikernel", SOSP 2009) with
 -- requests of other cores: all messages go to or from core 0, and between two cores first in, first out.
-use Rattle.std.specs.Prelude.{ℕ, ◌+◌, ◌-◌, ◌==◌, ◌&&◌, not, if◌then◌else◌, min, max, Bool, List, [], ◌∷◌, ◌++◌, map, take, remove, slice_get, Option, Some, None, option_map}
-use Rattle.std.specs.List.{position_or_len}
+use Rattle.std.specs.Prelude.{ℕ, ◌+◌, ◌==◌, ◌&&◌, not, nat_le, if◌then◌else◌, min, max, Bool, false, List, [], ◌∷◌, ◌++◌, length, map, filter, take, slice_get, Option, Some, None, option_map}
+use Rattle.std.specs.List.{flat_map, enumerate_from}
 use Rattle.trace_lines.specs.declared.event.Act.{Act}
 use Rattle.trace_lines.specs.declared.event.Act.TheVariants as act
 use Rattle.trace_lines.specs.declared.event.Told.{Told}
@@ -37,62 +37,90 @@ ends_at (act.TakeUp core) t = Some (core, 0)
 ends_at (act.TakeDown core) t = Some (0, core)
 ends_at a t = None
 
--- the messages under way, in the order in which they were sent; the core whose request is under vote; and how many
--- acknowledgements are to come
-pub record State : Type 0 where
-  pub under_way : List Message
-  pub asker : ℕ
-  pub acks : ℕ
-
 abbrev pub message : Kind → ℕ → ℕ → ℕ → Message
 message k row from to = record { kind = k; from = from; to = to; row = row }
-
-abbrev pub is_between : ℕ → ℕ → Message → Bool
-is_between from to m = m.from == from && m.to == to
-
--- the place of the oldest message between two cores
-abbrev pub oldest : ℕ → ℕ → List Message → ℕ
-oldest from to messages = position_or_len (is_between from to) messages
-
--- the row of the event that sent it
-abbrev pub sender_of : Option (ℕ × ℕ) → List Message → Option ℕ
-sender_of None messages = None
-sender_of (Some ends) messages = option_map (λ m. m.row) (slice_get messages (oldest ends.0 ends.1 messages))
-
--- the messages without it
-abbrev pub without : Option (ℕ × ℕ) → List Message → List Message
-without None messages = messages
-without (Some ends) messages = remove messages (oldest ends.0 ends.1 messages)
-
--- The messages with these. No run has 64 under way; of a text that is no run's, further ones are lost.
-abbrev pub sent : List Message → List Message → List Message
-sent messages new = take 64 (messages ++ new)
 
 -- to each core but core 0
 abbrev pub to_others : ℕ → Kind → ℕ → List Message
 to_others highest k row = map (λ core. message k row 0 core) (take (min highest 7) (1 ∷ 2 ∷ 3 ∷ 4 ∷ 5 ∷ 6 ∷ 7 ∷ []))
 
--- after the last acknowledgement the core that asked is told, unless it is core 0
-abbrev pub reply : ℕ → ℕ → ℕ → List Message
-reply row asker acks = if acks == 1 && not (asker == 0) then message kind.Reply row 0 asker ∷ [] else []
+-- Lists of events that are past have the latest event first.
 
-abbrev pub posted : State → List Message → State
-posted s new = record { under_way = sent s.under_way new; asker = s.asker; acks = s.acks }
+-- the core whose request was put to the vote last, or core 0
+abbrev pub asker_after : Effect → ℕ → ℕ
+asker_after (Asks core) before = core
+asker_after e before = before
 
--- what an event at this row does to the state of a machine whose last core is this
-abbrev pub does : ℕ → ℕ → Effect → State → State
-does highest row Nothing s = s
-does highest row (Asks core) s = record { under_way = sent s.under_way (to_others highest kind.Prepare row); asker = core; acks = highest }
-does highest row (Decides k) s = posted s (to_others highest k row)
-does highest row (Down core k) s = posted s (message k row 0 core ∷ [])
-does highest row (Up core k) s = posted s (message k row core 0 ∷ [])
-does highest row Acked s = record { under_way = sent s.under_way (reply row s.asker s.acks); asker = s.asker; acks = s.acks - 1 }
+abbrev pub asker : List Event → ℕ
+asker [] = 0
+asker (e ∷ past) = asker_after (effect_at e.act e.told) (asker past)
 
-abbrev pub took : Option (ℕ × ℕ) → State → State
-took ends s = record { under_way = without ends s.under_way; asker = s.asker; acks = s.acks }
+-- how many acknowledgements core 0 took since
+abbrev pub acks_after : Effect → ℕ → ℕ
+acks_after (Asks core) before = 0
+acks_after Acked before = before + 1
+acks_after e before = before
 
-abbrev pub after : ℕ → ℕ → Event → State → State
-after highest row e s = does highest row (effect_at e.act e.told) (took (ends_at e.act e.told) s)
+abbrev pub acks : List Event → ℕ
+acks [] = 0
+acks (e ∷ past) = acks_after (effect_at e.act e.told) (acks past)
+
+-- at the last acknowledgement the core that asked is told, unless it is core 0
+abbrev pub reply : ℕ → List Event → List Message
+reply highest past = if acks past + 1 == highest && not (asker past == 0) then message kind.Reply (length past) 0 (asker past) ∷ [] else []
+
+-- what an event sends after these events, on a machine whose last core is this: at most one message to a core
+abbrev pub sends : ℕ → List Event → Effect → List Message
+sends highest past Nothing = []
+sends highest past (Asks core) = to_others highest kind.Prepare (length past)
+sends highest past (Decides k) = to_others highest k (length past)
+sends highest past (Down core k) = message k (length past) 0 core ∷ []
+sends highest past (Up core k) = message k (length past) core 0 ∷ []
+sends highest past Acked = reply highest past
+
+-- all messages that were sent, in order
+abbrev pub sent : ℕ → List Event → List Message
+sent highest [] = []
+sent highest (e ∷ past) = sent highest past ++ sends highest past (effect_at e.act e.told)
+
+abbrev pub is_between : ℕ → ℕ → Message → Bool
+is_between from to m = m.from == from && m.to == to
+
+-- those between two cores
+abbrev pub sent_between : ℕ → ℕ → ℕ → List Event → List Message
+sent_between highest from to past = filter (is_between from to) (sent highest past)
+
+-- an event takes a message between these two cores
+abbrev pub takes : ℕ → ℕ → Option (ℕ × ℕ) → Bool
+takes from to None = false
+takes from to (Some ends) = ends.0 == from && ends.1 == to
+
+-- How many messages between two cores were taken. Where all that were sent are taken, a further one was sent before the
+-- first event, and doesn't count.
+abbrev pub taken : ℕ → ℕ → ℕ → List Event → ℕ
+taken highest from to [] = 0
+taken highest from to (e ∷ past) =
+    if takes from to (ends_at e.act e.told) then min (taken highest from to past + 1) (length (sent_between highest from to past))
+    else taken highest from to past
+
+-- the row of the event that sent the message which an event takes: between two cores first in, first out
+abbrev pub sender : ℕ → List Event → Option (ℕ × ℕ) → Option ℕ
+sender highest past None = None
+sender highest past (Some ends) =
+    option_map (λ m. m.row) (slice_get (sent_between highest ends.0 ends.1 past) (taken highest ends.0 ends.1 past))
+
+-- a message that was sent after so many others is under way: those between the same cores that were sent before it are as many
+-- as were taken, or more
+abbrev pub is_under_way : ℕ → List Event → ℕ → Message → Bool
+is_under_way highest past place m =
+    nat_le (taken highest m.from m.to past) (length (filter (is_between m.from m.to) (take place (sent highest past))))
+
+abbrev pub kept : Bool → Message → List Message
+kept under m = if under then m ∷ [] else []
+
+-- the messages under way, in the order in which they were sent
+abbrev pub under_way : ℕ → List Event → List Message
+under_way highest past = flat_map (λ at. kept (is_under_way highest past at.0 at.1) at.1) (enumerate_from 0 (sent highest past))
 
 -- The picture
 
@@ -102,16 +130,19 @@ pub record Drawn : Type 0 where
   pub sender : Option ℕ
   pub shown : Shown
 
-abbrev pub drawn_from : ℕ → ℕ → State → List Shown → List Drawn
-drawn_from highest row s [] = []
-drawn_from highest row s (x ∷ xs) =
-    record { row = row; sender = sender_of (ends_at x.event.act x.event.told) s.under_way; shown = x }
-    ∷ drawn_from highest (row + 1) (after highest row x.event s) xs
+-- an event after these
+abbrev pub drawn_at : ℕ → List Event → Shown → Drawn
+drawn_at highest past x = record { row = length past; sender = sender highest past (ends_at x.event.act x.event.told); shown = x }
 
--- what is under way after all of them
-abbrev pub left_from : ℕ → ℕ → State → List Shown → List Message
-left_from highest row s [] = s.under_way
-left_from highest row s (x ∷ xs) = left_from highest (row + 1) (after highest row x.event s) xs
+-- each event after those before it
+abbrev pub drawn_from : ℕ → List Event → List Shown → List Drawn
+drawn_from highest past [] = []
+drawn_from highest past (x ∷ xs) = drawn_at highest past x ∷ drawn_from highest (x.event ∷ past) xs
+
+-- these events after those before them
+abbrev pub past_after : List Event → List Shown → List Event
+past_after past [] = past
+past_after past (x ∷ xs) = past_after (x.event ∷ past) xs
 
 -- the last core that an event names
 abbrev pub core_in : Act → ℕ
@@ -126,15 +157,12 @@ abbrev pub highest_from : ℕ → List Shown → ℕ
 highest_from so_far [] = so_far
 highest_from so_far (x ∷ xs) = highest_from (max so_far (core_in x.event.act)) xs
 
-abbrev pub nothing_sent : State
-nothing_sent = record { under_way = []; asker = 0; acks = 0 }
-
 -- the last core, each event with its sender, and what is under way at the end
 abbrev pub highest_of : List Shown → ℕ
 highest_of xs = highest_from 0 xs
 
 abbrev pub drawn_of : List Shown → List Drawn
-drawn_of xs = drawn_from (highest_of xs) 0 nothing_sent xs
+drawn_of xs = drawn_from (highest_of xs) [] xs
 
 abbrev pub left_of : List Shown → List Message
-left_of xs = left_from (highest_of xs) 0 nothing_sent xs
+left_of xs = under_way (highest_of xs) (past_after [] xs)

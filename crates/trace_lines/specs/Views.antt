@@ -4,9 +4,8 @@ use Rattle.std.specs.Prelude.{ℕ, List, map}
 use Rattle.trace_lines.specs.declared.lines.Line.{Line}
 use Rattle.trace_lines.specs.declared.lines.Read.{Read}
 use Rattle.trace_lines.specs.declared.lines.Read.TheVariants as read
-use Rattle.trace_lines.specs.declared.messages.State.{State as Kept}
 use Rattle.trace_lines.specs.declared.picture.Row.{Row}
-use Rattle.trace_lines.specs.Links.{State, Drawn}
+use Rattle.trace_lines.specs.Links.{Drawn}
 use Rattle.trace_lines.specs.Lines.{Shown, Said, Skipped, Bad, Done}
 
 abbrev pub texts : List (Bor (List ℕ)) → List (List ℕ)
@@ -19,9 +18,6 @@ abbrev pub said : Read → Said
 said read.Skipped = Skipped
 said read.Bad = Bad
 said (read.Done line) = Done (shown line)
-
-abbrev pub state_of : Kept → State
-state_of k = record { under_way = k.under_way.items; asker = k.asker; acks = k.acks }
 
 abbrev pub drawn : Row → Drawn
 drawn r = record { row = r.row; sender = r.sender; shown = shown r.line }

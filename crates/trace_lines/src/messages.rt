@@ -1,12 +1,13 @@
 //! The messages of a trace: which event sends which, and which event takes it.
 
-ghost use Rattle.std.specs.Prelude.{◌≡◌, ◌∷◌, [], OnOk, IfOk};
-ghost use Rattle.trace_lines.specs.declared.messages.Effect.TheVariants.{Acked};
+ghost use Rattle.std.specs.Prelude.{◌≡◌, ◌≤◌, ◌+◌, ◌-◌, ◌==◌, ◌&&◌, ◌∷◌, ◌++◌, ℕ, List, length, filter, min, take, slice_get, option_map, if◌then◌else◌, OnOk, IfOk};
+ghost use Rattle.std.specs.List.{position_or_len};
+ghost use Rattle.trace_lines.specs.declared.event.Event.{Event as Past};
+ghost use Rattle.trace_lines.specs.Following.{Follows, HasTaken, front, is_front};
 ghost use Rattle.trace_lines.specs.Links as spec;
-ghost use Rattle.trace_lines.specs.Views.{state_of};
 
 use crate::event::{Act, Event, Told};
-use std::alloc::AllocError;
+use std::alloc::{AllocError, Global};
 
 /// The words of the protocol.
 #[derive(Clone, Copy, Debug, PartialEq, Eq)]
@@ -46,17 +47,26 @@ pub struct Message {
     pub row: usize,
 }
 
-/// The most messages under way that are followed.
-const MOST: usize = 64;
-
 /// The cores but core 0.
 const OTHERS: [u16; 7] = [1, 2, 3, 4, 5, 6, 7];
 
-/// The messages under way, in the order in which they were sent.
+/// How far the messages between two cores were taken.
+#[derive(Clone, Copy)]
+pub(crate) struct Front {
+    pub from: u16,
+    pub to: u16,
+    /// All those before this place in the list of all messages were taken, and none from there on.
+    pub place: usize,
+}
+
+/// What the events before have sent and taken.
 #[derive(Drop)]
 pub(crate) struct State {
-    pub under_way: Vec<Message>,
-    /// The core whose request is under vote.
+    /// All messages, in the order in which they were sent.
+    pub messages: Vec<Message>,
+    /// A front for each two cores between which a message was taken.
+    pub fronts: Vec<Front>,
+    /// The core whose request was put to the vote last.
     pub asker: u16,
     /// How many acknowledgements are to come.
     pub acks: u16,
@@ -96,9 +106,10 @@ fn is_between(from: u16, to: u16, message: &Message) -> bool
     message.from == from && message.to == to
 }
 
-/// The place of the oldest message between two cores.
-fn oldest(from: u16, to: u16, messages: &[Message]) -> usize
-    ensures { result ≡ spec.oldest from to messages.now }
+/// The place of the first message between two cores, or the number of messages.
+fn first_between(from: u16, to: u16, messages: &[Message]) -> usize
+    ensures place { result ≡ position_or_len (spec.is_between from to) messages.now }
+    ensures within { result ≤ length messages.now }
 {
     messages
         .iter()
@@ -106,28 +117,73 @@ fn oldest(from: u16, to: u16, messages: &[Message]) -> usize
         .count()
 }
 
-/// Takes the message between two cores, and answers the place of its sender.
-fn take(messages: &mut Vec<Message>, ends: Option<(u16, u16)>) -> Option<usize>
-    ensures sender { result ≡ spec.sender_of ends messages.old.items }
-    ensures rest { messages.new.items ≡ spec.without ends messages.old.items }
+/// Up to where the messages between two cores were taken.
+fn front_of(fronts: &[Front], from: u16, to: u16) -> usize
+    ensures { result ≡ front from to fronts.now }
 {
-    let (from, to) = ends?;
-    let place = oldest(from, to, messages);
-    if place < messages.len() {
-        let message = messages.remove(place);
-        Some(message.row)
+    for front in fronts {
+        if front.from == from && front.to == to {
+            return front.place;
+        }
+    }
+    0
+}
+
+/// The place of the front between two cores, or the number of fronts.
+fn place_of_front(fronts: &[Front], from: u16, to: u16) -> usize
+    ensures place { result ≡ position_or_len (is_front from to) fronts.now }
+    ensures within { result ≤ length fronts.now }
+{
+    fronts
+        .iter()
+        .take_while(|f| !(f.from == from && f.to == to))
+        .count()
+}
+
+/// Says up to where they were.
+fn set_front(fronts: &mut Vec<Front>, set: Front) -> Result<(), AllocError>
+    ensures { OnOk result ((from to : ℕ) → front from to fronts.new.items
+        ≡ (if set.from == from && set.to == to then set.place else front from to fronts.old.items)) }
+{
+    let place = place_of_front(fronts, set.from, set.to);
+    if place < fronts.len() {
+        fronts[place] = set;
     } else {
-        None
+        fronts.push(set)?;
+    }
+    Ok(())
+}
+
+/// The row of the sender of the first message between two cores from a place on, and the place after that message.
+fn next_between(from: u16, to: u16, messages: &[Message], start: usize) -> (Option<usize>, usize)
+    requires { start ≤ length messages.now }
+    ensures sender { result.0 ≡ option_map (λ m. m.row) (slice_get (filter (spec.is_between from to) messages.now)
+        (length (filter (spec.is_between from to) (take start messages.now)))) }
+    ensures counted { length (filter (spec.is_between from to) (take result.1 messages.now))
+        ≡ min (length (filter (spec.is_between from to) (take start messages.now)) + 1) (length (filter (spec.is_between from to) messages.now)) }
+    ensures within { result.1 ≤ length messages.now }
+{
+    let place = start + first_between(from, to, &messages[start..]);
+    if place < messages.len() {
+        (Some(messages[place].row), place + 1)
+    } else {
+        (None, messages.len())
     }
 }
 
-/// Sends a message.
-fn send(messages: &mut Vec<Message>, message: Message) -> Result<(), AllocError>
-    ensures { OnOk result (messages.new.items ≡ spec.sent messages.old.items (message ∷ [])) }
+/// Takes the oldest message between two cores, and answers the row of its sender.
+fn take(state: &mut State, ends: Option<(u16, u16)>) -> Result<Option<usize>, AllocError>
+    requires { (from to : ℕ) → front from to state.old.fronts.items ≤ length state.old.messages.items }
+    ensures sender { IfOk result (λ row. (highest : ℕ) (past : List Past) → Follows highest past state.old → row ≡ spec.sender highest past ends) }
+    ensures taken { OnOk result ((highest : ℕ) (past : List Past) → Follows highest past state.old → HasTaken highest past ends state.new) }
 {
-    messages.push(message)?;
-    messages.truncate(MOST);
-    Ok(())
+    let Some((from, to)) = ends else {
+        return Ok(None);
+    };
+    let start = front_of(&state.fronts, from, to);
+    let (sender, place) = next_between(from, to, &state.messages, start);
+    set_front(&mut state.fronts, Front { from, to, place })?;
+    Ok(sender)
 }
 
 /// Sends a message to each core but core 0.
@@ -137,7 +193,7 @@ fn send_to_others(
     kind: Kind,
     row: usize,
 ) -> Result<(), AllocError>
-    ensures { OnOk result (messages.new.items ≡ spec.sent messages.old.items (spec.to_others highest kind row)) }
+    ensures { OnOk result (messages.new.items ≡ messages.old.items ++ spec.to_others highest kind row) }
 {
     let count = usize::from(highest).min(7);
     for to in &OTHERS[..count] {
@@ -148,13 +204,16 @@ fn send_to_others(
             row,
         })?;
     }
-    messages.truncate(MOST);
     Ok(())
 }
 
 /// Takes an acknowledgement into account.
 fn acknowledge(state: &mut State, row: usize) -> Result<(), AllocError>
-    ensures { OnOk result (state_of state.new ≡ spec.does 0 row Acked (state_of state.old)) }
+    ensures messages { OnOk result ((highest : ℕ) (past : List Past) → row ≡ length past → state.old.asker ≡ spec.asker past
+        → state.old.acks ≡ highest - spec.acks past → state.new.messages.items ≡ state.old.messages.items ++ spec.reply highest past) }
+    ensures acks { OnOk result (state.new.acks ≡ state.old.acks - 1) }
+    ensures asker { OnOk result (state.new.asker ≡ state.old.asker) }
+    ensures fronts { OnOk result (state.new.fronts.items ≡ state.old.fronts.items) }
 {
     if state.acks == 1 && state.asker != 0 {
         let message = Message {
@@ -163,27 +222,29 @@ fn acknowledge(state: &mut State, row: usize) -> Result<(), AllocError>
             to: state.asker,
             row,
         };
-        send(&mut state.under_way, message)?;
-    } else {
-        state.under_way.truncate(MOST);
+        state.messages.push(message)?;
     }
     state.acks = state.acks.saturating_sub(1);
     Ok(())
 }
 
-/// Does what an event at this place sends.
+/// Does what an event at this row sends.
 fn apply(state: &mut State, highest: u16, row: usize, effect: Effect) -> Result<(), AllocError>
-    ensures { OnOk result (state_of state.new ≡ spec.does highest row effect (state_of state.old)) }
+    ensures messages { OnOk result ((past : List Past) → row ≡ length past → state.old.asker ≡ spec.asker past
+        → state.old.acks ≡ highest - spec.acks past → state.new.messages.items ≡ state.old.messages.items ++ spec.sends highest past effect) }
+    ensures acks { OnOk result ((acks : ℕ) → state.old.acks ≡ highest - acks → state.new.acks ≡ highest - spec.acks_after effect acks) }
+    ensures asker { OnOk result (state.new.asker ≡ spec.asker_after effect state.old.asker) }
+    ensures fronts { OnOk result (state.new.fronts.items ≡ state.old.fronts.items) }
 {
     match effect {
         Effect::Nothing => Ok(()),
         Effect::Asks(core) => {
-            send_to_others(&mut state.under_way, highest, Kind::Prepare, row)?;
+            send_to_others(&mut state.messages, highest, Kind::Prepare, row)?;
             state.asker = core;
             state.acks = highest;
             Ok(())
         }
-        Effect::Decides(kind) => send_to_others(&mut state.under_way, highest, kind, row),
+        Effect::Decides(kind) => send_to_others(&mut state.messages, highest, kind, row),
         Effect::Down(core, kind) => {
             let message = Message {
                 kind,
@@ -191,7 +252,8 @@ fn apply(state: &mut State, highest: u16, row: usize, effect: Effect) -> Result<
                 to: core,
                 row,
             };
-            send(&mut state.under_way, message)
+            state.messages.push(message)?;
+            Ok(())
         }
         Effect::Up(core, kind) => {
             let message = Message {
@@ -200,24 +262,49 @@ fn apply(state: &mut State, highest: u16, row: usize, effect: Effect) -> Result<
                 to: 0,
                 row,
             };
-            send(&mut state.under_way, message)
+            state.messages.push(message)?;
+            Ok(())
         }
         Effect::Acked => acknowledge(state, row),
     }
 }
 
-/// Does an event at this place, and answers the place of the sender of the message that it takes.
+/// Does an event at this row, and answers the row of the sender of the message that it takes.
 pub(crate) fn follow(
     state: &mut State,
     highest: u16,
     row: usize,
     event: Event,
 ) -> Result<Option<usize>, AllocError>
-    ensures { IfOk result (λ sender. (sender ≡ spec.sender_of (spec.ends_at event.act event.told) state.old.under_way.items)
-        × (state_of state.new ≡ spec.after highest row event (state_of state.old))) }
+    requires { (from to : ℕ) → front from to state.old.fronts.items ≤ length state.old.messages.items }
+    ensures sender { IfOk result (λ sender. (past : List Past) → Follows highest past state.old
+        → sender ≡ spec.sender highest past (spec.ends_at event.act event.told)) }
+    ensures follows { OnOk result ((past : List Past) → row ≡ length past → Follows highest past state.old
+        → Follows highest (event ∷ past) state.new) }
 {
     let Event { act, told } = event;
-    let sender = take(&mut state.under_way, ends_at(act, told));
+    let sender = take(state, ends_at(act, told))?;
     apply(state, highest, row, effect_at(act, told))?;
     Ok(sender)
+}
+
+/// The messages under way.
+pub(crate) fn under_way(alloc: Global, state: &State) -> Result<Vec<Message>, AllocError>
+    ensures { IfOk result (λ left. (highest : ℕ) (past : List Past) → Follows highest past state.now → left.items ≡ spec.under_way highest past) }
+{
+    let mut left = Vec::new(alloc);
+    for (place, message) in state.messages.iter().enumerate() {
+        let under_way = front_of(&state.fronts, message.from, message.to) <= place;
+        push_if(&mut left, under_way, *message)?;
+    }
+    Ok(left)
+}
+
+fn push_if(left: &mut Vec<Message>, under_way: bool, message: Message) -> Result<(), AllocError>
+    ensures { OnOk result (left.new.items ≡ left.old.items ++ spec.kept under_way message) }
+{
+    if under_way {
+        left.push(message)?;
+    }
+    Ok(())
 }

@@ -6,7 +6,7 @@ ghost use Rattle.trace_lines.specs.Views.{drawn, shown};
 
 use crate::event::Act;
 use crate::lines::Line;
-use crate::messages::{Message, State, follow};
+use crate::messages::{Message, State, follow, under_way};
 use std::alloc::{AllocError, Global};
 
 /// An event of a picture.
@@ -54,6 +54,9 @@ fn highest(lines: &[Line<'_>]) -> u16
 }
 
 /// Finds the sender of each message that is taken, in time that grows with the number of events.
+///
+/// Between two cores messages are taken in the order in which they were sent. An event that takes one when none is under way
+/// has no sender: its message was sent before the first line.
 pub fn link_events<'a>(alloc: Global, lines: &[Line<'a>]) -> Result<Picture<'a>, AllocError>
     ensures highest { IfOk result (λ p. p.highest ≡ highest_of (map shown lines.now)) }
     ensures rows { IfOk result (λ p. map drawn p.rows.items ≡ drawn_of (map shown lines.now)) }
@@ -62,18 +65,20 @@ pub fn link_events<'a>(alloc: Global, lines: &[Line<'a>]) -> Result<Picture<'a>,
     let highest = highest(lines);
     let mut rows = Vec::new(alloc);
     let mut state = State {
-        under_way: Vec::new(alloc),
+        messages: Vec::new(alloc),
+        fronts: Vec::new(alloc),
         asker: 0,
-        acks: 0,
+        acks: highest,
     };
     for row in 0..lines.len() {
         let line = lines[row];
         let sender = follow(&mut state, highest, row, line.event)?;
         rows.push(Row { row, sender, line })?;
     }
+    let left = under_way(alloc, &state)?;
     Ok(Picture {
         highest,
         rows,
-        left: state.under_way,
+        left,
     })
 }

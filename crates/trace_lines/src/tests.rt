@@ -57,3 +57,46 @@ fn each_message_has_its_sender(rt: HostRuntime) -> Result<(), Fail> {
     assert_eq!(rt; picture.left.as_slice(), left.as_slice());
     Ok(())
 }
+
+/// Of part of a run: a message that was sent before the first line, and then one that is sent in it.
+const PART: [(&str, Option<usize>); 4] = [
+    ("take 1 0: commit 1 version 1\n", None),
+    ("start: prepared 2\n", None),
+    ("take 1 0: prepare 2 Yes\n", Some(1)),
+    ("take 0 1: ack 1\n", Some(0)),
+];
+
+#[test]
+fn a_message_from_before_has_no_sender(rt: HostRuntime) -> Result<(), Fail> {
+    let mut text = String::new(rt.alloc());
+    for (line, _) in PART {
+        text.push_str(line)?;
+    }
+    let Ok(lines) = read_trace(rt.alloc(), text.as_bytes()) else {
+        return Err(Fail::from("no trace"));
+    };
+    let picture = link_events(rt.alloc(), lines.as_slice())?;
+    for row in picture.rows.as_slice() {
+        assert_eq!(rt; Some(row.sender), PART.get(row.row).map(|line| line.1));
+    }
+    Ok(())
+}
+
+#[test]
+fn any_number_of_messages_is_followed(rt: HostRuntime) -> Result<(), Fail> {
+    let mut text = String::new(rt.alloc());
+    for _ in 0..100 {
+        text.push_str("submit 1: sent\n")?;
+    }
+    text.push_str("take 0 1: submit\n")?;
+    let Ok(lines) = read_trace(rt.alloc(), text.as_bytes()) else {
+        return Err(Fail::from("no trace"));
+    };
+    let picture = link_events(rt.alloc(), lines.as_slice())?;
+    assert_eq!(rt; picture.left.len(), 99);
+    assert_eq!(rt;
+        picture.rows.as_slice().last().map(|row| row.sender),
+        Some(Some(0))
+    );
+    Ok(())
+}

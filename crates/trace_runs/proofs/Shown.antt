@@ -9,22 +9,14 @@ use Rattle.sim_lines.specs.Events.{done_line}
 use Rattle.mk_script.specs.declared.script.Script.{Script}
 use Rattle.mk_script.specs.Scripts.{AreFiles, Stands}
 use Rattle.mk_script.proofs.LawLemmas.{one_outcome}
-use Rattle.script_input.specs.Inputs.{AllWithin, AllShort, SomeLong}
+use Rattle.script_input.specs.Inputs.{AllShort}
+use Rattle.script_input.proofs.Reading.{not_long}
 use Rattle.mk_script.specs.Threads.{for_simulation}
 use Rattle.sim_engine.specs.Showing.{ShowsItems, ShowsScript, ShowsSim}
 use Rattle.trace_text.specs.Traces.{traced_script}
 use Rattle.trace_runs.specs.Memory.{WasNotRefused}
 use Rattle.trace_runs.specs.Repeats.{DiffersByMemory, RanScript}
 use Rattle.trace_runs.proofs.Merged.{shown, only}
-
-none_longer : (files : List (List ℕ)) (k : ℕ) (file : List ℕ) → AllWithin files → slice_get files k ≡ Some file → length file ≤ 67108864
-none_longer [] k file all at = absurd cc
-none_longer (f ∷ files) zero file all at = let same : f ≡ file = cc in omega (arith, ap length same, all.0)
-none_longer (f ∷ files) (suc k) file all at = none_longer files k file all.1 at
-
-not_long : (input : List ℕ) (files : List (List ℕ)) → AllShort input files → SomeLong input files → ⊥
-not_long input files short (inl long) = omega (arith, short.0, long)
-not_long input files short (inr long) = omega (arith, none_longer files long.0 long.1 short.1 long.2, long.3)
 
 module _ (files : List (List ℕ)) (input : List ℕ) (script : Script) (budget : ℕ) (budgets : List ℕ) (end : Core0) (ends : List Other) (merged : List Stamped)
     (short : AllShort input files) (are_budgets : script.budgets ≡ budget ∷ budgets) (ran : RanScript budget budgets script.items end ends merged)

@@ -1,0 +1,193 @@
+-- The events of a picture, one after the other.
+use Rattle.std.proofs.Common.{◌≡◌, ℕ, suc, ◌+◌, ◌-◌, ◌<◌, ◌≤◌, ◌==◌, ◌&&◌, Bool, true, false, cond, if◌then◌else◌, List, [], ◌∷◌, ◌++◌, length, take, refl, ap, sym, ◌∙◌, subst, arith, append_assoc, length-append, inl, inr, Some, None}
+use Rattle.std.specs.Prelude.{filter, min, not, nat_le, slice_set}
+use Rattle.std.specs.List.{enumerate_from, flat_map, position_or_len}
+use Rattle.std.proofs.lemmas.List.{take-append-le}
+use Rattle.std.proofs.Math.Seq.{take-append-add, take-append_seam}
+use Rattle.std.proofs.lemmas.List.Elements.{filter-append}
+use Rattle.std.proofs.lemmas.Bool.{cases_lt, le-leb, lt-leb, eqb-true, and_parts}
+use Rattle.std.proofs.lemmas.Bool.Decides.{nat_tests}
+use Rattle.trace_lines.specs.declared.event.Event.{Event}
+use Rattle.trace_lines.specs.declared.messages.Effect.{Effect}
+use Rattle.trace_lines.specs.declared.messages.Front.{Front}
+use Rattle.trace_lines.specs.declared.messages.Message.{Message}
+use Rattle.trace_lines.specs.declared.messages.State.{State}
+use Rattle.trace_lines.specs.Lines.{Shown}
+use Rattle.trace_lines.specs.Links.{Drawn, acks, acks_after, asker, asker_after, drawn_from, effect_at, ends_at, is_between, is_under_way, kept, past_after, sends, sent, sent_between, taken, under_way}
+use Rattle.trace_lines.specs.Following.{Follows, HasTaken, front, is_front}
+use Rattle.trace_lines.proofs.Fronts.{parts_to}
+
+-- A front that is set
+
+twice : (b : Bool) (k m n : ℕ) → (if b then k else n) ≡ (if b then k else (if b then m else n))
+twice true k m n = refl
+twice false k m n = refl
+
+exchanged : (a b : Bool) (k m n : ℕ) → (a ≡ true → b ≡ false) → (if a then k else (if b then m else n)) ≡ (if b then m else (if a then k else n))
+exchanged true true k m n apart = absurd (let e = apart refl in cc)
+exchanged true false k m n apart = refl
+exchanged false b k m n apart = refl
+
+-- a front of the same cores
+same_cores : (x v : Front) (from to : ℕ) → is_front v.from v.to x ≡ true → is_front from to x ≡ is_front from to v
+same_cores x v from to same =
+    let both = and_parts (x.from == v.from) (x.to == v.to) same in
+    let e = eqb-true x.from v.from both.0 in
+    let f = eqb-true x.to v.to both.1 in
+    ap (λ n. n == from && x.to == to) e ∙ ap (λ n. v.from == from && n == to) f
+
+other_cores : (x v : Front) (from to : ℕ) → is_front v.from v.to x ≡ false → is_front from to x ≡ true → is_front from to v ≡ false
+other_cores x v from to other here =
+    let both = and_parts (x.from == from) (x.to == to) here in
+    let e = eqb-true x.from from both.0 in
+    let f = eqb-true x.to to both.1 in
+    grind (arith, nat_tests)
+
+set_step : (b : Bool) (v x : Front) (xs : List Front) (from to : ℕ) → is_front v.from v.to x ≡ b
+    → (position_or_len (is_front v.from v.to) xs < length xs → front from to (slice_set xs (position_or_len (is_front v.from v.to) xs) v) ≡ (if is_front from to v then v.place else front from to xs))
+    → cond (not b) (1 + position_or_len (is_front v.from v.to) xs) 0 < suc (length xs)
+    → front from to (slice_set (x ∷ xs) (cond (not b) (1 + position_or_len (is_front v.from v.to) xs) 0) v) ≡ (if is_front from to v then v.place else front from to (x ∷ xs))
+set_step true v x xs from to here h within =
+    rw (same_cores x v from to here) (twice (is_front from to v) v.place x.place (front from to xs))
+set_step false v x xs from to here h within =
+    let e : 1 + position_or_len (is_front v.from v.to) xs ≡ suc (position_or_len (is_front v.from v.to) xs) = omega arith in
+    rw (e, h (omega arith)) (exchanged (is_front from to x) (is_front from to v) x.place v.place (front from to xs) (other_cores x v from to here))
+
+set_first : (v : Front) (from to : ℕ) (fs : List Front) → position_or_len (is_front v.from v.to) fs < length fs
+    → front from to (slice_set fs (position_or_len (is_front v.from v.to) fs) v) ≡ (if is_front from to v then v.place else front from to fs)
+set_first v from to [] within = absurd (omega arith)
+set_first v from to (x ∷ xs) within = set_step (is_front v.from v.to x) v x xs from to refl (set_first v from to xs) within
+
+pub front-set : (v : Front) (fs : List Front) (place : ℕ) → place ≡ position_or_len (is_front v.from v.to) fs → place < length fs → (from to : ℕ)
+    → front from to (slice_set fs place v) ≡ (if is_front from to v then v.place else front from to fs)
+front-set v fs place at within from to =
+    let first = set_first v from to fs (subst (λ n. n < length fs) at within) in
+    subst (λ n. front from to (slice_set fs n v) ≡ (if is_front from to v then v.place else front from to fs)) (sym at) first
+
+push_step : (b : Bool) (v x : Front) (xs : List Front) (from to : ℕ) → is_front v.from v.to x ≡ b
+    → (length xs ≤ position_or_len (is_front v.from v.to) xs → front from to (xs ++ v ∷ []) ≡ (if is_front from to v then v.place else front from to xs))
+    → suc (length xs) ≤ cond (not b) (1 + position_or_len (is_front v.from v.to) xs) 0
+    → front from to (x ∷ (xs ++ v ∷ [])) ≡ (if is_front from to v then v.place else front from to (x ∷ xs))
+push_step true v x xs from to here h past = absurd (omega arith)
+push_step false v x xs from to here h past =
+    rw (h (omega arith)) (exchanged (is_front from to x) (is_front from to v) x.place v.place (front from to xs) (other_cores x v from to here))
+
+push_first : (v : Front) (from to : ℕ) (fs : List Front) → length fs ≤ position_or_len (is_front v.from v.to) fs
+    → front from to (fs ++ v ∷ []) ≡ (if is_front from to v then v.place else front from to fs)
+push_first v from to [] past = refl
+push_first v from to (x ∷ xs) past = push_step (is_front v.from v.to x) v x xs from to refl (push_first v from to xs) past
+
+pub front-push : (v : Front) (fs : List Front) (place : ℕ) → place ≡ position_or_len (is_front v.from v.to) fs → length fs ≤ place → (from to : ℕ)
+    → front from to (fs ++ v ∷ []) ≡ (if is_front from to v then v.place else front from to fs)
+front-push v fs place at past from to = push_first v from to fs (subst (λ n. length fs ≤ n) at past)
+
+-- An event
+
+-- one that takes no message
+pub nothing_taken : (highest : ℕ) (past : List Event) (state : State) → Follows highest past state → HasTaken highest past None state
+nothing_taken highest past state so = record { asker = so.asker; acks = so.acks; messages = so.messages; within = so.within; taken = so.taken }
+
+one_or_other : (b : Bool) (k n : ℕ) (P : ℕ → Type 0) → P k → P n → P (if b then k else n)
+one_or_other true k n P one other = one
+one_or_other false k n P one other = other
+
+taken_step : (b : Bool) (k n count more : ℕ) (p : Message → Bool) (ms : List Message) → (b ≡ true → length (filter p (take k ms)) ≡ more) → length (filter p (take n ms)) ≡ count
+    → length (filter p (take (if b then k else n) ms)) ≡ (if b then more else count)
+taken_step true k n count more p ms new old = new refl
+taken_step false k n count more p ms new old = old
+
+-- the oldest message between two cores is taken: their front goes on to this place
+pub one_taken : (highest : ℕ) (past : List Event) (from to place : ℕ) (old new : State) → Follows highest past old
+    → length (filter (is_between from to) (take place old.messages.items))
+    ≡ min (length (filter (is_between from to) (take (front from to old.fronts.items) old.messages.items)) + 1) (length (filter (is_between from to) old.messages.items))
+    → place ≤ length old.messages.items → new.messages.items ≡ old.messages.items → new.asker ≡ old.asker → new.acks ≡ old.acks
+    → ((f t : ℕ) → front f t new.fronts.items ≡ (if from == f && to == t then place else front f t old.fronts.items))
+    → HasTaken highest past (Some (from, to)) new
+one_taken highest past from to place old new so counted within messages asker acks fronts = record {
+  asker = asker ∙ so.asker;
+  acks = acks ∙ so.acks;
+  messages = messages ∙ so.messages;
+  within = λ f t. rw (messages, fronts f t) (one_or_other (from == f && to == t) place (front f t old.fronts.items) (λ n. n ≤ length old.messages.items) within (so.within f t));
+  taken = λ f t. rw (messages, fronts f t)
+      (taken_step (from == f && to == t) place (front f t old.fronts.items) (taken highest f t past) (min (taken highest f t past + 1) (length (sent_between highest f t past))) (is_between f t) old.messages.items
+      (λ here.
+      let both = and_parts (from == f) (to == t) here in
+      let e = eqb-true from f both.0 in
+      let g = eqb-true to t both.1 in
+      let c = subst (λ u. length (filter (is_between f u) (take place old.messages.items)) ≡ min (length (filter (is_between f u) (take (front f u old.fronts.items) old.messages.items)) + 1) (length (filter (is_between f u) old.messages.items))) g
+      (subst (λ u. length (filter (is_between u to) (take place old.messages.items)) ≡ min (length (filter (is_between u to) (take (front u to old.fronts.items) old.messages.items)) + 1) (length (filter (is_between u to) old.messages.items))) e counted) in
+      c ∙ ap (λ n. min (n + 1) (length (filter (is_between f t) old.messages.items))) (so.taken f t) ∙ ap (λ ms. min (taken highest f t past + 1) (length (filter (is_between f t) ms))) so.messages)
+      (so.taken f t));
+}
+
+-- what it sends follows
+pub follows_next : (highest : ℕ) (past : List Event) (event : Event) (effect : Effect) (mid new : State) → HasTaken highest past (ends_at event.act event.told) mid
+    → effect ≡ effect_at event.act event.told
+    → new.asker ≡ asker_after effect mid.asker → ((n : ℕ) → mid.acks ≡ highest - n → new.acks ≡ highest - acks_after effect n)
+    → new.messages.items ≡ mid.messages.items ++ sends highest past effect → new.fronts.items ≡ mid.fronts.items
+    → Follows highest (event ∷ past) new
+follows_next highest past event effect mid new so is asker_is acks_are messages fronts = record {
+  asker = asker_is ∙ ap (asker_after effect) so.asker ∙ ap (λ e. asker_after e (asker past)) is;
+  acks = acks_are (acks past) so.acks ∙ ap (λ e. highest - acks_after e (acks past)) is;
+  messages = messages ∙ ap (λ ms. ms ++ sends highest past effect) so.messages ∙ ap (λ e. sent highest past ++ sends highest past e) is;
+  within = λ f t. let inside = so.within f t in rw (fronts, messages, length-append) (omega arith);
+  taken = λ f t.
+      let same = take-append-le (front f t mid.fronts.items) mid.messages.items (sends highest past effect) (so.within f t) in
+      ap (λ fs. length (filter (is_between f t) (take (front f t fs) new.messages.items))) fronts
+      ∙ ap (λ ms. length (filter (is_between f t) (take (front f t mid.fronts.items) ms))) messages
+      ∙ ap (λ ms. length (filter (is_between f t) ms)) same ∙ so.taken f t;
+}
+
+-- The messages under way
+
+-- of a message that passes a test: it is at a front or after it, if as many that pass are before it as before the front
+after_front : (p : Message → Bool) (done rest : List Message) (m : Message) (k count : ℕ) → p m ≡ true
+    → length (filter p (take k (done ++ m ∷ rest))) ≡ count → nat_le k (length done) ≡ nat_le count (length (filter p done))
+after_front p done rest m k count passes counted = elim (cases_lt (length done) k) [
+  | inl past ↦
+      let one : length (filter p (m ∷ [])) ≡ 1 = rw passes refl in
+      let here : take (length done + 1) (done ++ m ∷ rest) ≡ done ++ m ∷ [] = take-append-add done (m ∷ rest) 1 in
+      let to : length (filter p (take (length done + 1) (done ++ m ∷ rest))) ≡ length (filter p done) + 1 = rw here (simp (filter-append, length-append) (omega (arith, one))) in
+      let e : length done + 1 + (k - (length done + 1)) ≡ k = omega arith in
+      let more = rw e at (parts_to p (length done + 1) (k - (length done + 1)) (done ++ m ∷ rest)) in
+      lt-leb k (length done) past ∙ sym (lt-leb count (length (filter p done)) (omega arith))
+  | inr before ↦
+      let here : take (length done) (done ++ m ∷ rest) ≡ done = take-append_seam done (m ∷ rest) in
+      let e : k + (length done - k) ≡ length done = omega arith in
+      let more = rw (e, here) at (parts_to p k (length done - k) (done ++ m ∷ rest)) in
+      le-leb k (length done) before ∙ sym (le-leb count (length (filter p done)) (omega arith))
+]
+
+between_own : (m : Message) → is_between m.from m.to m ≡ true
+between_own m = grind (arith, nat_tests)
+
+left_from : (highest : ℕ) (past : List Event) (state : State) → Follows highest past state → (done rest : List Message) → done ++ rest ≡ sent highest past
+    → flat_map (λ at. kept (nat_le (front at.1.from at.1.to state.fronts.items) at.0) at.1) (enumerate_from (length done) rest)
+    ≡ flat_map (λ at. kept (is_under_way highest past at.0 at.1) at.1) (enumerate_from (length done) rest)
+left_from highest past state so done [] whole = refl
+left_from highest past state so done (m ∷ rest) whole =
+    let counted : length (filter (is_between m.from m.to) (take (front m.from m.to state.fronts.items) (done ++ m ∷ rest))) ≡ taken highest m.from m.to past =
+    ap (λ ms. length (filter (is_between m.from m.to) (take (front m.from m.to state.fronts.items) ms))) (whole ∙ sym so.messages) ∙ so.taken m.from m.to in
+    let here = after_front (is_between m.from m.to) done rest m (front m.from m.to state.fronts.items) (taken highest m.from m.to past) (between_own m) counted in
+    let before : take (length done) (sent highest past) ≡ done = ap (take (length done)) (sym whole) ∙ take-append_seam done (m ∷ rest) in
+    let test : nat_le (front m.from m.to state.fronts.items) (length done) ≡ is_under_way highest past (length done) m =
+    here ∙ ap (λ ms. nat_le (taken highest m.from m.to past) (length (filter (is_between m.from m.to) ms))) (sym before) in
+    let longer : length (done ++ m ∷ []) ≡ length done + 1 = length-append done (m ∷ []) in
+    let later = rw longer at (left_from highest past state so (done ++ m ∷ []) rest (append_assoc done (m ∷ []) rest ∙ whole)) in
+    rw (test, later) refl
+
+pub all_left : (highest : ℕ) (past : List Event) (state : State) → Follows highest past state
+    → flat_map (λ at. kept (nat_le (front at.1.from at.1.to state.fronts.items) at.0) at.1) (enumerate_from 0 state.messages.items) ≡ under_way highest past
+all_left highest past state so =
+    ap (λ ms. flat_map (λ at. kept (nat_le (front at.1.from at.1.to state.fronts.items) at.0) at.1) (enumerate_from 0 ms)) so.messages
+    ∙ left_from highest past state so [] (sent highest past) refl
+
+-- The rows
+
+-- the rows so far, and the events that are still to be drawn
+pub record Linked (highest row : ℕ) (all : List Shown) (rows : List Drawn) (rest : List Shown) (state : State) : Type 0 where
+  pub past : List Event
+  pub counted : row ≡ length past
+  pub drawn : rows ++ drawn_from highest past rest ≡ drawn_from highest [] all
+  pub ends : past_after past rest ≡ past_after [] all
+  pub follows : Follows highest past state
