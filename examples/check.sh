@@ -44,6 +44,12 @@ draws() {
     count "$1-drawn" $?
 }
 
+# FILTER: its control flow is this text for Graphviz.
+graphs() {
+    ../mkdemux check --graph < "$1.asm" > "$made/printed" && cmp -s "$made/printed" "$1.dot"
+    count "$1-graph" $?
+}
+
 # SCRIPT MISSING FILE..: a file is missing, so nothing is printed, its name is on standard error, the status is 3, and all of
 # standard input is still there.
 misses() {
@@ -72,6 +78,7 @@ draws revoked
 draws replay
 draws veto
 draws home
+graphs web-or-dns
 misses files missing.pcap frames.pcap missing.pcap
 
 # An output that nobody reads any more ends the program with status 3, and without a word.
@@ -89,6 +96,14 @@ not_utf8() {
     ../mkdemux match "$(printf '\377')" < /dev/null > "$made/printed" 2> "$made/said"
     [ $? -eq 2 ] && [ ! -s "$made/printed" ] && grep -q '^Usage: ' "$made/said"
     count not-utf-8 $?
+}
+
+# Flags that can't stand beside each other are a fault of the command line.
+conflicts() {
+    for flags in 'match --explain --pcap 1,6_0_0_5' 'match --explain --stream 1,6_0_0_5' 'check --asm --graph'; do
+        ../mkdemux $flags < /dev/null > "$made/printed" 2> "$made/said"
+        [ $? -eq 2 ] && [ ! -s "$made/printed" ] && grep -q '^Usage: ' "$made/said" || return 1
+    done
 }
 
 # The words that the help of the commands lists are those that docs/messages.md explains.
@@ -109,6 +124,8 @@ unread() {
 
 closes
 not_utf8
+conflicts
+count conflicts $?
 unread
 words
 

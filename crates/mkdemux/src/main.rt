@@ -5,21 +5,21 @@
 //! where nobody reads the output any more.
 #![tactic(auto)]
 
-mod command_line;
 mod devices;
+mod performing;
 mod progress;
 mod usage;
 
+use clap::Error;
 use clap::error::ErrorKind;
-use clap::{ArgMatches, Error};
-use console::{EngineFault, run_check, run_dump, run_match, run_stream};
+use command_line::{Request, request_of};
+use console::EngineFault;
 use core_loop::Cause;
 use core_threads::{Free, Halt};
 use devices::{Named, Sink, Source};
-use draw_engine::run_draw;
+use performing::perform;
 use progress::Progress;
-use run_engine::{RunFailure, run_run};
-use sim_engine::run_sim;
+use run_engine::RunFailure;
 use std::fs::File;
 use std::io::{self, IsTerminal};
 use std::process::ExitCode;
@@ -44,12 +44,10 @@ fn status<T: Threads + Wait + Clock + Sync>(rt: &HostRuntime, threads: &T) -> u8
         Err(error) if error.kind() == io::ErrorKind::InvalidData => return not_utf8(rt),
         Err(_) => return failed(rt, "out of memory"),
     };
-    let Ok(command) = command_line::command(rt.alloc()) else {
-        return failed(rt, "out of memory");
-    };
-    match command.try_get_matches_from(words.as_slice()) {
-        Ok(matches) => dispatch(rt, threads, &matches),
-        Err(error) => not_a_command(rt, &error),
+    match request_of(rt.alloc(), words.as_slice()) {
+        Ok(Some(request)) => answer(rt, threads, &request),
+        Ok(None) => USAGE,
+        Err(error) => not_a_request(rt, &error),
     }
 }
 
@@ -58,55 +56,29 @@ fn words(rt: &HostRuntime) -> io::Result<Vec<String>> {
     Ok(std::env::args(rt)?.collect(rt.alloc())?)
 }
 
-/// Runs the command that was given.
-fn dispatch<T: Threads + Wait + Clock + Sync>(
+/// Opens the captures of a request in order, then performs it on standard input.
+fn answer<T: Threads + Wait + Clock + Sync>(
     rt: &HostRuntime,
     threads: &T,
-    matches: &ArgMatches,
+    request: &Request,
 ) -> u8 {
-    match matches.subcommand() {
-        Some((name, found)) if takes_files(name) => perform_with_files(rt, threads, name, found),
-        Some((name, found)) => perform(rt, threads, name, found, Vec::new(rt.alloc())),
-        None => USAGE,
-    }
-}
-
-/// Whether a command takes captures beside its script.
-fn takes_files(name: &str) -> bool {
-    name == "sim" || name == "run"
-}
-
-/// Opens the files in order, then runs the engine of a command on the script on standard input with them.
-fn perform_with_files<T: Threads + Wait + Clock + Sync>(
-    rt: &HostRuntime,
-    threads: &T,
-    name: &str,
-    found: &ArgMatches,
-) -> u8 {
-    match open_files(rt, found.get_strs("files").unwrap_or(&[])) {
-        Ok(files) => perform(rt, threads, name, found, files),
+    match open_files(rt, request.captures()) {
+        Ok(files) => answer_with(rt, threads, request, files),
         Err(fault) => not_opened(rt, fault),
     }
 }
 
-/// Runs the engine of a command on standard input and these files.
-fn perform<T: Threads + Wait + Clock + Sync>(
+/// Performs a request on standard input and these captures.
+fn answer_with<T: Threads + Wait + Clock + Sync>(
     rt: &HostRuntime,
     threads: &T,
-    name: &str,
-    found: &ArgMatches,
+    request: &Request,
     mut files: Vec<Named>,
 ) -> u8 {
-    invite(rt, name, found);
+    invite(rt, request);
     let mut source = Source::new(rt.stdin());
     let mut sink = Sink::new(rt.stdout());
-    let answer = match name {
-        "run" => run_threads(rt, threads, &mut files, &mut source, &mut sink),
-        _ => run_engine(rt, name, found, &mut files, &mut source, &mut sink).map_err(
-            RunFailure::Engine,
-        ),
-    };
-    match answer {
+    match performed(rt, threads, request, &mut files, &mut source, &mut sink) {
         Ok(status) => status,
         Err(RunFailure::Engine(EngineFault::ReadFailed)) => not_read(rt, &source, files.as_slice()),
         Err(RunFailure::Engine(EngineFault::WriteFailed)) if sink.is_closed() => FAILED,
@@ -120,69 +92,21 @@ fn perform<T: Threads + Wait + Clock + Sync>(
     }
 }
 
-/// Runs the engine of a command that has one thread.
-fn run_engine(
-    rt: &HostRuntime,
-    name: &str,
-    found: &ArgMatches,
-    files: &mut Vec<Named>,
-    source: &mut Source,
-    sink: &mut Sink,
-) -> Result<u8, EngineFault> {
-    match name {
-        "match" => run_packets(rt, found, source, sink),
-        "check" => run_check(rt.alloc(), found.get_flag("asm"), source, sink),
-        "dump" => run_dump(rt.alloc(), source, sink),
-        "draw" => run_draw(rt.alloc(), found.get_flag("text"), source, sink),
-        "sim" => run_script(rt, files, source, sink),
-        _ => Ok(USAGE),
-    }
-}
-
-/// Runs a filter on the packets of standard input.
-fn run_packets(
-    rt: &HostRuntime,
-    found: &ArgMatches,
-    source: &mut Source,
-    sink: &mut Sink,
-) -> Result<u8, EngineFault> {
-    let code = found.get_str("code").unwrap_or("").as_bytes();
-    let pcap = found.get_flag("pcap");
-    if found.get_flag("stream") {
-        run_stream(rt.alloc(), code, pcap, source, sink)
-    } else {
-        run_match(rt.alloc(), code, pcap, source, sink)
-    }
-}
-
-/// Runs the script on standard input with these files.
-fn run_script(
-    rt: &HostRuntime,
-    files: &mut Vec<Named>,
-    source: &mut Source,
-    sink: &mut Sink,
-) -> Result<u8, EngineFault> {
-    let Ok(lent) = files.iter_mut().collect(rt.alloc()) else {
-        return Err(EngineFault::NoMemory);
-    };
-    run_sim(rt.alloc(), lent, source, sink)
-}
-
-/// Runs the script on standard input with these files, a thread for each of its cores. Says on standard error how far it is, where
-/// that is a terminal.
-fn run_threads<T: Threads + Wait + Clock + Sync>(
+/// Performs a request. Says on standard error how far a run of threads is, where that is a terminal.
+fn performed<T: Threads + Wait + Clock + Sync>(
     rt: &HostRuntime,
     threads: &T,
+    request: &Request,
     files: &mut Vec<Named>,
     source: &mut Source,
     sink: &mut Sink,
 ) -> Result<u8, RunFailure> {
     let lent = files.iter_mut().collect(rt.alloc())?;
-    if !rt.stderr().is_terminal() {
-        return run_run(threads, rt.alloc(), &Free, lent, source, sink);
+    if !matches!(request, Request::Run { .. }) || !rt.stderr().is_terminal() {
+        return perform(threads, rt.alloc(), &Free, request, lent, source, sink);
     }
     let progress = Progress::new(rt);
-    let answer = run_run(threads, rt.alloc(), &progress, lent, source, sink);
+    let answer = perform(threads, rt.alloc(), &progress, request, lent, source, sink);
     progress.end();
     answer
 }
@@ -210,14 +134,15 @@ fn cause_words(cause: Cause) -> &'static str {
 }
 
 /// Says on standard error what is awaited, where standard input is a terminal.
-fn invite(rt: &HostRuntime, name: &str, found: &ArgMatches) {
-    let awaited = match name {
-        "match" if found.get_flag("pcap") => "a capture",
-        "match" => "packets, a line of hexadecimal digits each",
-        "check" => "a filter in assembler text",
-        "dump" => "a capture",
-        "draw" => "what sim or run printed",
-        _ => "a script",
+fn invite(rt: &HostRuntime, request: &Request) {
+    let awaited = match request {
+        Request::Match { pcap: true, .. } | Request::Dump => "a capture",
+        Request::Match { .. } | Request::Explain { .. } => {
+            "packets, a line of hexadecimal digits each"
+        }
+        Request::Check { .. } | Request::Graph => "a filter in assembler text",
+        Request::Draw { .. } => "what sim or run printed",
+        Request::Sim { .. } | Request::Run { .. } => "a script",
     };
     if rt.stdin().is_terminal() {
         let _ = eprintln!(rt; "mkdemux: reading {awaited} from the terminal, to its end (Ctrl-D)");
@@ -267,7 +192,7 @@ fn open_fault<'a>(name: &'a str, error: io::Error) -> OpenFault<'a> {
 }
 
 /// Prints help, the version or what is wrong with the command line.
-fn not_a_command(rt: &HostRuntime, error: &Error) -> u8 {
+fn not_a_request(rt: &HostRuntime, error: &Error) -> u8 {
     if let ErrorKind::OutOfMemory = error.kind() {
         return failed(rt, "out of memory");
     }

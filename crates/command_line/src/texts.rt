@@ -1,16 +1,13 @@
-//! The commands of the program, and their help.
-
-use clap::{Arg, ArgAction, Command};
-use std::alloc::{AllocError, Global};
+//! The texts of help.
 
 // The version, and the digest of the sources. dist/stamp.sh puts it in place of the text behind `sources`.
-const VERSION: &str =
+pub(crate) const VERSION: &str =
     "0.1.0 (sources no digest: this program was built without dist/stamp.sh ........)";
 
-const ABOUT: &str =
+pub(crate) const ABOUT: &str =
     "Run classic BPF filters on packets, and scripts on cores that replicate a table of filters, by engines that are proved";
 
-const EXIT_STATUS: &str = "\
+pub(crate) const EXIT_STATUS: &str = "\
 Exit status:
   0  done
   1  a refused input: its line is on standard output
@@ -20,9 +17,9 @@ Exit status:
 
 docs/messages.md has each word that is printed, with its meaning and its cure.";
 
-const MATCH_ABOUT: &str = "Run a filter on the packets of standard input";
+pub(crate) const MATCH_ABOUT: &str = "Run a filter on the packets of standard input";
 
-const MATCH_DETAILS: &str = "\
+pub(crate) const MATCH_DETAILS: &str = "\
 Run a filter on the packets of standard input.
 
 A packet is a line with an even number of hexadecimal digits of either case, two for each byte; an empty line is an
@@ -45,9 +42,17 @@ An input of more than 64 MiB prints `fault InputTooLong` alone, with status 1.
 With --stream the input may be of any length and come over any time. Each packet's line is written as soon as the packet is
 whole and what has been read is handled, and the command ends at the first line that is no packet, or at a fault of the
 capture, without reading on. It takes memory for the longest packet or line only; a line of 4 GiB is out of memory, status 3.
-Without --stream nothing is printed before the input has ended.";
+Without --stream nothing is printed before the input has ended.
 
-const MATCH_EXAMPLE: &str = "\
+With --explain each packet's line comes after the instructions that ran on it, each as in `check --asm` with the registers
+after it, in decimal:
+
+    lPC: INSTRUCTION A=N X=N
+
+The last one, which ends the run, leaves them as they were. Packets are lines then, and all that is printed is kept in
+memory to the end.";
+
+pub(crate) const MATCH_EXAMPLE: &str = "\
 Example: which of these packets are ARP?
 
     $ mkdemux match '4,40 0 0 12,21 0 1 2054,6 0 0 4294967295,6 0 0 0' <<END
@@ -65,6 +70,15 @@ Packets of a device, while they come:
 
     # tcpdump -U -w - | mkdemux match --stream --pcap \"$(tcpdump -ddd -y EN10MB arp)\"
 
+Why is this packet ARP?
+
+    $ echo ffffffffffff0011223344550806 |
+      mkdemux match --explain '4,40 0 0 12,21 0 1 2054,6 0 0 4294967295,6 0 0 0'
+    l0: ldh [12] A=2054 X=0
+    l1: jeq #2054, l2, l3 A=2054 X=0
+    l2: ret #4294967295 A=2054 X=0
+    4294967295 3
+
 Exit status: 0 done; 1 a refused CODE or input, whose line is on standard output; 2 a fault of the command line; 3 out of
 memory or a device that failed, with one line on standard error.
 
@@ -74,16 +88,20 @@ docs/messages.md has the meaning and the cure of each word that is printed:
   after `line N:`  BadHex
   after `fault`    BadMagic BadVersion InputTooLong TooLong TruncatedHeader TruncatedRecord";
 
-const CODE_HELP: &str =
+pub(crate) const CODE_HELP: &str =
     "The filter in decimal text: the number of instructions, then CODE JT JF K for each, parted by commas or newlines";
 
-const PCAP_HELP: &str = "Read a capture in place of hexadecimal lines";
+pub(crate) const PCAP_HELP: &str = "Read a capture in place of hexadecimal lines";
 
-const STREAM_HELP: &str = "Print each outcome while the input is read, which may be of any length";
+pub(crate) const STREAM_HELP: &str =
+    "Print each outcome while the input is read, which may be of any length";
 
-const CHECK_ABOUT: &str = "Assemble a filter";
+pub(crate) const EXPLAIN_HELP: &str =
+    "Print each instruction that ran, with the registers after it";
 
-const CHECK_DETAILS: &str = "\
+pub(crate) const CHECK_ABOUT: &str = "Assemble a filter";
+
+pub(crate) const CHECK_DETAILS: &str = "\
 Assemble the filter on standard input, and print it as the decimal text that `match` takes.
 
 The filter is written in the mnemonics of Linux's bpf_asm: a line has any number of labels, `name:`, and one instruction at
@@ -103,9 +121,14 @@ A text of more than 64 MiB prints `fault InputTooLong` alone, with status 1.
 The filter is assembled and not verified: `mkdemux match CODE < /dev/null` verifies it.
 
 With --asm it is printed as assembler text, a labelled line for each instruction. A filter with a jump to the place after
-its end has none: `refused JumpOut pc P` is printed, with status 1.";
+its end has none: `refused JumpOut pc P` is printed, with status 1.
 
-const CHECK_EXAMPLE: &str = "\
+With --graph its control flow is printed as text for Graphviz: a node for each instruction, as --asm prints it, and an arrow
+to each instruction that may be next, `true` or `false` after a test; a return is an ellipse, and `out` is past the end. The
+filter is verified. If it is refused, the title is the line by which `match` refuses it, the refused instruction is red, and
+the path on which a word is unwritten is bold; the status is 0 then too.";
+
+pub(crate) const CHECK_EXAMPLE: &str = "\
 Example: write a filter and run it
 
     $ cat > arp.asm <<END
@@ -116,19 +139,26 @@ Example: write a filter and run it
     END
     $ mkdemux match \"$(mkdemux check < arp.asm)\" < packets.hex
 
+Draw it:
+
+    $ mkdemux check --graph < arp.asm | dot -Tsvg > arp.svg
+
 Exit status: 0 done; 1 a refused text, whose line is on standard output; 2 a fault of the command line; 3 out of memory or
 a device that failed, with one line on standard error.
 
 docs/messages.md has the meaning and the cure of each word that is printed:
   after `line N:`  Backward Mnemonic NoLabel Number Operand TooFar TooLong TwiceLabel
-  after `refused`  JumpOut
+  after `refused`  Ancillary BadShift BadWord Empty JumpOut NoReturn Unwritten ZeroDivisor
   after `fault`    InputTooLong";
 
-const ASM_HELP: &str = "Print assembler text in place of decimal text";
+pub(crate) const ASM_HELP: &str = "Print assembler text in place of decimal text";
 
-const DUMP_ABOUT: &str = "Print the header and the packets of a capture";
+pub(crate) const GRAPH_HELP: &str =
+    "Print the control flow as text for Graphviz in place of decimal text";
 
-const DUMP_DETAILS: &str = "\
+pub(crate) const DUMP_ABOUT: &str = "Print the header and the packets of a capture";
+
+pub(crate) const DUMP_DETAILS: &str = "\
 Print the header and the packets of the capture on standard input.
 
 A capture is a classic pcap savefile, version 2.4, of either byte order, with micro- or nanoseconds. Its header and each
@@ -141,7 +171,7 @@ packet are a line, and a fault, if there is one, is the last line, with status 1
 A packet's HEX is what `match` reads; it is `-` where no bytes were captured. A capture of more than 64 MiB prints
 `fault InputTooLong` alone, with status 1.";
 
-const DUMP_EXAMPLE: &str = "\
+pub(crate) const DUMP_EXAMPLE: &str = "\
 Example: the packets of a capture as lines for `match`
 
     $ mkdemux dump < packets.pcap | sed -n 's/.* original [0-9]* //p' | sed 's/^-$//' > packets.hex
@@ -152,9 +182,9 @@ or a device that failed, with one line on standard error.
 docs/messages.md has the meaning and the cure of each word that is printed:
   after `fault`  BadMagic BadVersion InputTooLong TooLong TruncatedHeader TruncatedRecord";
 
-const SIM_ABOUT: &str = "Run a script on the model of the cores";
+pub(crate) const SIM_ABOUT: &str = "Run a script on the model of the cores";
 
-const SIM_DETAILS: &str = "\
+pub(crate) const SIM_DETAILS: &str = "\
 Run the script on standard input on the model of the cores, and print a line for each event.
 
 A script says how many cores there are, which filters and packets, what domains ask for and in which order messages are
@@ -194,7 +224,7 @@ The script is read whole before its first event. Its first fault is printed as `
 A script or a FILE of more than 64 MiB prints `fault InputTooLong` alone, with status 1. A FILE that can't be opened is named
 on standard error, with status 3.";
 
-const SIM_EXAMPLE: &str = "\
+pub(crate) const SIM_EXAMPLE: &str = "\
 Example: two filters for one endpoint, which gets the packet once, with the greatest verdict
 
     $ mkdemux sim <<END
@@ -222,9 +252,9 @@ docs/messages.md has the meaning and the cure of each word that is printed:
                    NotHolder NotOwner RightsExceed TableFull VersionsSpent
   after `fault`    InputTooLong NoneWaiting NoSuchCore NotIdle NotReady Nothing Outstanding Spent";
 
-const RUN_ABOUT: &str = "Run a script on cores that are threads";
+pub(crate) const RUN_ABOUT: &str = "Run a script on cores that are threads";
 
-const RUN_DETAILS: &str = "\
+pub(crate) const RUN_DETAILS: &str = "\
 Run the script on standard input on cores that are threads, each with its own replica of the table, and print one run that
 they did: a line for each event.
 
@@ -249,7 +279,7 @@ for each such packet, by its number. On a terminal standard error shows every se
 The first fault of a script is printed as by `sim`, with status 1; the words start, submit, startfor, take, settle, show and trace
 are unknown here, and a core number must be one of the script's.";
 
-const RUN_EXAMPLE: &str = "\
+pub(crate) const RUN_EXAMPLE: &str = "\
 Example: two cores; the packet waits for the second version, at which there is a filter
 
     $ mkdemux run <<END
@@ -286,9 +316,9 @@ docs/messages.md has the meaning and the cure of each word that is printed:
                    NotHolder NotOwner RightsExceed TableFull VersionsSpent
   after `fault`    InputTooLong";
 
-const DRAW_ABOUT: &str = "Draw what sim or run printed";
+pub(crate) const DRAW_ABOUT: &str = "Draw what sim or run printed";
 
-const DRAW_DETAILS: &str = "\
+pub(crate) const DRAW_DETAILS: &str = "\
 Draw the trace on standard input, which is what `sim` or `run` printed, as a message sequence diagram: an SVG file.
 
 A column is a core, and a row an event, with its line. An arrow leads from the event that sent a message to the event that
@@ -303,7 +333,7 @@ The lines of tables and of packets that were left are not drawn, nor are events 
 that is no line of a trace prints `line N: BadLine` alone, with status 1, and a trace of more than 64 MiB
 `fault InputTooLong`.";
 
-const DRAW_EXAMPLE: &str = "\
+pub(crate) const DRAW_EXAMPLE: &str = "\
 Example: a picture of two-phase commit
 
     $ mkdemux sim < examples/two-phase.script | mkdemux draw > two-phase.svg
@@ -315,104 +345,6 @@ docs/messages.md has the meaning and the cure of each word that is printed:
   after `line N:`  BadLine
   after `fault`    InputTooLong";
 
-const TEXT_HELP: &str = "Draw text for a terminal in place of an SVG file";
+pub(crate) const TEXT_HELP: &str = "Draw text for a terminal in place of an SVG file";
 
-const FILES_HELP: &str = "Captures that the script names by number";
-
-/// The command line of the program.
-pub fn command<'a>(alloc: Global) -> Result<Command<'a>, AllocError> {
-    Command::new(alloc, "mkdemux")
-        .version(VERSION)
-        .about(ABOUT)
-        .after_help(EXIT_STATUS)
-        .subcommand_required(true)
-        .subcommand(matching(alloc)?)?
-        .subcommand(checking(alloc)?)?
-        .subcommand(dumping(alloc))?
-        .subcommand(simulating(alloc)?)?
-        .subcommand(running(alloc)?)?
-        .subcommand(drawing(alloc)?)
-}
-
-// `match CODE [--pcap] [--stream]`
-fn matching<'a>(alloc: Global) -> Result<Command<'a>, AllocError> {
-    let code = Arg::new(alloc, "code")
-        .value_name("CODE")
-        .help(CODE_HELP)
-        .required(true);
-    let pcap = Arg::new(alloc, "pcap")
-        .long("pcap")
-        .help(PCAP_HELP)
-        .action(ArgAction::SetTrue);
-    let stream = Arg::new(alloc, "stream")
-        .long("stream")
-        .help(STREAM_HELP)
-        .action(ArgAction::SetTrue);
-    Command::new(alloc, "match")
-        .about(MATCH_ABOUT)
-        .long_about(MATCH_DETAILS)
-        .after_help(MATCH_EXAMPLE)
-        .arg(code)?
-        .arg(pcap)?
-        .arg(stream)
-}
-
-// `check [--asm]`
-fn checking<'a>(alloc: Global) -> Result<Command<'a>, AllocError> {
-    let asm = Arg::new(alloc, "asm")
-        .long("asm")
-        .help(ASM_HELP)
-        .action(ArgAction::SetTrue);
-    Command::new(alloc, "check")
-        .about(CHECK_ABOUT)
-        .long_about(CHECK_DETAILS)
-        .after_help(CHECK_EXAMPLE)
-        .arg(asm)
-}
-
-// `dump`
-fn dumping<'a>(alloc: Global) -> Command<'a> {
-    Command::new(alloc, "dump")
-        .about(DUMP_ABOUT)
-        .long_about(DUMP_DETAILS)
-        .after_help(DUMP_EXAMPLE)
-}
-
-// `sim [FILE]...`
-fn simulating<'a>(alloc: Global) -> Result<Command<'a>, AllocError> {
-    Command::new(alloc, "sim")
-        .about(SIM_ABOUT)
-        .long_about(SIM_DETAILS)
-        .after_help(SIM_EXAMPLE)
-        .arg(files(alloc))
-}
-
-// `run [FILE]...`
-fn running<'a>(alloc: Global) -> Result<Command<'a>, AllocError> {
-    Command::new(alloc, "run")
-        .about(RUN_ABOUT)
-        .long_about(RUN_DETAILS)
-        .after_help(RUN_EXAMPLE)
-        .arg(files(alloc))
-}
-
-// `draw [--text]`
-fn drawing<'a>(alloc: Global) -> Result<Command<'a>, AllocError> {
-    let text = Arg::new(alloc, "text")
-        .long("text")
-        .help(TEXT_HELP)
-        .action(ArgAction::SetTrue);
-    Command::new(alloc, "draw")
-        .about(DRAW_ABOUT)
-        .long_about(DRAW_DETAILS)
-        .after_help(DRAW_EXAMPLE)
-        .arg(text)
-}
-
-// The captures of a script.
-fn files<'a>(alloc: Global) -> Arg<'a> {
-    Arg::new(alloc, "files")
-        .value_name("FILE")
-        .help(FILES_HELP)
-        .num_args(0..)
-}
+pub(crate) const FILES_HELP: &str = "Captures that the script names by number";

@@ -1,0 +1,186 @@
+-- What a parse gives of words that are known.
+use Rattle.std.proofs.Common.{◌≡◌, ◌∙◌, ap, refl, subst, sym, ℕ, Bool, true, false, List, [], ◌∷◌, ◌++◌, Option, Some, None}
+use Rattle.std.specs.Prelude.{⊤, codes, unwrap_or}
+use Rattle.std.specs.List.{All}
+use Rattle.std.proofs.lemmas.List.Elements.{All-contains, All-cons, All-nil}
+use Rattle.clap.specs.Words.{Row, Text, first_of, one_of, subcommand_of}
+use Rattle.clap.proofs.OnLiterals.{clap_on_literals}
+use Rattle.command_line.specs.declared.request.Request.{Request}
+use Rattle.command_line.specs.declared.request.Request.TheVariants.{Check, Graph, Dump, Draw}
+use Rattle.command_line.specs.Program.{program}
+use Rattle.command_line.specs.Requests.{AsksBy, BeginsWithDigit, IsExplain, IsMatch, Spells, check_words, draw_words, explain_words, match_words}
+use Rattle.command_line.proofs.OneRequest.{only_check, only_draw, only_dump, only_explain, only_graph, only_match, truth}
+
+-- a command was found, with this name, and of its rows this holds
+abbrev Finds : Option (Text × List Row) → Text → (List Row → Type 0) → Type 0
+Finds None name P = ⊥
+Finds (Some found) name P = (found.0 ≡ name) × P found.1
+
+abbrev HasMatch : Text → Bool → Bool → List Row → Type 0
+HasMatch code pcap stream rows =
+    (unwrap_or (first_of (codes "code") rows) [] ≡ code) × (one_of (codes "explain") rows ≡ Some (truth false)) × (one_of (codes "pcap") rows ≡ Some (truth pcap)) × (one_of (codes "stream") rows ≡ Some (truth stream))
+
+abbrev FindsMatch : Bool → Bool → ℕ → Type 0
+FindsMatch pcap stream digit =
+    (name rest : Text) → Finds (subcommand_of program (name ∷ match_words (digit ∷ rest) pcap stream)) (codes "match") (HasMatch (digit ∷ rest) pcap stream)
+
+finds_match_false_false : All (FindsMatch false false) (codes "0123456789")
+unfolding clap_on_literals
+finds_match_false_false =
+    All-cons (FindsMatch false false) 48 (49 ∷ 50 ∷ 51 ∷ 52 ∷ 53 ∷ 54 ∷ 55 ∷ 56 ∷ 57 ∷ []) (λ name rest. (refl, (refl, refl, refl, refl))) (
+    All-cons (FindsMatch false false) 49 (50 ∷ 51 ∷ 52 ∷ 53 ∷ 54 ∷ 55 ∷ 56 ∷ 57 ∷ []) (λ name rest. (refl, (refl, refl, refl, refl))) (
+    All-cons (FindsMatch false false) 50 (51 ∷ 52 ∷ 53 ∷ 54 ∷ 55 ∷ 56 ∷ 57 ∷ []) (λ name rest. (refl, (refl, refl, refl, refl))) (
+    All-cons (FindsMatch false false) 51 (52 ∷ 53 ∷ 54 ∷ 55 ∷ 56 ∷ 57 ∷ []) (λ name rest. (refl, (refl, refl, refl, refl))) (
+    All-cons (FindsMatch false false) 52 (53 ∷ 54 ∷ 55 ∷ 56 ∷ 57 ∷ []) (λ name rest. (refl, (refl, refl, refl, refl))) (
+    All-cons (FindsMatch false false) 53 (54 ∷ 55 ∷ 56 ∷ 57 ∷ []) (λ name rest. (refl, (refl, refl, refl, refl))) (
+    All-cons (FindsMatch false false) 54 (55 ∷ 56 ∷ 57 ∷ []) (λ name rest. (refl, (refl, refl, refl, refl))) (
+    All-cons (FindsMatch false false) 55 (56 ∷ 57 ∷ []) (λ name rest. (refl, (refl, refl, refl, refl))) (
+    All-cons (FindsMatch false false) 56 (57 ∷ []) (λ name rest. (refl, (refl, refl, refl, refl))) (
+    All-cons (FindsMatch false false) 57 [] (λ name rest. (refl, (refl, refl, refl, refl))) (All-nil (FindsMatch false false)))))))))))
+
+finds_match_false_true : All (FindsMatch false true) (codes "0123456789")
+unfolding clap_on_literals
+finds_match_false_true =
+    All-cons (FindsMatch false true) 48 (49 ∷ 50 ∷ 51 ∷ 52 ∷ 53 ∷ 54 ∷ 55 ∷ 56 ∷ 57 ∷ []) (λ name rest. (refl, (refl, refl, refl, refl))) (
+    All-cons (FindsMatch false true) 49 (50 ∷ 51 ∷ 52 ∷ 53 ∷ 54 ∷ 55 ∷ 56 ∷ 57 ∷ []) (λ name rest. (refl, (refl, refl, refl, refl))) (
+    All-cons (FindsMatch false true) 50 (51 ∷ 52 ∷ 53 ∷ 54 ∷ 55 ∷ 56 ∷ 57 ∷ []) (λ name rest. (refl, (refl, refl, refl, refl))) (
+    All-cons (FindsMatch false true) 51 (52 ∷ 53 ∷ 54 ∷ 55 ∷ 56 ∷ 57 ∷ []) (λ name rest. (refl, (refl, refl, refl, refl))) (
+    All-cons (FindsMatch false true) 52 (53 ∷ 54 ∷ 55 ∷ 56 ∷ 57 ∷ []) (λ name rest. (refl, (refl, refl, refl, refl))) (
+    All-cons (FindsMatch false true) 53 (54 ∷ 55 ∷ 56 ∷ 57 ∷ []) (λ name rest. (refl, (refl, refl, refl, refl))) (
+    All-cons (FindsMatch false true) 54 (55 ∷ 56 ∷ 57 ∷ []) (λ name rest. (refl, (refl, refl, refl, refl))) (
+    All-cons (FindsMatch false true) 55 (56 ∷ 57 ∷ []) (λ name rest. (refl, (refl, refl, refl, refl))) (
+    All-cons (FindsMatch false true) 56 (57 ∷ []) (λ name rest. (refl, (refl, refl, refl, refl))) (
+    All-cons (FindsMatch false true) 57 [] (λ name rest. (refl, (refl, refl, refl, refl))) (All-nil (FindsMatch false true)))))))))))
+
+finds_match_true_false : All (FindsMatch true false) (codes "0123456789")
+unfolding clap_on_literals
+finds_match_true_false =
+    All-cons (FindsMatch true false) 48 (49 ∷ 50 ∷ 51 ∷ 52 ∷ 53 ∷ 54 ∷ 55 ∷ 56 ∷ 57 ∷ []) (λ name rest. (refl, (refl, refl, refl, refl))) (
+    All-cons (FindsMatch true false) 49 (50 ∷ 51 ∷ 52 ∷ 53 ∷ 54 ∷ 55 ∷ 56 ∷ 57 ∷ []) (λ name rest. (refl, (refl, refl, refl, refl))) (
+    All-cons (FindsMatch true false) 50 (51 ∷ 52 ∷ 53 ∷ 54 ∷ 55 ∷ 56 ∷ 57 ∷ []) (λ name rest. (refl, (refl, refl, refl, refl))) (
+    All-cons (FindsMatch true false) 51 (52 ∷ 53 ∷ 54 ∷ 55 ∷ 56 ∷ 57 ∷ []) (λ name rest. (refl, (refl, refl, refl, refl))) (
+    All-cons (FindsMatch true false) 52 (53 ∷ 54 ∷ 55 ∷ 56 ∷ 57 ∷ []) (λ name rest. (refl, (refl, refl, refl, refl))) (
+    All-cons (FindsMatch true false) 53 (54 ∷ 55 ∷ 56 ∷ 57 ∷ []) (λ name rest. (refl, (refl, refl, refl, refl))) (
+    All-cons (FindsMatch true false) 54 (55 ∷ 56 ∷ 57 ∷ []) (λ name rest. (refl, (refl, refl, refl, refl))) (
+    All-cons (FindsMatch true false) 55 (56 ∷ 57 ∷ []) (λ name rest. (refl, (refl, refl, refl, refl))) (
+    All-cons (FindsMatch true false) 56 (57 ∷ []) (λ name rest. (refl, (refl, refl, refl, refl))) (
+    All-cons (FindsMatch true false) 57 [] (λ name rest. (refl, (refl, refl, refl, refl))) (All-nil (FindsMatch true false)))))))))))
+
+finds_match_true_true : All (FindsMatch true true) (codes "0123456789")
+unfolding clap_on_literals
+finds_match_true_true =
+    All-cons (FindsMatch true true) 48 (49 ∷ 50 ∷ 51 ∷ 52 ∷ 53 ∷ 54 ∷ 55 ∷ 56 ∷ 57 ∷ []) (λ name rest. (refl, (refl, refl, refl, refl))) (
+    All-cons (FindsMatch true true) 49 (50 ∷ 51 ∷ 52 ∷ 53 ∷ 54 ∷ 55 ∷ 56 ∷ 57 ∷ []) (λ name rest. (refl, (refl, refl, refl, refl))) (
+    All-cons (FindsMatch true true) 50 (51 ∷ 52 ∷ 53 ∷ 54 ∷ 55 ∷ 56 ∷ 57 ∷ []) (λ name rest. (refl, (refl, refl, refl, refl))) (
+    All-cons (FindsMatch true true) 51 (52 ∷ 53 ∷ 54 ∷ 55 ∷ 56 ∷ 57 ∷ []) (λ name rest. (refl, (refl, refl, refl, refl))) (
+    All-cons (FindsMatch true true) 52 (53 ∷ 54 ∷ 55 ∷ 56 ∷ 57 ∷ []) (λ name rest. (refl, (refl, refl, refl, refl))) (
+    All-cons (FindsMatch true true) 53 (54 ∷ 55 ∷ 56 ∷ 57 ∷ []) (λ name rest. (refl, (refl, refl, refl, refl))) (
+    All-cons (FindsMatch true true) 54 (55 ∷ 56 ∷ 57 ∷ []) (λ name rest. (refl, (refl, refl, refl, refl))) (
+    All-cons (FindsMatch true true) 55 (56 ∷ 57 ∷ []) (λ name rest. (refl, (refl, refl, refl, refl))) (
+    All-cons (FindsMatch true true) 56 (57 ∷ []) (λ name rest. (refl, (refl, refl, refl, refl))) (
+    All-cons (FindsMatch true true) 57 [] (λ name rest. (refl, (refl, refl, refl, refl))) (All-nil (FindsMatch true true)))))))))))
+
+finds_match : (pcap stream : Bool) → All (FindsMatch pcap stream) (codes "0123456789")
+finds_match false false = finds_match_false_false
+finds_match false true = finds_match_false_true
+finds_match true false = finds_match_true_false
+finds_match true true = finds_match_true_true
+
+abbrev HasExplain : Text → List Row → Type 0
+HasExplain code rows = (unwrap_or (first_of (codes "code") rows) [] ≡ code) × (one_of (codes "explain") rows ≡ Some (truth true))
+
+abbrev FindsExplain : ℕ → Type 0
+FindsExplain digit = (name rest : Text) → Finds (subcommand_of program (name ∷ explain_words (digit ∷ rest))) (codes "match") (HasExplain (digit ∷ rest))
+
+finds_explain : All FindsExplain (codes "0123456789")
+unfolding clap_on_literals
+finds_explain =
+    All-cons FindsExplain 48 (49 ∷ 50 ∷ 51 ∷ 52 ∷ 53 ∷ 54 ∷ 55 ∷ 56 ∷ 57 ∷ []) (λ name rest. (refl, (refl, refl))) (
+    All-cons FindsExplain 49 (50 ∷ 51 ∷ 52 ∷ 53 ∷ 54 ∷ 55 ∷ 56 ∷ 57 ∷ []) (λ name rest. (refl, (refl, refl))) (
+    All-cons FindsExplain 50 (51 ∷ 52 ∷ 53 ∷ 54 ∷ 55 ∷ 56 ∷ 57 ∷ []) (λ name rest. (refl, (refl, refl))) (
+    All-cons FindsExplain 51 (52 ∷ 53 ∷ 54 ∷ 55 ∷ 56 ∷ 57 ∷ []) (λ name rest. (refl, (refl, refl))) (
+    All-cons FindsExplain 52 (53 ∷ 54 ∷ 55 ∷ 56 ∷ 57 ∷ []) (λ name rest. (refl, (refl, refl))) (
+    All-cons FindsExplain 53 (54 ∷ 55 ∷ 56 ∷ 57 ∷ []) (λ name rest. (refl, (refl, refl))) (
+    All-cons FindsExplain 54 (55 ∷ 56 ∷ 57 ∷ []) (λ name rest. (refl, (refl, refl))) (
+    All-cons FindsExplain 55 (56 ∷ 57 ∷ []) (λ name rest. (refl, (refl, refl))) (
+    All-cons FindsExplain 56 (57 ∷ []) (λ name rest. (refl, (refl, refl))) (
+    All-cons FindsExplain 57 [] (λ name rest. (refl, (refl, refl))) (All-nil FindsExplain))))))))))
+
+abbrev HasFlag : Text → Bool → List Row → Type 0
+HasFlag flag given rows = one_of flag rows ≡ Some (truth given)
+
+abbrev HasCheck : Bool → List Row → Type 0
+HasCheck asm rows = (one_of (codes "graph") rows ≡ Some (truth false)) × (one_of (codes "asm") rows ≡ Some (truth asm))
+
+finds_check : (name : Text) (asm : Bool) → Finds (subcommand_of program (name ∷ check_words asm)) (codes "check") (HasCheck asm)
+unfolding clap_on_literals
+finds_check name false = (refl, (refl, refl))
+finds_check name true = (refl, (refl, refl))
+
+finds_graph : (name : Text) → Finds (subcommand_of program (name ∷ codes "check" ∷ codes "--graph" ∷ [])) (codes "check") (HasFlag (codes "graph") true)
+unfolding clap_on_literals
+finds_graph name = (refl, refl)
+
+finds_draw : (name : Text) (plain : Bool) → Finds (subcommand_of program (name ∷ draw_words plain)) (codes "draw") (HasFlag (codes "text") plain)
+unfolding clap_on_literals
+finds_draw name false = (refl, refl)
+finds_draw name true = (refl, refl)
+
+finds_dump : (name : Text) → Finds (subcommand_of program (name ∷ codes "dump" ∷ [])) (codes "dump") (λ rows. ⊤)
+unfolding clap_on_literals
+finds_dump name = (refl, tt)
+
+match_found : (found : Option (Text × List Row)) (r : Option Request) (code : Text) (pcap stream : Bool) → AsksBy found r
+    → Finds found (codes "match") (HasMatch code pcap stream) → IsMatch code pcap stream r
+match_found None r code pcap stream asks finds = absurd finds
+match_found (Some found) r code pcap stream asks finds = only_match found.0 found.1 r finds.0 asks code pcap stream finds.1.0 finds.1.1 finds.1.2 finds.1.3
+
+check_found : (found : Option (Text × List Row)) (r : Option Request) (asm : Bool) → AsksBy found r
+    → Finds found (codes "check") (HasCheck asm) → r ≡ Some (Check asm)
+check_found None r asm asks finds = absurd finds
+check_found (Some found) r asm asks finds = only_check found.0 found.1 r finds.0 asks asm finds.1.0 finds.1.1
+
+explain_found : (found : Option (Text × List Row)) (r : Option Request) (code : Text) → AsksBy found r → Finds found (codes "match") (HasExplain code) → IsExplain code r
+explain_found None r code asks finds = absurd finds
+explain_found (Some found) r code asks finds = only_explain found.0 found.1 r finds.0 asks code finds.1.0 finds.1.1
+
+graph_found : (found : Option (Text × List Row)) (r : Option Request) → AsksBy found r → Finds found (codes "check") (HasFlag (codes "graph") true) → r ≡ Some Graph
+graph_found None r asks finds = absurd finds
+graph_found (Some found) r asks finds = only_graph found.0 found.1 r finds.0 asks finds.1
+
+draw_found : (found : Option (Text × List Row)) (r : Option Request) (plain : Bool) → AsksBy found r
+    → Finds found (codes "draw") (HasFlag (codes "text") plain) → r ≡ Some (Draw plain)
+draw_found None r plain asks finds = absurd finds
+draw_found (Some found) r plain asks finds = only_draw found.0 found.1 r finds.0 asks plain finds.1
+
+dump_found : (found : Option (Text × List Row)) (r : Option Request) → AsksBy found r → Finds found (codes "dump") (λ rows. ⊤) → r ≡ Some Dump
+dump_found None r asks finds = absurd finds
+dump_found (Some found) r asks finds = only_dump found.0 found.1 r finds.0 asks
+
+pub matched : (words : List Text) (r : Option Request) → AsksBy (subcommand_of program words) r
+    → (code : Text) (pcap stream : Bool) → Spells words (match_words code pcap stream) → BeginsWithDigit code → IsMatch code pcap stream r
+matched words r asks code pcap stream spells (digit, rest, within, is) =
+    let law = All-contains (FindsMatch pcap stream) (codes "0123456789") digit (finds_match pcap stream) within spells.0 rest in
+    let words_are : words ≡ spells.0 ∷ match_words (digit ∷ rest) pcap stream = spells.1 ∙ ap (λ c. spells.0 ∷ match_words c pcap stream) is in
+    let asked = subst (λ w. AsksBy (subcommand_of program w) r) words_are asks in
+    subst (λ c. IsMatch c pcap stream r) (sym is) (match_found (subcommand_of program (spells.0 ∷ match_words (digit ∷ rest) pcap stream)) r (digit ∷ rest) pcap stream asked law)
+
+pub checked : (words : List Text) (r : Option Request) → AsksBy (subcommand_of program words) r → (asm : Bool) → Spells words (check_words asm) → r ≡ Some (Check asm)
+checked words r asks asm spells = check_found (subcommand_of program (spells.0 ∷ check_words asm)) r asm (subst (λ w. AsksBy (subcommand_of program w) r) spells.1 asks) (finds_check spells.0 asm)
+
+pub drawn : (words : List Text) (r : Option Request) → AsksBy (subcommand_of program words) r → (plain : Bool) → Spells words (draw_words plain) → r ≡ Some (Draw plain)
+drawn words r asks plain spells = draw_found (subcommand_of program (spells.0 ∷ draw_words plain)) r plain (subst (λ w. AsksBy (subcommand_of program w) r) spells.1 asks) (finds_draw spells.0 plain)
+
+pub dumped : (words : List Text) (r : Option Request) → AsksBy (subcommand_of program words) r → Spells words (codes "dump" ∷ []) → r ≡ Some Dump
+dumped words r asks spells = dump_found (subcommand_of program (spells.0 ∷ codes "dump" ∷ [])) r (subst (λ w. AsksBy (subcommand_of program w) r) spells.1 asks) (finds_dump spells.0)
+
+pub graphed : (words : List Text) (r : Option Request) → AsksBy (subcommand_of program words) r → Spells words (codes "check" ∷ codes "--graph" ∷ []) → r ≡ Some Graph
+graphed words r asks spells = graph_found (subcommand_of program (spells.0 ∷ codes "check" ∷ codes "--graph" ∷ [])) r (subst (λ w. AsksBy (subcommand_of program w) r) spells.1 asks) (finds_graph spells.0)
+
+pub explained : (words : List Text) (r : Option Request) → AsksBy (subcommand_of program words) r
+    → (code : Text) → Spells words (explain_words code) → BeginsWithDigit code → IsExplain code r
+explained words r asks code spells (digit, rest, within, is) =
+    let law = All-contains FindsExplain (codes "0123456789") digit finds_explain within spells.0 rest in
+    let words_are : words ≡ spells.0 ∷ explain_words (digit ∷ rest) = spells.1 ∙ ap (λ c. spells.0 ∷ explain_words c) is in
+    let asked = subst (λ w. AsksBy (subcommand_of program w) r) words_are asks in
+    subst (λ c. IsExplain c r) (sym is) (explain_found (subcommand_of program (spells.0 ∷ explain_words (digit ∷ rest))) r (digit ∷ rest) asked law)

@@ -1,0 +1,104 @@
+-- What a parse gives of words that are known, and what they ask for.
+use denote.Ref.{Bor}
+use Rattle.std.proofs.Common.{◌≡◌, ◌∙◌, ◌+◌, ap, ap₂, arith, refl, sym, subst, ℕ, Bool, true, false, List, [], ◌∷◌, Option, Some, None}
+use Rattle.std.specs.Prelude.{codes, unwrap_or}
+use Rattle.std.specs.List.{Contains}
+use Rattle.clap.specs.Words.{Row, Text, first_of, one_of}
+use Rattle.command_line.specs.declared.request.Request.{Request}
+use Rattle.command_line.specs.declared.request.Request.TheVariants.{Match, Explain, Check, Graph, Dump, Sim, Run, Draw}
+use Rattle.command_line.specs.Requests.{Asks, IsExplain, IsFlag, IsMatch, command_names}
+
+abbrev pub truth : Bool → Text
+truth true = codes "true"
+truth false = codes "false"
+
+pub flag_is : (name : Text) (rows : List Row) (given flag : Bool) → IsFlag name rows given → one_of name rows ≡ Some (truth flag) → given ≡ flag
+flag_is name rows given true is found = is.0 found
+flag_is name rows given false is found = is.1 found
+
+-- a number that tells the names of two commands apart
+abbrev key : Text → ℕ
+key (a ∷ b ∷ c ∷ rest) = a + b + b + c + c + c
+key other = 0
+
+apart : {X : Type 0} (name one other : Text) → name ≡ one → name ≡ other → (key one ≡ key other → ⊥) → X
+apart name one other is_one is_other differ = absurd (differ (ap key (sym is_one ∙ is_other)))
+
+-- a flag that was not given was not given
+not_given : {X : Type 0} (name : Text) (rows : List Row) (given flag : Bool) → IsFlag name rows given → one_of name rows ≡ Some (truth flag) → (given ≡ flag → ⊥) → X
+not_given name rows given flag is found differ = absurd (differ (flag_is name rows given flag is found))
+
+pub only_match : (name : Text) (rows : List Row) (r : Option Request) → name ≡ codes "match" → Asks name rows r
+    → (text : Text) (pcap stream : Bool) → unwrap_or (first_of (codes "code") rows) [] ≡ text → one_of (codes "explain") rows ≡ Some (truth false)
+    → one_of (codes "pcap") rows ≡ Some (truth pcap) → one_of (codes "stream") rows ≡ Some (truth stream) → IsMatch text pcap stream r
+only_match name rows (Some (Match code given_pcap given_stream)) is h text pcap stream is_code is_explain is_pcap is_stream =
+    (code, ap₂ (λ p s. Some (Match code p s)) (flag_is (codes "pcap") rows given_pcap pcap h.3 is_pcap) (flag_is (codes "stream") rows given_stream stream h.4 is_stream), h.1 ∙ is_code)
+only_match name rows (Some (Explain code)) is h text pcap stream is_code is_explain is_pcap is_stream =
+    not_given (codes "explain") rows true false h.2 is_explain (λ same. cc)
+only_match name rows (Some (Check asm)) is h text pcap stream is_code is_explain is_pcap is_stream = apart name (codes "check") (codes "match") h.0 is (λ (same : 610 ≡ 651). absurd (omega arith))
+only_match name rows (Some Graph) is h text pcap stream is_code is_explain is_pcap is_stream = apart name (codes "check") (codes "match") h.0 is (λ (same : 610 ≡ 651). absurd (omega arith))
+only_match name rows (Some Dump) is h text pcap stream is_code is_explain is_pcap is_stream = apart name (codes "dump") (codes "match") h is (λ (same : 661 ≡ 651). absurd (omega arith))
+only_match name rows (Some (Sim files)) is h text pcap stream is_code is_explain is_pcap is_stream = apart name (codes "sim") (codes "match") h.0 is (λ (same : 652 ≡ 651). absurd (omega arith))
+only_match name rows (Some (Run files)) is h text pcap stream is_code is_explain is_pcap is_stream = apart name (codes "run") (codes "match") h.0 is (λ (same : 678 ≡ 651). absurd (omega arith))
+only_match name rows (Some (Draw words)) is h text pcap stream is_code is_explain is_pcap is_stream = apart name (codes "draw") (codes "match") h.0 is (λ (same : 619 ≡ 651). absurd (omega arith))
+only_match name rows None is h text pcap stream is_code is_explain is_pcap is_stream = absurd (subst (λ t. Contains command_names t → ⊥) is h (0, omega arith, refl))
+
+pub only_explain : (name : Text) (rows : List Row) (r : Option Request) → name ≡ codes "match" → Asks name rows r
+    → (text : Text) → unwrap_or (first_of (codes "code") rows) [] ≡ text → one_of (codes "explain") rows ≡ Some (truth true) → IsExplain text r
+only_explain name rows (Some (Explain code)) is h text is_code is_explain = (code, refl, h.1 ∙ is_code)
+only_explain name rows (Some (Match code given_pcap given_stream)) is h text is_code is_explain =
+    not_given (codes "explain") rows false true h.2 is_explain (λ same. cc)
+only_explain name rows (Some (Check asm)) is h text is_code is_explain = apart name (codes "check") (codes "match") h.0 is (λ (same : 610 ≡ 651). absurd (omega arith))
+only_explain name rows (Some Graph) is h text is_code is_explain = apart name (codes "check") (codes "match") h.0 is (λ (same : 610 ≡ 651). absurd (omega arith))
+only_explain name rows (Some Dump) is h text is_code is_explain = apart name (codes "dump") (codes "match") h is (λ (same : 661 ≡ 651). absurd (omega arith))
+only_explain name rows (Some (Sim files)) is h text is_code is_explain = apart name (codes "sim") (codes "match") h.0 is (λ (same : 652 ≡ 651). absurd (omega arith))
+only_explain name rows (Some (Run files)) is h text is_code is_explain = apart name (codes "run") (codes "match") h.0 is (λ (same : 678 ≡ 651). absurd (omega arith))
+only_explain name rows (Some (Draw words)) is h text is_code is_explain = apart name (codes "draw") (codes "match") h.0 is (λ (same : 619 ≡ 651). absurd (omega arith))
+only_explain name rows None is h text is_code is_explain = absurd (subst (λ t. Contains command_names t → ⊥) is h (0, omega arith, refl))
+
+pub only_check : (name : Text) (rows : List Row) (r : Option Request) → name ≡ codes "check" → Asks name rows r
+    → (asm : Bool) → one_of (codes "graph") rows ≡ Some (truth false) → one_of (codes "asm") rows ≡ Some (truth asm) → r ≡ Some (Check asm)
+only_check name rows (Some (Check given)) is h asm is_graph is_asm = ap (λ a. Some (Check a)) (flag_is (codes "asm") rows given asm h.2 is_asm)
+only_check name rows (Some Graph) is h asm is_graph is_asm = not_given (codes "graph") rows true false h.1 is_graph (λ same. cc)
+only_check name rows (Some (Match code pcap stream)) is h asm is_graph is_asm = apart name (codes "match") (codes "check") h.0 is (λ (same : 651 ≡ 610). absurd (omega arith))
+only_check name rows (Some (Explain code)) is h asm is_graph is_asm = apart name (codes "match") (codes "check") h.0 is (λ (same : 651 ≡ 610). absurd (omega arith))
+only_check name rows (Some Dump) is h asm is_graph is_asm = apart name (codes "dump") (codes "check") h is (λ (same : 661 ≡ 610). absurd (omega arith))
+only_check name rows (Some (Sim files)) is h asm is_graph is_asm = apart name (codes "sim") (codes "check") h.0 is (λ (same : 652 ≡ 610). absurd (omega arith))
+only_check name rows (Some (Run files)) is h asm is_graph is_asm = apart name (codes "run") (codes "check") h.0 is (λ (same : 678 ≡ 610). absurd (omega arith))
+only_check name rows (Some (Draw text)) is h asm is_graph is_asm = apart name (codes "draw") (codes "check") h.0 is (λ (same : 619 ≡ 610). absurd (omega arith))
+only_check name rows None is h asm is_graph is_asm = absurd (subst (λ t. Contains command_names t → ⊥) is h (1, omega arith, refl))
+
+pub only_graph : (name : Text) (rows : List Row) (r : Option Request) → name ≡ codes "check" → Asks name rows r
+    → one_of (codes "graph") rows ≡ Some (truth true) → r ≡ Some Graph
+only_graph name rows (Some Graph) is h is_graph = refl
+only_graph name rows (Some (Check given)) is h is_graph = not_given (codes "graph") rows false true h.1 is_graph (λ same. cc)
+only_graph name rows (Some (Match code pcap stream)) is h is_graph = apart name (codes "match") (codes "check") h.0 is (λ (same : 651 ≡ 610). absurd (omega arith))
+only_graph name rows (Some (Explain code)) is h is_graph = apart name (codes "match") (codes "check") h.0 is (λ (same : 651 ≡ 610). absurd (omega arith))
+only_graph name rows (Some Dump) is h is_graph = apart name (codes "dump") (codes "check") h is (λ (same : 661 ≡ 610). absurd (omega arith))
+only_graph name rows (Some (Sim files)) is h is_graph = apart name (codes "sim") (codes "check") h.0 is (λ (same : 652 ≡ 610). absurd (omega arith))
+only_graph name rows (Some (Run files)) is h is_graph = apart name (codes "run") (codes "check") h.0 is (λ (same : 678 ≡ 610). absurd (omega arith))
+only_graph name rows (Some (Draw text)) is h is_graph = apart name (codes "draw") (codes "check") h.0 is (λ (same : 619 ≡ 610). absurd (omega arith))
+only_graph name rows None is h is_graph = absurd (subst (λ t. Contains command_names t → ⊥) is h (1, omega arith, refl))
+
+pub only_dump : (name : Text) (rows : List Row) (r : Option Request) → name ≡ codes "dump" → Asks name rows r → r ≡ Some Dump
+only_dump name rows (Some Dump) is h = refl
+only_dump name rows (Some (Match code pcap stream)) is h = apart name (codes "match") (codes "dump") h.0 is (λ (same : 651 ≡ 661). absurd (omega arith))
+only_dump name rows (Some (Explain code)) is h = apart name (codes "match") (codes "dump") h.0 is (λ (same : 651 ≡ 661). absurd (omega arith))
+only_dump name rows (Some (Check asm)) is h = apart name (codes "check") (codes "dump") h.0 is (λ (same : 610 ≡ 661). absurd (omega arith))
+only_dump name rows (Some Graph) is h = apart name (codes "check") (codes "dump") h.0 is (λ (same : 610 ≡ 661). absurd (omega arith))
+only_dump name rows (Some (Sim files)) is h = apart name (codes "sim") (codes "dump") h.0 is (λ (same : 652 ≡ 661). absurd (omega arith))
+only_dump name rows (Some (Run files)) is h = apart name (codes "run") (codes "dump") h.0 is (λ (same : 678 ≡ 661). absurd (omega arith))
+only_dump name rows (Some (Draw text)) is h = apart name (codes "draw") (codes "dump") h.0 is (λ (same : 619 ≡ 661). absurd (omega arith))
+only_dump name rows None is h = absurd (subst (λ t. Contains command_names t → ⊥) is h (2, omega arith, refl))
+
+pub only_draw : (name : Text) (rows : List Row) (r : Option Request) → name ≡ codes "draw" → Asks name rows r
+    → (plain : Bool) → one_of (codes "text") rows ≡ Some (truth plain) → r ≡ Some (Draw plain)
+only_draw name rows (Some (Draw given)) is h plain is_plain = ap (λ a. Some (Draw a)) (flag_is (codes "text") rows given plain h.1 is_plain)
+only_draw name rows (Some (Match code pcap stream)) is h plain is_plain = apart name (codes "match") (codes "draw") h.0 is (λ (same : 651 ≡ 619). absurd (omega arith))
+only_draw name rows (Some (Explain code)) is h plain is_plain = apart name (codes "match") (codes "draw") h.0 is (λ (same : 651 ≡ 619). absurd (omega arith))
+only_draw name rows (Some (Check asm)) is h plain is_plain = apart name (codes "check") (codes "draw") h.0 is (λ (same : 610 ≡ 619). absurd (omega arith))
+only_draw name rows (Some Graph) is h plain is_plain = apart name (codes "check") (codes "draw") h.0 is (λ (same : 610 ≡ 619). absurd (omega arith))
+only_draw name rows (Some Dump) is h plain is_plain = apart name (codes "dump") (codes "draw") h is (λ (same : 661 ≡ 619). absurd (omega arith))
+only_draw name rows (Some (Sim files)) is h plain is_plain = apart name (codes "sim") (codes "draw") h.0 is (λ (same : 652 ≡ 619). absurd (omega arith))
+only_draw name rows (Some (Run files)) is h plain is_plain = apart name (codes "run") (codes "draw") h.0 is (λ (same : 678 ≡ 619). absurd (omega arith))
+only_draw name rows None is h plain is_plain = absurd (subst (λ t. Contains command_names t → ⊥) is h (5, omega arith, refl))

@@ -1,0 +1,42 @@
+-- The command line of the program: its commands, each with its arguments.
+use Rattle.std.specs.Prelude.{ℕ, ◌≡◌, true, false, Some, List, [], ◌∷◌, codes}
+use Rattle.clap.specs.Lexer.{usize_max}
+use Rattle.clap.specs.Words.{App, Rule, Shape, Text, app_of, new_rule}
+use Rattle.clap.specs.Simple.{new_shape}
+use Rattle.clap.specs.declared.builder.action.ArgAction.TheVariants.{SetTrue}
+use Rattle.clap.specs.declared.builder.command.Command.{Command}
+
+-- a flag `--NAME`
+abbrev pub flag : Text → Rule
+flag name = record (new_rule name) { long = Some name; action = Some SetTrue }
+
+-- a flag that is refused beside some others
+abbrev pub lone_flag : Text → Rule
+lone_flag name = record (flag name) { is_free = false }
+
+-- `CODE`, which must be given
+abbrev pub code : Rule
+code = record (new_rule (codes "code")) { value_names = 1; required = true }
+
+-- `[FILE]...`
+abbrev pub files : Rule
+files = record (new_rule (codes "files")) { value_names = 1; range = Some (record { start_inclusive = 0; end_inclusive = usize_max }) }
+
+abbrev pub command : Text → List Rule → Shape
+command name rules = record (new_shape name) { rules = rules }
+
+abbrev pub program : App
+program = record {
+  top = record (new_shape (codes "mkdemux")) { has_version = true; subcommand_required = true; is_leaf = false };
+  subs = command (codes "match") (code ∷ flag (codes "pcap") ∷ flag (codes "stream") ∷ lone_flag (codes "explain") ∷ [])
+      ∷ command (codes "check") (flag (codes "asm") ∷ lone_flag (codes "graph") ∷ [])
+      ∷ command (codes "dump") []
+      ∷ command (codes "sim") (files ∷ [])
+      ∷ command (codes "run") (files ∷ [])
+      ∷ command (codes "draw") (flag (codes "text") ∷ [])
+      ∷ [];
+}
+
+-- a command of this name with these arguments, and none below it
+abbrev pub IsCommand : Text → List Rule → Command → Type 0
+IsCommand name rules c = app_of c ≡ record { top = command name rules; subs = [] }

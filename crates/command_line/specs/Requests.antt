@@ -1,0 +1,75 @@
+-- What the words of the command line ask for.
+use denote.Ref.{Bor}
+use Rattle.std.specs.Prelude.{◌≡◌, ◌++◌, ℕ, Bool, true, false, List, [], ◌∷◌, map, Option, Some, None, unwrap_or, codes}
+use Rattle.std.specs.List.{Contains}
+use Rattle.clap.specs.Words.{Row, Text, all_of, first_of, one_of}
+use Rattle.command_line.specs.declared.request.Request.{Request}
+use Rattle.command_line.specs.declared.request.Request.TheVariants.{Match, Explain, Check, Graph, Dump, Sim, Run, Draw}
+
+-- whether a flag was given
+abbrev pub IsFlag : Text → List Row → Bool → Type 0
+IsFlag name rows given = (one_of name rows ≡ Some (codes "true") → given ≡ true) × (one_of name rows ≡ Some (codes "false") → given ≡ false)
+
+-- the names of the captures
+abbrev pub IsFiles : List Row → List (Bor Text) → Type 0
+IsFiles rows files = map (λ f. f.now) files ≡ unwrap_or (all_of (codes "files") rows) []
+
+-- the captures that a request names
+abbrev pub captures_of : Request → List Text
+captures_of (Sim files) = map (λ f. f.now) files.items
+captures_of (Run files) = map (λ f. f.now) files.items
+captures_of request = []
+
+abbrev pub command_names : List Text
+command_names = codes "match" ∷ codes "check" ∷ codes "dump" ∷ codes "sim" ∷ codes "run" ∷ codes "draw" ∷ []
+
+-- what a command of this name asks for, with the rows of its arguments
+abbrev pub Asks : Text → List Row → Option Request → Type 0
+Asks name rows (Some (Match code pcap stream)) = (name ≡ codes "match") × (code.now ≡ unwrap_or (first_of (codes "code") rows) [])
+    × IsFlag (codes "explain") rows false × IsFlag (codes "pcap") rows pcap × IsFlag (codes "stream") rows stream
+Asks name rows (Some (Explain code)) = (name ≡ codes "match") × (code.now ≡ unwrap_or (first_of (codes "code") rows) []) × IsFlag (codes "explain") rows true
+Asks name rows (Some (Check asm)) = (name ≡ codes "check") × IsFlag (codes "graph") rows false × IsFlag (codes "asm") rows asm
+Asks name rows (Some Graph) = (name ≡ codes "check") × IsFlag (codes "graph") rows true
+Asks name rows (Some Dump) = name ≡ codes "dump"
+Asks name rows (Some (Sim files)) = (name ≡ codes "sim") × IsFiles rows files.items
+Asks name rows (Some (Run files)) = (name ≡ codes "run") × IsFiles rows files.items
+Asks name rows (Some (Draw text)) = (name ≡ codes "draw") × IsFlag (codes "text") rows text
+Asks name rows None = Contains command_names name → ⊥
+
+-- what the command that was found asks for
+abbrev pub AsksBy : Option (Text × List Row) → Option Request → Type 0
+AsksBy (Some found) request = Asks found.0 found.1 request
+AsksBy None request = request ≡ None
+
+-- The words of the commands, after the program's name
+
+abbrev pub Spells : List Text → List Text → Type 0
+Spells words command = (name : Text) × (words ≡ name ∷ command)
+
+-- the word of a flag, where it is given
+abbrev pub flag_word : Text → Bool → List Text
+flag_word word true = word ∷ []
+flag_word word false = []
+
+abbrev pub match_words : Text → Bool → Bool → List Text
+match_words code pcap stream = codes "match" ∷ code ∷ flag_word (codes "--pcap") pcap ++ flag_word (codes "--stream") stream
+
+abbrev pub explain_words : Text → List Text
+explain_words code = codes "match" ∷ code ∷ codes "--explain" ∷ []
+
+abbrev pub check_words : Bool → List Text
+check_words asm = codes "check" ∷ flag_word (codes "--asm") asm
+
+abbrev pub draw_words : Bool → List Text
+draw_words text = codes "draw" ∷ flag_word (codes "--text") text
+
+abbrev pub BeginsWithDigit : Text → Type 0
+BeginsWithDigit text = (digit : ℕ) × (rest : Text) × Contains (codes "0123456789") digit × (text ≡ digit ∷ rest)
+
+-- a `match` of this CODE
+abbrev pub IsMatch : Text → Bool → Bool → Option Request → Type 0
+IsMatch text pcap stream request = (code : Bor Text) × (request ≡ Some (Match code pcap stream)) × (code.now ≡ text)
+
+-- a `match --explain` of this CODE
+abbrev pub IsExplain : Text → Option Request → Type 0
+IsExplain text request = (code : Bor Text) × (request ≡ Some (Explain code)) × (code.now ≡ text)

@@ -1,0 +1,8 @@
+//! What the words of the command line ask for.
+#![tactic(auto)]
+
+mod program;
+mod request;
+mod texts;
+
+pub use request::{Request, request_of};

@@ -1,0 +1,154 @@
+//! The commands of the program, with their help.
+
+ghost use Rattle.std.specs.Prelude.{◌≡◌, [], ◌∷◌, IfOk, codes, false};
+ghost use Rattle.clap.specs.Words.{app_of, rule_of};
+ghost use Rattle.command_line.specs.Program.{IsCommand, code, files, flag, lone_flag, program};
+
+use crate::texts::{
+    ABOUT, ASM_HELP, CHECK_ABOUT, CHECK_DETAILS, CHECK_EXAMPLE, CODE_HELP, DRAW_ABOUT,
+    DRAW_DETAILS, DRAW_EXAMPLE, DUMP_ABOUT, DUMP_DETAILS, DUMP_EXAMPLE, EXIT_STATUS, EXPLAIN_HELP,
+    FILES_HELP, GRAPH_HELP, MATCH_ABOUT, MATCH_DETAILS, MATCH_EXAMPLE, PCAP_HELP, RUN_ABOUT,
+    RUN_DETAILS, RUN_EXAMPLE, SIM_ABOUT, SIM_DETAILS, SIM_EXAMPLE, STREAM_HELP, TEXT_HELP, VERSION,
+};
+use clap::{Arg, ArgAction, Command};
+use std::alloc::{AllocError, Global};
+
+/// The command line of the program.
+pub(crate) fn command<'a>(alloc: Global) -> Result<Command<'a>, AllocError>
+    ensures { IfOk result (λ c. app_of c ≡ program) }
+{
+    Command::new(alloc, "mkdemux")
+        .version(VERSION)
+        .about(ABOUT)
+        .after_help(EXIT_STATUS)
+        .subcommand_required(true)
+        .subcommand(matching(alloc)?)?
+        .subcommand(checking(alloc)?)?
+        .subcommand(dumping(alloc))?
+        .subcommand(simulating(alloc)?)?
+        .subcommand(running(alloc)?)?
+        .subcommand(drawing(alloc)?)
+}
+
+// `match CODE [--pcap] [--stream]`, `match CODE --explain`
+fn matching<'a>(alloc: Global) -> Result<Command<'a>, AllocError>
+    ensures { IfOk result (IsCommand (codes "match") (code ∷ flag (codes "pcap") ∷ flag (codes "stream") ∷ lone_flag (codes "explain") ∷ [])) }
+{
+    Command::new(alloc, "match")
+        .about(MATCH_ABOUT)
+        .long_about(MATCH_DETAILS)
+        .after_help(MATCH_EXAMPLE)
+        .arg(code(alloc))?
+        .arg(flag(alloc, "pcap", PCAP_HELP))?
+        .arg(flag(alloc, "stream", STREAM_HELP))?
+        .arg(explain(alloc)?)
+}
+
+// `check [--asm]`, `check --graph`
+fn checking<'a>(alloc: Global) -> Result<Command<'a>, AllocError>
+    ensures { IfOk result (IsCommand (codes "check") (flag (codes "asm") ∷ lone_flag (codes "graph") ∷ [])) }
+{
+    Command::new(alloc, "check")
+        .about(CHECK_ABOUT)
+        .long_about(CHECK_DETAILS)
+        .after_help(CHECK_EXAMPLE)
+        .arg(flag(alloc, "asm", ASM_HELP))?
+        .arg(lone_flag(alloc, "graph", GRAPH_HELP, "asm")?)
+}
+
+// `dump`
+fn dumping<'a>(alloc: Global) -> Command<'a>
+    ensures { IsCommand (codes "dump") [] result }
+{
+    Command::new(alloc, "dump")
+        .about(DUMP_ABOUT)
+        .long_about(DUMP_DETAILS)
+        .after_help(DUMP_EXAMPLE)
+}
+
+// `sim [FILE]...`
+fn simulating<'a>(alloc: Global) -> Result<Command<'a>, AllocError>
+    ensures { IfOk result (IsCommand (codes "sim") (files ∷ [])) }
+{
+    Command::new(alloc, "sim")
+        .about(SIM_ABOUT)
+        .long_about(SIM_DETAILS)
+        .after_help(SIM_EXAMPLE)
+        .arg(files(alloc))
+}
+
+// `run [FILE]...`
+fn running<'a>(alloc: Global) -> Result<Command<'a>, AllocError>
+    ensures { IfOk result (IsCommand (codes "run") (files ∷ [])) }
+{
+    Command::new(alloc, "run")
+        .about(RUN_ABOUT)
+        .long_about(RUN_DETAILS)
+        .after_help(RUN_EXAMPLE)
+        .arg(files(alloc))
+}
+
+// `draw [--text]`
+fn drawing<'a>(alloc: Global) -> Result<Command<'a>, AllocError>
+    ensures { IfOk result (IsCommand (codes "draw") (flag (codes "text") ∷ [])) }
+{
+    Command::new(alloc, "draw")
+        .about(DRAW_ABOUT)
+        .long_about(DRAW_DETAILS)
+        .after_help(DRAW_EXAMPLE)
+        .arg(flag(alloc, "text", TEXT_HELP))
+}
+
+// `CODE`, which must be given.
+fn code<'a>(alloc: Global) -> Arg<'a>
+    ensures rule { rule_of result ≡ code }
+    ensures local { result.global ≡ false }
+{
+    Arg::new(alloc, "code")
+        .value_name("CODE")
+        .help(CODE_HELP)
+        .required(true)
+}
+
+// `--explain`
+fn explain<'a>(alloc: Global) -> Result<Arg<'a>, AllocError>
+    ensures rule { IfOk result (λ a. rule_of a ≡ lone_flag (codes "explain")) }
+    ensures local { IfOk result (λ a. a.global ≡ false) }
+{
+    lone_flag(alloc, "explain", EXPLAIN_HELP, "pcap")?.conflicts_with("stream")
+}
+
+// A flag `--NAME`.
+fn flag<'a>(alloc: Global, name: &'a str, help: &'a str) -> Arg<'a>
+    ensures rule { rule_of result ≡ flag name.entry.now }
+    ensures local { result.global ≡ false }
+{
+    Arg::new(alloc, name)
+        .long(name)
+        .help(help)
+        .action(ArgAction::SetTrue)
+}
+
+// A flag `--NAME` that is refused beside another.
+fn lone_flag<'a>(
+    alloc: Global,
+    name: &'a str,
+    help: &'a str,
+    other: &'a str,
+) -> Result<Arg<'a>, AllocError>
+    ensures rule { IfOk result (λ a. rule_of a ≡ lone_flag name.entry.now) }
+    ensures local { IfOk result (λ a. a.global ≡ false) }
+{
+    flag(alloc, name, help).conflicts_with(other)
+}
+
+// The captures of a script.
+fn files<'a>(alloc: Global) -> Arg<'a>
+    ensures rule { rule_of result ≡ files }
+    ensures local { result.global ≡ false }
+{
+    Arg::new(alloc, "files")
+        .value_name("FILE")
+        .help(FILES_HELP)
+        .num_args(0..)
+}

@@ -1,0 +1,146 @@
+//! A request, and the words that make it.
+
+ghost use Rattle.std.specs.Prelude.{◌≡◌, ◌∷◌, [], Bool, Some, codes, true, map, IfErr, IfOk};
+ghost use Rattle.clap.specs.Words.{Text, found_of, kind_of, rows_of, subcommand_of, takes};
+ghost use Rattle.clap.specs.declared.error.kind.ErrorKind.{ErrorKind};
+ghost use Rattle.command_line.specs.Program.{program};
+ghost use Rattle.command_line.specs.Requests.{Asks, AsksBy, BeginsWithDigit, IsExplain, IsFiles, IsMatch, Spells};
+ghost use Rattle.command_line.specs.Requests.{captures_of, check_words, draw_words, explain_words, match_words};
+
+use crate::program::command;
+use clap::{ArgMatches, Error};
+use std::alloc::{AllocError, Global};
+use std::convert::AsStr;
+
+/// What the program is asked for.
+#[derive(Drop)]
+pub enum Request<'a> {
+    /// To run a filter on packets.
+    Match {
+        /// The filter in decimal text.
+        code: &'a str,
+        /// Whether the packets are a capture's; else they are lines of digits.
+        pcap: bool,
+        /// Whether each outcome is written while the input is read.
+        stream: bool,
+    },
+    /// To run a filter on packets, and to show each instruction that was taken.
+    Explain {
+        /// The filter in decimal text.
+        code: &'a str,
+    },
+    /// To assemble a filter.
+    Check {
+        /// Whether it is printed as assembler text; else as decimal text.
+        asm: bool,
+    },
+    /// To draw the control flow of a filter.
+    Graph,
+    /// To print a capture.
+    Dump,
+    /// To run a script on the model of the cores, with the captures of these names.
+    Sim {
+        files: Vec<&'a str>,
+    },
+    /// To run a script on cores that are threads, with the captures of these names.
+    Run {
+        files: Vec<&'a str>,
+    },
+    /// To draw a trace.
+    Draw {
+        /// Whether it is drawn as text; else as an SVG file.
+        text: bool,
+    },
+}
+
+impl<'a> Request<'a> {
+    /// The names of the captures that are to be opened, in order.
+    pub fn captures(&self) -> &[&'a str]
+        ensures { map (λ f. f.now) result.now ≡ captures_of self.now }
+    {
+        match self {
+            Request::Sim { files } | Request::Run { files } => files.as_slice(),
+            _ => &[],
+        }
+    }
+}
+
+/// What these words ask for, of which the first is the program's name; none where they name no command of the program. An error has
+/// the text that is to be shown: help, the version, or what is wrong with the words.
+pub fn request_of<'a, S: AsStr>(alloc: Global, words: &'a [S]) -> Result<Option<Request<'a>>, Error>
+    ensures asked { IfOk result (AsksBy (subcommand_of program (map S.text words.entry.now))) }
+    ensures taken { IfErr result (λ e. takes program (map S.text words.entry.now) ≡ true → kind_of e ≡ ErrorKind.OutOfMemory) }
+    ensures matched { (code : Text) (pcap stream : Bool) → Spells (map S.text words.entry.now) (match_words code pcap stream) → BeginsWithDigit code
+        → IfOk result (IsMatch code pcap stream) }
+    ensures explained { (code : Text) → Spells (map S.text words.entry.now) (explain_words code) → BeginsWithDigit code → IfOk result (IsExplain code) }
+    ensures checked { (asm : Bool) → Spells (map S.text words.entry.now) (check_words asm) → IfOk result (λ r. r ≡ Some (Request.Check asm)) }
+    ensures graphed { Spells (map S.text words.entry.now) (codes "check" ∷ codes "--graph" ∷ []) → IfOk result (λ r. r ≡ Some Request.Graph) }
+    ensures dumped { Spells (map S.text words.entry.now) (codes "dump" ∷ []) → IfOk result (λ r. r ≡ Some Request.Dump) }
+    ensures drawn { (text : Bool) → Spells (map S.text words.entry.now) (draw_words text) → IfOk result (λ r. r ≡ Some (Request.Draw text)) }
+{
+    parsed(alloc, words)
+}
+
+// What these words ask for.
+fn parsed<'a, S: AsStr>(alloc: Global, words: &'a [S]) -> Result<Option<Request<'a>>, Error>
+    ensures asked { IfOk result (AsksBy (subcommand_of program (map S.text words.entry.now))) }
+    ensures taken { IfErr result (λ e. takes program (map S.text words.entry.now) ≡ true → kind_of e ≡ ErrorKind.OutOfMemory) }
+{
+    let command = command(alloc)?;
+    match command.try_get_matches_from(words) {
+        Ok(matches) => match matches.subcommand() {
+            Some((name, found)) => Ok(asked(alloc, name, found)?),
+            None => Ok(None),
+        },
+        Err(error) => Err(error),
+    }
+}
+
+// What a command of this name and these arguments asks for.
+fn asked<'a>(
+    alloc: Global,
+    name: &str,
+    found: &ArgMatches<'a>,
+) -> Result<Option<Request<'a>>, AllocError>
+    ensures { IfOk result (Asks name.now (rows_of (found_of found.now))) }
+{
+    Ok(Some(match name {
+        "match" => {
+            let code = found.get_str("code").unwrap_or("");
+            if found.get_flag("explain") {
+                return Ok(Some(Request::Explain { code }));
+            }
+            Request::Match {
+                code,
+                pcap: found.get_flag("pcap"),
+                stream: found.get_flag("stream"),
+            }
+        }
+        "check" => {
+            if found.get_flag("graph") {
+                return Ok(Some(Request::Graph));
+            }
+            Request::Check {
+                asm: found.get_flag("asm"),
+            }
+        }
+        "dump" => Request::Dump,
+        "sim" => Request::Sim {
+            files: files(alloc, found)?,
+        },
+        "run" => Request::Run {
+            files: files(alloc, found)?,
+        },
+        "draw" => Request::Draw {
+            text: found.get_flag("text"),
+        },
+        _ => return Ok(None),
+    }))
+}
+
+// The names of the captures.
+fn files<'a>(alloc: Global, found: &ArgMatches<'a>) -> Result<Vec<&'a str>, AllocError>
+    ensures { IfOk result (λ f. IsFiles (rows_of (found_of found.now)) f.items) }
+{
+    Vec::from_slice(alloc, found.get_strs("files").unwrap_or(&[]))
+}

@@ -1,0 +1,4 @@
+pub mod Explaining
+pub mod Graph
+pub mod Paths
+pub mod Showing

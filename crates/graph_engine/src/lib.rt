@@ -1,0 +1,11 @@
+//! The engines of `check --graph` and `match --explain`: a program's control flow, and one run after the other.
+#![tactic(auto)]
+
+mod explain;
+mod graph;
+mod program;
+#[cfg(test)]
+mod tests;
+
+pub use explain::run_explain;
+pub use program::run_graph;

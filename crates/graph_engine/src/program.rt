@@ -1,0 +1,91 @@
+//! `check --graph`: the control flow of a filter.
+
+ghost use Rattle.std.specs.Prelude.{◌≡◌, ◌<◌, ◌≤◌, ◌^◌, ◌⊎◌, ℕ, List, length, IfOk, IfErr, Err};
+ghost use Rattle.std.specs.Io.KnownBytes.{Appends};
+ghost use Rattle.console.specs.Matching.{IsEngineFault};
+ghost use Rattle.console.specs.Reading.{IsInput};
+ghost use Rattle.graph_engine.specs.Showing.{ShowsAsm, ShowsGraph, Verifies};
+
+use crate::graph::graph;
+use bpf_insn::Insn;
+use console::{
+    EngineFault, INPUT_BYTES, INPUT_READS, Input, fault_line, read_bounded, write_bytes, write_text,
+};
+use filter_asm::assemble;
+use filter_verify::{Refusal, verify};
+use std::alloc::{AllocError, Global};
+use std::io::{Read, Write};
+
+/// Draws the control flow of the filter of the input, and answers the status.
+///
+/// The input is assembler text, as for `check`. It is drawn as text for Graphviz, status 0: a node for each instruction, and
+/// an arrow to each place where control may go from it, labelled `true` or `false` at a conditional jump. A program that the
+/// verifier refuses has a title that says why, as `match` prints it; the refused instruction is red, and a path on which a
+/// word is unwritten is bold. The first fault of the text is printed as `line N: NAME`, status 1; and of an input of more
+/// than 64 MiB only `fault InputTooLong`, status 1.
+///
+/// Answers `ReadFailed` or `NoMemory`, with nothing written, or `WriteFailed`.
+pub fn run_graph<R: Read, W: Write>(
+    alloc: Global,
+    reader: &mut R,
+    writer: &mut W,
+) -> Result<u8, EngineFault>
+    ensures shown { IfOk result (λ status. (text : List ℕ) × Appends (W.contents writer.old) (W.contents writer.new) text
+        × ((input : List ℕ) × IsInput (R.remaining reader.old) input × ShowsGraph input status text)) }
+    ensures fault { IfErr result IsEngineFault }
+    ensures silent { (result ≡ Err EngineFault.ReadFailed) ⊎ (result ≡ Err EngineFault.NoMemory) → writer.new ≡ writer.old }
+{
+    match read_bounded(alloc, reader, INPUT_BYTES, INPUT_READS)? {
+        Input::TooLong => {
+            write_text(writer, "fault InputTooLong\n")?;
+            Ok(1)
+        }
+        Input::Whole(input) => {
+            let drawing = draw_text(alloc, input.as_slice())?;
+            write_bytes(writer, drawing.text.as_slice())?;
+            Ok(drawing.status)
+        }
+    }
+}
+
+/// What is shown of a text, and the status that goes with it.
+#[derive(Drop)]
+struct Drawing {
+    text: Vec<u8>,
+    status: u8,
+}
+
+/// What is shown of an assembler text.
+fn draw_text(alloc: Global, text: &[u8]) -> Result<Drawing, AllocError>
+    requires { length text.now < 2 ^ 32 }
+    ensures { IfOk result (λ drawing. ShowsAsm text.now drawing.status drawing.text.items) }
+{
+    match assemble(alloc, text) {
+        Ok(program) => {
+            let refusal = refusal_of(alloc, program.as_slice())?;
+            let text = graph(alloc, program.as_slice(), &refusal)?;
+            Ok(Drawing {
+                text: text.into_bytes(),
+                status: 0,
+            })
+        }
+        Err(fault) => {
+            let line = fault_line(alloc, fault.line, fault.kind)?;
+            Ok(Drawing {
+                text: line.into_bytes(),
+                status: 1,
+            })
+        }
+    }
+}
+
+/// Why the verifier refuses a program, if it does.
+fn refusal_of(alloc: Global, program: &[Insn]) -> Result<Option<Refusal>, AllocError>
+    ensures { IfOk result (Verifies program.now) }
+{
+    match verify(alloc, program) {
+        Ok(_) => Ok(None),
+        Err(Refusal::NoMemory) => Err(AllocError),
+        Err(refusal) => Ok(Some(refusal)),
+    }
+}
