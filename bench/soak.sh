@@ -1,7 +1,7 @@
 #!/bin/sh
 # Runs machines of 1 to 8 cores as threads on random requests and packets, joins their histories into one list, and does that list again as
 # one list of events, where each answer must be the same. Each job must be received or left, once. Any other outcome of a run is printed, and the
-# status is then 1.
+# status is then 1. Where the program is built, scripts are then run by it, 1,000 times each, and each trace done again by `sim` (repeat.sh).
 # Usage: bench/soak.sh [FOLDER [RUNS [FIRST]]]. 10,000 runs, unless said otherwise; FIRST is the number of the first, which says what its work is. FOLDER,
 # by default a new one, is where it builds; it keeps what was proved for the next run, and takes what the repository's own checks have kept.
 # Needs rt, clang and git on the path.
@@ -14,3 +14,8 @@ build_program "$work" soak ' may_wait=3: bpf_insn pcap_reader endpoint_caps moni
     world_histories core_steps ghost_log world_channels world_core core_links core_loop core_join core_threads
 "$work/crates/soak_bench/out/soak_bench" "${2:-10000}" "${3:-1}" | tee "$work/soak.txt"
 grep -q ' 0 runs went wrong$' "$work/soak.txt"
+if [ -x "$here/../crates/mkdemux/out/mkdemux" ]; then
+    "$here/repeat.sh" 1000
+else
+    echo "soak: no trace is done again by sim, since the program isn't built" >&2
+fi
