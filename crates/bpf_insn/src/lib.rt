@@ -14,8 +14,6 @@ mod jumps;
 mod number;
 mod pieces;
 mod printing;
-#[cfg(test)]
-mod tests;
 
 pub use ddd::{TextFault, read_ddd};
 pub use form::{AluOp, Form, Size, Test};

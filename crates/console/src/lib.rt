@@ -36,6 +36,3 @@ pub use outcome::push_outcome;
 pub use output::{BLOCK, write_bytes, write_text};
 pub use streaming::run_stream;
 pub use too_long::refuse_long;
-
-#[cfg(test)]
-mod tests;

@@ -8,6 +8,3 @@ mod merging;
 pub use conclusion::{Histories, conclude};
 pub use laws::cores_stay_a_machine;
 pub use merging::{in_order, merge};
-
-#[cfg(test)]
-mod tests;

@@ -18,6 +18,3 @@ pub use links::Links;
 pub use list_links::{ListLink, ListLinks};
 pub use ring_links::{Link, RingLinks};
 pub use ump_ring::{Busy, LineFault};
-
-#[cfg(test)]
-mod tests;

@@ -22,6 +22,3 @@ pub use core_links::{Busy, LineFault, Links, ListLinks, RingLinks};
 pub use laws::cores_compute;
 pub use running::Core;
 pub use world_histories::Stamped;
-
-#[cfg(test)]
-mod tests;

@@ -19,6 +19,3 @@ pub use booting::{BootFault, boot};
 pub use gate::{Free, Gate};
 pub use halt::{Halt, RunFault};
 pub use machine::{Ended, Machine, run_machine};
-
-#[cfg(test)]
-mod tests;

@@ -3,8 +3,6 @@
 
 mod engine;
 mod svg;
-#[cfg(test)]
-mod tests;
 mod text;
 
 pub use engine::run_draw;

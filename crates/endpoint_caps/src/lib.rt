@@ -8,8 +8,6 @@ ghost use Rattle.std.specs.Prelude.{◌≡◌};
 ghost use Rattle.endpoint_caps.specs.Capabilities.{has_right, is_within};
 
 mod table;
-#[cfg(test)]
-mod tests;
 
 pub use table::Caps;
 

@@ -19,6 +19,3 @@ mod tokenizer;
 
 pub use assembler::assemble;
 pub use fault::{AsmFault, AsmFaultKind};
-
-#[cfg(test)]
-mod tests;

@@ -4,8 +4,6 @@
 mod explain;
 mod graph;
 mod program;
-#[cfg(test)]
-mod tests;
 
 pub use explain::run_explain;
 pub use program::run_graph;

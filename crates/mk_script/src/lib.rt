@@ -21,8 +21,6 @@ mod rows;
 mod script;
 mod settings;
 mod state;
-#[cfg(test)]
-mod tests;
 mod trace;
 mod words;
 

@@ -6,18 +6,17 @@
 #![tactic(auto)]
 
 mod devices;
-mod performing;
 mod progress;
 mod usage;
 
 use clap::Error;
 use clap::error::ErrorKind;
 use command_line::{Request, request_of};
+use commands::perform;
 use console::EngineFault;
 use core_loop::Cause;
 use core_threads::{Free, Halt};
 use devices::{Named, Sink, Source};
-use performing::perform;
 use progress::Progress;
 use run_engine::RunFailure;
 use std::fs::File;

@@ -18,12 +18,8 @@
 
 mod coordinator;
 mod participant;
-#[cfg(test)]
-mod rounds;
 mod step;
 mod tally;
-#[cfg(test)]
-mod tests;
 
 pub use coordinator::{Coordinator, veto_of};
 pub use monitor_messages::{Decision, DecodeFault, Message, Veto, Vote, decode, encode};

@@ -36,8 +36,6 @@
 mod fault;
 mod message;
 mod reading;
-#[cfg(test)]
-mod tests;
 mod writing;
 
 pub use fault::DecodeFault;

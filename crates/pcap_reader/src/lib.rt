@@ -32,6 +32,3 @@ mod fields;
 
 pub use capture::{Bytes, Capture, CaptureFault, Header, Packet, Packets, Stop};
 pub use feed::{Feed, Seen, read_capture};
-
-#[cfg(test)]
-mod tests;

@@ -6,6 +6,3 @@ mod lines;
 mod work;
 
 pub use engine::{RunFailure, run_run};
-
-#[cfg(test)]
-mod tests;

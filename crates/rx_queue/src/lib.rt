@@ -27,6 +27,3 @@ pub fn queue(alloc: Global, capacity: usize) -> Result<(Port, Intake), AllocErro
     let (producer, consumer) = RingBuffer::new(alloc, capacity)?;
     Ok((Port { producer }, Intake { consumer }))
 }
-
-#[cfg(test)]
-mod tests;

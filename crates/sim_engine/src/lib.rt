@@ -5,8 +5,6 @@ mod engine;
 mod requests;
 mod running;
 mod simulation;
-#[cfg(test)]
-mod tests;
 mod way;
 
 pub use engine::{run_sim, run_sim_over};

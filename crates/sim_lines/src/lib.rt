@@ -19,8 +19,6 @@
 mod decision;
 mod event;
 mod table;
-#[cfg(test)]
-mod tests;
 
 pub use event::{line_of, push_done, push_left};
 pub use table::show_core;

@@ -13,8 +13,6 @@ mod program;
 mod programs;
 mod reaches;
 mod replica;
-#[cfg(test)]
-mod tests;
 
 use contents::Contents;
 use endpoint_caps::Rights;

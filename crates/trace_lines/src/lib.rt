@@ -6,8 +6,6 @@ mod event;
 mod lines;
 mod messages;
 mod picture;
-#[cfg(test)]
-mod tests;
 mod trace;
 mod words;
 

@@ -12,6 +12,3 @@ pub use laws::{
     answers_follow_from_events, merged_runs_are_done_again, printed_runs_are_done_again,
     runs_are_done_again, sim_shows_the_trace,
 };
-
-#[cfg(test)]
-mod tests;

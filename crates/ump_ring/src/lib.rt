@@ -31,6 +31,3 @@ pub use line::{Line, MESSAGE_MOST, line_at};
 pub use receiver::Receiver;
 pub use rings::{beside, ring};
 pub use sender::{Busy, Pushed, Sender};
-
-#[cfg(test)]
-mod tests;

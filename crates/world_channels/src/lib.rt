@@ -3,8 +3,6 @@
 
 mod channel;
 mod lines;
-#[cfg(test)]
-mod tests;
 
 pub use channel::{Channel, Messages};
 pub use lines::{Lines, MessageLines};

@@ -4,23 +4,13 @@
 //! places in the protocol and the messages under way, and does one event after another, in any order.
 #![tactic(auto)]
 
-#[cfg(test)]
-mod copies;
 mod fault;
 mod hearing;
 mod home;
 mod peer;
-#[cfg(test)]
-mod pieces;
-#[cfg(test)]
-mod refused_growths;
 mod sending;
 mod settling;
-#[cfg(test)]
-mod sights;
 mod starting;
-#[cfg(test)]
-mod tests;
 mod world;
 
 pub use fault::{BootFault, WorldFault};

@@ -1,0 +1,62 @@
+-- What the program shows for each request: the text and the status of the engine of its command.
+use Rattle.std.specs.Prelude.{◌≡◌, ◌⊎◌, ⊤, ℕ, Bool, true, false, List, Option}
+use Rattle.std.specs.Io.KnownBytes.{Consumes, IsAtEnd}
+use Rattle.command_line.specs.declared.request.Request.{Request}
+use Rattle.command_line.specs.declared.request.Request.TheVariants.{Match, Explain, Check, Graph, Dump, Sim, Run, Draw}
+use Rattle.console.specs.Checking.{ShowsCheck}
+use Rattle.console.specs.Code.{ShowsBadCode}
+use Rattle.console.specs.Dumping.{ShowsDump}
+use Rattle.console.specs.Matching.{ShowsGoodCode}
+use Rattle.console.specs.Reading.{IsInput}
+use Rattle.console.specs.Streaming.{StreamShows}
+use Rattle.console.specs.declared.fault.EngineFault.{EngineFault}
+use Rattle.draw_engine.specs.Drawing.{ShowsDraw}
+use Rattle.graph_engine.specs.Explaining.{ShowsExplained}
+use Rattle.graph_engine.specs.Showing.{ShowsGraph}
+use Rattle.run_engine.specs.Showing.{Shows as ShowsRunScript}
+use Rattle.run_engine.specs.declared.engine.RunFailure.{RunFailure}
+use Rattle.run_engine.specs.declared.engine.RunFailure.TheVariants.{Engine}
+use Rattle.script_input.specs.Inputs.{AreScriptInputs}
+use Rattle.sim_engine.specs.Showing.{ShowsSim}
+
+-- `match`, and `match --stream`, which reads to the end unless it stops at a fault: by what the reader had before and has now
+abbrev pub ShowsMatch : List ℕ → Bool → Bool → Option (List ℕ) → Option (List ℕ) → ℕ → List ℕ → Type 0
+ShowsMatch code pcap false had has status text =
+    (ShowsBadCode code text × (status ≡ 1)) ⊎ ((input : List ℕ) × IsInput had input × ShowsGoodCode code pcap input status text)
+ShowsMatch code pcap true had has status text =
+    (ShowsBadCode code text × (status ≡ 1))
+    ⊎ ((input : List ℕ) × Consumes had has input × StreamShows code pcap input status text × (IsAtEnd has ⊎ (status ≡ 1)))
+
+-- `match --explain`
+abbrev pub ShowsExplain : List ℕ → Option (List ℕ) → ℕ → List ℕ → Type 0
+ShowsExplain code had status text =
+    (ShowsBadCode code text × (status ≡ 1)) ⊎ ((input : List ℕ) × IsInput had input × ShowsExplained code input status text)
+
+-- what is shown for a request, by what the captures had, and what the reader had before and has now
+abbrev pub Shows : Request → List (Option (List ℕ)) → Option (List ℕ) → Option (List ℕ) → ℕ → List ℕ → Type 0
+Shows (Match code pcap stream) captures had has status text = ShowsMatch code.now pcap stream had has status text
+Shows (Explain code) captures had has status text = ShowsExplain code.now had status text
+Shows (Check asm) captures had has status text = (input : List ℕ) × IsInput had input × ShowsCheck asm input status text
+Shows Graph captures had has status text = (input : List ℕ) × IsInput had input × ShowsGraph input status text
+Shows Dump captures had has status text = (input : List ℕ) × IsInput had input × ShowsDump input status text
+Shows (Draw plain) captures had has status text = (input : List ℕ) × IsInput had input × ShowsDraw plain input status text
+Shows (Sim files) captures had has status text =
+    (input : List ℕ) × (inputs : List (List ℕ)) × AreScriptInputs had captures input inputs × ShowsSim inputs input status text
+Shows (Run files) captures had has status text =
+    (input : List ℕ) × (inputs : List (List ℕ)) × AreScriptInputs had captures input inputs × ShowsRunScript inputs input status text
+
+-- only `run` halts, or can't start a thread
+abbrev pub IsFailure : Request → RunFailure → Type 0
+IsFailure (Run files) failure = ⊤
+IsFailure request failure = (fault : EngineFault) × (failure ≡ Engine fault)
+
+-- the request whose outcomes are written while its input is read
+abbrev pub is_stream : Request → Bool
+is_stream (Match code pcap stream) = stream
+is_stream request = false
+
+-- the requests for which captures are opened
+abbrev pub takes_captures : Request → Bool
+takes_captures (Sim files) = true
+takes_captures (Run files) = true
+takes_captures request = false

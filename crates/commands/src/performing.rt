@@ -1,0 +1,89 @@
+//! Each request by its engine.
+
+ghost use Rattle.std.specs.Prelude.{◌≡◌, ℕ, List, [], false, map, IfErr, IfOk, IsErrOf};
+ghost use Rattle.std.specs.Io.KnownBytes.{Appends};
+ghost use Rattle.commands.specs.Commands.{IsFailure, Shows, ShowsMatch, is_stream, takes_captures};
+
+use command_line::Request;
+use console::{EngineFault, run_check, run_dump, run_match, run_stream};
+use core_threads::Gate;
+use draw_engine::run_draw;
+use graph_engine::{run_explain, run_graph};
+use run_engine::{RunFailure, run_run};
+use sim_engine::run_sim;
+use std::alloc::Global;
+use std::io::{Read, Write};
+use std::sync::Wait;
+use std::thread::Threads;
+use std::time::Clock;
+
+/// Does what was asked for with the input and these captures, and answers the exit status: 0, or 1 where an input was refused. What it
+/// writes is the text of the command for what it read.
+///
+/// Only `sim` and `run` take captures, and only `run` starts threads, whose receipts ask the gate. After a failure a front of the text may
+/// have been written; where a read failed, only by a stream.
+pub fn perform<T: Threads + Wait + Clock + Sync, G: Gate + Sync, R: Read, F: Read + Drop, W: Write>(
+    rt: &T,
+    alloc: Global,
+    gate: &G,
+    request: &Request,
+    captures: Vec<F>,
+    reader: &mut R,
+    writer: &mut W,
+) -> Result<u8, RunFailure>
+    ensures shown { IfOk result (λ status. (text : List ℕ) × Appends (W.contents writer.old) (W.contents writer.new) text
+        × Shows request.now (map F.remaining captures.items) (R.remaining reader.old) (R.remaining reader.new) status text) }
+    ensures failure { IfErr result (IsFailure request.now) }
+    ensures silent { IsErrOf result (RunFailure.Engine EngineFault.ReadFailed) → is_stream request.now ≡ false → writer.new ≡ writer.old }
+{
+    match request {
+        Request::Sim { .. } => Ok(run_sim(alloc, captures, reader, writer)?),
+        Request::Run { .. } => run_run(rt, alloc, gate, captures, reader, writer),
+        _ => perform_alone(alloc, request, reader, writer).map_err(RunFailure::Engine),
+    }
+}
+
+/// Does what was asked for, where it takes no captures.
+fn perform_alone<R: Read, W: Write>(
+    alloc: Global,
+    request: &Request,
+    reader: &mut R,
+    writer: &mut W,
+) -> Result<u8, EngineFault>
+    requires { takes_captures request.now ≡ false }
+    ensures shown { IfOk result (λ status. (text : List ℕ) × Appends (W.contents writer.old) (W.contents writer.new) text
+        × Shows request.now [] (R.remaining reader.old) (R.remaining reader.new) status text) }
+    ensures silent { IsErrOf result EngineFault.ReadFailed → is_stream request.now ≡ false → writer.new ≡ writer.old }
+{
+    match request {
+        Request::Match { code, pcap, stream } => {
+            perform_match(alloc, code, *pcap, *stream, reader, writer)
+        }
+        Request::Explain { code } => run_explain(alloc, code.as_bytes(), reader, writer),
+        Request::Check { asm } => run_check(alloc, *asm, reader, writer),
+        Request::Graph => run_graph(alloc, reader, writer),
+        Request::Dump => run_dump(alloc, reader, writer),
+        Request::Draw { text } => run_draw(alloc, *text, reader, writer),
+        Request::Sim { .. } | Request::Run { .. } => Err(EngineFault::NoMemory),
+    }
+}
+
+/// Runs a filter on packets, each outcome written at once or all at the end.
+fn perform_match<R: Read, W: Write>(
+    alloc: Global,
+    code: &str,
+    pcap: bool,
+    stream: bool,
+    reader: &mut R,
+    writer: &mut W,
+) -> Result<u8, EngineFault>
+    ensures shown { IfOk result (λ status. (text : List ℕ) × Appends (W.contents writer.old) (W.contents writer.new) text
+        × ShowsMatch code.now pcap stream (R.remaining reader.old) (R.remaining reader.new) status text) }
+    ensures silent { IsErrOf result EngineFault.ReadFailed → stream ≡ false → writer.new ≡ writer.old }
+{
+    if stream {
+        run_stream(alloc, code.as_bytes(), pcap, reader, writer)
+    } else {
+        run_match(alloc, code.as_bytes(), pcap, reader, writer)
+    }
+}

@@ -1,5 +1,0 @@
-use Rattle.std.proofs.Common.{[], ◌∷◌}
-use Rattle.core_join.proofs.tests.run_of.Goals as goal
-
-pub conclude-requires : goal.conclude-requires
-conclude-requires c = (100, 100 ∷ [], rw c.in_ok-cores.ensures.items (c.take_turns.ensures 100 (100 ∷ []) c.in_ok-first.ensures))

@@ -1,6 +1,0 @@
-use Rattle.std.proofs.Common.{ℕ, List, [], ◌∷◌}
-use Rattle.core_join.specs.Machines.{IsMachine}
-use Rattle.core_join.proofs.tests.take_turns_alone.Given as goal
-
-abbrev pub invariant-loop : goal.invariant-loop
-invariant-loop l = (budget : ℕ) (budgets : List ℕ) → IsMachine budget budgets (l.initial.core ∷ []) → IsMachine budget budgets (l.core ∷ [])

@@ -1,6 +1,0 @@
-use Rattle.rx_queue.specs.Queue.{SameIntake}
-use Rattle.rx_queue.proofs.tests.take_all.Given as goal
-
--- the intake stays on its queue
-abbrev pub invariant-loop : goal.invariant-loop
-invariant-loop g l = SameIntake l.initial.intake l.intake

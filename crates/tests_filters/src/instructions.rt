@@ -1,0 +1,379 @@
+//! Decimal texts, codes and bytes of instructions, and assembler texts.
+
+use bpf_insn::{
+    AluOp, Form, Insn, Size, Test, TextFault, printable, read_ddd, write_asm, write_ddd,
+};
+use std::alloc::{AllocError, Global};
+use std::process::Abort;
+use std::test::Fail;
+
+fn insn(code: u16, jt: u8, jf: u8, k: u32) -> Insn {
+    Insn { code, jt, jf, k }
+}
+
+/// Whether a text spells these instructions.
+fn spells(alloc: Global, text: &[u8], want: &[Insn]) -> bool {
+    match read_ddd(alloc, text) {
+        Ok(program) => program.as_slice() == want,
+        Err(_) => false,
+    }
+}
+
+/// The fault of a text, if it has one.
+fn fault(alloc: Global, text: &[u8]) -> Option<TextFault> {
+    read_ddd(alloc, text).err()
+}
+
+/// The filter of ARP packets over Ethernet.
+fn arp() -> [Insn; 4] {
+    [
+        insn(40, 0, 0, 12),
+        insn(21, 0, 1, 2054),
+        insn(6, 0, 0, 4294967295),
+        insn(6, 0, 0, 0),
+    ]
+}
+
+#[test]
+fn texts_of_programs(rt: HostRuntime) {
+    let alloc = rt.alloc();
+    let comma: &[u8] = b"4,40 0 0 12,21 0 1 2054,6 0 0 4294967295,6 0 0 0";
+    let comma_at_end: &[u8] = b"4,40 0 0 12,21 0 1 2054,6 0 0 4294967295,6 0 0 0,";
+    let lines: &[u8] = b"4\n40 0 0 12\n21 0 1 2054\n6 0 0 4294967295\n6 0 0 0\n";
+    let dos_lines: &[u8] = b"4\r\n40 0 0 12\r\n21 0 1 2054\r\n6 0 0 4294967295\r\n6 0 0 0\r\n\r\n";
+    let blanks: &[u8] =
+        b"  4\t, 40\t0 0   12,\t21 0 1 2054\r,6 0\r0 4294967295 \n6 0 0 0 , ,\n\t\n";
+    let zeros: &[u8] =
+        b"0004,00040 00 000 012,021 0 01 02054,6 0 0 000000000000004294967295,06 0 0 00";
+    for text in [comma, comma_at_end, lines, dos_lines, blanks, zeros] {
+        assert!(rt; spells(alloc, text, &arp()), "{text:?}");
+    }
+    assert!(rt; spells(alloc, b"1,6 0 0 5,", &[insn(6, 0, 0, 5)]));
+    assert!(rt;
+        spells(
+            alloc,
+            b"1,65535 255 255 4294967295",
+            &[insn(65535, 255, 255, 4294967295)]
+        )
+    );
+    assert!(rt; spells(alloc, b"0", &[]));
+    assert!(rt; spells(alloc, b"0,\n", &[]));
+}
+
+#[test]
+fn faults_of_texts(rt: HostRuntime) {
+    let alloc = rt.alloc();
+    let count: [&[u8]; 12] = [
+        b"",
+        b" \t\r",
+        b",\n,",
+        b"\n1,6 0 0 5",
+        b"x,6 0 0 5",
+        b"1 1,6 0 0 5",
+        b"-1,6 0 0 5",
+        b"+1,6 0 0 5",
+        b"0x1,6 0 0 5",
+        b"1;6 0 0 5",
+        b"1\x0b,6 0 0 5",
+        b"4097x",
+    ];
+    for text in count {
+        assert_eq!(rt;
+            fault(alloc, text),
+            Some(TextFault::BadNumber(0)),
+            "{text:?}"
+        );
+    }
+    let first: [&[u8]; 9] = [
+        b"1,6 0 256 5",
+        b"1,65536 0 0 5",
+        b"1,6 256 0 5",
+        b"1,6 0 0 4294967296",
+        b"1,6 0 0 99999999999999999999999999",
+        b"1,6 0 0",
+        b"1,6 0 0 5 5",
+        b"2,,6 0 0 5",
+        b"3,6 0 0 5k,6 0 0,6 0 0 5",
+    ];
+    for text in first {
+        assert_eq!(rt;
+            fault(alloc, text),
+            Some(TextFault::BadNumber(1)),
+            "{text:?}"
+        );
+    }
+    assert_eq!(rt;
+        fault(alloc, b"3,6 0 0 5,6 0 0 5,6 0 0 -5"),
+        Some(TextFault::BadNumber(3))
+    );
+    let long: [&[u8]; 4] = [
+        b"4097",
+        b"4097,x",
+        b"18446744073709551617,6 0 0 5",
+        b"99999999999999999999999999999999999999999",
+    ];
+    for text in long {
+        assert_eq!(rt; fault(alloc, text), Some(TextFault::TooLong), "{text:?}");
+    }
+    let other: [&[u8]; 6] = [
+        b"2,6 0 0 5",
+        b"1,6 0 0 5,6 0 0 5",
+        b"1",
+        b"0,6 0 0 5",
+        b"2,x",
+        b"4096,6 0 0 5",
+    ];
+    for text in other {
+        assert_eq!(rt;
+            fault(alloc, text),
+            Some(TextFault::CountMismatch),
+            "{text:?}"
+        );
+    }
+}
+
+/// A text of so many instructions.
+fn returns(alloc: Global, count: u32) -> Result<String, AllocError> {
+    let mut text = format!(in alloc; "{count}")?;
+    for _ in 0..count {
+        text.push_str(",6 0 0 5")?;
+    }
+    Ok(text)
+}
+
+#[test]
+fn the_longest_program(rt: HostRuntime) -> Result<(), Fail> {
+    let alloc = rt.alloc();
+    let longest = returns(alloc, 4096)?;
+    match read_ddd(alloc, longest.as_bytes()) {
+        Ok(program) => {
+            assert_eq!(rt; program.len(), 4096);
+            for one in &program {
+                assert_eq!(rt; *one, insn(6, 0, 0, 5));
+            }
+        }
+        Err(fault) => panic!(rt; "{fault:?}"),
+    }
+    let longer = returns(alloc, 4097)?;
+    assert_eq!(rt; fault(alloc, longer.as_bytes()), Some(TextFault::TooLong));
+    Ok(())
+}
+
+/// The codes of the loads from the packet, at a fixed place and at one from the index register on.
+const LOADS: [(u16, u16, Size); 3] = [
+    (0x20, 0x40, Size::Word),
+    (0x28, 0x48, Size::Half),
+    (0x30, 0x50, Size::Byte),
+];
+
+/// The codes of the operations, with a constant and with the index register.
+const OPERATIONS: [(u16, u16, AluOp); 10] = [
+    (0x04, 0x0c, AluOp::Add),
+    (0x14, 0x1c, AluOp::Sub),
+    (0x24, 0x2c, AluOp::Mul),
+    (0x34, 0x3c, AluOp::Div),
+    (0x44, 0x4c, AluOp::Or),
+    (0x54, 0x5c, AluOp::And),
+    (0x64, 0x6c, AluOp::Lsh),
+    (0x74, 0x7c, AluOp::Rsh),
+    (0x94, 0x9c, AluOp::Mod),
+    (0xa4, 0xac, AluOp::Xor),
+];
+
+/// The codes of the conditional jumps, with a constant and with the index register.
+const TESTS: [(u16, u16, Test); 4] = [
+    (0x15, 0x1d, Test::Equal),
+    (0x25, 0x2d, Test::Greater),
+    (0x35, 0x3d, Test::GreaterOrEqual),
+    (0x45, 0x4d, Test::AnyBit),
+];
+
+const OTHERS: [(u16, Form); 15] = [
+    (0x00, Form::LdImm { k: 7 }),
+    (0x60, Form::LdMem { k: 7 }),
+    (0x80, Form::LdLen),
+    (0x01, Form::LdxImm { k: 7 }),
+    (0x61, Form::LdxMem { k: 7 }),
+    (0x81, Form::LdxLen),
+    (0xb1, Form::LdxMsh { k: 7 }),
+    (0x02, Form::St { k: 7 }),
+    (0x03, Form::Stx { k: 7 }),
+    (0x84, Form::Neg),
+    (0x05, Form::Ja { k: 7 }),
+    (0x06, Form::RetK { k: 7 }),
+    (0x16, Form::RetA),
+    (0x07, Form::Tax),
+    (0x87, Form::Txa),
+];
+
+fn has_form(rt: &impl Abort, code: u16, form: Form) {
+    assert_eq!(rt; insn(code, 3, 5, 7).form(), Some(form), "{code:#x}");
+}
+
+#[test]
+fn codes_of_forms(rt: HostRuntime) {
+    for (fixed, indexed, size) in LOADS {
+        has_form(&rt, fixed, Form::LdAbs { size, k: 7 });
+        has_form(&rt, indexed, Form::LdInd { size, k: 7 });
+    }
+    for (constant, index, op) in OPERATIONS {
+        has_form(&rt, constant, Form::AluK { op, k: 7 });
+        has_form(&rt, index, Form::AluX { op });
+    }
+    for (constant, index, test) in TESTS {
+        has_form(
+            &rt,
+            constant,
+            Form::JmpK {
+                test,
+                k: 7,
+                jt: 3,
+                jf: 5,
+            },
+        );
+        has_form(&rt, index, Form::JmpX { test, jt: 3, jf: 5 });
+    }
+    for (code, form) in OTHERS {
+        has_form(&rt, code, form);
+    }
+    let known = (0..=u16::MAX)
+        .filter(|code| insn(*code, 3, 5, 7).form().is_some())
+        .count();
+    assert_eq!(rt; known, 49);
+}
+
+#[test]
+fn bytes_of_instructions(rt: HostRuntime) {
+    let one = insn(0x1234, 0x56, 0x78, 0x9abcdef0);
+    let bytes = [0x34, 0x12, 0x56, 0x78, 0xf0, 0xde, 0xbc, 0x9a];
+    assert_eq!(rt; one.to_bytes(), bytes);
+    assert_eq!(rt; Insn::from_bytes(bytes), one);
+    for one in arp() {
+        assert_eq!(rt; Insn::from_bytes(one.to_bytes()), one);
+    }
+}
+
+#[test]
+fn decimal_texts_written(rt: HostRuntime) -> Result<(), Fail> {
+    let alloc = rt.alloc();
+    let written = write_ddd(alloc, &arp())?;
+    let lines: &[u8] = b"4\n40 0 0 12\n21 0 1 2054\n6 0 0 4294967295\n6 0 0 0\n";
+    assert!(rt; written.as_slice() == lines);
+    assert!(rt; spells(alloc, lines, &arp()));
+    let nothing = write_ddd(alloc, &[])?;
+    assert!(rt; nothing.as_slice() == b"0\n".as_slice());
+    let any = [
+        insn(65535, 255, 255, 4294967295),
+        insn(0, 10, 200, 1000000000),
+    ];
+    let text = write_ddd(alloc, &any)?;
+    assert!(rt;
+        text.as_slice() == b"2\n65535 255 255 4294967295\n0 10 200 1000000000\n".as_slice()
+    );
+    assert!(rt; spells(alloc, text.as_slice(), &any));
+    Ok(())
+}
+
+/// Whether a program has this assembler text.
+fn prints_as(alloc: Global, program: &[Insn], want: &str) -> bool {
+    if !printable(program) {
+        return false;
+    }
+    match write_asm(alloc, program) {
+        Ok(text) => text.as_slice() == want.as_bytes(),
+        Err(_) => false,
+    }
+}
+
+/// Each code, and the text at place 0 of its instruction with 1, 2 and 7 in its fields.
+const TEXTS: [(u16, &str); 49] = [
+    (0x00, "ldi #7"),
+    (0x20, "ld [7]"),
+    (0x28, "ldh [7]"),
+    (0x30, "ldb [7]"),
+    (0x40, "ld [x + 7]"),
+    (0x48, "ldh [x + 7]"),
+    (0x50, "ldb [x + 7]"),
+    (0x60, "ld M[7]"),
+    (0x80, "ld #len"),
+    (0x01, "ldxi #7"),
+    (0x61, "ldx M[7]"),
+    (0x81, "ldx #len"),
+    (0xb1, "ldxb 4*([7]&0xf)"),
+    (0x02, "st M[7]"),
+    (0x03, "stx M[7]"),
+    (0x04, "add #7"),
+    (0x14, "sub #7"),
+    (0x24, "mul #7"),
+    (0x34, "div #7"),
+    (0x44, "or #7"),
+    (0x54, "and #7"),
+    (0x64, "lsh #7"),
+    (0x74, "rsh #7"),
+    (0x94, "mod #7"),
+    (0xa4, "xor #7"),
+    (0x0c, "add x"),
+    (0x1c, "sub x"),
+    (0x2c, "mul x"),
+    (0x3c, "div x"),
+    (0x4c, "or x"),
+    (0x5c, "and x"),
+    (0x6c, "lsh x"),
+    (0x7c, "rsh x"),
+    (0x9c, "mod x"),
+    (0xac, "xor x"),
+    (0x84, "neg"),
+    (0x05, "jmp l8"),
+    (0x15, "jeq #7, l2, l3"),
+    (0x25, "jgt #7, l2, l3"),
+    (0x35, "jge #7, l2, l3"),
+    (0x45, "jset #7, l2, l3"),
+    (0x1d, "jeq x, l2, l3"),
+    (0x2d, "jgt x, l2, l3"),
+    (0x3d, "jge x, l2, l3"),
+    (0x4d, "jset x, l2, l3"),
+    (0x06, "ret #7"),
+    (0x16, "ret a"),
+    (0x07, "tax"),
+    (0x87, "txa"),
+];
+
+#[test]
+fn assembler_texts(rt: HostRuntime) -> Result<(), Fail> {
+    let alloc = rt.alloc();
+    let lines = "l0: ldh [12]\nl1: jeq #2054, l2, l3\nl2: ret #4294967295\nl3: ret #0\n";
+    assert!(rt; prints_as(alloc, &arp(), lines));
+    assert!(rt; prints_as(alloc, &[], ""));
+    let rest =
+        "l1: ret #0\nl2: ret #0\nl3: ret #0\nl4: ret #0\nl5: ret #0\nl6: ret #0\nl7: ret #0\nl8: ret #0\n";
+    for (code, want) in TEXTS {
+        let mut program = [insn(6, 0, 0, 0); 9];
+        program[0] = insn(code, 1, 2, 7);
+        let text = format!(in alloc; "l0: {want}\n{rest}")?;
+        assert!(rt; prints_as(alloc, &program, text.as_str()), "{want}");
+    }
+    Ok(())
+}
+
+#[test]
+fn what_is_printable(rt: HostRuntime) -> Result<(), Fail> {
+    let alloc = rt.alloc();
+    assert!(rt; printable(&[]));
+    assert!(rt; printable(&arp()));
+    let end = insn(6, 0, 0, 0);
+    assert!(rt; !printable(&[insn(5, 0, 0, 0)]));
+    assert!(rt; !printable(&[insn(5, 0, 0, 1), end]));
+    assert!(rt; printable(&[insn(5, 0, 0, 0), end]));
+    assert!(rt; !printable(&[insn(5, 0, 0, 4294967295), end]));
+    assert!(rt; !printable(&[insn(0x15, 1, 0, 0), end]));
+    assert!(rt; !printable(&[insn(0x15, 0, 1, 0), end]));
+    assert!(rt; printable(&[insn(0x15, 0, 0, 0), end]));
+    assert!(rt; !printable(&[insn(0x1d, 1, 0, 0), end]));
+    assert!(rt; !printable(&[insn(0x1d, 0, 1, 0), end]));
+    assert!(rt; !printable(&[insn(0x0e, 0, 0, 0), end]));
+    let longest = vec![in alloc; end; 4096]?;
+    assert!(rt; printable(&longest));
+    let longer = vec![in alloc; end; 4097]?;
+    assert!(rt; !printable(&longer));
+    Ok(())
+}

@@ -1,0 +1,13 @@
+//! Tests of filters and captures by their public calls: instructions, the verifier, the machine, the assembler, captures.
+#![tactic(auto)]
+
+#[cfg(test)]
+mod assembler;
+#[cfg(test)]
+mod captures;
+#[cfg(test)]
+mod instructions;
+#[cfg(test)]
+mod machine;
+#[cfg(test)]
+mod verifier;

@@ -1,0 +1,11 @@
+//! Tests of machines by their public calls: all cores as one value, a core that runs, joined cores, cores as threads.
+#![tactic(auto)]
+
+#[cfg(test)]
+mod joined;
+#[cfg(test)]
+mod running;
+#[cfg(test)]
+mod threads;
+#[cfg(test)]
+mod world;

@@ -1,0 +1,73 @@
+//! A core over rings whose lines are written by hand.
+
+ghost use Rattle.std.specs.Prelude.{ℕ, IfOk};
+ghost use Rattle.core_links.specs.RingSlots.{ring_view};
+ghost use Rattle.core_loop.specs.Standing.{IsSilent};
+
+use core_loop::{Cause, Core, LineFault, RingLinks, Turn};
+use rtrb::RingBuffer;
+use rx_queue::queue;
+use std::alloc::{AllocError, Global};
+use std::collections::VecDeque;
+use std::test::Fail;
+use ump_ring::{Joiner, Line, Receiver, ring};
+
+// The links of core 1 of two, over which these lines have come: their first two words, where all others are 0.
+fn given_links(alloc: Global, heads: &[(u64, u64)]) -> Result<RingLinks, AllocError>
+    ensures { IfOk result (λ r. (p : ℕ) → IsSilent (ring_view r p)) }
+{
+    let (mut producer, consumer) = RingBuffer::<Line>::new(alloc, 8)?;
+    let receiver = Receiver::new(consumer, Joiner::new(alloc)?);
+    for (head, word) in heads {
+        let _ = producer.push([*head, *word, 0, 0, 0, 0, 0, 0]);
+    }
+    let (sender, _) = ring(alloc, 1)?;
+    let mut links = RingLinks::new(alloc, 1, 2)?;
+    links.join(0, sender, receiver);
+    Ok(links)
+}
+
+// What two turns of that core answer, and what it has done and knows then.
+fn turns_at(alloc: Global, heads: &[(u64, u64)]) -> Result<(Turn, Turn, u64, usize), AllocError> {
+    let (_port, intake) = queue(alloc, 1)?;
+    let links = given_links(alloc, heads)?;
+    let requests = VecDeque::new(alloc);
+    let mut core = Core::new(alloc, links, 100, 1, 2, requests, intake)?;
+    let first = core.turn(true);
+    let second = core.turn(true);
+    Ok((first, second, core.version(), core.history().len()))
+}
+
+const OUT_OF_SEQUENCE: Turn = Turn::Stopped(Cause::Line(LineFault::OutOfSequence));
+
+const BAD_LENGTH: Turn = Turn::Stopped(Cause::Line(LineFault::BadLength));
+
+const BAD_MESSAGE: Turn = Turn::Stopped(Cause::BadMessage);
+
+#[test]
+fn a_line_out_of_sequence_stops_a_core(rt: HostRuntime) -> Result<(), Fail> {
+    let found = turns_at(rt.alloc(), &[(4294967297, 5)])?;
+    assert_eq!(rt; found, (OUT_OF_SEQUENCE, OUT_OF_SEQUENCE, 0, 0));
+    Ok(())
+}
+
+#[test]
+fn a_bad_length_stops_a_core(rt: HostRuntime) -> Result<(), Fail> {
+    let found = turns_at(rt.alloc(), &[(0, 0)])?;
+    assert_eq!(rt; found, (BAD_LENGTH, BAD_LENGTH, 0, 0));
+    Ok(())
+}
+
+#[test]
+fn a_bad_padding_stops_a_core(rt: HostRuntime) -> Result<(), Fail> {
+    let found = turns_at(rt.alloc(), &[(4294967296, 261)])?;
+    assert_eq!(rt; found, (BAD_LENGTH, BAD_LENGTH, 0, 0));
+    Ok(())
+}
+
+#[test]
+fn bytes_that_are_no_message_stop_a_core(rt: HostRuntime) -> Result<(), Fail> {
+    let found = turns_at(rt.alloc(), &[(4294967296, 9)])?;
+    assert_eq!(rt; found, (BAD_MESSAGE, BAD_MESSAGE, 0, 0));
+    Ok(())
+}

@@ -1,0 +1,13 @@
+//! Tests of the table and of two-phase commit by their public calls: capabilities, the replica, messages, both roles.
+#![tactic(auto)]
+
+#[cfg(test)]
+mod capabilities;
+#[cfg(test)]
+mod commit;
+#[cfg(test)]
+mod messages;
+#[cfg(test)]
+mod replica;
+#[cfg(test)]
+mod rounds;

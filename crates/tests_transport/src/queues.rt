@@ -1,0 +1,100 @@
+ghost use Rattle.rx_queue.specs.Queue.{SameIntake, SamePort};
+
+use pcap_reader::{Bytes, Packet};
+use rx_queue::{Intake, Job, Port, queue};
+use std::alloc::Global;
+use std::sync::Wait;
+use std::test::Fail;
+use std::thread;
+
+// A job with this number, whose packet has no byte.
+fn job(alloc: Global, number: u64) -> Job {
+    Job {
+        number,
+        packet: Packet {
+            bytes: Bytes::from_vec(Vec::new(alloc)),
+            original: 60,
+        },
+        floor: 0,
+    }
+}
+
+#[test]
+fn a_queue_of_one(rt: HostRuntime) -> Result<(), Fail> {
+    let alloc = rt.alloc();
+    let (mut port, mut intake) = queue(alloc, 1)?;
+    assert!(rt; intake.front().is_none());
+    assert!(rt; port.put(job(alloc, 1)).is_ok());
+    let refused = port.put(job(alloc, 2));
+    assert_eq!(rt; refused.err().map(|full| full.0), Some(job(alloc, 2)));
+    assert_eq!(rt; intake.front().map(|job| job.number), Some(1));
+    assert_eq!(rt; intake.next(), Some(job(alloc, 1)));
+    assert_eq!(rt; intake.next(), None);
+    intake.look();
+    assert!(rt; intake.seen().is_none());
+    assert!(rt; port.put(job(alloc, 3)).is_ok());
+    assert!(rt; intake.seen().is_none());
+    intake.look();
+    assert_eq!(rt; intake.seen().map(|job| job.number), Some(3));
+    assert_eq!(rt; intake.rest(&mut port), Some(job(alloc, 3)));
+    assert_eq!(rt; intake.rest(&mut port), None);
+    Ok(())
+}
+
+// Puts jobs with the numbers from 0 on, and waits where the queue is full.
+fn put_all(rt: &impl Wait, alloc: Global, port: Port, count: u64) -> Port
+    ensures { SamePort port result }
+{
+    let mut port = port;
+    let mut number = 0;
+    for _ in rt.forever() {
+        if number >= count {
+            return port;
+        }
+        match port.put(job(alloc, number)) {
+            Ok(()) => number += 1,
+            Err(_) => thread::yield_now(),
+        }
+    }
+    unreachable!()
+}
+
+// Takes jobs with the numbers from 0 on, and says how many came in this order.
+fn take_all(rt: &impl Wait, intake: Intake, count: u64) -> (Intake, u64)
+    ensures { SameIntake intake result.0 }
+{
+    let mut intake = intake;
+    let mut number = 0;
+    for _ in rt.forever() {
+        if number >= count {
+            return (intake, number);
+        }
+        match intake.next() {
+            Some(job) if job.number == number => number += 1,
+            Some(_) => return (intake, number),
+            None => thread::yield_now(),
+        }
+    }
+    unreachable!()
+}
+
+#[test]
+fn jobs_go_from_thread_to_thread(rt: HostRuntime) -> Result<(), Fail> {
+    let alloc = rt.alloc();
+    let (port, intake) = queue(alloc, 16)?;
+    let (mut port, (mut intake, taken)) = thread::join(
+        &rt,
+        || -> Port
+            ensures { SamePort port result }
+        { put_all(&rt, alloc, port, 1_000) },
+        || -> (Intake, u64)
+            ensures { SameIntake intake result.0 }
+        { take_all(&rt, intake, 997) },
+    );
+    assert_eq!(rt; taken, 997);
+    for number in 997..1_000 {
+        assert_eq!(rt; intake.rest(&mut port), Some(job(alloc, number)));
+    }
+    assert_eq!(rt; intake.rest(&mut port), None);
+    Ok(())
+}

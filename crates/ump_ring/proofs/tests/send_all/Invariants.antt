@@ -1,6 +1,0 @@
-use Rattle.ump_ring.specs.Senders.{SameSender}
-use Rattle.ump_ring.proofs.tests.send_all.Given as goal
-
--- the sender stays on its ring
-abbrev pub invariant-loop : goal.invariant-loop
-invariant-loop g l = SameSender l.initial.sender l.sender
