@@ -8,7 +8,7 @@ ghost use Rattle.hex.specs.Hex.{decode_of};
 ghost use Rattle.std.specs.Option.{option_map_or};
 ghost use Rattle.bpf_insn.specs.AsmText.{printed};
 ghost use Rattle.bpf_insn.specs.Program.{form_at};
-ghost use Rattle.bpf_insn.specs.declared.insn.Insn.{Insn as Any};
+ghost use Rattle.bpf_insn.specs.declared.insn.Insn.{Insn};
 ghost use Rattle.filter_verify.specs.Rules.{Sound};
 ghost use Rattle.console.specs.Code.{IsGoodCode, ShowsBadCode};
 ghost use Rattle.console.specs.Matching.{IsEngineFault};
@@ -44,7 +44,7 @@ pub fn run_explain<R: Read, W: Write>(
     ensures shown { IfOk result (λ status. (text : List ℕ) × Appends (W.contents writer.old) (W.contents writer.new) text
         × ((ShowsBadCode code.now text × (status ≡ 1))
         ⊎ ((input : List ℕ) × IsInput (R.remaining reader.old) input × spec.ShowsExplained code.now input status text))) }
-    ensures unread { ((program : List Any) → IsGoodCode code.now program → ⊥) → reader.new ≡ reader.old }
+    ensures unread { ((program : List Insn) → IsGoodCode code.now program → ⊥) → reader.new ≡ reader.old }
     ensures fault { IfErr result IsEngineFault }
     ensures silent { IsErrOf result EngineFault.ReadFailed ⊎ IsErrOf result EngineFault.NoMemory → writer.new ≡ writer.old }
 {

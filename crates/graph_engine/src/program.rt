@@ -9,7 +9,8 @@ ghost use Rattle.graph_engine.specs.Showing.{ShowsAsm, ShowsGraph, Verifies};
 use crate::graph::graph;
 use bpf_insn::Insn;
 use console::{
-    EngineFault, INPUT_BYTES, INPUT_READS, Input, fault_line, read_bounded, write_bytes, write_text,
+    EngineFault, INPUT_BYTES, INPUT_READS, Input, fault_line, read_bounded, refuse_long,
+    write_bytes,
 };
 use filter_asm::assemble;
 use filter_verify::{Refusal, verify};
@@ -36,10 +37,7 @@ pub fn run_graph<R: Read, W: Write>(
     ensures silent { (result ≡ Err EngineFault.ReadFailed) ⊎ (result ≡ Err EngineFault.NoMemory) → writer.new ≡ writer.old }
 {
     match read_bounded(alloc, reader, INPUT_BYTES, INPUT_READS)? {
-        Input::TooLong => {
-            write_text(writer, "fault InputTooLong\n")?;
-            Ok(1)
-        }
+        Input::TooLong => refuse_long(writer),
         Input::Whole(input) => {
             let drawing = draw_text(alloc, input.as_slice())?;
             write_bytes(writer, drawing.text.as_slice())?;

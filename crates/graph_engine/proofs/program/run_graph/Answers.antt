@@ -1,12 +1,11 @@
 use Rattle.std.proofs.Common.{refl, inl, inr}
-use Rattle.console.proofs.MatchingLemmas.{long_input, whole_input}
+use Rattle.console.proofs.MatchingLemmas.{shown_long, whole_input}
+use Rattle.graph_engine.specs.Showing.{ShowsGraph}
 use Rattle.graph_engine.proofs.program.run_graph.Goals as goal
 
-pub returns-in_ok-write_text-in-TooLong-clause-shown : goal.returns-in_ok-write_text-in-TooLong-clause-shown
-returns-in_ok-write_text-in-TooLong-clause-shown g c =
-    let given = rw c.in-TooLong.is at c.in_ok-read_bounded.ensures.input in
-    let input = long_input _ _ given.0 _ given.1 given.2 in
-    (_, c.in_ok-write_text-in-TooLong.ensures.written, (input.0, input.1, inr (input.2, refl, refl)))
+pub returns-in-TooLong-clause-shown : goal.returns-in-TooLong-clause-shown
+returns-in-TooLong-clause-shown g c =
+    shown_long c.refuse_long.result _ _ _ _ ShowsGraph (rw c.in-TooLong.is at c.in_ok-read_bounded.ensures.input) (λ input long. inr (long, refl, refl)) c.refuse_long.ensures.shown
 
 pub returns-in_ok-write_bytes-in-Whole-clause-shown : goal.returns-in_ok-write_bytes-in-Whole-clause-shown
 returns-in_ok-write_bytes-in-Whole-clause-shown g c =
