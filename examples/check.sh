@@ -27,11 +27,11 @@ prints() {
     count "$out" $?
 }
 
-# SCRIPT FILE..: without its one `settle`, and with its output after `trace`, the script prints this output again.
+# SCRIPT FILE..: with its requests and packets alone, and with its output after `trace`, the script prints this output again.
 repeats() {
     script=$1
     shift
-    { grep -v '^settle$' "$script.script"; echo trace; cat "$script.out"; } |
+    { grep -v -E '^(settle|start|submit|startfor|take)( |$)' "$script.script"; echo trace; cat "$script.out"; } |
         ../mkdemux sim "$@" > "$made/printed" && cmp -s "$made/printed" "$script.out"
     count "$script-traced" $?
 }
@@ -70,9 +70,11 @@ prints revoked revoked
 prints replay replay frames.pcap
 prints veto veto
 prints home home
+prints homes homes
 prints files files frames.pcap two.pcap
 prints files-swapped files two.pcap frames.pcap
 repeats replay frames.pcap
+repeats homes
 draws two-phase
 draws revoked
 draws replay
