@@ -1,10 +1,10 @@
 //! Texts, and the programs or faults that they stand for.
 
+use crate::facts::{equal, equal_at, holds, holds_at};
 use bpf_insn::{Insn, printable, write_asm};
 use filter_asm::{AsmFault, AsmFaultKind, assemble};
 use std::alloc::Global;
 use std::process::Abort;
-use std::test::Fail;
 
 fn insn(code: u16, jt: u8, jf: u8, k: u32) -> Insn {
     Insn { code, jt, jf, k }
@@ -164,10 +164,11 @@ static SHAPES: [Row; 115] = [
 
 fn check_rows(rt: &impl Abort, alloc: Global, rows: &[Row]) {
     for (line, code, jt, jf, k) in rows {
-        assert_eq!(rt;
+        equal_at(
+            rt,
             first(alloc, line),
             Some(insn(*code, *jt, *jf, *k)),
-            "{line}"
+            &line,
         );
     }
 }
@@ -181,7 +182,8 @@ fn each_shape_of_each_mnemonic(rt: HostRuntime) {
 fn filters_of_the_linux_documentation(rt: HostRuntime) {
     let alloc = rt.alloc();
     let arp = b"ldh [12]\njne #0x806, drop\nret #-1\ndrop: ret #0\n";
-    assert!(rt;
+    holds(
+        &rt,
         gives(
             alloc,
             arp,
@@ -189,12 +191,13 @@ fn filters_of_the_linux_documentation(rt: HostRuntime) {
                 insn(40, 0, 0, 12),
                 insn(21, 0, 1, 2054),
                 insn(6, 0, 0, 4294967295),
-                insn(6, 0, 0, 0)
-            ]
-        )
+                insn(6, 0, 0, 0),
+            ],
+        ),
     );
     let tcp = b"ldh [12]\njne #0x800, drop\nldb [23]\njneq #6, drop\nret #-1\ndrop: ret #0\n";
-    assert!(rt;
+    holds(
+        &rt,
         gives(
             alloc,
             tcp,
@@ -204,40 +207,51 @@ fn filters_of_the_linux_documentation(rt: HostRuntime) {
                 insn(48, 0, 0, 23),
                 insn(21, 0, 1, 6),
                 insn(6, 0, 0, 4294967295),
-                insn(6, 0, 0, 0)
-            ]
-        )
+                insn(6, 0, 0, 0),
+            ],
+        ),
     );
 }
 
 #[test]
 fn labels_lines_and_blanks(rt: HostRuntime) {
     let alloc = rt.alloc();
-    assert!(rt; gives(alloc, b"", &[]));
-    assert!(rt; gives(alloc, b"; nothing; at all\n\t \r\n", &[]));
-    assert!(rt; gives(alloc, b"jmp e\ne:", &[insn(5, 0, 0, 0)]));
-    assert!(rt; gives(alloc, b"jmp e;e:\ne:E:jmp:", &[insn(5, 0, 0, 0)]));
-    assert!(rt;
+    holds(&rt, gives(alloc, b"", &[]));
+    holds(&rt, gives(alloc, b"; nothing; at all\n\t \r\n", &[]));
+    holds(&rt, gives(alloc, b"jmp e\ne:", &[insn(5, 0, 0, 0)]));
+    holds(
+        &rt,
+        gives(alloc, b"jmp e;e:\ne:E:jmp:", &[insn(5, 0, 0, 0)]),
+    );
+    holds(
+        &rt,
         gives(
             alloc,
             b"jeq x , ldx,x\r\nldx: neg\r\n\nx:tax ; x: \n",
-            &[insn(29, 0, 1, 0), insn(132, 0, 0, 0), insn(7, 0, 0, 0)]
-        )
+            &[insn(29, 0, 1, 0), insn(132, 0, 0, 0), insn(7, 0, 0, 0)],
+        ),
     );
 }
 
 #[test]
 fn numbers(rt: HostRuntime) {
     let alloc = rt.alloc();
-    assert!(rt; gives(alloc, b"ret #4294967295", &[insn(6, 0, 0, 4294967295)]));
-    assert!(rt; gives(alloc, b"ret # - 2147483648", &[insn(6, 0, 0, 2147483648)]));
-    assert!(rt; gives(alloc, b"ret #-0", &[insn(6, 0, 0, 0)]));
-    assert!(rt;
+    holds(
+        &rt,
+        gives(alloc, b"ret #4294967295", &[insn(6, 0, 0, 4294967295)]),
+    );
+    holds(
+        &rt,
+        gives(alloc, b"ret # - 2147483648", &[insn(6, 0, 0, 2147483648)]),
+    );
+    holds(&rt, gives(alloc, b"ret #-0", &[insn(6, 0, 0, 0)]));
+    holds(
+        &rt,
         gives(
             alloc,
             b"ret #0x00000000fFfFfFfF",
-            &[insn(6, 0, 0, 4294967295)]
-        )
+            &[insn(6, 0, 0, 4294967295)],
+        ),
     );
     let refused: [&[u8]; 8] = [
         b"ret #4294967296",
@@ -250,7 +264,7 @@ fn numbers(rt: HostRuntime) {
         b"ret #-0x80000001",
     ];
     for text in refused {
-        assert!(rt; faults(alloc, text, 1, AsmFaultKind::Number), "{text:?}");
+        holds_at(&rt, faults(alloc, text, 1, AsmFaultKind::Number), &text);
     }
 }
 
@@ -278,38 +292,54 @@ fn faults_of_texts(rt: HostRuntime) {
         (b"a: tax\njeq x, none, a\njmp a", 2, AsmFaultKind::NoLabel),
     ];
     for (text, line, kind) in texts {
-        assert!(rt; faults(alloc, text, line, kind), "{text:?}");
+        holds_at(&rt, faults(alloc, text, line, kind), &text);
     }
+}
+
+/// Adds a line behind others.
+fn append(rt: &impl Abort, text: &mut Vec<u8>, line: &[u8]) {
+    text.extend_from_slice(line).expect(rt, "there is memory");
 }
 
 /// A text of a first line, as many lines `tax` as are wanted, and a last line.
-fn with_taxes(alloc: Global, first: &[u8], count: u16, last: &[u8]) -> Result<Vec<u8>, Fail> {
-    let mut text = Vec::from_slice(alloc, first)?;
+fn with_taxes(rt: &impl Abort, alloc: Global, first: &[u8], count: u16, last: &[u8]) -> Vec<u8> {
+    let mut text = Vec::new(alloc);
+    append(rt, &mut text, first);
     for _ in 0..count {
-        text.extend_from_slice(b"tax\n")?;
+        append(rt, &mut text, b"tax\n");
     }
-    text.extend_from_slice(last)?;
-    Ok(text)
+    append(rt, &mut text, last);
+    text
+}
+
+/// The first instruction of a text that stands for a program.
+fn first_of(alloc: Global, text: &[u8]) -> Option<Insn> {
+    program(alloc, text)?.first().copied()
 }
 
 #[test]
-fn distances_and_lengths(rt: HostRuntime) -> Result<(), Fail> {
-    let alloc = rt.alloc();
-    let near = with_taxes(alloc, b"jeq #0, far\n", 255, b"far: ret #0\n")?;
-    let reached = program(alloc, &near).ok_or("no program")?;
-    assert_eq!(rt; reached.first().copied(), Some(insn(21, 255, 0, 0)));
-    let far = with_taxes(alloc, b"jeq #0, far\n", 256, b"far: ret #0\n")?;
-    assert!(rt; faults(alloc, &far, 1, AsmFaultKind::TooFar));
-    let always = with_taxes(alloc, b"jmp far\n", 256, b"far: ret #0\n")?;
-    let reached = program(alloc, &always).ok_or("no program")?;
-    assert_eq!(rt; reached.first().copied(), Some(insn(5, 0, 0, 256)));
-    let longest = with_taxes(alloc, b"", 4096, b"")?;
-    assert_eq!(rt; program(alloc, &longest).ok_or("no program")?.len(), 4096);
-    let long = with_taxes(alloc, b"", 4096, b"end: ld (")?;
-    assert!(rt; faults(alloc, &long, 4097, AsmFaultKind::TooLong));
-    let unknown = with_taxes(alloc, b"", 4096, b"ldq")?;
-    assert!(rt; faults(alloc, &unknown, 4097, AsmFaultKind::Mnemonic));
-    Ok(())
+fn distances_and_lengths(rt: HostRuntime) {
+    distances(&rt, rt.alloc());
+    lengths(&rt, rt.alloc());
+}
+
+fn distances(rt: &impl Abort, alloc: Global) {
+    let near = with_taxes(rt, alloc, b"jeq #0, far\n", 255, b"far: ret #0\n");
+    equal(rt, first_of(alloc, &near), Some(insn(21, 255, 0, 0)));
+    let far = with_taxes(rt, alloc, b"jeq #0, far\n", 256, b"far: ret #0\n");
+    holds(rt, faults(alloc, &far, 1, AsmFaultKind::TooFar));
+    let always = with_taxes(rt, alloc, b"jmp far\n", 256, b"far: ret #0\n");
+    equal(rt, first_of(alloc, &always), Some(insn(5, 0, 0, 256)));
+}
+
+fn lengths(rt: &impl Abort, alloc: Global) {
+    let longest = with_taxes(rt, alloc, b"", 4096, b"");
+    let count = program(alloc, &longest).map(|program| program.len());
+    equal(rt, count, Some(4096));
+    let long = with_taxes(rt, alloc, b"", 4096, b"end: ld (");
+    holds(rt, faults(alloc, &long, 4097, AsmFaultKind::TooLong));
+    let unknown = with_taxes(rt, alloc, b"", 4096, b"ldq");
+    holds(rt, faults(alloc, &unknown, 4097, AsmFaultKind::Mnemonic));
 }
 
 /// What the text that is printed of a program stands for, if it is printable.
@@ -330,42 +360,49 @@ struct Pairs {
 
 impl Pairs {
     /// Adds one of these codes, of whose fields these are read again.
-    fn push(&mut self, code: u16, jt: u8, jf: u8, k: u32) -> Result<(), Fail> {
-        self.printed.push(insn(code, 1, 2, 3))?;
-        self.read.push(insn(code, jt, jf, k))?;
-        Ok(())
+    fn push(&mut self, rt: &impl Abort, code: u16, jt: u8, jf: u8, k: u32) {
+        let printed = self.printed.push(insn(code, 1, 2, 3));
+        printed.expect(rt, "there is memory");
+        let read = self.read.push(insn(code, jt, jf, k));
+        read.expect(rt, "there is memory");
+    }
+}
+
+/// The codes of which k alone is read again.
+const NUMBERS: [u16; 25] = [
+    0x00, 0x20, 0x28, 0x30, 0x40, 0x48, 0x50, 0x60, 0x01, 0x61, 0xb1, 0x02, 0x03, 0x05, 0x04, 0x14,
+    0x24, 0x34, 0x44, 0x54, 0x64, 0x74, 0x94, 0xa4, 0x06,
+];
+
+/// The codes of which nothing else is read again.
+const ALONE: [u16; 16] = [
+    0x80, 0x81, 0x0c, 0x1c, 0x2c, 0x3c, 0x4c, 0x5c, 0x6c, 0x7c, 0x9c, 0xac, 0x84, 0x16, 0x07, 0x87,
+];
+
+/// Adds each code.
+fn push_all(rt: &impl Abort, pairs: &mut Pairs) {
+    for code in NUMBERS {
+        pairs.push(rt, code, 0, 0, 3);
+    }
+    for code in [0x15, 0x25, 0x35, 0x45] {
+        pairs.push(rt, code, 1, 2, 3);
+    }
+    for code in [0x1d, 0x2d, 0x3d, 0x4d] {
+        pairs.push(rt, code, 1, 2, 0);
+    }
+    for code in ALONE {
+        pairs.push(rt, code, 0, 0, 0);
     }
 }
 
 #[test]
-fn printed_programs(rt: HostRuntime) -> Result<(), Fail> {
+fn printed_programs(rt: HostRuntime) {
     let alloc = rt.alloc();
     let mut pairs = Pairs {
         printed: Vec::new(alloc),
         read: Vec::new(alloc),
     };
-    let numbers = [
-        0x00, 0x20, 0x28, 0x30, 0x40, 0x48, 0x50, 0x60, 0x01, 0x61, 0xb1, 0x02, 0x03, 0x05, 0x04,
-        0x14, 0x24, 0x34, 0x44, 0x54, 0x64, 0x74, 0x94, 0xa4, 0x06,
-    ];
-    for code in numbers {
-        pairs.push(code, 0, 0, 3)?;
-    }
-    for code in [0x15, 0x25, 0x35, 0x45] {
-        pairs.push(code, 1, 2, 3)?;
-    }
-    for code in [0x1d, 0x2d, 0x3d, 0x4d] {
-        pairs.push(code, 1, 2, 0)?;
-    }
-    let alone = [
-        0x80, 0x81, 0x0c, 0x1c, 0x2c, 0x3c, 0x4c, 0x5c, 0x6c, 0x7c, 0x9c, 0xac, 0x84, 0x16, 0x07,
-        0x87,
-    ];
-    for code in alone {
-        pairs.push(code, 0, 0, 0)?;
-    }
-    assert_eq!(rt; pairs.printed.len(), 49);
-    let read = printed_again(alloc, &pairs.printed).ok_or("no program")?;
-    assert!(rt; read.as_slice() == pairs.read.as_slice());
-    Ok(())
+    push_all(&rt, &mut pairs);
+    equal(&rt, pairs.printed.len(), 49);
+    equal(&rt, printed_again(alloc, &pairs.printed), Some(pairs.read));
 }

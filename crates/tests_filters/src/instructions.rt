@@ -1,11 +1,11 @@
 //! Decimal texts, codes and bytes of instructions, and assembler texts.
 
+use crate::facts::{equal, equal_at, holds, holds_at};
 use bpf_insn::{
     AluOp, Form, Insn, Size, Test, TextFault, printable, read_ddd, write_asm, write_ddd,
 };
-use std::alloc::{AllocError, Global};
+use std::alloc::Global;
 use std::process::Abort;
-use std::test::Fail;
 
 fn insn(code: u16, jt: u8, jf: u8, k: u32) -> Insn {
     Insn { code, jt, jf, k }
@@ -46,18 +46,19 @@ fn texts_of_programs(rt: HostRuntime) {
     let zeros: &[u8] =
         b"0004,00040 00 000 012,021 0 01 02054,6 0 0 000000000000004294967295,06 0 0 00";
     for text in [comma, comma_at_end, lines, dos_lines, blanks, zeros] {
-        assert!(rt; spells(alloc, text, &arp()), "{text:?}");
+        holds_at(&rt, spells(alloc, text, &arp()), &text);
     }
-    assert!(rt; spells(alloc, b"1,6 0 0 5,", &[insn(6, 0, 0, 5)]));
-    assert!(rt;
+    holds(&rt, spells(alloc, b"1,6 0 0 5,", &[insn(6, 0, 0, 5)]));
+    holds(
+        &rt,
         spells(
             alloc,
             b"1,65535 255 255 4294967295",
-            &[insn(65535, 255, 255, 4294967295)]
-        )
+            &[insn(65535, 255, 255, 4294967295)],
+        ),
     );
-    assert!(rt; spells(alloc, b"0", &[]));
-    assert!(rt; spells(alloc, b"0,\n", &[]));
+    holds(&rt, spells(alloc, b"0", &[]));
+    holds(&rt, spells(alloc, b"0,\n", &[]));
 }
 
 #[test]
@@ -78,10 +79,11 @@ fn faults_of_texts(rt: HostRuntime) {
         b"4097x",
     ];
     for text in count {
-        assert_eq!(rt;
+        equal_at(
+            &rt,
             fault(alloc, text),
             Some(TextFault::BadNumber(0)),
-            "{text:?}"
+            &text,
         );
     }
     let first: [&[u8]; 9] = [
@@ -96,15 +98,17 @@ fn faults_of_texts(rt: HostRuntime) {
         b"3,6 0 0 5k,6 0 0,6 0 0 5",
     ];
     for text in first {
-        assert_eq!(rt;
+        equal_at(
+            &rt,
             fault(alloc, text),
             Some(TextFault::BadNumber(1)),
-            "{text:?}"
+            &text,
         );
     }
-    assert_eq!(rt;
+    equal(
+        &rt,
         fault(alloc, b"3,6 0 0 5,6 0 0 5,6 0 0 -5"),
-        Some(TextFault::BadNumber(3))
+        Some(TextFault::BadNumber(3)),
     );
     let long: [&[u8]; 4] = [
         b"4097",
@@ -113,7 +117,7 @@ fn faults_of_texts(rt: HostRuntime) {
         b"99999999999999999999999999999999999999999",
     ];
     for text in long {
-        assert_eq!(rt; fault(alloc, text), Some(TextFault::TooLong), "{text:?}");
+        equal_at(&rt, fault(alloc, text), Some(TextFault::TooLong), &text);
     }
     let other: [&[u8]; 6] = [
         b"2,6 0 0 5",
@@ -124,39 +128,43 @@ fn faults_of_texts(rt: HostRuntime) {
         b"4096,6 0 0 5",
     ];
     for text in other {
-        assert_eq!(rt;
+        equal_at(
+            &rt,
             fault(alloc, text),
             Some(TextFault::CountMismatch),
-            "{text:?}"
+            &text,
         );
     }
 }
 
 /// A text of so many instructions.
-fn returns(alloc: Global, count: u32) -> Result<String, AllocError> {
-    let mut text = format!(in alloc; "{count}")?;
+fn returns(rt: &impl Abort, alloc: Global, count: u32) -> String {
+    let mut text = format!(in alloc; "{count}").expect(rt, "there is memory");
     for _ in 0..count {
-        text.push_str(",6 0 0 5")?;
+        text.push_str(",6 0 0 5").expect(rt, "there is memory");
     }
-    Ok(text)
+    text
 }
 
 #[test]
-fn the_longest_program(rt: HostRuntime) -> Result<(), Fail> {
-    let alloc = rt.alloc();
-    let longest = returns(alloc, 4096)?;
-    match read_ddd(alloc, longest.as_bytes()) {
-        Ok(program) => {
-            assert_eq!(rt; program.len(), 4096);
-            for one in &program {
-                assert_eq!(rt; *one, insn(6, 0, 0, 5));
-            }
-        }
-        Err(fault) => panic!(rt; "{fault:?}"),
+fn the_longest_program(rt: HostRuntime) {
+    are_returns(&rt, rt.alloc(), 4096);
+    let longer = returns(&rt, rt.alloc(), 4097);
+    equal(
+        &rt,
+        fault(rt.alloc(), longer.as_bytes()),
+        Some(TextFault::TooLong),
+    );
+}
+
+/// A text of so many instructions is read as these.
+fn are_returns(rt: &impl Abort, alloc: Global, count: u32) {
+    let longest = returns(rt, alloc, count);
+    let program = read_ddd(alloc, longest.as_bytes()).expect(rt, "a program");
+    equal(rt, program.len(), count as usize);
+    for one in &program {
+        equal(rt, *one, insn(6, 0, 0, 5));
     }
-    let longer = returns(alloc, 4097)?;
-    assert_eq!(rt; fault(alloc, longer.as_bytes()), Some(TextFault::TooLong));
-    Ok(())
 }
 
 /// The codes of the loads from the packet, at a fixed place and at one from the index register on.
@@ -207,7 +215,7 @@ const OTHERS: [(u16, Form); 15] = [
 ];
 
 fn has_form(rt: &impl Abort, code: u16, form: Form) {
-    assert_eq!(rt; insn(code, 3, 5, 7).form(), Some(form), "{code:#x}");
+    equal_at(rt, insn(code, 3, 5, 7).form(), Some(form), &code);
 }
 
 #[test]
@@ -239,39 +247,39 @@ fn codes_of_forms(rt: HostRuntime) {
     let known = (0..=u16::MAX)
         .filter(|code| insn(*code, 3, 5, 7).form().is_some())
         .count();
-    assert_eq!(rt; known, 49);
+    equal(&rt, known, 49);
 }
 
 #[test]
 fn bytes_of_instructions(rt: HostRuntime) {
     let one = insn(0x1234, 0x56, 0x78, 0x9abcdef0);
     let bytes = [0x34, 0x12, 0x56, 0x78, 0xf0, 0xde, 0xbc, 0x9a];
-    assert_eq!(rt; one.to_bytes(), bytes);
-    assert_eq!(rt; Insn::from_bytes(bytes), one);
+    equal(&rt, one.to_bytes(), bytes);
+    equal(&rt, Insn::from_bytes(bytes), one);
     for one in arp() {
-        assert_eq!(rt; Insn::from_bytes(one.to_bytes()), one);
+        equal(&rt, Insn::from_bytes(one.to_bytes()), one);
     }
 }
 
 #[test]
-fn decimal_texts_written(rt: HostRuntime) -> Result<(), Fail> {
+fn decimal_texts_written(rt: HostRuntime) {
     let alloc = rt.alloc();
-    let written = write_ddd(alloc, &arp())?;
+    let written = write_ddd(alloc, &arp()).expect(&rt, "there is memory");
     let lines: &[u8] = b"4\n40 0 0 12\n21 0 1 2054\n6 0 0 4294967295\n6 0 0 0\n";
-    assert!(rt; written.as_slice() == lines);
-    assert!(rt; spells(alloc, lines, &arp()));
-    let nothing = write_ddd(alloc, &[])?;
-    assert!(rt; nothing.as_slice() == b"0\n".as_slice());
+    holds(&rt, written.as_slice() == lines);
+    holds(&rt, spells(alloc, lines, &arp()));
+    let nothing = write_ddd(alloc, &[]).expect(&rt, "there is memory");
+    holds(&rt, nothing.as_slice() == b"0\n".as_slice());
     let any = [
         insn(65535, 255, 255, 4294967295),
         insn(0, 10, 200, 1000000000),
     ];
-    let text = write_ddd(alloc, &any)?;
-    assert!(rt;
-        text.as_slice() == b"2\n65535 255 255 4294967295\n0 10 200 1000000000\n".as_slice()
+    let text = write_ddd(alloc, &any).expect(&rt, "there is memory");
+    holds(
+        &rt,
+        text.as_slice() == b"2\n65535 255 255 4294967295\n0 10 200 1000000000\n".as_slice(),
     );
-    assert!(rt; spells(alloc, text.as_slice(), &any));
-    Ok(())
+    holds(&rt, spells(alloc, text.as_slice(), &any));
 }
 
 /// Whether a program has this assembler text.
@@ -339,41 +347,44 @@ const TEXTS: [(u16, &str); 49] = [
 ];
 
 #[test]
-fn assembler_texts(rt: HostRuntime) -> Result<(), Fail> {
+fn assembler_texts(rt: HostRuntime) {
     let alloc = rt.alloc();
     let lines = "l0: ldh [12]\nl1: jeq #2054, l2, l3\nl2: ret #4294967295\nl3: ret #0\n";
-    assert!(rt; prints_as(alloc, &arp(), lines));
-    assert!(rt; prints_as(alloc, &[], ""));
+    holds(&rt, prints_as(alloc, &arp(), lines));
+    holds(&rt, prints_as(alloc, &[], ""));
+    for (code, want) in TEXTS {
+        begins_with(&rt, alloc, code, want);
+    }
+}
+
+/// The text of a program of this instruction and eight returns begins with that of the instruction.
+fn begins_with(rt: &impl Abort, alloc: Global, code: u16, want: &str) {
+    let mut program = [insn(6, 0, 0, 0); 9];
+    program[0] = insn(code, 1, 2, 7);
     let rest =
         "l1: ret #0\nl2: ret #0\nl3: ret #0\nl4: ret #0\nl5: ret #0\nl6: ret #0\nl7: ret #0\nl8: ret #0\n";
-    for (code, want) in TEXTS {
-        let mut program = [insn(6, 0, 0, 0); 9];
-        program[0] = insn(code, 1, 2, 7);
-        let text = format!(in alloc; "l0: {want}\n{rest}")?;
-        assert!(rt; prints_as(alloc, &program, text.as_str()), "{want}");
-    }
-    Ok(())
+    let text = format!(in alloc; "l0: {want}\n{rest}").expect(rt, "there is memory");
+    holds_at(rt, prints_as(alloc, &program, text.as_str()), &want);
 }
 
 #[test]
-fn what_is_printable(rt: HostRuntime) -> Result<(), Fail> {
+fn what_is_printable(rt: HostRuntime) {
     let alloc = rt.alloc();
-    assert!(rt; printable(&[]));
-    assert!(rt; printable(&arp()));
+    holds(&rt, printable(&[]));
+    holds(&rt, printable(&arp()));
     let end = insn(6, 0, 0, 0);
-    assert!(rt; !printable(&[insn(5, 0, 0, 0)]));
-    assert!(rt; !printable(&[insn(5, 0, 0, 1), end]));
-    assert!(rt; printable(&[insn(5, 0, 0, 0), end]));
-    assert!(rt; !printable(&[insn(5, 0, 0, 4294967295), end]));
-    assert!(rt; !printable(&[insn(0x15, 1, 0, 0), end]));
-    assert!(rt; !printable(&[insn(0x15, 0, 1, 0), end]));
-    assert!(rt; printable(&[insn(0x15, 0, 0, 0), end]));
-    assert!(rt; !printable(&[insn(0x1d, 1, 0, 0), end]));
-    assert!(rt; !printable(&[insn(0x1d, 0, 1, 0), end]));
-    assert!(rt; !printable(&[insn(0x0e, 0, 0, 0), end]));
-    let longest = vec![in alloc; end; 4096]?;
-    assert!(rt; printable(&longest));
-    let longer = vec![in alloc; end; 4097]?;
-    assert!(rt; !printable(&longer));
-    Ok(())
+    holds(&rt, !printable(&[insn(5, 0, 0, 0)]));
+    holds(&rt, !printable(&[insn(5, 0, 0, 1), end]));
+    holds(&rt, printable(&[insn(5, 0, 0, 0), end]));
+    holds(&rt, !printable(&[insn(5, 0, 0, 4294967295), end]));
+    holds(&rt, !printable(&[insn(0x15, 1, 0, 0), end]));
+    holds(&rt, !printable(&[insn(0x15, 0, 1, 0), end]));
+    holds(&rt, printable(&[insn(0x15, 0, 0, 0), end]));
+    holds(&rt, !printable(&[insn(0x1d, 1, 0, 0), end]));
+    holds(&rt, !printable(&[insn(0x1d, 0, 1, 0), end]));
+    holds(&rt, !printable(&[insn(0x0e, 0, 0, 0), end]));
+    let longest = vec![in alloc; end; 4096].expect(&rt, "there is memory");
+    holds(&rt, printable(&longest));
+    let longer = vec![in alloc; end; 4097].expect(&rt, "there is memory");
+    holds(&rt, !printable(&longer));
 }

@@ -6,6 +6,8 @@ mod assembler;
 #[cfg(test)]
 mod captures;
 #[cfg(test)]
+mod facts;
+#[cfg(test)]
 mod instructions;
 #[cfg(test)]
 mod machine;

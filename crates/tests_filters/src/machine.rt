@@ -1,10 +1,11 @@
 //! Programs that are verified and run.
 
+use crate::facts::{equal, equal_at};
 use bpf_insn::Insn;
 use filter_verify::verify;
 use filter_vm::{Outcome, run};
 use std::alloc::Global;
-use std::test::Fail;
+use std::process::Abort;
 
 /// How a program runs over a packet that had `original` bytes, or None if it is refused.
 fn outcome(alloc: Global, code: &[Insn], packet: &[u8], original: u32) -> Option<Outcome> {
@@ -46,16 +47,18 @@ fn arp(rt: HostRuntime) {
         insn(6, 0, 0, u32::MAX),
         insn(6, 0, 0, 0),
     ];
-    assert_eq!(rt;
+    equal(
+        &rt,
         outcome(rt.alloc(), &code, &ETHER_ARP, 14),
-        ends(u32::MAX, 3)
+        ends(u32::MAX, 3),
     );
-    assert_eq!(rt; outcome(rt.alloc(), &code, &ETHER_IP, 14), ends(0, 3));
-    assert_eq!(rt;
+    equal(&rt, outcome(rt.alloc(), &code, &ETHER_IP, 14), ends(0, 3));
+    equal(
+        &rt,
         outcome(rt.alloc(), &code, &ETHER_ARP[..13], 13),
-        ends(0, 1)
+        ends(0, 1),
     );
-    assert_eq!(rt; outcome(rt.alloc(), &code, &[], 0), ends(0, 1));
+    equal(&rt, outcome(rt.alloc(), &code, &[], 0), ends(0, 1));
 }
 
 #[test]
@@ -69,51 +72,69 @@ fn a_word_that_both_arms_store(rt: HostRuntime) {
         insn(96, 0, 0, 0),
         insn(22, 0, 0, 0),
     ];
-    assert_eq!(rt; outcome(rt.alloc(), &code, &ETHER_IP, 14), ends(2048, 6));
-    assert_eq!(rt; outcome(rt.alloc(), &code, &ETHER_ARP, 14), ends(2054, 5));
+    equal(
+        &rt,
+        outcome(rt.alloc(), &code, &ETHER_IP, 14),
+        ends(2048, 6),
+    );
+    equal(
+        &rt,
+        outcome(rt.alloc(), &code, &ETHER_ARP, 14),
+        ends(2054, 5),
+    );
 }
 
 #[test]
 fn a_load_that_no_path_reaches(rt: HostRuntime) {
     let code = [insn(5, 0, 0, 1), insn(96, 0, 0, 3), insn(6, 0, 0, 0)];
-    assert_eq!(rt; outcome(rt.alloc(), &code, &[5], 1), ends(0, 2));
+    equal(&rt, outcome(rt.alloc(), &code, &[5], 1), ends(0, 2));
 }
 
 #[test]
 fn division_by_an_index_register_of_zero(rt: HostRuntime) {
     for division in [60, 156] {
         let code = [plain(1, 0), plain(0, 7), plain(division, 0), plain(22, 0)];
-        assert_eq!(rt; outcome(rt.alloc(), &code, &[5], 1), ends(0, 3));
+        equal(&rt, outcome(rt.alloc(), &code, &[5], 1), ends(0, 3));
     }
 }
 
 #[test]
 fn the_original_length(rt: HostRuntime) {
     let code = [plain(128, 0), plain(22, 0)];
-    assert_eq!(rt; outcome(rt.alloc(), &code, &[0; 60], 1514), ends(1514, 2));
+    equal(
+        &rt,
+        outcome(rt.alloc(), &code, &[0; 60], 1514),
+        ends(1514, 2),
+    );
     let code = [plain(129, 0), plain(135, 0), plain(22, 0)];
-    assert_eq!(rt; outcome(rt.alloc(), &code, &[0; 60], 1514), ends(1514, 3));
+    equal(
+        &rt,
+        outcome(rt.alloc(), &code, &[0; 60], 1514),
+        ends(1514, 3),
+    );
 }
 
 #[test]
 fn an_indexed_place_is_an_exact_sum(rt: HostRuntime) {
     let code = [plain(1, u32::MAX), plain(80, 1), plain(22, 0)];
-    assert_eq!(rt; outcome(rt.alloc(), &code, &[5], 1), ends(0, 2));
+    equal(&rt, outcome(rt.alloc(), &code, &[5], 1), ends(0, 2));
 }
 
 #[test]
-fn the_longest_programs(rt: HostRuntime) -> Result<(), Fail> {
-    let alloc = rt.alloc();
-    let mut code = vec![in alloc; plain(135, 0); 4095]?;
-    code.push(plain(6, 5))?;
-    assert_eq!(rt; outcome(alloc, code.as_slice(), &[5], 1), ends(5, 4096));
-    let mut jump = vec![in alloc; insn(21, 255, 0, 0)]?;
-    for _ in 0..255 {
-        jump.push(plain(6, 1))?;
-    }
-    jump.push(plain(6, 9))?;
-    assert_eq!(rt; outcome(alloc, jump.as_slice(), &[5], 1), ends(9, 2));
-    Ok(())
+fn the_longest_programs(rt: HostRuntime) {
+    let longest = followed(&rt, rt.alloc(), plain(135, 0), 4095, plain(6, 5));
+    equal(&rt, outcome(rt.alloc(), &longest, &[5], 1), ends(5, 4096));
+    let mut jump = followed(&rt, rt.alloc(), plain(6, 1), 255, plain(6, 9));
+    jump.insert(0, insn(21, 255, 0, 0))
+        .expect(&rt, "there is memory");
+    equal(&rt, outcome(rt.alloc(), &jump, &[5], 1), ends(9, 2));
+}
+
+/// An instruction so many times, and a last one.
+fn followed(rt: &impl Abort, alloc: Global, again: Insn, count: usize, last: Insn) -> Vec<Insn> {
+    let mut code = vec![in alloc; again; count].expect(rt, "there is memory");
+    code.push(last).expect(rt, "there is memory");
+    code
 }
 
 #[test]
@@ -122,28 +143,31 @@ fn loads_of_the_packet(rt: HostRuntime) {
     for (code, k, value) in [(32, 1, 0x01020304), (40, 3, 0x0304), (48, 4, 4)] {
         let alloc = rt.alloc();
         let program = [plain(code, k), plain(22, 0)];
-        assert_eq!(rt;
+        equal_at(
+            &rt,
             outcome(alloc, &program, &packet, 5),
             ends(value, 2),
-            "{code}"
+            &code,
         );
         let program = [plain(code, k + 1), plain(22, 0)];
-        assert_eq!(rt; outcome(alloc, &program, &packet, 5), ends(0, 1), "{code}");
+        equal_at(&rt, outcome(alloc, &program, &packet, 5), ends(0, 1), &code);
         let program = [plain(1, k), plain(code + 32, 0), plain(22, 0)];
-        assert_eq!(rt;
+        equal_at(
+            &rt,
             outcome(alloc, &program, &packet, 5),
             ends(value, 3),
-            "{code}"
+            &code,
         );
         let program = [plain(1, k), plain(code + 32, 1), plain(22, 0)];
-        assert_eq!(rt; outcome(alloc, &program, &packet, 5), ends(0, 2), "{code}");
+        equal_at(&rt, outcome(alloc, &program, &packet, 5), ends(0, 2), &code);
     }
     let header_length = [plain(177, 0), plain(135, 0), plain(22, 0)];
-    assert_eq!(rt;
+    equal(
+        &rt,
         outcome(rt.alloc(), &header_length, &packet, 5),
-        ends(20, 3)
+        ends(20, 3),
     );
-    assert_eq!(rt; outcome(rt.alloc(), &header_length, &[], 5), ends(0, 1));
+    equal(&rt, outcome(rt.alloc(), &header_length, &[], 5), ends(0, 1));
 }
 
 #[test]
@@ -161,10 +185,11 @@ fn operations(rt: HostRuntime) {
         (164, 240, 204, 60),
     ] {
         let constant = [plain(0, a), plain(code, operand), plain(22, 0)];
-        assert_eq!(rt;
+        equal_at(
+            &rt,
             outcome(rt.alloc(), &constant, &[], 0),
             ends(value, 3),
-            "{code}"
+            &code,
         );
         let index = [
             plain(0, a),
@@ -172,10 +197,11 @@ fn operations(rt: HostRuntime) {
             plain(code | INDEX, 0),
             plain(22, 0),
         ];
-        assert_eq!(rt;
+        equal_at(
+            &rt,
             outcome(rt.alloc(), &index, &[], 0),
             ends(value, 4),
-            "{code}"
+            &code,
         );
     }
     for x in [32, u32::MAX] {
@@ -186,12 +212,12 @@ fn operations(rt: HostRuntime) {
                 plain(shift, 0),
                 plain(22, 0),
             ];
-            assert_eq!(rt; outcome(rt.alloc(), &code, &[], 0), ends(0, 4), "{x}");
+            equal_at(&rt, outcome(rt.alloc(), &code, &[], 0), ends(0, 4), &x);
         }
     }
     for (a, value) in [(1, u32::MAX), (0, 0)] {
         let negative = [plain(0, a), plain(132, 0), plain(22, 0)];
-        assert_eq!(rt; outcome(rt.alloc(), &negative, &[], 0), ends(value, 3));
+        equal(&rt, outcome(rt.alloc(), &negative, &[], 0), ends(value, 3));
     }
 }
 
@@ -213,10 +239,11 @@ fn conditional_jumps(rt: HostRuntime) {
             plain(6, 1),
             plain(6, 2),
         ];
-        assert_eq!(rt;
+        equal_at(
+            &rt,
             outcome(rt.alloc(), &constant, &[], 0),
             ends(verdict, 3),
-            "{code}"
+            &code,
         );
         let index = [
             plain(0, a),
@@ -225,10 +252,11 @@ fn conditional_jumps(rt: HostRuntime) {
             plain(6, 1),
             plain(6, 2),
         ];
-        assert_eq!(rt;
+        equal_at(
+            &rt,
             outcome(rt.alloc(), &index, &[], 0),
             ends(verdict, 4),
-            "{code}"
+            &code,
         );
     }
 }
@@ -236,7 +264,7 @@ fn conditional_jumps(rt: HostRuntime) {
 #[test]
 fn registers_and_words(rt: HostRuntime) {
     let opening = [plain(12, 0), plain(22, 0)];
-    assert_eq!(rt; outcome(rt.alloc(), &opening, &[5], 1), ends(0, 2));
+    equal(&rt, outcome(rt.alloc(), &opening, &[5], 1), ends(0, 2));
     let words = [
         plain(0, 7),
         plain(2, 15),
@@ -247,7 +275,7 @@ fn registers_and_words(rt: HostRuntime) {
         plain(12, 0),
         plain(22, 0),
     ];
-    assert_eq!(rt; outcome(rt.alloc(), &words, &[], 0), ends(16, 8));
+    equal(&rt, outcome(rt.alloc(), &words, &[], 0), ends(16, 8));
     let exchanged = [
         plain(0, 3),
         plain(7, 0),
@@ -255,5 +283,5 @@ fn registers_and_words(rt: HostRuntime) {
         plain(135, 0),
         plain(22, 0),
     ];
-    assert_eq!(rt; outcome(rt.alloc(), &exchanged, &[], 0), ends(3, 5));
+    equal(&rt, outcome(rt.alloc(), &exchanged, &[], 0), ends(3, 5));
 }

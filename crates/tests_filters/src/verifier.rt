@@ -1,9 +1,10 @@
 //! Programs, and whether and why they are refused.
 
+use crate::facts::{equal, holds};
 use bpf_insn::{Insn, MAX_INSNS};
 use filter_verify::{Places, Refusal, Verified, verify};
 use std::alloc::Global;
-use std::test::Fail;
+use std::process::Abort;
 
 fn insn(code: u16, jt: u8, jf: u8, k: u32) -> Insn {
     Insn { code, jt, jf, k }
@@ -20,126 +21,140 @@ fn refusal(alloc: Global, code: &[Insn]) -> Option<Refusal> {
 }
 
 /// So many times `txa`, and a return.
-fn txa_program(alloc: Global, count: usize) -> Result<Vec<Insn>, Fail> {
-    let mut code = vec![in alloc; insn(135, 0, 0, 0); count]?;
-    code.push(insn(6, 0, 0, 5))?;
-    Ok(code)
+fn txa_program(rt: &impl Abort, alloc: Global, count: usize) -> Vec<Insn> {
+    let mut code = vec![in alloc; insn(135, 0, 0, 0); count].expect(rt, "there is memory");
+    code.push(insn(6, 0, 0, 5)).expect(rt, "there is memory");
+    code
 }
 
 /// A jump over 255 instructions, and the returns below it.
-fn longest_jump(alloc: Global, returns: usize) -> Result<Vec<Insn>, Fail> {
-    let mut code = vec![in alloc; insn(21, 255, 0, 0)]?;
+fn longest_jump(rt: &impl Abort, alloc: Global, returns: usize) -> Vec<Insn> {
+    let mut code = vec![in alloc; insn(21, 255, 0, 0)].expect(rt, "there is memory");
     for _ in 0..returns {
-        code.push(insn(6, 0, 0, 1))?;
+        code.push(insn(6, 0, 0, 1)).expect(rt, "there is memory");
     }
-    Ok(code)
+    code
 }
 
 #[test]
-fn sizes(rt: HostRuntime) -> Result<(), Fail> {
+fn sizes(rt: HostRuntime) {
     let alloc = rt.alloc();
-    assert_eq!(rt; refusal(alloc, &[]), Some(Refusal::Empty));
-    assert_eq!(rt; refusal(alloc, &[insn(6, 0, 0, 5)]), None);
-    let longest = txa_program(alloc, MAX_INSNS - 1)?;
-    assert_eq!(rt; longest.len(), 4096);
-    assert_eq!(rt; refusal(alloc, longest.as_slice()), None);
-    let long = txa_program(alloc, MAX_INSNS)?;
-    assert_eq!(rt; long.len(), 4097);
-    assert_eq!(rt; refusal(alloc, long.as_slice()), Some(Refusal::TooLong));
-    Ok(())
+    equal(&rt, refusal(alloc, &[]), Some(Refusal::Empty));
+    equal(&rt, refusal(alloc, &[insn(6, 0, 0, 5)]), None);
+    let longest = txa_program(&rt, alloc, MAX_INSNS - 1);
+    equal(&rt, longest.len(), 4096);
+    equal(&rt, refusal(alloc, longest.as_slice()), None);
+    let long = txa_program(&rt, alloc, MAX_INSNS);
+    equal(&rt, long.len(), 4097);
+    equal(&rt, refusal(alloc, long.as_slice()), Some(Refusal::TooLong));
 }
 
 #[test]
 fn constants(rt: HostRuntime) {
     let alloc = rt.alloc();
     for code in [148, 52] {
-        assert_eq!(rt;
+        equal(
+            &rt,
             refusal(alloc, &before_return(code, 0, 0, 0)),
-            Some(Refusal::ZeroDivisor(0))
+            Some(Refusal::ZeroDivisor(0)),
         );
-        assert_eq!(rt; refusal(alloc, &before_return(code, 0, 0, 1)), None);
+        equal(&rt, refusal(alloc, &before_return(code, 0, 0, 1)), None);
     }
     for code in [100, 116] {
-        assert_eq!(rt;
+        equal(
+            &rt,
             refusal(alloc, &before_return(code, 0, 0, 32)),
-            Some(Refusal::BadShift(0))
+            Some(Refusal::BadShift(0)),
         );
-        assert_eq!(rt; refusal(alloc, &before_return(code, 0, 0, 31)), None);
+        equal(&rt, refusal(alloc, &before_return(code, 0, 0, 31)), None);
     }
     for code in [2, 3] {
-        assert_eq!(rt;
+        equal(
+            &rt,
             refusal(alloc, &before_return(code, 0, 0, 16)),
-            Some(Refusal::BadWord(0))
+            Some(Refusal::BadWord(0)),
         );
-        assert_eq!(rt; refusal(alloc, &before_return(code, 0, 0, 15)), None);
+        equal(&rt, refusal(alloc, &before_return(code, 0, 0, 15)), None);
     }
     for code in [96, 97] {
-        assert_eq!(rt;
+        equal(
+            &rt,
             refusal(alloc, &before_return(code, 0, 0, 16)),
-            Some(Refusal::BadWord(0))
+            Some(Refusal::BadWord(0)),
         );
     }
     for code in [32, 40, 48] {
-        assert_eq!(rt;
+        equal(
+            &rt,
             refusal(alloc, &before_return(code, 0, 0, 2147483648)),
-            Some(Refusal::Ancillary(0))
+            Some(Refusal::Ancillary(0)),
         );
-        assert_eq!(rt;
+        equal(
+            &rt,
             refusal(alloc, &before_return(code, 0, 0, 2147483647)),
-            None
+            None,
         );
     }
     for code in [64, 177] {
-        assert_eq!(rt;
+        equal(
+            &rt,
             refusal(alloc, &before_return(code, 0, 0, 2147483648)),
-            None
+            None,
         );
     }
 }
 
 #[test]
-fn targets(rt: HostRuntime) -> Result<(), Fail> {
+fn targets(rt: HostRuntime) {
     let alloc = rt.alloc();
-    assert_eq!(rt; refusal(alloc, &before_return(5, 0, 0, 0)), None);
-    assert_eq!(rt;
+    equal(&rt, refusal(alloc, &before_return(5, 0, 0, 0)), None);
+    equal(
+        &rt,
         refusal(alloc, &before_return(5, 0, 0, 1)),
-        Some(Refusal::JumpOut(0))
+        Some(Refusal::JumpOut(0)),
     );
-    assert_eq!(rt;
+    equal(
+        &rt,
         refusal(alloc, &before_return(5, 0, 0, u32::MAX)),
-        Some(Refusal::JumpOut(0))
+        Some(Refusal::JumpOut(0)),
     );
-    assert_eq!(rt;
+    equal(
+        &rt,
         refusal(alloc, &before_return(21, 1, 0, 0)),
-        Some(Refusal::JumpOut(0))
+        Some(Refusal::JumpOut(0)),
     );
-    assert_eq!(rt;
+    equal(
+        &rt,
         refusal(alloc, &before_return(29, 0, 1, 0)),
-        Some(Refusal::JumpOut(0))
+        Some(Refusal::JumpOut(0)),
     );
-    assert_eq!(rt; refusal(alloc, longest_jump(alloc, 256)?.as_slice()), None);
-    assert_eq!(rt;
-        refusal(alloc, longest_jump(alloc, 255)?.as_slice()),
-        Some(Refusal::JumpOut(0))
+    equal(&rt, refusal(alloc, &longest_jump(&rt, alloc, 256)), None);
+    equal(
+        &rt,
+        refusal(alloc, longest_jump(&rt, alloc, 255).as_slice()),
+        Some(Refusal::JumpOut(0)),
     );
-    Ok(())
 }
 
 #[test]
 fn the_first_rule_that_is_broken(rt: HostRuntime) {
     let alloc = rt.alloc();
     let two_rules = [insn(255, 0, 0, 0), insn(148, 0, 0, 0)];
-    assert_eq!(rt; refusal(alloc, &two_rules), Some(Refusal::BadCode(0)));
+    equal(&rt, refusal(alloc, &two_rules), Some(Refusal::BadCode(0)));
     let later_place = [insn(0, 0, 0, 0), insn(2, 0, 0, 16), insn(6, 0, 0, 0)];
-    assert_eq!(rt; refusal(alloc, &later_place), Some(Refusal::BadWord(1)));
+    equal(&rt, refusal(alloc, &later_place), Some(Refusal::BadWord(1)));
     let no_return = [insn(0, 0, 0, 0), insn(148, 0, 0, 0)];
-    assert_eq!(rt; refusal(alloc, &no_return), Some(Refusal::ZeroDivisor(1)));
+    equal(
+        &rt,
+        refusal(alloc, &no_return),
+        Some(Refusal::ZeroDivisor(1)),
+    );
     let unwritten = [insn(96, 0, 0, 0), insn(0, 0, 0, 0)];
-    assert_eq!(rt; refusal(alloc, &unwritten), Some(Refusal::NoReturn));
+    equal(&rt, refusal(alloc, &unwritten), Some(Refusal::NoReturn));
 }
 
 #[test]
-fn loads_of_unwritten_words(rt: HostRuntime) -> Result<(), Fail> {
+fn loads_of_unwritten_words(rt: HostRuntime) {
     let alloc = rt.alloc();
     let one_arm = [
         insn(40, 0, 0, 12),
@@ -148,14 +163,15 @@ fn loads_of_unwritten_words(rt: HostRuntime) -> Result<(), Fail> {
         insn(96, 0, 0, 0),
         insn(22, 0, 0, 0),
     ];
-    let path = Places::from_vec([0, 1, 3].to_vec(alloc)?);
-    assert_eq!(rt;
+    let path = Places::from_vec([0, 1, 3].to_vec(alloc).expect(&rt, "there is memory"));
+    equal(
+        &rt,
         refusal(alloc, &one_arm),
         Some(Refusal::Unwritten {
             pc: 3,
             word: 0,
             path,
-        })
+        }),
     );
     let least_place = [
         insn(21, 1, 0, 0),
@@ -164,16 +180,16 @@ fn loads_of_unwritten_words(rt: HostRuntime) -> Result<(), Fail> {
         insn(97, 0, 0, 1),
         insn(22, 0, 0, 0),
     ];
-    let path = Places::from_vec([0, 2].to_vec(alloc)?);
-    assert_eq!(rt;
+    let path = Places::from_vec([0, 2].to_vec(alloc).expect(&rt, "there is memory"));
+    equal(
+        &rt,
         refusal(alloc, &least_place),
         Some(Refusal::Unwritten {
             pc: 2,
             word: 0,
             path,
-        })
+        }),
     );
-    Ok(())
 }
 
 #[test]
@@ -188,9 +204,9 @@ fn loads_of_written_words(rt: HostRuntime) {
         insn(96, 0, 0, 0),
         insn(22, 0, 0, 0),
     ];
-    assert_eq!(rt; refusal(alloc, &both_arms), None);
+    equal(&rt, refusal(alloc, &both_arms), None);
     let unreached = [insn(5, 0, 0, 1), insn(96, 0, 0, 3), insn(6, 0, 0, 0)];
-    assert_eq!(rt; refusal(alloc, &unreached), None);
+    equal(&rt, refusal(alloc, &unreached), None);
     let after_a_return = [
         insn(21, 1, 0, 0),
         insn(6, 0, 0, 0),
@@ -198,25 +214,28 @@ fn loads_of_written_words(rt: HostRuntime) {
         insn(97, 0, 0, 15),
         insn(22, 0, 0, 0),
     ];
-    assert_eq!(rt; refusal(alloc, &after_a_return), None);
+    equal(&rt, refusal(alloc, &after_a_return), None);
 }
 
 #[test]
-fn copies(rt: HostRuntime) -> Result<(), Fail> {
+fn copies(rt: HostRuntime) {
     let alloc = rt.alloc();
     let code = before_return(40, 0, 0, 12);
-    let program = verify(alloc, &code)?;
-    assert_eq!(rt; program.code(), &code[..]);
-    assert_eq!(rt; program.copy(alloc)?.code(), &code[..]);
-    let places = Places::from_vec([0, 2].to_vec(alloc)?);
-    assert_eq!(rt; places.as_slice(), &[0, 2][..]);
-    assert_eq!(rt; places.into_vec().as_slice(), &[0, 2][..]);
-    Ok(())
+    let program = verify(alloc, &code).expect(&rt, "there is memory");
+    equal(&rt, program.code(), &code[..]);
+    equal(
+        &rt,
+        program.copy(alloc).expect(&rt, "there is memory").code(),
+        &code[..],
+    );
+    let places = Places::from_vec([0, 2].to_vec(alloc).expect(&rt, "there is memory"));
+    equal(&rt, places.as_slice(), &[0, 2][..]);
+    equal(&rt, places.into_vec().as_slice(), &[0, 2][..]);
 }
 
 #[test]
-fn numbers_and_places(rt: HostRuntime) -> Result<(), Fail> {
-    let path = Places::from_vec([0, 2].to_vec(rt.alloc())?);
+fn numbers_and_places(rt: HostRuntime) {
+    let path = Places::from_vec([0, 2].to_vec(rt.alloc()).expect(&rt, "there is memory"));
     for (refusal, number, place) in [
         (Refusal::NoMemory, 0, 0),
         (Refusal::Empty, 1, 0),
@@ -238,9 +257,8 @@ fn numbers_and_places(rt: HostRuntime) -> Result<(), Fail> {
             2,
         ),
     ] {
-        assert_eq!(rt; (refusal.number(), refusal.place()), (number, place));
+        equal(&rt, (refusal.number(), refusal.place()), (number, place));
     }
-    Ok(())
 }
 
 /// The answer, asked for once more where a growth is refused.
@@ -264,15 +282,15 @@ fn refused_growths_change_nothing(rt: HostRuntime) {
         insn(22, 0, 0, 0),
     ];
     match answer(rt.alloc(), &both) {
-        Ok(program) => assert_eq!(rt; program.code(), both.as_slice()),
-        Err(_refusal) => assert!(rt; false),
+        Ok(program) => equal(&rt, program.code(), both.as_slice()),
+        Err(_refusal) => holds(&rt, false),
     }
     let one = [both[0], insn(21, 0, 1, 2048), both[2], both[5], both[6]];
     match answer(rt.alloc(), &one) {
         Err(Refusal::Unwritten { pc, word, path }) => {
-            assert_eq!(rt; (pc, word), (3, 0));
-            assert_eq!(rt; path.as_slice(), &[0, 1, 3][..]);
+            equal(&rt, (pc, word), (3, 0));
+            equal(&rt, path.as_slice(), &[0, 1, 3][..]);
         }
-        _other => assert!(rt; false),
+        _other => holds(&rt, false),
     }
 }

@@ -4,6 +4,8 @@
 #[cfg(test)]
 mod channels;
 #[cfg(test)]
+mod facts;
+#[cfg(test)]
 mod links;
 #[cfg(test)]
 mod queues;

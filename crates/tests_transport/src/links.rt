@@ -1,20 +1,20 @@
 //! Links of both kinds, and lines written by hand.
 
-ghost use Rattle.std.specs.Prelude.{◌≡◌, ◌≤◌, IfOk, vec_len};
+ghost use Rattle.std.specs.Prelude.{◌≡◌, ◌≤◌, vec_len};
 ghost use Rattle.core_links.specs.RingSlots.{AreJoinedLinks};
 
+use crate::facts::{equal, holds};
 use core_links::{LineFault, Links, ListLinks, RingLinks};
 use rtrb::RingBuffer;
-use std::alloc::{AllocError, Global};
+use std::alloc::Global;
 use std::process::Abort;
-use std::test::Fail;
 use ump_ring::{Joiner, Line, Receiver, ring};
 
 // A message of this many bytes, all the same.
-fn message(alloc: Global, byte: u8, size: usize) -> Result<Vec<u8>, AllocError>
-    ensures { IfOk result (λ v. vec_len v ≡ size) }
+fn message(rt: &impl Abort, alloc: Global, byte: u8, size: usize) -> Vec<u8>
+    ensures { vec_len result ≡ size }
 {
-    vec![in alloc; byte; size]
+    vec![in alloc; byte; size].expect(rt, "there is memory")
 }
 
 // Whether the link to a peer takes a message of this many bytes.
@@ -69,95 +69,93 @@ fn stopped_at<L: Links>(links: &mut L, peer: u16, wanted: LineFault) -> bool {
 }
 
 // The links of cores 0 and 1, which rings of so many lines join.
-fn joined(alloc: Global, capacity: usize) -> Result<(RingLinks, RingLinks), AllocError>
+fn joined(rt: &impl Abort, alloc: Global, capacity: usize) -> (RingLinks, RingLinks)
     requires { 1 ≤ capacity }
-    ensures { IfOk result (λ r. AreJoinedLinks r.0 r.1) }
+    ensures { AreJoinedLinks result.0 result.1 }
 {
-    let (to_second, from_first) = ring(alloc, capacity)?;
-    let (to_first, from_second) = ring(alloc, capacity)?;
-    let mut first = RingLinks::new(alloc, 0, 2)?;
-    let mut second = RingLinks::new(alloc, 1, 2)?;
+    let (to_second, from_first) = ring(alloc, capacity).expect(rt, "there is memory");
+    let (to_first, from_second) = ring(alloc, capacity).expect(rt, "there is memory");
+    let mut first = RingLinks::new(alloc, 0, 2).expect(rt, "there is memory");
+    let mut second = RingLinks::new(alloc, 1, 2).expect(rt, "there is memory");
     first.join(1, to_second, from_second);
     second.join(0, to_first, from_first);
-    Ok((first, second))
+    (first, second)
 }
 
 #[test]
-fn a_message_of_two_lines_through_rings_of_one(rt: HostRuntime) -> Result<(), Fail> {
+fn a_message_of_two_lines_through_rings_of_one(rt: HostRuntime) {
     let alloc = rt.alloc();
-    let (mut first, mut second) = joined(alloc, 1)?;
-    assert!(rt; first.ready(1));
-    assert!(rt; sends(&mut first, 1, message(alloc, 7, 57)?));
-    assert!(rt; !first.ready(1));
-    let refused = first.send(1, message(alloc, 8, 3)?);
-    assert_eq!(rt; refused.err().map(|busy| busy.0.len()), Some(3));
+    let (mut first, mut second) = joined(&rt, alloc, 1);
+    holds(&rt, first.ready(1));
+    holds(&rt, sends(&mut first, 1, message(&rt, alloc, 7, 57)));
+    holds(&rt, !first.ready(1));
+    let refused = first.send(1, message(&rt, alloc, 8, 3));
+    equal(&rt, refused.err().map(|busy| busy.0.len()), Some(3));
     first.pump();
     first.pump();
-    assert!(rt; shows_none(&mut second, 0));
-    assert!(rt; !second.give_up(0));
+    holds(&rt, shows_none(&mut second, 0));
+    holds(&rt, !second.give_up(0));
     first.pump();
-    assert!(rt; first.ready(1));
-    assert!(rt; second.shown(0).is_none());
-    assert!(rt; second.pull(0).is_ok());
-    assert!(rt; second.shown(0).is_some());
-    let wanted = message(alloc, 7, 57)?;
-    assert!(rt; shows(&mut second, 0, &wanted));
-    assert!(rt; takes(&mut second, 0, &wanted));
-    assert!(rt; shows_none(&mut second, 0));
-    Ok(())
+    holds(&rt, first.ready(1));
+    holds(&rt, second.shown(0).is_none());
+    holds(&rt, second.pull(0).is_ok());
+    holds(&rt, second.shown(0).is_some());
+    let wanted = message(&rt, alloc, 7, 57);
+    holds(&rt, shows(&mut second, 0, &wanted));
+    holds(&rt, takes(&mut second, 0, &wanted));
+    holds(&rt, shows_none(&mut second, 0));
 }
 
 #[test]
-fn what_is_taken_begins_what_was_sent(rt: HostRuntime) -> Result<(), Fail> {
+fn what_is_taken_begins_what_was_sent(rt: HostRuntime) {
     let alloc = rt.alloc();
-    let (mut first, mut second) = joined(alloc, 64)?;
-    assert!(rt; sends(&mut second, 0, message(alloc, 1, 1)?));
+    let (mut first, mut second) = joined(&rt, alloc, 64);
+    holds(&rt, sends(&mut second, 0, message(&rt, alloc, 1, 1)));
     second.pump();
-    assert!(rt; takes(&mut first, 1, &[1]));
+    holds(&rt, takes(&mut first, 1, &[1]));
     first.beside(&mut second);
-    assert!(rt; sends(&mut second, 0, message(alloc, 2, 1)?));
+    holds(&rt, sends(&mut second, 0, message(&rt, alloc, 2, 1)));
     second.pump();
-    assert!(rt; first.pull(1).is_ok());
-    assert!(rt; first.give_up(1));
-    assert!(rt; shows_none(&mut first, 1));
-    Ok(())
+    holds(&rt, first.pull(1).is_ok());
+    holds(&rt, first.give_up(1));
+    holds(&rt, shows_none(&mut first, 1));
 }
 
 #[test]
-fn no_link_to_a_core_that_was_not_joined(rt: HostRuntime) -> Result<(), Fail> {
+fn no_link_to_a_core_that_was_not_joined(rt: HostRuntime) {
     let alloc = rt.alloc();
-    let mut rings = RingLinks::new(alloc, 1, 3)?;
-    let mut lists = ListLinks::new(alloc, 1, 3, 2)?;
+    let mut rings = RingLinks::new(alloc, 1, 3).expect(&rt, "there is memory");
+    let mut lists = ListLinks::new(alloc, 1, 3, 2).expect(&rt, "there is memory");
     for peer in [0, 1, 2, 3] {
-        assert!(rt; !rings.ready(peer));
-        assert!(rt; shows_none(&mut rings, peer));
-        assert!(rt; !sends(&mut rings, peer, message(alloc, 1, 1)?));
+        holds(&rt, !rings.ready(peer));
+        holds(&rt, shows_none(&mut rings, peer));
+        holds(&rt, !sends(&mut rings, peer, message(&rt, alloc, 1, 1)));
     }
     for peer in [1, 3] {
-        assert!(rt; !lists.ready(peer));
-        assert!(rt; shows_none(&mut lists, peer));
-        assert!(rt; !sends(&mut lists, peer, message(alloc, 1, 1)?));
-        assert!(rt; lists.give(peer, message(alloc, 1, 1)?).is_err());
-        assert!(rt; lists.collect(peer).is_none());
+        holds(&rt, !lists.ready(peer));
+        holds(&rt, shows_none(&mut lists, peer));
+        holds(&rt, !sends(&mut lists, peer, message(&rt, alloc, 1, 1)));
+        holds(&rt, lists.give(peer, message(&rt, alloc, 1, 1)).is_err());
+        holds(&rt, lists.collect(peer).is_none());
     }
-    Ok(())
 }
 
 // A link to core 0 whose ring holds lines that were written by hand, by their words 0 and 1.
-fn given_lines(alloc: Global, heads: &[(u64, u64)]) -> Result<RingLinks, AllocError> {
-    let (mut producer, consumer) = RingBuffer::<Line>::new(alloc, 8)?;
-    let receiver = Receiver::new(consumer, Joiner::new(alloc)?);
+fn given_lines(rt: &impl Abort, alloc: Global, heads: &[(u64, u64)]) -> RingLinks {
+    let slots = RingBuffer::<Line>::new(alloc, 8);
+    let (mut producer, consumer) = slots.expect(rt, "there is memory");
+    let joiner = Joiner::new(alloc).expect(rt, "there is memory");
     for (head, word) in heads {
         let _ = producer.push([*head, *word, 0, 0, 0, 0, 0, 0]);
     }
-    let (sender, _) = ring(alloc, 1)?;
-    let mut links = RingLinks::new(alloc, 1, 2)?;
-    links.join(0, sender, receiver);
-    Ok(links)
+    let (sender, _) = ring(alloc, 1).expect(rt, "there is memory");
+    let mut links = RingLinks::new(alloc, 1, 2).expect(rt, "there is memory");
+    links.join(0, sender, Receiver::new(consumer, joiner));
+    links
 }
 
 #[test]
-fn faulty_first_lines(rt: HostRuntime) -> Result<(), Fail> {
+fn faulty_first_lines(rt: HostRuntime) {
     let alloc = rt.alloc();
     for (head, word, fault) in [
         (4294967296, 261, LineFault::BadLength),
@@ -165,65 +163,62 @@ fn faulty_first_lines(rt: HostRuntime) -> Result<(), Fail> {
         (141016661229568, 0, LineFault::BadLength),
         (4294967297, 261, LineFault::OutOfSequence),
     ] {
-        let mut links = given_lines(alloc, &[(head, word), (4294967296, 5)])?;
-        assert!(rt; stopped_at(&mut links, 0, fault));
-        assert!(rt; stopped_at(&mut links, 0, fault));
-        assert!(rt; links.ready(0));
+        let mut links = given_lines(&rt, alloc, &[(head, word), (4294967296, 5)]);
+        holds(&rt, stopped_at(&mut links, 0, fault));
+        holds(&rt, stopped_at(&mut links, 0, fault));
+        holds(&rt, links.ready(0));
     }
-    Ok(())
 }
 
 #[test]
-fn a_faulty_line_after_a_message(rt: HostRuntime) -> Result<(), Fail> {
+fn a_faulty_line_after_a_message(rt: HostRuntime) {
     let alloc = rt.alloc();
-    let mut links = given_lines(alloc, &[(4294967296, 5), (4294967298, 6)])?;
-    assert!(rt; shows(&mut links, 0, &[5]));
-    assert!(rt; shows(&mut links, 0, &[5]));
-    assert!(rt; takes(&mut links, 0, &[5]));
-    assert!(rt; stopped_at(&mut links, 0, LineFault::OutOfSequence));
-    assert!(rt; sends(&mut links, 0, message(alloc, 1, 1)?));
-    assert!(rt; stopped_at(&mut links, 0, LineFault::OutOfSequence));
-    Ok(())
+    let mut links = given_lines(&rt, alloc, &[(4294967296, 5), (4294967298, 6)]);
+    holds(&rt, shows(&mut links, 0, &[5]));
+    holds(&rt, shows(&mut links, 0, &[5]));
+    holds(&rt, takes(&mut links, 0, &[5]));
+    holds(&rt, stopped_at(&mut links, 0, LineFault::OutOfSequence));
+    holds(&rt, sends(&mut links, 0, message(&rt, alloc, 1, 1)));
+    holds(&rt, stopped_at(&mut links, 0, LineFault::OutOfSequence));
 }
 
 #[test]
-fn lists_of_two_messages(rt: HostRuntime) -> Result<(), Fail> {
+fn lists_of_two_messages(rt: HostRuntime) {
     let alloc = rt.alloc();
-    let mut links = ListLinks::new(alloc, 0, 3, 2)?;
+    let mut links = ListLinks::new(alloc, 0, 3, 2).expect(&rt, "there is memory");
     for byte in [1, 2] {
-        assert!(rt; links.ready(2));
-        assert!(rt; sends(&mut links, 2, message(alloc, byte, 1)?));
-        assert!(rt; links.give(1, message(alloc, byte, 3)?).is_ok());
+        holds(&rt, links.ready(2));
+        holds(&rt, sends(&mut links, 2, message(&rt, alloc, byte, 1)));
+        holds(&rt, links.give(1, message(&rt, alloc, byte, 3)).is_ok());
     }
     links.pump();
-    assert!(rt; links.ready(1));
-    assert!(rt; !links.ready(2));
-    assert!(rt; !sends(&mut links, 2, message(alloc, 3, 1)?));
-    let refused = links.give(1, message(alloc, 3, 2)?);
-    assert_eq!(rt; refused.err().map(|busy| busy.0.len()), Some(2));
+    holds(&rt, links.ready(1));
+    holds(&rt, !links.ready(2));
+    holds(&rt, !sends(&mut links, 2, message(&rt, alloc, 3, 1)));
+    let refused = links.give(1, message(&rt, alloc, 3, 2));
+    equal(&rt, refused.err().map(|busy| busy.0.len()), Some(2));
     collected_in_order(&rt, &mut links);
     taken_in_order(&rt, &mut links);
-    Ok(())
 }
 
 // Collects what was sent to core 2.
 fn collected_in_order(rt: &impl Abort, links: &mut ListLinks) {
-    assert!(rt; links.collect(2) == Some(&[1]));
-    assert!(rt; links.last_collected(2) == Some(&[1]));
-    assert!(rt; links.mark_collected(2));
-    assert!(rt; links.last_collected(2) == Some(&[2]));
-    assert!(rt; !links.mark_collected(2));
-    assert!(rt; links.collect(2).is_none());
-    assert!(rt; !links.ready(2));
+    holds(rt, links.collect(2) == Some(&[1]));
+    holds(rt, links.last_collected(2) == Some(&[1]));
+    holds(rt, links.mark_collected(2));
+    holds(rt, links.last_collected(2) == Some(&[2]));
+    holds(rt, !links.mark_collected(2));
+    holds(rt, links.collect(2).is_none());
+    holds(rt, !links.ready(2));
 }
 
 // Takes what was given as core 1's.
 fn taken_in_order(rt: &impl Abort, links: &mut ListLinks) {
-    assert!(rt; shows(links, 1, &[1, 1, 1]));
-    assert!(rt; takes(links, 1, &[1, 1, 1]));
-    assert!(rt; links.pull(1).is_ok());
-    assert!(rt; links.shown(1) == Some(&[2, 2, 2]));
-    assert!(rt; links.give_up(1));
-    assert!(rt; !links.give_up(1));
-    assert!(rt; shows_none(links, 1));
+    holds(rt, shows(links, 1, &[1, 1, 1]));
+    holds(rt, takes(links, 1, &[1, 1, 1]));
+    holds(rt, links.pull(1).is_ok());
+    holds(rt, links.shown(1) == Some(&[2, 2, 2]));
+    holds(rt, links.give_up(1));
+    holds(rt, !links.give_up(1));
+    holds(rt, shows_none(links, 1));
 }

@@ -1,10 +1,10 @@
 ghost use Rattle.rx_queue.specs.Queue.{SameIntake, SamePort};
 
+use crate::facts::{equal, holds};
 use pcap_reader::{Bytes, Packet};
 use rx_queue::{Intake, Job, Port, queue};
 use std::alloc::Global;
 use std::sync::Wait;
-use std::test::Fail;
 use std::thread;
 
 // A job with this number, whose packet has no byte.
@@ -20,25 +20,24 @@ fn job(alloc: Global, number: u64) -> Job {
 }
 
 #[test]
-fn a_queue_of_one(rt: HostRuntime) -> Result<(), Fail> {
+fn a_queue_of_one(rt: HostRuntime) {
     let alloc = rt.alloc();
-    let (mut port, mut intake) = queue(alloc, 1)?;
-    assert!(rt; intake.front().is_none());
-    assert!(rt; port.put(job(alloc, 1)).is_ok());
+    let (mut port, mut intake) = queue(alloc, 1).expect(&rt, "there is memory");
+    holds(&rt, intake.front().is_none());
+    holds(&rt, port.put(job(alloc, 1)).is_ok());
     let refused = port.put(job(alloc, 2));
-    assert_eq!(rt; refused.err().map(|full| full.0), Some(job(alloc, 2)));
-    assert_eq!(rt; intake.front().map(|job| job.number), Some(1));
-    assert_eq!(rt; intake.next(), Some(job(alloc, 1)));
-    assert_eq!(rt; intake.next(), None);
+    equal(&rt, refused.err().map(|full| full.0), Some(job(alloc, 2)));
+    equal(&rt, intake.front().map(|job| job.number), Some(1));
+    equal(&rt, intake.next(), Some(job(alloc, 1)));
+    equal(&rt, intake.next(), None);
     intake.look();
-    assert!(rt; intake.seen().is_none());
-    assert!(rt; port.put(job(alloc, 3)).is_ok());
-    assert!(rt; intake.seen().is_none());
+    holds(&rt, intake.seen().is_none());
+    holds(&rt, port.put(job(alloc, 3)).is_ok());
+    holds(&rt, intake.seen().is_none());
     intake.look();
-    assert_eq!(rt; intake.seen().map(|job| job.number), Some(3));
-    assert_eq!(rt; intake.rest(&mut port), Some(job(alloc, 3)));
-    assert_eq!(rt; intake.rest(&mut port), None);
-    Ok(())
+    equal(&rt, intake.seen().map(|job| job.number), Some(3));
+    equal(&rt, intake.rest(&mut port), Some(job(alloc, 3)));
+    equal(&rt, intake.rest(&mut port), None);
 }
 
 // Puts jobs with the numbers from 0 on, and waits where the queue is full.
@@ -79,9 +78,9 @@ fn take_all(rt: &impl Wait, intake: Intake, count: u64) -> (Intake, u64)
 }
 
 #[test]
-fn jobs_go_from_thread_to_thread(rt: HostRuntime) -> Result<(), Fail> {
+fn jobs_go_from_thread_to_thread(rt: HostRuntime) {
     let alloc = rt.alloc();
-    let (port, intake) = queue(alloc, 16)?;
+    let (port, intake) = queue(alloc, 16).expect(&rt, "there is memory");
     let (mut port, (mut intake, taken)) = thread::join(
         &rt,
         || -> Port
@@ -91,10 +90,9 @@ fn jobs_go_from_thread_to_thread(rt: HostRuntime) -> Result<(), Fail> {
             ensures { SameIntake intake result.0 }
         { take_all(&rt, intake, 997) },
     );
-    assert_eq!(rt; taken, 997);
+    equal(&rt, taken, 997);
     for number in 997..1_000 {
-        assert_eq!(rt; intake.rest(&mut port), Some(job(alloc, number)));
+        equal(&rt, intake.rest(&mut port), Some(job(alloc, number)));
     }
-    assert_eq!(rt; intake.rest(&mut port), None);
-    Ok(())
+    equal(&rt, intake.rest(&mut port), None);
 }

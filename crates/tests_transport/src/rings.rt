@@ -1,25 +1,26 @@
-ghost use Rattle.std.specs.Prelude.{◌≡◌, ◌≤◌, IfOk, vec_len};
+ghost use Rattle.std.specs.Prelude.{◌≡◌, ◌≤◌, vec_len};
 ghost use Rattle.ump_ring.specs.Receivers.{SameReceiver};
 ghost use Rattle.ump_ring.specs.Senders.{SameSender};
 
+use crate::facts::{equal, holds};
 use rtrb::RingBuffer;
-use std::alloc::{AllocError, Global};
+use std::alloc::Global;
+use std::process::Abort;
 use std::sync::Wait;
 use std::sync::atomic::{AtomicBool, Ordering};
-use std::test::Fail;
 use std::thread;
 use ump_ring::{Joiner, Line, LineFault, Pushed, Receiver, Sender, beside, line_at, ring};
 
 // A message whose bytes differ.
-fn message(alloc: Global, size: usize) -> Result<Vec<u8>, AllocError>
+fn message(rt: &impl Abort, alloc: Global, size: usize) -> Vec<u8>
     requires { size ≤ 32832 }
-    ensures { IfOk result (λ v. vec_len v ≡ size) }
+    ensures { vec_len result ≡ size }
 {
-    let mut bytes = Vec::with_capacity(alloc, size)?;
+    let mut bytes = Vec::with_capacity(alloc, size).expect(rt, "there is memory");
     for at in 0..size {
-        bytes.push((at % 251) as u8)?;
+        bytes.push((at % 251) as u8).expect(rt, "there is memory");
     }
-    Ok(bytes)
+    bytes
 }
 
 // Whether the receiver shows these bytes.
@@ -53,11 +54,11 @@ fn shows_none(receiver: &mut Receiver) -> bool
 }
 
 #[test]
-fn a_long_message(rt: HostRuntime) -> Result<(), Fail> {
+fn a_long_message(rt: HostRuntime) {
     let alloc = rt.alloc();
-    let (mut sender, mut receiver) = ring(alloc, 64)?;
-    let wanted = message(alloc, 32_794)?;
-    assert!(rt; sender.offer(message(alloc, 32_794)?).is_ok());
+    let (mut sender, mut receiver) = ring(alloc, 64).expect(&rt, "there is memory");
+    let wanted = message(&rt, alloc, 32_794);
+    holds(&rt, sender.offer(message(&rt, alloc, 32_794)).is_ok());
     let mut lines = 0u64;
     let mut turns = 0u32;
     for _ in 0..600 {
@@ -67,107 +68,130 @@ fn a_long_message(rt: HostRuntime) -> Result<(), Fail> {
             break;
         }
     }
-    assert_eq!(rt; lines, 586);
-    assert_eq!(rt; turns, 10);
-    assert!(rt; sender.idle());
-    assert!(rt; shows(&mut receiver, &wanted));
-    assert!(rt; takes(&mut receiver, &wanted));
-    assert!(rt; shows_none(&mut receiver));
-    let mut joiner = Joiner::new(alloc)?;
-    assert_eq!(rt; joiner.line(&line_at(&wanted, 0, 0)), Ok(false));
-    assert_eq!(rt; joiner.line(&line_at(&wanted, 1, 1)), Ok(false));
-    assert_eq!(rt;
+    equal(&rt, lines, 586);
+    equal(&rt, turns, 10);
+    holds(&rt, sender.idle());
+    holds(&rt, shows(&mut receiver, &wanted));
+    holds(&rt, takes(&mut receiver, &wanted));
+    holds(&rt, shows_none(&mut receiver));
+    let mut joiner = Joiner::new(alloc).expect(&rt, "there is memory");
+    equal(&rt, joiner.line(&line_at(&wanted, 0, 0)), Ok(false));
+    equal(&rt, joiner.line(&line_at(&wanted, 1, 1)), Ok(false));
+    equal(
+        &rt,
         joiner.line(&line_at(&wanted, 1, 1)),
-        Err(LineFault::OutOfSequence)
+        Err(LineFault::OutOfSequence),
     );
-    assert!(rt; joiner.message().is_none());
-    Ok(())
+    holds(&rt, joiner.message().is_none());
+}
+
+/// A message of 22 bytes is one line: that of a Prepare of number 1 under stamp 1, a Create by domain 1 of endpoint 7.
+#[test]
+fn the_line_of_a_message(rt: HostRuntime) {
+    let message = [
+        1, 1, 0, 0, 0, 0, 0, 0, 0, 1, 0, 0, 0, 0, 0, 0, 0, 1, 1, 0, 7, 0,
+    ];
+    let words = [94489280512, 257, 256, 30064836864, 0, 0, 0, 0];
+    equal(&rt, line_at(&message, 0, 0), words);
 }
 
 #[test]
-fn faults_of_a_first_line(rt: HostRuntime) -> Result<(), Fail> {
+fn faults_of_a_first_line(rt: HostRuntime) {
     let alloc = rt.alloc();
-    let mut first = Joiner::new(alloc)?;
-    assert_eq!(rt; first.line(&[4294967296, 5, 0, 0, 0, 0, 0, 0]), Ok(true));
-    assert!(rt; first.message() == Some(&[5]));
-    assert_eq!(rt; first.fault(), None);
+    let mut first = Joiner::new(alloc).expect(&rt, "there is memory");
+    equal(
+        &rt,
+        first.line(&[4294967296, 5, 0, 0, 0, 0, 0, 0]),
+        Ok(true),
+    );
+    holds(&rt, first.message() == Some(&[5]));
+    equal(&rt, first.fault(), None);
     for (head, word, fault) in [
         (4294967296, 261, LineFault::BadLength),
         (0, 0, LineFault::BadLength),
         (141016661229568, 0, LineFault::BadLength),
         (4294967297, 261, LineFault::OutOfSequence),
     ] {
-        let mut joiner = Joiner::new(alloc)?;
-        assert_eq!(rt; joiner.line(&[head, word, 0, 0, 0, 0, 0, 0]), Err(fault));
-        assert_eq!(rt; joiner.line(&[4294967296, 5, 0, 0, 0, 0, 0, 0]), Err(fault));
-        assert_eq!(rt; joiner.fault(), Some(fault));
-        assert!(rt; joiner.message().is_none());
+        let mut joiner = Joiner::new(alloc).expect(&rt, "there is memory");
+        equal(
+            &rt,
+            joiner.line(&[head, word, 0, 0, 0, 0, 0, 0]),
+            Err(fault),
+        );
+        equal(
+            &rt,
+            joiner.line(&[4294967296, 5, 0, 0, 0, 0, 0, 0]),
+            Err(fault),
+        );
+        equal(&rt, joiner.fault(), Some(fault));
+        holds(&rt, joiner.message().is_none());
     }
-    Ok(())
 }
 
 #[test]
-fn a_look_and_a_take_in_steps(rt: HostRuntime) -> Result<(), Fail> {
+fn a_look_and_a_take_in_steps(rt: HostRuntime) {
     let alloc = rt.alloc();
-    let (mut producer, consumer) = RingBuffer::<Line>::new(alloc, 8)?;
-    let mut receiver = Receiver::new(consumer, Joiner::new(alloc)?);
-    assert!(rt; receiver.pull().is_ok());
-    assert!(rt; receiver.shown().is_none());
-    assert!(rt; !receiver.give_up());
+    let (mut producer, consumer) = RingBuffer::<Line>::new(alloc, 8).expect(&rt, "there is memory");
+    let mut receiver = Receiver::new(consumer, Joiner::new(alloc).expect(&rt, "there is memory"));
+    holds(&rt, receiver.pull().is_ok());
+    holds(&rt, receiver.shown().is_none());
+    holds(&rt, !receiver.give_up());
     for (head, word) in [(4294967296, 5), (4294967297, 6), (4294967297, 7)] {
-        assert!(rt; producer.push([head, word, 0, 0, 0, 0, 0, 0]).is_ok());
+        holds(&rt, producer.push([head, word, 0, 0, 0, 0, 0, 0]).is_ok());
     }
-    assert!(rt; receiver.pull().is_ok());
-    assert!(rt; receiver.pull().is_ok());
-    assert!(rt; receiver.shown() == Some(&[5]));
-    assert!(rt; receiver.give_up());
-    assert!(rt; receiver.shown().is_none());
-    assert!(rt; receiver.last() == Some(&[5]));
-    assert!(rt; takes(&mut receiver, &[6]));
-    assert_eq!(rt; receiver.pull(), Err(LineFault::OutOfSequence));
-    assert_eq!(rt; receiver.pull(), Err(LineFault::OutOfSequence));
-    assert!(rt; receiver.shown().is_none());
-    assert!(rt; !receiver.give_up());
-    Ok(())
+    holds(&rt, receiver.pull().is_ok());
+    holds(&rt, receiver.pull().is_ok());
+    holds(&rt, receiver.shown() == Some(&[5]));
+    holds(&rt, receiver.give_up());
+    holds(&rt, receiver.shown().is_none());
+    holds(&rt, receiver.last() == Some(&[5]));
+    holds(&rt, takes(&mut receiver, &[6]));
+    equal(&rt, receiver.pull(), Err(LineFault::OutOfSequence));
+    equal(&rt, receiver.pull(), Err(LineFault::OutOfSequence));
+    holds(&rt, receiver.shown().is_none());
+    holds(&rt, !receiver.give_up());
 }
 
 #[test]
-fn a_ring_of_one(rt: HostRuntime) -> Result<(), Fail> {
+fn a_ring_of_one(rt: HostRuntime) {
     let alloc = rt.alloc();
-    let (mut sender, mut receiver) = ring(alloc, 1)?;
-    let wanted = message(alloc, 57)?;
-    assert!(rt; sender.offer(message(alloc, 57)?).is_ok());
-    assert_eq!(rt;
+    let (mut sender, mut receiver) = ring(alloc, 1).expect(&rt, "there is memory");
+    let wanted = message(&rt, alloc, 57);
+    holds(&rt, sender.offer(message(&rt, alloc, 57)).is_ok());
+    equal(
+        &rt,
         sender.push_some(),
         Pushed {
             lines: 1,
-            whole: false
-        }
+            whole: false,
+        },
     );
-    assert_eq!(rt;
+    equal(
+        &rt,
         sender.push_some(),
         Pushed {
             lines: 0,
-            whole: false
-        }
+            whole: false,
+        },
     );
-    assert_eq!(rt;
+    equal(
+        &rt,
         sender
-            .offer(message(alloc, 3)?)
+            .offer(message(&rt, alloc, 3))
             .err()
             .map(|busy| busy.0.len()),
-        Some(3)
+        Some(3),
     );
-    assert!(rt; shows_none(&mut receiver));
-    assert_eq!(rt;
+    holds(&rt, shows_none(&mut receiver));
+    equal(
+        &rt,
         sender.push_some(),
         Pushed {
             lines: 1,
-            whole: true
-        }
+            whole: true,
+        },
     );
-    assert!(rt; shows(&mut receiver, &wanted));
-    Ok(())
+    holds(&rt, shows(&mut receiver, &wanted));
 }
 
 // How long message number `number` is: most take one line to three, some take 587.
@@ -258,9 +282,9 @@ fn take_all(rt: &impl Wait, receiver: Receiver, count: u64, ended: &AtomicBool) 
 }
 
 #[test]
-fn messages_go_from_thread_to_thread(rt: HostRuntime) -> Result<(), Fail> {
+fn messages_go_from_thread_to_thread(rt: HostRuntime) {
     let alloc = rt.alloc();
-    let (sender, receiver) = ring(alloc, 64)?;
+    let (sender, receiver) = ring(alloc, 64).expect(&rt, "there is memory");
     let ended = AtomicBool::new(false);
     let ((mut sender, sent), (mut receiver, taken)) = thread::join(
         &rt,
@@ -272,8 +296,7 @@ fn messages_go_from_thread_to_thread(rt: HostRuntime) -> Result<(), Fail> {
         { take_all(&rt, receiver, 100_000, &ended) },
     );
     beside(&mut sender, &mut receiver);
-    assert_eq!(rt; (sent, taken), (100_000, 100_000));
-    assert!(rt; sender.idle());
-    assert!(rt; shows_none(&mut receiver));
-    Ok(())
+    equal(&rt, (sent, taken), (100_000, 100_000));
+    holds(&rt, sender.idle());
+    holds(&rt, shows_none(&mut receiver));
 }
