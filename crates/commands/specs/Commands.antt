@@ -9,6 +9,8 @@ use Rattle.console.specs.Dumping.{ShowsDump}
 use Rattle.console.specs.Matching.{ShowsGoodCode}
 use Rattle.console.specs.Reading.{IsInput}
 use Rattle.console.specs.Streaming.{StreamShows}
+use Rattle.console.specs.declared.input.TheConstants.{INPUT_READS}
+use Rattle.console.specs.declared.streaming.TheConstants.{STREAM_READS}
 use Rattle.console.specs.declared.fault.EngineFault.{EngineFault}
 use Rattle.draw_engine.specs.Drawing.{ShowsDraw}
 use Rattle.graph_engine.specs.Explaining.{ShowsExplained}
@@ -54,6 +56,14 @@ IsFailure request failure = (fault : EngineFault) × (failure ≡ Engine fault)
 abbrev pub is_stream : Request → Bool
 is_stream (Match code pcap stream) = stream
 is_stream request = false
+
+-- the most reads of the input: of one that is read to its end, and of a stream
+abbrev pub reads_at : Bool → ℕ
+reads_at false = INPUT_READS
+reads_at true = STREAM_READS
+
+abbrev pub reads_of : Request → ℕ
+reads_of request = reads_at (is_stream request)
 
 -- the requests for which captures are opened
 abbrev pub takes_captures : Request → Bool

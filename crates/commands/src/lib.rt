@@ -3,4 +3,4 @@
 
 mod performing;
 
-pub use performing::perform;
+pub use performing::{most_reads, perform};

@@ -2,10 +2,14 @@
 
 ghost use Rattle.std.specs.Prelude.{◌≡◌, ℕ, List, [], false, map, IfErr, IfOk, IsErrOf};
 ghost use Rattle.std.specs.Io.KnownBytes.{Appends};
-ghost use Rattle.commands.specs.Commands.{IsFailure, Shows, ShowsMatch, is_stream, takes_captures};
+ghost use Rattle.console.specs.Devices.{IsFresh};
+ghost use Rattle.commands.specs.Commands.{IsFailure, Shows, ShowsMatch, is_stream, reads_at, reads_of, takes_captures};
 
 use command_line::Request;
-use console::{EngineFault, run_check, run_dump, run_match, run_stream};
+use console::{
+    EngineFault, INPUT_READS, STREAM_READS, Sink, Source, run_check, run_dump, run_match,
+    run_stream,
+};
 use core_threads::Gate;
 use draw_engine::run_draw;
 use graph_engine::{run_explain, run_graph};
@@ -16,6 +20,16 @@ use std::io::{Read, Write};
 use std::sync::Wait;
 use std::thread::Threads;
 use std::time::Clock;
+
+/// The most reads that the input of a request may take.
+pub fn most_reads(request: &Request) -> u64
+    ensures { result ≡ reads_of request.now }
+{
+    match request {
+        Request::Match { stream: true, .. } => STREAM_READS,
+        _ => INPUT_READS,
+    }
+}
 
 /// Does what was asked for with the input and these captures, and answers the exit status: 0, or 1 where an input was refused. What it
 /// writes is the text of the command for what it read.
@@ -28,11 +42,13 @@ pub fn perform<T: Threads + Wait + Clock + Sync, G: Gate + Sync, R: Read, F: Rea
     gate: &G,
     request: &Request,
     captures: Vec<F>,
-    reader: &mut R,
-    writer: &mut W,
+    reader: &mut Source<R>,
+    writer: &mut Sink<W>,
 ) -> Result<u8, RunFailure>
-    ensures shown { IfOk result (λ status. (text : List ℕ) × Appends (W.contents writer.old) (W.contents writer.new) text
-        × Shows request.now (map F.remaining captures.items) (R.remaining reader.old) (R.remaining reader.new) status text) }
+    requires fresh { IsFresh reader.old (reads_of request.now) }
+    requires good { writer.old.failed ≡ false }
+    ensures shown { IfOk result (λ status. (text : List ℕ) × Appends (W.contents writer.old.inner) (W.contents writer.new.inner) text
+        × Shows request.now (map F.remaining captures.items) (R.remaining reader.old.inner) (R.remaining reader.new.inner) status text) }
     ensures failure { IfErr result (IsFailure request.now) }
     ensures silent { IsErrOf result (RunFailure.Engine EngineFault.ReadFailed) → is_stream request.now ≡ false → writer.new ≡ writer.old }
 {
@@ -47,12 +63,14 @@ pub fn perform<T: Threads + Wait + Clock + Sync, G: Gate + Sync, R: Read, F: Rea
 fn perform_alone<R: Read, W: Write>(
     alloc: Global,
     request: &Request,
-    reader: &mut R,
-    writer: &mut W,
+    reader: &mut Source<R>,
+    writer: &mut Sink<W>,
 ) -> Result<u8, EngineFault>
-    requires { takes_captures request.now ≡ false }
-    ensures shown { IfOk result (λ status. (text : List ℕ) × Appends (W.contents writer.old) (W.contents writer.new) text
-        × Shows request.now [] (R.remaining reader.old) (R.remaining reader.new) status text) }
+    requires alone { takes_captures request.now ≡ false }
+    requires fresh { IsFresh reader.old (reads_of request.now) }
+    requires good { writer.old.failed ≡ false }
+    ensures shown { IfOk result (λ status. (text : List ℕ) × Appends (W.contents writer.old.inner) (W.contents writer.new.inner) text
+        × Shows request.now [] (R.remaining reader.old.inner) (R.remaining reader.new.inner) status text) }
     ensures silent { IsErrOf result EngineFault.ReadFailed → is_stream request.now ≡ false → writer.new ≡ writer.old }
 {
     match request {
@@ -74,11 +92,13 @@ fn perform_match<R: Read, W: Write>(
     code: &str,
     pcap: bool,
     stream: bool,
-    reader: &mut R,
-    writer: &mut W,
+    reader: &mut Source<R>,
+    writer: &mut Sink<W>,
 ) -> Result<u8, EngineFault>
-    ensures shown { IfOk result (λ status. (text : List ℕ) × Appends (W.contents writer.old) (W.contents writer.new) text
-        × ShowsMatch code.now pcap stream (R.remaining reader.old) (R.remaining reader.new) status text) }
+    requires fresh { IsFresh reader.old (reads_at stream) }
+    requires good { writer.old.failed ≡ false }
+    ensures shown { IfOk result (λ status. (text : List ℕ) × Appends (W.contents writer.old.inner) (W.contents writer.new.inner) text
+        × ShowsMatch code.now pcap stream (R.remaining reader.old.inner) (R.remaining reader.new.inner) status text) }
     ensures silent { IsErrOf result EngineFault.ReadFailed → stream ≡ false → writer.new ≡ writer.old }
 {
     if stream {

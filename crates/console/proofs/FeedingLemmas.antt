@@ -1,5 +1,5 @@
 -- What a feed was given, while a reader is read.
-use Rattle.std.proofs.Common.{◌≡◌, ℕ, ◌+◌, ◌<◌, List, [], ◌++◌, length, Option, Some, None, arith, refl, length-append, slice_index}
+use Rattle.std.proofs.Common.{◌≡◌, ℕ, ◌+◌, ◌<◌, List, [], ◌++◌, length, Option, Some, None, arith, refl, ap, ◌∙◌, length-append, slice_index}
 use Rattle.std.specs.Io.KnownBytes.{Consumes, Keeps}
 use Rattle.pcap_reader.specs.declared.feed.Feed.{Feed}
 use Rattle.pcap_reader.specs.Held.{Holds}
@@ -36,9 +36,16 @@ consumes-kept (Some xs) None new bs lost kept = absurd lost
 consumes-kept (Some xs) (Some ys) None bs lost kept = absurd kept
 consumes-kept (Some xs) (Some ys) (Some zs) bs lost kept = rw kept lost
 
+-- a read that met the end
+pub consumes-end : (old mid new : Option (List ℕ)) (bs : List ℕ) → Consumes old mid bs → Consumes mid new [] → Consumes old new bs
+consumes-end None mid new bs lost end = tt
+consumes-end (Some xs) None new bs lost end = absurd lost
+consumes-end (Some xs) (Some ys) None bs lost end = absurd end
+consumes-end (Some xs) (Some ys) (Some zs) bs lost end = lost ∙ ap (λ t. bs ++ t) end
+
 -- a read that failed and took nothing
-pub so_fed_kept : (old mid new : Option (List ℕ)) (feed : Feed) (taken : ℕ) → SoFed old mid feed taken → Keeps mid new → SoFed old new feed taken
-so_fed_kept old mid new feed taken so kept = record { given = so.given; lost = consumes-kept old mid new so.given so.lost kept; holds = so.holds; count = so.count }
+pub so_fed_kept : (old mid new : Option (List ℕ)) (feed : Feed) (taken taken' : ℕ) → SoFed old mid feed taken → Keeps mid new → taken' ≡ taken → SoFed old new feed taken'
+so_fed_kept old mid new feed taken taken' so kept same = record { given = so.given; lost = consumes-kept old mid new so.given so.lost kept; holds = so.holds; count = same ∙ so.count }
 
 -- a feed that has stopped holds more bytes without being fed
 pub stopped_holds : (piece : List ℕ) (feed : Feed) → ((i : ℕ) → slice_index piece i < 256) → HasStopped feed → (fed : List ℕ) → Holds fed feed → Holds (fed ++ piece) feed

@@ -1,4 +1,5 @@
 pub mod KnownBytesLemmas
+pub mod DeviceLemmas
 pub mod LineLemmas
 pub mod LineFeedLemmas
 pub mod StreamingLemmas

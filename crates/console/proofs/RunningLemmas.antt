@@ -151,6 +151,6 @@ so_run_next program old mid new feed feed' before after taken taken' piece so ne
     }
 
 -- a read that failed and took nothing
-pub so_run_kept : (program : List Insn) (old mid new : Option (List ℕ)) (feed : Feed) (outcomes : List Outcome) (taken : ℕ) → SoRun program old mid feed outcomes taken → Keeps mid new
-    → SoRun program old new feed outcomes taken
-so_run_kept program old mid new feed outcomes taken so kept = record { given = so.given; lost = consumes-kept old mid new so.given so.lost kept; has = so.has; count = so.count }
+pub so_run_kept : (program : List Insn) (old mid new : Option (List ℕ)) (feed : Feed) (outcomes : List Outcome) (taken taken' : ℕ) → SoRun program old mid feed outcomes taken → Keeps mid new → taken' ≡ taken
+    → SoRun program old new feed outcomes taken'
+so_run_kept program old mid new feed outcomes taken taken' so kept same = record { given = so.given; lost = consumes-kept old mid new so.given so.lost kept; has = so.has; count = same ∙ so.count }

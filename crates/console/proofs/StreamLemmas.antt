@@ -7,7 +7,7 @@ use Rattle.std.proofs.lemmas.List.{append-nil}
 use Rattle.std.proofs.lemmas.Grind.{flat_map-append}
 use Rattle.bpf_insn.specs.declared.insn.Insn.{Insn}
 use Rattle.filter_vm.specs.declared.machine.Outcome.{Outcome}
-use Rattle.console.specs.declared.source.Source.{Source}
+use Rattle.console.specs.declared.packet_source.PacketSource.{PacketSource}
 use Rattle.console.specs.declared.fault.EngineFault.{EngineFault}
 use Rattle.console.specs.Reading.{BeginsWith}
 use Rattle.console.specs.Matching.{ShowsBytes, ShowsPackets, outcome_line}
@@ -20,7 +20,7 @@ use Rattle.console.proofs.FeedingLemmas.{consumes-kept, consumes-nothing}
 use Rattle.console.proofs.StreamingLemmas.{Streamed, begins_itself, ended_front, no_bytes, ran_front}
 
 -- a stream before its first read
-pub streamed_start : (program : List Insn) (from old : Option (List ℕ)) (source : Source) → SourceRan program [] source [] → Streamed program (is_capture source) from from old old source 0
+pub streamed_start : (program : List Insn) (from old : Option (List ℕ)) (source : PacketSource) → SourceRan program [] source [] → Streamed program (is_capture source) from from old old source 0
 streamed_start program from old source fresh = record {
   input = [];
   shown = [];
@@ -32,7 +32,7 @@ streamed_start program from old source fresh = record {
 }
 
 -- what is left where what was read isn't run
-pub left_read : {T E : Type 0} (r : Result T E) (program : List Insn) (pcap : Bool) (from at at' old new : Option (List ℕ)) (source : Source) (turns : ℕ) (piece : List ℕ)
+pub left_read : {T E : Type 0} (r : Result T E) (program : List Insn) (pcap : Bool) (from at at' old new : Option (List ℕ)) (source : PacketSource) (turns : ℕ) (piece : List ℕ)
     → Streamed program pcap from at old new source turns → Consumes at at' piece → All (λ b. b < 256) piece
     → OnErr r ((input : List ℕ) × Consumes from at' input × ((text : List ℕ) × Appends old new text × ShowsSome program pcap input text))
 left_read (Ok v) program pcap from at at' old new source turns piece so lost small = tt
@@ -47,7 +47,7 @@ left_read (Err e) program pcap from at at' old new source turns piece so lost sm
 )
 
 -- and where a read failed
-pub left_kept : (program : List Insn) (pcap : Bool) (from at at' old new : Option (List ℕ)) (source : Source) (turns : ℕ) → Streamed program pcap from at old new source turns → Keeps at at'
+pub left_kept : (program : List Insn) (pcap : Bool) (from at at' old new : Option (List ℕ)) (source : PacketSource) (turns : ℕ) → Streamed program pcap from at old new source turns → Keeps at at'
     → (input : List ℕ) × Consumes from at' input × ((text : List ℕ) × Appends old new text × ShowsSome program pcap input text)
 left_kept program pcap from at at' old new source turns so kept = (
   so.input,
@@ -64,7 +64,7 @@ keeps_itself None = tt
 keeps_itself (Some xs) = refl
 
 -- a read that was interrupted
-pub streamed_kept : (program : List Insn) (pcap : Bool) (from at at' old new : Option (List ℕ)) (source : Source) (turns : ℕ) → Streamed program pcap from at old new source turns → Keeps at at'
+pub streamed_kept : (program : List Insn) (pcap : Bool) (from at at' old new : Option (List ℕ)) (source : PacketSource) (turns : ℕ) → Streamed program pcap from at old new source turns → Keeps at at'
     → Streamed program pcap from at' old new source (turns + 1)
 streamed_kept program pcap from at at' old new source turns so kept = record {
   input = so.input;
@@ -77,7 +77,7 @@ streamed_kept program pcap from at at' old new source turns so kept = record {
 }
 
 -- what was read was run, but isn't shown yet
-pub record Took (To : List ℕ → List Outcome → Type 0) (pcap : Bool) (from at old new : Option (List ℕ)) (source : Source) (outcomes : List Outcome) (turns : ℕ) : Type 0 where
+pub record Took (To : List ℕ → List Outcome → Type 0) (pcap : Bool) (from at old new : Option (List ℕ)) (source : PacketSource) (outcomes : List Outcome) (turns : ℕ) : Type 0 where
   pub input : List ℕ
   pub shown : List Outcome
   pub lost : Consumes from at input
@@ -86,7 +86,7 @@ pub record Took (To : List ℕ → List Outcome → Type 0) (pcap : Bool) (from 
   pub kind : is_capture source ≡ pcap
   pub short : length input ≤ 65536 * turns
 
-pub took : (To : List ℕ → Source → List Outcome → Type 0) (program : List Insn) (pcap : Bool) (from at at' old new : Option (List ℕ)) (source source' : Source) (turns : ℕ) (piece : List ℕ) (before after : List Outcome)
+pub took : (To : List ℕ → PacketSource → List Outcome → Type 0) (program : List Insn) (pcap : Bool) (from at at' old new : Option (List ℕ)) (source source' : PacketSource) (turns : ℕ) (piece : List ℕ) (before after : List Outcome)
     → Streamed program pcap from at old new source turns → Consumes at at' piece → length piece ≤ 65536 → turns < 281474976710655 → before ≡ []
     → RunsTo (SourceRan program) To piece [] source source' before after → is_capture source' ≡ is_capture source
     → Took (λ input outcomes. To input source' outcomes) pcap from at' old new source' after (turns + 1)
@@ -105,22 +105,22 @@ took To program pcap from at at' old new source source' turns piece before after
     }
 
 -- a run of what was read, whether it stopped or not
-abbrev pub RanOrStopped : List Insn → Bool → List ℕ → Source → List Outcome → Type 0
+abbrev pub RanOrStopped : List Insn → Bool → List ℕ → PacketSource → List Outcome → Type 0
 RanOrStopped program stopped taken source outcomes = MatchBool stopped (SourceEnded program true taken source outcomes) (SourceRan program taken source outcomes)
 
-pub either_run : (program : List Insn) (stopped : Bool) (piece : List ℕ) (old new : Source) (before after : List Outcome)
+pub either_run : (program : List Insn) (stopped : Bool) (piece : List ℕ) (old new : PacketSource) (before after : List Outcome)
     → MatchBool stopped (RunsTo (SourceRan program) (SourceEnded program true) piece [] old new before after) (RunsTo (SourceRan program) (SourceRan program) piece [] old new before after)
     → RunsTo (SourceRan program) (RanOrStopped program stopped) piece [] old new before after
 either_run program true piece old new before after r = record { front = r.front; parts = r.parts; more = r.more; pushed = r.pushed; runs = λ fed outcomes has short. r.runs fed outcomes has short }
 either_run program false piece old new before after r = record { front = r.front; parts = r.parts; more = r.more; pushed = r.pushed; runs = λ fed outcomes has short. r.runs fed outcomes has short }
 
-pub either_front : (program : List Insn) (stopped : Bool) (taken : List ℕ) (source : Source) (outcomes : List Outcome) (text : List ℕ) → RanOrStopped program stopped taken source outcomes
+pub either_front : (program : List Insn) (stopped : Bool) (taken : List ℕ) (source : PacketSource) (outcomes : List Outcome) (text : List ℕ) → RanOrStopped program stopped taken source outcomes
     → BeginsWith text (flat_map outcome_line outcomes) → ShowsPackets program (is_capture source) taken text
 either_front program true taken source outcomes text has begins = ended_front program true taken source outcomes text has begins
 either_front program false taken source outcomes text has begins = rw (append-nil taken) at (ran_front program taken [] source outcomes text has no_bytes begins)
 
 -- what is left where the outcomes couldn't be written
-pub left_took : {T E : Type 0} (r : Result T E) (To : List ℕ → List Outcome → Type 0) (program : List Insn) (pcap : Bool) (from at old new last : Option (List ℕ)) (source : Source) (outcomes : List Outcome) (turns : ℕ)
+pub left_took : {T E : Type 0} (r : Result T E) (To : List ℕ → List Outcome → Type 0) (program : List Insn) (pcap : Bool) (from at old new last : Option (List ℕ)) (source : PacketSource) (outcomes : List Outcome) (turns : ℕ)
     → Took To pcap from at old new source outcomes turns
     → ((input : List ℕ) (outcomes : List Outcome) (text : List ℕ) → To input outcomes → BeginsWith text (flat_map outcome_line outcomes) → ShowsPackets program (is_capture source) input text)
     → (front : List ℕ) × BeginsWith front (flat_map outcome_line outcomes) × Appends new last front
@@ -140,7 +140,7 @@ left_took (Err e) To program pcap from at old new last source outcomes turns so 
     )
 
 -- the outcomes were written
-pub streamed_next : (program : List Insn) (pcap : Bool) (from at old new last : Option (List ℕ)) (source : Source) (outcomes : List Outcome) (turns : ℕ)
+pub streamed_next : (program : List Insn) (pcap : Bool) (from at old new last : Option (List ℕ)) (source : PacketSource) (outcomes : List Outcome) (turns : ℕ)
     → Took (λ input outcomes. RanOrStopped program false input source outcomes) pcap from at old new source outcomes turns → Appends new last (flat_map outcome_line outcomes)
     → Streamed program pcap from at old last source turns
 streamed_next program pcap from at old new last source outcomes turns so more = record {
@@ -161,7 +161,7 @@ lines_then : (shown outcomes : List Outcome) (ending : List ℕ) → flat_map ou
 lines_then shown outcomes ending = ap (λ t. t ++ ending) (flat_map-append outcome_line shown outcomes)
 
 -- what is shown at the end
-pub end_shown : (r : Result ℕ EngineFault) (program : List Insn) (stopped pcap : Bool) (from at old new mid last : Option (List ℕ)) (source : Source) (outcomes : List Outcome) (turns : ℕ)
+pub end_shown : (r : Result ℕ EngineFault) (program : List Insn) (stopped pcap : Bool) (from at old new mid last : Option (List ℕ)) (source : PacketSource) (outcomes : List Outcome) (turns : ℕ)
     → Took (λ input outcomes. SourceEnded program stopped input source outcomes) pcap from at old new source outcomes turns → turns ≤ 281474976710655 → Appends new mid (flat_map outcome_line outcomes)
     → (IsAtEnd at ⊎ IsTrue stopped)
     → IfOk r (λ status. (ending : List ℕ) × Appends mid last ending × ((program : List Insn) (taken : List ℕ) (outcomes : List Outcome) → length taken < 18446744073709551616
@@ -184,7 +184,7 @@ end_shown (Ok status) program stopped pcap from at old new mid last source outco
     )
 
 -- and left, where it couldn't be written
-pub end_left : (r : Result ℕ EngineFault) (program : List Insn) (stopped pcap : Bool) (from at old new mid last : Option (List ℕ)) (source : Source) (outcomes : List Outcome) (turns : ℕ)
+pub end_left : (r : Result ℕ EngineFault) (program : List Insn) (stopped pcap : Bool) (from at old new mid last : Option (List ℕ)) (source : PacketSource) (outcomes : List Outcome) (turns : ℕ)
     → Took (λ input outcomes. SourceEnded program stopped input source outcomes) pcap from at old new source outcomes turns → turns ≤ 281474976710655 → Appends new mid (flat_map outcome_line outcomes)
     → OnErr r ((front : List ℕ) × Appends mid last front × ((program : List Insn) (taken : List ℕ) (outcomes : List Outcome) → length taken < 18446744073709551616
     → SourceEnded program stopped taken source outcomes → ShowsSome program (is_capture source) taken (flat_map outcome_line outcomes ++ front)))

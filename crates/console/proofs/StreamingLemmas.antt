@@ -18,8 +18,8 @@ use Rattle.pcap_reader.proofs.Fronts.{front-lasts, reads-lasts}
 use Rattle.pcap_reader.proofs.LawLemmas.{has_fronts, one_reading}
 use Rattle.pcap_reader.proofs.ReadingLemmas.{has_reading}
 use Rattle.console.specs.declared.line_feed.LineFeed.{LineFeed}
-use Rattle.console.specs.declared.source.Source.{Source}
-use Rattle.console.specs.declared.source.Source.TheVariants.{Lines, Capture}
+use Rattle.console.specs.declared.packet_source.PacketSource.{PacketSource}
+use Rattle.console.specs.declared.packet_source.PacketSource.TheVariants.{Lines, Capture}
 use Rattle.console.specs.declared.fault.EngineFault.{EngineFault}
 use Rattle.console.specs.Reading.{BeginsWith, HasStopped}
 use Rattle.console.specs.Faults.{fault_status, fault_text}
@@ -67,7 +67,7 @@ run_front program fed rest feed outcomes text has small begins =
     )
 
 -- the same of what a source took, and of more
-pub ran_front : (program : List Insn) (fed rest : List ℕ) (source : Source) (outcomes : List Outcome) (text : List ℕ) → SourceRan program fed source outcomes → All (λ b. b < 256) rest
+pub ran_front : (program : List Insn) (fed rest : List ℕ) (source : PacketSource) (outcomes : List Outcome) (text : List ℕ) → SourceRan program fed source outcomes → All (λ b. b < 256) rest
     → BeginsWith text (flat_map outcome_line outcomes) → ShowsPackets program (is_capture source) (fed ++ rest) text
 ran_front program fed rest (Lines feed) outcomes text has small begins = record {
   good = has.good;
@@ -84,7 +84,7 @@ pub no_bytes : All (λ b. b < 256) []
 no_bytes = λ k d within. absurd (omega arith)
 
 -- and of all that a source took
-pub ended_front : (program : List Insn) (stopped : Bool) (taken : List ℕ) (source : Source) (outcomes : List Outcome) (text : List ℕ) → SourceEnded program stopped taken source outcomes
+pub ended_front : (program : List Insn) (stopped : Bool) (taken : List ℕ) (source : PacketSource) (outcomes : List Outcome) (text : List ℕ) → SourceEnded program stopped taken source outcomes
     → BeginsWith text (flat_map outcome_line outcomes) → ShowsPackets program (is_capture source) taken text
 ended_front program false taken (Lines feed) outcomes text has begins = record {
   good = lines taken;
@@ -139,20 +139,20 @@ some_of_whole program pcap taken status lines ending front shows begins =
     inr (status, lines ++ ending, shows, (begins.0, ap (λ t. lines ++ t) begins.1 ∙ sym (append_assoc lines front begins.0)))
 
 -- what is left where the complaint about a line couldn't be written
-pub bad_left : (source : Source) (feed : LineFeed) (stopped : Bool) (number : ℕ) (front : List ℕ) → source ≡ Lines feed → stopped ≡ true → (feed.number + 1 < 18446744073709551616 → number ≡ feed.number + 1)
+pub bad_left : (source : PacketSource) (feed : LineFeed) (stopped : Bool) (number : ℕ) (front : List ℕ) → source ≡ Lines feed → stopped ≡ true → (feed.number + 1 < 18446744073709551616 → number ≡ feed.number + 1)
     → BeginsWith front (bad_line number) → (program : List Insn) (taken : List ℕ) (outcomes : List Outcome) → length taken < 18446744073709551616 → SourceEnded program stopped taken source outcomes
     → ShowsSome program (is_capture source) taken (flat_map outcome_line outcomes ++ front)
 bad_left source feed stopped number front is at counted begins program taken outcomes short ended =
     rw is (some_of_whole program false taken 1 (flat_map outcome_line outcomes) (bad_line number) front (bad_shown program taken feed outcomes number (rw (is, at) at ended) short counted) begins)
 
 -- where nothing was written behind the outcomes
-pub nothing_left : (source : Source) (stopped : Bool) (program : List Insn) (taken : List ℕ) (outcomes : List Outcome) → SourceEnded program stopped taken source outcomes
+pub nothing_left : (source : PacketSource) (stopped : Bool) (program : List Insn) (taken : List ℕ) (outcomes : List Outcome) → SourceEnded program stopped taken source outcomes
     → ShowsSome program (is_capture source) taken (flat_map outcome_line outcomes ++ [])
 nothing_left source stopped program taken outcomes ended =
     inl (ended_front program stopped taken source outcomes (flat_map outcome_line outcomes ++ []) ended ([], sym (append-nil (flat_map outcome_line outcomes ++ []) ∙ append-nil (flat_map outcome_line outcomes))))
 
 -- what a capture shows at its end
-pub capture_end : (r : Result ℕ EngineFault) (source : Source) (feed : Feed) (stopped : Bool) (fault : Option CaptureFault) (kept : List ℕ) (old new : Option (List ℕ)) → source ≡ Capture feed → kept ≡ []
+pub capture_end : (r : Result ℕ EngineFault) (source : PacketSource) (feed : Feed) (stopped : Bool) (fault : Option CaptureFault) (kept : List ℕ) (old new : Option (List ℕ)) → source ≡ Capture feed → kept ≡ []
     → ((program : List Insn) (fed : List ℕ) (outcomes : List Outcome) → HasRun program fed feed outcomes → EndsRun program fed outcomes fault)
     → IfOk r (λ status. (status ≡ fault_status fault) × Appends old new (kept ++ fault_text fault))
     → IfOk r (λ status. (ending : List ℕ) × Appends old new ending × ((program : List Insn) (taken : List ℕ) (outcomes : List Outcome) → length taken < 18446744073709551616
@@ -164,7 +164,7 @@ capture_end (Ok status) source feed stopped fault kept old new is none ends wrot
   λ program taken outcomes short ended. rw (is, wrote.0) (capture_ended program taken outcomes fault (ends program taken outcomes (capture_of program stopped taken feed outcomes (rw is at ended)))),
 )
 
-pub capture_left : (source : Source) (feed : Feed) (stopped : Bool) (fault : Option CaptureFault) (front : List ℕ) → source ≡ Capture feed
+pub capture_left : (source : PacketSource) (feed : Feed) (stopped : Bool) (fault : Option CaptureFault) (front : List ℕ) → source ≡ Capture feed
     → ((program : List Insn) (fed : List ℕ) (outcomes : List Outcome) → HasRun program fed feed outcomes → EndsRun program fed outcomes fault)
     → BeginsWith front (fault_text fault) → (program : List Insn) (taken : List ℕ) (outcomes : List Outcome) → SourceEnded program stopped taken source outcomes
     → ShowsSome program (is_capture source) taken (flat_map outcome_line outcomes ++ front)
@@ -177,7 +177,7 @@ fault_is_one None some = absurd (cc)
 fault_is_one (Some f) some = refl
 
 -- the status of a capture with a fault that stands
-pub capture_status : (r : Result ℕ EngineFault) (source : Source) (feed : Feed) (stopped : Bool) (fault : Option CaptureFault) (old new : Option (List ℕ)) (text : List ℕ) → source ≡ Capture feed
+pub capture_status : (r : Result ℕ EngineFault) (source : PacketSource) (feed : Feed) (stopped : Bool) (fault : Option CaptureFault) (old new : Option (List ℕ)) (text : List ℕ) → source ≡ Capture feed
     → (HasStopped feed → IsSome fault) → IfOk r (λ status. (status ≡ fault_status fault) × Appends old new text)
     → IfOk r (λ status. (program : List Insn) (taken : List ℕ) (outcomes : List Outcome) → SourceEnded program stopped taken source outcomes → IsTrue stopped → status ≡ 1)
 capture_status (Err e) source feed stopped fault old new text is some wrote = tt
@@ -185,7 +185,7 @@ capture_status (Ok status) source feed stopped fault old new text is some wrote 
     let was : SourceEnded program true taken (Capture feed) outcomes = rw (is, at) at ended in wrote.0 ∙ fault_is_one fault (some was.1)
 
 -- what is left, whatever is answered
-pub left_by : {T E : Type 0} (r : Result T E) (source : Source) (stopped : Bool) (old new : Option (List ℕ)) (front : List ℕ) → Appends old new front
+pub left_by : {T E : Type 0} (r : Result T E) (source : PacketSource) (stopped : Bool) (old new : Option (List ℕ)) (front : List ℕ) → Appends old new front
     → ((program : List Insn) (taken : List ℕ) (outcomes : List Outcome) → length taken < 18446744073709551616 → SourceEnded program stopped taken source outcomes
     → ShowsSome program (is_capture source) taken (flat_map outcome_line outcomes ++ front))
     → OnErr r ((front : List ℕ) × Appends old new front × ((program : List Insn) (taken : List ℕ) (outcomes : List Outcome) → length taken < 18446744073709551616
@@ -194,7 +194,7 @@ left_by (Ok v) source stopped old new front appended shows = tt
 left_by (Err e) source stopped old new front appended shows = (front, appended, shows)
 
 -- what is left where the line for a capture's fault couldn't be written
-pub capture_left_by : (r : Result ℕ EngineFault) (source : Source) (feed : Feed) (stopped : Bool) (fault : Option CaptureFault) (kept : List ℕ) (old new : Option (List ℕ)) → source ≡ Capture feed → kept ≡ []
+pub capture_left_by : (r : Result ℕ EngineFault) (source : PacketSource) (feed : Feed) (stopped : Bool) (fault : Option CaptureFault) (kept : List ℕ) (old new : Option (List ℕ)) → source ≡ Capture feed → kept ≡ []
     → ((program : List Insn) (fed : List ℕ) (outcomes : List Outcome) → HasRun program fed feed outcomes → EndsRun program fed outcomes fault)
     → OnErr r ((front : List ℕ) × BeginsWith front (kept ++ fault_text fault) × Appends old new front)
     → OnErr r ((front : List ℕ) × Appends old new front × ((program : List Insn) (taken : List ℕ) (outcomes : List Outcome) → length taken < 18446744073709551616
@@ -207,7 +207,7 @@ capture_left_by (Err e) source feed stopped fault kept old new is none ends fail
 )
 
 -- what a stream has read, run and shown
-pub record Streamed (program : List Insn) (pcap : Bool) (from at old new : Option (List ℕ)) (source : Source) (turns : ℕ) : Type 0 where
+pub record Streamed (program : List Insn) (pcap : Bool) (from at old new : Option (List ℕ)) (source : PacketSource) (turns : ℕ) : Type 0 where
   pub input : List ℕ
   pub shown : List Outcome
   pub lost : Consumes from at input

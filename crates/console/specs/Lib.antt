@@ -1,4 +1,5 @@
 pub mod Words
+pub mod Devices
 pub mod Reading
 pub mod Code
 pub mod Faults

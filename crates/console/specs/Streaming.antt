@@ -6,8 +6,8 @@ use Rattle.hex.specs.Hex.{decode_of}
 use Rattle.bpf_insn.specs.declared.insn.Insn.{Insn}
 use Rattle.filter_vm.specs.declared.machine.Outcome.{Outcome}
 use Rattle.console.specs.declared.line_feed.LineFeed.{LineFeed}
-use Rattle.console.specs.declared.source.Source.{Source}
-use Rattle.console.specs.declared.source.Source.TheVariants.{Lines, Capture}
+use Rattle.console.specs.declared.packet_source.PacketSource.{PacketSource}
+use Rattle.console.specs.declared.packet_source.PacketSource.TheVariants.{Lines, Capture}
 use Rattle.console.specs.Code.{IsGoodCode}
 use Rattle.console.specs.Reading.{HasStopped}
 use Rattle.console.specs.Matching.{Answers, ShowsBytes, ShowsFront, ShowsPackets}
@@ -56,17 +56,17 @@ pub record LinesStopped (program : List Insn) (taken : List ℕ) (feed : LineFee
   pub few : length good < length taken
 
 -- the source is a capture, and not lines
-abbrev pub is_capture : Source → Bool
+abbrev pub is_capture : PacketSource → Bool
 is_capture (Lines feed) = false
 is_capture (Capture feed) = true
 
 -- the packets that are whole in the bytes that a source took ended with these outcomes
-abbrev pub SourceRan : List Insn → List ℕ → Source → List Outcome → Type 0
+abbrev pub SourceRan : List Insn → List ℕ → PacketSource → List Outcome → Type 0
 SourceRan program taken (Lines feed) outcomes = LinesRan program taken feed outcomes
 SourceRan program taken (Capture feed) outcomes = HasRun program taken feed outcomes
 
 -- the same where the bytes are all that there are, or where nothing that follows is looked at
-abbrev pub SourceEnded : List Insn → Bool → List ℕ → Source → List Outcome → Type 0
+abbrev pub SourceEnded : List Insn → Bool → List ℕ → PacketSource → List Outcome → Type 0
 SourceEnded program false taken (Lines feed) outcomes = LinesEnded program taken feed outcomes
 SourceEnded program true taken (Lines feed) outcomes = LinesStopped program taken feed outcomes
 SourceEnded program false taken (Capture feed) outcomes = HasRun program taken feed outcomes

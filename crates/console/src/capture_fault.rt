@@ -1,14 +1,15 @@
 //! The end of what is shown of a capture: the line for its fault, and the status.
 
-ghost use Rattle.std.specs.Prelude.{◌≡◌, ◌++◌, ℕ, List, IfOk, IfErr, IsErrOf, OnOk, OnErr, string_bytes};
+ghost use Rattle.std.specs.Prelude.{◌≡◌, ◌++◌, ℕ, List, IfOk, IfErr, IsErrOf, OnOk, OnErr, string_bytes, false};
 ghost use Rattle.std.specs.Io.KnownBytes.{Appends};
+ghost use Rattle.console.specs.Devices.{StopsWriting};
 ghost use Rattle.console.specs.Faults.{fault_line, fault_status, fault_text};
 ghost use Rattle.console.specs.Matching.{IsPrintFault};
 ghost use Rattle.console.specs.Reading.{BeginsWith};
 
-use crate::EngineFault;
 use crate::fault_words::push_capture_words;
 use crate::output::write_text;
+use crate::{EngineFault, Sink};
 use pcap_reader::CaptureFault;
 use std::alloc::AllocError;
 use std::io::Write;
@@ -17,22 +18,35 @@ use std::io::Write;
 pub fn write_ending<W: Write>(
     mut text: String,
     fault: Option<CaptureFault>,
-    writer: &mut W,
+    writer: &mut Sink<W>,
 ) -> Result<u8, EngineFault>
+    requires { writer.old.failed ≡ false }
     ensures shown { IfOk result (λ status. (status ≡ fault_status fault)
-        × Appends (W.contents writer.old) (W.contents writer.new) (string_bytes text ++ fault_text fault)) }
+        × Appends (W.contents writer.old.inner) (W.contents writer.new.inner) (string_bytes text ++ fault_text fault)) }
     ensures part { IsErrOf result EngineFault.NoMemory → writer.new ≡ writer.old }
     ensures front { OnErr result ((front : List ℕ) × BeginsWith front (string_bytes text ++ fault_text fault)
-        × Appends (W.contents writer.old) (W.contents writer.new) front) }
+        × Appends (W.contents writer.old.inner) (W.contents writer.new.inner) front) }
     ensures fault { IfErr result IsPrintFault }
+    ensures good { OnOk result (writer.new.failed ≡ false) }
+    ensures cause { IfErr result (StopsWriting writer.new) }
 {
-    let mut status = 0;
-    if let Some(fault) = fault {
-        push_fault(&mut text, fault)?;
-        status = 1;
-    }
+    let status = push_ending(&mut text, fault)?;
     write_text(writer, text.as_str())?;
     Ok(status)
+}
+
+/// Prints the line for a fault if there is one, and answers the status.
+fn push_ending(text: &mut String, fault: Option<CaptureFault>) -> Result<u8, AllocError>
+    ensures status { IfOk result (λ status. status ≡ fault_status fault) }
+    ensures printed { OnOk result (string_bytes text.new ≡ string_bytes text.old ++ fault_text fault) }
+{
+    match fault {
+        None => Ok(0),
+        Some(fault) => {
+            push_fault(text, fault)?;
+            Ok(1)
+        }
+    }
 }
 
 /// Prints the line for a fault.

@@ -1,10 +1,11 @@
 //! Reading a capture: its packets, up to the end or to a fault.
 
-ghost use Rattle.std.specs.Prelude.{IfOk, IfErr};
-ghost use Rattle.console.specs.Reading.{GaveCapture, IsReadFault, LosesSome};
+ghost use Rattle.std.specs.Prelude.{◌≡◌, ◌≤◌, IfOk, IfErr, is_some, false};
+ghost use Rattle.console.specs.Reading.{GaveCapture, IsReadFault, LosesSome, most_taken};
+ghost use Rattle.console.specs.Devices.{IsReadThrough, StopsReading};
 
-use crate::EngineFault;
-use crate::input::{INPUT_BYTES, INPUT_READS, feed_bounded};
+use crate::input::{INPUT_BYTES, feed_bounded};
+use crate::{EngineFault, Source};
 use pcap_reader::{CaptureFault, Feed, Header, Packets};
 use std::alloc::Global;
 use std::io::Read;
@@ -21,13 +22,21 @@ pub struct Captured {
 }
 
 /// Reads a capture to its end, in pieces, and keeps its packets; `None` for an input of more than 64 MiB.
-pub fn read_packets<R: Read>(alloc: Global, reader: &mut R) -> Result<Option<Captured>, EngineFault>
-    ensures read { IfOk result (GaveCapture (R.remaining reader.old) (R.remaining reader.new)) }
+pub fn read_packets<R: Read>(
+    alloc: Global,
+    reader: &mut Source<R>,
+) -> Result<Option<Captured>, EngineFault>
+    requires unread { reader.old.taken ≡ 0 }
+    requires open { (reader.old.ended ≡ false) × (reader.old.failed ≡ false) }
+    ensures read { IfOk result (GaveCapture (R.remaining reader.old.inner) (R.remaining reader.new.inner)) }
+    ensures record { IfOk result (λ found. IsReadThrough reader.new INPUT_BYTES (is_some found)) }
     ensures fault { IfErr result IsReadFault }
-    ensures taken { LosesSome (R.remaining reader.old) (R.remaining reader.new) }
+    ensures cause { IfErr result (StopsReading reader.new) }
+    ensures taken { LosesSome (R.remaining reader.old.inner) (R.remaining reader.new.inner) }
+    ensures most { reader.new.taken ≤ most_taken }
 {
     let mut feed = Feed::new(alloc);
-    if !feed_bounded(reader, &mut feed, INPUT_BYTES, INPUT_READS)? {
+    if !feed_bounded(reader, &mut feed, INPUT_BYTES)? {
         return Ok(None);
     }
     let captured = match feed.finish() {

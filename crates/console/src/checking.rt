@@ -1,20 +1,22 @@
 //! `check`: assembles a filter.
 
-ghost use Rattle.std.specs.Prelude.{◌≡◌, ◌≢◌, ◌<◌, ◌≤◌, ◌^◌, ◌⊎◌, ℕ, List, length, IfOk, IfErr, Err, IsTrue, MatchOption, string_bytes};
+ghost use Rattle.std.specs.Prelude.{◌≡◌, ◌≢◌, ◌<◌, ◌≤◌, ◌^◌, ◌⊎◌, ℕ, List, length, IfOk, IfErr, Err, IsTrue, MatchOption, string_bytes, false};
 ghost use Rattle.std.specs.Io.KnownBytes.{Appends};
 ghost use Rattle.bpf_insn.specs.declared.form.Form.{Form as AnyForm};
 ghost use Rattle.bpf_insn.specs.Program.{FormAt, JumpsOut};
 ghost use Rattle.bpf_insn.specs.declared.insn.TheConstants.{MAX_INSNS};
 ghost use Rattle.filter_asm.specs.declared.fault.AsmFaultKind.TheVariants.{NoMemory};
 ghost use Rattle.console.specs.Checking.{IsFirstOut, ShowsAsm, ShowsCheck, ShowsProgram, asm_fault_line};
+ghost use Rattle.console.specs.declared.input.TheConstants.{INPUT_BYTES, INPUT_READS};
+ghost use Rattle.console.specs.Devices.{EndsEarly, EndsWell, IsFresh};
 ghost use Rattle.console.specs.Matching.{IsEngineFault};
 ghost use Rattle.console.specs.Reading.{IsInput, LosesAtMost, most_taken, ShowsOne};
 
-use crate::EngineFault;
 use crate::fault_words::name_of_asm_fault;
-use crate::input::{INPUT_BYTES, INPUT_READS, Input, read_bounded};
+use crate::input::{INPUT_BYTES, Input, read_bounded};
 use crate::output::write_bytes;
 use crate::too_long::refuse_long;
+use crate::{EngineFault, Sink, Source};
 use bpf_insn::{Insn, jumps_out, write_asm, write_ddd};
 use filter_asm::{AsmFaultKind, assemble};
 use std::alloc::{AllocError, Global};
@@ -32,17 +34,22 @@ use std::io::{Read, Write};
 pub fn run_check<R: Read, W: Write>(
     alloc: Global,
     asm: bool,
-    reader: &mut R,
-    writer: &mut W,
+    reader: &mut Source<R>,
+    writer: &mut Sink<W>,
 ) -> Result<u8, EngineFault>
-    ensures shown { IfOk result (λ status. (text : List ℕ) × Appends (W.contents writer.old) (W.contents writer.new) text
-        × ((input : List ℕ) × IsInput (R.remaining reader.old) input × ShowsCheck asm input status text)) }
-    ensures taken { IfOk result (λ _. LosesAtMost (R.remaining reader.old) (R.remaining reader.new) most_taken) }
+    requires fresh { IsFresh reader.old INPUT_READS }
+    requires good { writer.old.failed ≡ false }
+    ensures shown { IfOk result (λ status. (text : List ℕ) × Appends (W.contents writer.old.inner) (W.contents writer.new.inner) text
+        × ((input : List ℕ) × IsInput (R.remaining reader.old.inner) input × ShowsCheck asm input status text)) }
+    ensures taken { IfOk result (λ _. LosesAtMost (R.remaining reader.old.inner) (R.remaining reader.new.inner) most_taken) }
     ensures only { (input : List ℕ) → ShowsOne (ShowsCheck asm input) }
     ensures fault { IfErr result IsEngineFault }
+    ensures well { IfOk result (λ _. EndsWell reader.new writer.new INPUT_BYTES) }
+    ensures cause { IfErr result (EndsEarly reader.new writer.new) }
+    ensures most { reader.new.taken ≤ most_taken }
     ensures silent { (result ≡ Err EngineFault.ReadFailed) ⊎ (result ≡ Err EngineFault.NoMemory) → writer.new ≡ writer.old }
 {
-    match read_bounded(alloc, reader, INPUT_BYTES, INPUT_READS)? {
+    match read_bounded(alloc, reader, INPUT_BYTES)? {
         Input::TooLong => refuse_long(writer),
         Input::Whole(input) => {
             let shown = check_text(alloc, asm, input.as_slice())?;

@@ -1,17 +1,19 @@
 //! `dump`: prints what a capture holds.
 
-ghost use Rattle.std.specs.Prelude.{◌≡◌, ◌++◌, ℕ, List, Option, Some, IfOk, IfErr, IsErrOf, OnOk, string_bytes};
+ghost use Rattle.std.specs.Prelude.{◌≡◌, ◌≤◌, ◌++◌, ℕ, List, Option, Some, IfOk, IfErr, IsErrOf, OnOk, string_bytes, false};
 ghost use Rattle.std.specs.Io.KnownBytes.{Appends};
 ghost use Rattle.console.specs.Reading.{AreBytes, BeginsWith, IsInput, LosesAtMost, most_taken, ShowsOne};
+ghost use Rattle.console.specs.declared.input.TheConstants.{INPUT_BYTES, INPUT_READS};
+ghost use Rattle.console.specs.Devices.{EndsEarly, EndsWell, IsFresh, StopsWriting};
 ghost use Rattle.console.specs.Faults.{fault_status};
 ghost use Rattle.console.specs.Matching.{IsEngineFault, IsPrintFault};
 ghost use Rattle.console.specs.Dumping.{ShowsDump, ShowsDumpPart, digits, dump_text, header_line, packet_line};
 
-use crate::EngineFault;
 use crate::capture_fault::write_ending;
 use crate::captured::read_packets;
 use crate::output::{BLOCK, write_bytes};
 use crate::too_long::refuse_long;
+use crate::{EngineFault, Sink, Source};
 use itoa::Buffer;
 use pcap_reader::{CaptureFault, Header, Packet};
 use std::alloc::{AllocError, Global};
@@ -29,17 +31,22 @@ use std::io::{Read, Write};
 /// written, where a read fails; `WriteFailed`; and `NoMemory`, where a front of the text may have been written.
 pub fn run_dump<R: Read, W: Write>(
     alloc: Global,
-    reader: &mut R,
-    writer: &mut W,
+    reader: &mut Source<R>,
+    writer: &mut Sink<W>,
 ) -> Result<u8, EngineFault>
-    ensures shown { IfOk result (λ status. (text : List ℕ) × Appends (W.contents writer.old) (W.contents writer.new) text
-        × ((input : List ℕ) × IsInput (R.remaining reader.old) input × ShowsDump input status text)) }
-    ensures taken { IfOk result (λ _. LosesAtMost (R.remaining reader.old) (R.remaining reader.new) most_taken) }
+    requires fresh { IsFresh reader.old INPUT_READS }
+    requires good { writer.old.failed ≡ false }
+    ensures shown { IfOk result (λ status. (text : List ℕ) × Appends (W.contents writer.old.inner) (W.contents writer.new.inner) text
+        × ((input : List ℕ) × IsInput (R.remaining reader.old.inner) input × ShowsDump input status text)) }
+    ensures taken { IfOk result (λ _. LosesAtMost (R.remaining reader.old.inner) (R.remaining reader.new.inner) most_taken) }
     ensures only { (input : List ℕ) → AreBytes input → ShowsOne (ShowsDump input) }
     ensures fault { IfErr result IsEngineFault }
+    ensures well { IfOk result (λ _. EndsWell reader.new writer.new INPUT_BYTES) }
+    ensures cause { IfErr result (EndsEarly reader.new writer.new) }
+    ensures most { reader.new.taken ≤ most_taken }
     ensures silent { IsErrOf result EngineFault.ReadFailed → writer.new ≡ writer.old }
     ensures part { IsErrOf result EngineFault.NoMemory → (text : List ℕ)
-        × ShowsDumpPart (R.remaining reader.old) text × Appends (W.contents writer.old) (W.contents writer.new) text }
+        × ShowsDumpPart (R.remaining reader.old.inner) text × Appends (W.contents writer.old.inner) (W.contents writer.new.inner) text }
 {
     let Some(captured) = read_packets(alloc, reader)? else {
         return refuse_long(writer);
@@ -54,13 +61,16 @@ fn dump<W: Write>(
     header: Option<Header>,
     packets: &[Packet],
     fault: Option<CaptureFault>,
-    writer: &mut W,
+    writer: &mut Sink<W>,
 ) -> Result<u8, EngineFault>
-    ensures shown { IfOk result (λ status. Appends (W.contents writer.old) (W.contents writer.new) (dump_text header packets.now fault)
+    requires { writer.old.failed ≡ false }
+    ensures shown { IfOk result (λ status. Appends (W.contents writer.old.inner) (W.contents writer.new.inner) (dump_text header packets.now fault)
         × (status ≡ fault_status fault)) }
     ensures part { IsErrOf result EngineFault.NoMemory → (text : List ℕ)
-        × BeginsWith text (dump_text header packets.now fault) × Appends (W.contents writer.old) (W.contents writer.new) text }
+        × BeginsWith text (dump_text header packets.now fault) × Appends (W.contents writer.old.inner) (W.contents writer.new.inner) text }
     ensures fault { IfErr result IsPrintFault }
+    ensures good { OnOk result (writer.new.failed ≡ false) }
+    ensures cause { IfErr result (StopsWriting writer.new) }
 {
     let mut text = header_text(alloc, header)?.into_bytes();
     let mut rest = packets;

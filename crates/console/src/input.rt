@@ -1,13 +1,14 @@
 //! Reading an input to its end, up to a limit: whole, or handed on in pieces.
 
-ghost use Rattle.std.specs.Prelude.{◌<◌, ◌^◌, ◌++◌, ℕ, List, [], length, IfOk, IfErr, OnOk, IsTrue};
+ghost use Rattle.std.specs.Prelude.{◌≡◌, ◌+◌, ◌<◌, ◌≤◌, ◌^◌, ◌++◌, ℕ, List, [], length, IfOk, IfErr, OnOk, IsTrue, false};
 ghost use Rattle.pcap_reader.specs.Held.{Holds};
+ghost use Rattle.console.specs.Devices.{HasTaken, IsReadThrough, StopsReading};
 ghost use Rattle.console.specs.Reading.{Fed, Gave, HadMemory, HasStopped, IsReadFault, LosesSome};
 
-use crate::EngineFault;
+use crate::{EngineFault, Got, Source};
 use pcap_reader::{CaptureFault, Feed};
 use std::alloc::{AllocError, Global};
-use std::io::{ErrorKind, Read};
+use std::io::Read;
 
 /// The most bytes of one input: 64 MiB.
 pub const INPUT_BYTES: u64 = 67_108_864;
@@ -29,35 +30,37 @@ pub enum Input {
 
 /// Reads to the end, and keeps what was read where it is at most `bytes` bytes.
 ///
-/// The read that finds the end is one of the `reads`, and so is a read that was interrupted and is tried again. It
-/// answers `TooLong` as soon as more than `bytes` were read, and `ReadFailed` where a read fails or `reads` of them
-/// found no end.
+/// The read that finds the end is one of those that are left, and so is a read that was interrupted and is tried again. It
+/// answers `TooLong` as soon as more than `bytes` were read, and `ReadFailed` where a read fails, or where no read is left and
+/// none found the end.
 pub fn read_bounded<R: Read>(
     alloc: Global,
-    reader: &mut R,
+    reader: &mut Source<R>,
     bytes: u64,
-    reads: u64,
 ) -> Result<Input, EngineFault>
-    ensures input { IfOk result (Gave (R.remaining reader.old) (R.remaining reader.new) bytes) }
+    requires unread { reader.old.taken ≡ 0 }
+    requires open { (reader.old.ended ≡ false) × (reader.old.failed ≡ false) }
+    requires short { bytes + BLOCK < 2 ^ 64 }
+    ensures input { IfOk result (Gave (R.remaining reader.old.inner) (R.remaining reader.new.inner) bytes) }
+    ensures record { IfOk result (HasTaken reader.new bytes) }
     ensures fault { IfErr result IsReadFault }
-    ensures taken { LosesSome (R.remaining reader.old) (R.remaining reader.new) }
+    ensures cause { IfErr result (StopsReading reader.new) }
+    ensures taken { LosesSome (R.remaining reader.old.inner) (R.remaining reader.new.inner) }
+    ensures most { reader.new.taken ≤ bytes + BLOCK }
 {
     let mut held = Vec::new(alloc);
     let mut block = [0u8; BLOCK];
-    for _ in 0..reads {
+    while reader.left() > 0 {
         match reader.read(&mut block) {
-            Ok(0) => return Ok(Input::Whole(held)),
-            Ok(count) => {
-                if count as u64 > bytes - held.len() as u64 {
+            Got::Bytes(count) => {
+                if reader.taken() > bytes {
                     return Ok(Input::TooLong);
                 }
                 held.extend_from_slice(&block[..count])?;
             }
-            Err(error) => {
-                if error.kind() != ErrorKind::Interrupted {
-                    return Err(EngineFault::ReadFailed);
-                }
-            }
+            Got::End => return Ok(Input::Whole(held)),
+            Got::Again => {}
+            Got::Failed => return Err(EngineFault::ReadFailed),
         }
     }
     Err(EngineFault::ReadFailed)
@@ -68,34 +71,34 @@ pub fn read_bounded<R: Read>(
 /// The reads count as those of `read_bounded`. After a fault of the capture it reads on without feeding, so that an input
 /// that is too long is reported all the same. Where memory is refused it answers `NoMemory`. `feed` was given nothing before.
 pub fn feed_bounded<R: Read>(
-    reader: &mut R,
+    reader: &mut Source<R>,
     feed: &mut Feed,
     bytes: u64,
-    reads: u64,
 ) -> Result<bool, EngineFault>
-    requires { Holds [] feed.old }
-    ensures fed { IfOk result (Fed (R.remaining reader.old) (R.remaining reader.new) bytes feed.old feed.new) }
+    requires fresh { Holds [] feed.old }
+    requires unread { reader.old.taken ≡ 0 }
+    requires open { (reader.old.ended ≡ false) × (reader.old.failed ≡ false) }
+    requires short { bytes + BLOCK < 2 ^ 64 }
+    ensures fed { IfOk result (Fed (R.remaining reader.old.inner) (R.remaining reader.new.inner) bytes feed.old feed.new) }
+    ensures record { IfOk result (IsReadThrough reader.new bytes) }
     ensures fault { IfErr result IsReadFault }
-    ensures taken { LosesSome (R.remaining reader.old) (R.remaining reader.new) }
+    ensures cause { IfErr result (StopsReading reader.new) }
+    ensures taken { LosesSome (R.remaining reader.old.inner) (R.remaining reader.new.inner) }
+    ensures most { reader.new.taken ≤ bytes + BLOCK }
 {
-    let mut taken: u64 = 0;
     let mut stopped = false;
     let mut block = [0u8; BLOCK];
-    for _ in 0..reads {
+    while reader.left() > 0 {
         match reader.read(&mut block) {
-            Ok(0) => return Ok(true),
-            Ok(count) => {
-                if count as u64 > bytes - taken {
+            Got::Bytes(count) => {
+                if reader.taken() > bytes {
                     return Ok(false);
                 }
-                taken += count as u64;
                 stopped = hand_on(feed, stopped, &block[..count])?;
             }
-            Err(error) => {
-                if error.kind() != ErrorKind::Interrupted {
-                    return Err(EngineFault::ReadFailed);
-                }
-            }
+            Got::End => return Ok(true),
+            Got::Again => {}
+            Got::Failed => return Err(EngineFault::ReadFailed),
         }
     }
     Err(EngineFault::ReadFailed)

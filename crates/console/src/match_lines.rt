@@ -1,18 +1,19 @@
 //! `match` over lines of hexadecimal digits.
 
-ghost use Rattle.std.specs.Prelude.{◌≡◌, ◌+◌, ◌<◌, ◌++◌, ◌^◌, ℕ, List, false, length, IfOk, IfErr, IsErr, IsErrOf, OnOk, MatchOption, string_bytes};
+ghost use Rattle.std.specs.Prelude.{◌≡◌, ◌+◌, ◌<◌, ◌≤◌, ◌++◌, ◌^◌, ℕ, List, false, length, IfOk, IfErr, IsErr, IsErrOf, OnOk, MatchOption, string_bytes};
 ghost use Rattle.std.specs.Io.KnownBytes.{Appends};
 ghost use Rattle.std.specs.Str.Lines.{lines};
 ghost use Rattle.hex.specs.Hex.{decode_of};
 ghost use Rattle.console.specs.Reading.{IsInput, LosesAtMost, most_taken};
+ghost use Rattle.console.specs.Devices.{EndsEarly, EndsWell, StopsWriting};
 ghost use Rattle.console.specs.Matching.{Answers, IsEngineFault, IsPrintFault, ShowsFirst, ShowsInput, ShowsLines, ShowsRead, bad_line};
 
-use crate::input::{INPUT_BYTES, INPUT_READS, Input, read_bounded};
+use crate::input::{INPUT_BYTES, Input, read_bounded};
 use crate::lines::first_line;
 use crate::outcome::push_outcome;
 use crate::output::{BLOCK, write_text};
 use crate::too_long::refuse_long;
-use crate::{EngineFault, hexadecimal};
+use crate::{EngineFault, Sink, Source, hexadecimal};
 use filter_verify::Verified;
 use filter_vm::{Outcome, run};
 use std::alloc::{AllocError, Global};
@@ -23,19 +24,25 @@ use std::io::{Read, Write};
 pub fn match_input<R: Read, W: Write>(
     alloc: Global,
     program: &Verified,
-    reader: &mut R,
-    writer: &mut W,
+    reader: &mut Source<R>,
+    writer: &mut Sink<W>,
 ) -> Result<u8, EngineFault>
-    ensures shown { IfOk result (λ status. (text : List ℕ) × Appends (W.contents writer.old) (W.contents writer.new) text
-        × ((input : List ℕ) × IsInput (R.remaining reader.old) input × ShowsInput program.now false input status text)) }
-    ensures taken { IfOk result (λ _. LosesAtMost (R.remaining reader.old) (R.remaining reader.new) most_taken) }
+    requires unread { reader.old.taken ≡ 0 }
+    requires open { (reader.old.ended ≡ false) × (reader.old.failed ≡ false) }
+    requires good { writer.old.failed ≡ false }
+    ensures shown { IfOk result (λ status. (text : List ℕ) × Appends (W.contents writer.old.inner) (W.contents writer.new.inner) text
+        × ((input : List ℕ) × IsInput (R.remaining reader.old.inner) input × ShowsInput program.now false input status text)) }
+    ensures taken { IfOk result (λ _. LosesAtMost (R.remaining reader.old.inner) (R.remaining reader.new.inner) most_taken) }
     ensures fault { IfErr result IsEngineFault }
+    ensures well { IfOk result (λ _. EndsWell reader.new writer.new INPUT_BYTES) }
+    ensures cause { IfErr result (EndsEarly reader.new writer.new) }
+    ensures most { reader.new.taken ≤ most_taken }
     ensures silent { IsErrOf result EngineFault.ReadFailed → writer.new ≡ writer.old }
     ensures part { IsErrOf result EngineFault.NoMemory → (text : List ℕ)
-        × ShowsRead program.now false (R.remaining reader.old) (R.remaining reader.new) text
-        × Appends (W.contents writer.old) (W.contents writer.new) text }
+        × ShowsRead program.now false (R.remaining reader.old.inner) (R.remaining reader.new.inner) text
+        × Appends (W.contents writer.old.inner) (W.contents writer.new.inner) text }
 {
-    match read_bounded(alloc, reader, INPUT_BYTES, INPUT_READS)? {
+    match read_bounded(alloc, reader, INPUT_BYTES)? {
         Input::TooLong => refuse_long(writer),
         Input::Whole(input) => {
             let status = match_lines(alloc, program, input.as_slice(), writer)?;
@@ -49,14 +56,17 @@ fn match_lines<W: Write>(
     alloc: Global,
     program: &Verified,
     input: &[u8],
-    writer: &mut W,
+    writer: &mut Sink<W>,
 ) -> Result<u8, EngineFault>
-    requires { length input.now < 2 ^ 32 }
+    requires short { length input.now < 2 ^ 32 }
+    requires good { writer.old.failed ≡ false }
     ensures shown { IfOk result (λ status. (text : List ℕ) × ShowsLines program.now (lines input.now) status text
-        × Appends (W.contents writer.old) (W.contents writer.new) text) }
+        × Appends (W.contents writer.old.inner) (W.contents writer.new.inner) text) }
     ensures part { IsErrOf result EngineFault.NoMemory → (text : List ℕ) × ShowsFirst (Answers program.now) (lines input.now) text
-        × Appends (W.contents writer.old) (W.contents writer.new) text }
+        × Appends (W.contents writer.old.inner) (W.contents writer.new.inner) text }
     ensures fault { IfErr result IsPrintFault }
+    ensures good { OnOk result (writer.new.failed ≡ false) }
+    ensures cause { IfErr result (StopsWriting writer.new) }
 {
     let mut text = String::new(alloc);
     let mut packet = Vec::new(alloc);

@@ -1,15 +1,17 @@
 //! `match`: runs a filter on packets.
 
-ghost use Rattle.std.specs.Prelude.{◌≡◌, ◌⊎◌, ℕ, List, IfOk, IfErr, IsErrOf};
+ghost use Rattle.std.specs.Prelude.{◌≡◌, ◌≤◌, ◌⊎◌, ℕ, List, IfOk, IfErr, IsErrOf, false};
 ghost use Rattle.std.specs.Io.KnownBytes.{Appends};
 ghost use Rattle.bpf_insn.specs.declared.insn.Insn.{Insn};
 ghost use Rattle.console.specs.Code.{IsGoodCode, SameButPath, ShowsBadCode};
 ghost use Rattle.console.specs.Reading.{AreBytes, IsInput, LosesAtMost, most_taken, ShowsOne};
+ghost use Rattle.console.specs.declared.input.TheConstants.{INPUT_BYTES, INPUT_READS};
+ghost use Rattle.console.specs.Devices.{EndsEarly, EndsWell, IsFresh};
 ghost use Rattle.console.specs.Matching.{IsEngineFault, ShowsGoodCode, ShowsPart};
 
 use crate::code::read_code;
 use crate::output::write_text;
-use crate::{EngineFault, match_capture, match_lines};
+use crate::{EngineFault, Sink, Source, match_capture, match_lines};
 use std::alloc::Global;
 use std::io::{Read, Write};
 
@@ -33,22 +35,27 @@ pub fn run_match<R: Read, W: Write>(
     alloc: Global,
     code: &[u8],
     pcap: bool,
-    reader: &mut R,
-    writer: &mut W,
+    reader: &mut Source<R>,
+    writer: &mut Sink<W>,
 ) -> Result<u8, EngineFault>
-    ensures shown { IfOk result (λ status. (text : List ℕ) × Appends (W.contents writer.old) (W.contents writer.new) text
+    requires fresh { IsFresh reader.old INPUT_READS }
+    requires good { writer.old.failed ≡ false }
+    ensures shown { IfOk result (λ status. (text : List ℕ) × Appends (W.contents writer.old.inner) (W.contents writer.new.inner) text
         × ((ShowsBadCode code.now text × (status ≡ 1))
-        ⊎ ((input : List ℕ) × IsInput (R.remaining reader.old) input × ShowsGoodCode code.now pcap input status text))) }
-    ensures taken { IfOk result (λ _. LosesAtMost (R.remaining reader.old) (R.remaining reader.new) most_taken) }
+        ⊎ ((input : List ℕ) × IsInput (R.remaining reader.old.inner) input × ShowsGoodCode code.now pcap input status text))) }
+    ensures taken { IfOk result (λ _. LosesAtMost (R.remaining reader.old.inner) (R.remaining reader.new.inner) most_taken) }
     ensures only { (input : List ℕ) → AreBytes input → ShowsOne (ShowsGoodCode code.now pcap input) }
     ensures bad_only { (text other : List ℕ) → ShowsBadCode code.now text → ShowsBadCode code.now other → SameButPath text other }
     ensures good_or_bad { (program : List Insn) (text : List ℕ) → IsGoodCode code.now program → ShowsBadCode code.now text → ⊥ }
     ensures unread { ((program : List Insn) → IsGoodCode code.now program → ⊥) → reader.new ≡ reader.old }
     ensures fault { IfErr result IsEngineFault }
+    ensures well { IfOk result (λ _. (writer.new.failed ≡ false) × ((reader.new ≡ reader.old) ⊎ EndsWell reader.new writer.new INPUT_BYTES)) }
+    ensures cause { IfErr result (EndsEarly reader.new writer.new) }
+    ensures most { reader.new.taken ≤ most_taken }
     ensures silent { IsErrOf result EngineFault.ReadFailed → writer.new ≡ writer.old }
     ensures part { IsErrOf result EngineFault.NoMemory → (text : List ℕ)
-        × ShowsPart code.now pcap (R.remaining reader.old) (R.remaining reader.new) text
-        × Appends (W.contents writer.old) (W.contents writer.new) text }
+        × ShowsPart code.now pcap (R.remaining reader.old.inner) (R.remaining reader.new.inner) text
+        × Appends (W.contents writer.old.inner) (W.contents writer.new.inner) text }
 {
     let program = match read_code(alloc, code)? {
         Ok(program) => program,

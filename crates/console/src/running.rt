@@ -1,21 +1,22 @@
 //! Running a filter on the packets of a capture while it is read.
 
-ghost use Rattle.std.specs.Prelude.{◌≡◌, ◌≢◌, ◌<◌, ◌++◌, ℕ, List, [], length, IfOk, IfErr, OnOk, IsTrue, IsSome};
+ghost use Rattle.std.specs.Prelude.{◌≡◌, ◌≢◌, ◌<◌, ◌≤◌, ◌++◌, ℕ, List, [], length, IfOk, IfErr, OnOk, IsTrue, IsSome, false};
 ghost use Rattle.std.specs.List.{AllZip};
 ghost use Rattle.bpf_insn.specs.declared.insn.Insn.{Insn};
 ghost use Rattle.filter_vm.specs.declared.machine.Outcome.{Outcome as Ended};
 ghost use Rattle.pcap_reader.specs.Held.{Holds, held_packets};
 ghost use Rattle.console.specs.Matching.{AnswersCaptured};
-ghost use Rattle.console.specs.Reading.{HasStopped, IsReadFault, LosesSome};
+ghost use Rattle.console.specs.Reading.{HasStopped, IsReadFault, LosesSome, most_taken};
+ghost use Rattle.console.specs.Devices.{IsReadThrough, StopsReading};
 ghost use Rattle.console.specs.Running.{EndsRun, HasRun, RunsInput, RunsOn};
 
-use crate::EngineFault;
-use crate::input::{BLOCK, INPUT_BYTES, INPUT_READS};
+use crate::input::{BLOCK, INPUT_BYTES};
+use crate::{EngineFault, Got, Source};
 use filter_verify::Verified;
 use filter_vm::{Outcome, run};
 use pcap_reader::{CaptureFault, Feed, Packet};
 use std::alloc::AllocError;
-use std::io::{ErrorKind, Read};
+use std::io::Read;
 
 /// Reads a capture to its end and runs the filter on each packet as soon as it is whole; false for an input of more than
 /// 64 MiB.
@@ -24,33 +25,33 @@ use std::io::{ErrorKind, Read};
 /// an input that is too long is reported all the same. `feed` was given nothing before, and `outcomes` is empty.
 pub fn run_input<R: Read>(
     program: &Verified,
-    reader: &mut R,
+    reader: &mut Source<R>,
     feed: &mut Feed,
     outcomes: &mut Vec<Outcome>,
 ) -> Result<bool, EngineFault>
     requires fresh { Holds [] feed.old × (held_packets feed.old ≡ []) }
     requires empty { outcomes.old.items ≡ [] }
-    ensures run { IfOk result (RunsInput (R.remaining reader.old) (R.remaining reader.new) program.now feed.new outcomes.new.items) }
+    requires unread { reader.old.taken ≡ 0 }
+    requires open { (reader.old.ended ≡ false) × (reader.old.failed ≡ false) }
+    ensures run { IfOk result (RunsInput (R.remaining reader.old.inner) (R.remaining reader.new.inner) program.now feed.new outcomes.new.items) }
+    ensures record { IfOk result (IsReadThrough reader.new INPUT_BYTES) }
     ensures fault { IfErr result IsReadFault }
-    ensures taken { LosesSome (R.remaining reader.old) (R.remaining reader.new) }
+    ensures cause { IfErr result (StopsReading reader.new) }
+    ensures taken { LosesSome (R.remaining reader.old.inner) (R.remaining reader.new.inner) }
+    ensures most { reader.new.taken ≤ most_taken }
 {
-    let mut taken: u64 = 0;
     let mut block = [0u8; BLOCK];
-    for _ in 0..INPUT_READS {
+    while reader.left() > 0 {
         match reader.read(&mut block) {
-            Ok(0) => return Ok(true),
-            Ok(count) => {
-                if count as u64 > INPUT_BYTES - taken {
+            Got::Bytes(count) => {
+                if reader.taken() > INPUT_BYTES {
                     return Ok(false);
                 }
-                taken += count as u64;
                 let _ = run_piece(program, feed, &block[..count], outcomes)?;
             }
-            Err(error) => {
-                if error.kind() != ErrorKind::Interrupted {
-                    return Err(EngineFault::ReadFailed);
-                }
-            }
+            Got::End => return Ok(true),
+            Got::Again => {}
+            Got::Failed => return Err(EngineFault::ReadFailed),
         }
     }
     Err(EngineFault::ReadFailed)

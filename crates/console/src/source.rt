@@ -1,135 +1,108 @@
-//! What a stream reads its packets from.
+//! What an engine reads from.
 
-ghost use Rattle.std.specs.Prelude.{◌≡◌, ◌<◌, ◌≤◌, ◌++◌, ◌^◌, ℕ, List, [], length, string_bytes, All, true, flat_map, IfOk, IfErr, OnOk, OnErr, IsTrue};
-ghost use Rattle.std.specs.Bool.{MatchBool};
-ghost use Rattle.std.specs.Io.KnownBytes.{Appends};
-ghost use Rattle.bpf_insn.specs.declared.insn.Insn.{Insn};
-ghost use Rattle.filter_vm.specs.declared.machine.Outcome.{Outcome as Ended};
-ghost use Rattle.console.specs.Matching.{IsPrintFault, ShowsBytes, bad_line, outcome_line};
-ghost use Rattle.console.specs.Reading.{BeginsWith};
-ghost use Rattle.console.specs.Running.{RunsTo};
-ghost use Rattle.console.specs.Streaming.{ShowsSome, SourceEnded, SourceRan, is_capture};
+ghost use Rattle.std.specs.Prelude.{◌≡◌, ◌+◌, ◌<◌, ◌^◌, length, true, false};
 
-use crate::EngineFault;
-use crate::capture_fault::write_ending;
-use crate::line_feed::LineFeed;
-use crate::match_lines::push_bad_line;
-use crate::output::write_text;
-use crate::running::{fault_behind, run_piece};
-use filter_verify::Verified;
-use filter_vm::Outcome;
-use pcap_reader::Feed;
-use std::alloc::{AllocError, Global};
-use std::io::Write;
+use std::io::{ErrorKind, Read};
 
-/// An input whose packets are run while it is read.
+/// A reader, with a record of what came of its reads. Only `read` writes the record.
 #[derive(Drop)]
-pub enum Source {
-    /// Lines of hexadecimal digits.
-    Lines(LineFeed),
-    /// A capture.
-    Capture(Feed),
+pub struct Source<R> {
+    inner: R,
+    /// How many reads are left.
+    left: u64,
+    /// How many bytes the reads gave.
+    taken: u64,
+    /// Whether a read met the end.
+    ended: bool,
+    /// Whether a read failed, other than by an interruption.
+    failed: bool,
 }
 
-impl Source {
-    /// A source that was given nothing: a capture, or lines. Takes no memory.
-    pub fn new(alloc: Global, pcap: bool) -> Source
-        ensures ran { (program : List Insn) → SourceRan program [] result [] }
-        ensures kind { is_capture result ≡ pcap }
+/// What came of a read.
+#[derive(Clone, Copy, PartialEq, Eq, Debug)]
+pub enum Got {
+    /// So many bytes.
+    Bytes(usize),
+    /// The end of the input.
+    End,
+    /// Nothing, since it was interrupted. It may be tried again.
+    Again,
+    /// Nothing, since it failed.
+    Failed,
+}
+
+impl<R> Source<R> {
+    /// A source of which nothing was read, with so many reads at most.
+    pub fn new(inner: R, reads: u64) -> Source<R>
+        ensures { result ≡ record { inner = inner; left = reads; taken = 0; ended = false; failed = false } }
     {
-        if pcap {
-            Source::Capture(Feed::new(alloc))
-        } else {
-            Source::Lines(LineFeed::new(alloc))
+        Source {
+            inner,
+            left: reads,
+            taken: 0,
+            ended: false,
+            failed: false,
         }
     }
 
-    /// Runs the filter on each packet that is whole after a piece, and appends the outcomes. True where nothing that follows
-    /// is looked at: after a line that spells no packet, or a fault of the capture that stands whatever follows.
-    pub fn run(
-        &mut self,
-        program: &Verified,
-        piece: &[u8],
-        outcomes: &mut Vec<Outcome>,
-    ) -> Result<bool, AllocError>
-        requires { length piece.now ≤ 65536 }
-        ensures runs { IfOk result (λ stopped. MatchBool stopped
-            (RunsTo (SourceRan program.now) (SourceEnded program.now true) piece.now [] self.old self.new outcomes.old.items outcomes.new.items)
-            (RunsTo (SourceRan program.now) (SourceRan program.now) piece.now [] self.old self.new outcomes.old.items outcomes.new.items)) }
-        ensures kind { is_capture self.new ≡ is_capture self.old }
-        ensures bytes { All (λ byte. byte < 256) piece.now }
+    /// The reader.
+    pub fn inner(&self) -> &R
+        ensures { result.now ≡ self.now.inner }
     {
-        match self {
-            Source::Lines(lines) => lines.run_piece(program, piece, outcomes),
-            Source::Capture(feed) => run_piece(program, feed, piece, outcomes),
-        }
+        &self.inner
     }
 
-    /// Runs the filter on the packet that the end of the input makes whole, if there is one, and appends the outcome. True
-    /// where there is a last line that spells no packet.
-    pub fn finish(
-        &mut self,
-        program: &Verified,
-        outcomes: &mut Vec<Outcome>,
-    ) -> Result<bool, AllocError>
-        ensures runs { IfOk result (λ stopped.
-            RunsTo (SourceRan program.now) (SourceEnded program.now stopped) [] [] self.old self.new outcomes.old.items outcomes.new.items) }
-        ensures kind { is_capture self.new ≡ is_capture self.old }
+    /// How many reads are left.
+    pub fn left(&self) -> u64
+        ensures { result ≡ self.now.left }
     {
-        match self {
-            Source::Lines(lines) => lines.finish(program, outcomes),
-            Source::Capture(_) => Ok(false),
-        }
+        self.left
     }
 
-    /// Writes what stands behind the last outcome, if anything does, and answers the status: a complaint about the line at
-    /// which the run stopped, or the fault of the capture. `text` is an empty buffer.
-    pub fn write_end<W: Write>(
-        &self,
-        stopped: bool,
-        text: String,
-        writer: &mut W,
-    ) -> Result<u8, EngineFault>
-        requires { string_bytes text ≡ [] }
-        ensures shown { IfOk result (λ status. (ending : List ℕ) × Appends (W.contents writer.old) (W.contents writer.new) ending
-            × ((program : List Insn) (taken : List ℕ) (outcomes : List Ended) → length taken < 2 ^ 64
-            → SourceEnded program stopped taken self.now outcomes
-            → ShowsBytes program (is_capture self.now) taken status (flat_map outcome_line outcomes ++ ending))) }
-        ensures left { OnErr result ((front : List ℕ) × Appends (W.contents writer.old) (W.contents writer.new) front
-            × ((program : List Insn) (taken : List ℕ) (outcomes : List Ended) → length taken < 2 ^ 64
-            → SourceEnded program stopped taken self.now outcomes
-            → ShowsSome program (is_capture self.now) taken (flat_map outcome_line outcomes ++ front))) }
-        ensures status { IfOk result (λ status. (program : List Insn) (taken : List ℕ) (outcomes : List Ended)
-            → SourceEnded program stopped taken self.now outcomes → IsTrue stopped → status ≡ 1) }
-        ensures fault { IfErr result IsPrintFault }
+    /// How many bytes the reads gave.
+    pub fn taken(&self) -> u64
+        ensures { result ≡ self.now.taken }
     {
-        match self {
-            Source::Lines(lines) => {
-                if !stopped {
-                    return Ok(0);
+        self.taken
+    }
+
+    /// Whether a read failed, other than by an interruption.
+    pub fn has_failed(&self) -> bool
+        ensures { result ≡ self.now.failed }
+    {
+        self.failed
+    }
+}
+
+impl<R: Read> Source<R> {
+    ghost use Rattle.console.specs.Devices.{HasRead};
+
+    /// Reads once. No read follows one that failed, nor one that met the end.
+    pub fn read(&mut self, buffer: &mut [u8]) -> Got
+        requires good { self.old.failed ≡ false }
+        requires open { self.old.ended ≡ false }
+        requires left { 0 < self.old.left }
+        requires room { 0 < length buffer.old }
+        requires short { self.old.taken + length buffer.old < 2 ^ 64 }
+        ensures { HasRead R.remaining self.old self.new buffer.new result }
+    {
+        self.left -= 1;
+        match self.inner.read(buffer) {
+            Ok(0) => {
+                self.ended = true;
+                Got::End
+            }
+            Ok(count) => {
+                self.taken += count as u64;
+                Got::Bytes(count)
+            }
+            Err(error) => {
+                if error.kind() == ErrorKind::Interrupted {
+                    return Got::Again;
                 }
-                write_bad_line(lines.number().saturating_add(1), text, writer)?;
-                Ok(1)
-            }
-            Source::Capture(feed) => {
-                let fault = fault_behind(feed)?;
-                write_ending(text, fault, writer)
+                self.failed = true;
+                Got::Failed
             }
         }
     }
-}
-
-/// Writes the complaint about a line.
-fn write_bad_line<W: Write>(
-    number: u64,
-    mut text: String,
-    writer: &mut W,
-) -> Result<(), EngineFault>
-    requires { string_bytes text ≡ [] }
-    ensures written { OnOk result (Appends (W.contents writer.old) (W.contents writer.new) (bad_line number)) }
-    ensures front { OnErr result ((front : List ℕ) × BeginsWith front (bad_line number) × Appends (W.contents writer.old) (W.contents writer.new) front) }
-    ensures fault { IfErr result IsPrintFault }
-{
-    push_bad_line(&mut text, number)?;
-    write_text(writer, text.as_str())
 }

@@ -1,9 +1,11 @@
 //! `draw`: the picture of a trace.
 
-ghost use Rattle.std.specs.Prelude.{◌≡◌, ◌⊎◌, ℕ, List, IfOk, IfErr, Err};
+ghost use Rattle.std.specs.Prelude.{◌≡◌, ◌≤◌, ◌⊎◌, ℕ, List, IfOk, IfErr, Err, false};
 ghost use Rattle.std.specs.Io.KnownBytes.{Appends};
+ghost use Rattle.console.specs.declared.input.TheConstants.{INPUT_READS};
+ghost use Rattle.console.specs.Devices.{EndsEarly, EndsWell, IsFresh};
 ghost use Rattle.console.specs.Matching.{IsEngineFault};
-ghost use Rattle.console.specs.Reading.{IsInput};
+ghost use Rattle.console.specs.Reading.{IsInput, most_taken};
 ghost use Rattle.draw_engine.specs.Drawing.{Shows, ShowsDraw, bad_line};
 ghost use Rattle.std.specs.Prelude.{string_bytes};
 ghost use Rattle.trace_lines.specs.Traces.{trace_of};
@@ -11,7 +13,7 @@ ghost use Rattle.trace_lines.specs.Traces.{trace_of};
 use crate::svg::svg;
 use crate::text::draw_as_text;
 use console::{
-    EngineFault, INPUT_BYTES, INPUT_READS, Input, read_bounded, refuse_long, write_bytes,
+    EngineFault, INPUT_BYTES, Input, Sink, Source, read_bounded, refuse_long, write_bytes,
 };
 use std::alloc::{AllocError, Global};
 use std::io::{Read, Write};
@@ -28,15 +30,20 @@ use trace_lines::{TraceFault, link_events, read_trace};
 pub fn run_draw<R: Read, W: Write>(
     alloc: Global,
     plain: bool,
-    reader: &mut R,
-    writer: &mut W,
+    reader: &mut Source<R>,
+    writer: &mut Sink<W>,
 ) -> Result<u8, EngineFault>
-    ensures shown { IfOk result (λ status. (text : List ℕ) × Appends (W.contents writer.old) (W.contents writer.new) text
-        × ((input : List ℕ) × IsInput (R.remaining reader.old) input × ShowsDraw plain input status text)) }
+    requires fresh { IsFresh reader.old INPUT_READS }
+    requires good { writer.old.failed ≡ false }
+    ensures shown { IfOk result (λ status. (text : List ℕ) × Appends (W.contents writer.old.inner) (W.contents writer.new.inner) text
+        × ((input : List ℕ) × IsInput (R.remaining reader.old.inner) input × ShowsDraw plain input status text)) }
     ensures fault { IfErr result IsEngineFault }
+    ensures well { IfOk result (λ _. EndsWell reader.new writer.new INPUT_BYTES) }
+    ensures cause { IfErr result (EndsEarly reader.new writer.new) }
+    ensures most { reader.new.taken ≤ most_taken }
     ensures silent { (result ≡ Err EngineFault.ReadFailed) ⊎ (result ≡ Err EngineFault.NoMemory) → writer.new ≡ writer.old }
 {
-    match read_bounded(alloc, reader, INPUT_BYTES, INPUT_READS)? {
+    match read_bounded(alloc, reader, INPUT_BYTES)? {
         Input::TooLong => refuse_long(writer),
         Input::Whole(input) => {
             let drawing = draw_text(alloc, plain, input.as_slice())?;

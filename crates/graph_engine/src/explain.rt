@@ -1,6 +1,6 @@
 //! `match --explain`: the instructions that the machine takes.
 
-ghost use Rattle.std.specs.Prelude.{◌≡◌, ◌<◌, ◌≤◌, ◌^◌, ◌++◌, ◌⊎◌, ℕ, List, length, Ok, IfOk, IfErr, IsErr, IsErrOf, MatchOption, OnOk, flat_map, string_bytes, ⊤, []};
+ghost use Rattle.std.specs.Prelude.{◌≡◌, ◌<◌, ◌≤◌, ◌^◌, ◌++◌, ◌⊎◌, ℕ, List, length, Ok, IfOk, IfErr, IsErr, IsErrOf, MatchOption, OnOk, flat_map, string_bytes, ⊤, [], false};
 ghost use Rattle.std.specs.List.{All};
 ghost use Rattle.std.specs.Io.KnownBytes.{Appends};
 ghost use Rattle.std.specs.Str.Lines.{lines};
@@ -11,13 +11,15 @@ ghost use Rattle.bpf_insn.specs.Program.{form_at};
 ghost use Rattle.bpf_insn.specs.declared.insn.Insn.{Insn};
 ghost use Rattle.filter_verify.specs.Rules.{Sound};
 ghost use Rattle.console.specs.Code.{IsGoodCode, ShowsBadCode};
+ghost use Rattle.console.specs.declared.input.TheConstants.{INPUT_READS};
+ghost use Rattle.console.specs.Devices.{EndsEarly, EndsWell, IsFresh};
 ghost use Rattle.console.specs.Matching.{IsEngineFault};
-ghost use Rattle.console.specs.Reading.{IsInput};
+ghost use Rattle.console.specs.Reading.{IsInput, most_taken};
 ghost use Rattle.graph_engine.specs.Explaining as spec;
 
 use bpf_insn::{Insn, push_form};
 use console::{
-    EngineFault, INPUT_BYTES, INPUT_READS, Input, decode, first_line, push_bad_line, push_outcome,
+    EngineFault, INPUT_BYTES, Input, Sink, Source, decode, first_line, push_bad_line, push_outcome,
     read_bounded, read_code, write_bytes, write_text,
 };
 use filter_verify::Verified;
@@ -38,14 +40,19 @@ use std::io::{Read, Write};
 pub fn run_explain<R: Read, W: Write>(
     alloc: Global,
     code: &[u8],
-    reader: &mut R,
-    writer: &mut W,
+    reader: &mut Source<R>,
+    writer: &mut Sink<W>,
 ) -> Result<u8, EngineFault>
-    ensures shown { IfOk result (λ status. (text : List ℕ) × Appends (W.contents writer.old) (W.contents writer.new) text
+    requires fresh { IsFresh reader.old INPUT_READS }
+    requires good { writer.old.failed ≡ false }
+    ensures shown { IfOk result (λ status. (text : List ℕ) × Appends (W.contents writer.old.inner) (W.contents writer.new.inner) text
         × ((ShowsBadCode code.now text × (status ≡ 1))
-        ⊎ ((input : List ℕ) × IsInput (R.remaining reader.old) input × spec.ShowsExplained code.now input status text))) }
+        ⊎ ((input : List ℕ) × IsInput (R.remaining reader.old.inner) input × spec.ShowsExplained code.now input status text))) }
     ensures unread { ((program : List Insn) → IsGoodCode code.now program → ⊥) → reader.new ≡ reader.old }
     ensures fault { IfErr result IsEngineFault }
+    ensures well { IfOk result (λ _. (writer.new.failed ≡ false) × ((reader.new ≡ reader.old) ⊎ EndsWell reader.new writer.new INPUT_BYTES)) }
+    ensures cause { IfErr result (EndsEarly reader.new writer.new) }
+    ensures most { reader.new.taken ≤ most_taken }
     ensures silent { IsErrOf result EngineFault.ReadFailed ⊎ IsErrOf result EngineFault.NoMemory → writer.new ≡ writer.old }
 {
     match read_code(alloc, code)? {
@@ -64,15 +71,21 @@ pub fn run_explain<R: Read, W: Write>(
 fn explain_input<R: Read, W: Write>(
     alloc: Global,
     program: &Verified,
-    reader: &mut R,
-    writer: &mut W,
+    reader: &mut Source<R>,
+    writer: &mut Sink<W>,
 ) -> Result<u8, EngineFault>
-    ensures shown { IfOk result (λ status. (text : List ℕ) × Appends (W.contents writer.old) (W.contents writer.new) text
-        × ((input : List ℕ) × IsInput (R.remaining reader.old) input × spec.ShowsInput program.now input status text)) }
+    requires unread { reader.old.taken ≡ 0 }
+    requires open { (reader.old.ended ≡ false) × (reader.old.failed ≡ false) }
+    requires good { writer.old.failed ≡ false }
+    ensures shown { IfOk result (λ status. (text : List ℕ) × Appends (W.contents writer.old.inner) (W.contents writer.new.inner) text
+        × ((input : List ℕ) × IsInput (R.remaining reader.old.inner) input × spec.ShowsInput program.now input status text)) }
     ensures fault { IfErr result IsEngineFault }
+    ensures well { IfOk result (λ _. EndsWell reader.new writer.new INPUT_BYTES) }
+    ensures cause { IfErr result (EndsEarly reader.new writer.new) }
+    ensures most { reader.new.taken ≤ most_taken }
     ensures silent { IsErrOf result EngineFault.ReadFailed ⊎ IsErrOf result EngineFault.NoMemory → writer.new ≡ writer.old }
 {
-    match read_bounded(alloc, reader, INPUT_BYTES, INPUT_READS)? {
+    match read_bounded(alloc, reader, INPUT_BYTES)? {
         Input::TooLong => {
             write_text(writer, "fault InputTooLong\n")?;
             Ok(1)

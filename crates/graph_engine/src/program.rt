@@ -1,15 +1,17 @@
 //! `check --graph`: the control flow of a filter.
 
-ghost use Rattle.std.specs.Prelude.{◌≡◌, ◌<◌, ◌≤◌, ◌^◌, ◌⊎◌, ℕ, List, length, IfOk, IfErr, Err};
+ghost use Rattle.std.specs.Prelude.{◌≡◌, ◌<◌, ◌≤◌, ◌^◌, ◌⊎◌, ℕ, List, length, IfOk, IfErr, Err, false};
 ghost use Rattle.std.specs.Io.KnownBytes.{Appends};
+ghost use Rattle.console.specs.declared.input.TheConstants.{INPUT_READS};
+ghost use Rattle.console.specs.Devices.{EndsEarly, EndsWell, IsFresh};
 ghost use Rattle.console.specs.Matching.{IsEngineFault};
-ghost use Rattle.console.specs.Reading.{IsInput};
+ghost use Rattle.console.specs.Reading.{IsInput, most_taken};
 ghost use Rattle.graph_engine.specs.Showing.{ShowsAsm, ShowsGraph, Verifies};
 
 use crate::graph::graph;
 use bpf_insn::Insn;
 use console::{
-    EngineFault, INPUT_BYTES, INPUT_READS, Input, fault_line, read_bounded, refuse_long,
+    EngineFault, INPUT_BYTES, Input, Sink, Source, fault_line, read_bounded, refuse_long,
     write_bytes,
 };
 use filter_asm::assemble;
@@ -28,15 +30,20 @@ use std::io::{Read, Write};
 /// Answers `ReadFailed` or `NoMemory`, with nothing written, or `WriteFailed`.
 pub fn run_graph<R: Read, W: Write>(
     alloc: Global,
-    reader: &mut R,
-    writer: &mut W,
+    reader: &mut Source<R>,
+    writer: &mut Sink<W>,
 ) -> Result<u8, EngineFault>
-    ensures shown { IfOk result (λ status. (text : List ℕ) × Appends (W.contents writer.old) (W.contents writer.new) text
-        × ((input : List ℕ) × IsInput (R.remaining reader.old) input × ShowsGraph input status text)) }
+    requires fresh { IsFresh reader.old INPUT_READS }
+    requires good { writer.old.failed ≡ false }
+    ensures shown { IfOk result (λ status. (text : List ℕ) × Appends (W.contents writer.old.inner) (W.contents writer.new.inner) text
+        × ((input : List ℕ) × IsInput (R.remaining reader.old.inner) input × ShowsGraph input status text)) }
     ensures fault { IfErr result IsEngineFault }
+    ensures well { IfOk result (λ _. EndsWell reader.new writer.new INPUT_BYTES) }
+    ensures cause { IfErr result (EndsEarly reader.new writer.new) }
+    ensures most { reader.new.taken ≤ most_taken }
     ensures silent { (result ≡ Err EngineFault.ReadFailed) ⊎ (result ≡ Err EngineFault.NoMemory) → writer.new ≡ writer.old }
 {
-    match read_bounded(alloc, reader, INPUT_BYTES, INPUT_READS)? {
+    match read_bounded(alloc, reader, INPUT_BYTES)? {
         Input::TooLong => refuse_long(writer),
         Input::Whole(input) => {
             let drawing = draw_text(alloc, input.as_slice())?;

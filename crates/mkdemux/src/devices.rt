@@ -5,15 +5,15 @@ use std::io::{self, ErrorKind, Read, Stdin, Stdout, Write};
 
 /// Standard input, and why its last failed read failed.
 #[derive(Drop)]
-pub struct Source {
+pub struct Input {
     inner: Stdin,
     fault: Option<ErrorKind>,
 }
 
-impl Source {
+impl Input {
     /// Standard input, of which nothing has been read.
-    pub fn new(inner: Stdin) -> Source {
-        Source { inner, fault: None }
+    pub fn new(inner: Stdin) -> Input {
+        Input { inner, fault: None }
     }
 
     /// What to say where an input could not be read.
@@ -26,7 +26,7 @@ impl Source {
     }
 }
 
-impl Read for Source {
+impl Read for Input {
     fn read(&mut self, buffer: &mut [u8]) -> io::Result<usize> {
         let answer = self.inner.read(buffer);
         if let Err(error) = &answer {
@@ -70,15 +70,15 @@ impl Read for Named<'_> {
 
 /// Standard output, and whether nobody reads it any more.
 #[derive(Drop)]
-pub struct Sink {
+pub struct Output {
     inner: Stdout,
     closed: bool,
 }
 
-impl Sink {
+impl Output {
     /// Standard output, to which nothing has been written.
-    pub fn new(inner: Stdout) -> Sink {
-        Sink {
+    pub fn new(inner: Stdout) -> Output {
+        Output {
             inner,
             closed: false,
         }
@@ -90,7 +90,7 @@ impl Sink {
     }
 }
 
-impl Write for Sink {
+impl Write for Output {
     fn write(&mut self, bytes: &[u8]) -> io::Result<usize> {
         let answer = self.inner.write(bytes);
         if let Err(error) = &answer {

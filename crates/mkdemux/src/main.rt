@@ -5,6 +5,10 @@
 //! where nobody reads the output any more.
 #![tactic(auto)]
 
+ghost use Rattle.std.specs.Prelude.{◌≡◌, false};
+ghost use Rattle.console.specs.Devices.{IsFresh};
+ghost use Rattle.commands.specs.Commands.{reads_of};
+
 mod devices;
 mod progress;
 mod usage;
@@ -12,11 +16,11 @@ mod usage;
 use clap::Error;
 use clap::error::ErrorKind;
 use command_line::{Request, request_of};
-use commands::perform;
-use console::EngineFault;
+use commands::{most_reads, perform};
+use console::{EngineFault, Sink, Source};
 use core_loop::Cause;
 use core_threads::{Free, Halt};
-use devices::{Named, Sink, Source};
+use devices::{Input, Named, Output};
 use progress::Progress;
 use run_engine::RunFailure;
 use std::fs::File;
@@ -75,12 +79,16 @@ fn answer_with<T: Threads + Wait + Clock + Sync>(
     mut files: Vec<Named>,
 ) -> u8 {
     invite(rt, request);
-    let mut source = Source::new(rt.stdin());
-    let mut sink = Sink::new(rt.stdout());
+    let mut source = Source::new(Input::new(rt.stdin()), most_reads(request));
+    let mut sink = Sink::new(Output::new(rt.stdout()));
     match performed(rt, threads, request, &mut files, &mut source, &mut sink) {
         Ok(status) => status,
-        Err(RunFailure::Engine(EngineFault::ReadFailed)) => not_read(rt, &source, files.as_slice()),
-        Err(RunFailure::Engine(EngineFault::WriteFailed)) if sink.is_closed() => FAILED,
+        Err(RunFailure::Engine(EngineFault::ReadFailed)) => not_read(
+            rt,
+            source.inner(),
+            files.as_slice(),
+        ),
+        Err(RunFailure::Engine(EngineFault::WriteFailed)) if sink.inner().is_closed() => FAILED,
         Err(RunFailure::Engine(EngineFault::WriteFailed)) => failed(
             rt,
             "the output can't be written",
@@ -97,9 +105,12 @@ fn performed<T: Threads + Wait + Clock + Sync>(
     threads: &T,
     request: &Request,
     files: &mut Vec<Named>,
-    source: &mut Source,
-    sink: &mut Sink,
-) -> Result<u8, RunFailure> {
+    source: &mut Source<Input>,
+    sink: &mut Sink<Output>,
+) -> Result<u8, RunFailure>
+    requires fresh { IsFresh source.old (reads_of request.now) }
+    requires good { sink.old.failed ≡ false }
+{
     let lent = files.iter_mut().collect(rt.alloc())?;
     if !matches!(request, Request::Run { .. }) || !rt.stderr().is_terminal() {
         return perform(threads, rt.alloc(), &Free, request, lent, source, sink);
@@ -218,7 +229,7 @@ fn not_utf8(rt: &HostRuntime) -> u8 {
 }
 
 /// Says on standard error which input could not be read.
-fn not_read(rt: &HostRuntime, source: &Source, files: &[Named]) -> u8 {
+fn not_read(rt: &HostRuntime, source: &Input, files: &[Named]) -> u8 {
     match files.iter().find_map(|file| file.failed()) {
         Some(name) => {
             let _ = eprintln!(rt; "mkdemux: {name:?} can't be read");

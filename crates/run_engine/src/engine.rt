@@ -1,7 +1,9 @@
 //! `run`: runs a script on cores that are threads.
 
-ghost use Rattle.std.specs.Prelude.{◌≡◌, ◌<◌, ◌≤◌, ◌^◌, ◌⊎◌, ℕ, All, List, length, map, IfOk, IfErr, string_bytes};
+ghost use Rattle.std.specs.Prelude.{◌≡◌, ◌<◌, ◌≤◌, ◌^◌, ◌⊎◌, ℕ, All, List, length, map, IfOk, IfErr, OnOk, string_bytes, false};
 ghost use Rattle.std.specs.Io.KnownBytes.{Appends};
+ghost use Rattle.console.specs.declared.input.TheConstants.{INPUT_READS};
+ghost use Rattle.console.specs.Devices.{IsFresh};
 ghost use Rattle.mk_script.specs.Limits.{HasLimits, IsLimited};
 ghost use Rattle.mk_script.specs.Threads.{IsForThreads, IsScriptForThreads};
 ghost use Rattle.script_input.specs.Inputs.{AreScriptInputs};
@@ -10,7 +12,7 @@ ghost use Rattle.run_engine.specs.Showing.{Shows, ShowsRun, ShowsRunScript};
 
 use crate::lines::{push_all_left, push_events};
 use crate::work::{Work, work_of};
-use console::{EngineFault, refuse_long, write_bytes};
+use console::{EngineFault, Sink, Source, refuse_long, write_bytes};
 use core_join::{conclude, in_order};
 use core_threads::{BootFault, Ended, Gate, Halt, RunFault, boot, run_machine};
 use mk_script::{Item, Script, read_script};
@@ -78,11 +80,14 @@ pub fn run_run<T: Threads + Wait + Clock + Sync, G: Gate + Sync, R: Read, F: Rea
     alloc: Global,
     gate: &G,
     files: Vec<F>,
-    reader: &mut R,
-    writer: &mut W,
+    reader: &mut Source<R>,
+    writer: &mut Sink<W>,
 ) -> Result<u8, RunFailure>
-    ensures shown { IfOk result (λ status. (text : List ℕ) × Appends (W.contents writer.old) (W.contents writer.new) text
-        × ((input : List ℕ) × (inputs : List (List ℕ)) × AreScriptInputs (R.remaining reader.old) (map F.remaining files.items) input inputs × Shows inputs input status text)) }
+    requires fresh { IsFresh reader.old INPUT_READS }
+    requires good { writer.old.failed ≡ false }
+    ensures shown { IfOk result (λ status. (text : List ℕ) × Appends (W.contents writer.old.inner) (W.contents writer.new.inner) text
+        × ((input : List ℕ) × (inputs : List (List ℕ)) × AreScriptInputs (R.remaining reader.old.inner) (map F.remaining files.items) input inputs × Shows inputs input status text)) }
+    ensures good { OnOk result (writer.new.failed ≡ false) }
     ensures silent { IfErr result (λ failure. (failure ≡ RunFailure.Engine EngineFault.WriteFailed) ⊎ (writer.new ≡ writer.old)) }
 {
     let Some(inputs) = read_inputs(alloc, reader, files)? else {
@@ -98,10 +103,12 @@ fn run_text<T: Threads + Wait + Clock + Sync, G: Gate + Sync, W: Write>(
     gate: &G,
     input: &[u8],
     files: &[Vec<u8>],
-    writer: &mut W,
+    writer: &mut Sink<W>,
 ) -> Result<u8, RunFailure>
-    requires { length input.now < 2 ^ 32 }
-    ensures shown { IfOk result (λ status. (text : List ℕ) × Appends (W.contents writer.old) (W.contents writer.new) text × ShowsRunScript (map (λ v. v.items) files.now) input.now status text) }
+    requires short { length input.now < 2 ^ 32 }
+    requires good { writer.old.failed ≡ false }
+    ensures shown { IfOk result (λ status. (text : List ℕ) × Appends (W.contents writer.old.inner) (W.contents writer.new.inner) text × ShowsRunScript (map (λ v. v.items) files.now) input.now status text) }
+    ensures good { OnOk result (writer.new.failed ≡ false) }
     ensures silent { IfErr result (λ failure. (failure ≡ RunFailure.Engine EngineFault.WriteFailed) ⊎ (writer.new ≡ writer.old)) }
 {
     match read_script(alloc, input, files, true) {
@@ -116,11 +123,13 @@ fn run_script<T: Threads + Wait + Clock + Sync, G: Gate + Sync, W: Write>(
     alloc: Global,
     gate: &G,
     script: Script,
-    writer: &mut W,
+    writer: &mut Sink<W>,
 ) -> Result<u8, RunFailure>
     requires limits { HasLimits script }
     requires threads { IsScriptForThreads script }
-    ensures shown { IfOk result (λ status. (status ≡ 0) × ((text : List ℕ) × Appends (W.contents writer.old) (W.contents writer.new) text × ShowsRun script text)) }
+    requires good { writer.old.failed ≡ false }
+    ensures shown { IfOk result (λ status. (status ≡ 0) × ((text : List ℕ) × Appends (W.contents writer.old.inner) (W.contents writer.new.inner) text × ShowsRun script text)) }
+    ensures good { OnOk result (writer.new.failed ≡ false) }
     ensures silent { IfErr result (λ failure. (failure ≡ RunFailure.Engine EngineFault.WriteFailed) ⊎ (writer.new ≡ writer.old)) }
 {
     let text = text_of_run(rt, alloc, gate, script)?;

@@ -1,10 +1,12 @@
 //! Reading a script's files.
 
 ghost use Rattle.std.specs.Prelude.{◌≡◌, ◌++◌, ◌∷◌, [], OnOk, Option, List, ℕ, map, IfOk, IfErr, MatchOption};
+ghost use Rattle.console.specs.Devices.{IsFresh};
 ghost use Rattle.console.specs.Reading.{IsReadFault};
+ghost use Rattle.console.specs.declared.input.TheConstants.{INPUT_READS};
 ghost use Rattle.script_input.specs.Inputs.{AllWithin, AreInputs, Kept, LongAmong, ReadSo};
 
-use console::{EngineFault, INPUT_BYTES, INPUT_READS, Input, read_bounded};
+use console::{EngineFault, INPUT_BYTES, INPUT_READS, Input, Source, read_bounded};
 use std::alloc::{AllocError, Global};
 use std::io::Read;
 
@@ -19,36 +21,42 @@ pub(crate) fn read_files<F: Read + Drop>(
 {
     let mut held = Vec::new(alloc);
     let mut long = false;
-    for mut file in files {
-        long = keep_unless(alloc, long, &mut file, &mut held)?;
+    for file in files {
+        long = keep_unless(alloc, long, file, &mut held)?;
     }
     if long { Ok(None) } else { Ok(Some(held)) }
 }
 
 /// Reads one file, unless one before it is too long, and tells whether one is now.
-fn keep_unless<F: Read>(
+fn keep_unless<F: Read + Drop>(
     alloc: Global,
     long: bool,
-    file: &mut F,
+    file: F,
     held: &mut Vec<Vec<u8>>,
 ) -> Result<bool, EngineFault>
     ensures read { IfOk result (λ now. (known : List (Option (List ℕ))) → ReadSo known (map (λ v. v.items) held.old.items) long
-        → ReadSo (known ++ F.remaining file.old ∷ []) (map (λ v. v.items) held.new.items) now) }
+        → ReadSo (known ++ F.remaining file ∷ []) (map (λ v. v.items) held.new.items) now) }
     ensures fault { IfErr result IsReadFault }
 {
     if long {
         return Ok(true);
     }
-    let whole = keep(alloc, file, held)?;
+    let mut source = Source::new(file, INPUT_READS);
+    let whole = keep(alloc, &mut source, held)?;
     Ok(!whole)
 }
 
 /// Reads one file, and tells whether it was not too long.
-fn keep<F: Read>(alloc: Global, file: &mut F, held: &mut Vec<Vec<u8>>) -> Result<bool, EngineFault>
-    ensures kept { IfOk result (Kept (F.remaining file.old) (map (λ v. v.items) held.old.items) (map (λ v. v.items) held.new.items)) }
+fn keep<F: Read>(
+    alloc: Global,
+    source: &mut Source<F>,
+    held: &mut Vec<Vec<u8>>,
+) -> Result<bool, EngineFault>
+    requires { IsFresh source.old INPUT_READS }
+    ensures kept { IfOk result (Kept (F.remaining source.old.inner) (map (λ v. v.items) held.old.items) (map (λ v. v.items) held.new.items)) }
     ensures fault { IfErr result IsReadFault }
 {
-    match read_bounded(alloc, file, INPUT_BYTES, INPUT_READS)? {
+    match read_bounded(alloc, source, INPUT_BYTES)? {
         Input::Whole(bytes) => {
             push(held, bytes)?;
             Ok(true)

@@ -1,11 +1,13 @@
 //! Reading a script and its files.
 
-ghost use Rattle.std.specs.Prelude.{map, IfOk, IfErr, MatchOption};
-ghost use Rattle.console.specs.Reading.{IsReadFault};
+ghost use Rattle.std.specs.Prelude.{◌≡◌, ◌≤◌, map, IfOk, IfErr, IsErrOf, OnOk, MatchOption, false};
+ghost use Rattle.console.specs.declared.input.TheConstants.{INPUT_READS};
+ghost use Rattle.console.specs.Devices.{IsFresh};
+ghost use Rattle.console.specs.Reading.{IsReadFault, most_taken};
 ghost use Rattle.script_input.specs.Inputs.{AllShort, AreScriptInputs, HadLong};
 
 use crate::files::read_files;
-use console::{EngineFault, INPUT_BYTES, INPUT_READS, Input, read_bounded};
+use console::{EngineFault, INPUT_BYTES, Input, Source, read_bounded};
 use std::alloc::Global;
 use std::io::Read;
 
@@ -21,15 +23,19 @@ pub struct Inputs {
 /// where a read fails or an input takes more reads than its limit.
 pub fn read_inputs<R: Read, F: Read + Drop>(
     alloc: Global,
-    reader: &mut R,
+    reader: &mut Source<R>,
     files: Vec<F>,
 ) -> Result<Option<Inputs>, EngineFault>
-    ensures read { IfOk result (λ read. MatchOption read (HadLong (R.remaining reader.old) (map F.remaining files.items))
-        (λ inputs. AreScriptInputs (R.remaining reader.old) (map F.remaining files.items) inputs.script.items (map (λ v. v.items) inputs.files.items)
+    requires fresh { IsFresh reader.old INPUT_READS }
+    ensures read { IfOk result (λ read. MatchOption read (HadLong (R.remaining reader.old.inner) (map F.remaining files.items))
+        (λ inputs. AreScriptInputs (R.remaining reader.old.inner) (map F.remaining files.items) inputs.script.items (map (λ v. v.items) inputs.files.items)
         × AllShort inputs.script.items (map (λ v. v.items) inputs.files.items))) }
     ensures fault { IfErr result IsReadFault }
+    ensures good { OnOk result (reader.new.failed ≡ false) }
+    ensures memory { IsErrOf result EngineFault.NoMemory → reader.new.failed ≡ false }
+    ensures most { reader.new.taken ≤ most_taken }
 {
-    let script = match read_bounded(alloc, reader, INPUT_BYTES, INPUT_READS)? {
+    let script = match read_bounded(alloc, reader, INPUT_BYTES)? {
         Input::Whole(script) => script,
         Input::TooLong => return Ok(None),
     };

@@ -1,12 +1,13 @@
 //! What is printed in place of what a script does.
 
-ghost use Rattle.std.specs.Prelude.{◌≡◌, ◌≢◌, IfOk, IfErr, IsErrOf};
+ghost use Rattle.std.specs.Prelude.{◌≡◌, ◌≢◌, IfOk, IfErr, IsErrOf, OnOk, false};
 ghost use Rattle.std.specs.Io.KnownBytes.{Appends};
+ghost use Rattle.console.specs.Devices.{StopsWriting};
 ghost use Rattle.console.specs.Matching.{IsPrintFault};
 ghost use Rattle.script_input.specs.Faults.{script_fault_line};
 
 use crate::faults::fault_line;
-use console::{EngineFault, write_bytes};
+use console::{EngineFault, Sink, write_bytes};
 use mk_script::{ScriptFault, ScriptFaultKind};
 use std::alloc::Global;
 use std::io::Write;
@@ -16,10 +17,13 @@ use std::io::Write;
 pub fn refuse<W: Write>(
     alloc: Global,
     fault: ScriptFault,
-    writer: &mut W,
+    writer: &mut Sink<W>,
 ) -> Result<u8, EngineFault>
-    ensures shown { IfOk result (λ status. (status ≡ 1) × (fault.kind ≢ ScriptFaultKind.NoMemory) × Appends (W.contents writer.old) (W.contents writer.new) (script_fault_line fault)) }
+    requires { writer.old.failed ≡ false }
+    ensures shown { IfOk result (λ status. (status ≡ 1) × (fault.kind ≢ ScriptFaultKind.NoMemory) × Appends (W.contents writer.old.inner) (W.contents writer.new.inner) (script_fault_line fault)) }
     ensures fault { IfErr result IsPrintFault }
+    ensures good { OnOk result (writer.new.failed ≡ false) }
+    ensures cause { IfErr result (StopsWriting writer.new) }
     ensures silent { IsErrOf result EngineFault.NoMemory → writer.new ≡ writer.old }
 {
     if let ScriptFaultKind::NoMemory = fault.kind {

@@ -1,7 +1,10 @@
 //! `sim`: runs a script.
 
-ghost use Rattle.std.specs.Prelude.{◌≡◌, ◌<◌, ◌^◌, ◌++◌, ◌⊎◌, length, ℕ, List, map, IfOk, IfErr, IsErrOf};
+ghost use Rattle.std.specs.Prelude.{◌≡◌, ◌<◌, ◌≤◌, ◌^◌, ◌++◌, ◌⊎◌, length, ℕ, List, map, IfOk, IfErr, IsErrOf, OnOk, true, false};
 ghost use Rattle.std.specs.Io.KnownBytes.{Appends};
+ghost use Rattle.console.specs.declared.input.TheConstants.{INPUT_READS};
+ghost use Rattle.console.specs.Devices.{IsFresh, StopsWriting};
+ghost use Rattle.console.specs.Reading.{most_taken};
 ghost use Rattle.console.specs.Matching.{IsEngineFault, IsPrintFault};
 ghost use Rattle.mk_script.specs.Limits.{HasLimits};
 ghost use Rattle.mk_script.specs.declared.script.Item.{Item as GhostItem};
@@ -10,7 +13,7 @@ ghost use Rattle.script_input.specs.Inputs.{AreScriptInputs};
 ghost use Rattle.sim_engine.specs.Showing.{ShowsSim, ShowsOneStatus, ShowsPart, ShowsFront, ShowsItems, ShowsScript};
 
 use crate::running::perform_all;
-use console::{EngineFault, refuse_long};
+use console::{EngineFault, Sink, Source, refuse_long};
 use mk_script::{Script, read_script};
 use script_input::{read_inputs, refuse};
 use std::alloc::Global;
@@ -27,16 +30,22 @@ use world_core::{BootFault, Channel, Messages, WorldOver};
 pub fn run_sim<R: Read, F: Read + Drop, W: Write>(
     alloc: Global,
     files: Vec<F>,
-    reader: &mut R,
-    writer: &mut W,
+    reader: &mut Source<R>,
+    writer: &mut Sink<W>,
 ) -> Result<u8, EngineFault>
-    ensures shown { IfOk result (λ status. (text : List ℕ) × Appends (W.contents writer.old) (W.contents writer.new) text
-        × ((input : List ℕ) × (inputs : List (List ℕ)) × AreScriptInputs (R.remaining reader.old) (map F.remaining files.items) input inputs × ShowsSim inputs input status text)) }
+    requires fresh { IsFresh reader.old INPUT_READS }
+    requires good { writer.old.failed ≡ false }
+    ensures shown { IfOk result (λ status. (text : List ℕ) × Appends (W.contents writer.old.inner) (W.contents writer.new.inner) text
+        × ((input : List ℕ) × (inputs : List (List ℕ)) × AreScriptInputs (R.remaining reader.old.inner) (map F.remaining files.items) input inputs × ShowsSim inputs input status text)) }
     ensures only { (input : List ℕ) (inputs : List (List ℕ)) → AreFiles inputs → ShowsOneStatus (ShowsSim inputs input) }
     ensures fault { IfErr result IsEngineFault }
+    ensures well { OnOk result ((reader.new.failed ≡ false) × (writer.new.failed ≡ false)) }
+    ensures write_failed { IsErrOf result EngineFault.WriteFailed → (reader.new.failed ≡ false) × (writer.new.failed ≡ true) }
+    ensures memory { IsErrOf result EngineFault.NoMemory → (reader.new.failed ≡ false) × (writer.new.failed ≡ false) }
+    ensures most { reader.new.taken ≤ most_taken }
     ensures silent { IsErrOf result EngineFault.ReadFailed → writer.new ≡ writer.old }
-    ensures part { IsErrOf result EngineFault.NoMemory → (writer.new ≡ writer.old) ⊎ ((text : List ℕ) × Appends (W.contents writer.old) (W.contents writer.new) text
-        × ((input : List ℕ) × (inputs : List (List ℕ)) × AreScriptInputs (R.remaining reader.old) (map F.remaining files.items) input inputs × ShowsPart inputs input text)) }
+    ensures part { IsErrOf result EngineFault.NoMemory → (writer.new ≡ writer.old) ⊎ ((text : List ℕ) × Appends (W.contents writer.old.inner) (W.contents writer.new.inner) text
+        × ((input : List ℕ) × (inputs : List (List ℕ)) × AreScriptInputs (R.remaining reader.old.inner) (map F.remaining files.items) input inputs × ShowsPart inputs input text)) }
 {
     run_sim_over::<Messages, R, F, W>(alloc, files, reader, writer)
 }
@@ -45,15 +54,21 @@ pub fn run_sim<R: Read, F: Read + Drop, W: Write>(
 pub fn run_sim_over<C: Channel, R: Read, F: Read + Drop, W: Write>(
     alloc: Global,
     files: Vec<F>,
-    reader: &mut R,
-    writer: &mut W,
+    reader: &mut Source<R>,
+    writer: &mut Sink<W>,
 ) -> Result<u8, EngineFault>
-    ensures shown { IfOk result (λ status. (text : List ℕ) × Appends (W.contents writer.old) (W.contents writer.new) text
-        × ((input : List ℕ) × (inputs : List (List ℕ)) × AreScriptInputs (R.remaining reader.old) (map F.remaining files.items) input inputs × ShowsSim inputs input status text)) }
+    requires fresh { IsFresh reader.old INPUT_READS }
+    requires good { writer.old.failed ≡ false }
+    ensures shown { IfOk result (λ status. (text : List ℕ) × Appends (W.contents writer.old.inner) (W.contents writer.new.inner) text
+        × ((input : List ℕ) × (inputs : List (List ℕ)) × AreScriptInputs (R.remaining reader.old.inner) (map F.remaining files.items) input inputs × ShowsSim inputs input status text)) }
     ensures fault { IfErr result IsEngineFault }
+    ensures well { OnOk result ((reader.new.failed ≡ false) × (writer.new.failed ≡ false)) }
+    ensures write_failed { IsErrOf result EngineFault.WriteFailed → (reader.new.failed ≡ false) × (writer.new.failed ≡ true) }
+    ensures memory { IsErrOf result EngineFault.NoMemory → (reader.new.failed ≡ false) × (writer.new.failed ≡ false) }
+    ensures most { reader.new.taken ≤ most_taken }
     ensures silent { IsErrOf result EngineFault.ReadFailed → writer.new ≡ writer.old }
-    ensures part { IsErrOf result EngineFault.NoMemory → (writer.new ≡ writer.old) ⊎ ((text : List ℕ) × Appends (W.contents writer.old) (W.contents writer.new) text
-        × ((input : List ℕ) × (inputs : List (List ℕ)) × AreScriptInputs (R.remaining reader.old) (map F.remaining files.items) input inputs × ShowsPart inputs input text)) }
+    ensures part { IsErrOf result EngineFault.NoMemory → (writer.new ≡ writer.old) ⊎ ((text : List ℕ) × Appends (W.contents writer.old.inner) (W.contents writer.new.inner) text
+        × ((input : List ℕ) × (inputs : List (List ℕ)) × AreScriptInputs (R.remaining reader.old.inner) (map F.remaining files.items) input inputs × ShowsPart inputs input text)) }
 {
     let Some(inputs) = read_inputs(alloc, reader, files)? else {
         return refuse_long(writer);
@@ -66,12 +81,15 @@ fn run_text<C: Channel, W: Write>(
     alloc: Global,
     input: &[u8],
     inputs: &[Vec<u8>],
-    writer: &mut W,
+    writer: &mut Sink<W>,
 ) -> Result<u8, EngineFault>
-    requires { length input.now < 2 ^ 32 }
-    ensures shown { IfOk result (λ status. (text : List ℕ) × Appends (W.contents writer.old) (W.contents writer.new) text × ShowsScript (map (λ v. v.items) inputs.now) input.now status text) }
+    requires short { length input.now < 2 ^ 32 }
+    requires good { writer.old.failed ≡ false }
+    ensures shown { IfOk result (λ status. (text : List ℕ) × Appends (W.contents writer.old.inner) (W.contents writer.new.inner) text × ShowsScript (map (λ v. v.items) inputs.now) input.now status text) }
     ensures fault { IfErr result IsPrintFault }
-    ensures part { IsErrOf result EngineFault.NoMemory → (writer.new ≡ writer.old) ⊎ ((text : List ℕ) × Appends (W.contents writer.old) (W.contents writer.new) text
+    ensures good { OnOk result (writer.new.failed ≡ false) }
+    ensures cause { IfErr result (StopsWriting writer.new) }
+    ensures part { IsErrOf result EngineFault.NoMemory → (writer.new ≡ writer.old) ⊎ ((text : List ℕ) × Appends (W.contents writer.old.inner) (W.contents writer.new.inner) text
         × ShowsFront (map (λ v. v.items) inputs.now) input.now text) }
 {
     match read_script(alloc, input, inputs, false) {
@@ -84,13 +102,16 @@ fn run_text<C: Channel, W: Write>(
 fn run_script<C: Channel, W: Write>(
     alloc: Global,
     script: &Script,
-    writer: &mut W,
+    writer: &mut Sink<W>,
 ) -> Result<u8, EngineFault>
-    requires { HasLimits script.now }
-    ensures shown { IfOk result (λ status. (status ≡ 0) × ((text : List ℕ) × Appends (W.contents writer.old) (W.contents writer.new) text × ShowsItems script.now.budgets script.now.items text)) }
+    requires limits { HasLimits script.now }
+    requires good { writer.old.failed ≡ false }
+    ensures shown { IfOk result (λ status. (status ≡ 0) × ((text : List ℕ) × Appends (W.contents writer.old.inner) (W.contents writer.new.inner) text × ShowsItems script.now.budgets script.now.items text)) }
     ensures fault { IfErr result IsPrintFault }
+    ensures good { OnOk result (writer.new.failed ≡ false) }
+    ensures cause { IfErr result (StopsWriting writer.new) }
     ensures part { IsErrOf result EngineFault.NoMemory → (writer.new ≡ writer.old) ⊎ ((done rest : List GhostItem) × (script.now.items ≡ done ++ rest) × (text more : List ℕ)
-        × ShowsItems script.now.budgets done (text ++ more) × Appends (W.contents writer.old) (W.contents writer.new) text) }
+        × ShowsItems script.now.budgets done (text ++ more) × Appends (W.contents writer.old.inner) (W.contents writer.new.inner) text) }
 {
     let mut world = match WorldOver::<C>::boot(alloc, script.budgets.as_slice()) {
         Ok(world) => world,

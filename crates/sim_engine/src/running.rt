@@ -1,7 +1,8 @@
 //! A script's items, one after the other.
 
-ghost use Rattle.std.specs.Prelude.{◌≡◌, ◌++◌, ℕ, List, OnOk, IfErr, IsErrOf};
+ghost use Rattle.std.specs.Prelude.{◌≡◌, ◌++◌, ℕ, List, OnOk, IfErr, IsErrOf, false};
 ghost use Rattle.std.specs.Io.KnownBytes.{Appends};
+ghost use Rattle.console.specs.Devices.{StopsWriting};
 ghost use Rattle.console.specs.Matching.{IsPrintFault};
 ghost use Rattle.std.specs.List.{All};
 ghost use Rattle.mk_script.specs.Limits.{EntersBelow, IsLimited};
@@ -14,7 +15,7 @@ ghost use Rattle.sim_engine.specs.Simulations.{Applies, Does, Performs, Simulati
 use crate::requests::{Request, Requests};
 use crate::simulation::{begin, settle, show, tell};
 use crate::way::Way;
-use console::{BLOCK, EngineFault, write_bytes};
+use console::{BLOCK, EngineFault, Sink, write_bytes};
 use mk_script::Item;
 use std::alloc::{AllocError, Global};
 use std::io::Write;
@@ -26,15 +27,18 @@ pub(crate) fn perform_all<C: Channel, W: Write>(
     alloc: Global,
     world: &mut WorldOver<C>,
     items: &[Item],
-    writer: &mut W,
+    writer: &mut Sink<W>,
 ) -> Result<(), EngineFault>
     requires limited { All IsLimited items.now }
     requires entered { All (EntersBelow 8) items.now }
+    requires good { writer.old.failed ≡ false }
     ensures shown { OnOk result ((s' : Simulation) × (text : List ℕ) × Performs (just world.old) items.now s' text
-        × Appends (W.contents writer.old) (W.contents writer.new) text) }
+        × Appends (W.contents writer.old.inner) (W.contents writer.new.inner) text) }
     ensures fault { IfErr result IsPrintFault }
+    ensures good { OnOk result (writer.new.failed ≡ false) }
+    ensures cause { IfErr result (StopsWriting writer.new) }
     ensures part { IsErrOf result EngineFault.NoMemory → (done rest : List GhostItem) × (items.now ≡ done ++ rest) × (s' : Simulation) × (text more : List ℕ)
-        × Performs (just world.old) done s' (text ++ more) × Appends (W.contents writer.old) (W.contents writer.new) text }
+        × Performs (just world.old) done s' (text ++ more) × Appends (W.contents writer.old.inner) (W.contents writer.new.inner) text }
 {
     let mut requests = Requests::new(alloc)?;
     let mut text = Vec::new(alloc);
@@ -46,9 +50,12 @@ pub(crate) fn perform_all<C: Channel, W: Write>(
 }
 
 /// Writes the text that was kept back, once there is much of it.
-fn write_block<W: Write>(writer: &mut W, text: &mut Vec<u8>) -> Result<(), EngineFault>
-    ensures written { OnOk result (Wrote (W.contents writer.old) (W.contents writer.new) text.old.items text.new.items) }
+fn write_block<W: Write>(writer: &mut Sink<W>, text: &mut Vec<u8>) -> Result<(), EngineFault>
+    requires { writer.old.failed ≡ false }
+    ensures written { OnOk result (Wrote (W.contents writer.old.inner) (W.contents writer.new.inner) text.old.items text.new.items) }
     ensures fault { IfErr result (λ e. e ≡ EngineFault.WriteFailed) }
+    ensures good { OnOk result (writer.new.failed ≡ false) }
+    ensures cause { IfErr result (StopsWriting writer.new) }
 {
     if text.len() >= BLOCK {
         write_bytes(writer, text.as_slice())?;

@@ -1,7 +1,8 @@
 //! Traces, and exactly what is drawn of them.
 
+use crate::engines::run_draw;
+use crate::facts::{equal, equal_at, holds};
 use console::EngineFault;
-use draw_engine::run_draw;
 use std::alloc::Global;
 use std::io;
 use std::io::{Cursor, ErrorKind, Read};
@@ -41,8 +42,8 @@ const DRAWN: &str = "<text class='c' x='60' y='56'>core 0</text>\n\
 #[test]
 fn a_trace_is_drawn(rt: HostRuntime) {
     let (answer, out) = draw(rt.alloc(), false, TRACE);
-    assert_eq!(rt; answer, Ok(0));
-    assert!(rt; out.as_slice().ends_with(DRAWN.as_bytes()));
+    equal(&rt, answer, Ok(0));
+    holds(&rt, out.as_slice().ends_with(DRAWN.as_bytes()));
 }
 
 const PLAIN: &str = "core 0  core 1  \n\
@@ -55,8 +56,8 @@ const PLAIN: &str = "core 0  core 1  \n\
 #[test]
 fn a_trace_is_drawn_as_text(rt: HostRuntime) {
     let (answer, out) = draw(rt.alloc(), true, TRACE);
-    assert_eq!(rt; answer, Ok(0));
-    assert_eq!(rt; out.as_slice(), PLAIN.as_bytes());
+    equal(&rt, answer, Ok(0));
+    equal(&rt, out.as_slice(), PLAIN.as_bytes());
 }
 
 #[test]
@@ -74,8 +75,8 @@ fn other_lines_are_refused(rt: HostRuntime) {
     ];
     for (trace, shown) in cases {
         let (answer, out) = draw(rt.alloc(), false, trace);
-        assert_eq!(rt; answer, Ok(1), "{trace}");
-        assert_eq!(rt; out.as_slice(), shown.as_bytes(), "{trace}");
+        equal_at(&rt, answer, Ok(1), &trace);
+        equal_at(&rt, out.as_slice(), shown.as_bytes(), &trace);
     }
 }
 
@@ -100,6 +101,6 @@ impl Read for Broken {
 fn nothing_is_drawn_where_a_read_fails(rt: HostRuntime) {
     let mut out = Vec::new(rt.alloc());
     let answer = run_draw(rt.alloc(), false, &mut Broken { gave: false }, &mut out);
-    assert_eq!(rt; answer, Err(EngineFault::ReadFailed));
-    assert!(rt; out.is_empty());
+    equal(&rt, answer, Err(EngineFault::ReadFailed));
+    holds(&rt, out.is_empty());
 }

@@ -4,4 +4,5 @@ mod captures;
 mod checks;
 mod devices;
 mod matches;
+mod records;
 mod streams;

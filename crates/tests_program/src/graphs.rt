@@ -1,7 +1,8 @@
 //! Programs and packets, and exactly what is shown of them.
 
+use crate::engines::{run_explain, run_graph};
+use crate::facts::{equal, holds};
 use console::EngineFault;
-use graph_engine::{run_explain, run_graph};
 use std::alloc::Global;
 use std::io;
 use std::io::{Cursor, ErrorKind, Read};
@@ -42,8 +43,8 @@ const ARP_GRAPH: &str = "digraph filter {\n\
 #[test]
 fn a_sound_program_has_no_mark(rt: HostRuntime) {
     let (answer, out) = graph(rt.alloc(), ARP);
-    assert_eq!(rt; answer, Ok(0));
-    assert_eq!(rt; out.as_slice(), ARP_GRAPH.as_bytes());
+    equal(&rt, answer, Ok(0));
+    equal(&rt, out.as_slice(), ARP_GRAPH.as_bytes());
 }
 
 const JUMP_OUT: &str = "jeq #1, end, next\nnext: ret #0\nend:\n";
@@ -61,8 +62,8 @@ const JUMP_OUT_GRAPH: &str = "digraph filter {\n\
 #[test]
 fn a_refused_jump_is_red(rt: HostRuntime) {
     let (answer, out) = graph(rt.alloc(), JUMP_OUT);
-    assert_eq!(rt; answer, Ok(0));
-    assert_eq!(rt; out.as_slice(), JUMP_OUT_GRAPH.as_bytes());
+    equal(&rt, answer, Ok(0));
+    equal(&rt, out.as_slice(), JUMP_OUT_GRAPH.as_bytes());
 }
 
 const UNWRITTEN: &str = "jeq #0, a, b\na: st M[1]\nb: ld M[1]\nret a\n";
@@ -84,40 +85,43 @@ const UNWRITTEN_GRAPH: &str = "digraph filter {\n\
 #[test]
 fn a_path_is_bold(rt: HostRuntime) {
     let (answer, out) = graph(rt.alloc(), UNWRITTEN);
-    assert_eq!(rt; answer, Ok(0));
-    assert_eq!(rt; out.as_slice(), UNWRITTEN_GRAPH.as_bytes());
+    equal(&rt, answer, Ok(0));
+    equal(&rt, out.as_slice(), UNWRITTEN_GRAPH.as_bytes());
 }
 
 #[test]
 fn a_program_with_no_return_is_drawn(rt: HostRuntime) {
     let (answer, out) = graph(rt.alloc(), "ld #1\nja end\nend:\n");
-    assert_eq!(rt; answer, Ok(0));
+    equal(&rt, answer, Ok(0));
     let end = "  label=\"refused JumpOut pc 1\"\n\
         \x20 n0 [label=\"l0: ldi #1\"]\n\
         \x20 n0 -> n1\n\
         \x20 n1 [label=\"l1: jmp l2\"] [color=red]\n\
         \x20 n1 -> out\n\
         }\n";
-    assert!(rt; out.as_slice().ends_with(end.as_bytes()));
+    holds(&rt, out.as_slice().ends_with(end.as_bytes()));
     let (answer, out) = graph(rt.alloc(), "ld #1\ntax\n");
-    assert_eq!(rt; answer, Ok(0));
+    equal(&rt, answer, Ok(0));
     let end = "  label=\"refused NoReturn\"\n\
         \x20 n0 [label=\"l0: ldi #1\"]\n\
         \x20 n0 -> n1\n\
         \x20 n1 [label=\"l1: tax\"] [color=red]\n\
         \x20 n1 -> out\n\
         }\n";
-    assert!(rt; out.as_slice().ends_with(end.as_bytes()));
+    holds(&rt, out.as_slice().ends_with(end.as_bytes()));
     let (answer, out) = graph(rt.alloc(), "");
-    assert_eq!(rt; answer, Ok(0));
-    assert!(rt; out.as_slice().ends_with(b"  label=\"refused Empty\"\n}\n"));
+    equal(&rt, answer, Ok(0));
+    holds(
+        &rt,
+        out.as_slice().ends_with(b"  label=\"refused Empty\"\n}\n"),
+    );
 }
 
 #[test]
 fn a_fault_has_its_line(rt: HostRuntime) {
     let (answer, out) = graph(rt.alloc(), "ret #0\nbogus\n");
-    assert_eq!(rt; answer, Ok(1));
-    assert_eq!(rt; out.as_slice(), b"line 2: Mnemonic\n".as_slice());
+    equal(&rt, answer, Ok(1));
+    equal(&rt, out.as_slice(), b"line 2: Mnemonic\n".as_slice());
 }
 
 const CODE: &str = "4,40 0 0 12,21 0 1 2054,6 0 0 4294967295,6 0 0 0";
@@ -138,26 +142,26 @@ const EXPLAINED: &str = "l0: ldh [12] A=2054 X=0\n\
 fn each_packet_is_explained(rt: HostRuntime) {
     let packets = "ffffffffffff0011223344550806\nffffffffffff0011223344550800\nff\nf\n00\n";
     let (answer, out) = explain(rt.alloc(), CODE, packets);
-    assert_eq!(rt; answer, Ok(1));
-    assert_eq!(rt; out.as_slice(), EXPLAINED.as_bytes());
+    equal(&rt, answer, Ok(1));
+    equal(&rt, out.as_slice(), EXPLAINED.as_bytes());
 }
 
 #[test]
 fn both_registers_are_shown(rt: HostRuntime) {
     let (answer, out) = explain(rt.alloc(), "3,129 0 0 0,135 0 0 0,22 0 0 0", "0102");
-    assert_eq!(rt; answer, Ok(0));
+    equal(&rt, answer, Ok(0));
     let explained = "l0: ldx #len A=0 X=2\nl1: txa A=2 X=2\nl2: ret a A=2 X=2\n2 3\n";
-    assert_eq!(rt; out.as_slice(), explained.as_bytes());
+    equal(&rt, out.as_slice(), explained.as_bytes());
 }
 
 #[test]
 fn a_refused_code_is_not_run(rt: HostRuntime) {
     let (answer, out) = explain(rt.alloc(), "1,5 0 0 1", "00");
-    assert_eq!(rt; answer, Ok(1));
-    assert_eq!(rt; out.as_slice(), b"refused JumpOut pc 0\n".as_slice());
+    equal(&rt, answer, Ok(1));
+    equal(&rt, out.as_slice(), b"refused JumpOut pc 0\n".as_slice());
     let (answer, out) = explain(rt.alloc(), "1,x", "00");
-    assert_eq!(rt; answer, Ok(1));
-    assert_eq!(rt; out.as_slice(), b"code BadNumber 1\n".as_slice());
+    equal(&rt, answer, Ok(1));
+    equal(&rt, out.as_slice(), b"code BadNumber 1\n".as_slice());
 }
 
 /// A reader that fails.
@@ -173,12 +177,13 @@ impl Read for Broken {
 #[test]
 fn a_read_that_fails_writes_nothing(rt: HostRuntime) {
     let mut out = Vec::new(rt.alloc());
-    assert_eq!(rt;
+    equal(
+        &rt,
         run_graph(rt.alloc(), &mut Broken, &mut out),
-        Err(EngineFault::ReadFailed)
+        Err(EngineFault::ReadFailed),
     );
-    assert_eq!(rt; out.len(), 0);
+    equal(&rt, out.len(), 0);
     let answer = run_explain(rt.alloc(), CODE.as_bytes(), &mut Broken, &mut out);
-    assert_eq!(rt; answer, Err(EngineFault::ReadFailed));
-    assert_eq!(rt; out.len(), 0);
+    equal(&rt, answer, Err(EngineFault::ReadFailed));
+    equal(&rt, out.len(), 0);
 }

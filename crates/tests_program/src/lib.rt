@@ -4,6 +4,10 @@
 #[cfg(test)]
 mod drawings;
 #[cfg(test)]
+mod engines;
+#[cfg(test)]
+mod facts;
+#[cfg(test)]
 mod filters;
 #[cfg(test)]
 mod graphs;

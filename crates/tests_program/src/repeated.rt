@@ -1,8 +1,9 @@
 //! What `run` printed, given to `sim` after the script.
 
+use crate::engines::{run_run, run_sim};
+use crate::facts::equal;
 use core_threads::Free;
-use run_engine::{RunFailure, run_run};
-use sim_engine::run_sim;
+use run_engine::RunFailure;
 use std::alloc::Global;
 use std::io::Cursor;
 use std::sync::Wait;
@@ -35,15 +36,15 @@ fn sim_shows_what_run_printed(rt: HostRuntime) -> Result<(), Fail> {
     let alloc = rt.alloc();
     let mut trace = Vec::new(alloc);
     let status = printed(&rt, alloc, &mut trace);
-    assert_eq!(rt; status, Ok(0));
+    equal(&rt, status, Ok(0));
     let mut input = Vec::from_slice(alloc, SCRIPT.as_bytes())?;
     input.extend_from_slice(b"trace\n")?;
     input.extend_from_slice(trace.as_slice())?;
     let files: Vec<Cursor<&[u8]>> = Vec::new(alloc);
     let mut shown = Vec::new(alloc);
     let status = run_sim(alloc, files, &mut Cursor::new(input.as_slice()), &mut shown);
-    assert_eq!(rt; status, Ok(0));
+    equal(&rt, status, Ok(0));
     shown.extend_from_slice(b"left 1 2\n")?;
-    assert_eq!(rt; shown.as_slice(), trace.as_slice());
+    equal(&rt, shown.as_slice(), trace.as_slice());
     Ok(())
 }

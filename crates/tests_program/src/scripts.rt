@@ -1,5 +1,6 @@
 //! Scripts, and the items or faults that they stand for.
 
+use crate::facts::{equal, holds};
 use bpf_insn::TextFault;
 use endpoint_caps::Rights;
 use filter_asm::{AsmFault, AsmFaultKind};
@@ -146,18 +147,18 @@ static TRACES: [Case; 4] = [
 #[test]
 fn faults(rt: HostRuntime) -> Result<(), Fail> {
     let alloc = rt.alloc();
-    assert_eq!(rt; other_fault(alloc, &EACH_KIND), None);
-    assert_eq!(rt; other_fault(alloc, &RANGES), None);
-    assert_eq!(rt; other_fault(alloc, &NAMES), None);
-    assert_eq!(rt; other_fault(alloc, &TRACES), None);
+    equal(&rt, other_fault(alloc, &EACH_KIND), None);
+    equal(&rt, other_fault(alloc, &RANGES), None);
+    equal(&rt, other_fault(alloc, &NAMES), None);
+    equal(&rt, other_fault(alloc, &TRACES), None);
     Ok(())
 }
 
 #[test]
 fn faults_in_order(rt: HostRuntime) -> Result<(), Fail> {
     let alloc = rt.alloc();
-    assert_eq!(rt; other_fault(alloc, &BAD_LINES), None);
-    assert_eq!(rt; other_fault(alloc, &BEHIND_NUMBERS), None);
+    equal(&rt, other_fault(alloc, &BAD_LINES), None);
+    equal(&rt, other_fault(alloc, &BEHIND_NUMBERS), None);
     Ok(())
 }
 
@@ -166,28 +167,32 @@ fn bad_bodies(rt: HostRuntime) -> Result<(), Fail> {
     use ScriptFaultKind::BadBody;
     let alloc = rt.alloc();
     let count = BadBody(BodyFault::Ddd(TextFault::CountMismatch));
-    assert_eq!(rt;
+    equal(
+        &rt,
         fault(alloc, "cores 5\nddd f 2,6 0 0 0\n"),
-        Some((2, count))
+        Some((2, count)),
     );
     let label = BadBody(BodyFault::Asm(AsmFault {
         line: 3,
         kind: AsmFaultKind::NoLabel,
     }));
-    assert_eq!(rt;
+    equal(
+        &rt,
         fault(alloc, "cores 5\nasm f ; no comment\nend\n"),
-        Some((2, ScriptFaultKind::BadLine))
+        Some((2, ScriptFaultKind::BadLine)),
     );
-    assert_eq!(rt;
+    equal(
+        &rt,
         fault(alloc, "cores 5\n\nasm f\n; a comment\n# no comment\n"),
-        Some((3, ScriptFaultKind::BadLine))
+        Some((3, ScriptFaultKind::BadLine)),
     );
-    assert_eq!(rt;
+    equal(
+        &rt,
         fault(alloc, "cores 5\n\nasm f\nneg\n\njmp out\nend"),
-        Some((3, label))
+        Some((3, label)),
     );
     let cut = BadBody(BodyFault::Capture(CaptureFault::TruncatedRecord(58)));
-    assert_eq!(rt; fault(alloc, "cores 5\ncapture c 2\n"), Some((2, cut)));
+    equal(&rt, fault(alloc, "cores 5\ncapture c 2\n"), Some((2, cut)));
     Ok(())
 }
 
@@ -195,11 +200,12 @@ fn bad_bodies(rt: HostRuntime) -> Result<(), Fail> {
 fn faults_for_threads(rt: HostRuntime) -> Result<(), Fail> {
     let alloc = rt.alloc();
     for text in ["cores 5\nstart\n", "cores 5\nsettle\n", "cores 5\ntrace\n"] {
-        assert_eq!(rt; threads_fault(alloc, text), Some((2, BadLine)));
+        equal(&rt, threads_fault(alloc, text), Some((2, BadLine)));
     }
-    assert_eq!(rt;
+    equal(
+        &rt,
         threads_fault(alloc, "cores 5\npacket p -\nrx 1 p\n"),
-        Some((3, BadNumber))
+        Some((3, BadNumber)),
     );
     Ok(())
 }
@@ -313,12 +319,12 @@ fn every_word(rt: HostRuntime) -> Result<(), Fail> {
         "# each word\ncores 100 07\nasm f\nldh [12]\nret a\nend\nddd g 1,6 0 0 10 \npacket p 0aFF 60\npacket none -\ncapture c 1\nhome 2 1\ncreate 1 7\ncreate 2 8\nmint 1 1 2 r\nmint 1 1 2 m\nmint 1 1 2 rm\nrevoke 1 1\ndrop 2 2\ninstall 1 1 f\ninstall 2 1 g\nremove 1 4294967295\nreplace 1 1 g\nhome 2 0\ncreate 2 9\nstart\nsubmit 1\nstartfor 65535\ntake 1 0\ntake 0 1 short\nrx 1 p\nrx 0 none 3\nrx 0 c.2\nreplay c 18446744073709551615\nrx 0 c.1\nsettle\nshow 0";
     let want =
         "0: create 1 7\n1: create 2 8\n0: mint 1 1 2 r\n0: mint 1 1 2 m\n0: mint 1 1 2 rm\n0: revoke 1 1\n1: drop 2 2\n0: install 1 1 2\n1: install 2 1 1\n0: remove 1 4294967295\n0: replace 1 1 1\n0: create 2 9\nstart\nsubmit 1\nstartfor 65535\ntake 1 0 false\ntake 0 1 true\nrx 1 1 2 60 0\nrx 0 2 0 0 3\nrx 0 3 1 1 0\nrx 0 4 1 1 18446744073709551615\nrx 1 5 1 1 18446744073709551615\nrx 0 6 1 9 18446744073709551615\nrx 0 7 1 1 0\nsettle\nshow 0\n";
-    assert!(rt; gives(alloc, text, false, want));
+    holds(&rt, gives(alloc, text, false, want));
     let budgets = read(alloc, text, false)
         .ok_or("too long")?
         .ok()
         .ok_or("fault")?;
-    assert_eq!(rt; budgets.budgets.as_slice(), [100, 7].as_slice());
+    equal(&rt, budgets.budgets.as_slice(), [100, 7].as_slice());
     Ok(())
 }
 
@@ -327,18 +333,19 @@ fn a_trace(rt: HostRuntime) -> Result<(), Fail> {
     let alloc = rt.alloc();
     let run =
         "cores 100 100\nddd all 1,6 0 0 65535\npacket q 0102030405\ncreate 1 7\ninstall 1 1 all\nrx 1 q 2\nrx 0 q 9\n";
-    assert!(rt;
+    holds(
+        &rt,
         gives(
             alloc,
             run,
             true,
-            "0: create 1 7\n0: install 1 1 1\nrx 1 1 5 5 2\nrx 0 2 5 5 9\n"
-        )
+            "0: create 1 7\n0: install 1 1 1\nrx 1 1 5 5 2\nrx 0 2 5 5 9\n",
+        ),
     );
     let traced =
         "cores 100 100\nddd all 1,6 0 0 65535\npacket q 0102030405\ncreate 1 7\ninstall 1 1 all\nrx 1 q 2\nrx 0 q 9\ntrace\n# what the run printed\nstart: prepared 1\nsubmit 1: sent\nstartfor 1: prepared 2\ntake 1 0: prepare 1 Yes\n take 1 0 : prepare 2 NoMemory \nrx 1 1: version 2 7=5\nrx 0 2: fault NotReady\nleft 1 2\n";
     let want =
         "0: create 1 7\n0: install 1 1 1\nstart\nsubmit 1\nstartfor 1\ntake 1 0 false\ntake 1 0 true\nrx 1 1 5 5 2\nrx 0 2 5 5 9\n";
-    assert!(rt; gives(alloc, traced, false, want));
+    holds(&rt, gives(alloc, traced, false, want));
     Ok(())
 }

@@ -1,7 +1,9 @@
 //! Traces, and which event sent the message that another takes.
 
-use std::test::Fail;
-use trace_lines::{Kind, Message, link_events, read_trace};
+use crate::facts::equal;
+use std::alloc::Global;
+use std::process::Abort;
+use trace_lines::{Kind, Message, Picture, link_events, read_trace};
 
 /// A request of core 2 on three cores, and the next, which is not yet decided. Beside each line is the place of the sender.
 const TRACE: [(&str, Option<usize>); 18] = [
@@ -25,21 +27,34 @@ const TRACE: [(&str, Option<usize>); 18] = [
     ("take 1 0: prepare 2 Yes\n", Some(16)),
 ];
 
-#[test]
-fn each_message_has_its_sender(rt: HostRuntime) -> Result<(), Fail> {
-    let mut text = String::new(rt.alloc());
-    for (line, _) in TRACE {
-        text.push_str(line)?;
+/// The text of these lines.
+fn text_of(rt: &impl Abort, alloc: Global, lines: &[(&str, Option<usize>)]) -> String {
+    let mut text = String::new(alloc);
+    for (line, _) in lines {
+        text.push_str(line).expect(rt, "there is memory");
     }
-    let lines = read_trace(rt.alloc(), text.as_bytes());
-    let Ok(lines) = lines else {
-        return Err(Fail::from("no trace"));
-    };
-    let picture = link_events(rt.alloc(), lines.as_slice())?;
-    assert_eq!(rt; picture.highest, 2);
+    text
+}
+
+/// The picture of a trace.
+fn picture_of<'a>(rt: &impl Abort, alloc: Global, text: &'a str) -> Picture<'a> {
+    let lines = read_trace(alloc, text.as_bytes()).expect(rt, "a trace");
+    link_events(alloc, lines.as_slice()).expect(rt, "there is memory")
+}
+
+/// Each row has the sender that stands beside its line.
+fn have_senders(rt: &impl Abort, picture: &Picture<'_>, lines: &[(&str, Option<usize>)]) {
     for row in picture.rows.as_slice() {
-        assert_eq!(rt; Some(row.sender), TRACE.get(row.row).map(|line| line.1));
+        equal(rt, Some(row.sender), lines.get(row.row).map(|line| line.1));
     }
+}
+
+#[test]
+fn each_message_has_its_sender(rt: HostRuntime) {
+    let text = text_of(&rt, rt.alloc(), &TRACE);
+    let picture = picture_of(&rt, rt.alloc(), &text);
+    equal(&rt, picture.highest, 2);
+    have_senders(&rt, &picture, &TRACE);
     let left = [
         Message {
             kind: Kind::Prepare,
@@ -54,8 +69,7 @@ fn each_message_has_its_sender(rt: HostRuntime) -> Result<(), Fail> {
             row: 17,
         },
     ];
-    assert_eq!(rt; picture.left.as_slice(), left.as_slice());
-    Ok(())
+    equal(&rt, picture.left.as_slice(), left.as_slice());
 }
 
 /// Of part of a run: a message that was sent before the first line, and then one that is sent in it.
@@ -67,36 +81,19 @@ const PART: [(&str, Option<usize>); 4] = [
 ];
 
 #[test]
-fn a_message_from_before_has_no_sender(rt: HostRuntime) -> Result<(), Fail> {
-    let mut text = String::new(rt.alloc());
-    for (line, _) in PART {
-        text.push_str(line)?;
-    }
-    let Ok(lines) = read_trace(rt.alloc(), text.as_bytes()) else {
-        return Err(Fail::from("no trace"));
-    };
-    let picture = link_events(rt.alloc(), lines.as_slice())?;
-    for row in picture.rows.as_slice() {
-        assert_eq!(rt; Some(row.sender), PART.get(row.row).map(|line| line.1));
-    }
-    Ok(())
+fn a_message_from_before_has_no_sender(rt: HostRuntime) {
+    let text = text_of(&rt, rt.alloc(), &PART);
+    let picture = picture_of(&rt, rt.alloc(), &text);
+    have_senders(&rt, &picture, &PART);
 }
 
 #[test]
-fn any_number_of_messages_is_followed(rt: HostRuntime) -> Result<(), Fail> {
-    let mut text = String::new(rt.alloc());
-    for _ in 0..100 {
-        text.push_str("submit 1: sent\n")?;
-    }
-    text.push_str("take 0 1: submit\n")?;
-    let Ok(lines) = read_trace(rt.alloc(), text.as_bytes()) else {
-        return Err(Fail::from("no trace"));
-    };
-    let picture = link_events(rt.alloc(), lines.as_slice())?;
-    assert_eq!(rt; picture.left.len(), 99);
-    assert_eq!(rt;
-        picture.rows.as_slice().last().map(|row| row.sender),
-        Some(Some(0))
-    );
-    Ok(())
+fn any_number_of_messages_is_followed(rt: HostRuntime) {
+    let mut text = text_of(&rt, rt.alloc(), &[("submit 1: sent\n", None); 100]);
+    text.push_str("take 0 1: submit\n")
+        .expect(&rt, "there is memory");
+    let picture = picture_of(&rt, rt.alloc(), &text);
+    equal(&rt, picture.left.len(), 99);
+    let sender = picture.rows.as_slice().last().map(|row| row.sender);
+    equal(&rt, sender, Some(Some(0)));
 }

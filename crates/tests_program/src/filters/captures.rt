@@ -1,7 +1,9 @@
 //! `dump` and `match --pcap` over captures that come a byte, seven bytes or a block at a time.
 
 use super::devices::Pieces;
-use console::{EngineFault, run_dump, run_match};
+use crate::engines::{run_dump, run_match};
+use crate::facts::{equal, equal_at, holds};
+use console::EngineFault;
 use std::alloc::Global;
 use std::test::Fail;
 
@@ -12,7 +14,7 @@ const HEADER: &str = "d4c3b2a1020004000000000000000000ffff000001000000";
 const STEPS: [usize; 3] = [1, 7, 65_536];
 
 /// Captures in hexadecimal digits, behind `HEADER` where it is wanted, each with its status and what `dump` shows.
-const DUMPS: [(&str, &str, u8, &str); 9] = [
+const DUMPS: [(&str, &str, u8, &str); 10] = [
     ("", "", 1, "fault TruncatedHeader\n"),
     (HEADER, "", 0, "pcap little micro snaplen 65535 network 1\n"),
     (
@@ -45,6 +47,12 @@ const DUMPS: [(&str, &str, u8, &str); 9] = [
         0,
         "pcap big micro snaplen 65536 network 1\n1 captured 0 original 5 -\n",
     ),
+    (
+        "",
+        "a1b2c3d40002000400000000000000000001000000000001",
+        0,
+        "pcap big micro snaplen 65536 network 1\n",
+    ),
     ("", "d4c3b2a2", 1, "fault BadMagic\n"),
     ("", "d4c3b2a103000400", 1, "fault BadVersion\n"),
 ];
@@ -64,8 +72,8 @@ fn dumps(rt: HostRuntime) -> Result<(), Fail> {
             let mut out = Vec::new(rt.alloc());
             let mut reader = Pieces::new(capture.as_slice(), step, 0);
             let answer = run_dump(rt.alloc(), &mut reader, &mut out);
-            assert_eq!(rt; answer, Ok(status), "{shown}");
-            assert_eq!(rt; out.as_slice(), shown.as_bytes(), "{shown}");
+            equal_at(&rt, answer, Ok(status), &shown);
+            equal_at(&rt, out.as_slice(), shown.as_bytes(), &shown);
         }
     }
     Ok(())
@@ -81,8 +89,8 @@ fn a_filter_sees_the_original_length(rt: HostRuntime) -> Result<(), Fail> {
         let mut reader = Pieces::new(capture.as_slice(), step, 0);
         let code = b"2,128 0 0 0,22 0 0 0";
         let answer = run_match(rt.alloc(), code, true, &mut reader, &mut out);
-        assert_eq!(rt; answer, Ok(0));
-        assert_eq!(rt; out.as_slice(), b"1514 2\n".as_slice());
+        equal(&rt, answer, Ok(0));
+        equal(&rt, out.as_slice(), b"1514 2\n".as_slice());
     }
     Ok(())
 }
@@ -114,8 +122,8 @@ fn outcomes_stand_before_the_fault_of_a_capture(rt: HostRuntime) -> Result<(), F
             let mut reader = Pieces::new(capture.as_slice(), step, 0);
             let code = b"2,48 0 0 0,22 0 0 0";
             let answer = run_match(rt.alloc(), code, true, &mut reader, &mut out);
-            assert_eq!(rt; answer, Ok(status), "{shown}");
-            assert_eq!(rt; out.as_slice(), shown.as_bytes(), "{shown}");
+            equal_at(&rt, answer, Ok(status), &shown);
+            equal_at(&rt, out.as_slice(), shown.as_bytes(), &shown);
         }
     }
     Ok(())
@@ -135,12 +143,12 @@ impl std::io::Read for Endless {
 fn a_bad_capture_above_the_limit_is_told_to_be_too_long(rt: HostRuntime) {
     let mut out = Vec::new(rt.alloc());
     let answer = run_dump(rt.alloc(), &mut Endless, &mut out);
-    assert_eq!(rt; answer, Ok(1));
-    assert_eq!(rt; out.as_slice(), b"fault InputTooLong\n".as_slice());
+    equal(&rt, answer, Ok(1));
+    equal(&rt, out.as_slice(), b"fault InputTooLong\n".as_slice());
     out.clear();
     let answer = run_match(rt.alloc(), b"1,6 0 0 5", true, &mut Endless, &mut out);
-    assert_eq!(rt; answer, Ok(1));
-    assert_eq!(rt; out.as_slice(), b"fault InputTooLong\n".as_slice());
+    equal(&rt, answer, Ok(1));
+    equal(&rt, out.as_slice(), b"fault InputTooLong\n".as_slice());
 }
 
 #[test]
@@ -151,8 +159,8 @@ fn a_capture_that_fails_to_be_read_leaves_nothing_written(rt: HostRuntime) -> Re
         let mut out = Vec::new(rt.alloc());
         let mut reader = Pieces::new(capture.as_slice(), 1, fails_at);
         let answer = run_dump(rt.alloc(), &mut reader, &mut out);
-        assert_eq!(rt; answer, Err(EngineFault::ReadFailed), "read {fails_at}");
-        assert!(rt; out.is_empty());
+        equal_at(&rt, answer, Err(EngineFault::ReadFailed), &fails_at);
+        holds(&rt, out.is_empty());
     }
     Ok(())
 }

@@ -1,7 +1,9 @@
 //! `check` with one text after another, and exactly what it shows.
 
 use super::devices::{Pieces, Sink};
-use console::{EngineFault, run_check, run_match};
+use crate::engines::{run_check, run_match};
+use crate::facts::{equal, equal_at, holds};
+use console::EngineFault;
 use std::alloc::{AllocError, Global};
 use std::test::Fail;
 
@@ -52,8 +54,8 @@ fn assembled_texts(rt: HostRuntime) {
     ];
     for (asm, input, status, shown) in rows {
         let (answer, out) = run(rt.alloc(), asm, input);
-        assert_eq!(rt; answer, Ok(status), "{input}");
-        assert_eq!(rt; out.as_slice(), shown.as_bytes(), "{input}");
+        equal_at(&rt, answer, Ok(status), &input);
+        equal_at(&rt, out.as_slice(), shown.as_bytes(), &input);
     }
 }
 
@@ -90,8 +92,8 @@ fn jumps_and_programs_that_are_too_long(rt: HostRuntime) -> Result<(), Fail> {
     for (first, again, times, last, status, shown) in rows {
         let text = long_text(rt.alloc(), first, again, times, last)?;
         let (answer, out) = run(rt.alloc(), false, text.as_str());
-        assert_eq!(rt; answer, Ok(status), "{shown}");
-        assert_eq!(rt; out.as_slice(), shown.as_bytes());
+        equal_at(&rt, answer, Ok(status), &shown);
+        equal(&rt, out.as_slice(), shown.as_bytes());
     }
     Ok(())
 }
@@ -102,8 +104,8 @@ fn a_text_that_fails_to_be_read_leaves_nothing_written(rt: HostRuntime) {
         let mut out = Vec::new(rt.alloc());
         let mut reader = Pieces::new(ARP.as_bytes(), 1, fails_at);
         let answer = run_check(rt.alloc(), false, &mut reader, &mut out);
-        assert_eq!(rt; answer, Err(EngineFault::ReadFailed), "read {fails_at}");
-        assert!(rt; out.is_empty());
+        equal_at(&rt, answer, Err(EngineFault::ReadFailed), &fails_at);
+        holds(&rt, out.is_empty());
     }
 }
 
@@ -121,15 +123,16 @@ fn a_check_that_fails_to_be_written_is_reported(rt: HostRuntime) {
             let mut reader = Pieces::new(input.as_bytes(), 64, 0);
             let answer = run_check(rt.alloc(), asm, &mut reader, &mut sink);
             if fails_at <= length {
-                assert_eq!(rt;
+                equal_at(
+                    &rt,
                     answer,
                     Err(EngineFault::WriteFailed),
-                    "{input} write {fails_at}"
+                    &(input, fails_at),
                 );
-                assert_eq!(rt; sink.taken, fails_at.saturating_sub(1));
+                equal(&rt, sink.taken, fails_at.saturating_sub(1));
             } else {
-                assert_eq!(rt; answer, Ok(status), "{input}");
-                assert_eq!(rt; sink.taken, length);
+                equal_at(&rt, answer, Ok(status), &input);
+                equal(&rt, sink.taken, length);
             }
         }
     }
@@ -164,12 +167,12 @@ fn filters_of_the_linux_documentation_on_packets(rt: HostRuntime) -> Result<(), 
     ];
     for (text, (packets, shown)) in DOCUMENTED.iter().zip(rows) {
         let (assembled, code) = run(rt.alloc(), false, text);
-        assert_eq!(rt; assembled, Ok(0), "{text}");
+        equal_at(&rt, assembled, Ok(0), &text);
         let mut out = Vec::new(rt.alloc());
         let mut reader = Pieces::new(packets.as_bytes(), 64, 0);
         let answer = run_match(rt.alloc(), code.as_slice(), false, &mut reader, &mut out);
-        assert_eq!(rt; answer, Ok(0), "{text}");
-        assert_eq!(rt; out.as_slice(), shown.as_bytes(), "{text}");
+        equal_at(&rt, answer, Ok(0), &text);
+        equal_at(&rt, out.as_slice(), shown.as_bytes(), &text);
     }
     Ok(())
 }

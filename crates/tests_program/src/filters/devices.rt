@@ -1,6 +1,8 @@
 //! Readers and writers that give or take little at a time, and fail when they are told to.
 
-use console::{EngineFault, Input, feed_bounded, read_bounded, run_dump, run_match};
+use crate::engines::{run_dump, run_match};
+use crate::facts::{equal, equal_at};
+use console::{EngineFault, Input, Source, feed_bounded, read_bounded};
 use pcap_reader::Feed;
 use std::alloc::Global;
 use std::io;
@@ -115,12 +117,12 @@ fn a_read_that_fails_leaves_nothing_written(rt: HostRuntime) {
     // One read for each byte, and one that finds the end.
     for fails_at in 1..58 {
         let (answer, written) = with_reader(rt.alloc(), fails_at);
-        assert_eq!(rt; answer, Err(EngineFault::ReadFailed), "read {fails_at}");
-        assert_eq!(rt; written, 0);
+        equal_at(&rt, answer, Err(EngineFault::ReadFailed), &fails_at);
+        equal(&rt, written, 0);
     }
     let (answer, written) = with_reader(rt.alloc(), 58);
-    assert_eq!(rt; answer, Ok(0));
-    assert_eq!(rt; written, SHOWN as usize);
+    equal(&rt, answer, Ok(0));
+    equal(&rt, written, SHOWN as usize);
 }
 
 #[test]
@@ -135,18 +137,18 @@ fn a_write_that_fails_is_reported(rt: HostRuntime) {
             &mut sink,
         );
         if fails_at <= SHOWN {
-            assert_eq!(rt; answer, Err(EngineFault::WriteFailed), "write {fails_at}");
-            assert_eq!(rt; sink.taken, fails_at.saturating_sub(1));
+            equal_at(&rt, answer, Err(EngineFault::WriteFailed), &fails_at);
+            equal(&rt, sink.taken, fails_at.saturating_sub(1));
         } else {
-            assert_eq!(rt; answer, Ok(0));
-            assert_eq!(rt; sink.taken, SHOWN);
+            equal(&rt, answer, Ok(0));
+            equal(&rt, sink.taken, SHOWN);
         }
     }
 }
 
 #[test]
 fn reading_stops_at_its_limits(rt: HostRuntime) -> Result<(), Fail> {
-    let rows: [(usize, u64, u64, &str); 5] = [
+    let rows: [(usize, u32, u64, &str); 5] = [
         (5, 4, 99, "too long"),
         (3, 9, 3, "read failed"),
         (2, 9, 3, "whole"),
@@ -154,17 +156,17 @@ fn reading_stops_at_its_limits(rt: HostRuntime) -> Result<(), Fail> {
         (0, 0, 0, "read failed"),
     ];
     for (length, bytes, reads, want) in rows {
-        let mut reader = Pieces::new(&[7; 5][..length], 1, 0);
-        let got = match read_bounded(rt.alloc(), &mut reader, bytes, reads) {
+        let mut source = Source::new(Pieces::new(&[7; 5][..length], 1, 0), reads);
+        let got = match read_bounded(rt.alloc(), &mut source, u64::from(bytes)) {
             Ok(Input::Whole(held)) => {
-                assert_eq!(rt; held.len(), length);
+                equal(&rt, held.len(), length);
                 "whole"
             }
             Ok(Input::TooLong) => "too long",
             Err(EngineFault::ReadFailed) => "read failed",
             Err(_) => "another fault",
         };
-        assert_eq!(rt; got, want, "{length} bytes");
+        equal_at(&rt, got, want, &length);
     }
     Ok(())
 }
@@ -179,17 +181,17 @@ fn a_dump_that_fails_to_be_written_is_reported(rt: HostRuntime) {
         let mut reader = Pieces::new(capture, 64, 0);
         let answer = run_dump(rt.alloc(), &mut reader, &mut sink);
         if fails_at <= 96 {
-            assert_eq!(rt; answer, Err(EngineFault::WriteFailed), "write {fails_at}");
+            equal_at(&rt, answer, Err(EngineFault::WriteFailed), &fails_at);
         } else {
-            assert_eq!(rt; answer, Ok(1));
-            assert_eq!(rt; sink.taken, 96);
+            equal(&rt, answer, Ok(1));
+            equal(&rt, sink.taken, 96);
         }
     }
 }
 
 #[test]
 fn feeding_stops_at_its_limits(rt: HostRuntime) {
-    let rows: [(usize, u64, u64, Result<bool, EngineFault>); 4] = [
+    let rows: [(usize, u32, u64, Result<bool, EngineFault>); 4] = [
         (5, 4, 99, Ok(false)),
         (3, 9, 3, Err(EngineFault::ReadFailed)),
         (2, 9, 3, Ok(true)),
@@ -197,20 +199,20 @@ fn feeding_stops_at_its_limits(rt: HostRuntime) {
     ];
     for (length, bytes, reads, want) in rows {
         let mut feed = Feed::new(rt.alloc());
-        let mut reader = Pieces::new(&[7; 5][..length], 1, 0);
-        let got = feed_bounded(&mut reader, &mut feed, bytes, reads);
-        assert_eq!(rt; got, want, "{length} bytes");
+        let mut source = Source::new(Pieces::new(&[7; 5][..length], 1, 0), reads);
+        let got = feed_bounded(&mut source, &mut feed, u64::from(bytes));
+        equal_at(&rt, got, want, &length);
     }
 }
 
 #[test]
 fn an_interrupted_read_is_tried_again_and_counts(rt: HostRuntime) {
     for (reads, whole) in [(3, false), (4, true)] {
-        let mut reader = Interrupted {
+        let reader = Interrupted {
             inner: Pieces::new(&[7; 2], 1, 0),
             told: false,
         };
-        let answer = read_bounded(rt.alloc(), &mut reader, 9, reads);
-        assert_eq!(rt; answer.is_ok(), whole);
+        let answer = read_bounded(rt.alloc(), &mut Source::new(reader, reads), 9);
+        equal(&rt, answer.is_ok(), whole);
     }
 }

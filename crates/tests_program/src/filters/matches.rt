@@ -1,7 +1,9 @@
 //! `match` with one filter after another, and exactly what it shows.
 
 use super::devices::Pieces;
-use console::{EngineFault, run_match};
+use crate::engines::run_match;
+use crate::facts::{equal, equal_at};
+use console::EngineFault;
 use std::alloc::{AllocError, Global};
 use std::fmt::Write;
 use std::test::Fail;
@@ -45,8 +47,8 @@ fn filters_on_packets(rt: HostRuntime) {
     ];
     for (code, input, status, shown) in rows {
         let (answer, out) = run(rt.alloc(), code, input);
-        assert_eq!(rt; answer, Ok(status), "{code}");
-        assert_eq!(rt; out.as_slice(), shown.as_bytes(), "{code}");
+        equal_at(&rt, answer, Ok(status), &code);
+        equal_at(&rt, out.as_slice(), shown.as_bytes(), &code);
     }
 }
 
@@ -80,8 +82,8 @@ fn codes_that_are_no_filters(rt: HostRuntime) {
         let mut out = Vec::new(rt.alloc());
         let mut reader = Pieces::new(b"05\n", 1, 1);
         let answer = run_match(rt.alloc(), code.as_bytes(), false, &mut reader, &mut out);
-        assert_eq!(rt; answer, Ok(1), "{code}");
-        assert_eq!(rt; out.as_slice(), shown.as_bytes(), "{code}");
+        equal_at(&rt, answer, Ok(1), &code);
+        equal_at(&rt, out.as_slice(), shown.as_bytes(), &code);
     }
 }
 
@@ -130,8 +132,8 @@ fn the_longest_programs_and_jumps(rt: HostRuntime) -> Result<(), Fail> {
     for (count, first, again, times, last, status, shown) in rows {
         let code = long_code(rt.alloc(), count, first, again, times, last)?;
         let (answer, out) = run(rt.alloc(), code.as_str(), "05\n");
-        assert_eq!(rt; answer, Ok(status), "{shown}");
-        assert_eq!(rt; out.as_slice(), shown.as_bytes());
+        equal_at(&rt, answer, Ok(status), &shown);
+        equal(&rt, out.as_slice(), shown.as_bytes());
     }
     Ok(())
 }
@@ -150,6 +152,6 @@ impl std::io::Read for Endless {
 fn an_input_above_its_limit_is_told_alone(rt: HostRuntime) {
     let mut out = Vec::new(rt.alloc());
     let answer = run_match(rt.alloc(), b"1,6 0 0 5", false, &mut Endless, &mut out);
-    assert_eq!(rt; answer, Ok(1));
-    assert_eq!(rt; out.as_slice(), b"fault InputTooLong\n".as_slice());
+    equal(&rt, answer, Ok(1));
+    equal(&rt, out.as_slice(), b"fault InputTooLong\n".as_slice());
 }

@@ -1,7 +1,9 @@
 //! `match --stream`: inputs that come a few bytes at a time, and readers and writers that fail.
 
 use super::devices::{Pieces, Sink};
-use console::{EngineFault, run_stream};
+use crate::engines::run_stream;
+use crate::facts::{equal, equal_at};
+use console::EngineFault;
 use std::alloc::Global;
 use std::test::Fail;
 
@@ -43,8 +45,8 @@ fn lines_cut_at_every_byte(rt: HostRuntime) {
     for (input, status, shown) in rows {
         for step in 1..20 {
             let (answer, out) = run(rt.alloc(), false, input.as_bytes(), step, 0);
-            assert_eq!(rt; answer, Ok(status), "{input}");
-            assert_eq!(rt; out.as_slice(), shown.as_bytes(), "{input}");
+            equal_at(&rt, answer, Ok(status), &input);
+            equal_at(&rt, out.as_slice(), shown.as_bytes(), &input);
         }
     }
 }
@@ -80,14 +82,14 @@ fn captures_cut_at_every_byte(rt: HostRuntime) -> Result<(), Fail> {
         capture.extend_from_slice(hex::decode(rt.alloc(), more)?.as_slice())?;
         for step in 1..130 {
             let (answer, out) = run(rt.alloc(), true, capture.as_slice(), step, 0);
-            assert_eq!(rt; answer, Ok(status), "{more}");
-            assert_eq!(rt; out.as_slice(), shown.as_bytes(), "{more} {step}");
+            equal_at(&rt, answer, Ok(status), &more);
+            equal_at(&rt, out.as_slice(), shown.as_bytes(), &(more, step));
         }
     }
     for input in [b"".as_slice(), b"\xd4\xc3\xb2"] {
         let (answer, out) = run(rt.alloc(), true, input, 1, 0);
-        assert_eq!(rt; answer, Ok(1));
-        assert_eq!(rt; out.as_slice(), b"fault TruncatedHeader\n".as_slice());
+        equal(&rt, answer, Ok(1));
+        equal(&rt, out.as_slice(), b"fault TruncatedHeader\n".as_slice());
     }
     Ok(())
 }
@@ -104,8 +106,8 @@ fn what_was_read_is_shown_before_a_read_that_fails(rt: HostRuntime) -> Result<()
     for (from, to, shown) in lines {
         for fails_at in from..to {
             let (answer, out) = run(rt.alloc(), false, b"05\n\n0a\n", 1, fails_at);
-            assert_eq!(rt; answer, Err(EngineFault::ReadFailed));
-            assert_eq!(rt; out.as_slice(), shown.as_bytes(), "{fails_at}");
+            equal(&rt, answer, Err(EngineFault::ReadFailed));
+            equal_at(&rt, out.as_slice(), shown.as_bytes(), &fails_at);
         }
     }
     let capture = hex::decode(rt.alloc(), RECORDS)?;
@@ -118,8 +120,8 @@ fn what_was_read_is_shown_before_a_read_that_fails(rt: HostRuntime) -> Result<()
     for (from, to, shown) in records {
         for fails_at in from..to {
             let (answer, out) = run(rt.alloc(), true, capture.as_slice(), 1, fails_at);
-            assert_eq!(rt; answer, Err(EngineFault::ReadFailed));
-            assert_eq!(rt; out.as_slice(), shown.as_bytes(), "{fails_at}");
+            equal(&rt, answer, Err(EngineFault::ReadFailed));
+            equal_at(&rt, out.as_slice(), shown.as_bytes(), &fails_at);
         }
     }
     Ok(())
@@ -134,11 +136,11 @@ fn a_write_that_fails_leaves_a_front(rt: HostRuntime) {
         let mut reader = Pieces::new(input, 3, 0);
         let answer = run_stream(rt.alloc(), FIRST, false, &mut reader, &mut sink);
         if fails_at <= 24 {
-            assert_eq!(rt; answer, Err(EngineFault::WriteFailed), "{fails_at}");
-            assert_eq!(rt; sink.taken, fails_at.saturating_sub(1));
+            equal_at(&rt, answer, Err(EngineFault::WriteFailed), &fails_at);
+            equal(&rt, sink.taken, fails_at.saturating_sub(1));
         } else {
-            assert_eq!(rt; answer, Ok(1));
-            assert_eq!(rt; sink.taken, 24);
+            equal(&rt, answer, Ok(1));
+            equal(&rt, sink.taken, 24);
         }
     }
 }
@@ -148,18 +150,18 @@ fn a_bad_code_reads_nothing(rt: HostRuntime) {
     let mut out = Vec::new(rt.alloc());
     let mut reader = Pieces::new(b"05\n", 1, 1);
     let answer = run_stream(rt.alloc(), b"0", false, &mut reader, &mut out);
-    assert_eq!(rt; answer, Ok(1));
-    assert_eq!(rt; out.as_slice(), b"refused Empty\n".as_slice());
+    equal(&rt, answer, Ok(1));
+    equal(&rt, out.as_slice(), b"refused Empty\n".as_slice());
 }
 
 #[test]
 fn after_a_bad_line_or_a_lasting_fault_nothing_is_read(rt: HostRuntime) -> Result<(), Fail> {
     // A read after the bad line, or after the fault, would fail.
     let (answer, out) = run(rt.alloc(), false, b"05\nzz\n", 6, 2);
-    assert_eq!(rt; answer, Ok(1));
-    assert_eq!(rt; out.as_slice(), b"5 2\nline 2: BadHex\n".as_slice());
+    equal(&rt, answer, Ok(1));
+    equal(&rt, out.as_slice(), b"5 2\nline 2: BadHex\n".as_slice());
     let (answer, out) = run(rt.alloc(), true, b"\xd4\xc3\xb2\xa2\0\0", 6, 2);
-    assert_eq!(rt; answer, Ok(1));
-    assert_eq!(rt; out.as_slice(), b"fault BadMagic\n".as_slice());
+    equal(&rt, answer, Ok(1));
+    equal(&rt, out.as_slice(), b"fault BadMagic\n".as_slice());
     Ok(())
 }

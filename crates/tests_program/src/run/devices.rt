@@ -1,9 +1,11 @@
 //! Readers that fail or have too much, and writers that fail.
 
 use super::runs::{TWO_CORES, ends};
+use crate::engines::run_run;
+use crate::facts::{equal, equal_at};
 use console::EngineFault;
 use core_threads::Free;
-use run_engine::{RunFailure, run_run};
+use run_engine::RunFailure;
 use std::alloc::Global;
 use std::io;
 use std::io::{Cursor, ErrorKind, Read, Write};
@@ -81,12 +83,13 @@ fn a_script_that_fails_to_be_read_prints_nothing(rt: HostRuntime) {
     for fails_at in 1..reads + 1 {
         let mut out = Vec::new(rt.alloc());
         let answer = with_reader(&rt, rt.alloc(), fails_at, &mut out);
-        assert_eq!(rt;
+        equal_at(
+            &rt,
             answer,
             Err(RunFailure::Engine(EngineFault::ReadFailed)),
-            "read {fails_at}"
+            &fails_at,
         );
-        assert_eq!(rt; out.len(), 0);
+        equal(&rt, out.len(), 0);
     }
     let mut out = Vec::new(rt.alloc());
     let answer = with_reader(&rt, rt.alloc(), reads + 1, &mut out);
@@ -116,12 +119,13 @@ fn a_write_that_fails_is_reported(rt: HostRuntime) {
     let (_, printed) = TWO_CORES;
     for fails_at in 1..printed.len() + 1 {
         let (answer, taken) = with_writer(&rt, rt.alloc(), fails_at);
-        assert_eq!(rt;
+        equal_at(
+            &rt,
             answer,
             Err(RunFailure::Engine(EngineFault::WriteFailed)),
-            "write {fails_at}"
+            &fails_at,
         );
-        assert_eq!(rt; taken, fails_at - 1);
+        equal(&rt, taken, fails_at - 1);
     }
 }
 

@@ -1,7 +1,9 @@
 //! Runs of scripts in memory.
 
+use crate::engines::run_run;
+use crate::facts::{equal, equal_at, holds};
 use core_threads::Free;
-use run_engine::{RunFailure, run_run};
+use run_engine::RunFailure;
 use std::alloc::Global;
 use std::io::Cursor;
 use std::process::Abort;
@@ -80,8 +82,8 @@ pub fn ends(
     status: u8,
     printed: &str,
 ) {
-    assert_eq!(rt; answer, Ok(status), "{printed}");
-    assert_eq!(rt; out, printed.as_bytes(), "{printed}");
+    equal_at(rt, answer, Ok(status), &printed);
+    equal_at(rt, out, printed.as_bytes(), &printed);
 }
 
 #[test]
@@ -98,7 +100,7 @@ fn a_core_gets_the_replies_to_its_requests(rt: HostRuntime) -> Result<(), Fail> 
     let alloc = rt.alloc();
     let mut out = Vec::new(alloc);
     let answer = answer(&rt, alloc, script, &mut out);
-    assert_eq!(rt; answer, Ok(0));
+    equal(&rt, answer, Ok(0));
     let reply = "take 1 0: reply committed 2 filter 1\n";
     let rx = "rx 1 1: version 2 7=5\n";
     let left = "left 1 2\n";
@@ -106,6 +108,6 @@ fn a_core_gets_the_replies_to_its_requests(rt: HostRuntime) -> Result<(), Fail> 
     let before = format!(in alloc; "{begins}{rx}{reply}{left}")?;
     let after = format!(in alloc; "{begins}{reply}{rx}{left}")?;
     let is_either = out.as_slice() == before.as_bytes() || out.as_slice() == after.as_bytes();
-    assert!(rt; is_either);
+    holds(&rt, is_either);
     Ok(())
 }

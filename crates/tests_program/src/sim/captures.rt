@@ -3,7 +3,7 @@
 use super::runs::shows;
 
 /// Three packets of one byte each.
-const CAPTURE: &[u8] = b"\xd4\xc3\xb2\xa1\x02\0\x04\0\0\0\0\0\0\0\0\0\xff\xff\0\0\x01\0\0\0\
+pub const CAPTURE: &[u8] = b"\xd4\xc3\xb2\xa1\x02\0\x04\0\0\0\0\0\0\0\0\0\xff\xff\0\0\x01\0\0\0\
     \0\0\0\0\0\0\0\0\x01\0\0\0\x01\0\0\0\x01\
     \0\0\0\0\0\0\0\0\x01\0\0\0\x01\0\0\0\x02\
     \0\0\0\0\0\0\0\0\x01\0\0\0\x01\0\0\0\x03";

@@ -1,8 +1,9 @@
 //! Readers and writers that give or take little at a time, fail when they are told to, or have too much.
 
 use super::protocol::TWO_PHASE;
+use crate::engines::run_sim;
+use crate::facts::{equal, equal_at};
 use console::EngineFault;
-use sim_engine::run_sim;
 use std::alloc::{AllocError, Global};
 use std::io;
 use std::io::{Cursor, ErrorKind, Read, Write};
@@ -129,11 +130,11 @@ fn a_script_that_fails_to_be_read_shows_nothing(rt: HostRuntime) {
             &mut out,
         );
         if fails_at <= reads {
-            assert_eq!(rt; answer, Err(EngineFault::ReadFailed), "read {fails_at}");
-            assert_eq!(rt; out.len(), 0);
+            equal_at(&rt, answer, Err(EngineFault::ReadFailed), &fails_at);
+            equal(&rt, out.len(), 0);
         } else {
-            assert_eq!(rt; answer, Ok(0));
-            assert_eq!(rt; out.as_slice(), shown.as_bytes());
+            equal(&rt, answer, Ok(0));
+            equal(&rt, out.as_slice(), shown.as_bytes());
         }
     }
 }
@@ -154,11 +155,11 @@ fn a_file_that_fails_to_be_read_shows_nothing(rt: HostRuntime) {
                 &mut out,
             );
             if fails_at <= 10 {
-                assert_eq!(rt; answer, Err(EngineFault::ReadFailed), "read {fails_at}");
-                assert_eq!(rt; out.len(), 0);
+                equal_at(&rt, answer, Err(EngineFault::ReadFailed), &fails_at);
+                equal(&rt, out.len(), 0);
             } else {
-                assert_eq!(rt; answer, Ok(0));
-                assert_eq!(rt; out.as_slice(), shown.as_bytes());
+                equal(&rt, answer, Ok(0));
+                equal(&rt, out.as_slice(), shown.as_bytes());
             }
         }
     }
@@ -182,12 +183,12 @@ fn a_write_that_fails_is_reported(rt: HostRuntime) {
     let (_, shown) = TWO_PHASE;
     for fails_at in 1..shown.len() + 1 {
         let (answer, taken) = with_writer(rt.alloc(), fails_at);
-        assert_eq!(rt; answer, Err(EngineFault::WriteFailed), "write {fails_at}");
-        assert_eq!(rt; taken, fails_at - 1);
+        equal_at(&rt, answer, Err(EngineFault::WriteFailed), &fails_at);
+        equal(&rt, taken, fails_at - 1);
     }
     let (answer, taken) = with_writer(rt.alloc(), shown.len() + 1);
-    assert_eq!(rt; answer, Ok(0));
-    assert_eq!(rt; taken, shown.len());
+    equal(&rt, answer, Ok(0));
+    equal(&rt, taken, shown.len());
 }
 
 /// A script and two files show this text, with status 1.
@@ -201,8 +202,8 @@ fn refuses(
 ) {
     let mut out = Vec::new(alloc);
     let answer = answer(alloc, script, first, second, &mut out);
-    assert_eq!(rt; answer, Ok(1), "{shown}");
-    assert_eq!(rt; out.as_slice(), shown.as_bytes());
+    equal_at(rt, answer, Ok(1), &shown);
+    equal(rt, out.as_slice(), shown.as_bytes());
 }
 
 #[test]
@@ -254,6 +255,6 @@ fn a_file_that_fails_comes_before_one_that_is_too_long(rt: HostRuntime) {
         Source::of_marks(LIMIT + 1),
         &mut out,
     );
-    assert_eq!(rt; answer, Err(EngineFault::ReadFailed));
-    assert_eq!(rt; out.len(), 0);
+    equal(&rt, answer, Err(EngineFault::ReadFailed));
+    equal(&rt, out.len(), 0);
 }

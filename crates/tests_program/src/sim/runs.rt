@@ -1,7 +1,8 @@
 //! Runs of scripts in memory.
 
+use crate::engines::{run_sim, run_sim_over};
+use crate::facts::equal_at;
 use console::EngineFault;
-use sim_engine::{run_sim, run_sim_over};
 use std::alloc::{AllocError, Global};
 use std::io::Cursor;
 use std::process::Abort;
@@ -53,10 +54,10 @@ pub fn shows(
 ) {
     let mut out = Vec::new(alloc);
     let answer = through_lists(alloc, script, file, &mut out);
-    assert_eq!(rt; answer, Ok(status), "{script}");
-    assert_eq!(rt; out.as_slice(), shown.as_bytes(), "{script}");
+    equal_at(rt, answer, Ok(status), &script);
+    equal_at(rt, out.as_slice(), shown.as_bytes(), &script);
     let mut out = Vec::new(alloc);
     let answer = through_lines(alloc, script, file, &mut out);
-    assert_eq!(rt; answer, Ok(status), "{script}");
-    assert_eq!(rt; out.as_slice(), shown.as_bytes(), "{script}");
+    equal_at(rt, answer, Ok(status), &script);
+    equal_at(rt, out.as_slice(), shown.as_bytes(), &script);
 }

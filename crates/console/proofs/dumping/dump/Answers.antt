@@ -5,6 +5,7 @@ use Rattle.console.proofs.dumping.dump.Goals as goal
 pub loop-packet-preserved-then-len-ge-BLOCK : goal.loop-packet-preserved-then-len-ge-BLOCK
 loop-packet-preserved-then-len-ge-BLOCK g c = let first = c.in-Some.ensures.cases in record {
   room = omega (arith, ap length first.0, first.1, c.loop-packet.invariant.room);
+  good = c.in_ok-write_bytes.ensures.good;
   printing = printing_written _ _ _ _ _ _ _
       (printing_next _ _ _ _ _ _ _ _ c.loop-packet.invariant.printing (left_first c.loop-packet.number _ _ _ c.args.fault first.0) c.in_ok-push_packet.ensures)
       (rw c.as_slice.ensures.value at c.in_ok-write_bytes.ensures.written) c.clear.ensures.items;

@@ -1,32 +1,54 @@
 use Rattle.std.proofs.Common.{arith, ◌++◌, take, length-append, length-take-le}
 use Rattle.console.proofs.KnownBytesLemmas.{consumes-then}
-use Rattle.console.proofs.FeedingLemmas.{so_fed_next, so_fed_kept}
-use Rattle.console.proofs.input.feed_bounded.Goals.{in-Ok+else-count-bytes+in_ok-stopped-in-Ok, in-Err+else-ne}
+use Rattle.console.proofs.FeedingLemmas.{consumes-end, consumes-kept, so_fed_next, so_fed_kept}
 use Rattle.console.proofs.input.feed_bounded.Goals as goal
 
-pub returns-then-count-bytes-clause-fed : goal.returns-then-count-bytes-clause-fed
-returns-then-count-bytes-clause-fed g c = (
-  c.loop.invariant.so.given ++ take c.in-Ok.count c.read.new.buf,
-  consumes-then _ _ _ _ _ c.loop.invariant.so.lost c.in-Ok.ensures.bytes.0,
-  simp (length-append, length-take-le) (omega (arith, c.in-Ok.ensures.bound, c.loop.invariant.so.count)),
-  simp (length-append, length-take-le) (omega (arith, c.in-Ok.ensures.bound, c.loop.invariant.so.count, c.loop.invariant.within)),
+pub returns-then-taken-bytes-clause-fed : goal.returns-then-taken-bytes-clause-fed
+returns-then-taken-bytes-clause-fed g c = (
+  c.loop-block.invariant.so.given ++ take c.in-Bytes.count c.read.new.buffer,
+  consumes-then _ _ _ _ _ c.loop-block.invariant.so.lost c.in-Bytes.ensures.3,
+  omega (arith, length-append c.loop-block.invariant.so.given (take c.in-Bytes.count c.read.new.buffer), length-take-le c.in-Bytes.count c.read.new.buffer c.in-Bytes.ensures.2, c.loop-block.invariant.so.count, c.in-Bytes.ensures.0.1),
+  omega (arith, length-append c.loop-block.invariant.so.given (take c.in-Bytes.count c.read.new.buffer), length-take-le c.in-Bytes.count c.read.new.buffer c.in-Bytes.ensures.2, c.in-Bytes.ensures.2, c.loop-block.invariant.so.count, c.loop-block.invariant.within),
 )
 
-pub returns-then-count-bytes-clause-taken : goal.returns-then-count-bytes-clause-taken
-returns-then-count-bytes-clause-taken g c =
-    (c.loop.invariant.so.given ++ take c.in-Ok.count c.read.new.buf, consumes-then _ _ _ _ _ c.loop.invariant.so.lost c.in-Ok.ensures.bytes.0)
+pub returns-then-taken-bytes-clause-taken : goal.returns-then-taken-bytes-clause-taken
+returns-then-taken-bytes-clause-taken g c =
+    (c.loop-block.invariant.so.given ++ take c.in-Bytes.count c.read.new.buffer, consumes-then _ _ _ _ _ c.loop-block.invariant.so.lost c.in-Bytes.ensures.3)
 
-pub returns-in_err-stopped-in-Ok-clause-taken : goal.returns-in_err-stopped-in-Ok-clause-taken
-returns-in_err-stopped-in-Ok-clause-taken g c =
-    (c.loop.invariant.so.given ++ take c.in-Ok.count c.read.new.buf, consumes-then _ _ _ _ _ c.loop.invariant.so.lost c.in-Ok.ensures.bytes.0)
+pub returns-in_err-stopped-in-Bytes-clause-taken : goal.returns-in_err-stopped-in-Bytes-clause-taken
+returns-in_err-stopped-in-Bytes-clause-taken g c =
+    (c.loop-block.invariant.so.given ++ take c.in-Bytes.count c.read.new.buffer, consumes-then _ _ _ _ _ c.loop-block.invariant.so.lost c.in-Bytes.ensures.3)
 
-pub loop-preserved : goal.loop-preserved
-loop-preserved g c = elim c.match-read.branch [
-  | in-Ok+else-count-bytes+in_ok-stopped-in-Ok w ↦ rw (w.feed-is, w.taken-is, w.stopped-is) (record {
-    so = so_fed_next _ _ _ _ _ _ _ (take w.in-Ok.count c.read.new.buf) c.loop.invariant.so w.in-Ok.ensures.bytes.0 (omega (arith, w.in-Ok.ensures.bound)) (omega arith) w.in_ok-stopped-in-Ok.ensures.holds;
-    within = omega (arith, c.loop.invariant.within);
-    fault = w.in_ok-stopped-in-Ok.ensures.stopped;
-    memory = λ before. w.in_ok-stopped-in-Ok.ensures.memory (c.loop.invariant.memory before);
-  })
-  | in-Err+else-ne w ↦ rw (w.feed-is, w.taken-is, w.stopped-is) (record { so = so_fed_kept _ _ _ _ _ c.loop.invariant.so w.in-Err.ensures.bytes; within = c.loop.invariant.within; fault = c.loop.invariant.fault; memory = c.loop.invariant.memory })
-]
+pub loop-block-preserved-in-Bytes : goal.loop-block-preserved-in-Bytes
+loop-block-preserved-in-Bytes g c = record {
+  good = c.in-Bytes.ensures.0.3;
+  open_end = c.in-Bytes.ensures.0.2;
+  so = so_fed_next _ _ _ _ _ _ _ (take c.in-Bytes.count c.read.new.buffer) c.loop-block.invariant.so c.in-Bytes.ensures.3
+      (omega (arith, length-take-le c.in-Bytes.count c.read.new.buffer c.in-Bytes.ensures.2, c.in-Bytes.ensures.0.1)) (omega arith) c.in_ok-stopped-in-Bytes.ensures.holds;
+  within = omega arith;
+  fault = c.in_ok-stopped-in-Bytes.ensures.stopped;
+  memory = λ before. c.in_ok-stopped-in-Bytes.ensures.memory (c.loop-block.invariant.memory before);
+}
+
+pub loop-block-preserved : goal.loop-block-preserved
+loop-block-preserved g c = record {
+  good = c.in-Again.ensures.0.3;
+  open_end = c.in-Again.ensures.0.2;
+  so = so_fed_kept _ _ _ _ _ _ c.loop-block.invariant.so c.in-Again.ensures.1 (omega (arith, c.in-Again.ensures.0.1));
+  within = omega (arith, c.in-Again.ensures.0.1, c.loop-block.invariant.within);
+  fault = c.loop-block.invariant.fault;
+  memory = c.loop-block.invariant.memory;
+}
+
+pub returns-in-End-clause-fed : goal.returns-in-End-clause-fed
+returns-in-End-clause-fed g c = (
+  c.loop-block.invariant.so.given,
+  consumes-end _ _ _ _ c.loop-block.invariant.so.lost c.in-End.ensures.1,
+  c.loop-block.invariant.so.holds,
+  c.in-End.ensures.2,
+  omega (arith, c.loop-block.invariant.so.count, c.loop-block.invariant.within),
+  c.loop-block.invariant.memory,
+)
+
+pub returns-in-Failed-clause-taken : goal.returns-in-Failed-clause-taken
+returns-in-Failed-clause-taken g c = (c.loop-block.invariant.so.given, consumes-kept _ _ _ _ c.loop-block.invariant.so.lost c.in-Failed.ensures.1)

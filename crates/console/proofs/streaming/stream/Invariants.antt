@@ -1,11 +1,16 @@
-use Rattle.std.proofs.Common.{◌≡◌, [], string_bytes}
+use Rattle.std.proofs.Common.{◌≡◌, ◌+◌, ◌*◌, ◌≤◌, [], false, string_bytes}
+use Rattle.console.specs.declared.streaming.TheConstants.{STREAM_READS}
 use Rattle.console.specs.Streaming.{is_capture}
 use Rattle.console.proofs.StreamingLemmas.{Streamed}
 use Rattle.console.proofs.streaming.stream.Given as goal
 
 abbrev pub invariant-loop-turn : goal.invariant-loop-turn
 invariant-loop-turn g l = record {
-  so : Streamed l.program (is_capture l.initial.source) (g.R.Read.remaining l.initial.reader) (g.R.Read.remaining l.reader) (g.W.Write.contents l.initial.writer) (g.W.Write.contents l.writer) l.source l._turn;
+  so : Streamed l.program (is_capture l.initial.source) (g.R.Read.remaining l.initial.reader.inner) (g.R.Read.remaining l.reader.inner) (g.W.Write.contents l.initial.writer.inner) (g.W.Write.contents l.writer.inner) l.source l._turn;
+  left : l.reader.left + l._turn ≡ STREAM_READS;
+  few : l.reader.taken ≤ 65536 * l._turn;
+  open_end : (l.reader.ended ≡ false) × (l.reader.failed ≡ false);
+  good : l.writer.failed ≡ false;
   none : l.outcomes.items ≡ [];
   empty : string_bytes l.text ≡ [];
 }

@@ -9,30 +9,33 @@ use Rattle.mk_script.specs.declared.script.Item.{Item}
 use Rattle.sim_engine.proofs.running.perform_all.Goals as goal
 
 pub returns-in_err-requests-clause-part : goal.returns-in_err-requests-clause-part
-returns-in_err-requests-clause-part g c = λ failed. ([], c.args.items.now, refl, just c.args.world.now, [], [], (refl, refl), appends-nothing (g.W.Write.contents c.args.writer.now))
+returns-in_err-requests-clause-part g c = λ failed. ([], c.args.items.now, refl, just c.args.world.now, [], [], (refl, refl), appends-nothing (g.W.Write.contents c.args.writer.now.inner))
 
 pub returns-in_err-perform-clause-part : goal.returns-in_err-perform-clause-part
-returns-in_err-perform-clause-part g c = λ failed. (take c.loop-item.item-index c.args.items.now, drop c.loop-item.item-index c.args.items.now, halves c.args.items.now c.loop-item.item-index, sim c.loop-item.world c.loop-item.requests, c.loop-item.invariant.written, c.loop-item.text.items, c.loop-item.invariant.performs, c.loop-item.invariant.appends)
+returns-in_err-perform-clause-part g c = λ failed. (take c.loop-item.item-index c.args.items.now, drop c.loop-item.item-index c.args.items.now, halves c.args.items.now c.loop-item.item-index, sim c.loop-item.world c.loop-item.requests, c.loop-item.invariant.printed.written, c.loop-item.text.items, c.loop-item.invariant.printed.performs, c.loop-item.invariant.printed.appends)
 
 pub loop-item-preserved : goal.loop-item-preserved
 loop-item-preserved g c =
     let e = c.in_ok-perform.ensures in
     let at = get_at c.args.items.now c.loop-item.item-index c.item-item.result (omega (arith, c.loop-item-test.true)) c.item-item.is in
     let one = printed_one (just c.args.world.now) (sim c.loop-item.world c.loop-item.requests) (sim c.perform.new.world c.perform.new.requests) (take c.loop-item.item-index c.args.items.now) c.item-item.result
-    (g.W.Write.contents c.args.writer.now) (g.W.Write.contents c.loop-item.writer) c.loop-item.text.items c.perform.new.text.items e.0 c.loop-item.invariant e.1 e.2 in
-    printed_wrote (just c.args.world.now) (sim c.perform.new.world c.perform.new.requests) (take (c.loop-item.item-index + 1) c.args.items.now) (g.W.Write.contents c.args.writer.now) (g.W.Write.contents c.loop-item.writer)
-    (g.W.Write.contents c.write_block.new.writer) c.perform.new.text.items c.write_block.new.text.items
-    (subst (λ (done : List Item). Printed (just c.args.world.now) done (sim c.perform.new.world c.perform.new.requests) (g.W.Write.contents c.args.writer.now) (g.W.Write.contents c.loop-item.writer) c.perform.new.text.items)
-    (sym (take_one c.args.items.now c.loop-item.item-index c.item-item.result at)) one)
-    c.in_ok-write_block.ensures.written
+    (g.W.Write.contents c.args.writer.now.inner) (g.W.Write.contents c.loop-item.writer.inner) c.loop-item.text.items c.perform.new.text.items e.0 c.loop-item.invariant.printed e.1 e.2 in
+    record {
+      good = c.in_ok-write_block.ensures.good;
+      printed = printed_wrote (just c.args.world.now) (sim c.perform.new.world c.perform.new.requests) (take (c.loop-item.item-index + 1) c.args.items.now) (g.W.Write.contents c.args.writer.now.inner) (g.W.Write.contents c.loop-item.writer.inner)
+          (g.W.Write.contents c.write_block.new.writer.inner) c.perform.new.text.items c.write_block.new.text.items
+          (subst (λ (done : List Item). Printed (just c.args.world.now) done (sim c.perform.new.world c.perform.new.requests) (g.W.Write.contents c.args.writer.now.inner) (g.W.Write.contents c.loop-item.writer.inner) c.perform.new.text.items)
+          (sym (take_one c.args.items.now c.loop-item.item-index c.item-item.result at)) one)
+          c.in_ok-write_block.ensures.written;
+    }
 
 pub returns-clause-shown : goal.returns-clause-shown
 returns-clause-shown g c =
     on_ok c.write_bytes.result c.write_bytes.ensures.written (λ wrote. (
       sim c.loop-item.world c.loop-item.requests,
-      c.loop-item.invariant.written ++ c.loop-item.text.items,
-      subst (λ (done : List Item). Performs (just c.args.world.now) done (sim c.loop-item.world c.loop-item.requests) (c.loop-item.invariant.written ++ c.loop-item.text.items))
-          (take_all c.loop-item.item-index c.args.items.now (omega (arith, c.loop-item-test.false))) c.loop-item.invariant.performs,
-      appends-then (g.W.Write.contents c.args.writer.now) (g.W.Write.contents c.loop-item.writer) (g.W.Write.contents c.write_bytes.new.writer) c.loop-item.invariant.written c.loop-item.text.items c.loop-item.invariant.appends
-          (subst (Appends (g.W.Write.contents c.loop-item.writer) (g.W.Write.contents c.write_bytes.new.writer)) c.as_slice.ensures.value wrote),
+      c.loop-item.invariant.printed.written ++ c.loop-item.text.items,
+      subst (λ (done : List Item). Performs (just c.args.world.now) done (sim c.loop-item.world c.loop-item.requests) (c.loop-item.invariant.printed.written ++ c.loop-item.text.items))
+          (take_all c.loop-item.item-index c.args.items.now (omega (arith, c.loop-item-test.false))) c.loop-item.invariant.printed.performs,
+      appends-then (g.W.Write.contents c.args.writer.now.inner) (g.W.Write.contents c.loop-item.writer.inner) (g.W.Write.contents c.write_bytes.new.writer.inner) c.loop-item.invariant.printed.written c.loop-item.text.items c.loop-item.invariant.printed.appends
+          (subst (Appends (g.W.Write.contents c.loop-item.writer.inner) (g.W.Write.contents c.write_bytes.new.writer.inner)) c.as_slice.ensures.value wrote),
     ))

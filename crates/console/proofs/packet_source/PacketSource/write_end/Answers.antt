@@ -1,7 +1,7 @@
 use Rattle.std.proofs.Common.{[], arith}
 use Rattle.console.proofs.KnownBytesLemmas.{appends-nothing}
 use Rattle.console.proofs.StreamingLemmas.{bad_left, nothing_left, left_by, capture_end, capture_left_by, capture_status}
-use Rattle.console.proofs.source.Source.write_end.Goals as goal
+use Rattle.console.proofs.packet_source.PacketSource.write_end.Goals as goal
 
 pub returns-in_err-write_bad_line-in-Lines-clause-left : goal.returns-in_err-write_bad_line-in-Lines-clause-left
 returns-in_err-write_bad_line-in-Lines-clause-left g c =
@@ -16,11 +16,11 @@ returns-in_err-fault-in-Capture-clause-left g c =
 
 pub returns-in_ok-fault-in-Capture-clause-shown : goal.returns-in_ok-fault-in-Capture-clause-shown
 returns-in_ok-fault-in-Capture-clause-shown g c =
-    capture_end c.write_ending.result c.args.self.now c.in-Capture.feed c.args.stopped c.in_ok-fault-in-Capture.fault _ _ _ c.in-Capture.is c.requires c.in_ok-fault-in-Capture.ensures.ends c.write_ending.ensures.shown
+    capture_end c.write_ending.result c.args.self.now c.in-Capture.feed c.args.stopped c.in_ok-fault-in-Capture.fault _ _ _ c.in-Capture.is c.requires.empty c.in_ok-fault-in-Capture.ensures.ends c.write_ending.ensures.shown
 
 pub returns-in_ok-fault-in-Capture-clause-left : goal.returns-in_ok-fault-in-Capture-clause-left
 returns-in_ok-fault-in-Capture-clause-left g c =
-    capture_left_by c.write_ending.result c.args.self.now c.in-Capture.feed c.args.stopped c.in_ok-fault-in-Capture.fault _ _ _ c.in-Capture.is c.requires c.in_ok-fault-in-Capture.ensures.ends c.write_ending.ensures.front
+    capture_left_by c.write_ending.result c.args.self.now c.in-Capture.feed c.args.stopped c.in_ok-fault-in-Capture.fault _ _ _ c.in-Capture.is c.requires.empty c.in_ok-fault-in-Capture.ensures.ends c.write_ending.ensures.front
 
 pub returns-in_ok-fault-in-Capture-clause-status : goal.returns-in_ok-fault-in-Capture-clause-status
 returns-in_ok-fault-in-Capture-clause-status g c =

@@ -1,7 +1,7 @@
 use Rattle.std.proofs.Common.{arith}
 use Rattle.pcap_reader.proofs.FeedLemmas.{are_bytes}
 use Rattle.console.proofs.SourceLemmas.{lines_run, capture_run}
-use Rattle.console.proofs.source.Source.run.Goals as goal
+use Rattle.console.proofs.packet_source.PacketSource.run.Goals as goal
 
 pub returns-in-Lines-clause-runs : goal.returns-in-Lines-clause-runs
 returns-in-Lines-clause-runs c = lines_run c.run_piece.result c.args.program.now c.args.piece.now c.args.self.now c.in-Lines.lines c.run_piece.new.self _ _ c.in-Lines.is c.run_piece.ensures

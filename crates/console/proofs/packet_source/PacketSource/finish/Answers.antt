@@ -1,5 +1,5 @@
 use Rattle.console.proofs.SourceLemmas.{lines_finish, capture_finish}
-use Rattle.console.proofs.source.Source.finish.Goals as goal
+use Rattle.console.proofs.packet_source.PacketSource.finish.Goals as goal
 
 pub returns-in-Lines-clause-runs : goal.returns-in-Lines-clause-runs
 returns-in-Lines-clause-runs c = lines_finish c.finish.result c.args.program.now c.args.self.now c.in-Lines.lines c.finish.new.self _ _ c.in-Lines.is c.finish.ensures

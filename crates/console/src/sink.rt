@@ -1,0 +1,58 @@
+//! What an engine writes to.
+
+ghost use Rattle.std.specs.Prelude.{◌≡◌, ◌≢◌, [], false};
+
+use std::io::{ErrorKind, Write};
+
+/// A writer, with a record of whether a write failed. Only `write` writes the record.
+#[derive(Drop)]
+pub struct Sink<W> {
+    inner: W,
+    /// Whether a write failed, other than by an interruption.
+    failed: bool,
+}
+
+impl<W> Sink<W> {
+    /// A sink to which nothing was written.
+    pub fn new(inner: W) -> Sink<W>
+        ensures { result ≡ record { inner = inner; failed = false } }
+    {
+        Sink {
+            inner,
+            failed: false,
+        }
+    }
+
+    /// The writer.
+    pub fn inner(&self) -> &W
+        ensures { result.now ≡ self.now.inner }
+    {
+        &self.inner
+    }
+}
+
+impl<W: Write> Sink<W> {
+    ghost use Rattle.console.specs.Devices.{HasWritten};
+
+    /// Writes bytes of the front, and says how many, or `None` where it failed. An interrupted write is tried again. No write
+    /// follows one that failed.
+    pub fn write(&mut self, bytes: &[u8]) -> Option<usize>
+        requires good { self.old.failed ≡ false }
+        requires some { bytes.now ≢ [] }
+        ensures { HasWritten W.contents self.old self.new bytes.now result }
+    {
+        for _ in 0..u64::MAX {
+            match self.inner.write(bytes) {
+                Ok(0) => break,
+                Ok(count) => return Some(count),
+                Err(error) => {
+                    if error.kind() != ErrorKind::Interrupted {
+                        break;
+                    }
+                }
+            }
+        }
+        self.failed = true;
+        None
+    }
+}
