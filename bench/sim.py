@@ -1,12 +1,11 @@
 """Measures `mkdemux sim`: the best of nine runs of each script, by turns.
 
-Usage: sim.py MKDEMUX FOLDER. A script has four cores, 16 filters of 25 instructions at four endpoints, and then lines by turns `rx` and `settle`;
-the packets go to the cores in turn.
+Usage: sim.py MKDEMUX FOLDER, where FOLDER has the program of programs.c, which starts each run. A script has four cores, 16 filters of 25
+instructions at four endpoints, and then lines by turns `rx` and `settle`; the packets go to the cores in turn. Two more have one core: 50,000
+lines that receive one packet of 16 KB, and a replay of a capture of 15 MB, once more with its own output after `trace`.
 """
-import os
 import subprocess
 import sys
-import time
 
 mkdemux, folder = sys.argv[1:3]
 SIZES = (50_000, 100_000, 200_000, 400_000)
@@ -28,13 +27,24 @@ def script(lines):
     return "\n".join(text) + "\n"
 
 
-def run(name):
-    with open(name, "rb") as source, open(os.devnull, "wb") as sink:
-        begin = time.perf_counter()
-        child = subprocess.Popen([mkdemux, "sim"], stdin=source, stdout=sink)
-        _, status, usage = os.wait4(child.pid, 0)
-        assert status == 0
-        return time.perf_counter() - begin, usage.ru_utime + usage.ru_stime, usage.ru_maxrss / 1024
+def run(name, *files):
+    """Seconds of wall time and of processor time, and the peak memory in MB."""
+    words = [f"{folder}/programs", name, mkdemux, "sim", *files]
+    wall, cpu, peak = subprocess.run(words, stdout=subprocess.PIPE, check=True).stdout.split()
+    return float(wall) / 1e6, float(cpu) / 1e6, int(peak) / 1024
+
+
+def capture(size, each):
+    """A capture of about so many bytes, of packets of so many bytes each."""
+    record = b"".join(n.to_bytes(4, "little") for n in (0, 0, each, each)) + b"\0" * each
+    head = b"\xd4\xc3\xb2\xa1\2\0\4\0" + b"\0" * 8 + b"\0\0\4\0\1\0\0\0"
+    return head + record * (size // len(record))
+
+
+def write(name, data):
+    with open(f"{folder}/{name}", "wb") as out:
+        out.write(data)
+    return f"{folder}/{name}"
 
 
 best = {lines: [9e9, 9e9, 0.0] for lines in SIZES}
@@ -50,3 +60,19 @@ print("|---|---|---|---|---|")
 for lines in SIZES:
     wall, cpu, peak = best[lines]
     print(f"| {lines} | {wall * 1e3:.0f} | {cpu * 1e3:.0f} | {wall * 1e9 / lines:.0f} | {peak:.0f} |")
+
+named = write("named.script", b"cores 100\npacket p " + b"00" * 16384 + b"\n" + b"rx 0 p\n" * 50_000)
+print("| Script | size, MB | wall, ms | peak, MB |")
+print("|---|---|---|---|")
+wall, _, peak = run(named)
+print(f"| 50,000 lines of one packet of 16 KB | 0.4 | {wall * 1e3:.0f} | {peak:.1f} |")
+replay = b"cores 100\ncapture c 1\nreplay c\n"
+for each in (60, 218, 1500):
+    file = write(f"capture{each}", capture(15_000_000, each))
+    script_file = write("replay.script", replay)
+    wall, _, peak = run(script_file, file)
+    print(f"| a replay of packets of {each} bytes | 15 | {wall * 1e3:.0f} | {peak:.1f} |")
+    with open(script_file, "rb") as source:
+        printed = subprocess.run([mkdemux, "sim", file], stdin=source, stdout=subprocess.PIPE, check=True).stdout
+    wall, _, peak = run(write("trace.script", replay + b"trace\n" + printed), file)
+    print(f"| its trace | {15 + len(printed) / 1e6:.0f} | {wall * 1e3:.0f} | {peak:.1f} |")

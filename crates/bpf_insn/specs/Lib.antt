@@ -5,3 +5,4 @@ pub mod Ddd
 pub mod Parts
 pub mod DddText
 pub mod AsmText
+pub mod Machine

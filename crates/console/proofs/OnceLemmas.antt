@@ -12,7 +12,7 @@ use Rattle.bpf_insn.proofs.DddLaws.{one_program}
 use Rattle.bpf_insn.proofs.Places.{FormAt-inside}
 use Rattle.filter_asm.proofs.LawLemmas.{none_stands_for_two}
 use Rattle.filter_vm.specs.declared.machine.Outcome.{Outcome}
-use Rattle.filter_vm.specs.Machine.{Packet, Ends}
+use Rattle.bpf_insn.specs.Machine.{Packet, Ends}
 use Rattle.filter_vm.proofs.Unique.{Ends-same}
 use Rattle.pcap_reader.specs.declared.capture.Header.{Header}
 use Rattle.pcap_reader.specs.declared.capture.Packet.{Packet as Captured}

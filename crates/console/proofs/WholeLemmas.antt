@@ -8,7 +8,7 @@ use Rattle.hex.specs.Hex.{decode_of}
 use Rattle.bpf_insn.specs.declared.insn.Insn.{Insn}
 use Rattle.filter_verify.specs.Rules.{Sound}
 use Rattle.filter_vm.specs.declared.machine.Outcome.{Outcome}
-use Rattle.filter_vm.specs.Machine.{Packet}
+use Rattle.bpf_insn.specs.Machine.{Packet}
 use Rattle.filter_vm.proofs.Totality.{has_end}
 use Rattle.pcap_reader.specs.declared.capture.Packet.{Packet as Captured}
 use Rattle.pcap_reader.specs.declared.capture.CaptureFault.{CaptureFault}

@@ -7,7 +7,7 @@ use Rattle.std.specs.Io.KnownBytes.{Consumes}
 use Rattle.hex.specs.Hex.{decode_of}
 use Rattle.bpf_insn.specs.declared.insn.Insn.{Insn}
 use Rattle.filter_vm.specs.declared.machine.Outcome.{Outcome}
-use Rattle.filter_vm.specs.Machine.{Packet, Ends}
+use Rattle.bpf_insn.specs.Machine.{Packet, Ends}
 use Rattle.pcap_reader.specs.declared.capture.Header.{Header}
 use Rattle.pcap_reader.specs.declared.capture.Packet.{Packet as Captured}
 use Rattle.pcap_reader.specs.declared.capture.CaptureFault.{CaptureFault}

@@ -1,10 +1,10 @@
 -- Where the cores of a machine end, and what holds of their histories.
 use Rattle.std.proofs.Common.{◌≡◌, ◌-◌, ℕ, zero, suc, List, ◌∷◌, length, map, Some, slice_get, sym, ap, ◌∙◌, subst, arith}
 use Rattle.std.proofs.lemmas.List.{length-map}
-use Rattle.table_replica.specs.declared.Op.{Op}
-use Rattle.table_replica.specs.Tables.{State, table}
+use Rattle.filter_table.specs.declared.operation.Op.{Op}
+use Rattle.filter_table.specs.Tables.{State, table}
 use Rattle.table_replica.specs.Shown.{ReplicaState}
-use Rattle.table_replica.proofs.Tables.{table_version}
+use Rattle.filter_table.proofs.Tables.{table_version}
 use Rattle.monitor_2pc.specs.Coordinators.{Idle}
 use Rattle.core_links.specs.Views.{LinkView}
 use Rattle.core_links.specs.RingSlots.{ring_view}

@@ -2,7 +2,7 @@
 use Rattle.std.proofs.Common.{slice_index_or, ◌≡◌, ◌<◌, ◌≤◌, ◌⊎◌, inl, inr, ℕ, zero, suc, Some, List, [], ◌∷◌, ◌++◌, length, slice_get, slice_set, refl, sym, ap, subst, ◌∙◌, arith, append_assoc}
 use Rattle.std.proofs.lemmas.List.{length-map, map-append, append-nil}
 use Rattle.std.specs.Borrow.{Bor}
-use Rattle.world_model.specs.declared.event.Done.{Done}
+use Rattle.world_events.specs.declared.event.Done.{Done}
 use Rattle.world_model.proofs.Lists.{get_at, get_within, get-set_same, get-set_other, length-slice_set, same_or_not}
 use Rattle.world_histories.specs.declared.history.Stamped.{Stamped}
 use Rattle.world_histories.specs.Merging.{core_of, part, IsBefore, IsInOrder, Merged, listed, as_listed}

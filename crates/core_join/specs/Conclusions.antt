@@ -1,11 +1,11 @@
 -- What the joined cores of one machine did.
 use Rattle.std.specs.Prelude.{◌≡◌, ◌++◌, ℕ, List, ◌∷◌, length, map, Some, slice_get, Vec}
 use Rattle.std.specs.Global.{Global}
-use Rattle.table_replica.specs.declared.Op.{Op}
-use Rattle.table_replica.specs.Tables.{table}
-use Rattle.monitor_messages.specs.declared.message.Decision.{Decision}
+use Rattle.filter_table.specs.declared.operation.Op.{Op}
+use Rattle.filter_table.specs.Tables.{table}
+use Rattle.filter_table.specs.declared.decision.Decision.{Decision}
 use Rattle.monitor_2pc.specs.Coordinators.{Idle}
-use Rattle.world_model.specs.declared.event.Answer.TheVariants.{TookReply}
+use Rattle.world_events.specs.declared.event.Answer.TheVariants.{TookReply}
 use Rattle.world_histories.specs.declared.history.Stamped.{Stamped}
 use Rattle.world_histories.specs.Histories.{Core0, Other, Computation}
 use Rattle.world_histories.specs.Merging.{Merged, IsRun}

@@ -1,7 +1,7 @@
 -- One list of the events of all cores.
 use Rattle.std.specs.Prelude.{◌≡◌, ◌<◌, ◌≤◌, ◌⊎◌, ℕ, Some, List, [], ◌∷◌, map, slice_get}
 use Rattle.std.specs.Borrow.{Bor}
-use Rattle.world_model.specs.declared.event.Done.{Done}
+use Rattle.world_events.specs.declared.event.Done.{Done}
 use Rattle.world_histories.specs.declared.history.Stamped.{Stamped}
 use Rattle.world_histories.specs.Histories.{Core0, Other, Computation}
 use Rattle.world_histories.specs.Merging.{Merged, IsRun, as_listed, listed}

@@ -6,10 +6,10 @@ ghost use Rattle.core_join.specs.Conclusions.{listed_histories};
 ghost use Rattle.core_join.specs.Merges.{ListsAll, ListsRuns, NoneLeft, IsLeast, shown_histories, shown_list};
 
 use crate::conclusion::Histories;
-use monitor_messages::Vote;
+use filter_table::Vote;
 use std::alloc::{AllocError, Global};
+use world_events::{Answer, Done, Event};
 use world_histories::Stamped;
-use world_model::{Answer, Done, Event};
 
 /// All events of the histories, by stamp and then by core. Where the histories are a computation, as those that `conclude` gives
 /// are, the list is a run of the machine, once a take that voted NoMemory has its `short` set, as `merge` sets it. The one error
@@ -52,7 +52,7 @@ fn copy_listed(alloc: Global, events: &[&Stamped]) -> Result<Vec<Done>, AllocErr
 {
     let mut copies = Vec::with_capacity(alloc, events.len())?;
     for event in events {
-        copies.push(listed_copy(alloc, event)?)?;
+        copies.push(listed_copy(event)?)?;
     }
     Ok(copies)
 }
@@ -76,11 +76,27 @@ fn least(left: &[&[Stamped]]) -> Option<usize>
     Some(core)
 }
 
+// The clone of an event is equal to it.
+fn equal_event(event: &Event) -> Result<Event, AllocError>
+    ensures { IfOk result (λ equal. equal ≡ event.now) }
+{
+    event.clone()
+}
+
+// The clone of an answer is equal to it.
+fn equal_answer(answer: &Answer) -> Result<Answer, AllocError>
+    ensures { IfOk result (λ equal. equal ≡ answer.now) }
+{
+    answer.clone()
+}
+
 // The event as the list has it.
-fn listed_copy(alloc: Global, stamped: &Stamped) -> Result<Done, AllocError>
+fn listed_copy(stamped: &Stamped) -> Result<Done, AllocError>
     ensures { IfOk result (λ done. done ≡ listed stamped.now) }
 {
-    let mut done = stamped.done.copy(alloc)?;
+    let event = equal_event(&stamped.done.event)?;
+    let answer = equal_answer(&stamped.done.answer)?;
+    let mut done = Done { event, answer };
     if let Event::Take { short, .. } = &mut done.event {
         if let Answer::TookPrepare {
             vote: Vote::NoMemory,

@@ -2,14 +2,14 @@
 use Rattle.std.proofs.Common.{length, ◌≡◌, ◌≤◌, ◌-◌, ◌+◌, ◌∙◌, ℕ, suc, max, List, [], ◌∷◌, ◌++◌, refl, sym, ap, subst, arith}
 use Rattle.std.specs.Prelude.{Option, Some, None, Result, Ok, Err, IfOk}
 use Rattle.core_links.specs.Views.{LinkView}
-use Rattle.table_replica.specs.declared.Op.{Op}
+use Rattle.filter_table.specs.declared.operation.Op.{Op}
 use Rattle.table_replica.specs.Shown.{ReplicaState}
-use Rattle.table_replica.specs.Tables.{State, table}
-use Rattle.table_replica.proofs.Tables.{table_version}
+use Rattle.filter_table.specs.Tables.{State, table}
+use Rattle.filter_table.proofs.Tables.{table_version}
 use Rattle.pcap_reader.specs.declared.capture.Packet.{Packet}
-use Rattle.world_model.specs.declared.event.Event.{Event}
-use Rattle.world_model.specs.declared.event.Event.TheVariants.{Rx}
-use Rattle.world_model.specs.declared.event.Answer.{Answer}
+use Rattle.world_events.specs.declared.event.Event.{Event}
+use Rattle.world_events.specs.declared.event.Event.TheVariants.{Rx}
+use Rattle.world_events.specs.declared.event.Answer.{Answer}
 use Rattle.world_model.specs.Cases.{nothing, sent_up, ReceivesAt}
 use Rattle.world_histories.specs.declared.history.Stamped.{Stamped}
 use Rattle.world_histories.specs.Histories.{Stamping, taking, Does0, DoesOther}

@@ -7,8 +7,8 @@ use Rattle.std.specs.Global.{Global}
 use Rattle.core_loop.specs.Sending.{IsReplyReady}
 use Rattle.std.proofs.lemmas.List.{append-nil}
 use Rattle.core_links.specs.Views.{LinkView, first_of, GivenUp, Pumped, Pulled}
-use Rattle.world_model.specs.declared.event.Event.TheVariants.{Take}
-use Rattle.world_model.specs.declared.event.Answer.{Answer}
+use Rattle.world_events.specs.declared.event.Event.TheVariants.{Take}
+use Rattle.world_events.specs.declared.event.Answer.{Answer}
 use Rattle.monitor_messages.specs.declared.message.Message.{Message}
 use Rattle.world_model.specs.Cases.{Outgoing, sent_up}
 use Rattle.world_model.proofs.Lists.{same_or_not}

@@ -1,14 +1,14 @@
 -- In what order a core does its events.
 use Rattle.std.proofs.Common.{◌≡◌, ◌≢◌, ◌<◌, ◌⊎◌, inl, inr, ℕ, Bool, false, Option, Some, None, List, [], ◌∷◌, ◌+◌, refl, sym, ap, subst, arith}
 use Rattle.std.specs.Prelude.{Result, Ok, Err}
-use Rattle.table_replica.specs.declared.Op.{Op}
+use Rattle.filter_table.specs.declared.operation.Op.{Op}
 use Rattle.rx_queue.specs.declared.job.Job.{Job}
 use Rattle.monitor_messages.specs.declared.message.Message.{Message}
 use Rattle.monitor_messages.specs.declared.message.Message.TheVariants as message
 use Rattle.monitor_messages.specs.Coding.{Coded}
 use Rattle.monitor_messages.proofs.Messages.{coded_once}
-use Rattle.world_model.specs.declared.event.Event.{Event}
-use Rattle.world_model.specs.declared.event.Event.TheVariants.{Start, StartFor, Submit, Take, Rx}
+use Rattle.world_events.specs.declared.event.Event.{Event}
+use Rattle.world_events.specs.declared.event.Event.TheVariants.{Start, StartFor, Submit, Take, Rx}
 use Rattle.world_model.proofs.Lists.{same_or_not}
 use Rattle.world_histories.specs.Histories.{Stamping}
 use Rattle.world_histories.specs.declared.history.Stamped.{Stamped}

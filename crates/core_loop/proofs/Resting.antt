@@ -1,8 +1,8 @@
 -- A core whose turn did one event, or none.
 use Rattle.std.proofs.Common.{◌≡◌, ◌⊎◌, inl, inr, ◌∙◌, ℕ, zero, suc, All, List, [], ◌∷◌, ◌++◌, sym, ap, subst, arith, append_assoc}
 use Rattle.std.proofs.lemmas.List.{append-nil}
-use Rattle.table_replica.specs.declared.Op.{Op}
-use Rattle.monitor_messages.specs.Coding.{HasShortProgram}
+use Rattle.filter_table.specs.declared.operation.Op.{Op}
+use Rattle.filter_table.specs.Tables.{HasShortProgram}
 use Rattle.world_histories.specs.declared.history.Stamped.{Stamped}
 use Rattle.world_histories.specs.Histories.{Stamping}
 use Rattle.std.specs.Prelude.{Result, Ok, Err, OnOk, IfErr}

@@ -7,8 +7,8 @@ use Rattle.world_model.specs.Cases.{Outgoing, sent_up}
 use Rattle.world_histories.specs.declared.history.Stamped.{Stamped}
 use Rattle.world_histories.specs.Histories.{Stamping, for_entry, with_stamp, sent_to, sent_by, taking, taken_from, Core0, core0_first, Step0, Other, other_first, StepOther}
 use Rattle.world_histories.proofs.More.{history0_more, history_other_more, sent_to-append, sent_by-append, taken_from-append}
-use Rattle.table_replica.specs.Tables.{opening, table}
-use Rattle.table_replica.proofs.Tables.{table_whole}
+use Rattle.filter_table.specs.Tables.{opening, table}
+use Rattle.filter_table.proofs.Tables.{table_whole}
 use Rattle.monitor_2pc.specs.Coordinators.{no_requests}
 use Rattle.monitor_2pc.specs.Participants.{at_first}
 use Rattle.world_model.specs.Worlds.{idle_at_first}

@@ -1,14 +1,14 @@
 -- A step of a core's parts is Event's case from each state that it stands in.
 use Rattle.std.proofs.Common.{◌≡◌, ◌∙◌, ◌+◌, ℕ, suc, max, true, false, Bool, Option, None, Some, List, length, refl, ap, sym, subst, arith}
-use Rattle.table_replica.specs.declared.Op.{Op}
-use Rattle.table_replica.specs.Tables.{State, table}
-use Rattle.table_replica.proofs.Tables.{table_next, table_version}
+use Rattle.filter_table.specs.declared.operation.Op.{Op}
+use Rattle.filter_table.specs.Tables.{State, table}
+use Rattle.filter_table.proofs.Tables.{table_next, table_version}
 use Rattle.monitor_2pc.specs.Places.{after_commit}
 use Rattle.monitor_2pc.specs.Coordinators.{CoordinatorPlace, Requests, Phase, Idle, Voting, Acking, StagedByPhase, coordinator_place}
 use Rattle.monitor_2pc.specs.Participants.{ParticipantPlace}
-use Rattle.world_model.specs.declared.event.Event.TheVariants.{Start, Submit, StartFor, Take}
-use Rattle.world_model.specs.declared.event.Answer.{Answer}
-use Rattle.world_model.specs.declared.event.Answer.TheVariants.{Prepared, Decided, Submitted, TookPrepare, TookVote, TookCommit, TookAbort, TookAck, TookSubmit, TookReply, Delivered}
+use Rattle.world_events.specs.declared.event.Event.TheVariants.{Start, Submit, StartFor, Take}
+use Rattle.world_events.specs.declared.event.Answer.{Answer}
+use Rattle.world_events.specs.declared.event.Answer.TheVariants.{Prepared, Decided, Submitted, TookPrepare, TookVote, TookCommit, TookAbort, TookAck, TookSubmit, TookReply, Delivered}
 use Rattle.world_model.specs.Cases.{joined, outgoing, sent_up, StartsAt, StartsForAt, SubmitsAt, TakesUpAt, TakesDownAt}
 use Rattle.world_histories.specs.Histories.{Stamping, tick, Core0, Does0, Other, DoesOther}
 use Rattle.core_steps.specs.declared.core0.Core0.{Core0 as First}

@@ -1,13 +1,13 @@
 -- What contracts see of a core.
 use Rattle.std.specs.Prelude.{◌≡◌, ◌++◌, ℕ, zero, suc, All, List, Option, flat_map, [], ◌∷◌}
-use Rattle.table_replica.specs.declared.Op.{Op}
-use Rattle.monitor_messages.specs.Coding.{HasShortProgram}
+use Rattle.filter_table.specs.declared.operation.Op.{Op}
+use Rattle.filter_table.specs.Tables.{HasShortProgram}
 use Rattle.rx_queue.specs.declared.job.Job.{Job}
 use Rattle.rx_queue.specs.declared.intake.Intake.{Intake}
 use mathlib.Core.List.{IsPrefix}
 use Rattle.rx_queue.specs.Queue.{jobs_seen, jobs_taken, SameIntake}
-use Rattle.world_model.specs.declared.event.Event.{Event}
-use Rattle.world_model.specs.declared.event.Event.TheVariants.{Start, Submit}
+use Rattle.world_events.specs.declared.event.Event.{Event}
+use Rattle.world_events.specs.declared.event.Event.TheVariants.{Start, Submit}
 use Rattle.world_histories.specs.declared.history.Stamped.{Stamped}
 use Rattle.core_links.specs.Views.{LinkView}
 use Rattle.core_loop.specs.declared.part.Part.{Part}

@@ -1,7 +1,7 @@
 -- What a core's fields say of where its history leads.
 use Rattle.std.specs.Prelude.{◌≡◌, ◌-◌, ℕ, suc, List, length}
 use Rattle.table_replica.specs.Shown.{ReplicaState}
-use Rattle.table_replica.specs.Tables.{table}
+use Rattle.filter_table.specs.Tables.{table}
 use Rattle.world_histories.specs.declared.history.Stamped.{Stamped}
 use Rattle.world_histories.specs.Histories.{Core0, Other}
 use Rattle.core_links.specs.Views.{LinkView}

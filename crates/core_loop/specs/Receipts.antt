@@ -5,8 +5,8 @@ use mathlib.Core.List.{IsPrefix}
 use Rattle.rx_queue.specs.declared.job.Job.{Job}
 use Rattle.rx_queue.specs.declared.intake.Intake.{Intake}
 use Rattle.rx_queue.specs.Queue.{jobs_seen}
-use Rattle.world_model.specs.declared.event.Event.{Event}
-use Rattle.world_model.specs.declared.event.Event.TheVariants.{Rx}
+use Rattle.world_events.specs.declared.event.Event.{Event}
+use Rattle.world_events.specs.declared.event.Event.TheVariants.{Rx}
 use Rattle.world_model.specs.Cases.{ReceivesAt}
 use Rattle.world_histories.specs.declared.history.Stamped.{Stamped}
 use Rattle.core_loop.specs.declared.refusal.Refusal.{Refusal}

@@ -1,7 +1,7 @@
 //! The next event of a core, whichever part it has.
 
 ghost use Rattle.std.specs.Prelude.{◌≡◌, ◌≢◌, ◌≤◌, ◌<◌, ◌++◌, [], ℕ, false, IfOk, IfErr, IfSome, IfNone, IsTrue, OnErr, OnOk};
-ghost use Rattle.world_model.specs.declared.event.Event.TheVariants.{Take};
+ghost use Rattle.world_events.specs.declared.event.Event.TheVariants.{Take};
 ghost use mathlib.Core.List.{IsPrefix};
 ghost use Rattle.rx_queue.specs.Queue.{jobs_seen, jobs_taken, SameIntake};
 ghost use Rattle.core_loop.specs.Turning.{IsUnshortened, MayReceive, HaltsFor};
@@ -21,10 +21,10 @@ use crate::receiving::receive;
 use crate::refusal::{Halt, Refusal};
 use crate::{first, other};
 use core_links::Links;
+use filter_table::Op;
 use monitor_messages::{DecodeFault, Message, decode};
 use rx_queue::Intake;
 use std::collections::VecDeque;
-use table_replica::Op;
 use world_histories::Stamped;
 
 /// Begins the next request of a core of this number, if it can.

@@ -1,11 +1,11 @@
 //! The events of core 0.
 
 ghost use Rattle.std.specs.Prelude.{◌≡◌, ◌≢◌, ◌≤◌, ◌<◌, ◌∷◌, ◌++◌, [], ℕ, suc, true, false, Some, IfOk, IfErr, IfSome, IfNone, OnErr, OnOk, slice_get};
-ghost use Rattle.table_replica.specs.declared.Op.{Op as GhostOp};
+ghost use Rattle.filter_table.specs.declared.operation.Op.{Op as GhostOp};
 ghost use Rattle.monitor_2pc.specs.Coordinators.{Idle};
 ghost use Rattle.monitor_2pc.specs.Starting.{WasStaged};
 ghost use Rattle.core_steps.specs.Core0Steps.{BetweenSteps, CanBegin, HasWaiting, start_sends, start_for_sends};
-ghost use Rattle.world_model.specs.declared.event.Event.TheVariants.{Start, StartFor, Take};
+ghost use Rattle.world_events.specs.declared.event.Event.TheVariants.{Start, StartFor, Take};
 ghost use Rattle.core_loop.specs.Carrying.{IsFirst};
 ghost use Rattle.core_loop.specs.Sending.{CanBeSent, IsMade};
 ghost use Rattle.core_loop.specs.Events.{Acts0, CannotTake0, CannotStart0};
@@ -20,12 +20,12 @@ use crate::refusal::{Refusal, next_stamp};
 use crate::sending::{Ready, all_ready, can_carry, make_ready, send};
 use core_links::Links;
 use core_steps::Core0;
+use filter_table::{Op, StageFault};
 use monitor_messages::Message;
 use std::alloc::{AllocError, Global};
 use std::collections::VecDeque;
-use table_replica::{Op, StageFault};
+use world_events::{Done, Event};
 use world_histories::Stamped;
-use world_model::{Done, Event};
 
 /// Takes the first message that is kept of a peer, which this is, with its stamp. Core 0 has so many others.
 pub(crate) fn take<L: Links>(
@@ -140,7 +140,7 @@ fn ready_start(
     ensures made { IfOk result (IsMade others stamp (start_sends core.now op.now fault)) }
     ensures lengths { IfOk result CanBeSent }
 {
-    let outgoing = core.start_sends(alloc, op, fault)?;
+    let outgoing = core.start_sends(op, fault)?;
     make_ready(alloc, stamp, others, &outgoing)
 }
 
@@ -203,7 +203,7 @@ fn ready_start_for(
     ensures made { IfOk result (λ ready. (entry : ℕ) (op : GhostOp) → HasWaiting core.now from entry op → IsMade others stamp (start_for_sends entry core.now op fault) ready) }
     ensures lengths { IfOk result CanBeSent }
 {
-    let outgoing = core.start_for_sends(alloc, from, fault)?;
+    let outgoing = core.start_for_sends(from, fault)?;
     make_ready(alloc, stamp, others, &outgoing)
 }
 

@@ -12,9 +12,9 @@ ghost use Rattle.core_loop.specs.Choosing.{ShowsNothing, IsLeastShowing};
 use crate::first::least_waiting;
 use crate::part::Part;
 use core_links::{LineFault, Links};
+use filter_table::Op;
 use rx_queue::Intake;
 use std::collections::VecDeque;
-use table_replica::Op;
 
 /// The least peer that shows a message. Peers after it are not looked at, and a link that has stopped ends the search.
 pub(crate) fn least_showing<L: Links>(links: &mut L, cores: u16) -> Result<Option<u16>, LineFault>

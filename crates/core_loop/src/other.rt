@@ -1,12 +1,12 @@
 //! The events of a core other than core 0.
 
 ghost use Rattle.std.specs.Prelude.{◌≡◌, ◌≢◌, ◌≤◌, ◌<◌, ◌+◌, ◌∷◌, ◌++◌, [], max, true, false, suc, ℕ, Bool, All, Option, option_to_list, IfOk, IfErr, OnErr, OnOk};
-ghost use Rattle.table_replica.specs.declared.Op.{Op as GhostOp};
+ghost use Rattle.filter_table.specs.declared.operation.Op.{Op as GhostOp};
 ghost use Rattle.monitor_messages.specs.declared.message.Message.{Message as GhostMessage};
-ghost use Rattle.monitor_messages.specs.Coding.{HasShortProgram};
+ghost use Rattle.filter_table.specs.Tables.{HasShortProgram};
 ghost use Rattle.core_steps.specs.declared.other_core.OtherCore.{OtherCore as GhostCore};
 ghost use Rattle.core_steps.specs.OtherCoreSteps.{IsBetweenSteps, Considers};
-ghost use Rattle.world_model.specs.declared.event.Event.TheVariants.{Submit, Take};
+ghost use Rattle.world_events.specs.declared.event.Event.TheVariants.{Submit, Take};
 ghost use Rattle.world_histories.specs.Histories.{with_stamp};
 ghost use Rattle.core_loop.specs.Carrying.{Hands, IsFirst};
 ghost use Rattle.monitor_messages.specs.declared.message.Message.TheVariants as message;
@@ -23,12 +23,12 @@ use crate::refusal::{Refusal, next_stamp};
 use crate::sending::hand;
 use core_links::Links;
 use core_steps::OtherCore;
+use filter_table::Op;
 use monitor_messages::{Message, encode};
 use std::alloc::{AllocError, Global};
 use std::collections::VecDeque;
-use table_replica::Op;
+use world_events::{Done, Event};
 use world_histories::Stamped;
-use world_model::{Done, Event};
 
 /// The reply to a message, or none, as bytes under the stamp of the event.
 #[derive(Drop)]
@@ -173,7 +173,7 @@ fn submission(alloc: Global, stamp: u64, op: &Op) -> Result<Vec<u8>, AllocError>
     requires { HasShortProgram op.now }
     ensures { IfOk result (λ piece. CanBeHanded piece × IsPiece stamp (message.Submit op.now) piece) }
 {
-    let op = op.copy(alloc)?;
+    let op = op.clone()?;
     encode(alloc, stamp, &Message::Submit { op })
 }
 

@@ -12,8 +12,8 @@ use crate::looking::can_receive;
 use crate::refusal::{Refusal, next_stamp};
 use rx_queue::Intake;
 use table_replica::Replica;
+use world_events::{Done, Event};
 use world_histories::Stamped;
-use world_model::{Done, Event};
 
 /// Receives the front job of a core, if it has one whose floor is at most its version.
 pub(crate) fn receive(

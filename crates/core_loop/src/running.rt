@@ -9,11 +9,12 @@ use crate::refusal::Halt;
 use crate::sending::all_ready;
 use crate::turning::next_event;
 use core_links::Links;
+use filter_table::Op;
 use rx_queue::{Intake, Job, Port};
 use std::alloc::{AllocError, Global};
 use std::collections::VecDeque;
 use std::marker::Model;
-use table_replica::{Op, Replica};
+use table_replica::Replica;
 use world_histories::Stamped;
 
 /// A core with its history.

@@ -19,9 +19,9 @@ use crate::looking::{can_receive, has_request, least_showing};
 use crate::part::Part;
 use crate::refusal::Halt;
 use core_links::Links;
+use filter_table::Op;
 use rx_queue::Intake;
 use std::collections::VecDeque;
-use table_replica::Op;
 use world_histories::Stamped;
 
 /// Does the next event of a core, if there is one, and leaves room for it in the history. It takes no memory where there is

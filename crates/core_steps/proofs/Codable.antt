@@ -7,20 +7,21 @@ use Rattle.filter_verify.specs.Numbers.{number_of}
 use Rattle.filter_verify.specs.Rules.{Refuses}
 use Rattle.filter_verify.specs.declared.rules.Refusal.{Refusal}
 use Rattle.filter_verify.specs.declared.rules.Refusal.TheVariants as reason
-use Rattle.table_replica.specs.declared.Op.{Op}
-use Rattle.table_replica.specs.declared.Op.TheVariants.{Create, Mint, Revoke, DropCap, Install, Remove, Replace}
-use Rattle.table_replica.specs.declared.OpFault.{OpFault}
-use Rattle.table_replica.specs.declared.OpFault.TheVariants.{BadProgram}
-use Rattle.table_replica.specs.declared.StageFault.{StageFault}
-use Rattle.table_replica.specs.declared.StageFault.TheVariants as stage_fault
+use Rattle.filter_table.specs.declared.operation.Op.{Op}
+use Rattle.filter_table.specs.declared.operation.Op.TheVariants.{Create, Mint, Revoke, DropCap, Install, Remove, Replace}
+use Rattle.filter_table.specs.declared.operation.OpFault.{OpFault}
+use Rattle.filter_table.specs.declared.operation.OpFault.TheVariants.{BadProgram}
+use Rattle.filter_table.specs.declared.operation.StageFault.{StageFault}
+use Rattle.filter_table.specs.declared.operation.StageFault.TheVariants as stage_fault
 use Rattle.table_replica.specs.Shown.{ReplicaState}
-use Rattle.table_replica.specs.Tables.{State, tests, program_of, Verifies, Allowed}
-use Rattle.table_replica.proofs.Tables.{allowed_tests, allowed_answers}
-use Rattle.monitor_messages.specs.Coding.{HasShortProgram, IsNumbered}
+use Rattle.filter_table.specs.Tables.{State, tests, program_of, Verifies, Allowed}
+use Rattle.filter_table.proofs.Tables.{allowed_tests, allowed_answers}
+use Rattle.filter_table.specs.Tables.{HasShortProgram}
+use Rattle.monitor_messages.specs.Coding.{IsNumbered}
 use Rattle.monitor_messages.specs.declared.message.Message.TheVariants as message
-use Rattle.monitor_messages.specs.declared.message.Veto.TheVariants as veto
-use Rattle.monitor_messages.specs.declared.message.Decision.{Decision}
-use Rattle.monitor_messages.specs.declared.message.Decision.TheVariants.{Refused}
+use Rattle.filter_table.specs.declared.decision.Veto.TheVariants as veto
+use Rattle.filter_table.specs.declared.decision.Decision.{Decision}
+use Rattle.filter_table.specs.declared.decision.Decision.TheVariants.{Refused}
 use Rattle.monitor_messages.specs.declared.message.Message.{Message}
 use Rattle.monitor_messages.specs.Coding.{IsShort}
 use Rattle.monitor_2pc.specs.Coordinators.{veto_of}

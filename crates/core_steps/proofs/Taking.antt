@@ -1,15 +1,15 @@
 -- How another core takes a message.
 use Rattle.std.proofs.Common.{◌≡◌, ◌∙◌, ℕ, Bool, false, Option, None, Some, Result, Ok, Err, refl, ap, subst}
 use Rattle.std.specs.Prelude.{IfOk, OnOk, OnErr}
-use Rattle.table_replica.specs.declared.Op.{Op}
-use Rattle.table_replica.specs.Tables.{State}
-use Rattle.table_replica.proofs.Tables.{version-after}
+use Rattle.filter_table.specs.declared.operation.Op.{Op}
+use Rattle.filter_table.specs.Tables.{State}
+use Rattle.filter_table.proofs.Tables.{version-after}
 use Rattle.monitor_messages.specs.declared.message.Message.{Message}
 use Rattle.monitor_messages.specs.declared.message.Message.TheVariants as message
 use Rattle.monitor_2pc.specs.declared.step.Stranger.{Stranger}
 use Rattle.monitor_2pc.specs.Places.{after_commit}
 use Rattle.monitor_2pc.specs.Participants.{ParticipantPlace, Answers, Fits}
-use Rattle.world_model.specs.declared.event.Answer.TheVariants.{TookCommit}
+use Rattle.world_events.specs.declared.event.Answer.TheVariants.{TookCommit}
 use Rattle.world_model.specs.Cases.{raised}
 use Rattle.core_steps.specs.declared.other_core.OtherCore.{OtherCore}
 use Rattle.core_steps.specs.OtherCoreSteps.{IsBetweenSteps, Considers, TakesDown, other_place}

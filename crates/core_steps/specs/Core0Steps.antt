@@ -1,12 +1,12 @@
 -- The steps of core 0, in the words of the cases of an event: the coordinator's part of two-phase commit, and what it sends
 -- (Gray 1978, "Notes on data base operating systems", section 5.8.3; Baumann et al. 2009, "The Multikernel", section 4.4).
 use Rattle.std.specs.Prelude.{◌≡◌, ◌+◌, ℕ, zero, suc, Option, None, Some, slice_get}
-use Rattle.table_replica.specs.declared.Op.{Op}
-use Rattle.table_replica.specs.declared.StageFault.{StageFault}
+use Rattle.filter_table.specs.declared.operation.Op.{Op}
+use Rattle.filter_table.specs.declared.operation.StageFault.{StageFault}
 use Rattle.monitor_messages.specs.declared.message.Message.{Message}
 use Rattle.monitor_messages.specs.declared.message.Message.TheVariants as message
-use Rattle.monitor_messages.specs.declared.message.Decision.{Decision}
-use Rattle.monitor_messages.specs.declared.message.Decision.TheVariants.{Refused}
+use Rattle.filter_table.specs.declared.decision.Decision.{Decision}
+use Rattle.filter_table.specs.declared.decision.Decision.TheVariants.{Refused}
 use Rattle.monitor_messages.specs.Coding.{IsShort, IsNumbered}
 use Rattle.monitor_2pc.specs.Places.{after_commit}
 use Rattle.monitor_2pc.specs.Coordinators.{CoordinatorPlace, CanStart, StagedByPhase, coordinator_place, veto_of}

@@ -1,13 +1,13 @@
 -- The steps of a core other than core 0, in the words of the cases of an event: the participant's part of two-phase commit
 -- (Gray 1978, "Notes on data base operating systems", section 5.8.3; Baumann et al. 2009, "The Multikernel", section 4.4).
 use Rattle.std.specs.Prelude.{◌≡◌, ◌+◌, Bool, true, Option, None, Some, IsSome}
-use Rattle.table_replica.specs.declared.Op.{Op}
+use Rattle.filter_table.specs.declared.operation.Op.{Op}
 use Rattle.monitor_messages.specs.declared.message.Message.{Message}
 use Rattle.monitor_messages.specs.declared.message.Message.TheVariants as message
-use Rattle.monitor_messages.specs.declared.message.Vote.TheVariants.{Yes}
+use Rattle.filter_table.specs.declared.decision.Vote.TheVariants.{Yes}
 use Rattle.monitor_2pc.specs.Places.{after_commit}
 use Rattle.monitor_2pc.specs.Participants.{ParticipantPlace, place_of, StagedByVote, Casts, Fits, staged_by}
-use Rattle.world_model.specs.declared.event.Answer.{Answer}
+use Rattle.world_events.specs.declared.event.Answer.{Answer}
 use Rattle.world_model.specs.Cases.{TakesDownAt}
 use Rattle.core_steps.specs.declared.other_core.OtherCore.{OtherCore}
 

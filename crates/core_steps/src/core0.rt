@@ -1,8 +1,8 @@
 //! Core 0.
 
 ghost use Rattle.std.specs.Prelude.{◌≡◌, ◌+◌, ◌-◌, ◌<◌, ◌≤◌, ℕ, suc, None, Some, IsSome, IfOk, IfSome, IfNone, OnSome, OnErr, slice_get};
-ghost use Rattle.table_replica.specs.declared.Op.{Op as GhostOp};
-ghost use Rattle.table_replica.specs.Tables.{opening};
+ghost use Rattle.filter_table.specs.declared.operation.Op.{Op as GhostOp};
+ghost use Rattle.filter_table.specs.Tables.{opening};
 ghost use Rattle.monitor_messages.specs.declared.message.Message.TheVariants as message;
 ghost use Rattle.monitor_2pc.specs.Coordinators.{Idle, CanStart, coordinator_place, no_requests};
 ghost use Rattle.monitor_2pc.specs.Starting.{WasStaged};
@@ -13,10 +13,11 @@ ghost use Rattle.core_steps.specs.declared.core0.Told.{Told as GhostTold};
 ghost use Rattle.core_steps.specs.Core0Steps.{BetweenSteps, CanBegin, core0_place, sent, CanBeCoded, start_sends, start_for_sends, Starts, StartsForCore, TakesUp, HasWaiting};
 
 use crate::outgoing::Outgoing;
+use filter_table::{Op, StageFault};
 use monitor_2pc::{Coordinator, Decision, Message, Say, Step, Stranger, Vote, veto_of};
 use std::alloc::{AllocError, Global};
-use table_replica::{Op, Replica, StageFault};
-use world_model::Answer;
+use table_replica::Replica;
+use world_events::Answer;
 
 /// Core 0: its replica of the table, and its part of the protocol.
 #[derive(Drop)]
@@ -76,12 +77,7 @@ impl Core0 {
     }
 
     /// What `begin` sends after `stage`: Prepare to every other core, if there is one, where the request was staged.
-    pub fn start_sends(
-        &self,
-        alloc: Global,
-        op: &Op,
-        refusal: Option<StageFault>,
-    ) -> Result<Outgoing, AllocError>
+    pub fn start_sends(&self, op: &Op, refusal: Option<StageFault>) -> Result<Outgoing, AllocError>
         requires can { CanBegin self.now }
         requires tried { WasStaged self.now.replica op.now refusal }
         ensures sends { IfOk result (λ out. sent out ≡ start_sends self.now op.now refusal) }
@@ -93,13 +89,12 @@ impl Core0 {
         if self.coordinator.others() == 0 {
             return Ok(Outgoing::Nothing);
         }
-        Ok(Outgoing::ToAll(self.prepare(alloc, op)?))
+        Ok(Outgoing::ToAll(self.prepare(op)?))
     }
 
     /// What `begin_for` sends after `stage_for`: Prepare to every other core, or the refusal to the core that asked.
     pub fn start_for_sends(
         &self,
-        alloc: Global,
         core: u16,
         refusal: Option<StageFault>,
     ) -> Result<Outgoing, AllocError>
@@ -118,17 +113,17 @@ impl Core0 {
         let Some(op) = self.coordinator.waiting(core) else {
             unreachable!()
         };
-        Ok(Outgoing::ToAll(self.prepare(alloc, op)?))
+        Ok(Outgoing::ToAll(self.prepare(op)?))
     }
 
     // The message that asks the other cores for their votes on a request.
-    fn prepare(&self, alloc: Global, op: &Op) -> Result<Message, AllocError>
+    fn prepare(&self, op: &Op) -> Result<Message, AllocError>
         requires { self.now.coordinator.last < 18446744073709551615 }
         ensures { IfOk result (λ m. m ≡ message.Prepare (self.now.coordinator.last + 1) op.now) }
     {
         Ok(Message::Prepare {
             txn: self.coordinator.last() + 1,
-            op: op.copy(alloc)?,
+            op: op.clone()?,
         })
     }
 

@@ -2,16 +2,16 @@
 
 ghost use Rattle.std.specs.Prelude.{◌≡◌, Bool, true, false, Option, None, IfOk, OnErr};
 ghost use Rattle.monitor_messages.specs.declared.message.Message.{Message as GhostMessage};
-ghost use Rattle.table_replica.specs.Tables.{opening};
+ghost use Rattle.filter_table.specs.Tables.{opening};
 ghost use Rattle.world_model.specs.Cases.{sent_up, SubmitsAt};
-ghost use Rattle.world_model.specs.declared.event.Event.TheVariants.{Take};
+ghost use Rattle.world_events.specs.declared.event.Event.TheVariants.{Take};
 ghost use Rattle.core_steps.specs.declared.other_core.OtherCore.{OtherCore as GhostCore};
 ghost use Rattle.core_steps.specs.OtherCoreSteps.{IsBetweenSteps, AwaitsHere, Considers, TakesDown};
 
 use monitor_2pc::{Decision, Message, Participant, Stranger, Vote};
 use std::alloc::{AllocError, Global};
 use table_replica::Replica;
-use world_model::Answer;
+use world_events::Answer;
 
 /// A core other than core 0: its replica of the table, and its part of the protocol.
 #[derive(Drop)]

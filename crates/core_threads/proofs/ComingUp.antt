@@ -4,7 +4,7 @@ use Rattle.std.specs.Global.{Global}
 use Rattle.std.specs.declared.collections.VecDeque.{VecDeque}
 use Rattle.std.proofs.lemmas.List.{append-nil}
 use Rattle.world_model.proofs.Lists.{get_more, get_within, get-set_other, length-slice_set}
-use Rattle.table_replica.specs.declared.Op.{Op}
+use Rattle.filter_table.specs.declared.operation.Op.{Op}
 use Rattle.rx_queue.specs.declared.port.Port.{Port}
 use Rattle.core_links.specs.declared.ring_links.RingLinks.{RingLinks}
 use Rattle.core_join.specs.Machines.{RingCore}

@@ -6,8 +6,8 @@ use Rattle.std.proofs.lemmas.Grind.{common_steps}
 use Rattle.std.proofs.lemmas.List.Elements.{All-append}
 use Rattle.std.proofs.lemmas.Option.{get_or_from_slice_get}
 use Rattle.world_model.proofs.Lists.{get_at, get_within, same_or_not}
-use Rattle.table_replica.specs.declared.Op.{Op}
-use Rattle.monitor_messages.specs.Coding.{HasShortProgram}
+use Rattle.filter_table.specs.declared.operation.Op.{Op}
+use Rattle.filter_table.specs.Tables.{HasShortProgram}
 use Rattle.rx_queue.specs.declared.port.Port.{Port}
 use Rattle.core_links.specs.declared.ring_links.RingLinks.{RingLinks}
 use Rattle.core_links.specs.RingSlots.{own_of, AreJoinedLinks}

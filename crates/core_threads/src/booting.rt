@@ -11,11 +11,11 @@ use crate::lanes::by_core;
 use crate::machine::Machine;
 use crate::wiring::wire;
 use core_loop::{Core, RingLinks};
+use filter_table::Op;
 use rx_queue::{Port, queue};
 use std::alloc::{AllocError, Global};
 use std::collections::VecDeque;
 use std::mem;
-use table_replica::Op;
 
 /// Why there is no machine.
 #[derive(Clone, Copy, PartialEq, Eq, Debug)]

@@ -10,7 +10,7 @@ use crate::halt::Halt;
 use core_loop::{Core, Links, Turn};
 use std::sync::Wait;
 use std::time::Clock;
-use world_model::Event;
+use world_events::Event;
 
 /// When a core's thread ends.
 #[derive(Clone, Copy)]

@@ -5,7 +5,7 @@ use Rattle.std.proofs.lemmas.Option.{slice_get-get_or}
 use Rattle.bpf_insn.specs.declared.insn.Insn.{Insn}
 use Rattle.bpf_insn.proofs.Places.{FormAt-inside}
 use Rattle.filter_vm.specs.declared.machine.tracing.Taken.{Taken}
-use Rattle.filter_vm.specs.Machine.{Packet, State}
+use Rattle.bpf_insn.specs.Machine.{Packet, State}
 use Rattle.filter_vm.specs.Tracing.{IsTaken, Traces}
 use Rattle.console.proofs.MatchingLemmas.{AllZip-push, flat_map-push}
 use Rattle.graph_engine.specs.Explaining.{Explains}

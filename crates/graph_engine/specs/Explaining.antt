@@ -9,7 +9,7 @@ use Rattle.bpf_insn.specs.declared.insn.Insn.{Insn}
 use Rattle.bpf_insn.specs.AsmText.{label, printed}
 use Rattle.bpf_insn.specs.Program.{form_at}
 use Rattle.filter_vm.specs.declared.machine.tracing.Taken.{Taken}
-use Rattle.filter_vm.specs.Machine.{Packet}
+use Rattle.bpf_insn.specs.Machine.{Packet}
 use Rattle.filter_vm.specs.Tracing.{Traces}
 use Rattle.console.specs.Code.{IsGoodCode}
 use Rattle.console.specs.Matching.{Hex, Stops, outcome_line}

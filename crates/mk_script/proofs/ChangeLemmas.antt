@@ -12,7 +12,7 @@ use Rattle.std.proofs.lemmas.Slice.Eq.{bytes_eq-Decides}
 use Rattle.std.proofs.Math.Bool.{or-false, or-true}
 use Rattle.bpf_insn.specs.declared.insn.Insn.{Insn}
 use Rattle.pcap_reader.specs.declared.capture.Packet.{Packet}
-use Rattle.world_model.specs.declared.event.Event.{Event}
+use Rattle.world_events.specs.declared.event.Event.{Event}
 use Rattle.mk_script.specs.declared.script.Item.{Item}
 use Rattle.mk_script.specs.declared.script.Item.TheVariants.{Ask, Apply}
 use Rattle.mk_script.specs.Meanings.{Meaning, Budgets, NamedProgram, NamedPacket, NamedCapture, Home, Does, Receives, Trace, Nothing, Jobs, Counted, Named, budgets_in, programs_in, packets_in, captures_in, jobs_in, is_trace, is_act, named, home_from, is_traced, jobs_behind, items_in, items_of}

@@ -1,18 +1,15 @@
 -- Files, one after another.
 use Rattle.std.proofs.Common.{◌≡◌, ℕ, ◌+◌, ◌<◌, List, [], ◌∷◌, ◌++◌, length, take, get_or, sym, ap, ◌∙◌, subst}
-use Rattle.std.specs.Prelude.{map}
 use Rattle.std.specs.List.{All}
-use Rattle.std.specs.declared.vec.Vec.{Vec}
-use Rattle.std.specs.declared.alloc.Global.{Global}
-use Rattle.std.proofs.lemmas.List.{take_more, map-append}
+use Rattle.std.proofs.lemmas.List.{take_more}
 use Rattle.mk_script.specs.Scripts.{AreFiles}
 
 files_push : (files : List (List ℕ)) (file : List ℕ) → AreFiles files → All (λ b. b < 256) file → AreFiles (files ++ file ∷ [])
 files_push [] file all one = (one, tt)
 files_push (f ∷ files) file all one = (all.0, files_push files file all.1 one)
 
-pub files_more : (files : List (Vec ℕ Global)) (i : ℕ) (file : Vec ℕ Global) → i < length files → file ≡ get_or files i file → AreFiles (map (λ v. v.items) (take i files)) → All (λ b. b < 256) file.items
-    → AreFiles (map (λ v. v.items) (take (i + 1) files))
+pub files_more : (files : List (List ℕ)) (i : ℕ) (file : List ℕ) → i < length files → file ≡ get_or files i file → AreFiles (take i files) → All (λ b. b < 256) file
+    → AreFiles (take (i + 1) files)
 files_more files i file within is all one =
-    let more = ap (λ l. map (λ v. v.items) l) (take_more files i file within ∙ ap (λ f. take i files ++ f ∷ []) (sym is)) ∙ map-append (λ v. v.items) (take i files) (file ∷ []) in
-    subst AreFiles (sym more) (files_push (map (λ v. v.items) (take i files)) file.items all one)
+    let more = take_more files i file within ∙ ap (λ f. take i files ++ f ∷ []) (sym is) in
+    subst AreFiles (sym more) (files_push (take i files) file all one)

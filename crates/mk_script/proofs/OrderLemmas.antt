@@ -18,9 +18,9 @@ use Rattle.pcap_reader.specs.Savefile.{Reads}
 use Rattle.pcap_reader.specs.declared.capture.Header.{Header}
 use Rattle.pcap_reader.specs.declared.capture.Packet.{Packet}
 use Rattle.pcap_reader.proofs.LawLemmas.{one_reading}
-use Rattle.table_replica.specs.declared.Op.TheVariants.{Revoke, DropCap, Install, Remove, Replace}
-use Rattle.world_model.specs.declared.event.Event.{Event}
-use Rattle.world_model.specs.declared.event.Event.TheVariants.{Rx}
+use Rattle.filter_table.specs.declared.operation.Op.TheVariants.{Revoke, DropCap, Install, Remove, Replace}
+use Rattle.world_events.specs.declared.event.Event.{Event}
+use Rattle.world_events.specs.declared.event.Event.TheVariants.{Rx}
 use Rattle.mk_script.specs.declared.fault.BodyFault.{BodyFault}
 use Rattle.mk_script.specs.declared.fault.BodyFault.TheVariants as fault
 use Rattle.mk_script.specs.declared.fault.ScriptFaultKind.{ScriptFaultKind}

@@ -1,8 +1,8 @@
 -- What contracts see of meanings and drafts. No public clause cites these.
-use Rattle.std.specs.Prelude.{◌≡◌, ◌⊎◌, ℕ, map, Option, Some, None, Result, Ok, Err}
+use Rattle.std.specs.Prelude.{◌≡◌, ◌⊎◌, ℕ, Option, Some, None, Result, Ok, Err}
 use Rattle.std.specs.declared.vec.Vec.{Vec}
 use Rattle.std.specs.declared.alloc.Global.{Global}
-use Rattle.world_model.specs.declared.event.Event.{Event}
+use Rattle.world_events.specs.declared.event.Event.{Event}
 use Rattle.mk_script.specs.declared.meaning.Meaning.{Meaning}
 use Rattle.mk_script.specs.declared.meaning.Meaning.TheVariants.{Budgets, NamedProgram, NamedPacket, NamedCapture, Home, Does, Receives, Trace, Nothing}
 use Rattle.mk_script.specs.declared.meaning.Draft.{Draft}
@@ -34,7 +34,7 @@ draft_of (Decimal name text) = drafts.Decimal name.now text.now
 draft_of (Savefile name bytes) = drafts.Savefile name.now bytes.now
 
 abbrev pub settings_of : Settings → drafts.Settings
-settings_of s = record { files = map (λ v. v.items) s.files.now; threads = s.threads }
+settings_of s = record { files = s.files.now; threads = s.threads }
 
 abbrev pub jobs_of : ℕ → Option (Vec Event Global) → meanings.Jobs
 jobs_of received None = meanings.Counted received

@@ -2,10 +2,10 @@
 -- message carries a program of 4,096 instructions at most, and a packet's captured length is a number of 32 bits.
 use Rattle.std.specs.Prelude.{ℕ, ◌≤◌, ◌<◌, ◌^◌, length}
 use Rattle.std.specs.List.{All}
-use Rattle.monitor_messages.specs.Coding.{HasShortProgram}
+use Rattle.filter_table.specs.Tables.{HasShortProgram}
 use Rattle.pcap_reader.specs.declared.capture.Packet.{Packet}
-use Rattle.world_model.specs.declared.event.Event.{Event}
-use Rattle.world_model.specs.declared.event.Event.TheVariants.{Take, Rx}
+use Rattle.world_events.specs.declared.event.Event.{Event}
+use Rattle.world_events.specs.declared.event.Event.TheVariants.{Take, Rx}
 use Rattle.mk_script.specs.declared.script.Item.{Item}
 use Rattle.mk_script.specs.declared.script.Item.TheVariants.{Ask, Apply}
 use Rattle.mk_script.specs.declared.script.Script.{Script}

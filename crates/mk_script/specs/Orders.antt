@@ -12,7 +12,7 @@ use Rattle.filter_asm.specs.Faults.{fault_of}
 use Rattle.pcap_reader.specs.Savefile.{Reads}
 use Rattle.pcap_reader.specs.declared.capture.Header.{Header}
 use Rattle.pcap_reader.specs.declared.capture.Packet.{Packet}
-use Rattle.world_model.specs.declared.event.Event.{Event}
+use Rattle.world_events.specs.declared.event.Event.{Event}
 use Rattle.mk_script.specs.declared.fault.BodyFault.{BodyFault}
 use Rattle.mk_script.specs.declared.fault.BodyFault.TheVariants as fault
 use Rattle.mk_script.specs.declared.fault.ScriptFaultKind.{ScriptFaultKind}

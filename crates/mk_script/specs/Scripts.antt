@@ -1,7 +1,5 @@
 -- What the text of a script stands for: the budgets of the cores and the items, or its first fault.
-use Rattle.std.specs.declared.vec.Vec.{Vec}
-use Rattle.std.specs.declared.alloc.Global.{Global}
-use Rattle.std.specs.Prelude.{Bool, map, ◌<◌, ◌≡◌, ◌⊎◌, ℕ, List, [], ◌∷◌, ◌++◌, if◌then◌else◌, Result, Ok, Err}
+use Rattle.std.specs.Prelude.{Bool, ◌<◌, ◌≡◌, ◌⊎◌, ℕ, List, [], ◌∷◌, ◌++◌, if◌then◌else◌, Result, Ok, Err}
 use Rattle.std.specs.List.{flat_map, All}
 use Rattle.mk_script.specs.declared.script.Script.{Script}
 use Rattle.mk_script.specs.declared.fault.ScriptFault.{ScriptFault}
@@ -32,8 +30,8 @@ abbrev pub Stands : Settings → List ℕ → Result Script ScriptFault → Type
 Stands settings text outcome = (meanings : Result (List Meaning) ScriptFault) × MeanBehind settings [] (statements text) meanings × (outcome ≡ script_of meanings)
 
 -- the settings of these files
-abbrev pub settings : List (Vec ℕ Global) → Bool → Settings
-settings files threads = record { files = map (λ v. v.items) files; threads = threads }
+abbrev pub settings : List (List ℕ) → Bool → Settings
+settings files threads = record { files = files; threads = threads }
 
 -- files hold bytes
 abbrev pub AreFiles : List (List ℕ) → Type 0

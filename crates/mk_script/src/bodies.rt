@@ -13,9 +13,10 @@ use crate::fault::{BodyFault, ScriptFaultKind};
 use crate::meaning::{Draft, Meaning};
 use bpf_insn::{TextFault, read_ddd};
 use filter_asm::{AsmFaultKind, assemble};
-use pcap_reader::{CaptureFault, read_capture};
+use filter_table::Program;
+use pcap_reader::{CaptureFault, share_capture};
+use seq::Shared;
 use std::alloc::Global;
-use table_replica::Program;
 
 /// The program of an `asm` block.
 fn assembled<'a>(alloc: Global, name: &'a [u8], text: &[u8]) -> Result<Meaning<'a>, ScriptFaultKind>
@@ -25,7 +26,7 @@ fn assembled<'a>(alloc: Global, name: &'a [u8], text: &[u8]) -> Result<Meaning<'
     ensures named { IfOk result (λ m. IsNamedProgram name.now m) }
 {
     match assemble(alloc, text) {
-        Ok(program) => Ok(Meaning::NamedProgram(name, Program::from_vec(program))),
+        Ok(program) => Ok(Meaning::NamedProgram(name, Program::from_vec(alloc, program)?)),
         Err(fault) => Err(if fault.kind == AsmFaultKind::NoMemory {
             ScriptFaultKind::NoMemory
         } else {
@@ -41,24 +42,26 @@ fn decimal<'a>(alloc: Global, name: &'a [u8], text: &[u8]) -> Result<Meaning<'a>
     ensures named { IfOk result (λ m. IsNamedProgram name.now m) }
 {
     match read_ddd(alloc, text) {
-        Ok(program) => Ok(Meaning::NamedProgram(name, Program::from_vec(program))),
+        Ok(program) => Ok(Meaning::NamedProgram(name, Program::from_vec(alloc, program)?)),
         Err(TextFault::NoMemory) => Err(ScriptFaultKind::NoMemory),
         Err(fault) => Err(ScriptFaultKind::BadBody(BodyFault::Ddd(fault))),
     }
 }
 
 /// The packets of a capture.
-fn captured<'a>(alloc: Global, name: &'a [u8], bytes: &[u8]) -> Result<Meaning<'a>, ScriptFaultKind>
-    ensures ok { IfOk result (λ m. spec.MeansCaptured name.now bytes.now (Ok (meaning_of m))) }
-    ensures err { IfErr result (λ fault. (fault ≡ NoMemory) ⊎ spec.MeansCaptured name.now bytes.now (Err fault)) }
+fn captured<'a>(
+    alloc: Global,
+    name: &'a [u8],
+    file: &Shared<u8>,
+) -> Result<Meaning<'a>, ScriptFaultKind>
+    ensures ok { IfOk result (λ m. spec.MeansCaptured name.now file.now (Ok (meaning_of m))) }
+    ensures err { IfErr result (λ fault. (fault ≡ NoMemory) ⊎ spec.MeansCaptured name.now file.now (Err fault)) }
     ensures named { IfOk result (λ m. IsNamedCapture name.now m) }
 {
-    match read_capture(alloc, bytes) {
-        Ok(capture) => Ok(Meaning::NamedCapture(name, capture.packets)),
-        Err(stop) => Err(match stop.fault {
-            CaptureFault::NoMemory => ScriptFaultKind::NoMemory,
-            fault => ScriptFaultKind::BadBody(BodyFault::Capture(fault)),
-        }),
+    match share_capture(alloc, file) {
+        Ok(packets) => Ok(Meaning::NamedCapture(name, packets)),
+        Err(CaptureFault::NoMemory) => Err(ScriptFaultKind::NoMemory),
+        Err(fault) => Err(ScriptFaultKind::BadBody(BodyFault::Capture(fault))),
     }
 }
 

@@ -13,8 +13,7 @@ use crate::reading::Reading;
 use crate::rows::Request;
 use crate::words::word_at;
 use endpoint_caps::Rights;
-use std::alloc::Global;
-use table_replica::{Op, Program};
+use filter_table::{Op, Program};
 
 /// A fault where a test fails.
 pub(crate) fn check(passes: bool, fault: ScriptFaultKind) -> Result<(), ScriptFaultKind>
@@ -73,7 +72,6 @@ fn held(words: &[&[u8]]) -> Result<(u16, u32), ScriptFaultKind>
 /// A domain, a capability or a filter, and a program by its name.
 #[tactic(auto, unfolding(crate::specs::Drafts::held_program))]
 fn held_program<'a>(
-    alloc: Global,
     reading: &Reading<'a>,
     words: &[&'a [u8]],
 ) -> Result<(u16, u32, Program), ScriptFaultKind>
@@ -83,19 +81,15 @@ fn held_program<'a>(
     let Some(program) = reading.programs.get(word_at(words, 3)) else {
         return Err(ScriptFaultKind::NoName);
     };
-    let program = program.copy(alloc)?;
+    let program = program.clone()?;
     Ok((domain, id, program))
 }
 
 /// A filter at a capability.
-fn install<'a>(
-    alloc: Global,
-    reading: &Reading<'a>,
-    words: &[&'a [u8]],
-) -> Result<Op, ScriptFaultKind>
+fn install<'a>(reading: &Reading<'a>, words: &[&'a [u8]]) -> Result<Op, ScriptFaultKind>
     ensures { Answered identity result (spec.op_of (known_of reading.now) (texts words.now) asked.Install) }
 {
-    let (domain, cap, program) = held_program(alloc, reading, words)?;
+    let (domain, cap, program) = held_program(reading, words)?;
     Ok(Op::Install {
         domain,
         cap,
@@ -104,14 +98,10 @@ fn install<'a>(
 }
 
 /// Another program for a filter.
-fn replace<'a>(
-    alloc: Global,
-    reading: &Reading<'a>,
-    words: &[&'a [u8]],
-) -> Result<Op, ScriptFaultKind>
+fn replace<'a>(reading: &Reading<'a>, words: &[&'a [u8]]) -> Result<Op, ScriptFaultKind>
     ensures { Answered identity result (spec.op_of (known_of reading.now) (texts words.now) asked.Replace) }
 {
-    let (domain, filter, program) = held_program(alloc, reading, words)?;
+    let (domain, filter, program) = held_program(reading, words)?;
     Ok(Op::Replace {
         domain,
         filter,
@@ -121,7 +111,6 @@ fn replace<'a>(
 
 /// The operation that a request asks for.
 pub(crate) fn op_of<'a>(
-    alloc: Global,
     reading: &Reading<'a>,
     words: &[&'a [u8]],
     request: Request,
@@ -139,12 +128,12 @@ pub(crate) fn op_of<'a>(
             let (domain, cap) = held(words)?;
             Ok(Op::DropCap { domain, cap })
         }
-        Request::Install => install(alloc, reading, words),
+        Request::Install => install(reading, words),
         Request::Remove => {
             let (domain, filter) = held(words)?;
             Ok(Op::Remove { domain, filter })
         }
-        Request::Replace => replace(alloc, reading, words),
+        Request::Replace => replace(reading, words),
     }
 }
 

@@ -21,9 +21,10 @@ use crate::rows::{Command, Request, command_of};
 use crate::script::Item;
 use crate::settings::Settings;
 use crate::words::{behind_word, cut, word_at};
-use pcap_reader::{Bytes, Packet};
+use pcap_reader::SharedPacket;
+use seq::Shared;
 use std::alloc::Global;
-use world_model::Event;
+use world_events::Event;
 
 /// The numbers of words, as budgets are written.
 fn budgets(alloc: Global, words: &[&[u8]]) -> Result<Vec<u32>, ScriptFaultKind>
@@ -138,10 +139,7 @@ fn packet<'a>(
     check(reading.packets.get(name).is_none(), ScriptFaultKind::Twice)?;
     let bytes = hex_bytes(alloc, word_at(words, 2))?;
     let original = original.unwrap_or(bytes.len() as u32);
-    let packet = Packet {
-        bytes: Bytes::from_vec(bytes),
-        original,
-    };
+    let packet = SharedPacket::new(Shared::from_vec(alloc, bytes)?, original);
     Ok(Draft::Whole(Meaning::NamedPacket(name, packet)))
 }
 
@@ -168,7 +166,7 @@ fn capture<'a>(
     let Some(file) = counted(settings.files, number) else {
         return Err(ScriptFaultKind::NoName);
     };
-    Ok(Draft::Savefile(name, file.as_slice()))
+    Ok(Draft::Savefile(name, file))
 }
 
 /// The element at a place that is counted from 1.
@@ -194,7 +192,6 @@ fn home<'a>(reading: &Reading<'a>, words: &[&'a [u8]]) -> Result<Draft<'a>, Scri
 /// A request with the core at which it enters.
 #[tactic(auto, unfolding(crate::specs::Drafts::request_draft))]
 fn request<'a>(
-    alloc: Global,
     reading: &Reading<'a>,
     words: &[&'a [u8]],
     request: Request,
@@ -202,7 +199,7 @@ fn request<'a>(
     ensures drafts { Answered draft_of result (spec.request_draft (known_of reading.now) (texts words.now) request) }
     ensures follows { IfOk result (λ d. DraftFollows reading.now d) }
 {
-    let op = op_of(alloc, reading, words, request)?;
+    let op = op_of(reading, words, request)?;
     let core = reading.homes.get(domain_of(&op));
     Ok(Draft::Whole(Meaning::Does(Item::Ask(core, op))))
 }
@@ -237,7 +234,7 @@ fn is_dotted(word: &[u8]) -> bool
 fn packet_at<'r, 'a>(
     reading: &'r Reading<'a>,
     word: &'a [u8],
-) -> Result<&'r Packet, ScriptFaultKind>
+) -> Result<&'r SharedPacket, ScriptFaultKind>
     ensures { Answered (λ p. p.now) result (spec.packet_at (known_of reading.now) word.now) }
 {
     if !is_dotted(word) {
@@ -280,7 +277,7 @@ fn rx<'a>(
 {
     let core = core_at(settings, reading, word_at(words, 1))?;
     let floor = floor_at(words, 3)?;
-    let packet = packet_at(reading, word_at(words, 2))?.copy(alloc)?;
+    let packet = packet_at(reading, word_at(words, 2))?.clone()?;
     let mut events = Vec::new(alloc);
     events.push(Event::Rx {
         core,
@@ -297,7 +294,7 @@ fn replayed(
     cores: usize,
     received: u64,
     floor: u64,
-    packets: &[Packet],
+    packets: &[SharedPacket],
 ) -> Result<Vec<Event>, ScriptFaultKind>
     requires some { 0 < cores }
     requires few { cores ≤ 8 }
@@ -307,7 +304,7 @@ fn replayed(
 {
     let mut events = Vec::new(alloc);
     for (place, packet) in packets.iter().enumerate() {
-        let packet = packet.copy(alloc)?;
+        let packet = packet.clone()?;
         events.push(Event::Rx {
             core: (place % cores) as u16,
             number: received + place as u64 + 1,
@@ -371,7 +368,7 @@ fn draft_by<'a>(
         Command::Packet => packet(alloc, reading, words),
         Command::Capture => capture(settings, reading, words),
         Command::Home => home(reading, words),
-        Command::Request(asked) => request(alloc, reading, words, asked),
+        Command::Request(asked) => request(reading, words, asked),
         Command::Start => Ok(act(Item::Begin)),
         Command::Submit => Ok(act(Item::Submit(number16(word_at(words, 1))?))),
         Command::StartFor => Ok(act(Item::StartFor(number16(word_at(words, 1))?))),

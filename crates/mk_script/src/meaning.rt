@@ -1,9 +1,10 @@
 //! What a line means.
 
 use crate::script::Item;
-use pcap_reader::{Packet, Packets};
-use table_replica::Program;
-use world_model::Event;
+use filter_table::Program;
+use pcap_reader::{SharedPacket, SharedPackets};
+use seq::Shared;
+use world_events::Event;
 
 /// What a line means.
 #[derive(Drop)]
@@ -11,8 +12,8 @@ pub(crate) enum Meaning<'a> {
     /// The budgets of the cores.
     Budgets(Vec<u32>),
     NamedProgram(&'a [u8], Program),
-    NamedPacket(&'a [u8], Packet),
-    NamedCapture(&'a [u8], Packets),
+    NamedPacket(&'a [u8], SharedPacket),
+    NamedCapture(&'a [u8], SharedPackets),
     /// A domain, and the core at which its requests enter from now on.
     Home(u16, u16),
     Does(Item),
@@ -33,5 +34,5 @@ pub(crate) enum Draft<'a> {
     /// The decimal text of a program.
     Decimal(&'a [u8], &'a [u8]),
     /// The bytes of a capture.
-    Savefile(&'a [u8], &'a [u8]),
+    Savefile(&'a [u8], &'a Shared<u8>),
 }

@@ -30,6 +30,7 @@ use crate::script::{BudgetList, ItemList, Script};
 use crate::settings::Settings;
 use crate::state::{add, nothing_read};
 use crate::trace::trace_line;
+use seq::Shared;
 use std::alloc::Global;
 
 /// What a piece of the text asks for.
@@ -159,7 +160,7 @@ fn are_bytes(bytes: &[u8])
 {}
 
 /// Files hold bytes: so a capture has one reading.
-fn are_files(files: &[Vec<u8>])
+fn are_files(files: &[Shared<u8>])
     ensures { AreFiles (settings files.now true).files }
 {
     for file in files {
@@ -189,7 +190,7 @@ fn are_files(files: &[Vec<u8>])
 pub fn read_script(
     alloc: Global,
     text: &[u8],
-    files: &[Vec<u8>],
+    files: &[Shared<u8>],
     threads: bool,
 ) -> Result<Script, ScriptFault>
     requires { length text.now < 2 ^ 32 }

@@ -5,9 +5,9 @@ ghost use Rattle.std.specs.Prelude.{◌≤◌, vec_len};
 use crate::homes::Homes;
 use crate::names::Names;
 use crate::script::Item;
-use pcap_reader::{Packet, Packets};
-use table_replica::Program;
-use world_model::Event;
+use filter_table::Program;
+use pcap_reader::{SharedPacket, SharedPackets};
+use world_events::Event;
 
 /// What the lines so far mean for those behind them, and what they have done.
 #[derive(Drop)]
@@ -15,8 +15,8 @@ pub(crate) struct Reading<'a> {
     /// None before `cores`.
     pub budgets: Vec<u32>,
     pub programs: Names<'a, Program>,
-    pub packets: Names<'a, Packet>,
-    pub captures: Names<'a, Packets>,
+    pub packets: Names<'a, SharedPacket>,
+    pub captures: Names<'a, SharedPackets>,
     pub homes: Homes,
     /// How many packets were received; 0 behind `trace`.
     pub received: u64,

@@ -1,10 +1,8 @@
 //! What a script stands for.
 
-ghost use Rattle.std.specs.Prelude.{◌≡◌};
-
-use std::marker::Model;
-use table_replica::Op;
-use world_model::Event;
+use filter_table::Op;
+use seq::Seq;
+use world_events::Event;
 
 /// What a script has done, in order.
 #[derive(Drop)]
@@ -25,80 +23,11 @@ pub enum Item {
     Show(u16),
 }
 
-/// Items in order, seen as a list.
-#[derive(Drop)]
-pub struct ItemList {
-    items: Vec<Item>,
-}
+/// Items in order.
+pub type ItemList = Seq<Item>;
 
-impl Model for ItemList {
-    ghost use Rattle.std.specs.Prelude.{List};
-    ghost use Rattle.mk_script.specs.declared.script.Item.{Item};
-
-    ghost Value = { List Item };
-
-    ghost view = { λ list. list.items.items };
-}
-
-impl ItemList {
-    /// The list of these items. Takes no memory.
-    pub fn from_vec(items: Vec<Item>) -> ItemList
-        ensures { result ≡ items.items }
-    {
-        ItemList { items }
-    }
-
-    /// Its items. Takes no memory.
-    pub fn into_vec(self) -> Vec<Item>
-        ensures { result.items ≡ self }
-    {
-        self.items
-    }
-
-    /// Its items.
-    pub fn as_slice(&self) -> &[Item]
-        ensures { result.now ≡ self.now }
-    {
-        &self.items
-    }
-}
-
-/// The budgets of the cores, by their numbers, seen as a list.
-#[derive(Drop)]
-pub struct BudgetList {
-    budgets: Vec<u32>,
-}
-
-impl Model for BudgetList {
-    ghost use Rattle.std.specs.Prelude.{List, ℕ};
-
-    ghost Value = { List ℕ };
-
-    ghost view = { λ list. list.budgets.items };
-}
-
-impl BudgetList {
-    /// The list of these budgets. Takes no memory.
-    pub fn from_vec(budgets: Vec<u32>) -> BudgetList
-        ensures { result ≡ budgets.items }
-    {
-        BudgetList { budgets }
-    }
-
-    /// Its budgets. Takes no memory.
-    pub fn into_vec(self) -> Vec<u32>
-        ensures { result.items ≡ self }
-    {
-        self.budgets
-    }
-
-    /// Its budgets.
-    pub fn as_slice(&self) -> &[u32]
-        ensures { result.now ≡ self.now }
-    {
-        &self.budgets
-    }
-}
+/// The budgets of the cores, by their numbers.
+pub type BudgetList = Seq<u32>;
 
 /// A script: the budgets of its cores, and what it has done.
 #[derive(Drop)]

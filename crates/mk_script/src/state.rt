@@ -14,7 +14,7 @@ use crate::reading::Reading;
 use crate::script::Item;
 use std::alloc::{AllocError, Global};
 use std::mem;
-use world_model::Event;
+use world_events::Event;
 
 /// What is known of a script before its first line.
 pub(crate) fn nothing_read<'a>(alloc: Global) -> Reading<'a>

@@ -16,7 +16,7 @@ use crate::rows::{Command, event_of};
 use crate::script::Item;
 use crate::words::{cut, word_at, words as words_of};
 use std::alloc::Global;
-use world_model::Event;
+use world_events::Event;
 
 fn is_number(word: &[u8]) -> bool
     ensures { result ≡ spec.is_number word.now }
@@ -55,7 +55,7 @@ fn is_rx_at(core: u16, event: &Event) -> bool
 
 /// The job that an event names by its core and its number.
 #[tactic(auto, unfolding(crate::specs::Drafts::job_draft))]
-fn job<'a>(alloc: Global, jobs: &[Event], words: &[&[u8]]) -> Result<Draft<'a>, ScriptFaultKind>
+fn job<'a>(jobs: &[Event], words: &[&[u8]]) -> Result<Draft<'a>, ScriptFaultKind>
     ensures drafts { Answered draft_of result (spec.job_draft jobs.now (texts words.now)) }
     ensures follows { (r : Reading) → IfOk result (λ d. DraftFollows r d) }
 {
@@ -67,18 +67,13 @@ fn job<'a>(alloc: Global, jobs: &[Event], words: &[&[u8]]) -> Result<Draft<'a>, 
     if !is_rx_at(core, event) {
         return Err(ScriptFaultKind::NoName);
     }
-    let event = event.copy(alloc)?;
+    let event = event.clone()?;
     Ok(act(Item::Apply(event)))
 }
 
 /// The event of these words before a colon, with those behind it.
 #[tactic(auto, unfolding(crate::specs::Drafts::event_draft, crate::specs::Drafts::core_draft))]
-fn event<'a>(
-    alloc: Global,
-    jobs: &[Event],
-    words: &[&[u8]],
-    rest: &[&[u8]],
-) -> Result<Draft<'a>, ScriptFaultKind>
+fn event<'a>(jobs: &[Event], words: &[&[u8]], rest: &[&[u8]]) -> Result<Draft<'a>, ScriptFaultKind>
     ensures drafts { Answered draft_of result (spec.event_draft jobs.now (texts words.now) (texts rest.now)) }
     ensures follows { (r : Reading) → IfOk result (λ d. DraftFollows r d) }
 {
@@ -87,7 +82,7 @@ fn event<'a>(
         Command::Submit => Ok(act(Item::Submit(number16(word_at(words, 1))?))),
         Command::StartFor => Ok(act(Item::StartFor(number16(word_at(words, 1))?))),
         Command::Take => take(words, is_short(rest)),
-        Command::Rx => job(alloc, jobs, words),
+        Command::Rx => job(jobs, words),
         Command::Cores
         | Command::Asm
         | Command::Ddd
@@ -117,7 +112,7 @@ pub(crate) fn trace_line<'a>(
         let (before, behind) = cut(b':', line);
         let before = words_of(alloc, before)?;
         let behind = words_of(alloc, behind)?;
-        return event(alloc, jobs, &before, &behind);
+        return event(jobs, &before, &behind);
     }
     if is_left(words) {
         Ok(Draft::Whole(Meaning::Nothing))

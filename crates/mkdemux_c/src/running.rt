@@ -2,7 +2,7 @@
 
 ghost use Rattle.std.specs.Prelude.{◌≡◌, ◌≤◌, ℕ, length};
 ghost use Rattle.filter_verify.specs.Rules.{Sound};
-ghost use Rattle.filter_vm.specs.Machine.{Ends};
+ghost use Rattle.bpf_insn.specs.Machine.{Ends};
 
 use bpf_insn::Insn;
 use filter_vm::run_sound;

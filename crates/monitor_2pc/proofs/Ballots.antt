@@ -1,16 +1,16 @@
 -- What a replica that was asked to stage an operation lets a core say of it.
 use Rattle.std.proofs.Common.{◌≡◌, ◌+◌, ◌≤◌, ℕ, Bool, false, Option, Some, None, refl, ap, ◌∙◌}
-use Rattle.table_replica.specs.declared.Op.{Op}
-use Rattle.table_replica.specs.declared.Made.{Made}
-use Rattle.table_replica.specs.declared.StageFault.{StageFault}
-use Rattle.table_replica.specs.declared.StageFault.TheVariants as stage_fault
-use Rattle.table_replica.specs.Staging.{CannotStage}
+use Rattle.filter_table.specs.declared.operation.Op.{Op}
+use Rattle.filter_table.specs.declared.operation.Made.{Made}
+use Rattle.filter_table.specs.declared.operation.StageFault.{StageFault}
+use Rattle.filter_table.specs.declared.operation.StageFault.TheVariants as stage_fault
+use Rattle.filter_table.specs.Staging.{CannotStage}
 use Rattle.table_replica.specs.Shown.{ReplicaState}
-use Rattle.table_replica.specs.Tables.{State, after, made, instructions, instructions_of, Allowed}
-use Rattle.table_replica.proofs.Changes.{asks_allowed}
-use Rattle.table_replica.proofs.Tables.{allowed_fits, tests_fit, version-after}
-use Rattle.monitor_messages.specs.declared.message.Vote.TheVariants.{Yes, NoMemory}
-use Rattle.monitor_messages.specs.declared.message.Decision.TheVariants.{Committed}
+use Rattle.filter_table.specs.Tables.{State, after, made, instructions, instructions_of, Allowed}
+use Rattle.filter_table.proofs.Changes.{asks_allowed}
+use Rattle.filter_table.proofs.Tables.{allowed_fits, tests_fit, version-after}
+use Rattle.filter_table.specs.declared.decision.Vote.TheVariants.{Yes, NoMemory}
+use Rattle.filter_table.specs.declared.decision.Decision.TheVariants.{Committed}
 use Rattle.monitor_2pc.specs.declared.step.Say.{Say}
 use Rattle.monitor_2pc.specs.declared.step.Step.{Step}
 use Rattle.monitor_2pc.specs.Participants.{Casts}

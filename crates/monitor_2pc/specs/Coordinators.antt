@@ -3,17 +3,17 @@
 use Rattle.std.specs.Prelude.{◌≡◌, ◌≢◌, ◌+◌, ◌<◌, ℕ, suc, Bool, true, false, cond, Option, Some, None, IsSome, List, length, slice_get, slice_set}
 use Rattle.std.specs.List.{list_all}
 use Rattle.std.proofs.Common.{replicate}
-use Rattle.table_replica.specs.declared.Op.{Op}
-use Rattle.table_replica.specs.declared.StageFault.{StageFault}
-use Rattle.table_replica.specs.declared.StageFault.TheVariants as stage_fault
-use Rattle.table_replica.specs.Tables.{State, made, Allowed}
-use Rattle.table_replica.specs.Staging.{AsksForMemory}
-use Rattle.monitor_messages.specs.declared.message.Vote.{Vote}
-use Rattle.monitor_messages.specs.declared.message.Vote.TheVariants as vote
-use Rattle.monitor_messages.specs.declared.message.Veto.{Veto}
-use Rattle.monitor_messages.specs.declared.message.Veto.TheVariants as veto
-use Rattle.monitor_messages.specs.declared.message.Decision.{Decision}
-use Rattle.monitor_messages.specs.declared.message.Decision.TheVariants.{Committed, Refused}
+use Rattle.filter_table.specs.declared.operation.Op.{Op}
+use Rattle.filter_table.specs.declared.operation.StageFault.{StageFault}
+use Rattle.filter_table.specs.declared.operation.StageFault.TheVariants as stage_fault
+use Rattle.filter_table.specs.Tables.{State, made, Allowed}
+use Rattle.filter_table.specs.Staging.{AsksForMemory}
+use Rattle.filter_table.specs.declared.decision.Vote.{Vote}
+use Rattle.filter_table.specs.declared.decision.Vote.TheVariants as vote
+use Rattle.filter_table.specs.declared.decision.Veto.{Veto}
+use Rattle.filter_table.specs.declared.decision.Veto.TheVariants as veto
+use Rattle.filter_table.specs.declared.decision.Decision.{Decision}
+use Rattle.filter_table.specs.declared.decision.Decision.TheVariants.{Committed, Refused}
 use Rattle.monitor_2pc.specs.declared.step.Say.{Say}
 use Rattle.monitor_2pc.specs.declared.step.Say.TheVariants as say
 use Rattle.monitor_2pc.specs.declared.step.Step.{Step}

@@ -1,15 +1,15 @@
 -- Two-phase commit at a core other than core 0, case by case (Gray 1978, "Notes on data base operating systems", section 5.8.3;
 -- Baumann et al. 2009, "The Multikernel", section 4.4: agreement between monitors).
 use Rattle.std.specs.Prelude.{◌≡◌, ◌+◌, ◌<◌, ◌≤◌, ℕ, Bool, false, Option, Some, None, IsSome}
-use Rattle.table_replica.specs.declared.Op.{Op}
-use Rattle.table_replica.specs.declared.OpFault.{OpFault}
-use Rattle.table_replica.specs.declared.StageFault.TheVariants.{Rule, Budget}
-use Rattle.table_replica.specs.Tables.{State, after, instructions, Allowed}
-use Rattle.table_replica.specs.Staging.{AsksForMemory}
+use Rattle.filter_table.specs.declared.operation.Op.{Op}
+use Rattle.filter_table.specs.declared.operation.OpFault.{OpFault}
+use Rattle.filter_table.specs.declared.operation.StageFault.TheVariants.{Rule, Budget}
+use Rattle.filter_table.specs.Tables.{State, after, instructions, Allowed}
+use Rattle.filter_table.specs.Staging.{AsksForMemory}
 use Rattle.monitor_messages.specs.declared.message.Message.{Message}
 use Rattle.monitor_messages.specs.declared.message.Message.TheVariants as message
-use Rattle.monitor_messages.specs.declared.message.Vote.{Vote}
-use Rattle.monitor_messages.specs.declared.message.Vote.TheVariants as vote
+use Rattle.filter_table.specs.declared.decision.Vote.{Vote}
+use Rattle.filter_table.specs.declared.decision.Vote.TheVariants as vote
 
 -- a core's last number; between its vote and the outcome the vote, and the operation where that was Yes
 pub record ParticipantPlace : Type 0 where

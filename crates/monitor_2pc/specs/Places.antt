@@ -1,7 +1,7 @@
 -- What the two parts of the protocol share.
 use Rattle.std.specs.Prelude.{Option, None, Some}
-use Rattle.table_replica.specs.declared.Op.{Op}
-use Rattle.table_replica.specs.Tables.{State, after}
+use Rattle.filter_table.specs.declared.operation.Op.{Op}
+use Rattle.filter_table.specs.Tables.{State, after}
 
 -- the table once this is committed, if anything is
 abbrev pub after_commit : State → Option Op → State

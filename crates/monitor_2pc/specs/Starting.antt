@@ -1,10 +1,10 @@
 -- Why core 0 can't start a request, and what its replica made of one that it was asked to stage.
 use Rattle.std.specs.Prelude.{◌≡◌, ◌≢◌, ℕ, zero, suc, Option, None, Some, slice_get}
-use Rattle.table_replica.specs.declared.Op.{Op}
-use Rattle.table_replica.specs.declared.StageFault.{StageFault}
+use Rattle.filter_table.specs.declared.operation.Op.{Op}
+use Rattle.filter_table.specs.declared.operation.StageFault.{StageFault}
 use Rattle.table_replica.specs.Shown.{ReplicaState}
-use Rattle.table_replica.specs.Staging.{CannotStage}
-use Rattle.table_replica.specs.Tables.{Allowed}
+use Rattle.filter_table.specs.Staging.{CannotStage}
+use Rattle.filter_table.specs.Tables.{Allowed}
 use Rattle.monitor_2pc.specs.declared.step.Say.{Say}
 use Rattle.monitor_2pc.specs.declared.step.Say.TheVariants.{Prepare}
 use Rattle.monitor_2pc.specs.declared.step.StartFault.{StartFault}

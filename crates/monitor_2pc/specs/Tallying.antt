@@ -1,8 +1,8 @@
 -- What votes come to.
 -- No public clause cites these.
 use Rattle.std.specs.Prelude.{◌≡◌, ◌≢◌, ℕ, Option, Some, None, List, slice_get}
-use Rattle.monitor_messages.specs.declared.message.Vote.{Vote}
-use Rattle.monitor_messages.specs.declared.message.Vote.TheVariants.{Yes}
+use Rattle.filter_table.specs.declared.decision.Vote.{Vote}
+use Rattle.filter_table.specs.declared.decision.Vote.TheVariants.{Yes}
 use Rattle.monitor_2pc.specs.declared.step.Say.{Say}
 use Rattle.monitor_2pc.specs.declared.step.Say.TheVariants.{Prepare, Commit, Abort}
 use Rattle.monitor_2pc.specs.declared.tally.Tally.{Tally}

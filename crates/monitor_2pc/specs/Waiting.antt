@@ -1,8 +1,8 @@
 -- What core 0's fields say of the phase.
 -- No public clause cites these.
 use Rattle.std.specs.Prelude.{◌≡◌, ℕ, Bool, List, Option, None}
-use Rattle.monitor_messages.specs.declared.message.Vote.{Vote}
-use Rattle.monitor_messages.specs.declared.message.Decision.{Decision}
+use Rattle.filter_table.specs.declared.decision.Vote.{Vote}
+use Rattle.filter_table.specs.declared.decision.Decision.{Decision}
 use Rattle.monitor_2pc.specs.declared.coordinator.Wait.{Wait}
 use Rattle.monitor_2pc.specs.declared.coordinator.Wait.TheVariants.{Nothing, Votes, Acks}
 use Rattle.monitor_2pc.specs.Coordinators.{Phase, Idle, Voting, Acking}

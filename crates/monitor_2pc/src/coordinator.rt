@@ -2,10 +2,10 @@
 
 ghost use Rattle.std.specs.Prelude.{◌≡◌, ◌+◌, ◌-◌, ◌<◌, ◌≤◌, ◌↔◌, ℕ, suc, true, false, Option, None, Some, IsSome, IsTrue, IsFalse, IfOk, IfErr, OnOk, OnErr, IfSome, OnSome, IfNone, slice_get, slice_set};
 ghost use Rattle.std.proofs.Common.{replicate};
-ghost use Rattle.table_replica.specs.declared.Op.{Op as GhostOp};
-ghost use Rattle.table_replica.specs.Tables.{State as GhostState, after, made};
+ghost use Rattle.filter_table.specs.declared.operation.Op.{Op as GhostOp};
+ghost use Rattle.filter_table.specs.Tables.{State as GhostState, after, made};
 ghost use Rattle.monitor_2pc.specs.declared.step.Step.{Step as GhostStep};
-ghost use Rattle.monitor_messages.specs.declared.message.Decision.TheVariants.{Committed, Refused};
+ghost use Rattle.filter_table.specs.declared.decision.Decision.TheVariants.{Committed, Refused};
 ghost use Rattle.monitor_2pc.specs.declared.step.Say.TheVariants.{Abort};
 ghost use Rattle.monitor_2pc.specs.Places.{after_commit};
 ghost use Rattle.monitor_2pc.specs.Coordinators.{CoordinatorState, CoordinatorPlace, Requests, Idle, Acking, coordinator_place, no_requests, StagedByPhase, CanStart, Starts, StartsFor, CanSubmit, with_waiting, AwaitsVote, Hears, with_decided, AwaitsAck, HearsAck, reply_of, veto_of, veto_by, step};
@@ -14,10 +14,10 @@ ghost use Rattle.monitor_2pc.specs.Starting.{CannotStart, CannotStartFor, WasSta
 use crate::step::{Say, StartFault, Step, Stranger};
 use crate::tally::{Tally, cast, clear, is_last, mark, unmark, verdict_with};
 use arrayvec::ArrayVec;
-use monitor_messages::{Decision, Veto, Vote};
+use filter_table::{Decision, Op, StageFault, Veto, Vote};
 use std::alloc::Global;
 use std::marker::Model;
-use table_replica::{Op, Replica, StageFault};
+use table_replica::Replica;
 
 /// What core 0 waits for.
 #[derive(Clone, Copy, PartialEq, Eq, Debug)]

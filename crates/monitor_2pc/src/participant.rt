@@ -1,19 +1,20 @@
 //! A core other than core 0 in the protocol.
 
 ghost use Rattle.std.specs.Prelude.{◌≡◌, ◌+◌, ◌↔◌, IsTrue, IsSome, true, false, None, Some, IfErr, IfOk, OnOk, OnErr};
-ghost use Rattle.table_replica.specs.Tables.{Allowed};
-ghost use Rattle.table_replica.specs.declared.StageFault.TheVariants.{Rule};
-ghost use Rattle.monitor_messages.specs.declared.message.Vote.TheVariants.{Yes};
-ghost use Rattle.table_replica.specs.declared.OpFault.{OpFault as GhostFault};
+ghost use Rattle.filter_table.specs.Tables.{Allowed};
+ghost use Rattle.filter_table.specs.declared.operation.StageFault.TheVariants.{Rule};
+ghost use Rattle.filter_table.specs.declared.decision.Vote.TheVariants.{Yes};
+ghost use Rattle.filter_table.specs.declared.operation.OpFault.{OpFault as GhostFault};
 ghost use Rattle.monitor_messages.specs.declared.message.Message.TheVariants.{Prepare, Commit, Abort, Submit};
 ghost use Rattle.monitor_2pc.specs.Participants.{ParticipantState, Casts, staged_by, place_of, StagedByVote, Answers, commits, Fits};
 ghost use Rattle.monitor_2pc.specs.Places.{after_commit};
 
 use crate::step::Stranger;
-use monitor_messages::{Decision, Message, Vote};
+use filter_table::{Decision, Op, StageFault, Vote};
+use monitor_messages::Message;
 use std::alloc::Global;
 use std::marker::Model;
-use table_replica::{Op, Replica, StageFault};
+use table_replica::Replica;
 
 /// A core other than core 0 in the protocol: its last number, its vote while it awaits the outcome, and whether it has a
 /// request outstanding.
@@ -233,7 +234,7 @@ impl Participant {
 }
 
 // The vote on an operation, which stays staged where it is Yes. A rule that refuses it makes it a stranger.
-#[tactic(auto, using(table_replica::proofs::Tables::over_budget))]
+#[tactic(auto, using(filter_table::proofs::Tables::over_budget))]
 fn staged_vote(alloc: Global, replica: &mut Replica, op: &Op, short: bool) -> Result<Vote, Stranger>
     requires { replica.old.staged ≡ None }
     ensures casts { IfOk result (Casts short replica.old.shown replica.old.budget op.now) }

@@ -1,6 +1,6 @@
 //! What a step of core 0 tells, and why one is not taken.
 
-use monitor_messages::Decision;
+use filter_table::Decision;
 
 /// What core 0 says to every other core.
 #[derive(Clone, Copy, PartialEq, Eq, Debug, Drop)]

@@ -6,7 +6,7 @@ ghost use Rattle.std.proofs.Common.{replicate};
 ghost use Rattle.monitor_2pc.specs.Tallying.{Tallied, SaysOn};
 
 use crate::step::Say;
-use monitor_messages::Vote;
+use filter_table::Vote;
 
 /// What votes come to.
 #[derive(Clone, Copy, PartialEq, Eq, Debug)]

@@ -4,14 +4,14 @@ use Rattle.std.specs.Int.{w16, w32, w64, to_le_bytes}
 use Rattle.std.proofs.lemmas.Bool.{eqb-true}
 use Rattle.std.proofs.lemmas.Bool.Decides.{nat_tests}
 use Rattle.std.proofs.lemmas.Option.{same_Some}
-use Rattle.table_replica.specs.declared.OpFault.{OpFault}
-use Rattle.table_replica.specs.declared.OpFault.TheVariants.{NoCap, NotHolder, NoRight, RightsExceed, EndpointTaken, CapsFull, IdsSpent, NoFilter, NotOwner, TableFull, FilterIdsSpent, BadProgram, VersionsSpent}
-use Rattle.table_replica.specs.declared.Made.{Made}
-use Rattle.table_replica.specs.declared.Made.TheVariants as made_variants
-use Rattle.monitor_messages.specs.declared.message.Veto.{Veto}
-use Rattle.monitor_messages.specs.declared.message.Veto.TheVariants as veto
-use Rattle.monitor_messages.specs.declared.message.Decision.{Decision}
-use Rattle.monitor_messages.specs.declared.message.Decision.TheVariants.{Committed, Refused}
+use Rattle.filter_table.specs.declared.operation.OpFault.{OpFault}
+use Rattle.filter_table.specs.declared.operation.OpFault.TheVariants.{NoCap, NotHolder, NoRight, RightsExceed, EndpointTaken, CapsFull, IdsSpent, NoFilter, NotOwner, TableFull, FilterIdsSpent, BadProgram, VersionsSpent}
+use Rattle.filter_table.specs.declared.operation.Made.{Made}
+use Rattle.filter_table.specs.declared.operation.Made.TheVariants as made_variants
+use Rattle.filter_table.specs.declared.decision.Veto.{Veto}
+use Rattle.filter_table.specs.declared.decision.Veto.TheVariants as veto
+use Rattle.filter_table.specs.declared.decision.Decision.{Decision}
+use Rattle.filter_table.specs.declared.decision.Decision.TheVariants.{Committed, Refused}
 use Rattle.monitor_messages.specs.declared.message.Message.TheVariants.{Reply}
 use Rattle.monitor_messages.specs.Coding.{fault_bytes, veto_bytes, made_bytes, decision_bytes, IsFault, IsVeto, IsMade, IsDecision, IsNumbered}
 use Rattle.monitor_messages.specs.Reading.{◌>>=◌, choose, ended, u8_at, u16_at, u64_at, last_u16, last_u32, fault_rows, plain_fault, bad_program_in, fault_in, veto_rows, veto_in, made_rows, made_in, committed_in, refused_in, decision_in}

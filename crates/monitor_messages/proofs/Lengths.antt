@@ -3,19 +3,20 @@ use Rattle.std.proofs.Common.{◌≡◌, ℕ, ◌*◌, ◌<◌, ◌≤◌, List,
 use Rattle.std.specs.List.{flat_map}
 use Rattle.bpf_insn.specs.declared.insn.Insn.{Insn}
 use Rattle.bpf_insn.specs.Table.{bytes_of}
-use Rattle.table_replica.specs.declared.Op.{Op}
-use Rattle.table_replica.specs.declared.Op.TheVariants.{Create, Mint, Revoke, DropCap, Install, Remove, Replace}
-use Rattle.table_replica.specs.declared.OpFault.{OpFault}
-use Rattle.table_replica.specs.declared.OpFault.TheVariants.{NoCap, NotHolder, NoRight, RightsExceed, EndpointTaken, CapsFull, IdsSpent, NoFilter, NotOwner, TableFull, FilterIdsSpent, BadProgram, VersionsSpent}
-use Rattle.table_replica.specs.declared.Made.{Made}
-use Rattle.table_replica.specs.declared.Made.TheVariants as made_variants
-use Rattle.monitor_messages.specs.declared.message.Veto.{Veto}
-use Rattle.monitor_messages.specs.declared.message.Veto.TheVariants as veto
-use Rattle.monitor_messages.specs.declared.message.Decision.{Decision}
-use Rattle.monitor_messages.specs.declared.message.Decision.TheVariants.{Committed, Refused}
+use Rattle.filter_table.specs.declared.operation.Op.{Op}
+use Rattle.filter_table.specs.declared.operation.Op.TheVariants.{Create, Mint, Revoke, DropCap, Install, Remove, Replace}
+use Rattle.filter_table.specs.declared.operation.OpFault.{OpFault}
+use Rattle.filter_table.specs.declared.operation.OpFault.TheVariants.{NoCap, NotHolder, NoRight, RightsExceed, EndpointTaken, CapsFull, IdsSpent, NoFilter, NotOwner, TableFull, FilterIdsSpent, BadProgram, VersionsSpent}
+use Rattle.filter_table.specs.declared.operation.Made.{Made}
+use Rattle.filter_table.specs.declared.operation.Made.TheVariants as made_variants
+use Rattle.filter_table.specs.declared.decision.Veto.{Veto}
+use Rattle.filter_table.specs.declared.decision.Veto.TheVariants as veto
+use Rattle.filter_table.specs.declared.decision.Decision.{Decision}
+use Rattle.filter_table.specs.declared.decision.Decision.TheVariants.{Committed, Refused}
 use Rattle.monitor_messages.specs.declared.message.Message.{Message}
 use Rattle.monitor_messages.specs.declared.message.Message.TheVariants as message
-use Rattle.monitor_messages.specs.Coding.{op_bytes, fault_bytes, veto_bytes, made_bytes, decision_bytes, coded, HasShortProgram, IsShort}
+use Rattle.filter_table.specs.Tables.{HasShortProgram}
+use Rattle.monitor_messages.specs.Coding.{op_bytes, fault_bytes, veto_bytes, made_bytes, decision_bytes, coded, IsShort}
 
 insns_length : (program : List Insn) → length (flat_map bytes_of program) ≡ 8 * length program
 insns_length [] = refl

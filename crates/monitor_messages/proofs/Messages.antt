@@ -5,8 +5,8 @@ use Rattle.std.specs.Int.{w64, to_le_bytes}
 use Rattle.std.proofs.lemmas.Option.{same_Some}
 use Rattle.monitor_messages.specs.declared.fault.DecodeFault.{DecodeFault}
 use Rattle.monitor_messages.specs.declared.fault.DecodeFault.TheVariants as faults
-use Rattle.monitor_messages.specs.declared.message.Vote.{Vote}
-use Rattle.monitor_messages.specs.declared.message.Vote.TheVariants.{Yes, Budget, NoMemory}
+use Rattle.filter_table.specs.declared.decision.Vote.{Vote}
+use Rattle.filter_table.specs.declared.decision.Vote.TheVariants.{Yes, Budget, NoMemory}
 use Rattle.monitor_messages.specs.declared.message.Message.{Message}
 use Rattle.monitor_messages.specs.declared.message.Message.TheVariants as message
 use Rattle.monitor_messages.specs.Coding.{vote_number, op_bytes, decision_bytes, coded, Coded, IsMessage, IsShort, IsNumbered}

@@ -10,9 +10,10 @@ use Rattle.bpf_insn.specs.declared.insn.Insn.{Insn}
 use Rattle.bpf_insn.specs.Table.{InRange, bytes_of}
 use Rattle.endpoint_caps.specs.declared.Rights.{Rights}
 use Rattle.endpoint_caps.specs.declared.Rights.TheVariants.{R, M, Rm}
-use Rattle.table_replica.specs.declared.Op.{Op}
-use Rattle.table_replica.specs.declared.Op.TheVariants.{Create, Mint, Revoke, DropCap, Install, Remove, Replace}
-use Rattle.monitor_messages.specs.Coding.{rights_number, program_bytes, op_bytes, IsOp, HasShortProgram}
+use Rattle.filter_table.specs.declared.operation.Op.{Op}
+use Rattle.filter_table.specs.declared.operation.Op.TheVariants.{Create, Mint, Revoke, DropCap, Install, Remove, Replace}
+use Rattle.filter_table.specs.Tables.{HasShortProgram}
+use Rattle.monitor_messages.specs.Coding.{rights_number, program_bytes, op_bytes, IsOp}
 use Rattle.monitor_messages.specs.Reading.{◌>>=◌, choose, rights_rows, rights_in, mint_in, loaded_in, op_rows, op_of, op_in, insn_at, insns_at, program_in, ended, u8_at, u16_at, u32_at, last_u8, last_u16, last_u32}
 use Rattle.monitor_messages.proofs.Numbers.{IsBytes, bind_some, by_rows, ◌⨾◌, Takes, Takes-then, whole, ended_some, u8_takes, u16_takes, u32_takes, u16_again, u32_again, last_u8_takes, last_u16_takes, last_u32_takes, last_u8_again, last_u16_again, last_u32_again}
 

@@ -1,7 +1,7 @@
 -- The messages that carry a program, which takes memory, and the bytes that begin as theirs do.
 use Rattle.std.specs.Prelude.{◌≡◌, ◌⊎◌, ℕ, Option, None, Some, List, slice_get}
 use Rattle.bpf_insn.specs.declared.insn.Insn.{Insn}
-use Rattle.table_replica.specs.Tables.{program_of}
+use Rattle.filter_table.specs.Tables.{program_of}
 use Rattle.monitor_messages.specs.declared.message.Message.{Message}
 use Rattle.monitor_messages.specs.declared.message.Message.TheVariants as message
 

@@ -39,6 +39,7 @@ mod reading;
 mod writing;
 
 pub use fault::DecodeFault;
-pub use message::{Decision, Message, Veto, Vote};
+pub use filter_table::{Decision, Veto, Vote};
+pub use message::Message;
 pub use reading::decode;
 pub use writing::encode;

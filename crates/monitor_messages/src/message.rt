@@ -1,44 +1,9 @@
 //! The messages.
 
-ghost use Rattle.std.specs.Prelude.{◌≡◌, None, IsOk, IfOk};
-ghost use Rattle.monitor_messages.specs.Carrying.{program_in};
-
-use std::alloc::{AllocError, Global};
-use table_replica::{Made, Op, OpFault};
-
-/// What another core answers to the question whether it can make a change.
-#[derive(Clone, Copy, PartialEq, Eq, Debug, Drop)]
-pub enum Vote {
-    /// It has the change ready.
-    Yes,
-    /// The instructions of its filters would exceed its budget.
-    Budget,
-    /// It has no memory for the change.
-    NoMemory,
-}
-
-/// Why a request is refused.
-#[derive(Clone, Copy, PartialEq, Eq, Debug, Drop)]
-pub enum Veto {
-    /// It breaks a rule, which every core says of it.
-    Rule(OpFault),
-    /// The instructions of the core's filters would exceed its budget.
-    Budget,
-    /// The core has no memory for it.
-    NoMemory,
-}
-
-/// What becomes of a request.
-#[derive(Clone, Copy, PartialEq, Eq, Debug, Drop)]
-pub enum Decision {
-    /// Every core makes the change, and has then this version; the request made this.
-    Committed { version: u64, made: Made },
-    /// No core makes the change, since this core can't.
-    Refused { core: u16, why: Veto },
-}
+use filter_table::{Decision, Op, Vote};
 
 /// A message between core 0 and another core.
-#[derive(Drop)]
+#[derive(Clone, Drop)]
 pub enum Message {
     /// Core 0 asks whether the core can make the change of this number.
     Prepare { txn: u64, op: Op },
@@ -54,33 +19,4 @@ pub enum Message {
     Submit { op: Op },
     /// What became of the core's request.
     Reply { decision: Decision },
-}
-
-impl Message {
-    /// An equal message. Takes memory only for the program of an operation.
-    pub fn copy(&self, alloc: Global) -> Result<Message, AllocError>
-        ensures equal { IfOk result (λ message. message ≡ self.now) }
-        ensures memory { program_in self.now ≡ None → IsOk result }
-    {
-        match self {
-            Message::Prepare { txn, op } => {
-                let op = op.copy(alloc)?;
-                Ok(Message::Prepare { txn: *txn, op })
-            }
-            Message::Vote { txn, vote } => Ok(Message::Vote {
-                txn: *txn,
-                vote: *vote,
-            }),
-            Message::Commit { txn } => Ok(Message::Commit { txn: *txn }),
-            Message::Abort { txn } => Ok(Message::Abort { txn: *txn }),
-            Message::Ack { txn } => Ok(Message::Ack { txn: *txn }),
-            Message::Submit { op } => {
-                let op = op.copy(alloc)?;
-                Ok(Message::Submit { op })
-            }
-            Message::Reply { decision } => Ok(Message::Reply {
-                decision: *decision,
-            }),
-        }
-    }
 }

@@ -9,11 +9,11 @@ ghost use Rattle.monitor_messages.specs.Reading as spec;
 ghost use Rattle.monitor_messages.specs.Reading.{Gives};
 
 use crate::fault::DecodeFault;
-use crate::message::{Decision, Message, Veto, Vote};
+use crate::message::Message;
 use bpf_insn::Insn;
 use endpoint_caps::Rights;
+use filter_table::{Decision, Made, Op, OpFault, Program, Veto, Vote};
 use std::alloc::Global;
-use table_replica::{Made, Op, OpFault, Program};
 
 /// The stamp and the message whose bytes these are, all of the bytes. Memory is taken only for the program of an operation.
 pub fn decode(alloc: Global, bytes: &[u8]) -> Result<(u64, Message), DecodeFault>
@@ -190,7 +190,7 @@ fn program_in(alloc: Global, bytes: &[u8]) -> Result<Program, DecodeFault>
     if !rest.is_empty() {
         return Err(DecodeFault::BadMessage);
     }
-    Ok(Program::from_vec(code))
+    Ok(Program::from_vec(alloc, code)?)
 }
 
 fn insns_at(alloc: Global, count: u16, bytes: &[u8]) -> Result<(Vec<Insn>, &[u8]), DecodeFault>

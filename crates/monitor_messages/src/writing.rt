@@ -3,13 +3,14 @@
 ghost use Rattle.std.specs.Prelude.{◌≡◌, ◌<◌, ◌≤◌, ◌++◌, ◌∷◌, length, All, IfOk, OnOk};
 ghost use Rattle.std.specs.Int.{w16, w32, w64, to_le_bytes};
 ghost use Rattle.bpf_insn.specs.Table.{InRange, bytes_of};
-ghost use Rattle.monitor_messages.specs.Coding.{fault_number, fault_bytes, made_bytes, veto_bytes, decision_bytes, rights_number, vote_number, program_bytes, op_bytes, coded, Coded, IsShort, HasShortProgram, IsNumbered, IsOp, IsMade, IsFault, IsVeto, IsDecision, IsMessage};
+ghost use Rattle.filter_table.specs.Tables.{HasShortProgram};
+ghost use Rattle.monitor_messages.specs.Coding.{fault_number, fault_bytes, made_bytes, veto_bytes, decision_bytes, rights_number, vote_number, program_bytes, op_bytes, coded, Coded, IsShort, IsNumbered, IsOp, IsMade, IsFault, IsVeto, IsDecision, IsMessage};
 
-use crate::message::{Decision, Message, Veto, Vote};
+use crate::message::Message;
 use bpf_insn::Insn;
 use endpoint_caps::Rights;
+use filter_table::{Decision, Made, Op, OpFault, Program, Veto, Vote};
 use std::alloc::{AllocError, Global};
-use table_replica::{Made, Op, OpFault, Program};
 
 /// The bytes of a message that is sent under this stamp.
 pub fn encode(alloc: Global, stamp: u64, message: &Message) -> Result<Vec<u8>, AllocError>

@@ -319,6 +319,7 @@ pub whole_taken : (bytes rest front : List ℕ) (old : Feed) (h : Header) (offse
 whole_taken bytes rest front old h offset' p is going none empty parts one small moved = record {
   front = front;
   parts = parts;
+  last = (take 16 front, sym (take-append-drop 16 front) ∙ ap (λ t. take 16 front ++ t) one.body);
   some = omega (arith, one.header);
   holds = λ given fed held short.
       let at : given ++ old.packets.items ≡ given = ap (λ t. given ++ t) empty ∙ append-nil given in

@@ -3,3 +3,4 @@ pub mod FeedLemmas
 pub mod LawLemmas
 pub mod AnswerLemmas
 pub mod ReadingLemmas
+pub mod SharingLemmas

@@ -73,10 +73,11 @@ pub record SeesWhole (feed : Feed) (bytes : List ℕ) : Type 0 where
   pub short : captured header.big bytes ≤ 262144
   pub whole : 16 + captured header.big bytes ≤ length bytes
 
--- of some bytes a feed took a front, with one packet that it doesn't hold
+-- of some bytes a feed took a front, which ends with the bytes of one packet, and which the feed doesn't hold
 pub record TakesWhole (bytes rest : List ℕ) (old new : Feed) (packet : Packet) : Type 0 where
   pub front : List ℕ
   pub parts : bytes ≡ front ++ rest
+  pub last : (header : List ℕ) × (front ≡ header ++ packet.bytes)
   pub some : 0 < length front
   pub holds : (given : List Packet) (fed : List ℕ) → HoldsBehind given fed old → length (fed ++ front) < 2 ^ 64
       → HoldsBehind (given ++ packet ∷ []) (fed ++ front) new

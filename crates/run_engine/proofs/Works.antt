@@ -2,13 +2,13 @@
 use Rattle.std.proofs.Common.{◌≡◌, ◌<◌, All, ℕ, zero, suc, List, [], ◌∷◌, subst, sym}
 use Rattle.std.specs.List.{flat_map}
 use Rattle.std.proofs.lemmas.List.Elements.{All-nil, All-cons, All-head, All-tail, All-append}
-use Rattle.table_replica.specs.declared.Op.{Op}
+use Rattle.filter_table.specs.declared.operation.Op.{Op}
 use Rattle.rx_queue.specs.declared.job.Job.{Job}
 use Rattle.core_loop.specs.Cores.{AreShort}
 use Rattle.core_threads.specs.Booting.{AreGivable}
-use Rattle.monitor_messages.specs.Coding.{HasShortProgram}
-use Rattle.world_model.specs.declared.event.Event.TheVariants.{Rx}
-use Rattle.world_model.specs.declared.event.Event.TheVariants as event
+use Rattle.filter_table.specs.Tables.{HasShortProgram}
+use Rattle.world_events.specs.declared.event.Event.TheVariants.{Rx}
+use Rattle.world_events.specs.declared.event.Event.TheVariants as event
 use Rattle.mk_script.specs.declared.script.Item.{Item}
 use Rattle.mk_script.specs.declared.script.Item.TheVariants.{Ask, Begin, Submit, StartFor, Apply, Settle, Show}
 use Rattle.mk_script.specs.Limits.{IsLimited}

@@ -17,6 +17,7 @@ use core_join::{conclude, in_order};
 use core_threads::{BootFault, Ended, Gate, Halt, RunFault, boot, run_machine};
 use mk_script::{Item, Script, read_script};
 use script_input::{read_inputs, refuse};
+use seq::Shared;
 use std::alloc::{AllocError, Global};
 use std::io::{Read, Write};
 use std::sync::Wait;
@@ -102,12 +103,12 @@ fn run_text<T: Threads + Wait + Clock + Sync, G: Gate + Sync, W: Write>(
     alloc: Global,
     gate: &G,
     input: &[u8],
-    files: &[Vec<u8>],
+    files: &[Shared<u8>],
     writer: &mut Sink<W>,
 ) -> Result<u8, RunFailure>
     requires short { length input.now < 2 ^ 32 }
     requires good { writer.old.failed ≡ false }
-    ensures shown { IfOk result (λ status. (text : List ℕ) × Appends (W.contents writer.old.inner) (W.contents writer.new.inner) text × ShowsRunScript (map (λ v. v.items) files.now) input.now status text) }
+    ensures shown { IfOk result (λ status. (text : List ℕ) × Appends (W.contents writer.old.inner) (W.contents writer.new.inner) text × ShowsRunScript (files.now) input.now status text) }
     ensures good { OnOk result (writer.new.failed ≡ false) }
     ensures silent { IfErr result (λ failure. (failure ≡ RunFailure.Engine EngineFault.WriteFailed) ⊎ (writer.new ≡ writer.old)) }
 {

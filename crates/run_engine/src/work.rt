@@ -4,11 +4,11 @@ ghost use Rattle.std.specs.Prelude.{◌≡◌, ◌++◌, All, OnOk, IfOk};
 ghost use Rattle.mk_script.specs.Threads.{IsForThreads};
 ghost use Rattle.run_engine.specs.Work.{job_in, jobs_of, request_in, requests_of};
 
+use filter_table::Op;
 use mk_script::Item;
 use rx_queue::Job;
 use std::alloc::{AllocError, Global};
-use table_replica::Op;
-use world_model::Event;
+use world_events::Event;
 
 /// Requests and jobs, each with the number of its core.
 #[derive(Drop)]

@@ -7,6 +7,7 @@ ghost use Rattle.console.specs.declared.input.TheConstants.{INPUT_READS};
 ghost use Rattle.script_input.specs.Inputs.{AllWithin, AreInputs, Kept, LongAmong, ReadSo};
 
 use console::{EngineFault, INPUT_BYTES, INPUT_READS, Input, Source, read_bounded};
+use seq::Shared;
 use std::alloc::{AllocError, Global};
 use std::io::Read;
 
@@ -14,9 +15,9 @@ use std::io::Read;
 pub(crate) fn read_files<F: Read + Drop>(
     alloc: Global,
     files: Vec<F>,
-) -> Result<Option<Vec<Vec<u8>>>, EngineFault>
+) -> Result<Option<Vec<Shared<u8>>>, EngineFault>
     ensures read { IfOk result (λ read. MatchOption read (LongAmong (map F.remaining files.items))
-        (λ held. AreInputs (map F.remaining files.items) (map (λ v. v.items) held.items) × AllWithin (map (λ v. v.items) held.items))) }
+        (λ held. AreInputs (map F.remaining files.items) (held.items) × AllWithin (held.items))) }
     ensures fault { IfErr result IsReadFault }
 {
     let mut held = Vec::new(alloc);
@@ -32,10 +33,10 @@ fn keep_unless<F: Read + Drop>(
     alloc: Global,
     long: bool,
     file: F,
-    held: &mut Vec<Vec<u8>>,
+    held: &mut Vec<Shared<u8>>,
 ) -> Result<bool, EngineFault>
-    ensures read { IfOk result (λ now. (known : List (Option (List ℕ))) → ReadSo known (map (λ v. v.items) held.old.items) long
-        → ReadSo (known ++ F.remaining file ∷ []) (map (λ v. v.items) held.new.items) now) }
+    ensures read { IfOk result (λ now. (known : List (Option (List ℕ))) → ReadSo known (held.old.items) long
+        → ReadSo (known ++ F.remaining file ∷ []) (held.new.items) now) }
     ensures fault { IfErr result IsReadFault }
 {
     if long {
@@ -50,15 +51,15 @@ fn keep_unless<F: Read + Drop>(
 fn keep<F: Read>(
     alloc: Global,
     source: &mut Source<F>,
-    held: &mut Vec<Vec<u8>>,
+    held: &mut Vec<Shared<u8>>,
 ) -> Result<bool, EngineFault>
     requires { IsFresh source.old INPUT_READS }
-    ensures kept { IfOk result (Kept (F.remaining source.old.inner) (map (λ v. v.items) held.old.items) (map (λ v. v.items) held.new.items)) }
+    ensures kept { IfOk result (Kept (F.remaining source.old.inner) (held.old.items) (held.new.items)) }
     ensures fault { IfErr result IsReadFault }
 {
     match read_bounded(alloc, source, INPUT_BYTES)? {
         Input::Whole(bytes) => {
-            push(held, bytes)?;
+            push(alloc, held, bytes)?;
             Ok(true)
         }
         Input::TooLong => Ok(false),
@@ -66,9 +67,9 @@ fn keep<F: Read>(
 }
 
 /// Keeps what a file holds.
-fn push(held: &mut Vec<Vec<u8>>, bytes: Vec<u8>) -> Result<(), AllocError>
-    ensures { OnOk result (held.new.items ≡ held.old.items ++ bytes ∷ []) }
+fn push(alloc: Global, held: &mut Vec<Shared<u8>>, bytes: Vec<u8>) -> Result<(), AllocError>
+    ensures { OnOk result (held.new.items ≡ held.old.items ++ bytes.items ∷ []) }
 {
-    held.push(bytes)?;
+    held.push(Shared::from_vec(alloc, bytes)?)?;
     Ok(())
 }

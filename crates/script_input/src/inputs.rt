@@ -8,6 +8,7 @@ ghost use Rattle.script_input.specs.Inputs.{AllShort, AreScriptInputs, HadLong};
 
 use crate::files::read_files;
 use console::{EngineFault, INPUT_BYTES, Input, Source, read_bounded};
+use seq::Shared;
 use std::alloc::Global;
 use std::io::Read;
 
@@ -16,7 +17,7 @@ use std::io::Read;
 pub struct Inputs {
     pub script: Vec<u8>,
     /// The captures that the script names by number, from 1.
-    pub files: Vec<Vec<u8>>,
+    pub files: Vec<Shared<u8>>,
 }
 
 /// Reads the script to its end, then each file in order. Answers `None` as soon as one is longer than 64 MiB, and `ReadFailed`
@@ -28,8 +29,8 @@ pub fn read_inputs<R: Read, F: Read + Drop>(
 ) -> Result<Option<Inputs>, EngineFault>
     requires fresh { IsFresh reader.old INPUT_READS }
     ensures read { IfOk result (λ read. MatchOption read (HadLong (R.remaining reader.old.inner) (map F.remaining files.items))
-        (λ inputs. AreScriptInputs (R.remaining reader.old.inner) (map F.remaining files.items) inputs.script.items (map (λ v. v.items) inputs.files.items)
-        × AllShort inputs.script.items (map (λ v. v.items) inputs.files.items))) }
+        (λ inputs. AreScriptInputs (R.remaining reader.old.inner) (map F.remaining files.items) inputs.script.items (inputs.files.items)
+        × AllShort inputs.script.items (inputs.files.items))) }
     ensures fault { IfErr result IsReadFault }
     ensures good { OnOk result (reader.new.failed ≡ false) }
     ensures memory { IsErrOf result EngineFault.NoMemory → reader.new.failed ≡ false }

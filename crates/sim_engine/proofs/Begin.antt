@@ -1,13 +1,13 @@
 -- Requests that are begun.
 use Rattle.std.proofs.Common.{◌≡◌, ◌<◌, ℕ, zero, suc, true, false, Option, Some, None, Result, Ok, Err, List, [], ◌∷◌, length, slice_get, slice_set, refl, ap, sym, ◌∙◌, subst, arith}
 use Rattle.std.specs.Prelude.{is_ok, IfOk}
-use Rattle.table_replica.specs.declared.Op.{Op}
-use Rattle.world_model.specs.declared.event.Event.{Event}
-use Rattle.world_model.specs.declared.event.Event.TheVariants.{StartFor}
+use Rattle.filter_table.specs.declared.operation.Op.{Op}
+use Rattle.world_events.specs.declared.event.Event.{Event}
+use Rattle.world_events.specs.declared.event.Event.TheVariants.{StartFor}
 use Rattle.world_core.specs.Refusals.{waiting_at}
-use Rattle.world_model.specs.declared.event.Answer.{Answer}
+use Rattle.world_events.specs.declared.event.Answer.{Answer}
 use Rattle.world_model.specs.Worlds.{World}
-use Rattle.world_core.specs.declared.fault.WorldFault.{WorldFault}
+use Rattle.world_events.specs.declared.fault.WorldFault.{WorldFault}
 use Rattle.sim_lines.specs.Events.{event_line}
 use Rattle.sim_engine.specs.declared.requests.Request.{Request}
 use Rattle.sim_engine.specs.declared.way.Way.{Way}

@@ -2,7 +2,7 @@
 -- They enter at cores below 8, and their programs are short enough to be sent.
 -- No public clause cites these.
 use Rattle.std.specs.Prelude.{◌≡◌, ◌≢◌, ◌<◌, ◌≤◌, ℕ, Some, Option, List, length, slice_get}
-use Rattle.monitor_messages.specs.Coding.{HasShortProgram}
+use Rattle.filter_table.specs.Tables.{HasShortProgram}
 use Rattle.sim_engine.specs.declared.requests.Request.{Request}
 
 -- the places before this one are empty

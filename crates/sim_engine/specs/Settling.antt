@@ -1,7 +1,7 @@
 -- How much settling has left to begin.
 -- No public clause cites these.
 use Rattle.std.specs.Prelude.{◌+◌, ◌*◌, ℕ, Option, None, Some, List, [], ◌∷◌, length}
-use Rattle.table_replica.specs.declared.Op.{Op}
+use Rattle.filter_table.specs.declared.operation.Op.{Op}
 use Rattle.monitor_messages.specs.declared.message.Message.{Message}
 use Rattle.monitor_messages.specs.declared.message.Message.TheVariants as message
 use Rattle.world_model.specs.Worlds.{Peer, World}

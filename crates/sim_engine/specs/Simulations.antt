@@ -3,15 +3,15 @@
 use Rattle.std.specs.Prelude.{Bool, true, false, ◌≡◌, ◌≢◌, ◌<◌, ◌⊎◌, ℕ, Option, Some, None, Result, Ok, Err, List, [], ◌∷◌, ◌++◌, codes}
 use Rattle.std.specs.List.{flat_map}
 use Rattle.std.specs.Fmt.{decimal}
-use Rattle.table_replica.specs.declared.Op.{Op}
-use Rattle.table_replica.specs.Tables.{table}
-use Rattle.world_model.specs.declared.event.Event.{Event}
-use Rattle.world_model.specs.declared.event.Event.TheVariants.{StartFor}
-use Rattle.world_model.specs.declared.event.Answer.{Answer}
-use Rattle.world_model.specs.declared.event.Done.{Done}
+use Rattle.filter_table.specs.declared.operation.Op.{Op}
+use Rattle.filter_table.specs.Tables.{table}
+use Rattle.world_events.specs.declared.event.Event.{Event}
+use Rattle.world_events.specs.declared.event.Event.TheVariants.{StartFor}
+use Rattle.world_events.specs.declared.event.Answer.{Answer}
+use Rattle.world_events.specs.declared.event.Done.{Done}
 use Rattle.world_model.specs.Worlds.{World, Happens, version_at}
-use Rattle.world_core.specs.declared.fault.WorldFault.{WorldFault}
-use Rattle.world_core.specs.declared.fault.WorldFault.TheVariants.{NoMemory}
+use Rattle.world_events.specs.declared.fault.WorldFault.{WorldFault}
+use Rattle.world_events.specs.declared.fault.WorldFault.TheVariants.{NoMemory}
 use Rattle.world_core.specs.Refusals.{WorldRefuses, Settles, AllQuiet, waiting_at}
 use Rattle.sim_lines.specs.Events.{event_line, done_line}
 use Rattle.sim_lines.specs.Tables.{table_text}

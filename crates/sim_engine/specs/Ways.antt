@@ -1,8 +1,8 @@
 -- How a request is begun: core 0 starts one of its own, or another core submits one of its own to core 0.
 use Rattle.std.specs.Prelude.{ℕ, zero, suc}
-use Rattle.table_replica.specs.declared.Op.{Op}
-use Rattle.world_model.specs.declared.event.Event.{Event}
-use Rattle.world_model.specs.declared.event.Event.TheVariants.{Start, Submit}
+use Rattle.filter_table.specs.declared.operation.Op.{Op}
+use Rattle.world_events.specs.declared.event.Event.{Event}
+use Rattle.world_events.specs.declared.event.Event.TheVariants.{Start, Submit}
 use Rattle.sim_engine.specs.declared.way.Way.{Way}
 use Rattle.sim_engine.specs.declared.way.Way.TheVariants as way
 

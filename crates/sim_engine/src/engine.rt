@@ -16,6 +16,7 @@ use crate::running::perform_all;
 use console::{EngineFault, Sink, Source, refuse_long};
 use mk_script::{Script, read_script};
 use script_input::{read_inputs, refuse};
+use seq::Shared;
 use std::alloc::Global;
 use std::io::{Read, Write};
 use world_core::{BootFault, Channel, Messages, WorldOver};
@@ -80,17 +81,17 @@ pub fn run_sim_over<C: Channel, R: Read, F: Read + Drop, W: Write>(
 fn run_text<C: Channel, W: Write>(
     alloc: Global,
     input: &[u8],
-    inputs: &[Vec<u8>],
+    inputs: &[Shared<u8>],
     writer: &mut Sink<W>,
 ) -> Result<u8, EngineFault>
     requires short { length input.now < 2 ^ 32 }
     requires good { writer.old.failed ≡ false }
-    ensures shown { IfOk result (λ status. (text : List ℕ) × Appends (W.contents writer.old.inner) (W.contents writer.new.inner) text × ShowsScript (map (λ v. v.items) inputs.now) input.now status text) }
+    ensures shown { IfOk result (λ status. (text : List ℕ) × Appends (W.contents writer.old.inner) (W.contents writer.new.inner) text × ShowsScript inputs.now input.now status text) }
     ensures fault { IfErr result IsPrintFault }
     ensures good { OnOk result (writer.new.failed ≡ false) }
     ensures cause { IfErr result (StopsWriting writer.new) }
     ensures part { IsErrOf result EngineFault.NoMemory → (writer.new ≡ writer.old) ⊎ ((text : List ℕ) × Appends (W.contents writer.old.inner) (W.contents writer.new.inner) text
-        × ShowsFront (map (λ v. v.items) inputs.now) input.now text) }
+        × ShowsFront inputs.now input.now text) }
 {
     match read_script(alloc, input, inputs, false) {
         Ok(script) => run_script::<C, W>(alloc, &script, writer),

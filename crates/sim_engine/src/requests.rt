@@ -1,13 +1,13 @@
 //! The requests of a script that wait to be begun.
 
 ghost use Rattle.std.specs.Prelude.{◌≡◌, ◌+◌, ◌<◌, ◌++◌, ◌∷◌, [], ℕ, List, Option, Some, None, length, slice_get, slice_set, ◌⊎◌, MatchOption, OnOk, IfOk, IfSome, IfNone, IsTrue, IsFalse, ◌≢◌};
-ghost use Rattle.monitor_messages.specs.Coding.{HasShortProgram};
+ghost use Rattle.filter_table.specs.Tables.{HasShortProgram};
 ghost use Rattle.sim_engine.specs.Keeping.{IsKept, EmptyBefore, NoneBefore, IsFirst, IsFirstAt};
 ghost use Rattle.sim_engine.specs.declared.requests.Request.{Request as GhostRequest};
 
+use filter_table::Op;
 use std::alloc::{AllocError, Global};
 use std::marker::Model;
-use table_replica::Op;
 
 /// The most cores.
 pub(crate) const CORES: u16 = 8;
@@ -17,6 +17,16 @@ pub(crate) const CORES: u16 = 8;
 pub struct Request {
     pub home: u16,
     pub op: Op,
+}
+
+impl Request {
+    /// A request of an equal operation.
+    pub(crate) fn new(home: u16, op: &Op) -> Result<Request, AllocError>
+        ensures { IfOk result (λ request. request ≡ record { home = home; op = op.now }) }
+    {
+        let op = op.clone()?;
+        Ok(Request { home, op })
+    }
 }
 
 /// Requests in the order in which they were asked for, seen as a list of places, of which those that were begun are empty.

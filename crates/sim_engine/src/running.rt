@@ -20,7 +20,7 @@ use mk_script::Item;
 use std::alloc::{AllocError, Global};
 use std::io::Write;
 use world_core::{Channel, WorldOver};
-use world_model::Event;
+use world_events::Event;
 
 /// Does a script's items in order, and writes what they print.
 pub(crate) fn perform_all<C: Channel, W: Write>(
@@ -79,8 +79,8 @@ fn perform<C: Channel>(
 {
     match item {
         Item::Ask(home, op) => {
-            let op = op.copy(alloc)?;
-            requests.push(Request { home: *home, op })
+            let request = Request::new(*home, op)?;
+            requests.push(request)
         }
         Item::Begin => begin(alloc, world, requests, Way::Start, text),
         Item::Submit(core) => begin(alloc, world, requests, Way::Submit(*core), text),

@@ -4,10 +4,10 @@ ghost use Rattle.std.specs.Prelude.{◌≡◌, ◌<◌, ◌++◌, ◌∷◌, ℕ
 ghost use Rattle.std.specs.List.{flat_map};
 ghost use Rattle.sim_engine.specs.declared.requests.Request.{Request};
 ghost use Rattle.sim_engine.specs.Pending.{left, IsLeft};
-ghost use Rattle.monitor_messages.specs.Coding.{HasShortProgram};
-ghost use Rattle.table_replica.specs.declared.Op.{Op as GhostOp};
-ghost use Rattle.world_model.specs.declared.event.Answer.{Answer as GhostAnswer};
-ghost use Rattle.world_core.specs.declared.fault.WorldFault.{WorldFault as GhostFault};
+ghost use Rattle.filter_table.specs.Tables.{HasShortProgram};
+ghost use Rattle.filter_table.specs.declared.operation.Op.{Op as GhostOp};
+ghost use Rattle.world_events.specs.declared.event.Answer.{Answer as GhostAnswer};
+ghost use Rattle.world_events.specs.declared.fault.WorldFault.{WorldFault as GhostFault};
 ghost use Rattle.world_core.specs.Refusals.{IsShortEvent, waiting_at};
 ghost use Rattle.sim_lines.specs.Events.{event_line, done_line};
 ghost use Rattle.sim_engine.specs.Keeping.{IsFirst};
@@ -16,12 +16,12 @@ ghost use Rattle.sim_engine.specs.Ways.{event_of, way_of};
 
 use crate::requests::{CORES, Requests};
 use crate::way::Way;
+use filter_table::Op;
 use sim_lines::{line_of, show_core};
 use std::alloc::{AllocError, Global};
 use std::fmt::Write;
-use table_replica::Op;
 use world_core::{Channel, WorldFault, WorldOver};
-use world_model::{Done, Event};
+use world_events::{Done, Event};
 
 /// Begins the first request of the way's core.
 pub(crate) fn begin<C: Channel>(
@@ -72,7 +72,7 @@ fn begin_one<C: Channel>(
     ensures { IfOk result (λ done. (told : Result GhostAnswer GhostFault) × Tells world.old (event_of by op.now) told world.new
         × (text.new.items ≡ text.old.items ++ event_line (event_of by op.now) told) × (done ≡ is_ok told)) }
 {
-    let event = by.event(alloc, op)?;
+    let event = by.event(op)?;
     tell(alloc, world, &event, text)
 }
 

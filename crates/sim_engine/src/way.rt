@@ -1,13 +1,13 @@
 //! How a request is begun.
 
 ghost use Rattle.std.specs.Prelude.{◌≡◌, IfOk};
-ghost use Rattle.monitor_messages.specs.Coding.{HasShortProgram};
+ghost use Rattle.filter_table.specs.Tables.{HasShortProgram};
 ghost use Rattle.world_core.specs.Refusals.{IsShortEvent};
 ghost use Rattle.sim_engine.specs.Ways.{home_of, event_of, way_of};
 
+use filter_table::Op;
 use std::alloc::{AllocError, Global};
-use table_replica::Op;
-use world_model::Event;
+use world_events::Event;
 
 /// How a request is begun: core 0 starts one of its own, or another core submits one of its own to core 0.
 #[derive(Clone, Copy, PartialEq, Eq, Debug)]
@@ -39,12 +39,12 @@ impl Way {
     }
 
     /// The event that begins a request.
-    pub(crate) fn event(self, alloc: Global, op: &Op) -> Result<Event, AllocError>
+    pub(crate) fn event(self, op: &Op) -> Result<Event, AllocError>
         requires { HasShortProgram op.now }
         ensures event { IfOk result (λ event. event ≡ event_of self op.now) }
         ensures short { IfOk result IsShortEvent }
     {
-        let copy = op.copy(alloc)?;
+        let copy = op.clone()?;
         match self {
             Way::Start => Ok(Event::Start { op: copy }),
             Way::Submit(core) => Ok(Event::Submit { core, op: copy }),

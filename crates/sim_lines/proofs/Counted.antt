@@ -2,9 +2,9 @@
 use Rattle.std.proofs.Common.{◌≤◌, suc, List, [], ◌∷◌, length, refl, arith}
 use Rattle.std.specs.List.{Contains}
 use Rattle.std.proofs.lemmas.List.Sums.{sum_by-cons}
-use Rattle.table_replica.specs.Listed.{ListedFilter}
-use Rattle.table_replica.specs.Soundness.{IsSoundTable}
-use Rattle.table_replica.specs.Tables.{State, instructions_of}
+use Rattle.filter_table.specs.Listed.{ListedFilter}
+use Rattle.filter_table.specs.Soundness.{IsSoundTable}
+use Rattle.filter_table.specs.Tables.{State, instructions_of}
 
 counted : (filters : List ListedFilter) → ((f : ListedFilter) → Contains filters f → 1 ≤ length f.program) → length filters ≤ instructions_of filters
 counted [] each = omega arith

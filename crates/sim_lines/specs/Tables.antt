@@ -5,8 +5,8 @@ use Rattle.std.specs.Fmt.{decimal}
 use Rattle.endpoint_caps.specs.declared.Rights.{Rights}
 use Rattle.endpoint_caps.specs.declared.Rights.TheVariants.{R, M, Rm}
 use Rattle.endpoint_caps.specs.declared.Cap.{Cap}
-use Rattle.table_replica.specs.Listed.{ListedFilter}
-use Rattle.table_replica.specs.Tables.{State, instructions_of}
+use Rattle.filter_table.specs.Listed.{ListedFilter}
+use Rattle.filter_table.specs.Tables.{State, instructions_of}
 
 abbrev pub rights_name : Rights → List ℕ
 rights_name R = codes "r"

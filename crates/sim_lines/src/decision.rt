@@ -4,10 +4,9 @@ ghost use Rattle.std.specs.Prelude.{◌≡◌, ◌++◌, OnOk, string_bytes};
 ghost use Rattle.sim_lines.specs.Decisions.{decision_words, made_words, rule_words, veto_words};
 ghost use Rattle.sim_lines.specs.Decisions as spec;
 
-use monitor_messages::{Decision, Veto, Vote};
+use filter_table::{Decision, Made, OpFault, Veto, Vote};
 use std::alloc::AllocError;
 use std::fmt::Write;
-use table_replica::{Made, OpFault};
 
 /// Prints a decision.
 pub(crate) fn push_decision(text: &mut String, decision: Decision) -> Result<(), AllocError>

@@ -5,12 +5,10 @@ ghost use Rattle.sim_lines.specs.Events.{answer_words, decided_words, event_line
 ghost use Rattle.sim_lines.specs.Events as spec;
 
 use crate::decision::{push_decision, vote_name};
-use monitor_messages::Decision;
+use filter_table::{Decision, Kept};
 use std::alloc::{AllocError, Global};
 use std::fmt::Write;
-use table_replica::Kept;
-use world_core::WorldFault;
-use world_model::{Answer, Event};
+use world_events::{Answer, Event, WorldFault};
 
 /// The line of an event with its answer, or with the fault for which it was not done.
 pub fn line_of(

@@ -1,6 +1,4 @@
-pub mod Tables
-pub mod Lists
-pub mod Changes
+pub mod Refusals
 pub mod Shared
 pub mod SamePrograms
 pub mod Moves

@@ -7,15 +7,15 @@ use Rattle.std.proofs.lemmas.Result.{IfOk-weaker}
 use Rattle.endpoint_caps.specs.Capabilities.{CapTable}
 use Rattle.std.proofs.Math.ListN.{length-set}
 use Rattle.bpf_insn.specs.declared.insn.Insn.{Insn}
-use Rattle.table_replica.specs.Listed.{ListedFilter, FilterTable}
+use Rattle.filter_table.specs.Listed.{ListedFilter, FilterTable}
 use Rattle.table_replica.specs.declared.filters.Row.{Row}
 use Rattle.table_replica.specs.declared.filters.Rebuilding.{Rebuilding}
 use Rattle.table_replica.specs.Distinct.{AreDistinct}
 use Rattle.table_replica.specs.Keeping.{sources, listed_row, ArePlaced, Keeps, there, added, placed_row, AreMoved, MovesTo, before, now, IsShared, IsRebuilt}
 use Rattle.table_replica.specs.Lent.{IsIn}
-use Rattle.table_replica.specs.Tables.{instructions_of, replaced}
-use Rattle.table_replica.proofs.Lists.{fits_at, take_at, map-append'}
-use Rattle.table_replica.proofs.Tables.{sum_filter}
+use Rattle.filter_table.specs.Tables.{instructions_of, replaced}
+use Rattle.filter_table.proofs.Lists.{fits_at, take_at, map-append'}
+use Rattle.filter_table.proofs.Tables.{sum_filter}
 use Rattle.table_replica.proofs.Shared.{within, front, last, split, there_is, get-map, shared_after, view_after}
 
 -- What is left of rows, or replaced, shows what it should

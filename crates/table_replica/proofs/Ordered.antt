@@ -12,7 +12,7 @@ use Rattle.table_replica.specs.declared.reaches.Reach.{Reach}
 use Rattle.table_replica.specs.contracts.reaches.ReachPartialEq.TheImpl.{eq-value}
 use Rattle.table_replica.specs.contracts.reaches.ReachOrd.TheImpl.{cmp-value}
 use Rattle.table_replica.specs.Keeping.{moved_reach}
-use Rattle.table_replica.proofs.Lists.{never, first_or_later, three}
+use Rattle.filter_table.proofs.Lists.{never, first_or_later, three}
 
 -- Equal reaches
 

@@ -18,9 +18,9 @@ use Rattle.table_replica.specs.declared.filters.Rebuilding.{Rebuilding}
 use Rattle.table_replica.specs.contracts.reaches.ReachPartialEq.TheImpl.{eq-value}
 use Rattle.table_replica.specs.contracts.reaches.ReachOrd.TheImpl.{cmp-value}
 use Rattle.table_replica.specs.Distinct.{AreDistinct}
-use Rattle.table_replica.specs.Listed.{ListedFilter}
+use Rattle.filter_table.specs.Listed.{ListedFilter}
 use Rattle.table_replica.specs.Keeping.{or_nothing, listed_row, ArePlaced, AreMoved, reach_of, moved_reach, placed_row, IsLive, AreReaches, AreLost, AreHeldAlike, IsRebuilt}
-use Rattle.table_replica.proofs.Lists.{never, in_head, in_tail, first_or_later, in_map, was_mapped, in_filter, from_filter, take_at, get_some}
+use Rattle.filter_table.proofs.Lists.{never, in_head, in_tail, first_or_later, in_map, was_mapped, in_filter, from_filter, take_at, get_some}
 use Rattle.table_replica.proofs.Shared.{there_is}
 use Rattle.table_replica.proofs.Ordered.{reach_decides, reach_equivalence, dedup_ordered, moved_ordered, not_before}
 

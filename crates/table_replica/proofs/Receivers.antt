@@ -5,15 +5,15 @@ use Rattle.std.proofs.lemmas.List.Elements.{Contains-append_left, Contains-push,
 use Rattle.bpf_insn.specs.declared.insn.Insn.{Insn}
 use Rattle.endpoint_caps.specs.declared.Cap.{Cap}
 use Rattle.endpoint_caps.specs.Capabilities.{cap_at}
-use Rattle.filter_vm.specs.Machine.{Packet, Ends}
-use Rattle.table_replica.specs.Listed.{ListedFilter}
-use Rattle.table_replica.specs.declared.Kept.{Kept}
-use Rattle.table_replica.specs.Tables.{Hands, Gets, AreReceivers, IsIncreasing}
+use Rattle.bpf_insn.specs.Machine.{Packet, Ends}
+use Rattle.filter_table.specs.Listed.{ListedFilter}
+use Rattle.filter_table.specs.declared.delivery.Kept.{Kept}
+use Rattle.filter_table.specs.Tables.{Hands, Gets, AreReceivers, IsIncreasing}
 use Rattle.table_replica.specs.Receiving.{at_endpoint, raised, one_cap, filter_of, ReceiversSoFar, IsVerdict, VerdictAt, AreVerdicts, AreReached}
 use Rattle.table_replica.specs.declared.filters.Row.{Row}
 use Rattle.table_replica.specs.declared.reaches.Reach.{Reach}
 use Rattle.table_replica.specs.Keeping.{listed_row, or_nothing, reach_of, AreReaches}
-use Rattle.table_replica.proofs.Lists.{never, in_head, in_tail, first_or_later, was_mapped, in_map, three, take_at, map-append'}
+use Rattle.filter_table.proofs.Lists.{never, in_head, in_tail, first_or_later, was_mapped, in_map, three, take_at, map-append'}
 use Rattle.table_replica.proofs.Shared.{there_is}
 use Rattle.table_replica.proofs.Ordered.{below_last}
 use Rattle.std.specs.List.{All}

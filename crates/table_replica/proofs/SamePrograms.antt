@@ -7,7 +7,7 @@ use Rattle.bpf_insn.specs.declared.insn.Insn.{Insn}
 use Rattle.table_replica.specs.Distinct.{AreDistinct}
 use Rattle.table_replica.specs.Lent.{IsIn}
 use Rattle.table_replica.specs.SamePrograms.{same, decides}
-use Rattle.table_replica.proofs.Lists.{get_some}
+use Rattle.filter_table.proofs.Lists.{get_some}
 use Rattle.table_replica.proofs.Shared.{split}
 
 pub is_in : (ps : List (List Insn)) (p : List Insn) → list_any (same p) ps ≡ true → IsIn ps p

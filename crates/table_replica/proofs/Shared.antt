@@ -1,12 +1,12 @@
 -- One more filter, its program kept once.
 use Rattle.std.proofs.Common.{◌≡◌, ◌<◌, ◌+◌, ◌⊎◌, inl, inr, ℕ, zero, suc, Some, List, [], ◌∷◌, ◌++◌, map, length, slice_get, refl, ap, sym, ◌∙◌, subst, arith, length-append, get_or}
 use Rattle.bpf_insn.specs.declared.insn.Insn.{Insn}
-use Rattle.table_replica.specs.Listed.{ListedFilter}
+use Rattle.filter_table.specs.Listed.{ListedFilter}
 use Rattle.table_replica.specs.declared.filters.Row.{Row}
 use Rattle.table_replica.specs.Keeping.{listed_row, or_nothing, IsShared, Keeps, there, added}
 use Rattle.table_replica.specs.Lent.{IsIn, AreDifferent}
-use Rattle.table_replica.specs.Tables.{instructions_of}
-use Rattle.table_replica.proofs.Lists.{instructions-push, map-append'}
+use Rattle.filter_table.specs.Tables.{instructions_of}
+use Rattle.filter_table.proofs.Lists.{instructions-push, map-append'}
 
 pub within : {A : Type 0} (xs : List A) (i : ℕ) (x : A) → slice_get xs i ≡ Some x → i < length xs
 within [] i x h = absurd cc

@@ -7,13 +7,13 @@ use Rattle.std.specs.List.Sorted.{IsNonDecreasingBy}
 use Rattle.endpoint_caps.specs.declared.Cap.{Cap}
 use Rattle.endpoint_caps.specs.Capabilities.{CapTable, cap_at}
 use Rattle.bpf_insn.specs.declared.insn.Insn.{Insn}
-use Rattle.table_replica.specs.Listed.{ListedFilter}
+use Rattle.filter_table.specs.Listed.{ListedFilter}
 use Rattle.table_replica.specs.declared.filters.Row.{Row}
 use Rattle.table_replica.specs.declared.reaches.Reach.{Reach}
 use Rattle.table_replica.specs.declared.filters.Rebuilding.{Rebuilding}
 use Rattle.table_replica.specs.Distinct.{AreDistinct}
 use Rattle.table_replica.specs.Lent.{IsIn}
-use Rattle.table_replica.specs.Tables.{instructions_of}
+use Rattle.filter_table.specs.Tables.{instructions_of}
 
 abbrev pub or_nothing : Option (List Insn) → List Insn
 or_nothing None = []

@@ -1,7 +1,7 @@
 -- What is lent of the filters of a table, and how many different programs they have.
 use Rattle.std.specs.Prelude.{◌≡◌, ◌↔◌, ℕ, Some, List, length, slice_get}
 use Rattle.bpf_insn.specs.declared.insn.Insn.{Insn}
-use Rattle.table_replica.specs.Listed.{ListedFilter}
+use Rattle.filter_table.specs.Listed.{ListedFilter}
 use Rattle.table_replica.specs.declared.filters.Filter.{Filter}
 
 -- what a lent filter shows

@@ -1,12 +1,8 @@
-pub mod Listed
 pub mod Lent
 pub mod Distinct
 pub mod Fingerprints
 pub mod SamePrograms
 pub mod Keeping
-pub mod Tables
-pub mod Staging
 pub mod Shown
 pub mod Replicas
 pub mod Receiving
-pub mod Soundness

@@ -5,12 +5,12 @@ use Rattle.std.specs.List.{Contains}
 use Rattle.bpf_insn.specs.declared.insn.Insn.{Insn}
 use Rattle.endpoint_caps.specs.declared.Cap.{Cap}
 use Rattle.endpoint_caps.specs.declared.Rights.TheVariants.{R}
-use Rattle.filter_vm.specs.Machine.{Packet, Ends}
-use Rattle.table_replica.specs.Listed.{ListedFilter}
-use Rattle.table_replica.specs.declared.Kept.{Kept}
+use Rattle.bpf_insn.specs.Machine.{Packet, Ends}
+use Rattle.filter_table.specs.Listed.{ListedFilter}
+use Rattle.filter_table.specs.declared.delivery.Kept.{Kept}
 use Rattle.table_replica.specs.declared.reaches.Reach.{Reach}
 use Rattle.table_replica.specs.Keeping.{or_nothing}
-use Rattle.table_replica.specs.Tables.{Hands, AreReceivers}
+use Rattle.filter_table.specs.Tables.{Hands, AreReceivers}
 
 abbrev pub at_endpoint : ℕ → ℕ → Kept
 at_endpoint endpoint kept = record { endpoint = endpoint; kept = kept }

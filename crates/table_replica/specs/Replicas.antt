@@ -2,13 +2,13 @@
 -- No public clause cites these.
 use Rattle.std.specs.Prelude.{◌≡◌, ◌≤◌, ℕ, Option, Some, None, List}
 use Rattle.bpf_insn.specs.declared.insn.Insn.{Insn}
-use Rattle.table_replica.specs.declared.Op.{Op}
-use Rattle.table_replica.specs.declared.StageFault.{StageFault}
-use Rattle.table_replica.specs.declared.StageFault.TheVariants.{NoMemory}
+use Rattle.filter_table.specs.declared.operation.Op.{Op}
+use Rattle.filter_table.specs.declared.operation.StageFault.{StageFault}
+use Rattle.filter_table.specs.declared.operation.StageFault.TheVariants.{NoMemory}
 use Rattle.table_replica.specs.declared.replica.Staged.{Staged}
-use Rattle.table_replica.specs.Soundness.{IsSoundTable}
-use Rattle.table_replica.specs.Tables.{State, after, made, instructions_of, Verifies}
-use Rattle.table_replica.specs.Staging.{VerifierAsks}
+use Rattle.filter_table.specs.Soundness.{IsSoundTable}
+use Rattle.filter_table.specs.Tables.{State, after, made, instructions_of, Verifies}
+use Rattle.filter_table.specs.Staging.{VerifierAsks}
 
 abbrev pub staged_op : Option Staged → Option Op
 staged_op None = None

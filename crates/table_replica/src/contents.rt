@@ -3,12 +3,12 @@ ghost use Rattle.std.specs.Prelude.{◌≡◌, ◌+◌, ◌<◌, ◌≤◌, [], 
 ghost use Rattle.std.specs.Option.{option_map};
 ghost use Rattle.std.specs.Result.{result_err};
 ghost use Rattle.endpoint_caps.specs.Capabilities.{first, cap_at, mint_tests};
-ghost use Rattle.table_replica.specs.Tables.{State, Accepting, Allowed, after, made, tests, as_rules, rule_of, instructions, instructions_of, replaced, program_of, endpoint_of, Verifies, owner_tests, install_tests, replace_tests, cap_of, filter_at};
+ghost use Rattle.filter_table.specs.Tables.{State, Accepting, Allowed, after, made, tests, as_rules, rule_of, instructions, instructions_of, replaced, program_of, endpoint_of, Verifies, owner_tests, install_tests, replace_tests, cap_of, filter_at};
 ghost use Rattle.filter_verify.specs.Rules.{Sound, Refuses};
 ghost use Rattle.filter_verify.specs.Numbers.{number_of, place_of};
-ghost use Rattle.table_replica.specs.Staging.{CannotStage, VerifierAsks};
+ghost use Rattle.filter_table.specs.Staging.{CannotStage, VerifierAsks};
 ghost use Rattle.table_replica.specs.Replicas.{RefusesAs};
-ghost use Rattle.table_replica.specs.Soundness.{IsSoundTable};
+ghost use Rattle.filter_table.specs.Soundness.{IsSoundTable};
 
 use crate::{Filter, Filters, Kept, Made, Op, OpFault, StageFault};
 use bpf_insn::Insn;
@@ -31,7 +31,7 @@ pub(crate) struct Contents {
 
 impl Model for Contents {
     ghost use Rattle.std.specs.Prelude.{◌≡◌};
-    ghost use Rattle.table_replica.specs.Tables.{State};
+    ghost use Rattle.filter_table.specs.Tables.{State};
 
     ghost Value = { State };
 
@@ -136,7 +136,7 @@ impl Contents {
     }
 
     /// The first refusal, the verifier's aside, as what stands in the way of staging. Takes no memory.
-    #[tactic(auto, using(crate::proofs::Changes::cannot_first, crate::proofs::Changes::never_memory))]
+    #[tactic(auto, using(filter_table::proofs::Changes::cannot_first, filter_table::proofs::Changes::never_memory))]
     fn tested(&self, budget: u32, op: &Op) -> Result<(), StageFault>
         requires { instructions_of self.now.filters ≤ budget }
         ensures ok { OnOk result (first (tests self.now budget op.now) ≡ None) }
@@ -208,7 +208,7 @@ impl Contents {
     }
 
     /// The table after an operation, or the first refusal.
-    #[tactic(auto, using(crate::proofs::Changes::allowed_if, crate::proofs::Changes::cannot_program, crate::proofs::Changes::cannot_change))]
+    #[tactic(auto, using(filter_table::proofs::Changes::allowed_if, crate::proofs::Refusals::cannot_program, filter_table::proofs::Changes::cannot_change))]
     pub(crate) fn after(&self, alloc: Global, budget: u32, op: &Op) -> Result<Contents, StageFault>
         requires fits { instructions_of self.now.filters ≤ budget }
         requires sound { IsSoundTable self.now }
@@ -225,7 +225,7 @@ impl Contents {
     }
 
     /// What `after` would answer.
-    #[tactic(auto, using(crate::proofs::Changes::allowed_if, crate::proofs::Changes::cannot_program))]
+    #[tactic(auto, using(filter_table::proofs::Changes::allowed_if, crate::proofs::Refusals::cannot_program))]
     pub(crate) fn check(&self, alloc: Global, budget: u32, op: &Op) -> Result<(), StageFault>
         requires { instructions_of self.now.filters ≤ budget }
         ensures ok { OnOk result (Allowed self.now budget op.now None) }
@@ -238,7 +238,7 @@ impl Contents {
     }
 
     /// What an operation makes.
-    #[tactic(auto, unfolding(crate::specs::Tables::made))]
+    #[tactic(auto, unfolding(filter_table::specs::Tables::made))]
     pub(crate) fn made(&self, op: &Op) -> Made
         ensures { result ≡ made self.now op.now }
     {
@@ -252,7 +252,7 @@ impl Contents {
     }
 
     /// The table after an operation that no test refuses.
-    #[tactic(auto, using(crate::proofs::Changes::version_room, crate::proofs::Changes::filter_id_room, crate::proofs::Changes::install_room, crate::proofs::Changes::replace_room))]
+    #[tactic(auto, using(filter_table::proofs::Changes::version_room, filter_table::proofs::Changes::filter_id_room, filter_table::proofs::Changes::install_room, filter_table::proofs::Changes::replace_room))]
     fn changed(
         &self,
         alloc: Global,
@@ -289,7 +289,7 @@ impl Contents {
         }
     }
 
-    #[tactic(auto, unfolding(crate::specs::Tables::after))]
+    #[tactic(auto, unfolding(filter_table::specs::Tables::after))]
     fn created(&self, alloc: Global, domain: u16, endpoint: u16) -> Result<Contents, AllocError>
         requires version { self.now.version < 18446744073709551615 }
         requires sound { IsSoundTable self.now }
@@ -305,7 +305,7 @@ impl Contents {
         }
     }
 
-    #[tactic(auto, unfolding(crate::specs::Tables::after))]
+    #[tactic(auto, unfolding(filter_table::specs::Tables::after))]
     fn minted(
         &self,
         alloc: Global,
@@ -328,7 +328,7 @@ impl Contents {
         }
     }
 
-    #[tactic(auto, unfolding(crate::specs::Tables::after))]
+    #[tactic(auto, unfolding(filter_table::specs::Tables::after))]
     fn revoked(&self, alloc: Global, domain: u16, cap: u32) -> Result<Contents, AllocError>
         requires { self.now.version < 18446744073709551615 }
         ensures { IfOk result (λ table. table ≡ after self.now (Op.Revoke domain cap)) }
@@ -343,7 +343,7 @@ impl Contents {
         }
     }
 
-    #[tactic(auto, unfolding(crate::specs::Tables::after))]
+    #[tactic(auto, unfolding(filter_table::specs::Tables::after))]
     fn dropped(&self, alloc: Global, domain: u16, cap: u32) -> Result<Contents, AllocError>
         requires { self.now.version < 18446744073709551615 }
         ensures { IfOk result (λ table. table ≡ after self.now (Op.DropCap domain cap)) }
@@ -358,7 +358,7 @@ impl Contents {
         }
     }
 
-    #[tactic(auto, unfolding(crate::specs::Tables::after))]
+    #[tactic(auto, unfolding(filter_table::specs::Tables::after))]
     fn installed(
         &self,
         alloc: Global,
@@ -388,7 +388,7 @@ impl Contents {
         Ok(self.following(caps, filters, id + 1))
     }
 
-    #[tactic(auto, unfolding(crate::specs::Tables::after))]
+    #[tactic(auto, unfolding(filter_table::specs::Tables::after))]
     fn removed(&self, alloc: Global, domain: u16, filter: u32) -> Result<Contents, AllocError>
         requires { self.now.version < 18446744073709551615 }
         ensures { IfOk result (λ table. table ≡ after self.now (Op.Remove domain filter)) }
@@ -399,7 +399,7 @@ impl Contents {
         Ok(self.following(caps, filters, self.next_filter))
     }
 
-    #[tactic(auto, unfolding(crate::specs::Tables::after))]
+    #[tactic(auto, unfolding(filter_table::specs::Tables::after))]
     fn replaced(
         &self,
         alloc: Global,

@@ -7,13 +7,13 @@ ghost use Rattle.std.specs.Option.{option_copied};
 ghost use Rattle.bpf_insn.specs.declared.insn.Insn.{Insn as GhostInsn};
 ghost use Rattle.table_replica.specs.declared.filters.Row.{Row as GhostRow};
 ghost use Rattle.table_replica.specs.Lent.{shown_filter, IsIn, AreDifferent};
-ghost use Rattle.table_replica.specs.Tables.{instructions_of, replaced, filter_at};
+ghost use Rattle.filter_table.specs.Tables.{instructions_of, replaced, filter_at};
 ghost use Rattle.std.specs.Prelude.{leb};
 ghost use Rattle.std.specs.Iterator.{YieldsFirstBy, item_count};
 ghost use Rattle.std.specs.Prelude.{map};
 ghost use Rattle.std.specs.Option.{option_map};
 ghost use Rattle.table_replica.specs.Keeping.{listed_row};
-ghost use Rattle.table_replica.specs.Tables.{AreReceivers};
+ghost use Rattle.filter_table.specs.Tables.{AreReceivers};
 
 use crate::Kept;
 use crate::programs::{Programs, Shared};
@@ -63,7 +63,7 @@ pub(crate) struct Filters {
 
 impl Model for Filters {
     ghost use Rattle.std.specs.Prelude.{map};
-    ghost use Rattle.table_replica.specs.Listed.{FilterTable};
+    ghost use Rattle.filter_table.specs.Listed.{FilterTable};
     ghost use Rattle.table_replica.specs.Keeping.{listed_row, IsKept};
 
     ghost Value = { FilterTable };
@@ -261,7 +261,7 @@ impl Filters {
         requires fits { instructions_of (replaced self.now.listed id program.now) < 4294967296 }
         ensures { IfOk result (λ filters. filters ≡ record { listed = replaced self.now.listed id program.now; under = caps.now }) }
     {
-        let program = Shared::new(alloc, program.copy(alloc)?)?;
+        let program = Shared::new(alloc, program.clone()?)?;
         let mut reaches = reaches_without(alloc, &self.reaches, caps, &self.rows, id)?;
         match self.programs.place_of(&program) {
             Some(place) => {
@@ -286,7 +286,7 @@ pub struct FilterIter<'a> {
 
 impl<'a> Model for FilterIter<'a> {
     ghost use Rattle.std.specs.Prelude.{List, drop};
-    ghost use Rattle.table_replica.specs.Listed.{ListedFilter};
+    ghost use Rattle.filter_table.specs.Listed.{ListedFilter};
 
     ghost Value = { List ListedFilter };
 
@@ -482,7 +482,7 @@ fn keep(
 ) -> Result<(Programs, usize), AllocError>
     ensures { IfOk result (λ kept. Keeps programs program.now kept.0 kept.1) }
 {
-    let program = Shared::new(alloc, program.copy(alloc)?)?;
+    let program = Shared::new(alloc, program.clone()?)?;
     match programs.place_of(&program) {
         Some(place) => Ok((programs, place)),
         None => {

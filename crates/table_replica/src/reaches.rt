@@ -5,7 +5,7 @@ ghost use Rattle.std.specs.List.Sorted.{IsNonDecreasingBy};
 ghost use Rattle.table_replica.specs.declared.filters.Row.{Row as GhostRow};
 ghost use Rattle.table_replica.specs.declared.reaches.Reach.{Reach as GhostReach};
 ghost use Rattle.table_replica.specs.Keeping.{reach_of, IsLive, AreReaches, AreLost, moved_reach};
-ghost use Rattle.table_replica.specs.Tables.{IsIncreasing};
+ghost use Rattle.filter_table.specs.Tables.{IsIncreasing};
 ghost use Rattle.table_replica.specs.Receiving.{raised, AreReached};
 
 use crate::Kept;

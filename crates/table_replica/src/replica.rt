@@ -1,10 +1,10 @@
 //! The replica of a core: the table that it shows, and the one that is staged beside it.
 ghost use Rattle.std.specs.Prelude.{◌≡◌, ◌≤◌, [], None, Some, IsSome, is_some, IsOk, IfOk, IfErr, OnOk, OnErr};
-ghost use Rattle.table_replica.specs.Tables.{Accepting, Allowed, after, instructions, instructions_of, made, program_of};
+ghost use Rattle.filter_table.specs.Tables.{Accepting, Allowed, after, instructions, instructions_of, made, program_of};
 ghost use Rattle.table_replica.specs.Lent.{AreDifferent};
-ghost use Rattle.table_replica.specs.Staging.{CannotStage, VerifierAsks};
-ghost use Rattle.table_replica.specs.Soundness.{IsSoundTable, IdsGrow};
-ghost use Rattle.table_replica.specs.declared.Op.{Op as GhostOp};
+ghost use Rattle.filter_table.specs.Staging.{CannotStage, VerifierAsks};
+ghost use Rattle.filter_table.specs.Soundness.{IsSoundTable, IdsGrow};
+ghost use Rattle.filter_table.specs.declared.operation.Op.{Op as GhostOp};
 
 use crate::{Contents, FilterIter, Kept, Made, NothingStaged, Op, StageFault};
 use endpoint_caps::Caps;
@@ -31,12 +31,12 @@ pub struct Replica {
 impl Model for Replica {
     ghost use Rattle.std.specs.Prelude.{◌≤◌};
     ghost use Rattle.table_replica.specs.Shown.{ReplicaState};
-    ghost use Rattle.table_replica.specs.Tables.{instructions_of};
+    ghost use Rattle.filter_table.specs.Tables.{instructions_of};
 
     ghost Value = { ReplicaState };
 
     ghost use Rattle.table_replica.specs.Replicas.{staged_op, IsStaged};
-    ghost use Rattle.table_replica.specs.Soundness.{IsSoundTable};
+    ghost use Rattle.filter_table.specs.Soundness.{IsSoundTable};
 
     ghost view = { λ a. record { budget = a.budget; shown = a.shown; staged = staged_op a.staged } };
 
@@ -54,7 +54,7 @@ impl Replica {
     }
 
     /// An empty replica at a version, with the next ids of a capability and of a filter. Takes no memory yet.
-    #[tactic(auto, using(crate::proofs::Soundness::sound_empty))]
+    #[tactic(auto, using(filter_table::proofs::Soundness::sound_empty))]
     pub fn resume(
         alloc: Global,
         budget: u32,
@@ -184,7 +184,7 @@ impl Replica {
     }
 
     /// Shows the table that is staged, and answers what its operation made. Takes no memory.
-    #[tactic(auto, using(crate::proofs::Soundness::ids_stay))]
+    #[tactic(auto, using(filter_table::proofs::Soundness::ids_stay))]
     pub fn commit(&mut self) -> Result<Made, NothingStaged>
         ensures ok { IfOk result (λ id. (op : GhostOp) × (self.old.staged ≡ Some op) × (self.new.shown ≡ after self.old.shown op) × (id ≡ made self.old.shown op)) }
         ensures err { OnErr result (self.old.staged ≡ None) }

@@ -1,12 +1,12 @@
 -- What the cores of a computation begin, in the one list of all their events.
 use Rattle.std.proofs.Common.{◌≡◌, ◌==◌, ◌<◌, ◌≤◌, ◌⊎◌, inl, inr, ℕ, suc, true, false, Some, List, [], ◌∷◌, length, slice_get, refl, ap, sym, ◌∙◌, subst, arith}
 use mathlib.Core.List.{IsPrefix}
-use Rattle.table_replica.specs.declared.Op.{Op}
-use Rattle.monitor_messages.specs.declared.message.Vote.TheVariants as vote
-use Rattle.world_model.specs.declared.event.Event.{Event}
-use Rattle.world_model.specs.declared.event.Event.TheVariants.{Take}
-use Rattle.world_model.specs.declared.event.Answer.{Answer}
-use Rattle.world_model.specs.declared.event.Answer.TheVariants.{TookPrepare}
+use Rattle.filter_table.specs.declared.operation.Op.{Op}
+use Rattle.filter_table.specs.declared.decision.Vote.TheVariants as vote
+use Rattle.world_events.specs.declared.event.Event.{Event}
+use Rattle.world_events.specs.declared.event.Event.TheVariants.{Take}
+use Rattle.world_events.specs.declared.event.Answer.{Answer}
+use Rattle.world_events.specs.declared.event.Answer.TheVariants.{TookPrepare}
 use Rattle.world_model.proofs.Lists.{get_at, same_or_not}
 use Rattle.world_model.proofs.Submissions.{eq_self, eq_other}
 use Rattle.world_histories.specs.declared.history.Stamped.{Stamped}
@@ -18,7 +18,7 @@ use Rattle.mk_script.specs.declared.script.Item.{Item}
 use Rattle.run_engine.specs.Work.{requests_of}
 use Rattle.trace_runs.specs.Traces.{begun_at}
 use Rattle.std.specs.List.{All, flat_map}
-use Rattle.world_model.specs.declared.event.Done.{Done}
+use Rattle.world_events.specs.declared.event.Done.{Done}
 use Rattle.world_model.specs.Worlds.{World}
 use Rattle.world_histories.specs.Histories.{Core0, Other}
 use Rattle.world_histories.specs.Merging.{IsRun}

@@ -5,23 +5,23 @@ use Rattle.filter_verify.proofs.Reasons.{Refuses-sound}
 use Rattle.filter_verify.proofs.OneReason.{Refuses-same}
 use Rattle.endpoint_caps.specs.Capabilities.{first}
 use Rattle.pcap_reader.specs.declared.capture.Packet.{Packet}
-use Rattle.table_replica.specs.declared.Op.{Op}
-use Rattle.table_replica.specs.declared.StageFault.{StageFault}
-use Rattle.table_replica.specs.Tables.{State, table, tests, program_of, Verifies, AnswersFirst, Allowed, made}
-use Rattle.table_replica.proofs.Lists.{three}
+use Rattle.filter_table.specs.declared.operation.Op.{Op}
+use Rattle.filter_table.specs.declared.operation.StageFault.{StageFault}
+use Rattle.filter_table.specs.Tables.{State, table, tests, program_of, Verifies, AnswersFirst, Allowed, made}
+use Rattle.filter_table.proofs.Lists.{three}
 use Rattle.monitor_messages.specs.declared.message.Message.{Message}
 use Rattle.monitor_messages.specs.declared.message.Message.TheVariants as message
-use Rattle.monitor_messages.specs.declared.message.Vote.{Vote}
-use Rattle.monitor_messages.specs.declared.message.Vote.TheVariants as vote
-use Rattle.monitor_messages.specs.declared.message.Decision.{Decision}
-use Rattle.monitor_messages.specs.declared.message.Decision.TheVariants.{Committed, Refused}
+use Rattle.filter_table.specs.declared.decision.Vote.{Vote}
+use Rattle.filter_table.specs.declared.decision.Vote.TheVariants as vote
+use Rattle.filter_table.specs.declared.decision.Decision.{Decision}
+use Rattle.filter_table.specs.declared.decision.Decision.TheVariants.{Committed, Refused}
 use Rattle.monitor_2pc.specs.declared.step.Step.{Step}
 use Rattle.monitor_2pc.specs.Participants.{ParticipantPlace, Answers, Casts}
 use Rattle.monitor_2pc.specs.Coordinators.{CoordinatorPlace, Requests, veto_of, Starts, refused, unstaged, alone, prepared, LeastNo, Tallies, waits, commits_all, aborts_all}
-use Rattle.world_model.specs.declared.event.Event.{Event}
-use Rattle.world_model.specs.declared.event.Event.TheVariants.{Start, Submit, StartFor, Take, Rx}
-use Rattle.world_model.specs.declared.event.Answer.{Answer}
-use Rattle.world_model.specs.declared.event.Answer.TheVariants.{Prepared, Decided, TookPrepare, TookVote, TookCommit, TookAbort, Delivered}
+use Rattle.world_events.specs.declared.event.Event.{Event}
+use Rattle.world_events.specs.declared.event.Event.TheVariants.{Start, Submit, StartFor, Take, Rx}
+use Rattle.world_events.specs.declared.event.Answer.{Answer}
+use Rattle.world_events.specs.declared.event.Answer.TheVariants.{Prepared, Decided, TookPrepare, TookVote, TookCommit, TookAbort, Delivered}
 use Rattle.world_model.specs.Cases.{raised, captured, start_told, TakesUpAt, TakesDownAt, Took, ReceivesAt}
 use Rattle.world_model.specs.Worlds.{Peer, World, newest, HappensStart, HappensStartFor, HappensUp, HappensDown, HappensRx, Happens}
 use Rattle.trace_text.specs.Traces.{lacked_memory}

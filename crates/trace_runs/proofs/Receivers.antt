@@ -1,11 +1,11 @@
 -- A packet's receivers are one list.
 use Rattle.std.proofs.Common.{◌≡◌, ◌<◌, ◌⊎◌, inl, inr, List, [], ◌∷◌, Contains, refl, ap, sym, ◌∙◌, arith}
 use Rattle.endpoint_caps.specs.declared.Cap.{Cap}
-use Rattle.filter_vm.specs.Machine.{Packet}
-use Rattle.table_replica.specs.Listed.{ListedFilter}
-use Rattle.table_replica.specs.declared.Kept.{Kept}
-use Rattle.table_replica.specs.Tables.{IsIncreasing, AreReceivers}
-use Rattle.table_replica.proofs.Lists.{never, in_head, in_tail, first_or_later}
+use Rattle.bpf_insn.specs.Machine.{Packet}
+use Rattle.filter_table.specs.Listed.{ListedFilter}
+use Rattle.filter_table.specs.declared.delivery.Kept.{Kept}
+use Rattle.filter_table.specs.Tables.{IsIncreasing, AreReceivers}
+use Rattle.filter_table.proofs.Lists.{never, in_head, in_tail, first_or_later}
 
 -- in increasing order the first is below each that comes later
 later_above : (k : Kept) (ks : List Kept) (x : Kept) → IsIncreasing (k ∷ ks) → Contains ks x → k.endpoint < x.endpoint

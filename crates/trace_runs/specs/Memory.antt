@@ -2,13 +2,13 @@
 -- the ordering of events in a distributed system", section "Ordering the events totally": a state machine that does the same events
 -- in the same order does the same).
 use Rattle.std.specs.Prelude.{◌≡◌, true, false}
-use Rattle.monitor_messages.specs.declared.message.Veto.TheVariants as veto
-use Rattle.monitor_messages.specs.declared.message.Decision.TheVariants.{Refused}
-use Rattle.world_model.specs.declared.event.Event.{Event}
-use Rattle.world_model.specs.declared.event.Event.TheVariants.{Start, StartFor, Take}
-use Rattle.world_model.specs.declared.event.Answer.{Answer}
-use Rattle.world_model.specs.declared.event.Answer.TheVariants.{Decided}
-use Rattle.world_model.specs.declared.event.Done.{Done}
+use Rattle.filter_table.specs.declared.decision.Veto.TheVariants as veto
+use Rattle.filter_table.specs.declared.decision.Decision.TheVariants.{Refused}
+use Rattle.world_events.specs.declared.event.Event.{Event}
+use Rattle.world_events.specs.declared.event.Event.TheVariants.{Start, StartFor, Take}
+use Rattle.world_events.specs.declared.event.Answer.{Answer}
+use Rattle.world_events.specs.declared.event.Answer.TheVariants.{Decided}
+use Rattle.world_events.specs.declared.event.Done.{Done}
 use Rattle.trace_text.specs.Traces.{lacked_memory}
 
 -- core 0 had no memory for the request

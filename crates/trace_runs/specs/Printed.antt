@@ -1,7 +1,7 @@
 -- What `run` printed of a script, given to `sim` after the script and a line `trace`.
 use Rattle.std.specs.Prelude.{ℕ, List, ◌++◌, codes}
 use Rattle.std.specs.List.{flat_map}
-use Rattle.world_model.specs.declared.event.Done.{Done}
+use Rattle.world_events.specs.declared.event.Done.{Done}
 use Rattle.world_histories.specs.Merging.{as_listed}
 use Rattle.sim_lines.specs.Events.{done_line}
 use Rattle.mk_script.specs.declared.script.Script.{Script}

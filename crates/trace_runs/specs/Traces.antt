@@ -1,11 +1,11 @@
 -- A run's events as a trace tells them, and the requests that they begin.
 use Rattle.std.specs.Prelude.{◌==◌, ℕ, List, [], if◌then◌else◌}
 use Rattle.std.specs.List.{flat_map}
-use Rattle.table_replica.specs.declared.Op.{Op}
-use Rattle.world_model.specs.declared.event.Event.{Event}
-use Rattle.world_model.specs.declared.event.Event.TheVariants.{Take}
-use Rattle.world_model.specs.declared.event.Answer.{Answer}
-use Rattle.world_model.specs.declared.event.Done.{Done}
+use Rattle.filter_table.specs.declared.operation.Op.{Op}
+use Rattle.world_events.specs.declared.event.Event.{Event}
+use Rattle.world_events.specs.declared.event.Event.TheVariants.{Take}
+use Rattle.world_events.specs.declared.event.Answer.{Answer}
+use Rattle.world_events.specs.declared.event.Done.{Done}
 use Rattle.world_histories.specs.Merging.{core_of}
 use Rattle.core_loop.specs.Cores.{begins}
 use Rattle.trace_text.specs.Traces.{lacked_memory}

@@ -2,9 +2,9 @@
 
 ghost use Rattle.std.specs.Prelude.{◌≡◌, ◌∷◌, ◌⊎◌, ℕ, All, List, Ok, map};
 ghost use Rattle.std.specs.List.{flat_map};
-ghost use Rattle.world_model.specs.declared.event.Answer.{Answer};
-ghost use Rattle.world_model.specs.declared.event.Done.{Done};
-ghost use Rattle.world_model.specs.declared.event.Event.{Event};
+ghost use Rattle.world_events.specs.declared.event.Answer.{Answer};
+ghost use Rattle.world_events.specs.declared.event.Done.{Done};
+ghost use Rattle.world_events.specs.declared.event.Event.{Event};
 ghost use Rattle.world_model.specs.Worlds.{World, Happens, Runs, Run};
 ghost use Rattle.world_histories.specs.declared.history.Stamped.{Stamped};
 ghost use Rattle.world_histories.specs.Histories.{Core0, Other};

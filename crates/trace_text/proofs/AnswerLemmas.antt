@@ -4,19 +4,19 @@ use Rattle.std.specs.Prelude.{codes}
 use Rattle.std.specs.Fmt.{decimal}
 use Rattle.std.specs.List.{flat_map}
 use Rattle.bpf_insn.specs.Texts.{is_blank, words_of}
-use Rattle.table_replica.specs.declared.Kept.{Kept}
-use Rattle.table_replica.specs.declared.Made.{Made}
-use Rattle.table_replica.specs.declared.Made.TheVariants as made
-use Rattle.table_replica.specs.declared.OpFault.{OpFault}
-use Rattle.table_replica.specs.declared.OpFault.TheVariants.{BadProgram, NoCap, NotHolder, NoRight, RightsExceed, EndpointTaken, CapsFull, IdsSpent, NoFilter, NotOwner, TableFull, FilterIdsSpent, VersionsSpent}
-use Rattle.monitor_messages.specs.declared.message.Vote.{Vote}
-use Rattle.monitor_messages.specs.declared.message.Vote.TheVariants as vote
-use Rattle.monitor_messages.specs.declared.message.Veto.{Veto}
-use Rattle.monitor_messages.specs.declared.message.Veto.TheVariants as veto
-use Rattle.monitor_messages.specs.declared.message.Decision.{Decision}
-use Rattle.monitor_messages.specs.declared.message.Decision.TheVariants.{Committed, Refused}
-use Rattle.world_model.specs.declared.event.Answer.{Answer}
-use Rattle.world_model.specs.declared.event.Answer.TheVariants.{Prepared, Decided, Submitted, TookPrepare, TookVote, TookCommit, TookAbort, TookAck, TookSubmit, TookReply, Delivered}
+use Rattle.filter_table.specs.declared.delivery.Kept.{Kept}
+use Rattle.filter_table.specs.declared.operation.Made.{Made}
+use Rattle.filter_table.specs.declared.operation.Made.TheVariants as made
+use Rattle.filter_table.specs.declared.operation.OpFault.{OpFault}
+use Rattle.filter_table.specs.declared.operation.OpFault.TheVariants.{BadProgram, NoCap, NotHolder, NoRight, RightsExceed, EndpointTaken, CapsFull, IdsSpent, NoFilter, NotOwner, TableFull, FilterIdsSpent, VersionsSpent}
+use Rattle.filter_table.specs.declared.decision.Vote.{Vote}
+use Rattle.filter_table.specs.declared.decision.Vote.TheVariants as vote
+use Rattle.filter_table.specs.declared.decision.Veto.{Veto}
+use Rattle.filter_table.specs.declared.decision.Veto.TheVariants as veto
+use Rattle.filter_table.specs.declared.decision.Decision.{Decision}
+use Rattle.filter_table.specs.declared.decision.Decision.TheVariants.{Committed, Refused}
+use Rattle.world_events.specs.declared.event.Answer.{Answer}
+use Rattle.world_events.specs.declared.event.Answer.TheVariants.{Prepared, Decided, Submitted, TookPrepare, TookVote, TookCommit, TookAbort, TookAck, TookSubmit, TookReply, Delivered}
 use Rattle.mk_script.specs.Drafts.{is_short}
 use Rattle.sim_lines.specs.Decisions.{rule_words, veto_words, made_words, decision_words, vote_name}
 use Rattle.sim_lines.specs.Events.{answer_words, decided_words, kept_word, kept_words}

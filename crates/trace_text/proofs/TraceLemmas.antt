@@ -8,8 +8,8 @@ use Rattle.std.proofs.lemmas.List.Elements.{recursion_from_All, filter-append}
 use Rattle.std.proofs.lemmas.List.Folds.{list_any-append}
 use Rattle.bpf_insn.specs.Texts.{words_of}
 use Rattle.filter_asm.specs.Program.{text_lines}
-use Rattle.world_model.specs.declared.event.Event.{Event}
-use Rattle.world_model.specs.declared.event.Done.{Done}
+use Rattle.world_events.specs.declared.event.Event.{Event}
+use Rattle.world_events.specs.declared.event.Done.{Done}
 use Rattle.mk_script.specs.declared.fault.ScriptFault.{ScriptFault}
 use Rattle.mk_script.specs.declared.script.Item.{Item}
 use Rattle.mk_script.specs.declared.script.Item.TheVariants as item

@@ -1,12 +1,12 @@
 -- What a run printed, after its script and a line `trace`, and the script that this stands for.
 use Rattle.std.specs.Prelude.{◌≡◌, ◌<◌, ◌^◌, ℕ, Bool, true, false, List, [], ◌∷◌, ◌++◌, codes, filter, map, Some}
 use Rattle.std.specs.List.{flat_map}
-use Rattle.monitor_messages.specs.declared.message.Vote.TheVariants as vote
-use Rattle.world_model.specs.declared.event.Event.{Event}
-use Rattle.world_model.specs.declared.event.Event.TheVariants.{Start, Submit, StartFor, Take, Rx}
-use Rattle.world_model.specs.declared.event.Answer.{Answer}
-use Rattle.world_model.specs.declared.event.Answer.TheVariants.{TookPrepare}
-use Rattle.world_model.specs.declared.event.Done.{Done}
+use Rattle.filter_table.specs.declared.decision.Vote.TheVariants as vote
+use Rattle.world_events.specs.declared.event.Event.{Event}
+use Rattle.world_events.specs.declared.event.Event.TheVariants.{Start, Submit, StartFor, Take, Rx}
+use Rattle.world_events.specs.declared.event.Answer.{Answer}
+use Rattle.world_events.specs.declared.event.Answer.TheVariants.{TookPrepare}
+use Rattle.world_events.specs.declared.event.Done.{Done}
 use Rattle.mk_script.specs.declared.script.Item.{Item}
 use Rattle.mk_script.specs.declared.script.Item.TheVariants as item
 use Rattle.mk_script.specs.declared.script.Script.{Script}

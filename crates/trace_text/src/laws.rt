@@ -12,9 +12,9 @@ ghost use Rattle.mk_script.specs.Threads.{IsScriptForThreads, for_simulation, fo
 ghost use Rattle.pcap_reader.specs.declared.capture.Packet.{Packet};
 ghost use Rattle.sim_lines.specs.Events.{done_line, left_line};
 ghost use Rattle.trace_text.specs.Traces.{EndsInLf, IsNamed, IsNamedIn, trace_item, trace_of, traced_script};
-ghost use Rattle.world_model.specs.declared.event.Done.{Done};
-ghost use Rattle.world_model.specs.declared.event.Event.{Event};
-ghost use Rattle.world_model.specs.declared.event.Event.TheVariants.{Rx};
+ghost use Rattle.world_events.specs.declared.event.Done.{Done};
+ghost use Rattle.world_events.specs.declared.event.Event.{Event};
+ghost use Rattle.world_events.specs.declared.event.Event.TheVariants.{Rx};
 
 /// After `trace`, the line that was printed of an event means that event, and the line of a packet that was left means nothing.
 ///

@@ -81,7 +81,7 @@ impl Channel for Messages {
 
     fn prepare(&mut self, message: &Message) -> Result<Message, AllocError> {
         self.messages.reserve(1)?;
-        message.copy(self.alloc)
+        message.clone()
     }
 
     fn put(&mut self, piece: Message) {
@@ -91,7 +91,7 @@ impl Channel for Messages {
     fn first(&self) -> Result<Option<Message>, AllocError> {
         match self.messages.front() {
             None => Ok(None),
-            Some(message) => Ok(Some(message.copy(self.alloc)?)),
+            Some(message) => Ok(Some(message.clone()?)),
         }
     }
 

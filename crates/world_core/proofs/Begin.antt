@@ -2,10 +2,10 @@
 use Rattle.std.proofs.Common.{◌≡◌, ◌∙◌, ℕ, suc, Option, None, List, length, map, refl, sym, subst, arith}
 use Rattle.std.specs.Prelude.{Result, Ok, Err, OnErr}
 use Rattle.std.proofs.lemmas.List.{length-map}
-use Rattle.table_replica.specs.declared.Op.{Op}
+use Rattle.filter_table.specs.declared.operation.Op.{Op}
 use Rattle.monitor_messages.specs.declared.message.Message.{Message}
 use Rattle.monitor_2pc.specs.Coordinators.{CanStart}
-use Rattle.world_model.specs.declared.event.Event.TheVariants.{Start, StartFor}
+use Rattle.world_events.specs.declared.event.Event.TheVariants.{Start, StartFor}
 use Rattle.world_model.specs.Cases.{outgoing, StartsAt, StartsForAt}
 use Rattle.world_model.specs.Worlds as worlds
 use Rattle.world_model.proofs.Lists.{get_within, get_at}

@@ -3,7 +3,7 @@ use Rattle.std.proofs.Common.{◌≡◌, ◌∙◌, ◌++◌, ◌∷◌, ◌+◌
 use Rattle.std.proofs.lemmas.List.{length-map, map-append, take_more}
 use Rattle.std.proofs.lemmas.List.Elements.{All-push}
 use Rattle.std.proofs.lemmas.Option.{get_or_from_slice_get}
-use Rattle.table_replica.specs.Tables.{opening, table}
+use Rattle.filter_table.specs.Tables.{opening, table}
 use Rattle.table_replica.specs.Shown.{ReplicaState}
 use Rattle.monitor_messages.specs.declared.message.Message.{Message}
 use Rattle.monitor_2pc.specs.Coordinators.{CoordinatorState, Idle, no_requests}

@@ -1,16 +1,16 @@
 -- What core 0 keeps with its steps.
 use Rattle.std.proofs.Common.{◌≡◌, ◌∙◌, ℕ, Option, None, Some, List, length, slice_get, slice_set, refl, ap, sym}
-use Rattle.table_replica.specs.declared.Op.{Op}
-use Rattle.table_replica.specs.Tables.{State, table}
-use Rattle.table_replica.proofs.Tables.{table_next}
-use Rattle.monitor_messages.specs.declared.message.Vote.{Vote}
+use Rattle.filter_table.specs.declared.operation.Op.{Op}
+use Rattle.filter_table.specs.Tables.{State, table}
+use Rattle.filter_table.proofs.Tables.{table_next}
+use Rattle.filter_table.specs.declared.decision.Vote.{Vote}
 use Rattle.monitor_messages.specs.declared.message.Message.{Message}
 use Rattle.monitor_messages.specs.declared.message.Message.TheVariants as message
 use Rattle.monitor_2pc.specs.declared.step.Step.{Step}
 use Rattle.monitor_2pc.specs.Places.{after_commit}
 use Rattle.monitor_2pc.specs.Coordinators.{CoordinatorPlace, Phase, Idle, Voting, Acking, Requests, StagedByPhase, refused, unstaged, alone, prepared, Tallies, waits, commits_all, aborts_all}
 use Rattle.monitor_2pc.specs.Coordinators as coordinators
-use Rattle.world_model.specs.declared.event.Answer.{Answer}
+use Rattle.world_events.specs.declared.event.Answer.{Answer}
 use Rattle.world_model.specs.Cases.{joined, TakesUpAt}
 use Rattle.core_steps.specs.declared.core0.Told.{Told}
 use Rattle.core_steps.specs.Core0Steps.{Moves, Starts, StartsForCore, TakesUp, core0_place}

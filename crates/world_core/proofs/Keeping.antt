@@ -1,11 +1,11 @@
 -- What keeps the cores as the world has them.
 use Rattle.std.proofs.Common.{◌≡◌, ◌∙◌, ◌++◌, ◌∷◌, Bool, Option, Some, List, [], drop, refl, ap, sym}
 use Rattle.std.specs.Prelude.{option_to_list}
-use Rattle.table_replica.specs.Tables.{State, opening, table}
+use Rattle.filter_table.specs.Tables.{State, opening, table}
 use Rattle.monitor_messages.specs.declared.message.Message.{Message}
 use Rattle.world_channels.specs.Channels.{first_of}
-use Rattle.world_model.specs.declared.event.Event.TheVariants.{Take}
-use Rattle.world_model.specs.declared.event.Answer.{Answer}
+use Rattle.world_events.specs.declared.event.Event.TheVariants.{Take}
+use Rattle.world_events.specs.declared.event.Answer.{Answer}
 use Rattle.world_model.specs.Cases.{sent_up}
 use Rattle.core_steps.specs.declared.other_core.OtherCore.{OtherCore}
 use Rattle.core_steps.specs.OtherCoreSteps.{IsBetweenSteps, TakesDown}

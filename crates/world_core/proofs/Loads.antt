@@ -2,16 +2,16 @@
 use Rattle.std.proofs.Common.{◌≡◌, ◌≢◌, ◌++◌, ◌∷◌, ◌+◌, ◌*◌, ◌≤◌, ◌<◌, inl, inr, ℕ, zero, suc, Bool, true, false, Option, None, Some, List, [], length, map, slice_get, slice_set, cond, refl, ap, subst, arith}
 use Rattle.std.specs.Prelude.{option_to_list}
 use Rattle.std.specs.List.{list_all}
-use Rattle.table_replica.specs.declared.Op.{Op}
+use Rattle.filter_table.specs.declared.operation.Op.{Op}
 use Rattle.monitor_messages.specs.declared.message.Message.{Message}
 use Rattle.monitor_messages.specs.declared.message.Message.TheVariants as message
-use Rattle.monitor_messages.specs.declared.message.Vote.{Vote}
-use Rattle.monitor_messages.specs.declared.message.Decision.{Decision}
+use Rattle.filter_table.specs.declared.decision.Vote.{Vote}
+use Rattle.filter_table.specs.declared.decision.Decision.{Decision}
 use Rattle.monitor_2pc.specs.declared.step.Step.{Step}
 use Rattle.monitor_2pc.specs.Coordinators.{CoordinatorPlace, Requests, Phase, Idle, Voting, Acking, Tallies, waits, commits_all, aborts_all, reply_at, requests_at, reply_of, phase_with}
-use Rattle.world_model.specs.declared.event.Event.TheVariants.{Take}
-use Rattle.world_model.specs.declared.event.Answer.{Answer}
-use Rattle.world_model.specs.declared.event.Done.{Done}
+use Rattle.world_events.specs.declared.event.Event.TheVariants.{Take}
+use Rattle.world_events.specs.declared.event.Answer.{Answer}
+use Rattle.world_events.specs.declared.event.Done.{Done}
 use Rattle.world_model.specs.Cases.{as_reply, outgoing, sent_up, raised, TakesUpAt, TakesDownAt, Took, VoteAt, AckAt}
 use Rattle.world_model.specs.Worlds.{Peer, World, newest, send, sent_out, sent_to_one, gave, HappensUp, HappensDown, Happens}
 use Rattle.world_model.proofs.Lists.{length-slice_set}

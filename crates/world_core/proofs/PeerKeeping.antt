@@ -1,18 +1,18 @@
 -- What a core other than core 0 does, as the world shows it.
 use Rattle.std.proofs.Common.{◌≡◌, ◌∙◌, ◌++◌, ◌∷◌, ◌+◌, ◌⊎◌, inl, inr, ℕ, zero, suc, Bool, true, None, Some, List, [], Result, Ok, Err, length, map, slice_get, slice_set, refl, ap, sym, subst, add-one}
 use Rattle.std.specs.Prelude.{option_to_list}
-use Rattle.table_replica.specs.declared.Op.{Op}
-use Rattle.table_replica.specs.Tables.{State, after, table}
+use Rattle.filter_table.specs.declared.operation.Op.{Op}
+use Rattle.filter_table.specs.Tables.{State, after, table}
 use Rattle.table_replica.specs.Shown.{ReplicaState}
 use Rattle.monitor_messages.specs.declared.message.Message.{Message}
 use Rattle.monitor_messages.specs.declared.message.Message.TheVariants as message
 use Rattle.monitor_2pc.specs.Places.{after_commit}
 use Rattle.monitor_2pc.specs.Coordinators.{CoordinatorPlace}
 use Rattle.monitor_2pc.specs.Participants.{ParticipantPlace, Answers}
-use Rattle.world_model.specs.declared.event.Event.{Event}
-use Rattle.world_model.specs.declared.event.Event.TheVariants.{Submit, Take}
-use Rattle.world_model.specs.declared.event.Answer.{Answer}
-use Rattle.world_core.specs.declared.fault.WorldFault.{WorldFault}
+use Rattle.world_events.specs.declared.event.Event.{Event}
+use Rattle.world_events.specs.declared.event.Event.TheVariants.{Submit, Take}
+use Rattle.world_events.specs.declared.event.Answer.{Answer}
+use Rattle.world_events.specs.declared.fault.WorldFault.{WorldFault}
 use Rattle.core_steps.specs.declared.other_core.OtherCore.{OtherCore}
 use Rattle.core_steps.specs.OtherCoreSteps.{AwaitsHere}
 use Rattle.world_core.specs.declared.home.Home.{Home}

@@ -1,7 +1,7 @@
 -- The world that is kept is the one that is shown.
 use Rattle.std.proofs.Common.{◌≡◌, ◌∙◌, ◌∷◌, ℕ, zero, suc, None, Some, List, [], map, slice_get, refl, ap, sym}
 use Rattle.std.specs.Prelude.{option_map}
-use Rattle.table_replica.specs.Tables.{table}
+use Rattle.filter_table.specs.Tables.{table}
 use Rattle.monitor_messages.specs.declared.message.Message.{Message}
 use Rattle.world_core.specs.declared.home.Home.{Home}
 use Rattle.world_core.specs.declared.peer.Peer.{Peer}

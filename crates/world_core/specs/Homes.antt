@@ -2,17 +2,17 @@
 -- No public clause cites these.
 use Rattle.std.specs.Prelude.{◌≡◌, ◌≢◌, ◌++◌, ◌∷◌, [], ℕ, Option, None, Some, List, length}
 use Rattle.std.specs.declared.snapshot.Snapshot.{Snapshot}
-use Rattle.table_replica.specs.declared.Op.{Op}
-use Rattle.table_replica.specs.Tables.{table}
+use Rattle.filter_table.specs.declared.operation.Op.{Op}
+use Rattle.filter_table.specs.Tables.{table}
 use Rattle.monitor_messages.specs.declared.message.Message.{Message}
-use Rattle.monitor_messages.specs.declared.message.Decision.{Decision}
-use Rattle.monitor_messages.specs.declared.message.Decision.TheVariants.{Committed}
+use Rattle.filter_table.specs.declared.decision.Decision.{Decision}
+use Rattle.filter_table.specs.declared.decision.Decision.TheVariants.{Committed}
 use Rattle.world_model.specs.Cases.{joined}
 use Rattle.world_model.specs.Worlds.{World}
 use Rattle.core_steps.specs.declared.core0.Told.{Told}
 use Rattle.core_steps.specs.Core0Steps.{BetweenSteps, CanBegin, Moves, Starts, StartsForCore, TakesUp}
-use Rattle.world_core.specs.declared.fault.WorldFault.{WorldFault}
-use Rattle.world_core.specs.declared.fault.WorldFault.TheVariants.{NoneWaiting, NoMemory}
+use Rattle.world_events.specs.declared.fault.WorldFault.{WorldFault}
+use Rattle.world_events.specs.declared.fault.WorldFault.TheVariants.{NoneWaiting, NoMemory}
 use Rattle.world_core.specs.declared.home.Home.{Home}
 use Rattle.world_core.specs.Refusals.{waiting_at}
 

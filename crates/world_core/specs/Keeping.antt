@@ -1,22 +1,22 @@
 -- The cores as the world keeps them, with their replicas.
 -- No public clause cites these.
 use Rattle.std.specs.Prelude.{◌≡◌, ◌≢◌, ◌<◌, ◌≤◌, ◌++◌, ◌∷◌, [], drop, ℕ, Bool, true, false, Option, None, Some, List, length, map, slice_get, slice_set, option_to_list, Result, IfOk, IfErr, OnErr}
-use Rattle.table_replica.specs.declared.Op.{Op}
-use Rattle.table_replica.specs.Tables.{State, table}
+use Rattle.filter_table.specs.declared.operation.Op.{Op}
+use Rattle.filter_table.specs.Tables.{State, table}
 use Rattle.monitor_messages.specs.declared.message.Message.{Message}
 use Rattle.monitor_messages.specs.declared.message.Message.TheVariants as message
 use Rattle.monitor_2pc.specs.Places.{after_commit}
-use Rattle.world_model.specs.declared.event.Event.TheVariants.{Take}
-use Rattle.world_model.specs.declared.event.Answer.{Answer}
-use Rattle.world_model.specs.declared.event.Answer.TheVariants.{Submitted}
-use Rattle.world_model.specs.declared.event.Done.{Done}
+use Rattle.world_events.specs.declared.event.Event.TheVariants.{Take}
+use Rattle.world_events.specs.declared.event.Answer.{Answer}
+use Rattle.world_events.specs.declared.event.Answer.TheVariants.{Submitted}
+use Rattle.world_events.specs.declared.event.Done.{Done}
 use Rattle.world_model.specs.Cases.{raised, sent_up, TakesDownAt}
 use Rattle.world_model.specs.Worlds as worlds
 use Rattle.core_steps.specs.declared.other_core.OtherCore.{OtherCore}
 use Rattle.core_steps.specs.Core0Steps.{core0_place}
 use Rattle.core_steps.specs.OtherCoreSteps.{other_place, IsBetweenSteps, AwaitsHere}
-use Rattle.world_core.specs.declared.fault.WorldFault.{WorldFault}
-use Rattle.world_core.specs.declared.fault.WorldFault.TheVariants.{Nothing, Outstanding, NoMemory}
+use Rattle.world_events.specs.declared.fault.WorldFault.{WorldFault}
+use Rattle.world_events.specs.declared.fault.WorldFault.TheVariants.{Nothing, Outstanding, NoMemory}
 use Rattle.world_core.specs.declared.home.Home.{Home}
 use Rattle.world_core.specs.declared.peer.Peer.{Peer}
 use Rattle.world_core.specs.Homes.{HomeIsKept}

@@ -3,9 +3,9 @@
 use Rattle.std.specs.Prelude.{◌≡◌, ◌+◌, ◌*◌, ◌<◌, ℕ, Option, None, Some, List, [], ◌∷◌, slice_get}
 use Rattle.monitor_messages.specs.declared.message.Message.{Message}
 use Rattle.monitor_messages.specs.declared.message.Message.TheVariants as message
-use Rattle.monitor_messages.specs.declared.message.Vote.{Vote}
+use Rattle.filter_table.specs.declared.decision.Vote.{Vote}
 use Rattle.monitor_2pc.specs.Coordinators.{Phase, Idle, Voting}
-use Rattle.world_model.specs.declared.event.Done.{Done}
+use Rattle.world_events.specs.declared.event.Done.{Done}
 use Rattle.world_model.specs.Worlds.{Peer, World, Happens}
 use Rattle.world_core.specs.Refusals.{AllQuiet, IsNext}
 

@@ -1,7 +1,7 @@
 -- What the world shows of the replica of a core.
 use Rattle.std.specs.Prelude.{◌≡◌, ℕ, zero, suc, Option, Some, slice_get, option_map}
-use Rattle.table_replica.specs.declared.Op.{Op}
-use Rattle.table_replica.specs.Tables.{table}
+use Rattle.filter_table.specs.declared.operation.Op.{Op}
+use Rattle.filter_table.specs.Tables.{table}
 use Rattle.table_replica.specs.Shown.{ReplicaState}
 use Rattle.world_model.specs.Worlds.{World, version_at, budget_at}
 

@@ -2,7 +2,7 @@
 
 ghost use Rattle.std.specs.Prelude.{◌≡◌, Bool, Some, IfOk, OnErr, option_and_then};
 ghost use Rattle.world_channels.specs.Channels.{first_of};
-ghost use Rattle.world_model.specs.declared.event.Event.TheVariants.{Take};
+ghost use Rattle.world_events.specs.declared.event.Event.TheVariants.{Take};
 ghost use Rattle.world_model.specs.Worlds as worlds;
 ghost use Rattle.world_core.specs.Refusals.{channel};
 ghost use Rattle.world_core.specs.Keeping.{seen_world, WorldIsKept};
@@ -13,7 +13,7 @@ use crate::sending::{make_ready, send};
 use monitor_2pc::Message;
 use std::alloc::{AllocError, Global};
 use world_channels::Channel;
-use world_model::Answer;
+use world_events::Answer;
 
 /// Core 0 takes the oldest message of a core, which this is, and sends what follows.
 pub(crate) fn hear<C: Channel>(

@@ -1,8 +1,8 @@
 //! Core 0, with what proofs say of it.
 
 ghost use Rattle.std.specs.Prelude.{◌≡◌, ◌<◌, ◌≤◌, ℕ, suc, None, [], IfOk};
-ghost use Rattle.table_replica.specs.declared.Op.{Op as GhostOp};
-ghost use Rattle.table_replica.specs.Tables.{opening};
+ghost use Rattle.filter_table.specs.declared.operation.Op.{Op as GhostOp};
+ghost use Rattle.filter_table.specs.Tables.{opening};
 ghost use Rattle.monitor_2pc.specs.Coordinators.{Idle, no_requests};
 ghost use Rattle.monitor_2pc.specs.Starting.{WasStaged};
 ghost use Rattle.world_model.specs.Agreement.{Expects};
@@ -11,11 +11,11 @@ ghost use Rattle.core_steps.specs.Core0Steps.{core0_place, HasWaiting, start_sen
 ghost use Rattle.world_core.specs.Homes.{HomeIsKept, HomeIsIdle, HomeStarts, HomeStartsFor, HomeTakes, begun_op, logged, begun_by, entered, still_begun};
 
 use core_steps::{Core0, Told};
+use filter_table::{Op, StageFault};
 use ghost_log::Log;
 use monitor_2pc::{Decision, Message};
 use std::alloc::{AllocError, Global};
 use std::snapshot::Snapshot;
-use table_replica::{Op, StageFault};
 
 /// Core 0, and what proofs say of it beside: the log, and the operation under vote.
 #[derive(Drop)]

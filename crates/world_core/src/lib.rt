@@ -13,7 +13,8 @@ mod settling;
 mod starting;
 mod world;
 
-pub use fault::{BootFault, WorldFault};
+pub use fault::BootFault;
+pub use filter_table::KeptList;
 pub use world::{World, WorldOver};
 pub use world_channels::{Channel, Lines, MessageLines, Messages};
-pub use world_model::{Answer, Done, Event, KeptList};
+pub use world_events::{Answer, Done, Event, WorldFault};

@@ -2,16 +2,16 @@
 
 ghost use Rattle.std.specs.Prelude.{◌≡◌, ◌<◌, ◌++◌, ℕ, All, length, IfOk, OnOk, option_to_list};
 ghost use Rattle.monitor_messages.specs.declared.message.Message.{Message as GhostMessage};
-ghost use Rattle.monitor_messages.specs.Coding.{HasShortProgram, IsNumbered, IsShort};
+ghost use Rattle.filter_table.specs.Tables.{HasShortProgram};
+ghost use Rattle.monitor_messages.specs.Coding.{IsNumbered, IsShort};
 ghost use Rattle.world_core.specs.Keeping.{ChangesOne, Submits, Takes, IsReadyAt, GivesUp, EachMatches, Readied, IsSent, RoomAt, RoomFrom};
 
-use crate::fault::WorldFault;
 use core_steps::OtherCore;
+use filter_table::Op;
 use monitor_2pc::Message;
 use std::alloc::{AllocError, Global};
-use table_replica::Op;
 use world_channels::Channel;
-use world_model::Answer;
+use world_events::{Answer, WorldFault};
 
 /// A core other than core 0, with its channels from and to core 0.
 #[derive(Drop)]
@@ -25,8 +25,9 @@ impl<C: Channel> Peer<C> {
     ghost use Rattle.std.specs.Prelude.{◌≤◌, Bool, Option, [], Some, IfOk, IfErr, OnErr, OnOk};
     ghost use Rattle.monitor_messages.specs.declared.message.Message.{Message as GhostMessage};
     ghost use Rattle.world_channels.specs.Channels.{first_of};
-    ghost use Rattle.world_core.specs.declared.fault.WorldFault.TheVariants.{NoMemory};
-    ghost use Rattle.monitor_messages.specs.Coding.{HasShortProgram, IsNumbered, IsShort};
+    ghost use Rattle.world_events.specs.declared.fault.WorldFault.TheVariants.{NoMemory};
+    ghost use Rattle.filter_table.specs.Tables.{HasShortProgram};
+    ghost use Rattle.monitor_messages.specs.Coding.{IsNumbered, IsShort};
     ghost use Rattle.core_steps.specs.declared.other_core.OtherCore.{OtherCore as GhostCore};
     ghost use Rattle.core_steps.specs.OtherCoreSteps.{IsBetweenSteps, AwaitsHere, Considers};
     ghost use Rattle.world_model.specs.Worlds.{new_peer};
@@ -44,7 +45,7 @@ impl<C: Channel> Peer<C> {
     }
 
     /// Sends a request to core 0.
-    pub(crate) fn submit(&mut self, alloc: Global, op: &Op) -> Result<Answer, WorldFault>
+    pub(crate) fn submit(&mut self, op: &Op) -> Result<Answer, WorldFault>
         requires { HasShortProgram op.now }
         ensures submits { IfOk result (PeerSubmits (seen_peer C.messages self.old) op.now (seen_peer C.messages self.new)) }
         ensures fault { IfErr result (PeerCannotSubmit (seen_peer C.messages self.old)) }
@@ -55,7 +56,7 @@ impl<C: Channel> Peer<C> {
         if self.core.participant.outstanding() {
             return Err(WorldFault::Outstanding);
         }
-        let op = op.copy(alloc)?;
+        let op = op.clone()?;
         let piece = self.up.prepare(&Message::Submit { op })?;
         let answer = self.core.submit();
         self.up.put(piece);
@@ -155,7 +156,6 @@ impl<C: Channel> Peer<C> {
 /// The core with this entry sends a request to core 0.
 pub(crate) fn submit_at<C: Channel>(
     peers: &mut [Peer<C>],
-    alloc: Global,
     entry: usize,
     op: &Op,
 ) -> Result<Answer, WorldFault>
@@ -163,7 +163,7 @@ pub(crate) fn submit_at<C: Channel>(
     requires short { HasShortProgram op.now }
     ensures { ChangesOne peers.old entry peers.new (Submits C.messages op.now result) }
 {
-    peers[entry].submit(alloc, op)
+    peers[entry].submit(op)
 }
 
 /// The core with this entry takes the oldest message from core 0.

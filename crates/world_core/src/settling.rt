@@ -2,13 +2,12 @@
 
 ghost use Rattle.std.specs.Prelude.{◌≡◌, ◌++◌, ◌+◌, ◌<◌, List, IfOk, OnOk, OnErr, length};
 ghost use Rattle.monitor_2pc.specs.Coordinators.{Idle};
-ghost use Rattle.world_model.specs.declared.event.Done.{Done as GhostDone};
+ghost use Rattle.world_events.specs.declared.event.Done.{Done as GhostDone};
 
-use crate::fault::WorldFault;
 use crate::world::WorldOver;
 use std::alloc::AllocError;
 use world_channels::Channel;
-use world_model::{Done, Event};
+use world_events::{Done, Event, WorldFault};
 
 impl<C: Channel> WorldOver<C> {
     ghost use Rattle.world_core.specs.Refusals.{AllQuiet, Extends, Settles};

@@ -1,25 +1,24 @@
 //! Core 0 starts a request, of its own or of another core.
 
 ghost use Rattle.std.specs.Prelude.{◌≡◌, ◌<◌, ◌≤◌, ℕ, IfOk, IfErr, OnErr, length};
-ghost use Rattle.table_replica.specs.declared.Op.{Op as GhostOp};
+ghost use Rattle.filter_table.specs.declared.operation.Op.{Op as GhostOp};
 ghost use Rattle.monitor_2pc.specs.Coordinators.{CanStart};
 ghost use Rattle.monitor_2pc.specs.Starting.{WasStaged};
 ghost use Rattle.core_steps.specs.Core0Steps.{core0_place, CanBegin, HasWaiting, start_sends, start_for_sends};
-ghost use Rattle.world_model.specs.declared.event.Event.TheVariants.{Start, StartFor};
+ghost use Rattle.world_events.specs.declared.event.Event.TheVariants.{Start, StartFor};
 ghost use Rattle.world_model.specs.Worlds as worlds;
 ghost use Rattle.world_core.specs.Keeping.{seen_world, WorldIsKept, EachMatches, Readied};
 ghost use Rattle.world_core.specs.Sending.{IsReady};
 ghost use Rattle.world_core.specs.Homes.{StartForRefuses};
 
-use crate::fault::WorldFault;
 use crate::home::Home;
 use crate::peer::Peer;
 use crate::sending::{Ready, make_ready, send};
 use core_steps::Core0;
+use filter_table::{Op, StageFault};
 use std::alloc::{AllocError, Global};
-use table_replica::{Op, StageFault};
 use world_channels::Channel;
-use world_model::Answer;
+use world_events::{Answer, WorldFault};
 
 /// Core 0 starts an operation, and asks the other cores.
 pub(crate) fn begin<C: Channel>(
@@ -57,7 +56,7 @@ fn ready_start<C: Channel>(
     ensures peers { EachMatches (Readied C.messages) peers.old peers.new }
     ensures ready { IfOk result (IsReady C.spare C.made_for peers.new (start_sends core.now op.now refusal)) }
 {
-    let outgoing = core.start_sends(alloc, op, refusal)?;
+    let outgoing = core.start_sends(op, refusal)?;
     make_ready(peers, alloc, &outgoing)
 }
 
@@ -102,6 +101,6 @@ fn ready_start_for<C: Channel>(
     ensures peers { EachMatches (Readied C.messages) peers.old peers.new }
     ensures ready { IfOk result (λ ready. (entry : ℕ) (op : GhostOp) → HasWaiting core0.now core entry op → IsReady C.spare C.made_for peers.new (start_for_sends entry core0.now op refusal) ready) }
 {
-    let outgoing = core0.start_for_sends(alloc, core, refusal)?;
+    let outgoing = core0.start_for_sends(core, refusal)?;
     make_ready(peers, alloc, &outgoing)
 }

@@ -6,19 +6,20 @@ ghost use Rattle.world_model.specs.Worlds.{new_peer};
 ghost use Rattle.world_core.specs.Keeping.{seen_peer, PeerIsKept};
 ghost use Rattle.std.specs.Option.{option_copied};
 
-use crate::fault::{BootFault, WorldFault};
+use crate::fault::BootFault;
 use crate::hearing::hear;
 use crate::home::Home;
 use crate::peer::{Peer, submit_at, take_at};
 use crate::starting::{begin, begin_for};
 use core_steps::receive;
+use filter_table::Op;
 use monitor_2pc::Message;
-use pcap_reader::Packet;
+use pcap_reader::SharedPacket;
 use std::alloc::{AllocError, Global};
 use std::marker::Model;
-use table_replica::{Op, Replica};
+use table_replica::Replica;
 use world_channels::{Channel, Messages};
-use world_model::{Answer, Event};
+use world_events::{Answer, Event, WorldFault};
 
 /// The most cores.
 const CORES: usize = 8;
@@ -48,12 +49,12 @@ impl<C: Channel> Model for WorldOver<C> {
 
 impl<C: Channel> WorldOver<C> {
     ghost use Rattle.world_model.specs.Worlds as worlds;
-    ghost use Rattle.monitor_messages.specs.Coding.{HasShortProgram};
-    ghost use Rattle.world_model.specs.declared.event.Event.TheVariants.{Start, Submit, StartFor, Take, Rx};
+    ghost use Rattle.filter_table.specs.Tables.{HasShortProgram};
+    ghost use Rattle.world_events.specs.declared.event.Event.TheVariants.{Start, Submit, StartFor, Take, Rx};
     ghost use Rattle.world_core.specs.Refusals.{channel, NoneStands, WorldRefuses, BootRefuses, Extends, HasCores, Reached, IsShortEvent, waiting_at};
     ghost use Rattle.world_model.specs.Agreement.{Agrees, Grows, IsSoundLog, NoStranger, TellsVersions};
     ghost use Rattle.world_model.specs.Decisions.{Delivers, DecidesRightly, RepliesRightly};
-    ghost use Rattle.world_model.specs.declared.event.Done.{Done as GhostDone};
+    ghost use Rattle.world_events.specs.declared.event.Done.{Done as GhostDone};
     ghost use Rattle.world_core.specs.Shown.{ShowsReplica};
 
     /// The cores of a machine, with these budgets, core 0's first. Nothing has happened yet.
@@ -200,7 +201,7 @@ impl<C: Channel> WorldOver<C> {
     }
 
     // A core receives a packet.
-    fn receive(&self, core: u16, packet: &Packet, floor: u64) -> Result<Answer, WorldFault>
+    fn receive(&self, core: u16, packet: &SharedPacket, floor: u64) -> Result<Answer, WorldFault>
         ensures happens { (number : ℕ) → IfOk result (worlds.Happens self.now (Rx core number packet.now floor) self.now) }
         ensures fault { (number : ℕ) → IfErr result (WorldRefuses self.now (Rx core number packet.now floor)) }
     {
@@ -224,7 +225,7 @@ impl<C: Channel> WorldOver<C> {
             return Err(WorldFault::NoSuchCore);
         }
         let entry = usize::from(core) - 1;
-        submit_at(&mut self.peers, self.alloc, entry, op)
+        submit_at(&mut self.peers, entry, op)
     }
 
     // A core takes its oldest message from another.

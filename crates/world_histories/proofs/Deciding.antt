@@ -2,24 +2,24 @@
 use Rattle.std.proofs.Common.{◌≡◌, ◌<◌, ◌⊎◌, ℕ, zero, suc, Bool, Some, None, List, [], ◌∷◌, ◌++◌, length, slice_get, refl, ap, sym, ◌∙◌, subst, arith, append_assoc}
 use Rattle.std.proofs.lemmas.List.{map-append}
 use mathlib.Core.List.{IsPrefix}
-use Rattle.table_replica.specs.declared.Op.{Op}
-use Rattle.table_replica.specs.declared.Made.{Made}
-use Rattle.table_replica.specs.Tables.{State, after, made, table, instructions, Allowed}
-use Rattle.table_replica.specs.Staging.{AsksForMemory}
-use Rattle.table_replica.proofs.Tables.{table_front}
+use Rattle.filter_table.specs.declared.operation.Op.{Op}
+use Rattle.filter_table.specs.declared.operation.Made.{Made}
+use Rattle.filter_table.specs.Tables.{State, after, made, table, instructions, Allowed}
+use Rattle.filter_table.specs.Staging.{AsksForMemory}
+use Rattle.filter_table.proofs.Tables.{table_front}
 use Rattle.monitor_messages.specs.declared.message.Message.{Message}
 use Rattle.monitor_messages.specs.declared.message.Message.TheVariants as message
-use Rattle.monitor_messages.specs.declared.message.Vote.{Vote}
-use Rattle.monitor_messages.specs.declared.message.Vote.TheVariants as vote
-use Rattle.monitor_messages.specs.declared.message.Veto.{Veto}
-use Rattle.monitor_messages.specs.declared.message.Veto.TheVariants as veto
-use Rattle.monitor_messages.specs.declared.message.Decision.{Decision}
-use Rattle.monitor_messages.specs.declared.message.Decision.TheVariants.{Committed, Refused}
-use Rattle.world_model.specs.declared.event.Event.{Event}
-use Rattle.world_model.specs.declared.event.Event.TheVariants.{Start, Submit, StartFor, Take, Rx}
-use Rattle.world_model.specs.declared.event.Answer.{Answer}
-use Rattle.world_model.specs.declared.event.Answer.TheVariants.{Prepared, Decided, TookPrepare, TookVote}
-use Rattle.world_model.specs.declared.event.Done.{Done}
+use Rattle.filter_table.specs.declared.decision.Vote.{Vote}
+use Rattle.filter_table.specs.declared.decision.Vote.TheVariants as vote
+use Rattle.filter_table.specs.declared.decision.Veto.{Veto}
+use Rattle.filter_table.specs.declared.decision.Veto.TheVariants as veto
+use Rattle.filter_table.specs.declared.decision.Decision.{Decision}
+use Rattle.filter_table.specs.declared.decision.Decision.TheVariants.{Committed, Refused}
+use Rattle.world_events.specs.declared.event.Event.{Event}
+use Rattle.world_events.specs.declared.event.Event.TheVariants.{Start, Submit, StartFor, Take, Rx}
+use Rattle.world_events.specs.declared.event.Answer.{Answer}
+use Rattle.world_events.specs.declared.event.Answer.TheVariants.{Prepared, Decided, TookPrepare, TookVote}
+use Rattle.world_events.specs.declared.event.Done.{Done}
 use Rattle.world_model.specs.Cases.{TakesUpAt, TakesDownAt, Took}
 use Rattle.world_model.specs.Worlds.{Peer, World, boot, newest, budget_at, HappensUp, HappensDown, Happens, Run}
 use Rattle.world_model.specs.Readings.{version_of, vote_of, Request, sent, request_of, Begins, Begun}

@@ -1,7 +1,7 @@
 -- The histories of a computation say where its cores end, and so its log.
 use Rattle.std.proofs.Common.{◌≡◌, ℕ, suc, Bool, Some, List, [], ◌∷◌, ◌++◌, length, slice_get, refl, ap, sym, ◌∙◌, subst, arith}
 use mathlib.Core.List.{IsPrefix}
-use Rattle.table_replica.specs.declared.Op.{Op}
+use Rattle.filter_table.specs.declared.operation.Op.{Op}
 use Rattle.monitor_2pc.specs.Participants.{ParticipantPlace}
 use Rattle.monitor_2pc.specs.Coordinators.{CoordinatorPlace, Requests}
 use Rattle.world_model.specs.Worlds.{Peer, World, boot}

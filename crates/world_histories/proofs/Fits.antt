@@ -1,9 +1,9 @@
 -- Every version that a core of a run has had is within its budget.
 use Rattle.std.proofs.Common.{◌≡◌, ◌+◌, ◌<◌, ◌≤◌, ◌⊎◌, inl, inr, ℕ, zero, suc, Some, List, [], ◌∷◌, ◌++◌, length, map, slice_get, refl, ap, sym, ◌∙◌, arith}
 use Rattle.std.specs.Prelude.{option_map}
-use Rattle.table_replica.specs.Tables.{table, instructions}
-use Rattle.table_replica.proofs.Tables.{table_front}
-use Rattle.world_model.specs.declared.event.Done.{Done}
+use Rattle.filter_table.specs.Tables.{table, instructions}
+use Rattle.filter_table.proofs.Tables.{table_front}
+use Rattle.world_events.specs.declared.event.Done.{Done}
 use Rattle.world_model.specs.Worlds.{Peer, World, boot, new_peer, version_at, Happens, Run}
 use Rattle.world_model.specs.Agreement.{Agrees, Grows}
 use Rattle.world_model.proofs.Lists.{get_within, get_at, get_map, map_get}

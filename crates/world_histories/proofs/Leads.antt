@@ -1,16 +1,16 @@
 -- An event of core 0, by its history, is one of the world.
 use Rattle.std.proofs.Common.{◌≡◌, ◌<◌, ◌≤◌, ◌⊎◌, inl, inr, ℕ, zero, suc, Bool, false, cond, Option, Some, None, List, [], ◌∷◌, ◌++◌, length, slice_get, slice_set, refl, ap, sym, ◌∙◌, subst, arith}
 use mathlib.Core.List.{IsPrefix}
-use Rattle.table_replica.specs.declared.Op.{Op}
-use Rattle.table_replica.specs.Tables.{table}
+use Rattle.filter_table.specs.declared.operation.Op.{Op}
+use Rattle.filter_table.specs.Tables.{table}
 use Rattle.pcap_reader.specs.declared.capture.Packet.{Packet}
 use Rattle.monitor_messages.specs.declared.message.Message.{Message}
 use Rattle.monitor_messages.specs.declared.message.Message.TheVariants as message
 use Rattle.monitor_2pc.specs.declared.step.Step.{Step}
 use Rattle.monitor_2pc.specs.Coordinators.{CoordinatorPlace, Requests, Phase}
-use Rattle.world_model.specs.declared.event.Event.{Event}
-use Rattle.world_model.specs.declared.event.Event.TheVariants.{Start, StartFor, Take, Rx}
-use Rattle.world_model.specs.declared.event.Answer.{Answer}
+use Rattle.world_events.specs.declared.event.Event.{Event}
+use Rattle.world_events.specs.declared.event.Event.TheVariants.{Start, StartFor, Take, Rx}
+use Rattle.world_events.specs.declared.event.Answer.{Answer}
 use Rattle.world_model.specs.Cases.{Outgoing, nothing, outgoing, joined, ReceivesAt, StartsAt, StartsForAt, TakesUpAt}
 use Rattle.world_model.specs.Worlds.{Peer, World, newest, sent_out, core0_moves, gave, Happens}
 use Rattle.world_model.proofs.Lists.{get_within, get_at}

@@ -3,17 +3,17 @@ use Rattle.std.proofs.Common.{◌≡◌, ◌+◌, ◌<◌, ◌⊎◌, inl, inr, 
 use Rattle.std.specs.Prelude.{option_to_list, option_map}
 use Rattle.std.proofs.lemmas.List.{append-nil}
 use mathlib.Core.List.{IsPrefix}
-use Rattle.table_replica.specs.declared.Op.{Op}
-use Rattle.table_replica.specs.Tables.{State, table}
-use Rattle.table_replica.proofs.Tables.{table_front}
+use Rattle.filter_table.specs.declared.operation.Op.{Op}
+use Rattle.filter_table.specs.Tables.{State, table}
+use Rattle.filter_table.proofs.Tables.{table_front}
 use Rattle.pcap_reader.specs.declared.capture.Packet.{Packet}
 use Rattle.monitor_messages.specs.declared.message.Message.{Message}
 use Rattle.monitor_messages.specs.declared.message.Message.TheVariants as message
 use Rattle.monitor_2pc.specs.Participants.{ParticipantPlace, Answers}
 use Rattle.monitor_2pc.specs.Coordinators.{CoordinatorPlace}
-use Rattle.world_model.specs.declared.event.Event.{Event}
-use Rattle.world_model.specs.declared.event.Event.TheVariants.{Submit, Take, Rx}
-use Rattle.world_model.specs.declared.event.Answer.{Answer}
+use Rattle.world_events.specs.declared.event.Event.{Event}
+use Rattle.world_events.specs.declared.event.Event.TheVariants.{Submit, Take, Rx}
+use Rattle.world_events.specs.declared.event.Answer.{Answer}
 use Rattle.world_model.specs.Cases.{sent_up, joined, raised, ReceivesAt, SubmitsAt, TakesDownAt}
 use Rattle.world_model.specs.Worlds.{Peer, World, newest, Happens}
 use Rattle.world_model.specs.Agreement.{commitments}

@@ -2,16 +2,16 @@
 use Rattle.std.proofs.Common.{◌≡◌, ◌+◌, ◌⊎◌, ◌==◌, inl, inr, ℕ, zero, suc, Bool, true, false, cond, Option, Some, None, List, [], ◌∷◌, ◌++◌, slice_get, slice_set, refl, ap, sym, ◌∙◌, subst, arith, append_assoc}
 use Rattle.std.specs.Prelude.{count_by, option_to_list}
 use Rattle.std.proofs.lemmas.List.Sums.{sum_by-append}
-use Rattle.table_replica.specs.declared.Op.{Op}
+use Rattle.filter_table.specs.declared.operation.Op.{Op}
 use Rattle.monitor_messages.specs.declared.message.Message.{Message}
 use Rattle.monitor_messages.specs.declared.message.Message.TheVariants as message
-use Rattle.monitor_messages.specs.declared.message.Vote.{Vote}
-use Rattle.monitor_messages.specs.declared.message.Decision.{Decision}
-use Rattle.world_model.specs.declared.event.Event.{Event}
-use Rattle.world_model.specs.declared.event.Event.TheVariants.{Start, Submit, StartFor, Take, Rx}
-use Rattle.world_model.specs.declared.event.Answer.{Answer}
-use Rattle.world_model.specs.declared.event.Answer.TheVariants.{Prepared, Decided, TookVote, TookReply}
-use Rattle.world_model.specs.declared.event.Done.{Done}
+use Rattle.filter_table.specs.declared.decision.Vote.{Vote}
+use Rattle.filter_table.specs.declared.decision.Decision.{Decision}
+use Rattle.world_events.specs.declared.event.Event.{Event}
+use Rattle.world_events.specs.declared.event.Event.TheVariants.{Start, Submit, StartFor, Take, Rx}
+use Rattle.world_events.specs.declared.event.Answer.{Answer}
+use Rattle.world_events.specs.declared.event.Answer.TheVariants.{Prepared, Decided, TookVote, TookReply}
+use Rattle.world_events.specs.declared.event.Done.{Done}
 use Rattle.world_model.specs.Cases.{Outgoing, outgoing, sent_up, raised, start_told, TakesUpAt, TakesDownAt}
 use Rattle.world_model.specs.Worlds.{Peer, World, newest, sent_out, HappensUp, HappensDown, Happens, Run}
 use Rattle.world_model.specs.Readings.{Request, unsent, sent, numbered, settled, begun, decided_on, followed, request_of}

@@ -1,21 +1,21 @@
 -- A small computation, written out: two cores commit a create, so that the definitions are met by some histories.
 use Rattle.std.proofs.Common.{◌≡◌, ◌≤◌, ℕ, zero, suc, false, Option, Some, None, List, [], ◌∷◌, slice_get, refl, subst, lit<, lit≤}
-use Rattle.table_replica.specs.declared.Op.{Op}
-use Rattle.table_replica.specs.declared.Op.TheVariants.{Create}
-use Rattle.table_replica.specs.declared.Made.TheVariants.{Cap}
-use Rattle.table_replica.specs.Tables.{opening, table, after, made, instructions, Allowed}
+use Rattle.filter_table.specs.declared.operation.Op.{Op}
+use Rattle.filter_table.specs.declared.operation.Op.TheVariants.{Create}
+use Rattle.filter_table.specs.declared.operation.Made.TheVariants.{Cap}
+use Rattle.filter_table.specs.Tables.{opening, table, after, made, instructions, Allowed}
 use Rattle.monitor_messages.specs.declared.message.Message.{Message}
 use Rattle.monitor_messages.specs.declared.message.Message.TheVariants as message
-use Rattle.monitor_messages.specs.declared.message.Vote.{Vote}
-use Rattle.monitor_messages.specs.declared.message.Vote.TheVariants as vote
-use Rattle.monitor_messages.specs.declared.message.Decision.{Decision}
-use Rattle.monitor_messages.specs.declared.message.Decision.TheVariants.{Committed}
+use Rattle.filter_table.specs.declared.decision.Vote.{Vote}
+use Rattle.filter_table.specs.declared.decision.Vote.TheVariants as vote
+use Rattle.filter_table.specs.declared.decision.Decision.{Decision}
+use Rattle.filter_table.specs.declared.decision.Decision.TheVariants.{Committed}
 use Rattle.monitor_2pc.specs.declared.step.Say.TheVariants as say
 use Rattle.monitor_2pc.specs.Coordinators.{Phase, Idle, Voting, Acking, prepared, commits_all}
-use Rattle.world_model.specs.declared.event.Event.{Event}
-use Rattle.world_model.specs.declared.event.Event.TheVariants.{Start, Take}
-use Rattle.world_model.specs.declared.event.Answer.{Answer}
-use Rattle.world_model.specs.declared.event.Answer.TheVariants.{Prepared, TookPrepare, TookVote, TookCommit, TookAck}
+use Rattle.world_events.specs.declared.event.Event.{Event}
+use Rattle.world_events.specs.declared.event.Event.TheVariants.{Start, Take}
+use Rattle.world_events.specs.declared.event.Answer.{Answer}
+use Rattle.world_events.specs.declared.event.Answer.TheVariants.{Prepared, TookPrepare, TookVote, TookCommit, TookAck}
 use Rattle.world_model.specs.Cases.{nothing, to_all}
 use Rattle.world_histories.specs.declared.history.Stamped.{Stamped}
 use Rattle.world_histories.specs.Histories.{Stamping, Sending, Core0, core0_first, Step0, History0, Other, other_first, StepOther, HistoryOther, TakesInOrder, Computation}

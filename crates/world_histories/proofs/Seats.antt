@@ -3,7 +3,7 @@ use Rattle.std.proofs.Common.{◌≡◌, ◌⊎◌, inl, inr, ℕ, Option, Some,
 use Rattle.std.specs.Prelude.{option_to_list}
 use Rattle.std.proofs.lemmas.List.{append-nil, map-append}
 use mathlib.Core.List.{IsPrefix}
-use Rattle.table_replica.specs.declared.Op.{Op}
+use Rattle.filter_table.specs.declared.operation.Op.{Op}
 use Rattle.monitor_messages.specs.declared.message.Message.{Message}
 use Rattle.world_model.specs.Cases.{Outgoing, nothing, to_all, to_one, sent_up, joined, raised}
 use Rattle.world_model.specs.Worlds.{Peer, World, send, sent_out, sent_to_one, Run}

@@ -1,23 +1,23 @@
 -- What the run tells of a core is what the core's own events tell.
 use Rattle.std.proofs.Common.{◌≡◌, ◌+◌, ◌⊎◌, ◌==◌, inl, inr, ℕ, zero, suc, Bool, true, false, cond, Option, Some, None, List, [], ◌∷◌, refl, ap, sym, ◌∙◌, arith}
 use Rattle.std.proofs.lemmas.List.Sums.{sum_by-append}
-use Rattle.table_replica.specs.declared.Op.{Op}
-use Rattle.table_replica.specs.declared.Kept.{Kept}
-use Rattle.table_replica.specs.Tables.{State}
+use Rattle.filter_table.specs.declared.operation.Op.{Op}
+use Rattle.filter_table.specs.declared.delivery.Kept.{Kept}
+use Rattle.filter_table.specs.Tables.{State}
 use Rattle.pcap_reader.specs.declared.capture.Packet.{Packet}
 use Rattle.monitor_messages.specs.declared.message.Message.{Message}
 use Rattle.monitor_messages.specs.declared.message.Message.TheVariants as message
-use Rattle.monitor_messages.specs.declared.message.Vote.{Vote}
-use Rattle.monitor_messages.specs.declared.message.Vote.TheVariants as vote
-use Rattle.monitor_messages.specs.declared.message.Decision.{Decision}
+use Rattle.filter_table.specs.declared.decision.Vote.{Vote}
+use Rattle.filter_table.specs.declared.decision.Vote.TheVariants as vote
+use Rattle.filter_table.specs.declared.decision.Decision.{Decision}
 use Rattle.monitor_2pc.specs.declared.step.Step.{Step}
 use Rattle.monitor_2pc.specs.Participants.{ParticipantPlace}
 use Rattle.monitor_2pc.specs.Coordinators.{CoordinatorPlace, Requests}
-use Rattle.world_model.specs.declared.event.Event.{Event}
-use Rattle.world_model.specs.declared.event.Event.TheVariants.{Start, Submit, StartFor, Take, Rx}
-use Rattle.world_model.specs.declared.event.Answer.{Answer}
-use Rattle.world_model.specs.declared.event.Answer.TheVariants.{Prepared, Decided, Submitted, TookPrepare, TookVote, TookCommit, TookAbort, TookReply, Delivered}
-use Rattle.world_model.specs.declared.event.Done.{Done}
+use Rattle.world_events.specs.declared.event.Event.{Event}
+use Rattle.world_events.specs.declared.event.Event.TheVariants.{Start, Submit, StartFor, Take, Rx}
+use Rattle.world_events.specs.declared.event.Answer.{Answer}
+use Rattle.world_events.specs.declared.event.Answer.TheVariants.{Prepared, Decided, Submitted, TookPrepare, TookVote, TookCommit, TookAbort, TookReply, Delivered}
+use Rattle.world_events.specs.declared.event.Done.{Done}
 use Rattle.world_model.specs.Cases.{start_told, TakesUpAt, TakesDownAt, Took}
 use Rattle.world_model.specs.Worlds.{World, Happens, Runs}
 use Rattle.world_model.specs.Readings.{commits_at, version_of, vote_with, vote_after, Request, unsent, sent, numbered, settled, begun, decided_on, followed, request_after}

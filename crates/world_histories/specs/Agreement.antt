@@ -2,8 +2,8 @@
 -- (Baumann et al. 2009, "The Multikernel", section 3.3: replicated state is kept consistent by agreement).
 use Rattle.std.specs.Prelude.{◌≡◌, ◌+◌, ◌≤◌, ℕ, suc, Some, None, List, [], ◌∷◌, ◌++◌, length, slice_get}
 use mathlib.Core.List.{IsPrefix}
-use Rattle.table_replica.specs.declared.Op.{Op}
-use Rattle.table_replica.specs.Tables.{table, instructions, Allowed}
+use Rattle.filter_table.specs.declared.operation.Op.{Op}
+use Rattle.filter_table.specs.Tables.{table, instructions, Allowed}
 use Rattle.monitor_2pc.specs.Coordinators.{Idle}
 use Rattle.world_model.specs.Agreement.{IsSoundLog}
 use Rattle.world_model.specs.Readings.{version_of}

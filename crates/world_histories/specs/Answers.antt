@@ -3,12 +3,12 @@
 -- commit that it carries (Gray 1978, "Notes on data base operating systems", section 5.8.3).
 use Rattle.std.specs.Prelude.{◌≡◌, ◌+◌, ◌⊎◌, ◌==◌, ℕ, suc, Bool, true, false, Option, Some, None, List, [], ◌∷◌, ◌++◌, length, slice_get, count_by}
 use mathlib.Core.List.{IsPrefix}
-use Rattle.table_replica.specs.declared.Op.{Op}
-use Rattle.monitor_messages.specs.declared.message.Vote.{Vote}
-use Rattle.monitor_messages.specs.declared.message.Decision.{Decision}
-use Rattle.world_model.specs.declared.event.Event.{Event}
-use Rattle.world_model.specs.declared.event.Event.TheVariants.{Submit, StartFor}
-use Rattle.world_model.specs.declared.event.Answer.TheVariants.{Prepared, Decided, TookVote}
+use Rattle.filter_table.specs.declared.operation.Op.{Op}
+use Rattle.filter_table.specs.declared.decision.Vote.{Vote}
+use Rattle.filter_table.specs.declared.decision.Decision.{Decision}
+use Rattle.world_events.specs.declared.event.Event.{Event}
+use Rattle.world_events.specs.declared.event.Event.TheVariants.{Submit, StartFor}
+use Rattle.world_events.specs.declared.event.Answer.TheVariants.{Prepared, Decided, TookVote}
 use Rattle.world_model.specs.Worlds.{World, version_at, Happens, Run}
 use Rattle.world_model.specs.Readings.{version_of, vote_of, Request, unsent, sent, numbered, settled, request_of}
 use Rattle.world_model.specs.Decisions.{DecidesRightly, StandsAt, IsEntered, RepliesRightly}

@@ -5,17 +5,17 @@
 -- after its send, and clocks tell so).
 use Rattle.std.specs.Prelude.{◌≡◌, ◌+◌, ◌==◌, ℕ, zero, suc, Bool, false, cond, max, Option, Some, None, List, [], ◌∷◌, ◌++◌, length, map, slice_get, option_to_list}
 use mathlib.Core.List.{IsPrefix}
-use Rattle.table_replica.specs.declared.Op.{Op}
-use Rattle.table_replica.specs.Tables.{table}
+use Rattle.filter_table.specs.declared.operation.Op.{Op}
+use Rattle.filter_table.specs.Tables.{table}
 use Rattle.pcap_reader.specs.declared.capture.Packet.{Packet}
 use Rattle.monitor_messages.specs.declared.message.Message.{Message}
 use Rattle.monitor_2pc.specs.declared.step.Step.{Step}
 use Rattle.monitor_2pc.specs.Participants.{ParticipantPlace, at_first}
 use Rattle.monitor_2pc.specs.Coordinators.{CoordinatorPlace, Requests, no_requests}
-use Rattle.world_model.specs.declared.event.Event.{Event}
-use Rattle.world_model.specs.declared.event.Event.TheVariants.{Start, Submit, StartFor, Take, Rx}
-use Rattle.world_model.specs.declared.event.Answer.{Answer}
-use Rattle.world_model.specs.declared.event.Done.{Done}
+use Rattle.world_events.specs.declared.event.Event.{Event}
+use Rattle.world_events.specs.declared.event.Event.TheVariants.{Start, Submit, StartFor, Take, Rx}
+use Rattle.world_events.specs.declared.event.Answer.{Answer}
+use Rattle.world_events.specs.declared.event.Done.{Done}
 use Rattle.world_model.specs.Cases.{Outgoing, nothing, to_all, to_one, outgoing, sent_up, joined, ReceivesAt, StartsAt, StartsForAt, SubmitsAt, TakesUpAt, TakesDownAt}
 use Rattle.world_model.specs.Worlds.{idle_at_first}
 use Rattle.world_histories.specs.declared.history.Stamped.{Stamped}

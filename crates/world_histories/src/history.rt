@@ -1,6 +1,6 @@
 //! Events with stamps.
 
-use world_model::Done;
+use world_events::Done;
 
 /// An event with its answer and its stamp, the clock of its core. A core's history is a list of these.
 #[derive(Drop)]

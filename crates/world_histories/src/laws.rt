@@ -1,8 +1,8 @@
 //! What holds of the histories of a machine's cores: laws, each the contract of a function that does nothing.
 
 ghost use Rattle.std.specs.Prelude.{◌≡◌, ◌∷◌, ◌++◌, List, Some, slice_get, ℕ};
-ghost use Rattle.monitor_messages.specs.declared.message.Decision.{Decision};
-ghost use Rattle.world_model.specs.declared.event.Answer.TheVariants.{TookReply};
+ghost use Rattle.filter_table.specs.declared.decision.Decision.{Decision};
+ghost use Rattle.world_events.specs.declared.event.Answer.TheVariants.{TookReply};
 ghost use Rattle.world_histories.specs.declared.history.Stamped.{Stamped};
 ghost use Rattle.world_histories.specs.Histories.{Core0, Other, Computation};
 ghost use Rattle.world_histories.specs.Merging.{Merged, IsRun};

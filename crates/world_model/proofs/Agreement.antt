@@ -1,16 +1,16 @@
 -- The laws of runs follow from the invariant.
 use Rattle.std.proofs.Common.{◌≡◌, ◌≢◌, ◌+◌, ◌⊎◌, inl, inr, ℕ, zero, suc, Bool, true, false, Option, Some, None, List, [], ◌∷◌, length, slice_get, refl, ap, sym, ◌∙◌, subst, arith}
 use Rattle.std.specs.Prelude.{option_map}
-use Rattle.table_replica.specs.declared.Op.{Op}
-use Rattle.table_replica.proofs.Tables.{allowed_elsewhere}
+use Rattle.filter_table.specs.declared.operation.Op.{Op}
+use Rattle.filter_table.proofs.Tables.{allowed_elsewhere}
 use Rattle.monitor_messages.specs.declared.message.Message.{Message}
 use Rattle.monitor_messages.specs.declared.message.Message.TheVariants as message
-use Rattle.monitor_messages.specs.declared.message.Vote.{Vote}
+use Rattle.filter_table.specs.declared.decision.Vote.{Vote}
 use Rattle.monitor_2pc.specs.Coordinators.{CoordinatorPlace, Phase, Idle, Voting, Acking}
-use Rattle.world_model.specs.declared.event.Event.{Event}
-use Rattle.world_model.specs.declared.event.Event.TheVariants.{Start, Submit, StartFor, Take, Rx}
-use Rattle.world_model.specs.declared.event.Answer.{Answer}
-use Rattle.world_model.specs.declared.event.Done.{Done}
+use Rattle.world_events.specs.declared.event.Event.{Event}
+use Rattle.world_events.specs.declared.event.Event.TheVariants.{Start, Submit, StartFor, Take, Rx}
+use Rattle.world_events.specs.declared.event.Answer.{Answer}
+use Rattle.world_events.specs.declared.event.Done.{Done}
 use Rattle.world_model.specs.Worlds.{Peer, World, boot, newest, Happens, Runs, Run}
 use Rattle.world_model.proofs.Lists.{get_within, get_at}
 use Rattle.world_model.proofs.Invariant.{Pair, at_rest, asked, voted, counted, to_commit, to_abort, acked, finished, Alone, Inv, boot_inv}

@@ -1,23 +1,23 @@
 -- Each decision of a run is right.
 use Rattle.std.proofs.Common.{◌≡◌, ◌≢◌, ◌+◌, ◌<◌, ◌⊎◌, inl, inr, ℕ, zero, suc, Bool, Option, Some, None, List, [], ◌∷◌, length, map, slice_get, slice_set, refl, ap, sym, ◌∙◌, subst, arith, replicate}
 use Rattle.std.specs.Prelude.{option_map}
-use Rattle.table_replica.specs.declared.Op.{Op}
-use Rattle.table_replica.specs.Tables.{State, table, after, instructions, Allowed}
-use Rattle.table_replica.specs.Staging.{AsksForMemory}
-use Rattle.table_replica.proofs.Tables.{table_version}
+use Rattle.filter_table.specs.declared.operation.Op.{Op}
+use Rattle.filter_table.specs.Tables.{State, table, after, instructions, Allowed}
+use Rattle.filter_table.specs.Staging.{AsksForMemory}
+use Rattle.filter_table.proofs.Tables.{table_version}
 use Rattle.monitor_messages.specs.declared.message.Message.{Message}
 use Rattle.monitor_messages.specs.declared.message.Message.TheVariants as message
-use Rattle.monitor_messages.specs.declared.message.Vote.{Vote}
-use Rattle.monitor_messages.specs.declared.message.Vote.TheVariants as vote
-use Rattle.monitor_messages.specs.declared.message.Veto.TheVariants as veto
+use Rattle.filter_table.specs.declared.decision.Vote.{Vote}
+use Rattle.filter_table.specs.declared.decision.Vote.TheVariants as vote
+use Rattle.filter_table.specs.declared.decision.Veto.TheVariants as veto
 use Rattle.monitor_2pc.specs.declared.step.Step.{Step}
 use Rattle.monitor_2pc.specs.Participants.{ParticipantPlace, Casts}
 use Rattle.monitor_2pc.specs.Coordinators.{CoordinatorPlace, Requests, Voting, Acking, LeastNo, veto_by, asker_after, reply_to, Starts, refused, unstaged, alone, prepared, Tallies, waits, commits_all, aborts_all}
-use Rattle.world_model.specs.declared.event.Event.{Event}
-use Rattle.world_model.specs.declared.event.Event.TheVariants.{Start, Submit, StartFor, Take, Rx}
-use Rattle.world_model.specs.declared.event.Answer.{Answer}
-use Rattle.world_model.specs.declared.event.Answer.TheVariants.{TookVote}
-use Rattle.world_model.specs.declared.event.Done.{Done}
+use Rattle.world_events.specs.declared.event.Event.{Event}
+use Rattle.world_events.specs.declared.event.Event.TheVariants.{Start, Submit, StartFor, Take, Rx}
+use Rattle.world_events.specs.declared.event.Answer.{Answer}
+use Rattle.world_events.specs.declared.event.Answer.TheVariants.{TookVote}
+use Rattle.world_events.specs.declared.event.Done.{Done}
 use Rattle.world_model.specs.Cases.{to_all, outgoing, start_told, VoteAt, TakesUpAt, TakesDownAt, Took}
 use Rattle.world_model.specs.Worlds.{Peer, World, newest, version_at, send, core0_moves, HappensStart, HappensStartFor, HappensUp, HappensDown, gave, Happens, Run}
 use Rattle.world_model.specs.Agreement.{commitments}

@@ -1,22 +1,22 @@
 -- Requests followed to their decisions and to the log.
 use Rattle.std.proofs.Common.{◌≡◌, ◌≢◌, ◌+◌, ◌≤◌, ◌⊎◌, ◌==◌, inl, inr, ℕ, zero, suc, Bool, true, false, cond, Option, Some, List, [], ◌∷◌, ◌++◌, length, slice_get, slice_set, refl, ap, sym, ◌∙◌, subst, arith, append_assoc}
-use Rattle.table_replica.specs.declared.Op.{Op}
-use Rattle.table_replica.specs.Tables.{State, made}
-use Rattle.table_replica.proofs.Tables.{table_front, table_version}
+use Rattle.filter_table.specs.declared.operation.Op.{Op}
+use Rattle.filter_table.specs.Tables.{State, made}
+use Rattle.filter_table.proofs.Tables.{table_front, table_version}
 use Rattle.monitor_messages.specs.declared.message.Message.{Message}
 use Rattle.monitor_messages.specs.declared.message.Message.TheVariants as message
-use Rattle.monitor_messages.specs.declared.message.Vote.{Vote}
-use Rattle.monitor_messages.specs.declared.message.Decision.{Decision}
-use Rattle.monitor_messages.specs.declared.message.Decision.TheVariants.{Committed, Refused}
-use Rattle.monitor_messages.specs.declared.message.Veto.TheVariants as veto
+use Rattle.filter_table.specs.declared.decision.Vote.{Vote}
+use Rattle.filter_table.specs.declared.decision.Decision.{Decision}
+use Rattle.filter_table.specs.declared.decision.Decision.TheVariants.{Committed, Refused}
+use Rattle.filter_table.specs.declared.decision.Veto.TheVariants as veto
 use Rattle.monitor_2pc.specs.declared.step.Step.{Step}
 use Rattle.monitor_2pc.specs.Participants.{ParticipantPlace}
 use Rattle.monitor_2pc.specs.Coordinators.{CoordinatorPlace, Requests, Phase, Idle, Voting, Acking, phase_with, veto_of, veto_by, Starts, refused, unstaged, alone, prepared, Tallies, waits, commits_all, aborts_all}
-use Rattle.world_model.specs.declared.event.Event.{Event}
-use Rattle.world_model.specs.declared.event.Event.TheVariants.{Start, Submit, StartFor, Take, Rx}
-use Rattle.world_model.specs.declared.event.Answer.{Answer}
-use Rattle.world_model.specs.declared.event.Answer.TheVariants.{Prepared, TookVote}
-use Rattle.world_model.specs.declared.event.Done.{Done}
+use Rattle.world_events.specs.declared.event.Event.{Event}
+use Rattle.world_events.specs.declared.event.Event.TheVariants.{Start, Submit, StartFor, Take, Rx}
+use Rattle.world_events.specs.declared.event.Answer.{Answer}
+use Rattle.world_events.specs.declared.event.Answer.TheVariants.{Prepared, TookVote}
+use Rattle.world_events.specs.declared.event.Done.{Done}
 use Rattle.std.specs.Prelude.{option_to_list}
 use Rattle.world_model.specs.Cases.{Outgoing, outgoing, sent_up, joined, raised, start_told, VoteAt, TakesUpAt, AnswersAt, TakesDownAt, Took}
 use Rattle.world_model.specs.Worlds.{Peer, World, boot, newest, sent_out, core0_moves, HappensStart, HappensUp, HappensDown, Happens, Run}

@@ -1,13 +1,13 @@
 -- The invariant of the world: what core 0 and each other core know of each other, over all channels.
 use Rattle.std.proofs.Common.{◌≡◌, ◌+◌, ◌<◌, ◌≤◌, ◌⊎◌, inl, inr, ℕ, Bool, true, false, Option, Some, None, List, [], ◌∷◌, ◌++◌, length, slice_get, refl, ◌∙◌, ap, sym, subst, arith, length-append}
 use Rattle.std.proofs.lemmas.List.{append-nil}
-use Rattle.table_replica.specs.declared.Op.{Op}
-use Rattle.table_replica.specs.Tables.{State, table, instructions, Allowed}
-use Rattle.table_replica.proofs.Tables.{table_whole, table_next, table_front, allowed_fits, instructions_opening}
+use Rattle.filter_table.specs.declared.operation.Op.{Op}
+use Rattle.filter_table.specs.Tables.{State, table, instructions, Allowed}
+use Rattle.filter_table.proofs.Tables.{table_whole, table_next, table_front, allowed_fits, instructions_opening}
 use Rattle.monitor_messages.specs.declared.message.Message.{Message}
 use Rattle.monitor_messages.specs.declared.message.Message.TheVariants as message
-use Rattle.monitor_messages.specs.declared.message.Vote.{Vote}
-use Rattle.monitor_messages.specs.declared.message.Vote.TheVariants as vote
+use Rattle.filter_table.specs.declared.decision.Vote.{Vote}
+use Rattle.filter_table.specs.declared.decision.Vote.TheVariants as vote
 use Rattle.monitor_2pc.specs.Participants.{ParticipantPlace, Casts, staged_by}
 use Rattle.monitor_2pc.specs.Coordinators.{CoordinatorPlace, Phase, Idle, Voting, Acking}
 use Rattle.world_model.specs.Worlds.{Peer, World, new_peer, idle_at_first, boot, newest, send}

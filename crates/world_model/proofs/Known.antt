@@ -3,11 +3,11 @@ use Rattle.std.proofs.Common.{◌≡◌, ◌+◌, ◌≤◌, ◌⊎◌, ℕ, zer
 use Rattle.std.specs.Prelude.{option_map}
 use Rattle.std.proofs.lemmas.List.{length-map, length-replicate}
 use Rattle.std.proofs.lemmas.List.Sums.{sum_by-append}
-use Rattle.table_replica.specs.Tables.{table, instructions}
-use Rattle.monitor_messages.specs.declared.message.Vote.{Vote}
-use Rattle.world_model.specs.declared.event.Event.{Event}
-use Rattle.world_model.specs.declared.event.Answer.{Answer}
-use Rattle.world_model.specs.declared.event.Done.{Done}
+use Rattle.filter_table.specs.Tables.{table, instructions}
+use Rattle.filter_table.specs.declared.decision.Vote.{Vote}
+use Rattle.world_events.specs.declared.event.Event.{Event}
+use Rattle.world_events.specs.declared.event.Answer.{Answer}
+use Rattle.world_events.specs.declared.event.Done.{Done}
 use Rattle.world_model.specs.Worlds.{Peer, World, boot, new_peer, version_at, Run}
 use Rattle.world_model.specs.Agreement.{Agrees, Grows}
 use Rattle.world_model.specs.Readings.{commits_at, version_of, vote_with, vote_after, vote_of}

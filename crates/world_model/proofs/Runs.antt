@@ -1,7 +1,7 @@
 -- Runs by their last event.
 use Rattle.std.proofs.Common.{ℕ, List, [], ◌∷◌, ◌++◌, refl, sym, subst, append_assoc}
 use Rattle.std.proofs.lemmas.List.{append-nil}
-use Rattle.world_model.specs.declared.event.Done.{Done}
+use Rattle.world_events.specs.declared.event.Done.{Done}
 use Rattle.world_model.specs.Worlds.{World, boot, Happens, Runs, Run}
 
 pub runs_append : (w mid w' : World) (xs ys : List Done) → Runs w xs mid → Runs mid ys w' → Runs w (xs ++ ys) w'

@@ -1,11 +1,11 @@
 -- The tables of a log whose entries were allowed are sound.
 use Rattle.std.proofs.Common.{◌≡◌, ◌≤◌, ◌⊎◌, inl, inr, ℕ, zero, suc, None, Some, List, [], ◌∷◌, length, slice_get, take, refl, ap, sym, subst, arith}
 use Rattle.std.proofs.Math.Nat.{le-suc_iff}
-use Rattle.table_replica.specs.declared.Op.{Op}
-use Rattle.table_replica.specs.Tables.{State, table, after, after_all, opening, Allowed}
-use Rattle.table_replica.specs.Soundness.{IsSoundTable, IdsGrow}
-use Rattle.table_replica.proofs.Soundness.{sound_next, sound_empty, ids_after, ids_stay}
-use Rattle.world_model.specs.declared.event.Done.{Done}
+use Rattle.filter_table.specs.declared.operation.Op.{Op}
+use Rattle.filter_table.specs.Tables.{State, table, after, after_all, opening, Allowed}
+use Rattle.filter_table.specs.Soundness.{IsSoundTable, IdsGrow}
+use Rattle.filter_table.proofs.Soundness.{sound_next, sound_empty, ids_after, ids_stay}
+use Rattle.world_events.specs.declared.event.Done.{Done}
 use Rattle.world_model.specs.Worlds.{World, Run}
 use Rattle.world_model.specs.Agreement.{IsSoundLog}
 use Rattle.world_model.proofs.Lists.{get_at}

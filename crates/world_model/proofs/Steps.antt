@@ -3,20 +3,20 @@ use Rattle.std.proofs.Common.{◌≡◌, ◌≢◌, ◌+◌, ◌<◌, ◌≤◌,
 use Rattle.std.proofs.lemmas.List.{length-replicate, length-map, append-nil}
 use Rattle.std.specs.List.{list_all}
 use Rattle.std.specs.Prelude.{option_to_list}
-use Rattle.table_replica.specs.declared.Op.{Op}
-use Rattle.table_replica.specs.Tables.{State, table, instructions, Allowed}
-use Rattle.table_replica.proofs.Tables.{table_next}
+use Rattle.filter_table.specs.declared.operation.Op.{Op}
+use Rattle.filter_table.specs.Tables.{State, table, instructions, Allowed}
+use Rattle.filter_table.proofs.Tables.{table_next}
 use Rattle.monitor_messages.specs.declared.message.Message.{Message}
 use Rattle.monitor_messages.specs.declared.message.Message.TheVariants as message
-use Rattle.monitor_messages.specs.declared.message.Vote.{Vote}
-use Rattle.monitor_messages.specs.declared.message.Vote.TheVariants as vote
-use Rattle.monitor_messages.specs.declared.message.Decision.{Decision}
+use Rattle.filter_table.specs.declared.decision.Vote.{Vote}
+use Rattle.filter_table.specs.declared.decision.Vote.TheVariants as vote
+use Rattle.filter_table.specs.declared.decision.Decision.{Decision}
 use Rattle.monitor_2pc.specs.declared.step.Step.{Step}
 use Rattle.monitor_2pc.specs.Participants.{ParticipantPlace, Casts, staged_by, Answers}
 use Rattle.monitor_2pc.specs.Coordinators.{CoordinatorPlace, Requests, CanStart, Phase, Idle, Voting, Acking, Starts, refused, unstaged, alone, prepared, Tallies, waits, commits_all, aborts_all, HearsAck, phase_with}
-use Rattle.world_model.specs.declared.event.Event.{Event}
-use Rattle.world_model.specs.declared.event.Event.TheVariants.{Take}
-use Rattle.world_model.specs.declared.event.Answer.{Answer}
+use Rattle.world_events.specs.declared.event.Event.{Event}
+use Rattle.world_events.specs.declared.event.Event.TheVariants.{Take}
+use Rattle.world_events.specs.declared.event.Answer.{Answer}
 use Rattle.world_model.specs.Cases.{nothing, to_all, as_reply, said, outgoing, sent_up, raised, VoteAt, AckAt, TakesUpAt, AnswersAt, ReplyAt, TakesDownAt, Took}
 use Rattle.world_model.specs.Worlds.{Peer, World, newest, send, sent_out, sent_to_one, core0_moves, HappensStart, HappensStartFor, HappensSubmit, HappensUp, gave, HappensDown}
 use Rattle.world_model.specs.Agreement.{is_commitment, commitments}

@@ -4,18 +4,18 @@ use Rattle.std.specs.Prelude.{option_to_list}
 use Rattle.std.proofs.lemmas.List.{append-nil}
 use Rattle.std.proofs.lemmas.Bool.Decides.{nat_tests}
 use Rattle.std.specs.List.{list_all}
-use Rattle.table_replica.specs.declared.Op.{Op}
-use Rattle.table_replica.proofs.Tables.{table_version}
+use Rattle.filter_table.specs.declared.operation.Op.{Op}
+use Rattle.filter_table.proofs.Tables.{table_version}
 use Rattle.monitor_messages.specs.declared.message.Message.{Message}
 use Rattle.monitor_messages.specs.declared.message.Message.TheVariants as message
-use Rattle.monitor_messages.specs.declared.message.Vote.{Vote}
-use Rattle.monitor_messages.specs.declared.message.Decision.{Decision}
+use Rattle.filter_table.specs.declared.decision.Vote.{Vote}
+use Rattle.filter_table.specs.declared.decision.Decision.{Decision}
 use Rattle.monitor_2pc.specs.declared.step.Step.{Step}
 use Rattle.monitor_2pc.specs.Coordinators.{CoordinatorPlace, Requests, no_requests, with_waiting, with_decided, requests_at, reply_at, reply_of, reply_to, asker_after, phase_with, CanStart, Phase, Idle, Voting, Acking, Starts, refused, unstaged, alone, prepared, Tallies, waits, commits_all, aborts_all}
-use Rattle.world_model.specs.declared.event.Event.{Event}
-use Rattle.world_model.specs.declared.event.Event.TheVariants.{Start, Submit, StartFor, Take, Rx}
-use Rattle.world_model.specs.declared.event.Answer.{Answer}
-use Rattle.world_model.specs.declared.event.Answer.TheVariants.{Prepared, Decided, Submitted, TookVote}
+use Rattle.world_events.specs.declared.event.Event.{Event}
+use Rattle.world_events.specs.declared.event.Event.TheVariants.{Start, Submit, StartFor, Take, Rx}
+use Rattle.world_events.specs.declared.event.Answer.{Answer}
+use Rattle.world_events.specs.declared.event.Answer.TheVariants.{Prepared, Decided, Submitted, TookVote}
 use Rattle.world_model.specs.Cases.{Outgoing, nothing, to_all, to_one, as_reply, said, outgoing, sent_up, raised, start_told, VoteAt, AckAt, SubmitAt, TakesUpAt, AnswersAt, ReplyAt, TakesDownAt, Took}
 use Rattle.world_model.specs.Worlds.{Peer, World, newest, boot, new_peer, idle_at_first, send, sent_out, sent_to_one, core0_moves, gave, HappensStart, HappensStartFor, HappensSubmit, HappensUp, HappensDown, Happens}
 use Rattle.world_model.specs.Agreement.{is_commitment, commitments}

@@ -1,15 +1,15 @@
 -- What every run of the machine keeps: replicas at one version hold equal tables, and nothing is committed that was not
 -- allowed (Baumann et al. 2009, "The Multikernel", section 3.3: replicated state is kept consistent by agreement).
 use Rattle.std.specs.Prelude.{◌≡◌, ◌+◌, ◌≤◌, ◌⊎◌, ℕ, suc, Bool, true, false, Option, Some, None, List, [], ◌∷◌, ◌++◌, length, filter, map, slice_get}
-use Rattle.table_replica.specs.declared.Op.{Op}
-use Rattle.table_replica.specs.Soundness.{IsSoundTable, IdsGrow}
-use Rattle.table_replica.specs.Tables.{table, instructions, Allowed}
+use Rattle.filter_table.specs.declared.operation.Op.{Op}
+use Rattle.filter_table.specs.Soundness.{IsSoundTable, IdsGrow}
+use Rattle.filter_table.specs.Tables.{table, instructions, Allowed}
 use Rattle.monitor_messages.specs.declared.message.Message.{Message}
 use Rattle.monitor_messages.specs.declared.message.Message.TheVariants as message
-use Rattle.monitor_messages.specs.declared.message.Vote.{Vote}
+use Rattle.filter_table.specs.declared.decision.Vote.{Vote}
 use Rattle.monitor_2pc.specs.Participants.{Fits}
 use Rattle.monitor_2pc.specs.Coordinators.{CoordinatorPlace, Requests, CanSubmit, Idle, Voting, Acking}
-use Rattle.world_model.specs.declared.event.Done.{Done}
+use Rattle.world_events.specs.declared.event.Done.{Done}
 use Rattle.world_model.specs.Worlds.{Peer, World, newest, version_at}
 use Rattle.world_model.specs.Readings.{version_of}
 

@@ -1,24 +1,24 @@
 -- What one event does at one core: the cases of two-phase commit, and the receipt of a packet (Baumann et al. 2009, "The
 -- Multikernel", sections 3.3 and 4.4). The world, the histories of running cores and one turn of a core all cite them.
 use Rattle.std.specs.Prelude.{◌≡◌, ◌+◌, ◌≤◌, ℕ, suc, Bool, true, false, Option, Some, None, List, [], ◌∷◌, ◌++◌}
-use Rattle.table_replica.specs.declared.Op.{Op}
-use Rattle.table_replica.specs.declared.Kept.{Kept}
-use Rattle.table_replica.specs.Tables.{State, Accepting}
-use Rattle.filter_vm.specs.Machine as machine
+use Rattle.filter_table.specs.declared.operation.Op.{Op}
+use Rattle.filter_table.specs.declared.delivery.Kept.{Kept}
+use Rattle.filter_table.specs.Tables.{State, Accepting}
+use Rattle.bpf_insn.specs.Machine as machine
 use Rattle.pcap_reader.specs.declared.capture.Packet.{Packet}
 use Rattle.monitor_messages.specs.declared.message.Message.{Message}
 use Rattle.monitor_messages.specs.declared.message.Message.TheVariants as message
-use Rattle.monitor_messages.specs.declared.message.Vote.{Vote}
+use Rattle.filter_table.specs.declared.decision.Vote.{Vote}
 use Rattle.monitor_2pc.specs.declared.step.Say.{Say}
 use Rattle.monitor_2pc.specs.declared.step.Say.TheVariants as say
-use Rattle.monitor_messages.specs.declared.message.Decision.{Decision}
+use Rattle.filter_table.specs.declared.decision.Decision.{Decision}
 use Rattle.monitor_2pc.specs.declared.step.Step.{Step}
 use Rattle.monitor_2pc.specs.Participants.{ParticipantPlace, Answers, commits}
 use Rattle.monitor_2pc.specs.Coordinators.{CoordinatorPlace, Requests, Starts, StartsFor, CanStart, CanSubmit, with_waiting, Hears, with_decided, HearsAck}
-use Rattle.world_model.specs.declared.event.Event.{Event}
-use Rattle.world_model.specs.declared.event.Event.TheVariants.{Submit}
-use Rattle.world_model.specs.declared.event.Answer.{Answer}
-use Rattle.world_model.specs.declared.event.Answer.TheVariants.{Prepared, Decided, Submitted, TookPrepare, TookVote, TookCommit, TookAbort, TookAck, TookSubmit, TookReply, Delivered}
+use Rattle.world_events.specs.declared.event.Event.{Event}
+use Rattle.world_events.specs.declared.event.Event.TheVariants.{Submit}
+use Rattle.world_events.specs.declared.event.Answer.{Answer}
+use Rattle.world_events.specs.declared.event.Answer.TheVariants.{Prepared, Decided, Submitted, TookPrepare, TookVote, TookCommit, TookAbort, TookAck, TookSubmit, TookReply, Delivered}
 
 -- What is sent
 

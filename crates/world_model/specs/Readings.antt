@@ -2,15 +2,15 @@
 -- sequence (Lamport 1978, "Time, clocks, and the ordering of events in a distributed system", section "The partial ordering"), and
 -- its votes are those of two-phase commit (Gray 1978, "Notes on data base operating systems", section 5.8.3).
 use Rattle.std.specs.Prelude.{◌≡◌, ◌==◌, ◌&&◌, ℕ, zero, suc, Bool, true, false, cond, Option, Some, None, List, [], ◌∷◌, ◌++◌, count_by}
-use Rattle.table_replica.specs.declared.Op.{Op}
-use Rattle.monitor_messages.specs.declared.message.Vote.{Vote}
-use Rattle.monitor_messages.specs.declared.message.Decision.{Decision}
-use Rattle.monitor_messages.specs.declared.message.Decision.TheVariants.{Committed}
-use Rattle.world_model.specs.declared.event.Event.{Event}
-use Rattle.world_model.specs.declared.event.Event.TheVariants.{Start, Submit, StartFor, Take}
-use Rattle.world_model.specs.declared.event.Answer.{Answer}
-use Rattle.world_model.specs.declared.event.Answer.TheVariants.{Prepared, Decided, Submitted, TookPrepare, TookVote, TookCommit}
-use Rattle.world_model.specs.declared.event.Done.{Done}
+use Rattle.filter_table.specs.declared.operation.Op.{Op}
+use Rattle.filter_table.specs.declared.decision.Vote.{Vote}
+use Rattle.filter_table.specs.declared.decision.Decision.{Decision}
+use Rattle.filter_table.specs.declared.decision.Decision.TheVariants.{Committed}
+use Rattle.world_events.specs.declared.event.Event.{Event}
+use Rattle.world_events.specs.declared.event.Event.TheVariants.{Start, Submit, StartFor, Take}
+use Rattle.world_events.specs.declared.event.Answer.{Answer}
+use Rattle.world_events.specs.declared.event.Answer.TheVariants.{Prepared, Decided, Submitted, TookPrepare, TookVote, TookCommit}
+use Rattle.world_events.specs.declared.event.Done.{Done}
 
 -- Versions
 

@@ -4,9 +4,9 @@ ghost use Rattle.std.specs.Prelude.{List, ℕ};
 ghost use Rattle.world_model.specs.Worlds.{World, Run, Happens};
 ghost use Rattle.world_model.specs.Agreement.{Agrees, TellsVersions, Grows, IsSoundLog, NoStranger};
 ghost use Rattle.world_model.specs.Decisions.{Delivers, DecidesRightly, RepliesRightly, WaitsRightly};
-ghost use Rattle.world_model.specs.declared.event.Answer.{Answer};
-ghost use Rattle.world_model.specs.declared.event.Done.{Done};
-ghost use Rattle.world_model.specs.declared.event.Event.{Event};
+ghost use Rattle.world_events.specs.declared.event.Answer.{Answer};
+ghost use Rattle.world_events.specs.declared.event.Done.{Done};
+ghost use Rattle.world_events.specs.declared.event.Event.{Event};
 
 /// In every run the replicas agree within the budgets, no core meets a message that it does not wait for, and versions and log
 /// only grow. The version of a core is how often it committed, read off the events.

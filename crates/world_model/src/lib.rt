@@ -5,10 +5,10 @@
 //! something: the laws hold for every interleaving (Baumann and others, "The Multikernel", SOSP 2009).
 #![tactic(auto)]
 
-mod event;
 mod laws;
 
-pub use event::{Answer, Done, Event, KeptList};
+pub use filter_table::KeptList;
 pub use laws::{
     decisions_are_right, packets_are_delivered, replicas_agree, replies_are_right, tables_are_sound,
 };
+pub use world_events::{Answer, Done, Event};

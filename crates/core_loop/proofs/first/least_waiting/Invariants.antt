@@ -1,5 +1,5 @@
 use Rattle.std.proofs.Common.{◌≡◌, ◌<◌, ℕ, Some, slice_get}
-use Rattle.table_replica.specs.declared.Op.{Op}
+use Rattle.filter_table.specs.declared.operation.Op.{Op}
 use Rattle.core_loop.proofs.first.least_waiting.Given as goal
 
 abbrev pub invariant-loop-entry : goal.invariant-loop-entry

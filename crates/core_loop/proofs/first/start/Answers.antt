@@ -1,6 +1,6 @@
 use Rattle.std.proofs.Common.{◌≡◌, ◌∷◌, ◌∙◌, refl, sym, subst, rules}
 use Rattle.std.specs.Prelude.{None, slice_index_or}
-use Rattle.table_replica.specs.declared.Op.{Op}
+use Rattle.filter_table.specs.declared.operation.Op.{Op}
 use Rattle.world_model.specs.Cases.{Outgoing, outgoing}
 use Rattle.core_steps.specs.declared.core0.Core0.{Core0 as First}
 use Rattle.core_steps.specs.Core0Steps.{core0_place, Starts, start_sends}

@@ -1,6 +1,6 @@
 use Rattle.std.proofs.Common.{◌≡◌, ◌∷◌, ◌∙◌, refl, ap, subst, rules}
 use Rattle.std.specs.Prelude.{Some, None, slice_index_or}
-use Rattle.table_replica.specs.declared.Op.{Op}
+use Rattle.filter_table.specs.declared.operation.Op.{Op}
 use Rattle.monitor_messages.specs.declared.message.Message.TheVariants as message
 use Rattle.core_steps.specs.declared.other_core.OtherCore.{OtherCore}
 use Rattle.core_loop.specs.Sending.{IsPiece}

@@ -10,7 +10,7 @@ pub loop-place-preserved : goal.loop-place-preserved
 loop-place-preserved c =
     let packets = c.args.packets.now in
     let i = c.loop-place.place in
-    let is = subst (λ (p : Packet). p ≡ get_or packets i p) (sym c.in_ok-packet.ensures) c.index-packets-place.is in
+    let is = subst (λ (p : Packet). p ≡ get_or packets i p) (sym c.in_ok-packet.ensures.cases) c.index-packets-place.is in
     let pushed = chosen _ _ _ _ c.push.ensures.items (ap is_ok c.in_ok-push.was) in
     rw pushed (c.loop-place.invariant ∙ replayed-more c.args.cores c.args.received c.args.floor i packets c.loop-place.events.items c.in_ok-packet.packet c.loop-place-test.true is)
 

@@ -1,7 +1,6 @@
 use Rattle.std.proofs.Common.{take}
-use Rattle.std.specs.Prelude.{map}
 use Rattle.mk_script.specs.Scripts.{AreFiles}
 use Rattle.mk_script.proofs.reader.are_files.Given as goal
 
 abbrev pub invariant-loop-file : goal.invariant-loop-file
-invariant-loop-file l = AreFiles (map (λ v. v.items) (take l.file-index l.files))
+invariant-loop-file l = AreFiles (take l.file-index l.files)

@@ -1,5 +1,5 @@
 use Rattle.std.proofs.Common.{None}
-use Rattle.table_replica.specs.Tables.{after}
+use Rattle.filter_table.specs.Tables.{after}
 use Rattle.monitor_2pc.proofs.Ballots.{told_committed, replica_is}
 use Rattle.monitor_2pc.proofs.coordinator.committed_step.Goals as goal
 

@@ -1,5 +1,5 @@
 use Rattle.std.proofs.Common.{◌≡◌, ◌≢◌, ◌<◌, ℕ, Some, None, slice_get}
-use Rattle.monitor_messages.specs.declared.message.Vote.TheVariants.{Yes}
+use Rattle.filter_table.specs.declared.decision.Vote.TheVariants.{Yes}
 use Rattle.monitor_2pc.proofs.tally.outcome_of.Given as goal
 
 abbrev pub invariant-loop-vote : goal.invariant-loop-vote

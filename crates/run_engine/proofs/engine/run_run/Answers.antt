@@ -10,4 +10,4 @@ returns-clause-shown g c =
     let read = rw c.in-Some.is at c.in_ok-inputs.ensures.read in
     let script = rw c.deref.ensures.value at c.run_text.ensures.shown in
     let shown = rw c.deref-2.ensures.value at script in
-    answered c.run_text.result shown (λ status s. (s.0, s.1, (c.in-Some.inputs.script.items, map (λ v. v.items) c.in-Some.inputs.files.items, read.0, inl (read.1, s.2))))
+    answered c.run_text.result shown (λ status s. (s.0, s.1, (c.in-Some.inputs.script.items, c.in-Some.inputs.files.items, read.0, inl (read.1, s.2))))

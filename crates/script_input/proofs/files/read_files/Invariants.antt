@@ -3,4 +3,4 @@ use Rattle.script_input.specs.Inputs.{ReadSo}
 use Rattle.script_input.proofs.files.read_files.Given as goal
 
 abbrev pub invariant-loop-file : goal.invariant-loop-file
-invariant-loop-file g l = ReadSo (map g.F.Read.remaining l.yielded) (map (λ v. v.items) l.held.items) l.long
+invariant-loop-file g l = ReadSo (map g.F.Read.remaining l.yielded) l.held.items l.long

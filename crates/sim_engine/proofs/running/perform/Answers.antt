@@ -3,17 +3,16 @@ use Rattle.std.proofs.lemmas.List.{append-nil}
 use Rattle.sim_engine.specs.declared.requests.Request.{Request}
 use Rattle.sim_engine.specs.Pending.{left}
 use Rattle.sim_engine.specs.Simulations.{sim}
-use Rattle.table_replica.specs.declared.Op.{Op}
 use Rattle.sim_engine.proofs.Places.{left_push}
 use Rattle.sim_engine.proofs.Printed.{on_ok, the_sim}
 use Rattle.sim_engine.proofs.running.perform.Goals as goal
 
-pub returns-in_ok-op-in-Ask : goal.returns-in_ok-op-in-Ask
-returns-in_ok-op-in-Ask g c = rw c.in-Ask.is (on_ok c.push.result c.push.ensures (λ pushed. (
+pub returns-in_ok-request-in-Ask : goal.returns-in_ok-request-in-Ask
+returns-in_ok-request-in-Ask g c = rw c.in-Ask.is (on_ok c.push.result c.push.ensures (λ pushed. (
   [],
   (
     ap (sim c.args.world.now) pushed ∙ ap (λ (rs : List Request). the_sim c.args.world.now rs)
-        (left_push c.args.requests.now (record { home = c.in-Ask.home; op = c.in_ok-op-in-Ask.op }) ∙ ap (λ (op : Op). left c.args.requests.now ++ record { home = c.in-Ask.home; op = op } ∷ []) c.in_ok-op-in-Ask.ensures.equal),
+        (left_push c.args.requests.now c.in_ok-request-in-Ask.request ∙ ap (λ (r : Request). left c.args.requests.now ++ r ∷ []) c.in_ok-request-in-Ask.ensures),
     refl,
   ),
   sym (append-nil c.args.text.now.items),

@@ -1,6 +1,6 @@
 use Rattle.std.proofs.Common.{◌∙◌, ◌∷◌, [], Bool, ap, sym, subst}
 use Rattle.std.proofs.lemmas.List.{append-nil}
-use Rattle.world_model.specs.declared.event.Event.TheVariants.{StartFor}
+use Rattle.world_events.specs.declared.event.Event.TheVariants.{StartFor}
 use Rattle.sim_lines.specs.Events.{event_line}
 use Rattle.sim_engine.specs.Pending.{left, IsLeft}
 use Rattle.sim_engine.specs.Simulations.{BeginsNext, sim}

@@ -1,7 +1,7 @@
 use Rattle.std.proofs.Common.{◌==◌, ◌++◌, ◌∷◌, [], ◌∙◌, List, refl, ap, sym, subst, map, filter, take, get_or, append_assoc, append-nil, arith}
 use Rattle.table_replica.specs.declared.filters.Row.{Row}
 use Rattle.table_replica.specs.Keeping.{placed_row, AreReaches}
-use Rattle.table_replica.proofs.Lists.{get_some, eq_true, eq_false, take_at, map-append', filter-append}
+use Rattle.filter_table.proofs.Lists.{get_some, eq_true, eq_false, take_at, map-append', filter-append}
 use Rattle.table_replica.proofs.filters.rows_with.Goals as goal
 use Rattle.table_replica.proofs.filters.rows_with.Goals.{then-row-id+in_ok-add_reach+in_ok-push, else-row-id+in_ok-push-2}
 

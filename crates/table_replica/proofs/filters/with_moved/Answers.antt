@@ -2,7 +2,7 @@ use Rattle.std.proofs.Common.{◌+◌, ℕ, length, ap, ◌∙◌, arith, get_or
 use Rattle.std.specs.Option.{option_copied}
 use Rattle.table_replica.specs.declared.filters.Row.{Row}
 use Rattle.table_replica.specs.Keeping.{sources}
-use Rattle.table_replica.proofs.Lists.{get_some}
+use Rattle.filter_table.proofs.Lists.{get_some}
 use Rattle.table_replica.proofs.Moves.{not_moved, built_fits, one_built}
 use Rattle.table_replica.proofs.filters.with_moved.Goals as goal
 

@@ -2,7 +2,7 @@ use Rattle.std.proofs.Common.{◌≡◌, ◌∙◌, ◌≤◌, ◌<◌, ◌++◌
 use Rattle.std.proofs.lemmas.List.Elements.{Contains-get_or}
 use Rattle.table_replica.specs.declared.reaches.Reach.{Reach}
 use Rattle.table_replica.specs.Keeping.{AreReaches}
-use Rattle.table_replica.proofs.Lists.{get_some}
+use Rattle.filter_table.proofs.Lists.{get_some}
 use Rattle.table_replica.proofs.Ordered.{reach_decides}
 use Rattle.table_replica.proofs.Reaching.{not_added, one_added, is_held, not_held}
 use Rattle.table_replica.proofs.reaches.add_reach.Goals as goal

@@ -2,7 +2,7 @@ use Rattle.std.proofs.Common.{◌==◌, ◌∙◌, List, refl, ap, sym, subst, n
 use Rattle.std.proofs.lemmas.List.Elements.{Contains-get_or}
 use Rattle.table_replica.specs.declared.filters.Row.{Row}
 use Rattle.table_replica.specs.Keeping.{IsLive}
-use Rattle.table_replica.proofs.Lists.{in_filter, get_some, eq_true, eq_false}
+use Rattle.filter_table.proofs.Lists.{in_filter, get_some, eq_true, eq_false}
 use Rattle.table_replica.proofs.Ordered.{reach_decides}
 use Rattle.table_replica.proofs.Reaching.{not_live, is_held, not_held}
 use Rattle.table_replica.proofs.reaches.is_live_without.Goals as goal

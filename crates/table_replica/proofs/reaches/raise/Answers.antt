@@ -1,7 +1,7 @@
 use Rattle.std.proofs.Common.{◌≡◌, ℕ, ◌-◌, ◌<◌, get_or, length, set, max, ap, sym, ◌∙◌, arith}
-use Rattle.table_replica.specs.declared.Kept.{Kept}
+use Rattle.filter_table.specs.declared.delivery.Kept.{Kept}
 use Rattle.table_replica.specs.Receiving.{at_endpoint}
-use Rattle.table_replica.proofs.Lists.{get_some}
+use Rattle.filter_table.proofs.Lists.{get_some}
 use Rattle.table_replica.proofs.Receivers.{raised_last, raised_next, earlier_all}
 use Rattle.table_replica.proofs.reaches.raise.Goals as goal
 use Rattle.table_replica.proofs.reaches.raise.Goals.{then-count-gt0+else-last-endpoint, else-count-gt0}

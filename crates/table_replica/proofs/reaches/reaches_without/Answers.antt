@@ -4,7 +4,7 @@ use Rattle.table_replica.specs.declared.filters.Row.{Row}
 use Rattle.table_replica.specs.declared.reaches.Reach.{Reach}
 use Rattle.table_replica.specs.contracts.reaches.ReachPartialEq.TheImpl.{eq-value}
 use Rattle.table_replica.specs.Keeping.{reach_of, IsLive, AreLost}
-use Rattle.table_replica.proofs.Lists.{get_some, eq_true, eq_false, filter_one, filter_none}
+use Rattle.filter_table.proofs.Lists.{get_some, eq_true, eq_false, filter_one, filter_none}
 use Rattle.table_replica.proofs.Reaching.{lost_more, lost_same, left_reaches}
 use Rattle.table_replica.proofs.reaches.reaches_without.Goals as goal
 use Rattle.table_replica.proofs.reaches.reaches_without.Goals.{then-row-id+then-not-is_live_without+in_ok-push, else-row-id, else-row-id-via-then-row-id+else-not-is_live_without, else-row-id-via-else-row-id}

@@ -1,9 +1,9 @@
 use Rattle.std.proofs.Common.{arith, ℕ, get_or, List, Option, Some, ap, sym, ◌∙◌}
 use Rattle.bpf_insn.specs.declared.insn.Insn.{Insn}
-use Rattle.filter_vm.specs.Machine.{Packet}
+use Rattle.bpf_insn.specs.Machine.{Packet}
 use Rattle.table_replica.specs.Receiving.{VerdictAt}
 use Rattle.table_replica.specs.declared.reaches.Reach.{Reach}
-use Rattle.table_replica.proofs.Lists.{get_some}
+use Rattle.filter_table.proofs.Lists.{get_some}
 use Rattle.table_replica.proofs.Receivers.{none_later, reach_silent, reach_raised, run_verdict, verdict_known}
 use Rattle.table_replica.proofs.reaches.receivers.Goals as goal
 use Rattle.table_replica.proofs.reaches.receivers.Goals.{then-verdict-gt0+in_ok-raise, else-verdict-gt0, in-Some, in-None}

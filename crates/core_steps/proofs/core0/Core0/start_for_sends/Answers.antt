@@ -1,5 +1,5 @@
 use Rattle.std.proofs.Common.{◌≡◌, None, Some, slice_get, arith, subst}
-use Rattle.table_replica.specs.declared.Op.{Op}
+use Rattle.filter_table.specs.declared.operation.Op.{Op}
 use Rattle.monitor_2pc.specs.Starting.{WasStaged}
 use Rattle.core_steps.proofs.Codable.{prepare_codable, refusal_numbered}
 use Rattle.core_steps.proofs.core0.Core0.start_for_sends.Goals as goal

@@ -1,7 +1,7 @@
 use Rattle.std.proofs.Common.{rules, ◌≡◌, ◌+◌, ℕ, List, Option, None, Some, length, replicate, refl, sym, ap, ◌∙◌}
 use Rattle.std.specs.List.{refill}
 use Rattle.std.proofs.lemmas.List.{length-replicate}
-use Rattle.monitor_messages.specs.declared.message.Vote.{Vote}
+use Rattle.filter_table.specs.declared.decision.Vote.{Vote}
 use Rattle.std.proofs.lemmas.Bool.{eqb-true}
 use Rattle.monitor_2pc.specs.Coordinators.{Phase, Idle, CoordinatorState, coordinator_place, prepared, veto_of}
 use Rattle.monitor_2pc.specs.Starting.{WasStaged}

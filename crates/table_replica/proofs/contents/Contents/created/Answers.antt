@@ -1,6 +1,6 @@
 use Rattle.std.proofs.Common.{ap, sym, subst, ◌∙◌}
 use Rattle.endpoint_caps.specs.Capabilities.{CapTable, cap_at, created}
-use Rattle.table_replica.specs.Soundness.{IsSoundTable}
+use Rattle.filter_table.specs.Soundness.{IsSoundTable}
 use Rattle.table_replica.proofs.Soundness.{created_alike}
 use Rattle.table_replica.proofs.contents.Contents.created.Goals as goal
 

@@ -1,5 +1,5 @@
 use Rattle.std.proofs.Common.{refl}
-use Rattle.table_replica.specs.Tables.{after}
+use Rattle.filter_table.specs.Tables.{after}
 use Rattle.table_replica.proofs.contents.Contents.removed.Goals as goal
 
 pub returns : goal.returns

@@ -1,6 +1,6 @@
 use Rattle.std.proofs.Common.{sym, ◌∙◌}
 use Rattle.table_replica.specs.Lent.{shown_filter}
-use Rattle.table_replica.proofs.Lists.{drop_at}
+use Rattle.filter_table.proofs.Lists.{drop_at}
 use Rattle.table_replica.proofs.filters.FilterIterIterator.next.Goals as goal
 
 pub returns-clause-steps : goal.returns-clause-steps

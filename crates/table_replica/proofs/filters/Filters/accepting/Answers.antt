@@ -1,9 +1,9 @@
 use Rattle.std.proofs.Common.{List, subst, length}
 use Rattle.std.proofs.lemmas.Result.{IfOk-weaker}
-use Rattle.filter_vm.specs.Machine.{Packet}
-use Rattle.table_replica.specs.Listed.{FilterTable}
+use Rattle.bpf_insn.specs.Machine.{Packet}
+use Rattle.filter_table.specs.Listed.{FilterTable}
 use Rattle.table_replica.specs.declared.reaches.Reach.{Reach}
-use Rattle.table_replica.specs.Tables.{AreReceivers}
+use Rattle.filter_table.specs.Tables.{AreReceivers}
 use Rattle.table_replica.specs.Receiving.{AreReached}
 use Rattle.table_replica.proofs.Reaching.{reaches_placed}
 use Rattle.table_replica.proofs.Receivers.{reached_receive}

@@ -1,5 +1,5 @@
 use Rattle.std.proofs.Common.{ℕ, ap, sym, subst, List, map}
-use Rattle.table_replica.specs.Listed.{ListedFilter, FilterTable}
+use Rattle.filter_table.specs.Listed.{ListedFilter, FilterTable}
 use Rattle.table_replica.specs.Keeping.{listed_row}
 use Rattle.table_replica.specs.Lent.{AreDifferent}
 use Rattle.table_replica.proofs.Shared.{different}

@@ -1,5 +1,5 @@
 use Rattle.std.proofs.Common.{◌≡◌, take, None}
-use Rattle.table_replica.specs.Tables.{filter_at}
+use Rattle.filter_table.specs.Tables.{filter_at}
 use Rattle.table_replica.proofs.filters.Filters.find.Given as goal
 
 abbrev pub invariant-loop-index : goal.invariant-loop-index

@@ -1,7 +1,7 @@
 use Rattle.std.proofs.Common.{◌≡◌, ap, ◌∙◌, length, arith}
-use Rattle.table_replica.specs.Listed.{ListedFilter}
+use Rattle.filter_table.specs.Listed.{ListedFilter}
 use Rattle.table_replica.specs.Lent.{shown_filter}
-use Rattle.table_replica.proofs.Lists.{swapped, is_swapped, not_swapped, left_more, over_left, eq_true, eq_false}
+use Rattle.filter_table.proofs.Lists.{swapped, is_swapped, not_swapped, left_more, over_left, eq_true, eq_false}
 use Rattle.table_replica.proofs.filters.Filters.fit_with.Goals as goal
 use Rattle.table_replica.proofs.filters.Filters.fit_with.Goals.{then-filter-id, else-filter-id}
 

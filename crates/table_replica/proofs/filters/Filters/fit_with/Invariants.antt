@@ -1,5 +1,5 @@
 use Rattle.std.proofs.Common.{◌≡◌, ◌+◌, take}
-use Rattle.table_replica.specs.Tables.{instructions_of, replaced}
+use Rattle.filter_table.specs.Tables.{instructions_of, replaced}
 use Rattle.table_replica.proofs.filters.Filters.fit_with.Given as goal
 
 abbrev pub invariant-loop-index : goal.invariant-loop-index

@@ -1,8 +1,8 @@
 use Rattle.std.proofs.Common.{refl, ◌==◌, ◌++◌, ◌∙◌, ap, sym, subst, filter, not, List, map, arith}
-use Rattle.table_replica.specs.Listed.{FilterTable}
+use Rattle.filter_table.specs.Listed.{FilterTable}
 use Rattle.table_replica.specs.declared.filters.Row.{Row}
 use Rattle.table_replica.specs.Keeping.{placed_row, AreReaches}
-use Rattle.table_replica.specs.Tables.{instructions_of, replaced}
+use Rattle.filter_table.specs.Tables.{instructions_of, replaced}
 use Rattle.table_replica.proofs.Moves.{known_placed, known_shows, new_distinct, new_placed, new_shows, shows_ok}
 use Rattle.table_replica.proofs.Reaching.{replaced_reached}
 use Rattle.table_replica.proofs.filters.Filters.replacing.Goals as goal
@@ -18,7 +18,7 @@ rebuilt-requires-clause-fits c =
     let shows = known_shows c.self.inside.rows.items c.self.inside.programs c.self.inside.instructions c.self.invariant.shared c.args.id c.deref-in-Some-2.result.now c.self.inside.programs refl
     c.in_ok-program.program c.in-Some.place (c.deref-in-Some-2.ensures.value ∙ (c.in_ok-rows-in-Some.ensures.rows ∙ ap (map (placed_row c.args.id c.in-Some.place)) c.deref-in-Some.ensures.value))
     c.in-Some.ensures in
-    let same = ap instructions_of (shows ∙ (ap (λ (t : FilterTable). replaced t.listed c.args.id c.in_ok-program.program) c.self.view_is ∙ ap (replaced c.args.self.now.listed c.args.id) (c.in_ok-program.ensures ∙ c.in_ok-copy.ensures))) in
+    let same = ap instructions_of (shows ∙ (ap (λ (t : FilterTable). replaced t.listed c.args.id c.in_ok-program.program) c.self.view_is ∙ ap (replaced c.args.self.now.listed c.args.id) (c.in_ok-program.ensures ∙ c.in_ok-clone.ensures.cases))) in
     omega (arith, same, c.requires.fits)
 
 pub rebuilt-requires-clause-reached : goal.rebuilt-requires-clause-reached
@@ -35,7 +35,7 @@ returns-in-Some c =
     (known_shows c.self.inside.rows.items c.self.inside.programs c.self.inside.instructions c.self.invariant.shared c.args.id c.deref-in-Some-2.result.now c.self.inside.programs refl
     c.in_ok-program.program c.in-Some.place (c.deref-in-Some-2.ensures.value ∙ (c.in_ok-rows-in-Some.ensures.rows ∙ ap (map (placed_row c.args.id c.in-Some.place)) c.deref-in-Some.ensures.value))
     c.in-Some.ensures
-    ∙ (ap (λ (t : FilterTable). replaced t.listed c.args.id c.in_ok-program.program) c.self.view_is ∙ ap (replaced c.args.self.now.listed c.args.id) (c.in_ok-program.ensures ∙ c.in_ok-copy.ensures)))
+    ∙ (ap (λ (t : FilterTable). replaced t.listed c.args.id c.in_ok-program.program) c.self.view_is ∙ ap (replaced c.args.self.now.listed c.args.id) (c.in_ok-program.ensures ∙ c.in_ok-clone.ensures.cases)))
     c.rebuilt.ensures
 
 pub rebuilt-requires-in-None-clause-distinct : goal.rebuilt-requires-in-None-clause-distinct
@@ -55,7 +55,7 @@ rebuilt-requires-in-None-clause-fits c =
     let shows = new_shows c.self.inside.rows.items c.self.inside.programs c.self.inside.instructions c.self.invariant.shared c.args.id c.deref-in-None-2.result.now c.self.inside.programs refl
     c.in_ok-program.program c.len-place.result (c.deref-in-None-2.ensures.value ∙ (c.in_ok-rows-in-None.ensures.rows ∙ ap (map (placed_row c.args.id c.len-place.result)) c.deref-in-None.ensures.value))
     c.len-place.ensures.count in
-    let same = ap instructions_of (shows ∙ (ap (λ (t : FilterTable). replaced t.listed c.args.id c.in_ok-program.program) c.self.view_is ∙ ap (replaced c.args.self.now.listed c.args.id) (c.in_ok-program.ensures ∙ c.in_ok-copy.ensures))) in
+    let same = ap instructions_of (shows ∙ (ap (λ (t : FilterTable). replaced t.listed c.args.id c.in_ok-program.program) c.self.view_is ∙ ap (replaced c.args.self.now.listed c.args.id) (c.in_ok-program.ensures ∙ c.in_ok-clone.ensures.cases))) in
     omega (arith, same, c.requires.fits)
 
 pub rebuilt-requires-in-None-clause-reached : goal.rebuilt-requires-in-None-clause-reached
@@ -72,5 +72,5 @@ returns c =
     (new_shows c.self.inside.rows.items c.self.inside.programs c.self.inside.instructions c.self.invariant.shared c.args.id c.deref-in-None-2.result.now c.self.inside.programs refl
     c.in_ok-program.program c.len-place.result (c.deref-in-None-2.ensures.value ∙ (c.in_ok-rows-in-None.ensures.rows ∙ ap (map (placed_row c.args.id c.len-place.result)) c.deref-in-None.ensures.value))
     c.len-place.ensures.count
-    ∙ (ap (λ (t : FilterTable). replaced t.listed c.args.id c.in_ok-program.program) c.self.view_is ∙ ap (replaced c.args.self.now.listed c.args.id) (c.in_ok-program.ensures ∙ c.in_ok-copy.ensures)))
+    ∙ (ap (λ (t : FilterTable). replaced t.listed c.args.id c.in_ok-program.program) c.self.view_is ∙ ap (replaced c.args.self.now.listed c.args.id) (c.in_ok-program.ensures ∙ c.in_ok-clone.ensures.cases)))
     c.rebuilt-in-None.ensures

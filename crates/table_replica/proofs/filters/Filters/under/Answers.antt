@@ -1,5 +1,5 @@
 use Rattle.std.proofs.Common.{sym, subst}
-use Rattle.table_replica.specs.Listed.{FilterTable}
+use Rattle.filter_table.specs.Listed.{FilterTable}
 use Rattle.table_replica.specs.Keeping.{AreHeldAlike}
 use Rattle.table_replica.proofs.Reaching.{reaches_held}
 use Rattle.table_replica.proofs.filters.Filters.under.Goals as goal

@@ -1,7 +1,7 @@
 use Rattle.std.proofs.Common.{◌+◌, ◌++◌, [], ◌∷◌, ◌∙◌, ℕ, List, ap, sym, subst, length}
 use Rattle.bpf_insn.specs.declared.insn.Insn.{Insn}
 use Rattle.endpoint_caps.specs.Capabilities.{CapTable}
-use Rattle.table_replica.specs.Listed.{FilterTable}
+use Rattle.filter_table.specs.Listed.{FilterTable}
 use Rattle.table_replica.specs.declared.filters.Row.{Row}
 use Rattle.table_replica.specs.declared.reaches.Reach.{Reach}
 use Rattle.table_replica.specs.Keeping.{Keeps, AreReaches}

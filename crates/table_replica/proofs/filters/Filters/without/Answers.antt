@@ -1,7 +1,7 @@
 use Rattle.std.proofs.Common.{refl, ◌==◌, ◌∙◌, ap, filter, not, arith}
-use Rattle.table_replica.specs.Listed.{ListedFilter, FilterTable}
+use Rattle.filter_table.specs.Listed.{ListedFilter, FilterTable}
 use Rattle.table_replica.specs.declared.filters.Row.{Row}
-use Rattle.table_replica.specs.Tables.{instructions_of}
+use Rattle.filter_table.specs.Tables.{instructions_of}
 use Rattle.table_replica.proofs.Moves.{without_placed, without_shows, without_fits, shows_ok}
 use Rattle.table_replica.proofs.filters.Filters.without.Goals as goal
 

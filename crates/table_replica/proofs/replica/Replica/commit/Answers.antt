@@ -1,7 +1,7 @@
 use Rattle.std.proofs.Common.{ap, sym, subst, ◌∙◌}
 use Rattle.table_replica.specs.Shown.{ReplicaState}
-use Rattle.table_replica.specs.Tables.{State}
-use Rattle.table_replica.specs.Soundness.{IdsGrow}
+use Rattle.filter_table.specs.Tables.{State}
+use Rattle.filter_table.specs.Soundness.{IdsGrow}
 use Rattle.table_replica.proofs.Soundness.{ids_staged}
 use Rattle.table_replica.proofs.replica.Replica.commit.Goals as goal
 

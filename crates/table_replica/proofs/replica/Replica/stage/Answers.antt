@@ -1,9 +1,9 @@
 use Rattle.std.proofs.Common.{ap, sym, ◌∙◌, subst, ◌≤◌}
-use Rattle.table_replica.specs.Tables.{State, after, made, instructions_of}
-use Rattle.table_replica.specs.Soundness.{IsSoundTable}
-use Rattle.table_replica.specs.declared.Op.{Op}
-use Rattle.table_replica.proofs.Changes.{fits_after}
-use Rattle.table_replica.proofs.Soundness.{sound_next}
+use Rattle.filter_table.specs.Tables.{State, after, made, instructions_of}
+use Rattle.filter_table.specs.Soundness.{IsSoundTable}
+use Rattle.filter_table.specs.declared.operation.Op.{Op}
+use Rattle.filter_table.proofs.Changes.{fits_after}
+use Rattle.filter_table.proofs.Soundness.{sound_next}
 use Rattle.table_replica.proofs.replica.Replica.stage.Goals as goal
 
 pub invariant_of-self : goal.invariant_of-self

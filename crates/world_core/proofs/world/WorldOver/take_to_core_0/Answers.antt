@@ -1,5 +1,5 @@
 use Rattle.std.proofs.Common.{rules, ◌≡◌, ◌∙◌, ◌-◌, ◌<◌, inl, inr, ℕ, suc, false, Some, [], slice_get, ap, sym, subst, arith}
-use Rattle.world_model.specs.declared.event.Event.TheVariants.{Take}
+use Rattle.world_events.specs.declared.event.Event.TheVariants.{Take}
 use Rattle.world_model.specs.Worlds.{Peer, World, Happens}
 use Rattle.world_core.specs.Refusals.{WorldRefuses}
 use Rattle.world_model.proofs.Lists.{get_within, same_or_not}

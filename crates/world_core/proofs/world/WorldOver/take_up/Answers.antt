@@ -1,6 +1,6 @@
 use Rattle.std.proofs.Common.{◌≡◌, ◌∙◌, ◌-◌, ◌<◌, Some, suc, length, ap, arith}
 use Rattle.std.proofs.lemmas.List.{with_items_is}
-use Rattle.world_model.specs.declared.event.Event.TheVariants.{Take}
+use Rattle.world_events.specs.declared.event.Event.TheVariants.{Take}
 use Rattle.world_core.specs.Keeping.{seen_world}
 use Rattle.world_core.specs.Refusals.{WorldRefuses}
 use Rattle.world_core.proofs.EventKeeping.{told_no_memory, up_oldest, up_nothing, up_no_memory, heard_no_memory}

@@ -4,16 +4,14 @@ use Rattle.std.proofs.lemmas.Bool.Decides.{nat_tests}
 use Rattle.std.specs.List.{list_any}
 use Rattle.bpf_insn.specs.declared.insn.Insn.{Insn}
 use Rattle.endpoint_caps.specs.Capabilities.{first}
-use Rattle.table_replica.specs.declared.Op.{Op}
-use Rattle.table_replica.specs.declared.Op.TheVariants.{Create, Mint, Revoke, DropCap, Install, Remove, Replace}
-use Rattle.table_replica.specs.declared.StageFault.{StageFault}
-use Rattle.table_replica.specs.declared.StageFault.TheVariants.{AlreadyStaged, Rule, Budget, NoMemory}
-use Rattle.table_replica.specs.Tables.{State, tests, Allowed, Verifies, AnswersFirst, program_of, instructions, instructions_of, replaced, after}
-use Rattle.filter_verify.specs.declared.rules.Refusal.{Refusal}
+use Rattle.filter_table.specs.declared.operation.Op.{Op}
+use Rattle.filter_table.specs.declared.operation.Op.TheVariants.{Create, Mint, Revoke, DropCap, Install, Remove, Replace}
+use Rattle.filter_table.specs.declared.operation.StageFault.{StageFault}
+use Rattle.filter_table.specs.declared.operation.StageFault.TheVariants.{AlreadyStaged, Rule, Budget, NoMemory}
+use Rattle.filter_table.specs.Tables.{State, tests, Allowed, Verifies, AnswersFirst, program_of, instructions, instructions_of, replaced, after}
 use Rattle.filter_verify.specs.Rules.{IsWellShaped}
-use Rattle.table_replica.specs.Staging.{VerifierAsks, AsksForMemory, CannotStage}
-use Rattle.table_replica.specs.Replicas.{RefusesAs}
-use Rattle.table_replica.proofs.Tables.{first_none, allowed_fits}
+use Rattle.filter_table.specs.Staging.{AsksForMemory, CannotStage}
+use Rattle.filter_table.proofs.Tables.{first_none, allowed_fits}
 
 not_last : (n m : ℕ) → (n == m) ≡ false → n ≤ m → n < m
 not_last n m e le = grind (arith, nat_tests)
@@ -82,21 +80,6 @@ cannot_first s budget op NoMemory h = absurd (let x = first_of is_other (tests s
 -- no test finds that memory is lacking
 pub never_memory : (s : State) (budget : ℕ) (op : Op) → first (tests s budget op) ≡ Some NoMemory → ⊥
 never_memory s budget op h = absurd (let x = first_of is_other (tests s budget op) NoMemory (no_other s budget op) h in cc)
-
-pub cannot_program : (s : State) (budget : ℕ) (op : Op) (f : StageFault) → first (tests s budget op) ≡ None → RefusesAs (program_of op) f → CannotStage s budget op None f
-cannot_program s budget op AlreadyStaged h r = absurd (never (program_of op) r)
-  where
-    never : (p : Option (List Insn)) → Verifies p (Some AlreadyStaged) → ⊥
-    never None v = cc
-    never (Some p) (inl v) = cc (v.1)
-    never (Some p) (inr v) = cc (v.2)
-cannot_program s budget op (Rule fault) h r = (refl, allowed_if s budget op (Some (Rule fault)) h r)
-cannot_program s budget op Budget h r = (refl, allowed_if s budget op (Some Budget) h r)
-cannot_program s budget op NoMemory h r = (refl, record { passed = h; shaped = asked (program_of op) r })
-  where
-    asked : (brought : Option (List Insn)) → VerifierAsks brought → (program : List Insn) → brought ≡ Some program → IsWellShaped program
-    asked None asks program is = absurd asks
-    asked (Some other) asks program is = let same : other ≡ program = cc in subst IsWellShaped same asks
 
 -- a program that is verified is well shaped
 verified_shape : (brought : Option (List Insn)) → Verifies brought None → (program : List Insn) → brought ≡ Some program → IsWellShaped program

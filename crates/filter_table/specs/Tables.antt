@@ -1,26 +1,26 @@
 -- The table that the cores replicate: a state machine whose state is a function of its log (Schneider 1990,
 -- "Implementing fault-tolerant services using the state machine approach", section 2).
-use Rattle.std.specs.Prelude.{◌≡◌, ◌==◌, ◌+◌, ◌<◌, ◌≤◌, ◌⊎◌, ◌↔◌, ℕ, Bool, not, cond, leb, ltb, min, Option, Some, None, is_none, List, [], ◌∷◌, ◌++◌, length, filter, map, take}
+use Rattle.std.specs.Prelude.{◌≡◌, ⊤, ◌==◌, ◌+◌, ◌<◌, ◌≤◌, ◌⊎◌, ◌↔◌, ℕ, Bool, not, cond, leb, ltb, min, Option, Some, None, is_none, List, [], ◌∷◌, ◌++◌, length, filter, map, take}
 use Rattle.std.specs.List.{find, sum_by, Contains}
 use Rattle.bpf_insn.specs.declared.insn.Insn.{Insn}
 use Rattle.filter_verify.specs.declared.rules.Refusal.{Refusal}
 use Rattle.filter_verify.specs.Rules.{Sound, Refuses}
 use Rattle.filter_verify.specs.Numbers.{number_of, place_of}
-use Rattle.filter_vm.specs.Machine.{Packet, Ends}
+use Rattle.bpf_insn.specs.Machine.{Packet, Ends}
 use Rattle.endpoint_caps.specs.declared.Cap.{Cap}
 use Rattle.endpoint_caps.specs.declared.CapFault.{CapFault}
 use Rattle.endpoint_caps.specs.declared.CapFault.TheVariants as cap_fault
 use Rattle.endpoint_caps.specs.declared.Right.TheVariants.{Receive}
 use Rattle.endpoint_caps.specs.Capabilities.{CapTable, no_caps, cap_at, is_some_and, created, minted_from, revoked, dropped, first, holder_tests, right_tests, create_tests, mint_tests}
-use Rattle.table_replica.specs.Listed.{ListedFilter}
-use Rattle.table_replica.specs.declared.Op.{Op}
-use Rattle.table_replica.specs.declared.Op.TheVariants.{Create, Mint, Revoke, DropCap, Install, Remove, Replace}
-use Rattle.table_replica.specs.declared.OpFault.TheVariants.{NoCap, NotHolder, NoRight, RightsExceed, EndpointTaken, CapsFull, IdsSpent, NoFilter, NotOwner, TableFull, FilterIdsSpent, BadProgram, VersionsSpent}
-use Rattle.table_replica.specs.declared.StageFault.{StageFault}
-use Rattle.table_replica.specs.declared.StageFault.TheVariants.{Rule, Budget, NoMemory}
-use Rattle.table_replica.specs.declared.Made.{Made}
-use Rattle.table_replica.specs.declared.Made.TheVariants as made_variants
-use Rattle.table_replica.specs.declared.Kept.{Kept}
+use Rattle.filter_table.specs.Listed.{ListedFilter}
+use Rattle.filter_table.specs.declared.operation.Op.{Op}
+use Rattle.filter_table.specs.declared.operation.Op.TheVariants.{Create, Mint, Revoke, DropCap, Install, Remove, Replace}
+use Rattle.filter_table.specs.declared.operation.OpFault.TheVariants.{NoCap, NotHolder, NoRight, RightsExceed, EndpointTaken, CapsFull, IdsSpent, NoFilter, NotOwner, TableFull, FilterIdsSpent, BadProgram, VersionsSpent}
+use Rattle.filter_table.specs.declared.operation.StageFault.{StageFault}
+use Rattle.filter_table.specs.declared.operation.StageFault.TheVariants.{Rule, Budget, NoMemory}
+use Rattle.filter_table.specs.declared.operation.Made.{Made}
+use Rattle.filter_table.specs.declared.operation.Made.TheVariants as made_variants
+use Rattle.filter_table.specs.declared.delivery.Kept.{Kept}
 
 -- The state
 
@@ -132,6 +132,12 @@ abbrev pub program_of : Op → Option (List Insn)
 program_of (Install domain cap program) = Some program
 program_of (Replace domain id program) = Some program
 program_of op = None
+
+-- a program is sent that has 4096 instructions at most
+abbrev pub HasShortProgram : Op → Type 0
+HasShortProgram (Install domain cap program) = length program ≤ 4096
+HasShortProgram (Replace domain filter program) = length program ≤ 4096
+HasShortProgram op = ⊤
 
 -- the answer of the verifier to the program, if there is one
 abbrev pub Verifies : Option (List Insn) → Option StageFault → Type 0

@@ -4,20 +4,20 @@ use Rattle.std.proofs.lemmas.List.{take_all, take-append-le}
 use Rattle.std.proofs.lemmas.List.Sums.{sum_by-append}
 use Rattle.std.proofs.lemmas.Bool.Decides.{nat_tests}
 use Rattle.std.specs.List.{list_any}
-use Rattle.table_replica.specs.Listed.{ListedFilter}
-use Rattle.table_replica.specs.declared.Op.{Op}
-use Rattle.table_replica.specs.declared.Op.TheVariants.{Create, Mint, Revoke, DropCap, Install, Remove, Replace}
-use Rattle.table_replica.specs.declared.StageFault.{StageFault}
-use Rattle.table_replica.specs.declared.StageFault.TheVariants.{Rule, Budget}
-use Rattle.table_replica.specs.declared.OpFault.{OpFault}
-use Rattle.table_replica.specs.declared.OpFault.TheVariants.{BadProgram}
+use Rattle.filter_table.specs.Listed.{ListedFilter}
+use Rattle.filter_table.specs.declared.operation.Op.{Op}
+use Rattle.filter_table.specs.declared.operation.Op.TheVariants.{Create, Mint, Revoke, DropCap, Install, Remove, Replace}
+use Rattle.filter_table.specs.declared.operation.StageFault.{StageFault}
+use Rattle.filter_table.specs.declared.operation.StageFault.TheVariants.{Rule, Budget}
+use Rattle.filter_table.specs.declared.operation.OpFault.{OpFault}
+use Rattle.filter_table.specs.declared.operation.OpFault.TheVariants.{BadProgram}
 use Rattle.bpf_insn.specs.declared.insn.Insn.{Insn}
 use Rattle.filter_verify.specs.declared.rules.Refusal.{Refusal}
 use Rattle.filter_verify.specs.Rules.{Sound, Refuses}
 use Rattle.filter_verify.specs.Numbers.{number_of, place_of}
 use Rattle.filter_verify.proofs.Reasons.{Refuses-sound}
 use Rattle.endpoint_caps.specs.Capabilities.{first}
-use Rattle.table_replica.specs.Tables.{State, replaced, opening, after, after_all, table, instructions, instructions_of, tests, AnswersFirst, program_of, Verifies, Allowed}
+use Rattle.filter_table.specs.Tables.{State, replaced, opening, after, after_all, table, instructions, instructions_of, tests, AnswersFirst, program_of, Verifies, Allowed}
 
 pub version-after : (s : State) (op : Op) → (after s op).version ≡ s.version + 1
 unfolding after

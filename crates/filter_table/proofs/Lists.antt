@@ -4,8 +4,8 @@ use Rattle.std.proofs.lemmas.List.Sums.{sum_by-append}
 use Rattle.std.proofs.lemmas.Bool.Decides.{nat_tests}
 use Rattle.std.specs.List.{find}
 use Rattle.bpf_insn.specs.declared.insn.Insn.{Insn}
-use Rattle.table_replica.specs.Listed.{ListedFilter}
-use Rattle.table_replica.specs.Tables.{instructions_of, replaced}
+use Rattle.filter_table.specs.Listed.{ListedFilter}
+use Rattle.filter_table.specs.Tables.{instructions_of, replaced}
 
 pub three : (a b : ℕ) → (a < b) ⊎ ((a ≡ b) ⊎ (b < a))
 three a b = grind arith

@@ -5,8 +5,8 @@ use Rattle.filter_verify.specs.Rules.{Sound}
 use Rattle.endpoint_caps.specs.declared.Cap.{Cap}
 use Rattle.endpoint_caps.specs.declared.Right.TheVariants.{Receive}
 use Rattle.endpoint_caps.specs.Capabilities.{CapTable, IdsBetween, ParentsHeld, cap_at, has_right}
-use Rattle.table_replica.specs.Listed.{ListedFilter}
-use Rattle.table_replica.specs.Tables.{State}
+use Rattle.filter_table.specs.Listed.{ListedFilter}
+use Rattle.filter_table.specs.Tables.{State}
 
 -- the ids increase, from the first number on and below the second
 abbrev pub FilterIdsBetween : ℕ → List ListedFilter → ℕ → Type 0

@@ -1,0 +1,4 @@
+pub mod Listed
+pub mod Tables
+pub mod Staging
+pub mod Soundness

@@ -1,0 +1,35 @@
+//! Why a machine does not do an event.
+
+ghost use Rattle.std.specs.Prelude.{◌≡◌};
+ghost use Rattle.world_events.specs.declared.fault.WorldFault.TheVariants as world_fault;
+
+use std::alloc::AllocError;
+
+/// Why an event is not done. The first that stands is told, in this order.
+#[derive(Clone, Copy, PartialEq, Eq, Debug, Drop)]
+pub enum WorldFault {
+    /// There is no such core, or no channel joins the two.
+    NoSuchCore,
+    /// The channel is empty.
+    Nothing,
+    /// The core's version is below the packet's floor.
+    NotReady,
+    /// Core 0 has another request under way.
+    NotIdle,
+    /// Core 0's last number has been given out.
+    Spent,
+    /// The core has a request outstanding.
+    Outstanding,
+    /// The core has no request waiting.
+    NoneWaiting,
+    /// There was no memory.
+    NoMemory,
+}
+
+impl From<AllocError> for WorldFault {
+    ghost from_gives = { λ _ fault. fault ≡ world_fault.NoMemory };
+
+    fn from(_: AllocError) -> WorldFault {
+        WorldFault::NoMemory
+    }
+}
