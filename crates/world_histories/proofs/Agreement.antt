@@ -19,9 +19,8 @@ use Rattle.world_model.proofs.Lists.{get_within, get_at}
 use Rattle.world_model.proofs.Runs.{runs_append, runs_split}
 use Rattle.world_model.proofs.Known.{run_known, version_of-more}
 use Rattle.world_model.proofs.Agreement.{run_inv}
-use Rattle.world_model.proofs.RunLaws.{run_agrees, run_grows, run_replies}
+use Rattle.world_model.proofs.RunLaws.{run_agrees, run_grows}
 use Rattle.world_model.proofs.SoundLogs.{run_sound}
-use Rattle.world_model.proofs.Decisions.{run_decides}
 use Rattle.world_histories.specs.declared.history.Stamped.{Stamped}
 use Rattle.world_histories.specs.Histories.{unstamped, Core0, core0_first, History0, Other, other_first, HistoryOther, Computation}
 use Rattle.world_histories.specs.Merging.{core_of, as_short, listed, as_listed, Merged, EndsAs}
@@ -72,8 +71,6 @@ in_the_run budget budgets core0 others end ends o core h before after s long at 
       (runs_log budget budgets (as_listed p.earlier ++ listed s ∷ []) runs.2.0 o.world (as_listed p.later) (runs_append (boot budget budgets) runs.0 runs.2.0 (as_listed p.earlier) (listed s ∷ []) runs.1 (runs.2.0, runs.2.1, refl)) runs.2.2);
   log_long = sym (run_inv budget budgets (as_listed p.earlier) runs.0 runs.1).version ∙ ((run_known budget budgets (as_listed p.earlier) runs.0 runs.1).version0 ∙ tells.versions 0);
   version = version_is budget budgets (as_listed p.earlier) runs.0 core h core0 others runs.1 long at ∙ ap (λ (n : ℕ). Some n) (tells.versions core ∙ ap (λ (xs : List Stamped). version_of core (unstamped xs)) p.own);
-  decides = run_decides budget budgets (as_listed p.earlier) runs.0 runs.2.0 (listed s).event s.done.answer runs.1 runs.2.1;
-  replies = run_replies budget budgets (as_listed p.earlier) runs.0 runs.2.0 (listed s).event s.done.answer runs.1 runs.2.1;
 }
   where
     p : Placed core o.merged before s after

@@ -23,8 +23,8 @@ use Rattle.world_events.specs.declared.event.Done.{Done}
 use Rattle.world_model.specs.Cases.{TakesUpAt, TakesDownAt, Took}
 use Rattle.world_model.specs.Worlds.{Peer, World, boot, newest, budget_at, HappensUp, HappensDown, Happens, Run}
 use Rattle.world_model.specs.Readings.{version_of, vote_of, Request, sent, request_of, Begins, Begun}
-use Rattle.world_model.specs.Decisions.{HasReason, CommitsNext, IsWaiting, HasVeto, VotesDecide, DecidesRightly}
-use Rattle.world_model.proofs.Lists.{get_within, get_at, get_front, get_end, empty_list}
+use Rattle.world_model.specs.Decisions.{HasReason, IsEntryAt, IsWaiting, VetoedBy, MakesChange, vote_by, VotesDecide, DecidesRightly}
+use Rattle.world_model.proofs.Lists.{get_within, get_at, get_front, get_end}
 use Rattle.world_model.proofs.Runs.{runs_split}
 use Rattle.world_model.proofs.Known.{run_known}
 use Rattle.world_model.proofs.Agreement.{of_core}
@@ -33,7 +33,7 @@ use Rattle.world_histories.specs.declared.history.Stamped.{Stamped}
 use Rattle.world_histories.specs.Histories.{unstamped, Core0, Other, Computation}
 use Rattle.world_histories.specs.Merging.{core_of, part, as_short, listed, as_listed}
 use Rattle.world_histories.specs.Answers.{requested, begun_for, InRun}
-use Rattle.world_histories.specs.Decisions.{Asked, BegunIn, IsNew, IsEntryAt, VetoedBy, VotesDecideIn, DecidesBy, DecidesAs}
+use Rattle.world_histories.specs.Decisions.{Asked, BegunIn, IsNew, voted, vote_in, DecidesBy, DecidesAs}
 use Rattle.world_histories.proofs.Lists.{Found, found}
 use Rattle.world_histories.proofs.Parts.{part_own, part-append, placed, front_of_each}
 use Rattle.world_histories.proofs.Tells.{tells_of_cores}
@@ -232,11 +232,11 @@ begun_in budget budgets core0 others end ends o earlier rest before w txn core o
 
 -- Decisions
 
-is_entry_at : (log : List Op) (w w' : World) (v : ℕ) (op : Op) (version : ℕ) (id : Made) → length w.log ≡ v → newest w ≡ table log v → IsPrefix w'.log log → CommitsNext w op w' version id → IsEntryAt log v op version id
-is_entry_at log w w' v op version id long same front c = record {
-  entry = rw (← long) (subst (λ (l : List Op). slice_get l (length w.log) ≡ Some op) (ap (λ (l : List Op). l ++ front.0) (sym c.entry) ∙ front.1) (get_front (w.log ++ op ∷ []) front.0 (length w.log) op (get_end w.log op)));
+is_entry_at : (log : List Op) (w w' : World) (v : ℕ) (op : Op) (version : ℕ) (id : Made) → length w.log ≡ v → newest w ≡ table log v → IsPrefix w'.log log → w'.log ≡ w.log ++ op ∷ [] → IsEntryAt w'.log (length w.log) op version id → IsEntryAt log v op version id
+is_entry_at log w w' v op version id long same front next c = record {
+  entry = rw (← long) (subst (λ (l : List Op). slice_get l (length w.log) ≡ Some op) (ap (λ (l : List Op). l ++ front.0) (sym next) ∙ front.1) (get_front (w.log ++ op ∷ []) front.0 (length w.log) op (get_end w.log op)));
   is_version = omega (arith, c.is_version, long);
-  is_made = c.is_made ∙ ap (λ (s : State). made s op) same;
+  is_made = c.is_made ∙ ap (λ (s : State). made s op) (ap (λ (l : List Op). table l (length w.log)) next ∙ (table_front w.log (op ∷ []) (length w.log) (omega arith) ∙ same));
 }
 
 -- what is known of core 0's event
@@ -267,34 +267,41 @@ voted_by budget budgets core0 others end ends before event answer x txn i h v at
     let tells = tells_of_cores (boot budget budgets) x.world x.earlier x.run in
     voted_in (suc i) txn i b.0 d.0 h (part (suc i) x.earlier) t.taken v t.is_history front (sym (tells.votes (suc i) txn) ∙ e)
 
+-- so it is with the vote of each other core
+voted_in_others : (budget : ℕ) (budgets : List ℕ) (core0 : List Stamped) (others : List (List Stamped)) (end : Core0) (ends : List Other) (before : List Stamped) (event : Event) (answer : Answer) (x : Context budget budgets core0 others end ends before event answer) (txn i : ℕ) (v : Vote)
+    → i < length others → vote_by (as_listed x.earlier) txn i ≡ Some v → vote_in others txn i ≡ Some v
+voted_in_others budget budgets core0 others end ends before event answer x txn i v lt e =
+    let h = get_at others i lt in
+    ap (voted (suc i) txn) h.1 ∙ voted_by budget budgets core0 others end ends before event answer x txn i h.0 v h.1 e
+
 vetoed : (budget : ℕ) (budgets : List ℕ) (core0 : List Stamped) (others : List (List Stamped)) (end : Core0) (ends : List Other) (before : List Stamped) (event : Event) (answer : Answer) (x : Context budget budgets core0 others end ends before event answer) (txn : ℕ) (op : Op) (core : ℕ) (why : Veto)
-    → HasVeto (as_listed x.earlier) x.world txn op core why → VetoedBy budgets others end.log (version_of 0 (unstamped before)) txn op core why
+    → VetoedBy (vote_by (as_listed x.earlier) txn) (λ entry. budget_at x.world (suc entry)) (newest x.world) op core why → VetoedBy (vote_in others txn) (slice_get budgets) (table end.log (version_of 0 (unstamped before))) op core why
 vetoed budget budgets core0 others end ends before event answer x txn op core why h =
     let known = run_known budget budgets (as_listed x.earlier) x.world x.run in
-    let at : budget_at x.world (suc h.entry) ≡ Some h.budget = subst (λ (c : ℕ). budget_at x.world c ≡ Some h.budget) h.is_core h.is_budget in
-    let p = of_core (λ (q : Peer). q.budget) x.world.peers h.entry h.budget (slice_get x.world.peers h.entry) refl at in
-    let g = get_at others h.entry (omega (arith, x.comp.cores, known.cores, get_within x.world.peers h.entry p.0 p.1)) in
+    let p = of_core (λ (q : Peer). q.budget) x.world.peers h.entry h.budget (slice_get x.world.peers h.entry) refl h.is_budget in
+    let within : h.entry < length others = omega (arith, x.comp.cores, known.cores, get_within x.world.peers h.entry p.0 p.1) in
     record {
       entry = h.entry;
       is_core = h.is_core;
-      yes_before = λ i hist lt at_h. voted_by budget budgets core0 others end ends before event answer x txn i hist vote.Yes at_h (h.yes_before i lt);
-      history = g.0;
-      is_history = g.1;
+      yes_before = λ i lt. voted_in_others budget budgets core0 others end ends before event answer x txn i vote.Yes (omega (arith, lt, within)) (h.yes_before i lt);
       against = h.against;
-      voted = subst (λ (k : ℕ). vote_of k txn (unstamped g.0) ≡ Some h.against) (sym h.is_core) (voted_by budget budgets core0 others end ends before event answer x txn h.entry g.0 h.against g.1 (subst (λ (c : ℕ). vote_of c txn (as_listed x.earlier) ≡ Some h.against) h.is_core h.voted));
+      voted = voted_in_others budget budgets core0 others end ends before event answer x txn h.entry h.against within h.voted;
       budget = h.budget;
       is_budget = known.budgets_are h.entry p.0 p.1 ∙ ap (λ (n : ℕ). Some n) p.2;
       reason = subst (λ (s : State). ((h.against ≡ vote.NoMemory) × (why ≡ veto.NoMemory) × AsksForMemory s h.budget op) ⊎ ((h.against ≡ vote.Budget) × (why ≡ veto.Budget) × (h.budget < instructions (after s op)))) x.newest_is h.reason;
     }
 
 votes_decide : (budget : ℕ) (budgets : List ℕ) (core0 : List Stamped) (others : List (List Stamped)) (end : Core0) (ends : List Other) (before : List Stamped) (event : Event) (answer : Answer) (x : Context budget budgets core0 others end ends before event answer) (txn : ℕ) (op : Op) (d : Decision)
-    → VotesDecide (as_listed x.earlier) x.world txn op x.world' d → VotesDecideIn budgets others end.log (version_of 0 (unstamped before)) txn op d
-votes_decide budget budgets core0 others end ends before event answer x txn op (Committed version id) h =
+    → MakesChange x.world op x.world' d → VotesDecide (length x.world.peers) (vote_by (as_listed x.earlier) txn) (λ entry. budget_at x.world (suc entry)) x.world'.log (length x.world.log) op d
+    → VotesDecide (length others) (vote_in others txn) (slice_get budgets) end.log (version_of 0 (unstamped before)) op d
+votes_decide budget budgets core0 others end ends before event answer x txn op (Committed version id) change h =
     let known = run_known budget budgets (as_listed x.earlier) x.world x.run in (
-      is_entry_at end.log x.world x.world' (version_of 0 (unstamped before)) op version id x.long x.newest_is x.front' h.0,
-      λ i hist at. voted_by budget budgets core0 others end ends before event answer x txn i hist vote.Yes at (h.1 i (omega (arith, known.cores, x.comp.cores, get_within others i hist at))),
+      is_entry_at end.log x.world x.world' (version_of 0 (unstamped before)) op version id x.long x.newest_is x.front' change h.0,
+      λ i lt. voted_in_others budget budgets core0 others end ends before event answer x txn i vote.Yes lt (h.1 i (omega (arith, known.cores, x.comp.cores, lt))),
     )
-votes_decide budget budgets core0 others end ends before event answer x txn op (Refused core why) h = vetoed budget budgets core0 others end ends before event answer x txn op core why h.0
+votes_decide budget budgets core0 others end ends before event answer x txn op (Refused core why) change h =
+    vetoed budget budgets core0 others end ends before event answer x txn op core why
+    (subst (λ (l : List Op). VetoedBy (vote_by (as_listed x.earlier) txn) (λ entry. budget_at x.world (suc entry)) (table l (length x.world.log)) op core why) change.0 h)
 
 asked_for : (budget : ℕ) (budgets : List ℕ) (core0 : List Stamped) (others : List (List Stamped)) (end : Core0) (ends : List Other) (before : List Stamped) (event : Event) (answer : Answer) (x : Context budget budgets core0 others end ends before event answer) (entry : ℕ) (op : Op)
     → IsWaiting (as_listed x.earlier) x.world entry op → Asked others before (StartFor (suc entry)) op
@@ -308,9 +315,9 @@ allowed_then budget budgets core0 others end ends before event answer x op a =
     (subst (λ (s : State). Allowed s x.world.budget op None) x.newest_is a)
 
 none_else : (budget : ℕ) (budgets : List ℕ) (core0 : List Stamped) (others : List (List Stamped)) (end : Core0) (ends : List Other) (before : List Stamped) (event : Event) (answer : Answer) (x : Context budget budgets core0 others end ends before event answer)
-    → x.world.peers ≡ [] → others ≡ []
+    → length x.world.peers ≡ 0 → length others ≡ 0
 none_else budget budgets core0 others end ends before event answer x none =
-    empty_list others (omega (arith, x.comp.cores, (run_known budget budgets (as_listed x.earlier) x.world x.run).cores, ap length none))
+    omega (arith, x.comp.cores, (run_known budget budgets (as_listed x.earlier) x.world x.run).cores, none)
 
 reason_then : (budget : ℕ) (budgets : List ℕ) (core0 : List Stamped) (others : List (List Stamped)) (end : Core0) (ends : List Other) (before : List Stamped) (event : Event) (answer : Answer) (x : Context budget budgets core0 others end ends before event answer) (op : Op) (why : Veto)
     → HasReason (newest x.world) x.world.budget op why → HasReason (table end.log (version_of 0 (unstamped before))) budget op why
@@ -325,17 +332,17 @@ decides_by budget budgets core0 others end ends before (StartFor (suc i)) (Prepa
     let d = x.decides in
     (d.0, asked_for budget budgets core0 others end ends before _ _ x i d.0 d.1, allowed_then budget budgets core0 others end ends before _ _ x d.0 d.2.allowed, new_in budget budgets x.earlier before x.world txn x.run x.own d.2.new_number)
 decides_by budget budgets core0 others end ends before (Start op) (Decided (Committed version id)) x =
-    (op, refl, (none_else budget budgets core0 others end ends before _ _ x x.decides.0, is_entry_at end.log x.world x.world' (version_of 0 (unstamped before)) op version id x.long x.newest_is x.front' x.decides.1))
+    (op, refl, (none_else budget budgets core0 others end ends before _ _ x x.decides.1.0, is_entry_at end.log x.world x.world' (version_of 0 (unstamped before)) op version id x.long x.newest_is x.front' x.decides.0 x.decides.1.1))
 decides_by budget budgets core0 others end ends before (Start op) (Decided (Refused core why)) x =
-    (op, refl, (x.decides.1, reason_then budget budgets core0 others end ends before _ _ x op why x.decides.2))
+    (op, refl, (x.decides.1.0, reason_then budget budgets core0 others end ends before _ _ x op why x.decides.1.1))
 decides_by budget budgets core0 others end ends before (StartFor (suc i)) (Decided (Committed version id)) x = absurd x.decides.2
 decides_by budget budgets core0 others end ends before (StartFor (suc i)) (Decided (Refused core why)) x =
     let d = x.decides in
-    (d.0, asked_for budget budgets core0 others end ends before _ _ x i d.0 d.1, (d.2.0, reason_then budget budgets core0 others end ends before _ _ x d.0 why d.2.1))
+    (d.0, asked_for budget budgets core0 others end ends before _ _ x i d.0 d.1, (d.2.0.0, reason_then budget budgets core0 others end ends before _ _ x d.0 why d.2.0.1))
 decides_by budget budgets core0 others end ends before (StartFor zero) answer x = absurd x.happens
 decides_by budget budgets core0 others end ends before event (TookVote txn v (Some d)) x =
     let h = x.decides in
-    (h.1, begun_in budget budgets core0 others end ends x.one x.earlier x.rest before x.world txn h.0 h.1 x.comp.cores x.is_split x.own x.run h.2, votes_decide budget budgets core0 others end ends before _ _ x txn h.1 d h.3)
+    (h.1, begun_in budget budgets core0 others end ends x.one x.earlier x.rest before x.world txn h.0 h.1 x.comp.cores x.is_split x.own x.run h.2, votes_decide budget budgets core0 others end ends before _ _ x txn h.1 d h.3 h.4)
 decides_by budget budgets core0 others end ends before event (Prepared txn) x = absurd (begins_it budget budgets (as_listed x.earlier) x.world x.world' event txn x.run x.happens).2
 decides_by budget budgets core0 others end ends before event (Decided d) x = absurd (starts_it x.world x.world' event d x.happens)
 decides_by budget budgets core0 others end ends before event answer x = tt
@@ -363,7 +370,7 @@ decided budget budgets core0 others end ends c before after s e =
       long = long;
       newest_is = sym (table_front r.world.log r.log_front.0 (length r.world.log) (omega arith)) ∙ (ap (λ (l : List Op). table l (length r.world.log)) r.log_front.1 ∙ ap (table end.log) long);
       front' = r.log_front';
-      decides = r.decides;
+      decides = run_decides budget budgets (as_listed r.earlier) r.world r.world' (listed s).event s.done.answer r.run r.happens;
     }))
   where
     o : OneRun budget budgets core0 others end ends

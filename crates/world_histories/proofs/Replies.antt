@@ -20,6 +20,7 @@ use Rattle.world_model.specs.Decisions.{StandsAt, IsEntered, RepliesRightly}
 use Rattle.world_model.proofs.Lists.{get_within, get_at, get_front, same_or_not}
 use Rattle.world_model.proofs.Submissions.{eq_self, eq_other}
 use Rattle.world_model.proofs.Known.{run_known}
+use Rattle.world_model.proofs.RunLaws.{run_replies}
 use Rattle.world_histories.specs.declared.history.Stamped.{Stamped}
 use Rattle.world_histories.specs.Histories.{unstamped, Core0, Other, Computation}
 use Rattle.world_histories.specs.Merging.{core_of, part, as_short, listed, as_listed}
@@ -177,9 +178,14 @@ one_request core0 events i submitted decision front e (by_votes txn b v) =
 
 entered_front : (log front : List Op) (op : Op) (d : Decision) → IsPrefix front log → IsEntered front op d → IsEntered log op d
 entered_front log front op (Committed version id) f x =
-    let le : x.0 ≤ length front = omega (arith, get_within front x.0 op x.2) in
-    let at : slice_get log x.0 ≡ Some op = subst (λ (l : List Op). slice_get l x.0 ≡ Some op) f.1 (get_front front f.0 x.0 op x.2) in
-    (x.0, x.1, at, x.3 ∙ ap (λ (s : State). made s op) (sym (ap (λ (l : List Op). table l x.0) (sym f.1) ∙ table_front front f.0 x.0 le)))
+    let le : x.0 ≤ length front = omega (arith, get_within front x.0 op x.1.entry) in (
+      x.0,
+      record {
+        entry = subst (λ (l : List Op). slice_get l x.0 ≡ Some op) f.1 (get_front front f.0 x.0 op x.1.entry);
+        is_version = x.1.is_version;
+        is_made = x.1.is_made ∙ ap (λ (s : State). made s op) (sym (ap (λ (l : List Op). table l x.0) (sym f.1) ∙ table_front front f.0 x.0 le));
+      },
+    )
 entered_front log front op (Refused core why) f x = tt
 
 replied_by : (i : ℕ) (events : List Done) (w w' : World) (event : Event) (d : Decision) (version : ℕ) → core_of event ≡ suc i → version_at w (suc i) ≡ Some version → Happens w event w' (TookReply d) → RepliesRightly events w event (TookReply d)
@@ -200,7 +206,7 @@ replied budget budgets core0 others end ends c i h before after s d at e is_repl
     let o = one_run budget budgets core0 others end ends c in
     let r = in_the_run budget budgets core0 others end ends o (suc i) h before after s c.cores at e in
     let x = replied_by i (as_listed r.earlier) r.world r.world' (listed s).event d (version_of (suc i) (unstamped before)) (short_core s.done.event s.done.answer ∙ r.is_core) r.version
-    (subst (λ (a : Answer). Happens r.world (listed s).event r.world' a) is_reply r.happens) (subst (λ (a : Answer). RepliesRightly (as_listed r.earlier) r.world (listed s).event a) is_reply r.replies) in
+    (subst (λ (a : Answer). Happens r.world (listed s).event r.world' a) is_reply r.happens) (subst (λ (a : Answer). RepliesRightly (as_listed r.earlier) r.world (listed s).event a) is_reply (run_replies budget budgets (as_listed r.earlier) r.world r.world' (listed s).event s.done.answer r.run r.happens)) in
     let known = run_known budget budgets (as_listed r.earlier) r.world r.run in
     let p = get_at r.world.peers i (omega (arith, known.cores, c.cores, get_within others i h at)) in
     let t : Tracks (suc i) (as_listed r.earlier) (settled x.0 d) = subst (λ (q : Request). Tracks (suc i) (as_listed r.earlier) q) x.1 (run_tracks budget budgets (as_listed r.earlier) r.world r.run i p.0 p.1) in

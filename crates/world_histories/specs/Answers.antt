@@ -11,7 +11,7 @@ use Rattle.world_events.specs.declared.event.Event.TheVariants.{Submit, StartFor
 use Rattle.world_events.specs.declared.event.Answer.TheVariants.{Prepared, Decided, TookVote}
 use Rattle.world_model.specs.Worlds.{World, version_at, Happens, Run}
 use Rattle.world_model.specs.Readings.{version_of, vote_of, Request, unsent, sent, numbered, settled, request_of}
-use Rattle.world_model.specs.Decisions.{DecidesRightly, StandsAt, IsEntered, RepliesRightly}
+use Rattle.world_model.specs.Decisions.{StandsAt, IsEntered}
 use Rattle.world_histories.specs.declared.history.Stamped.{Stamped}
 use Rattle.world_histories.specs.Histories.{unstamped}
 use Rattle.world_histories.specs.Merging.{core_of, part, listed, as_listed}
@@ -59,7 +59,7 @@ pub record TellsOfCores (events : List Stamped) : Type 0 where
   pub requests : (entry : ℕ) → requested (request_of (suc entry) (as_listed events)) ≡ last_submitted (part (suc entry) events)
 
 -- An event of a core's history, after these events of its own, as an event of the one run. What the run has before it are fronts
--- of all histories. There the event is right by the laws of runs.
+-- of all histories.
 pub record InRun (budget : ℕ) (budgets : List ℕ) (core0 : List Stamped) (others : List (List Stamped)) (log : List Op) (merged : List Stamped) (core : ℕ) (before : List Stamped) (s : Stamped) : Type 0 where
   pub earlier : List Stamped
   pub later : List Stamped
@@ -77,8 +77,6 @@ pub record InRun (budget : ℕ) (budgets : List ℕ) (core0 : List Stamped) (oth
   pub log_front' : IsPrefix world'.log log
   pub log_long : length world.log ≡ version_of 0 (unstamped (part 0 earlier))
   pub version : version_at world core ≡ Some (version_of core (unstamped before))
-  pub decides : DecidesRightly (as_listed earlier) world (listed s).event world' s.done.answer
-  pub replies : RepliesRightly (as_listed earlier) world (listed s).event s.done.answer
 
 -- among these events of core 0 the votes on the number decide so
 pub record DecidesLater (events : List Stamped) (txn : ℕ) (decision : Decision) : Type 0 where

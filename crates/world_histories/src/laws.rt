@@ -30,11 +30,10 @@ pub fn histories_are_one_run()
         Computation budget budgets core0 others end ends → Computation budget budgets core0 others again ends_again → (end ≡ again) × (ends ≡ ends_again) }
 {}
 
-/// At each event of each core's history decisions and replies are right as the laws of runs say, by what the one run has before
-/// the event: fronts of all histories, and all that came before in this core's. Read off the histories alone: a commit is the log's
-/// next entry, by the votes of all, and a refusal has a reason that holds, or is the veto of the least core that voted against. A
-/// core that takes a Reply takes what core 0 decided on its one request, the last that it submitted, and stands exactly at its
-/// version.
+/// Each event of each core's history is an event of the one run, which has before it fronts of all histories, and all that came
+/// before in this core's. Read off the histories alone: a commit is the log's next entry, by the votes of all, and a refusal has a
+/// reason that holds, or is the veto of the least core that voted against. A core that takes a Reply takes what core 0 decided on
+/// its one request, the last that it submitted, and stands exactly at its version.
 pub fn answers_are_right()
     ensures in_run { (budget : ℕ) (budgets : List ℕ) (core0 : List Stamped) (others : List (List Stamped)) (end : Core0) (ends : List Other) (merged : List Stamped)
         (core : ℕ) (history before after : List Stamped) (s : Stamped) → Computation budget budgets core0 others end ends → Merged core0 others merged →

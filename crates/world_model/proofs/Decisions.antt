@@ -4,7 +4,6 @@ use Rattle.std.specs.Prelude.{option_map}
 use Rattle.filter_table.specs.declared.operation.Op.{Op}
 use Rattle.filter_table.specs.Tables.{State, table, after, instructions, Allowed}
 use Rattle.filter_table.specs.Staging.{AsksForMemory}
-use Rattle.filter_table.proofs.Tables.{table_version}
 use Rattle.monitor_messages.specs.declared.message.Message.{Message}
 use Rattle.monitor_messages.specs.declared.message.Message.TheVariants as message
 use Rattle.filter_table.specs.declared.decision.Vote.{Vote}
@@ -19,17 +18,17 @@ use Rattle.world_events.specs.declared.event.Answer.{Answer}
 use Rattle.world_events.specs.declared.event.Answer.TheVariants.{TookVote}
 use Rattle.world_events.specs.declared.event.Done.{Done}
 use Rattle.world_model.specs.Cases.{to_all, outgoing, start_told, VoteAt, TakesUpAt, TakesDownAt, Took}
-use Rattle.world_model.specs.Worlds.{Peer, World, newest, version_at, send, core0_moves, HappensStart, HappensStartFor, HappensUp, HappensDown, gave, Happens, Run}
+use Rattle.world_model.specs.Worlds.{Peer, World, newest, version_at, budget_at, send, core0_moves, HappensStart, HappensStartFor, HappensUp, HappensDown, gave, Happens, Run}
 use Rattle.world_model.specs.Agreement.{commitments}
 use Rattle.world_model.specs.Readings.{vote_of, sent, request_of, Begun}
-use Rattle.world_model.specs.Decisions.{Prepares, HasVeto, DecidesRightly}
-use Rattle.world_model.proofs.Lists.{get-set_same, get-set_other, length-slice_set, get_within, get_at, same_or_not, empty_list}
+use Rattle.world_model.specs.Decisions.{Prepares, VetoedBy, vote_by, DecidesRightly}
+use Rattle.world_model.proofs.Lists.{get-set_same, get-set_other, length-slice_set, get_within, get_at, same_or_not}
 use Rattle.world_model.proofs.Invariant.{Pair, at_rest, asked, voted, counted, to_commit, to_abort, acked, finished, Inv}
 use Rattle.world_model.proofs.Steps.{on_vote, Polled, polled, voting_on}
 use Rattle.world_model.proofs.Submissions.{Inv2}
 use Rattle.world_model.proofs.Moves.{Matches, matches_set}
 use Rattle.world_model.proofs.Known.{Known, was, run_known}
-use Rattle.world_model.proofs.Followed.{waits_sent, Numbered, run_numbered}
+use Rattle.world_model.proofs.Followed.{waits_sent, next_entry, Numbered, run_numbered}
 use Rattle.world_model.proofs.Agreement.{run_inv, run_stages}
 
 -- what is known after a run
@@ -68,9 +67,9 @@ decides_start events w w' op answer n h = by_case h.here.starts
     is told t = h.here.is_answer ∙ ap (λ (s : Step). start_told s.txn s.decided) t
 
     by_case : Starts (length w.peers) (newest w) w.budget w.place op h.place h.committed h.told → DecidesRightly events w (Start op) w' answer
-    by_case (refused fault a p c t) = rw (is _ t) (moves w.place None _ p c t, refl, inr (fault, a, refl))
-    by_case (unstaged f p c t) = rw (is _ t) (moves w.place None _ p c t, refl, inl (refl, f))
-    by_case (alone a m p c t) = rw (is _ t) (empty_list w.peers m, record { entry = ap (λ (x : World). x.log) (moves _ (Some op) _ p c t); is_version = omega (arith, table_version w.log); is_made = refl })
+    by_case (refused fault a p c t) = rw (is _ t) (moves w.place None _ p c t, (refl, inr (fault, a, refl)))
+    by_case (unstaged f p c t) = rw (is _ t) (moves w.place None _ p c t, (refl, inl (refl, f)))
+    by_case (alone a m p c t) = rw (is _ t) (let next = ap (λ (x : World). x.log) (moves _ (Some op) _ p c t) in (next, (m, next_entry w.log w'.log op _ next refl)))
     by_case (prepared a m p c t) = rw (is _ t) (prepares events w op w.requests w' n a (moves _ None _ p c t))
 
 begins : (events : List Done) (w w' : World) (entry : ℕ) (op : Op) (place : CoordinatorPlace) (requests' : Requests) (committed : Option Op) (begun : Step) (answer : Answer) → Numbered events w
@@ -88,8 +87,8 @@ begins events w w' entry op place requests' committed begun answer n its is_sent
     moved place' committed' told p c t = moves ∙ rw (next, p, c, t) refl
 
     by_case : Starts (length w.peers) (newest w) w.budget w.place op place committed begun → DecidesRightly events w (StartFor (suc entry)) w' answer
-    by_case (refused fault al p c t) = rw (is _ t) (op, record { waits = its; is_sent = is_sent }, (refl, inr (fault, al, refl), moved _ None _ p c t))
-    by_case (unstaged f p c t) = rw (is _ t) (op, record { waits = its; is_sent = is_sent }, (refl, inl (refl, f), moved _ None _ p c t))
+    by_case (refused fault al p c t) = rw (is _ t) (op, record { waits = its; is_sent = is_sent }, ((refl, inr (fault, al, refl)), moved _ None _ p c t))
+    by_case (unstaged f p c t) = rw (is _ t) (op, record { waits = its; is_sent = is_sent }, ((refl, inl (refl, f)), moved _ None _ p c t))
     by_case (alone al m p c t) = absurd (omega (arith, m, long, get_within w.requests.waiting entry (Some op) its))
     by_case (prepared al m p c t) = rw (is _ t) (op, record { waits = its; is_sent = is_sent }, prepares events w op _ w' n al (moved _ None _ p c t))
 
@@ -189,7 +188,7 @@ decides_vote budget budgets events w w' i txn v short answer h m here k = by_tal
     begun_here : Begun events txn begun.1 here.hears.op
     begun_here = subst (λ (o : Op). Begun events txn begun.1 o) begun_op (subst (λ (n : ℕ). Begun events n begun.1 begun.0) (sym here.hears.number) begun.3)
 
-    veto_of_least : (core : ℕ) (against : Vote) → LeastNo votes' core against → HasVeto events w txn here.hears.op core (veto_by against)
+    veto_of_least : (core : ℕ) (against : Vote) → LeastNo votes' core against → VetoedBy (vote_by events txn) (λ entry. budget_at w (suc entry)) (newest w) here.hears.op core (veto_by against)
     veto_of_least core against least =
         let q = get_at g least.entry (omega (arith, long, length-slice_set w.peers i (record h.peer { up = h.rest }), get_within votes' least.entry (Some against) least.said)) in
         let c = cast_at w.log w.place.last votes' here.hears.op least.entry q.0 against least.said (ps.pairs least.entry q.0 q.1) in
@@ -199,9 +198,9 @@ decides_vote budget budgets events w w' i txn v short answer h m here k = by_tal
           is_core = least.is_core;
           yes_before = λ j lt. heard j vote.Yes (least.yes_before j lt);
           against = against;
-          voted = rw least.is_core (heard least.entry against least.said);
+          voted = heard least.entry against least.said;
           budget = q.0.budget;
-          is_budget = rw least.is_core (ap (option_map (λ (x : Peer). x.budget)) p.1 ∙ ap (λ (n : ℕ). Some n) (sym p.2.1));
+          is_budget = ap (option_map (λ (x : Peer). x.budget)) p.1 ∙ ap (λ (n : ℕ). Some n) (sym p.2.1);
           reason = veto_holds c.short (newest w) q.0.budget here.hears.op against least.not_yes c.casts;
         }
 
@@ -215,12 +214,9 @@ decides_vote budget budgets events w w' i txn v short answer h m here k = by_tal
       begun.1,
       here.hears.op,
       begun_here,
+      ap (λ (x : World). x.log) (moves _ (Some here.hears.op) _ p c t),
       (
-        record {
-          entry = ap (λ (x : World). x.log) (moves _ (Some here.hears.op) _ p c t);
-          is_version = omega (arith, table_version w.log);
-          is_made = refl;
-        },
+        next_entry w.log w'.log here.hears.op _ (ap (λ (x : World). x.log) (moves _ (Some here.hears.op) _ p c t)) refl,
         λ j lt. (let at = get_at votes' j (omega (arith, long, lt)) in heard j vote.Yes (at.1 ∙ ap (λ (x : Option Vote). Some x) (all j at.0 at.1))),
       ),
     )
@@ -228,7 +224,8 @@ decides_vote budget budgets events w w' i txn v short answer h m here k = by_tal
       begun.1,
       here.hears.op,
       begun_here,
-      (veto_of_least core against least, ap (λ (x : World). x.log) (moves _ None _ p c t), λ n. ap (λ (x : World). version_at x n) (moves _ None _ p c t) ∙ versions (record { last = txn; phase = Acking (replicate (length votes') Bool.false); staged = None }) (message.Abort txn) n),
+      (ap (λ (x : World). x.log) (moves _ None _ p c t), λ n. ap (λ (x : World). version_at x n) (moves _ None _ p c t) ∙ versions (record { last = txn; phase = Acking (replicate (length votes') Bool.false); staged = None }) (message.Abort txn) n),
+      subst (λ (l : List Op). VetoedBy (vote_by events txn) (λ entry. budget_at w (suc entry)) (table l (length w.log)) here.hears.op core (veto_by against)) (sym (ap (λ (x : World). x.log) (moves _ None _ p c t))) (veto_of_least core against least),
     )
 
 decides_up : (budget : ℕ) (budgets : List ℕ) (events : List Done) (w w' : World) (i : ℕ) (short : Bool) (answer : Answer) → After budget budgets events w → HappensUp w i w' answer → DecidesRightly events w (Take 0 (suc i) short) w' answer

@@ -1,7 +1,7 @@
 -- Requests followed to their decisions and to the log.
 use Rattle.std.proofs.Common.{◌≡◌, ◌≢◌, ◌+◌, ◌≤◌, ◌⊎◌, ◌==◌, inl, inr, ℕ, zero, suc, Bool, true, false, cond, Option, Some, List, [], ◌∷◌, ◌++◌, length, slice_get, slice_set, refl, ap, sym, ◌∙◌, subst, arith, append_assoc}
 use Rattle.filter_table.specs.declared.operation.Op.{Op}
-use Rattle.filter_table.specs.Tables.{State, made}
+use Rattle.filter_table.specs.Tables.{State, made, table}
 use Rattle.filter_table.proofs.Tables.{table_front, table_version}
 use Rattle.monitor_messages.specs.declared.message.Message.{Message}
 use Rattle.monitor_messages.specs.declared.message.Message.TheVariants as message
@@ -21,7 +21,7 @@ use Rattle.std.specs.Prelude.{option_to_list}
 use Rattle.world_model.specs.Cases.{Outgoing, outgoing, sent_up, joined, raised, start_told, VoteAt, TakesUpAt, AnswersAt, TakesDownAt, Took}
 use Rattle.world_model.specs.Worlds.{Peer, World, boot, newest, sent_out, core0_moves, HappensStart, HappensUp, HappensDown, Happens, Run}
 use Rattle.world_model.specs.Readings.{Request, unsent, sent, numbered, settled, begun, decided_on, followed, request_after, request_of, Begins, Begun}
-use Rattle.world_model.specs.Decisions.{IsEntered}
+use Rattle.world_model.specs.Decisions.{IsEntryAt, IsEntered}
 use Rattle.world_model.proofs.Lists.{get-set_same, get-set_other, get_within, get_at, get_front, get_end, same_or_not}
 use Rattle.world_model.proofs.Submissions.{Stage, free, submitted, waiting, served, replied, Served, Inv2, asks, follows_start, follows_other, follows_begun, began, follows_submit, follows_no_submit, took_follows}
 use Rattle.world_model.proofs.Runs.{run_keeps}
@@ -230,10 +230,18 @@ Same i p q = q.outstanding ≡ p.outstanding
 same_sent : (old new : List Peer) (out : Outgoing) → Matches Same old new → Matches Same old (sent_out new out)
 same_sent old new out m = matches_sent Same old new out (λ i p q m e. e) m
 
+-- the entry that a commit adds
+pub next_entry : (log log' : List Op) (op : Op) (version : ℕ) → log' ≡ log ++ op ∷ [] → version ≡ (table log (length log)).version + 1 → IsEntryAt log' (length log) op version (made (table log (length log)) op)
+next_entry log log' op version next is = rw next (record {
+  entry = get_end log op;
+  is_version = omega (arith, is, table_version log);
+  is_made = rw (table_front log (op ∷ []) (length log) (omega arith)) refl;
+})
+
 entered_more : (log more : List Op) (op : Op) (d : Decision) → IsEntered log op d → IsEntered (log ++ more) op d
 entered_more log more op (Committed version id) e =
-    let k = get_within log e.0 op e.2 in
-    (e.0, e.1, get_front log more e.0 op e.2, rw (table_front log more e.0 (omega (arith, k))) e.3)
+    let within = get_within log e.0 op e.1.entry in
+    (e.0, record { entry = get_front log more e.0 op e.1.entry; is_version = e.1.is_version; is_made = rw (table_front log more e.0 (omega (arith, within))) e.1.is_made })
 entered_more log more op (Refused core why) e = tt
 
 -- what is settled of a core that has a request outstanding is an entry of the log
@@ -351,7 +359,7 @@ vote_entered w w' r i txn v short answer k inv2 h here = rw h.next (record { eac
         by_was (inl x) = old j q op d at out x
         by_was (inr x) =
             let same = on_op j q op x.0 at out x.1 in
-            rw (x.2, c, same) (length w.log, omega (arith, table_version w.log), get_end w.log here.hears.op, rw (table_front w.log (here.hears.op ∷ []) (length w.log) (omega arith)) refl)
+            rw (x.2, c, same) (length w.log, next_entry w.log (w.log ++ here.hears.op ∷ []) here.hears.op _ refl refl)
     by_tally j q op d at out e (aborts_all core against least all p c t) = by_was (decided_was (r j) txn _ d op (sym (ap (followed (suc j) (r j) (Take 0 (suc i) short)) (is _ t)) ∙ e))
       where
         by_was : ((r j ≡ settled op d) ⊎ ((n : ℕ) × (r j ≡ numbered op n) × (d ≡ Refused core (veto_by against)))) → IsEntered (joined w.log h.committed) op d

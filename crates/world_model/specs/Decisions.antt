@@ -40,11 +40,11 @@ Delivers log events = (before after : List Done) (done : Done) → events ≡ be
 
 -- Decisions
 
--- the operation is the next entry of the log, with its version and the id that it makes
-pub record CommitsNext (w : World) (op : Op) (w' : World) (version : ℕ) (id : Made) : Type 0 where
-  pub entry : w'.log ≡ w.log ++ op ∷ []
-  pub is_version : version ≡ length w.log + 1
-  pub is_made : id ≡ made (newest w) op
+-- the operation is the log's entry at this version, and the answer names the version after it and the id that it makes
+pub record IsEntryAt (log : List Op) (v : ℕ) (op : Op) (version : ℕ) (id : Made) : Type 0 where
+  pub entry : slice_get log v ≡ Some op
+  pub is_version : version ≡ v + 1
+  pub is_made : id ≡ made (table log v) op
 
 -- Core 0, with this table and this budget, refuses at once: by the first refusal that stands, or since it is out of memory, where
 -- staging asks for it.
@@ -52,6 +52,12 @@ abbrev pub HasReason : State → ℕ → Op → Veto → Type 0
 HasReason s budget op why =
     ((why ≡ veto.NoMemory) × AsksForMemory s budget op)
     ⊎ ((fault : StageFault) × Allowed s budget op (Some fault) × (why ≡ veto_of fault))
+
+-- What core 0 decides at once, with so many other cores, by its budget and the table at this version of the log: it commits where
+-- there is no other core, or it refuses.
+abbrev pub DecidesAtOnce : ℕ → ℕ → List Op → ℕ → Op → Decision → Type 0
+DecidesAtOnce others budget log v op (Committed version id) = (others ≡ 0) × IsEntryAt log v op version id
+DecidesAtOnce others budget log v op (Refused core why) = (core ≡ 0) × HasReason (table log v) budget op why
 
 -- every other core is asked, under a number that no operation had before
 pub record Prepares (events : List Done) (w : World) (op : Op) (requests : Requests) (w' : World) (txn : ℕ) : Type 0 where
@@ -75,24 +81,38 @@ requests_without w entry asker = record { waiting = slice_set w.requests.waiting
 -- a waiting request is refused at once, and its core is told so
 abbrev pub RepliesAtOnce : World → ℕ → Op → World → Decision → Type 0
 RepliesAtOnce w entry op w' (Committed version id) = ⊥
-RepliesAtOnce w entry op w' (Refused core why) = (core ≡ 0) × HasReason (newest w) w.budget op why
+RepliesAtOnce w entry op w' (Refused core why) = DecidesAtOnce (length w.peers) w.budget w.log (length w.log) op (Refused core why)
     × (w' ≡ record w { requests = requests_without w entry None; peers = sent_out w.peers (to_one entry (message.Reply (Refused core why))) })
 
--- another core's veto: it is the least core that did not vote Yes, and its vote gives the reason
-pub record HasVeto (events : List Done) (w : World) (txn : ℕ) (op : Op) (core : ℕ) (why : Veto) : Type 0 where
+-- all of so many other cores voted Yes
+abbrev pub AllVoteYes : ℕ → (ℕ → Option Vote) → Type 0
+AllVoteYes count votes = (entry : ℕ) → entry < count → votes entry ≡ Some vote.Yes
+
+-- Another core's veto, by the other cores' votes and budgets and the table that all have: it is the least core that did not vote Yes,
+-- and its vote gives the reason.
+pub record VetoedBy (votes : ℕ → Option Vote) (budgets : ℕ → Option ℕ) (s : State) (op : Op) (core : ℕ) (why : Veto) : Type 0 where
   pub entry : ℕ
   pub is_core : core ≡ suc entry
-  pub yes_before : (i : ℕ) → i < entry → vote_of (suc i) txn events ≡ Some vote.Yes
+  pub yes_before : AllVoteYes entry votes
   pub against : Vote
-  pub voted : vote_of core txn events ≡ Some against
+  pub voted : votes entry ≡ Some against
   pub budget : ℕ
-  pub is_budget : budget_at w core ≡ Some budget
-  pub reason : ((against ≡ vote.NoMemory) × (why ≡ veto.NoMemory) × AsksForMemory (newest w) budget op) ⊎ ((against ≡ vote.Budget) × (why ≡ veto.Budget) × (budget < instructions (after (newest w) op)))
+  pub is_budget : budgets entry ≡ Some budget
+  pub reason : ((against ≡ vote.NoMemory) × (why ≡ veto.NoMemory) × AsksForMemory s budget op) ⊎ ((against ≡ vote.Budget) × (why ≡ veto.Budget) × (budget < instructions (after s op)))
 
--- the votes decide: all are Yes, or one is a veto
-abbrev pub VotesDecide : List Done → World → ℕ → Op → World → Decision → Type 0
-VotesDecide events w txn op w' (Committed version id) = CommitsNext w op w' version id × ((i : ℕ) → i < length w.peers → vote_of (suc i) txn events ≡ Some vote.Yes)
-VotesDecide events w txn op w' (Refused core why) = HasVeto events w txn op core why × (w'.log ≡ w.log) × ((c : ℕ) → version_at w' c ≡ version_at w c)
+-- What so many other cores' votes decide, by their budgets and the table at this version of the log: all are Yes, or one is a veto.
+abbrev pub VotesDecide : ℕ → (ℕ → Option Vote) → (ℕ → Option ℕ) → List Op → ℕ → Op → Decision → Type 0
+VotesDecide others votes budgets log v op (Committed version id) = IsEntryAt log v op version id × AllVoteYes others votes
+VotesDecide others votes budgets log v op (Refused core why) = VetoedBy votes budgets (table log v) op core why
+
+-- the vote of the other core with this entry
+abbrev pub vote_by : List Done → ℕ → ℕ → Option Vote
+vote_by events txn entry = vote_of (suc entry) txn events
+
+-- a committed operation is the log's last entry now; a refusal changes no log and no version
+abbrev pub MakesChange : World → Op → World → Decision → Type 0
+MakesChange w op w' (Committed version id) = w'.log ≡ w.log ++ op ∷ []
+MakesChange w op w' (Refused core why) = (w'.log ≡ w.log) × ((c : ℕ) → version_at w' c ≡ version_at w c)
 
 -- some core's vote has not come
 pub record AwaitsVotes (w : World) : Type 0 where
@@ -104,12 +124,13 @@ pub record AwaitsVotes (w : World) : Type 0 where
 -- What is decided of a request after these events holds. Core 0 commits at once only where there is no other core.
 abbrev pub DecidesRightly : List Done → World → Event → World → Answer → Type 0
 DecidesRightly events w (Start op) w' (Prepared txn) = Prepares events w op w.requests w' txn
-DecidesRightly events w (Start op) w' (Decided (Committed version id)) = (w.peers ≡ []) × CommitsNext w op w' version id
-DecidesRightly events w (Start op) w' (Decided (Refused core why)) = (w' ≡ w) × (core ≡ 0) × HasReason (newest w) w.budget op why
+DecidesRightly events w (Start op) w' (Decided (Committed version id)) = (w'.log ≡ w.log ++ op ∷ []) × DecidesAtOnce (length w.peers) w.budget w'.log (length w.log) op (Committed version id)
+DecidesRightly events w (Start op) w' (Decided (Refused core why)) = (w' ≡ w) × DecidesAtOnce (length w.peers) w.budget w.log (length w.log) op (Refused core why)
 DecidesRightly events w (StartFor (suc entry)) w' (Prepared txn) = (op : Op) × IsWaiting events w entry op × Prepares events w op (requests_without w entry (Some (suc entry))) w' txn
 DecidesRightly events w (StartFor (suc entry)) w' (Decided decision) = (op : Op) × IsWaiting events w entry op × RepliesAtOnce w entry op w' decision
 DecidesRightly events w event w' (TookVote txn v None) = AwaitsVotes w' × (w'.log ≡ w.log)
-DecidesRightly events w event w' (TookVote txn v (Some decision)) = (core : ℕ) × (op : Op) × Begun events txn core op × VotesDecide events w txn op w' decision
+DecidesRightly events w event w' (TookVote txn v (Some decision)) = (core : ℕ) × (op : Op) × Begun events txn core op × MakesChange w op w' decision
+    × VotesDecide (length w.peers) (vote_by events txn) (λ entry. budget_at w (suc entry)) w'.log (length w.log) op decision
 DecidesRightly events w event w' answer = Unit {0}
 
 -- Replies
@@ -121,7 +142,7 @@ StandsAt version (Refused core why) = Unit {0}
 
 -- a committed operation is the entry of the log that the decision names, with its id
 abbrev pub IsEntered : List Op → Op → Decision → Type 0
-IsEntered log op (Committed version id) = (k : ℕ) × (version ≡ k + 1) × (slice_get log k ≡ Some op) × (id ≡ made (table log k) op)
+IsEntered log op (Committed version id) = (v : ℕ) × IsEntryAt log v op version id
 IsEntered log op (Refused core why) = Unit {0}
 
 -- A core that takes a Reply after these events takes the decision of its one request; where that is committed, the request is
