@@ -445,7 +445,7 @@ fn long_record_stays(rt: &impl Abort, alloc: Global) {
 #[test]
 fn copied_packet(rt: HostRuntime) {
     let packet = packet(&rt, rt.alloc(), &[1, 2, 3], 1514);
-    let copy = packet.copy(rt.alloc()).expect(&rt, "there is memory");
+    let copy = packet.clone().expect(&rt, "there is memory");
     equal(&rt, &copy, &packet);
     equal(&rt, copy.bytes.into_vec().as_slice(), &[1, 2, 3]);
     let none = Packets::from_vec(Vec::new(rt.alloc()));

@@ -225,7 +225,7 @@ fn copies(rt: HostRuntime) {
     equal(&rt, program.code(), &code[..]);
     equal(
         &rt,
-        program.copy(alloc).expect(&rt, "there is memory").code(),
+        program.clone().expect(&rt, "there is memory").code(),
         &code[..],
     );
     let places = Places::from_vec([0, 2].to_vec(alloc).expect(&rt, "there is memory"));

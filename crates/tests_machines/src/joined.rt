@@ -2,18 +2,20 @@
 
 ghost use Rattle.std.specs.Prelude.{◌≡◌, ◌<◌, ◌≤◌, ◌∷◌, [], ℕ, List, IfOk};
 ghost use Rattle.rx_queue.specs.Queue.{jobs_taken};
-ghost use Rattle.monitor_messages.specs.Coding.{HasShortProgram};
+ghost use Rattle.filter_table.specs.Tables.{HasShortProgram};
 ghost use Rattle.core_links.specs.RingSlots.{ring_view, own_of, AreJoinedLinks};
 ghost use Rattle.core_loop.specs.Standing.{IsSilent};
 ghost use Rattle.core_loop.specs.Cores.{AreShort};
 ghost use Rattle.core_join.specs.Machines.{HasPlace, IsMachine};
 
+use crate::facts::equal;
 use bpf_insn::{TextFault, read_ddd};
 use core_join::{Histories, conclude, in_order, merge};
 use core_loop::{Core, RingLinks, Stamped};
 use monitor_messages::{Decision, Vote};
-use pcap_reader::{Bytes, Packet};
+use pcap_reader::SharedPacket;
 use rx_queue::{Intake, Job, queue};
+use seq::Shared;
 use std::alloc::{AllocError, Global};
 use std::collections::VecDeque;
 use std::process::Abort;
@@ -97,10 +99,10 @@ fn outcome_of(answer: &Answer) -> Told {
 
 // The list has just these events.
 fn lists(rt: &impl Abort, list: &[Done], wanted: &[(Asked, Told)]) {
-    assert_eq!(rt; list.len(), wanted.len());
+    equal(rt, list.len(), wanted.len());
     for (done, wanted) in list.iter().zip(wanted.iter()) {
-        assert_eq!(rt; kind_of(&done.event), wanted.0);
-        assert_eq!(rt; outcome_of(&done.answer), wanted.1);
+        equal(rt, kind_of(&done.event), wanted.0);
+        equal(rt, outcome_of(&done.answer), wanted.1);
     }
 }
 
@@ -115,7 +117,7 @@ fn delivered(version: u64) -> Told {
 
 // A creation of a capability, and an installation of a filter under it.
 fn installation(alloc: Global) -> Result<VecDeque<Op>, TextFault> {
-    let program = Program::from_vec(read_ddd(alloc, ARP.as_bytes())?);
+    let program = Program::from_vec(alloc, read_ddd(alloc, ARP.as_bytes())?)?;
     let mut requests = VecDeque::new(alloc);
     requests.push_back(creation())?;
     requests.push_back(Op::Install {
@@ -149,10 +151,7 @@ fn intake(alloc: Global, number: u64) -> Result<Intake, AllocError>
     ensures { IfOk result (λ intake. jobs_taken intake ≡ []) }
 {
     let (mut port, intake) = queue(alloc, 1)?;
-    let packet = Packet {
-        bytes: Bytes::from_vec(REQUEST.to_vec(alloc)?),
-        original: 14,
-    };
+    let packet = SharedPacket::new(Shared::from_vec(alloc, REQUEST.to_vec(alloc)?)?, 14);
     let _ = port.put(Job {
         number,
         packet,

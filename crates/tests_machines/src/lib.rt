@@ -2,6 +2,8 @@
 #![tactic(auto)]
 
 #[cfg(test)]
+mod facts;
+#[cfg(test)]
 mod joined;
 #[cfg(test)]
 mod running;

@@ -4,13 +4,15 @@ ghost use Rattle.std.specs.Prelude.{◌≤◌, ◌<◌, ℕ, All, List, length, 
 ghost use Rattle.core_join.specs.Machines.{IsMachine};
 ghost use Rattle.core_threads.specs.Booting.{AreGivable};
 
+use crate::facts::{equal, holds};
 use bpf_insn::read_ddd;
 use core_join::{conclude, merge};
 use core_loop::{Core, RingLinks};
 use core_threads::{BootFault, Ended, Free, Gate, Halt, Machine, RunFault, boot, run_machine};
 use monitor_messages::{Decision, Veto, Vote};
-use pcap_reader::{Bytes, Packet};
+use pcap_reader::SharedPacket;
 use rx_queue::Job;
+use seq::Shared;
 use std::alloc::{AllocError, Global};
 use std::process::Abort;
 use std::sync::Wait;
@@ -32,10 +34,7 @@ fn job(alloc: Global, number: u64, floor: u64) -> Result<Job, Fail> {
     let bytes = Vec::from_slice(alloc, &[1, 2, 3, 4, 5])?;
     Ok(Job {
         number,
-        packet: Packet {
-            bytes: Bytes::from_vec(bytes),
-            original: 5,
-        },
+        packet: SharedPacket::new(Shared::from_vec(alloc, bytes)?, 5),
         floor,
     })
 }
@@ -60,7 +59,7 @@ fn requests(alloc: Global, cores: usize) -> Result<Vec<(u16, Op)>, Fail>
         Op::Install {
             domain: 1,
             cap: 1,
-            program: Program::from_vec(read_ddd(alloc, ALL.as_bytes())?),
+            program: Program::from_vec(alloc, read_ddd(alloc, ALL.as_bytes())?)?,
         },
     ))?;
     Ok(requests)
@@ -104,7 +103,7 @@ fn count_events<R: Threads + Wait + Clock + Sync>(rt: &R, alloc: Global) -> Resu
 #[test]
 fn what_two_cores_did_is_one_run(rt: HostRuntime) -> Result<(), Fail> {
     let count = count_events(&rt, rt.alloc())?;
-    assert_eq!(rt; count, 11);
+    equal(&rt, count, 11);
     Ok(())
 }
 
@@ -122,20 +121,20 @@ fn last_receipt(ended: &Ended, place: usize) -> Option<(u64, u64, usize, Option<
 }
 
 fn ends_as_worked(rt: &impl Abort, ended: &Ended, cores: usize) {
-    assert_eq!(rt; ended.halted, None);
-    assert_eq!(rt; ended.cores.len(), cores);
+    equal(rt, ended.halted, None);
+    equal(rt, ended.cores.len(), cores);
     for core in &ended.cores {
-        assert_eq!(rt; core.version(), 2);
-        assert_eq!(rt; core.pending(), 0);
+        equal(rt, core.version(), 2);
+        equal(rt, core.pending(), 0);
     }
     let kept = Kept {
         endpoint: 7,
         kept: 5,
     };
-    assert_eq!(rt; last_receipt(ended, 1), Some((1, 2, 1, Some(kept))));
-    assert_eq!(rt; ended.left.len(), 1);
+    equal(rt, last_receipt(ended, 1), Some((1, 2, 1, Some(kept))));
+    equal(rt, ended.left.len(), 1);
     let left = ended.left.first().map(|left| (left.0, left.1.number));
-    assert_eq!(rt; left, Some((1, 2)));
+    equal(rt, left, Some((1, 2)));
 }
 
 #[test]
@@ -170,10 +169,10 @@ fn a_core_halts_at_its_limit(rt: HostRuntime) -> Result<(), Fail> {
     jobs.push((0, job(alloc, 1, 0)?))?;
     let machine = boot(alloc, &[100], Vec::new(alloc))?;
     let ended = run_machine(&rt, alloc, machine, jobs, &Never, 1_000)?;
-    assert_eq!(rt; ended.halted, Some((0, Halt::Limit)));
+    equal(&rt, ended.halted, Some((0, Halt::Limit)));
     let left = ended.left.first().map(|left| (left.0, left.1.number));
-    assert_eq!(rt; left, Some((0, 1)));
-    assert_eq!(rt; ended.left.len(), 1);
+    equal(&rt, left, Some((0, 1)));
+    equal(&rt, ended.left.len(), 1);
     Ok(())
 }
 
@@ -218,11 +217,11 @@ fn two_cores_wait_for_each_other(rt: HostRuntime) -> Result<(), Fail> {
     };
     let machine = boot(alloc, &[100, 100], Vec::new(alloc))?;
     let ended = run_machine(&rt, alloc, machine, jobs, &gate, LIMIT)?;
-    assert_eq!(rt; ended.halted, None);
-    assert_eq!(rt; gate.met.load(Ordering::SeqCst), 2);
-    assert_eq!(rt; last_receipt(&ended, 0), Some((1, 0, 0, None)));
-    assert_eq!(rt; last_receipt(&ended, 1), Some((2, 0, 0, None)));
-    assert!(rt; ended.left.is_empty());
+    equal(&rt, ended.halted, None);
+    equal(&rt, gate.met.load(Ordering::SeqCst), 2);
+    equal(&rt, last_receipt(&ended, 0), Some((1, 0, 0, None)));
+    equal(&rt, last_receipt(&ended, 1), Some((2, 0, 0, None)));
+    holds(&rt, ended.left.is_empty());
     Ok(())
 }
 
@@ -230,9 +229,9 @@ fn two_cores_wait_for_each_other(rt: HostRuntime) -> Result<(), Fail> {
 fn a_machine_has_1_to_8_cores(rt: HostRuntime) -> Result<(), Fail> {
     let alloc = rt.alloc();
     let none = boot(alloc, &[], Vec::new(alloc));
-    assert_eq!(rt; none.err(), Some(BootFault::CoreCount));
+    equal(&rt, none.err(), Some(BootFault::CoreCount));
     let nine = boot(alloc, &[100; 9], Vec::new(alloc));
-    assert_eq!(rt; nine.err(), Some(BootFault::CoreCount));
+    equal(&rt, nine.err(), Some(BootFault::CoreCount));
     Ok(())
 }
 
@@ -291,13 +290,13 @@ fn ends_within<A: Abort>(rt: &A, alloc: Global, ended: Ended)
         halted,
     } = ended;
     if let Some((_, why)) = halted {
-        assert_eq!(rt; why, Halt::NoMemory);
+        equal(rt, why, Halt::NoMemory);
         drop((cores, left));
         return;
     }
-    assert!(rt; !left.is_empty() && left.len() <= 2);
+    holds(rt, !left.is_empty() && left.len() <= 2);
     if let Ok(list) = list_of(alloc, cores) {
-        assert!(rt; list.len() == 11 || lacked_memory(&list));
+        holds(rt, list.len() == 11 || lacked_memory(&list));
     }
 }
 
@@ -308,7 +307,7 @@ fn a_machine_with_a_refused_growth(rt: HostRuntime) -> Result<(), Fail> {
     let jobs = waiting_jobs(alloc, 2)?;
     match run_within(&rt, alloc, requests, jobs) {
         Ok(ended) => ends_within(&rt, alloc, ended),
-        Err(fault) => assert!(rt; matches!(fault, RunFault::NoMemory | RunFault::Spawn)),
+        Err(fault) => holds(&rt, matches!(fault, RunFault::NoMemory | RunFault::Spawn)),
     }
     Ok(())
 }

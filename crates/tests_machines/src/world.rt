@@ -7,11 +7,13 @@ mod refused_growths;
 mod sights;
 
 use self::sights::{after, places_of, sights};
+use crate::facts::{equal, holds};
 use bpf_insn::{TextFault, read_ddd};
 use endpoint_caps::{Cap, Rights};
 use monitor_2pc::{Decision, Veto, Vote};
-use pcap_reader::{Bytes, Packet};
-use std::alloc::Global;
+use pcap_reader::SharedPacket;
+use seq::Shared;
+use std::alloc::{AllocError, Global};
 use std::process::Abort;
 use std::test::Fail;
 use table_replica::{Kept, Made, Op, OpFault, Program};
@@ -60,7 +62,7 @@ pub(crate) const REQUEST: [u8; 14] = [
 ];
 
 fn program(alloc: Global, text: &str) -> Result<Program, TextFault> {
-    Ok(Program::from_vec(read_ddd(alloc, text.as_bytes())?))
+    Ok(Program::from_vec(alloc, read_ddd(alloc, text.as_bytes())?)?)
 }
 
 /// The operation, made once more where a growth is refused.
@@ -165,7 +167,7 @@ pub(crate) fn outcome<C: Channel>(rt: &impl Abort, world: &mut WorldOver<C>, eve
     if first != Told::Fault(WorldFault::NoMemory) {
         return first;
     }
-    assert_eq!(rt; sights(world), before);
+    equal(rt, sights(world), before);
     outcome_once(world, event)
 }
 
@@ -173,7 +175,7 @@ pub(crate) fn outcome<C: Channel>(rt: &impl Abort, world: &mut WorldOver<C>, eve
 fn does<C: Channel>(rt: &impl Abort, world: &mut WorldOver<C>, event: &Event, wanted: Told)
     requires { IsShortEvent event.now }
 {
-    assert_eq!(rt; outcome(rt, world, event), wanted);
+    equal(rt, outcome(rt, world, event), wanted);
 }
 
 /// What a request of core 0's own tells. Where core 0 has no memory for it nothing changes, and it is started again.
@@ -191,7 +193,7 @@ pub(crate) fn started<C: Channel>(
     if first != Told::Decided(refused(0, Veto::NoMemory)) {
         return first;
     }
-    assert_eq!(rt; sights(world), before);
+    equal(rt, sights(world), before);
     outcome_once(world, &start)
 }
 
@@ -203,7 +205,7 @@ fn start<C: Channel>(
     ask: Ask,
     wanted: Told,
 ) {
-    assert_eq!(rt; started(rt, alloc, world, ask), wanted);
+    equal(rt, started(rt, alloc, world, ask), wanted);
 }
 
 /// The core submits the creation of a capability by domain 1.
@@ -242,16 +244,17 @@ pub(crate) fn take<C: Channel>(
 }
 
 /// A packet of these bytes, made once more where a growth is refused.
-pub(crate) fn packet(rt: &impl Abort, alloc: Global, bytes: &[u8]) -> Packet {
+pub(crate) fn packet(rt: &impl Abort, alloc: Global, bytes: &[u8]) -> SharedPacket {
     let original = u32::try_from(bytes.len()).expect(rt, "the packet is short");
-    let bytes = match bytes.to_vec(alloc) {
+    let bytes = match shared(alloc, bytes) {
         Ok(bytes) => bytes,
-        Err(_) => bytes.to_vec(alloc).expect(rt, "there is memory"),
+        Err(_) => shared(alloc, bytes).expect(rt, "there is memory"),
     };
-    Packet {
-        bytes: Bytes::from_vec(bytes),
-        original,
-    }
+    SharedPacket::new(bytes, original)
+}
+
+fn shared(alloc: Global, bytes: &[u8]) -> Result<Shared<u8>, AllocError> {
+    Shared::from_vec(alloc, bytes.to_vec(alloc)?)
 }
 
 /// The core receives a packet of these bytes, at this version or later.
@@ -284,7 +287,7 @@ pub(crate) fn settled<C: Channel>(
     let before = places_of(world);
     let mut done = Vec::new(alloc);
     if world.settle(&mut done).is_err() {
-        assert_eq!(rt; places_of(world), after(before, &done));
+        equal(rt, places_of(world), after(before, &done));
         world.settle(&mut done).expect(rt, "there is memory");
     }
     done
@@ -323,10 +326,10 @@ fn is_take(event: &Event, wanted: &Taken) -> bool {
 
 /// The events are these takes.
 pub(crate) fn are_told(rt: &impl Abort, done: &[Done], wanted: &[Taken]) {
-    assert_eq!(rt; done.len(), wanted.len());
+    equal(rt, done.len(), wanted.len());
     for (done, wanted) in done.iter().zip(wanted.iter()) {
-        assert!(rt; is_take(&done.event, wanted));
-        assert_eq!(rt; tells(&done.answer), wanted.told);
+        holds(rt, is_take(&done.event, wanted));
+        equal(rt, tells(&done.answer), wanted.told);
     }
 }
 
@@ -352,14 +355,14 @@ fn shows<C: Channel>(
     instructions: u32,
 ) {
     let replica = world.replica(core).expect(rt, "there is such a core");
-    assert_eq!(rt; replica.version(), version);
-    assert_eq!(rt; replica.caps().list().len(), caps);
+    equal(rt, replica.version(), version);
+    equal(rt, replica.caps().list().len(), caps);
     let mut listed = replica.filters();
     for _ in 0..filters {
-        assert!(rt; listed.next().is_some());
+        holds(rt, listed.next().is_some());
     }
-    assert!(rt; listed.next().is_none());
-    assert_eq!(rt; replica.total_instructions(), instructions);
+    holds(rt, listed.next().is_none());
+    equal(rt, replica.total_instructions(), instructions);
 }
 
 /// The machine with these budgets, made once more where a growth is refused.
@@ -376,11 +379,11 @@ pub(crate) fn boot<C: Channel>(rt: &impl Abort, alloc: Global, budgets: &[u32]) 
 #[test]
 fn machines_have_one_to_eight_cores(rt: HostRuntime) -> Result<(), Fail> {
     let none = World::boot(rt.alloc(), &[]);
-    assert!(rt; matches!(none, Err(BootFault::CoreCount)));
+    holds(&rt, matches!(none, Err(BootFault::CoreCount)));
     let nine = World::boot(rt.alloc(), &[9; 9]);
-    assert!(rt; matches!(nine, Err(BootFault::CoreCount)));
+    holds(&rt, matches!(nine, Err(BootFault::CoreCount)));
     let eight = World::boot(rt.alloc(), &[9; 8]);
-    assert!(rt; eight.is_ok());
+    holds(&rt, eight.is_ok());
     Ok(())
 }
 
@@ -562,15 +565,15 @@ fn lists_cap<C: Channel>(rt: &impl Abort, world: &WorldOver<C>, rights: Rights) 
         rights,
         parent: None,
     };
-    assert_eq!(rt; replica.caps().list().first().copied(), Some(first));
+    equal(rt, replica.caps().list().first().copied(), Some(first));
 }
 
 /// Core 0 lists a first filter for endpoint 7, of this owner and under this capability.
 fn lists_filter<C: Channel>(rt: &impl Abort, world: &WorldOver<C>, owner: u16, cap: u32) {
     let replica = world.replica(0).expect(rt, "there is core 0");
     let filter = replica.filters().next().expect(rt, "there is a filter");
-    assert_eq!(rt; (filter.id, filter.owner), (1, owner));
-    assert_eq!(rt; (filter.cap, filter.endpoint), (cap, 7));
+    equal(rt, (filter.id, filter.owner), (1, owner));
+    equal(rt, (filter.cap, filter.endpoint), (cap, 7));
 }
 
 fn after_revoke<C: Channel>(
@@ -640,8 +643,8 @@ fn faults<C: Channel>(rt: &impl Abort, alloc: Global) {
     start_for(rt, &mut world, 0, no_core);
     start_for(rt, &mut world, 2, no_core);
     receive(rt, alloc, &mut world, 2, &[], 0, no_core);
-    assert!(rt; world.replica(2).is_none());
-    assert!(rt; world.waiting(2).is_none());
+    holds(rt, world.replica(2).is_none());
+    holds(rt, world.waiting(2).is_none());
 }
 
 #[test]
@@ -655,19 +658,20 @@ fn home<C: Channel>(rt: &impl Abort, alloc: Global) {
     start_for(rt, &mut world, 1, Told::Fault(WorldFault::NoneWaiting));
     submit(rt, &mut world, 1, 7, Told::Submitted);
     submit(rt, &mut world, 1, 7, Told::Fault(WorldFault::Outstanding));
-    assert!(rt; world.waiting(1).is_none());
+    holds(rt, world.waiting(1).is_none());
     take(rt, &mut world, 0, 1, Told::TookSubmit);
-    assert!(rt;
+    holds(
+        rt,
         matches!(
             world.waiting(1),
             Some(Op::Create {
                 domain: 1,
                 endpoint: 7
             })
-        )
+        ),
     );
     start_for(rt, &mut world, 1, Told::Prepared(1));
-    assert!(rt; world.waiting(1).is_none());
+    holds(rt, world.waiting(1).is_none());
     take(rt, &mut world, 1, 0, Told::TookPrepare(1, Vote::Yes));
     take(
         rt,
@@ -731,7 +735,7 @@ fn busy<C: Channel>(rt: &impl Abort, alloc: Global) {
             down(2, Told::TookReply(veto)),
         ],
     );
-    assert!(rt; world.waiting(1).is_some());
+    holds(rt, world.waiting(1).is_some());
     shows(rt, &world, 2, 0, 0, 0, 0);
 }
 

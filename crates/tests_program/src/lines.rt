@@ -4,7 +4,8 @@ use crate::facts::{equal, holds};
 use bpf_insn::Insn;
 use endpoint_caps::Rights;
 use monitor_messages::{Decision, Veto, Vote};
-use pcap_reader::{Bytes, Packet};
+use pcap_reader::SharedPacket;
+use seq::Shared;
 use sim_lines::{line_of, show_core};
 use std::alloc::Global;
 use std::process::Abort;
@@ -41,12 +42,9 @@ fn take(to: u16, from: u16) -> Event {
     }
 }
 
-fn rx(alloc: Global, core: u16, number: u64) -> Event {
-    let bytes = Bytes::from_vec(Vec::new(alloc));
-    let packet = Packet {
-        bytes,
-        original: 14,
-    };
+fn rx(rt: &impl Abort, alloc: Global, core: u16, number: u64) -> Event {
+    let bytes = Shared::from_vec(alloc, Vec::new(alloc)).expect(rt, "there is memory");
+    let packet = SharedPacket::new(bytes, 14);
     Event::Rx {
         core,
         number,
@@ -122,7 +120,7 @@ fn faults(rt: HostRuntime) {
             "startfor 1: fault NoneWaiting\n",
         ),
         (
-            rx(alloc, 1, 4),
+            rx(&rt, alloc, 1, 4),
             WorldFault::NotReady,
             "rx 1 4: fault NotReady\n",
         ),
@@ -264,7 +262,7 @@ fn packets(rt: HostRuntime) {
     prints(
         &rt,
         alloc,
-        rx(alloc, 1, 1),
+        rx(&rt, alloc, 1, 1),
         Ok(none),
         "rx 1 1: version 1 none\n",
     );
@@ -276,7 +274,7 @@ fn packets(rt: HostRuntime) {
     prints(
         &rt,
         alloc,
-        rx(alloc, 0, 2),
+        rx(&rt, alloc, 0, 2),
         Ok(one),
         "rx 0 2: version 2 7=14\n",
     );
@@ -286,7 +284,7 @@ fn packets(rt: HostRuntime) {
     };
     let two = delivered(&rt, alloc, 18_446_744_073_709_551_615, &[kept, most]);
     let wanted = "rx 0 3: version 18446744073709551615 7=14 65535=4294967295\n";
-    prints(&rt, alloc, rx(alloc, 0, 3), Ok(two), wanted);
+    prints(&rt, alloc, rx(&rt, alloc, 0, 3), Ok(two), wanted);
 }
 
 // A program of this many instructions that accepts packets.
@@ -307,7 +305,7 @@ fn program(rt: &impl Abort, alloc: Global, loads: usize) -> Program {
         ..load
     })
     .expect(rt, "there is memory");
-    Program::from_vec(code)
+    Program::from_vec(alloc, code).expect(rt, "there is memory")
 }
 
 fn change(rt: &impl Abort, alloc: Global, replica: &mut Replica, op: &Op) {

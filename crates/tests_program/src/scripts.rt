@@ -7,7 +7,8 @@ use filter_asm::{AsmFault, AsmFaultKind};
 use mk_script::ScriptFaultKind::{BadLine, BadNumber, NoCores, NoName, Twice};
 use mk_script::{BodyFault, Item, Script, ScriptFault, ScriptFaultKind, read_script};
 use pcap_reader::CaptureFault;
-use std::alloc::Global;
+use seq::Shared;
+use std::alloc::{AllocError, Global};
 use std::process::Abort;
 use std::test::Fail;
 use table_replica::Op;
@@ -21,18 +22,18 @@ static CAPTURE: [u8; 75] = [
     0, 0, 0, 0, 0, 0, 0, 0, 1, 0, 0, 0, 9, 0, 0, 0, 3, // third packet
 ];
 
+fn file(alloc: Global, bytes: &[u8]) -> Result<Shared<u8>, AllocError> {
+    Shared::from_vec(alloc, Vec::from_slice(alloc, bytes)?)
+}
+
 fn read(alloc: Global, text: &str, threads: bool) -> Option<Result<Script, ScriptFault>> {
     let bytes = text.as_bytes();
     if bytes.len() >= 1 << 20 {
         return None;
     }
     let mut files = Vec::new(alloc);
-    files
-        .push(Vec::from_slice(alloc, CAPTURE.as_slice()).ok()?)
-        .ok()?;
-    files
-        .push(Vec::from_slice(alloc, &CAPTURE[..70]).ok()?)
-        .ok()?;
+    files.push(file(alloc, &CAPTURE).ok()?).ok()?;
+    files.push(file(alloc, &CAPTURE[..70]).ok()?).ok()?;
     Some(read_script(alloc, bytes, &files, threads))
 }
 
@@ -264,8 +265,8 @@ fn event_words(alloc: Global, event: &Event) -> Option<String> {
             packet,
             floor,
         } => {
-            let len = packet.bytes.as_slice().len();
-            let original = packet.original;
+            let len = packet.bytes().len();
+            let original = packet.original();
             format!(in alloc; "rx {core} {number} {len} {original} {floor}")
         }
         _ => format!(in alloc; "other"),

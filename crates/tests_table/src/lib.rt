@@ -6,6 +6,8 @@ mod capabilities;
 #[cfg(test)]
 mod commit;
 #[cfg(test)]
+mod facts;
+#[cfg(test)]
 mod messages;
 #[cfg(test)]
 mod replica;

@@ -2,40 +2,66 @@
 ghost use Rattle.std.specs.Prelude.{◌≤◌, length};
 ghost use Rattle.monitor_messages.specs.Coding.{IsShort};
 
+use crate::facts::{equal, holds};
 use bpf_insn::Insn;
 use endpoint_caps::Rights;
 use monitor_messages::{Decision, DecodeFault, Message, Veto, Vote, decode, encode};
-use std::alloc::Global;
+use std::alloc::{AllocError, Global};
 use std::process::Abort;
 use std::test::Fail;
 use table_replica::{Made, Op, OpFault, Program};
 
 /// The bytes of the message under stamp 1 are these; they are read back, and so is a copy's. With a byte more, or with one
 /// less, they are no message.
-fn spelled(rt: &impl Abort, alloc: Global, message: &Message, body: &[u8]) -> Result<(), Fail>
+fn spelled(rt: &impl Abort, alloc: Global, message: &Message, body: &[u8])
     requires { IsShort message.now }
 {
-    let mut wanted = Vec::new(alloc);
-    let (kind, rest) = body.split_first().ok_or("a kind")?;
-    wanted.push(*kind)?;
-    wanted.extend_from_slice(&[1, 0, 0, 0, 0, 0, 0, 0])?;
-    wanted.extend_from_slice(rest)?;
-    let copy = message.copy(alloc)?;
-    let bytes = encode(alloc, 1, &copy)?;
-    assert_eq!(rt; bytes.as_slice(), wanted.as_slice());
-    let (stamp, read) = decode(alloc, &bytes)?;
-    assert_eq!(rt; stamp, 1);
-    assert_eq!(rt; encode(alloc, 1, &read)?.as_slice(), wanted.as_slice());
-    bad(rt, alloc, &bytes[..bytes.len() - 1]);
-    let mut more = bytes;
-    more.push(0)?;
-    bad(rt, alloc, &more);
-    Ok(())
+    let wanted = stamped(alloc, body).expect(rt, "there is memory");
+    copied(rt, alloc, message, &wanted);
+    read_back(rt, alloc, &wanted);
+    bad(rt, alloc, &wanted[..wanted.len().saturating_sub(1)]);
+    one_more(rt, alloc, wanted);
+}
+
+/// The bytes of a message, with stamp 1 after its kind.
+fn stamped(alloc: Global, body: &[u8]) -> Result<Vec<u8>, AllocError> {
+    let mut bytes = Vec::new(alloc);
+    let kind = body.len().min(1);
+    bytes.extend_from_slice(&body[..kind])?;
+    bytes.extend_from_slice(&[1, 0, 0, 0, 0, 0, 0, 0])?;
+    bytes.extend_from_slice(&body[kind..])?;
+    Ok(bytes)
+}
+
+/// A copy of the message has these bytes.
+fn copied(rt: &impl Abort, alloc: Global, message: &Message, wanted: &[u8])
+    requires { IsShort message.now }
+{
+    let copy = message.clone().expect(rt, "there is memory");
+    let bytes = encode(alloc, 1, &copy).expect(rt, "there is memory");
+    equal(rt, bytes.as_slice(), wanted);
+}
+
+/// The bytes are read as a message that has them.
+fn read_back(rt: &impl Abort, alloc: Global, wanted: &[u8]) {
+    let (stamp, read) = decode(alloc, wanted).expect(rt, "a message");
+    equal(rt, stamp, 1);
+    let bytes = encode(alloc, 1, &read).expect(rt, "there is memory");
+    equal(rt, bytes.as_slice(), wanted);
+}
+
+/// With a byte more they are no message.
+fn one_more(rt: &impl Abort, alloc: Global, mut bytes: Vec<u8>) {
+    bytes.push(0).expect(rt, "there is memory");
+    bad(rt, alloc, &bytes);
 }
 
 /// The bytes are no message.
 fn bad(rt: &impl Abort, alloc: Global, bytes: &[u8]) {
-    assert!(rt; matches!(decode(alloc, bytes), Err(DecodeFault::BadMessage)));
+    holds(
+        rt,
+        matches!(decode(alloc, bytes), Err(DecodeFault::BadMessage)),
+    );
 }
 
 fn insn(code: u16, jt: u8, jf: u8, k: u32) -> Insn {
@@ -51,7 +77,7 @@ fn reply(core: u16, why: Veto) -> Message
 }
 
 #[test]
-fn prepare_of_a_create(rt: HostRuntime) -> Result<(), Fail> {
+fn prepare_of_a_create(rt: HostRuntime) {
     let alloc = rt.alloc();
     let op = Op::Create {
         domain: 1,
@@ -59,41 +85,40 @@ fn prepare_of_a_create(rt: HostRuntime) -> Result<(), Fail> {
     };
     let message = Message::Prepare { txn: 1, op };
     let body = [1, 1, 0, 0, 0, 0, 0, 0, 0, 1, 1, 0, 7, 0];
-    spelled(&rt, alloc, &message, &body)
+    spelled(&rt, alloc, &message, &body);
 }
 
 #[test]
-fn reply_of_a_commit(rt: HostRuntime) -> Result<(), Fail> {
+fn reply_of_a_commit(rt: HostRuntime) {
     let alloc = rt.alloc();
     let decision = Decision::Committed {
         version: 1,
         made: Made::Cap(1),
     };
     let body = [7, 0, 1, 0, 0, 0, 0, 0, 0, 0, 1, 1, 0, 0, 0];
-    spelled(&rt, alloc, &Message::Reply { decision }, &body)
+    spelled(&rt, alloc, &Message::Reply { decision }, &body);
 }
 
 #[test]
-fn votes_and_outcomes(rt: HostRuntime) -> Result<(), Fail> {
+fn votes_and_outcomes(rt: HostRuntime) {
     let alloc = rt.alloc();
     let txn = 0x0807_0605_0403_0201;
     let numbered = [0, 1, 2, 3, 4, 5, 6, 7, 8];
     for (number, vote) in [(0, Vote::Yes), (1, Vote::Budget), (2, Vote::NoMemory)] {
         let body = [2, 1, 2, 3, 4, 5, 6, 7, 8, number];
-        spelled(&rt, alloc, &Message::Vote { txn, vote }, &body)?;
+        spelled(&rt, alloc, &Message::Vote { txn, vote }, &body);
     }
     let mut body = numbered;
     body[0] = 3;
-    spelled(&rt, alloc, &Message::Commit { txn }, &body)?;
+    spelled(&rt, alloc, &Message::Commit { txn }, &body);
     body[0] = 4;
-    spelled(&rt, alloc, &Message::Abort { txn }, &body)?;
+    spelled(&rt, alloc, &Message::Abort { txn }, &body);
     body[0] = 5;
-    spelled(&rt, alloc, &Message::Ack { txn }, &body)?;
-    Ok(())
+    spelled(&rt, alloc, &Message::Ack { txn }, &body);
 }
 
 #[test]
-fn operations(rt: HostRuntime) -> Result<(), Fail> {
+fn operations(rt: HostRuntime) {
     let alloc = rt.alloc();
     let (domain, cap, filter) = (0x0201, 0x0403_0201, 9);
     let rights = [(1, Rights::R), (2, Rights::M), (3, Rights::Rm)];
@@ -105,66 +130,68 @@ fn operations(rt: HostRuntime) -> Result<(), Fail> {
             rights,
         };
         let body = [6, 2, 1, 2, 1, 2, 3, 4, 5, 0, number];
-        spelled(&rt, alloc, &Message::Submit { op }, &body)?;
+        spelled(&rt, alloc, &Message::Submit { op }, &body);
     }
     let op = Op::Revoke { domain, cap };
     let body = [6, 3, 1, 2, 1, 2, 3, 4];
-    spelled(&rt, alloc, &Message::Submit { op }, &body)?;
+    spelled(&rt, alloc, &Message::Submit { op }, &body);
     let op = Op::DropCap { domain, cap };
     let body = [6, 4, 1, 2, 1, 2, 3, 4];
-    spelled(&rt, alloc, &Message::Submit { op }, &body)?;
+    spelled(&rt, alloc, &Message::Submit { op }, &body);
     let op = Op::Remove { domain, filter };
     let body = [6, 6, 1, 2, 9, 0, 0, 0];
-    spelled(&rt, alloc, &Message::Submit { op }, &body)?;
-    Ok(())
+    spelled(&rt, alloc, &Message::Submit { op }, &body);
 }
 
 #[test]
-fn operations_with_a_program(rt: HostRuntime) -> Result<(), Fail> {
-    let alloc = rt.alloc();
-    let (domain, cap, filter) = (1, 2, 9);
-    let code = vec![in alloc; insn(21, 1, 2, 0x0806), insn(6, 0, 0, 65535)]?;
+fn operations_with_a_program(rt: HostRuntime) {
+    install_of_two(&rt, rt.alloc());
+    replace_by_none(&rt, rt.alloc());
+}
+
+fn install_of_two(rt: &impl Abort, alloc: Global) {
     let op = Op::Install {
-        domain,
-        cap,
-        program: Program::from_vec(code),
+        domain: 1,
+        cap: 2,
+        program: two_instructions(rt, alloc),
     };
     let body = [
         6, 5, 1, 0, 2, 0, 0, 0, 2, 0, 21, 0, 1, 2, 6, 8, 0, 0, 6, 0, 0, 0, 255, 255, 0, 0,
     ];
-    spelled(&rt, alloc, &Message::Submit { op }, &body)?;
+    spelled(rt, alloc, &Message::Submit { op }, &body);
+}
+
+fn replace_by_none(rt: &impl Abort, alloc: Global) {
     let op = Op::Replace {
-        domain,
-        filter,
-        program: Program::from_vec(Vec::new(alloc)),
+        domain: 1,
+        filter: 9,
+        program: Program::from_vec(alloc, Vec::new(alloc)).expect(rt, "there is memory"),
     };
     let body = [6, 7, 1, 0, 9, 0, 0, 0, 0, 0];
-    spelled(&rt, alloc, &Message::Submit { op }, &body)?;
-    Ok(())
+    spelled(rt, alloc, &Message::Submit { op }, &body);
 }
 
 #[test]
-fn decisions(rt: HostRuntime) -> Result<(), Fail> {
+fn decisions(rt: HostRuntime) {
     let alloc = rt.alloc();
     let version = 2;
     let made = Made::Nothing;
     let message = Message::Reply {
         decision: Decision::Committed { version, made },
     };
-    spelled(&rt, alloc, &message, &[7, 0, 2, 0, 0, 0, 0, 0, 0, 0, 0])?;
+    spelled(&rt, alloc, &message, &[7, 0, 2, 0, 0, 0, 0, 0, 0, 0, 0]);
     let made = Made::Filter(3);
     let message = Message::Reply {
         decision: Decision::Committed { version, made },
     };
     let body = [7, 0, 2, 0, 0, 0, 0, 0, 0, 0, 2, 3, 0, 0, 0];
-    spelled(&rt, alloc, &message, &body)?;
-    spelled(&rt, alloc, &reply(1, Veto::Budget), &[7, 1, 1, 0, 0])?;
-    spelled(&rt, alloc, &reply(0, Veto::NoMemory), &[7, 1, 0, 0, 1])?;
-    Ok(())
+    spelled(&rt, alloc, &message, &body);
+    spelled(&rt, alloc, &reply(1, Veto::Budget), &[7, 1, 1, 0, 0]);
+    spelled(&rt, alloc, &reply(0, Veto::NoMemory), &[7, 1, 0, 0, 1]);
 }
 
 #[test]
-fn rules(rt: HostRuntime) -> Result<(), Fail> {
+fn rules(rt: HostRuntime) {
     let alloc = rt.alloc();
     let rules = [
         (1, OpFault::NoCap),
@@ -182,55 +209,80 @@ fn rules(rt: HostRuntime) -> Result<(), Fail> {
     ];
     for (number, fault) in rules {
         let message = reply(0, Veto::Rule(fault));
-        spelled(&rt, alloc, &message, &[7, 1, 0, 0, 2, number])?;
+        spelled(&rt, alloc, &message, &[7, 1, 0, 0, 2, number]);
     }
     for rule in [1, 10] {
         let fault = OpFault::BadProgram { rule, pc: 4095 };
         let body = [7, 1, 0, 0, 2, 17, rule, 255, 15];
-        spelled(&rt, alloc, &reply(0, Veto::Rule(fault)), &body)?;
+        spelled(&rt, alloc, &reply(0, Veto::Rule(fault)), &body);
     }
-    Ok(())
 }
 
 /// A program of 4,096 instructions is sent in 32,794 bytes, and one of 4,097 is not read.
 #[test]
-fn the_longest_message(rt: HostRuntime) -> Result<(), Fail> {
-    let alloc = rt.alloc();
+fn the_longest_message(rt: HostRuntime) {
+    let program = longest_sent(&rt, rt.alloc());
+    longest_replaces(&rt, rt.alloc(), program);
+}
+
+/// A program of 4,096 instructions.
+fn longest(rt: &impl Abort, alloc: Global) -> Program
+    ensures { length result ≤ 4096 }
+{
     let mut code = Vec::new(alloc);
     for k in 0..4096 {
-        code.push(insn(0, 0, 0, k))?;
+        code.push(insn(0, 0, 0, k)).expect(rt, "there is memory");
     }
     assert!(rt; code.len() <= 4096);
+    Program::from_vec(alloc, code).expect(rt, "there is memory")
+}
+
+/// The longest program is sent in a Prepare, and read back.
+fn longest_sent(rt: &impl Abort, alloc: Global) -> Program
+    ensures { length result ≤ 4096 }
+{
     let op = Op::Install {
         domain: 1,
         cap: 1,
-        program: Program::from_vec(code),
+        program: longest(rt, alloc),
     };
-    let bytes = encode(alloc, 1, &Message::Prepare { txn: 1, op })?;
-    assert_eq!(rt; bytes.len(), 32_794);
-    let (_, read) = decode(alloc, &bytes)?;
-    let Message::Prepare { txn, op } = read else {
-        return Err(Fail::from("a Prepare"));
-    };
-    assert_eq!(rt; txn, 1);
-    let Op::Install { program, .. } = op else {
-        return Err(Fail::from("an Install"));
-    };
-    let code = program.into_vec();
-    assert_eq!(rt; code.len(), 4096);
-    assert_eq!(rt; code[4095], insn(0, 0, 0, 4095));
-    let program = Program::from_vec(code);
+    let bytes = encode(alloc, 1, &Message::Prepare { txn: 1, op }).expect(rt, "there is memory");
+    equal(rt, bytes.len(), 32_794);
+    let program = installed(rt, alloc, &bytes);
+    let code = program.as_slice();
+    equal(rt, code.len(), 4096);
+    equal(rt, code.get(4095), Some(&insn(0, 0, 0, 4095)));
+    program
+}
+
+/// The program of the Install in a Prepare of number 1.
+fn installed(rt: &impl Abort, alloc: Global, bytes: &[u8]) -> Program
+    ensures { length result ≤ 4096 }
+{
+    let (_, read) = decode(alloc, bytes).expect(rt, "a message");
+    match read {
+        Message::Prepare {
+            txn: 1,
+            op: Op::Install { program, .. },
+        } => program,
+        _ => rt.abort(),
+    }
+}
+
+/// The program is sent in a Submit, and read back.
+fn longest_replaces(rt: &impl Abort, alloc: Global, program: Program)
+    requires { length program ≤ 4096 }
+{
     let op = Op::Replace {
         domain: 1,
         filter: 1,
         program,
     };
     let message = Message::Submit { op };
-    let bytes = encode(alloc, 1, &message.copy(alloc)?)?;
-    assert_eq!(rt; bytes.len(), 32_786);
-    let (_, read) = decode(alloc, &bytes)?;
-    assert_eq!(rt; encode(alloc, 1, &read)?.as_slice(), bytes.as_slice());
-    Ok(())
+    let copy = message.clone().expect(rt, "there is memory");
+    let bytes = encode(alloc, 1, &copy).expect(rt, "there is memory");
+    equal(rt, bytes.len(), 32_786);
+    read_back(rt, alloc, &bytes);
 }
 
 #[test]
@@ -303,7 +355,7 @@ fn decoded(rt: &impl Abort, alloc: Global, bytes: &[u8]) -> (u64, Message)
     match decode(alloc, bytes) {
         Ok(read) => read,
         Err(fault) => {
-            assert_eq!(rt; fault, DecodeFault::NoMemory);
+            equal(rt, fault, DecodeFault::NoMemory);
             decode(alloc, bytes).expect(rt, "there is memory")
         }
     }
@@ -313,10 +365,10 @@ fn decoded(rt: &impl Abort, alloc: Global, bytes: &[u8]) -> (u64, Message)
 fn spelled_again(rt: &impl Abort, alloc: Global, message: &Message, wanted: &[u8])
     requires { IsShort message.now }
 {
-    assert_eq!(rt; encoded(rt, alloc, message).as_slice(), wanted);
+    equal(rt, encoded(rt, alloc, message).as_slice(), wanted);
     let (stamp, read) = decoded(rt, alloc, wanted);
-    assert_eq!(rt; stamp, 1);
-    assert_eq!(rt; encoded(rt, alloc, &read).as_slice(), wanted);
+    equal(rt, stamp, 1);
+    equal(rt, encoded(rt, alloc, &read).as_slice(), wanted);
 }
 
 /// A program of two instructions, made once more where a growth is refused.
@@ -324,11 +376,16 @@ fn two_instructions(rt: &impl Abort, alloc: Global) -> Program
     ensures { length result ≤ 4096 }
 {
     let code = [insn(21, 1, 2, 0x0806), insn(6, 0, 0, 65535)];
-    let list = match code.to_vec(alloc) {
-        Ok(list) => list,
-        Err(_) => code.to_vec(alloc).expect(rt, "there is memory"),
-    };
-    Program::from_vec(list)
+    match shared(alloc, &code) {
+        Ok(program) => program,
+        Err(_) => shared(alloc, &code).expect(rt, "there is memory"),
+    }
+}
+
+fn shared(alloc: Global, code: &[Insn]) -> Result<Program, AllocError>
+    ensures { IfOk result (λ program. program ≡ code.now) }
+{
+    Program::from_vec(alloc, code.to_vec(alloc)?)
 }
 
 /// One growth may be refused, whichever it is: the call says so, and the same call again answers as with ample memory.

@@ -1,4 +1,5 @@
 //! The worked calls on a replica.
+use crate::facts::{equal, holds};
 use bpf_insn::{Insn, TextFault, read_ddd};
 use endpoint_caps::{Cap, Rights};
 use std::alloc::Global;
@@ -28,7 +29,7 @@ const THREE_LONG: &str = "3,0 0 0 0,7 0 0 0,6 0 0 64";
 
 /// The program of a decimal text.
 fn program(alloc: Global, text: &str) -> Result<Program, TextFault> {
-    Ok(Program::from_vec(read_ddd(alloc, text.as_bytes())?))
+    Ok(Program::from_vec(alloc, read_ddd(alloc, text.as_bytes())?)?)
 }
 
 fn op(alloc: Global, ask: Ask) -> Result<Op, TextFault> {
@@ -63,9 +64,9 @@ fn rule(fault: OpFault) -> Outcome {
 /// What the operation makes once it is committed, or why it is not staged; `stage` answers what `check` answered.
 fn outcome(rt: &impl Abort, alloc: Global, replica: &mut Replica, op: &Op) -> Outcome {
     let checked = replica.check(alloc, op);
-    assert_eq!(rt; replica.staged(), false);
-    assert_eq!(rt; replica.stage(alloc, op), checked);
-    assert_eq!(rt; replica.staged(), checked.is_ok());
+    equal(rt, replica.staged(), false);
+    equal(rt, replica.stage(alloc, op), checked);
+    equal(rt, replica.staged(), checked.is_ok());
     checked?;
     Ok(replica.commit().expect(rt, "the operation is staged"))
 }
@@ -73,7 +74,7 @@ fn outcome(rt: &impl Abort, alloc: Global, replica: &mut Replica, op: &Op) -> Ou
 /// The operation has this outcome.
 fn expects(rt: &impl Abort, alloc: Global, replica: &mut Replica, ask: Ask, wanted: Outcome) {
     let op = op(alloc, ask).expect(rt, "there is memory");
-    assert_eq!(rt; outcome(rt, alloc, replica, &op), wanted);
+    equal(rt, outcome(rt, alloc, replica, &op), wanted);
 }
 
 /// How many endpoints get a packet of so many bytes, and the first two.
@@ -98,20 +99,20 @@ fn keeps(endpoint: u16, kept: u32) -> Option<Kept> {
 fn lists(rt: &impl Abort, replica: &Replica, place: usize, id: u32, instructions: usize) {
     let mut filters = replica.filters();
     for _ in 0..place {
-        assert!(rt; filters.next().is_some());
+        holds(rt, filters.next().is_some());
     }
     let filter = filters.next().expect(rt, "the filter is listed");
-    assert_eq!(rt; filter.id, id);
-    assert_eq!(rt; filter.program.code().len(), instructions);
+    equal(rt, filter.id, id);
+    equal(rt, filter.program.code().len(), instructions);
 }
 
 /// So many filters are listed.
 fn lists_only(rt: &impl Abort, replica: &Replica, count: usize) {
     let mut filters = replica.filters();
     for _ in 0..count {
-        assert!(rt; filters.next().is_some());
+        holds(rt, filters.next().is_some());
     }
-    assert!(rt; filters.next().is_none());
+    holds(rt, filters.next().is_none());
 }
 
 #[test]
@@ -127,9 +128,9 @@ fn greatest_verdict(rt: &impl Abort, alloc: Global, replica: &mut Replica) {
     expects(rt, alloc, replica, Ask::Create(1, 7), Ok(Made::Cap(1)));
     expects(rt, alloc, replica, ten, Ok(Made::Filter(1)));
     expects(rt, alloc, replica, sixty, Ok(Made::Filter(2)));
-    assert_eq!(rt; handed(rt, alloc, replica, 64), (1, keeps(7, 60), None));
-    assert_eq!(rt; handed(rt, alloc, replica, 5), (1, keeps(7, 5), None));
-    assert_eq!(rt; replica.version(), 3);
+    equal(rt, handed(rt, alloc, replica, 64), (1, keeps(7, 60), None));
+    equal(rt, handed(rt, alloc, replica, 5), (1, keeps(7, 5), None));
+    equal(rt, replica.version(), 3);
 }
 
 /// The length that a packet had is the verdict, and no more than what was captured is kept.
@@ -144,7 +145,7 @@ fn captured(rt: &impl Abort, alloc: Global, replica: &mut Replica) {
     let length = Ask::Install(1, 1, "2,128 0 0 0,22 0 0 0");
     expects(rt, alloc, replica, Ask::Create(1, 7), Ok(Made::Cap(1)));
     expects(rt, alloc, replica, length, Ok(Made::Filter(1)));
-    assert_eq!(rt; handed(rt, alloc, replica, 60), (1, keeps(7, 60), None));
+    equal(rt, handed(rt, alloc, replica, 60), (1, keeps(7, 60), None));
 }
 
 #[test]
@@ -171,12 +172,12 @@ fn minted(rt: &impl Abort, alloc: Global, replica: &mut Replica) {
 }
 
 fn revoked(rt: &impl Abort, alloc: Global, replica: &mut Replica) {
-    assert_eq!(rt; handed(rt, alloc, replica, 5), (1, keeps(7, 5), None));
+    equal(rt, handed(rt, alloc, replica, 5), (1, keeps(7, 5), None));
     let revoke = Op::Revoke { domain: 1, cap: 1 };
-    assert_eq!(rt; replica.stage(alloc, &revoke), Ok(()));
-    assert_eq!(rt; handed(rt, alloc, replica, 5), (1, keeps(7, 5), None));
-    assert_eq!(rt; replica.commit(), Ok(Made::Nothing));
-    assert_eq!(rt; handed(rt, alloc, replica, 5), (0, None, None));
+    equal(rt, replica.stage(alloc, &revoke), Ok(()));
+    equal(rt, handed(rt, alloc, replica, 5), (1, keeps(7, 5), None));
+    equal(rt, replica.commit(), Ok(Made::Nothing));
+    equal(rt, handed(rt, alloc, replica, 5), (0, None, None));
     let install = Ask::Install(2, 2, ALL);
     expects(rt, alloc, replica, install, rule(OpFault::NoCap));
     expects(
@@ -189,7 +190,11 @@ fn revoked(rt: &impl Abort, alloc: Global, replica: &mut Replica) {
 }
 
 fn is_left(rt: &impl Abort, replica: &Replica) {
-    assert_eq!(rt; (replica.version(), replica.total_instructions()), (4, 1));
+    equal(
+        rt,
+        (replica.version(), replica.total_instructions()),
+        (4, 1),
+    );
     let first = Cap {
         id: 1,
         endpoint: 7,
@@ -197,13 +202,13 @@ fn is_left(rt: &impl Abort, replica: &Replica) {
         rights: Rights::Rm,
         parent: None,
     };
-    assert_eq!(rt; replica.caps().list().len(), 1);
-    assert_eq!(rt; replica.caps().get(1).copied(), Some(first));
+    equal(rt, replica.caps().list().len(), 1);
+    equal(rt, replica.caps().get(1).copied(), Some(first));
     lists_only(rt, replica, 1);
     let filter = replica.filters().next().expect(rt, "the filter is listed");
-    assert_eq!(rt; (filter.id, filter.owner), (1, 2));
-    assert_eq!(rt; (filter.cap, filter.endpoint), (2, 7));
-    assert_eq!(rt; filter.program.code().len(), 1);
+    equal(rt, (filter.id, filter.owner), (1, 2));
+    equal(rt, (filter.cap, filter.endpoint), (2, 7));
+    equal(rt, filter.program.code().len(), 1);
 }
 
 /// What `check` allows, `stage` stages; a copy of a program that is listed shows the same.
@@ -217,10 +222,10 @@ fn stages_what_check_allows(rt: HostRuntime) -> Result<(), Fail> {
 
 fn copies(rt: &impl Abort, alloc: Global, replica: &Replica) {
     let filter = replica.filters().next().expect(rt, "the filter is listed");
-    let copy = filter.program.copy(alloc).expect(rt, "there is memory");
-    assert_eq!(rt; copy.code(), filter.program.code());
+    let copy = filter.program.clone().expect(rt, "there is memory");
+    equal(rt, copy.code(), filter.program.code());
     let all = program(alloc, ALL).expect(rt, "there is memory");
-    assert_eq!(rt; copy.code(), all.as_slice());
+    equal(rt, copy.code(), all.as_slice());
 }
 
 #[test]
@@ -250,8 +255,12 @@ fn by_owner(rt: &impl Abort, alloc: Global, replica: &mut Replica) {
     expects(rt, alloc, replica, missing, rule(OpFault::NoFilter));
     expects(rt, alloc, replica, Ask::DropCap(1, 1), Ok(Made::Nothing));
     expects(rt, alloc, replica, without, rule(OpFault::NoCap));
-    assert_eq!(rt; (replica.version(), replica.total_instructions()), (6, 3));
-    assert_eq!(rt; replica.caps().list().len(), 0);
+    equal(
+        rt,
+        (replica.version(), replica.total_instructions()),
+        (6, 3),
+    );
+    equal(rt, replica.caps().list().len(), 0);
     lists_only(rt, replica, 1);
     lists(rt, replica, 0, 1, 3);
 }
@@ -299,16 +308,16 @@ fn in_order(rt: &impl Abort, alloc: Global, replica: &mut Replica) {
     lists(rt, replica, 1, 2, 1);
     lists(rt, replica, 2, 3, 1);
     let both = (2, keeps(3, 80), keeps(7, 64));
-    assert_eq!(rt; handed(rt, alloc, replica, 80), both);
+    equal(rt, handed(rt, alloc, replica, 80), both);
 }
 
 fn shared_again(rt: &impl Abort, alloc: Global, replica: &mut Replica) {
     let replace = Ask::Replace(1, 1, FIVE);
     expects(rt, alloc, replica, Ask::Remove(1, 2), Ok(Made::Nothing));
     expects(rt, alloc, replica, replace, Ok(Made::Nothing));
-    assert_eq!(rt; replica.distinct_programs(), 1);
+    equal(rt, replica.distinct_programs(), 1);
     let both = (2, keeps(3, 5), keeps(7, 5));
-    assert_eq!(rt; handed(rt, alloc, replica, 80), both);
+    equal(rt, handed(rt, alloc, replica, 80), both);
 }
 
 #[test]
@@ -347,8 +356,8 @@ fn fill_capabilities(rt: &impl Abort, alloc: Global, replica: &mut Replica) {
             domain: 1,
             endpoint,
         };
-        assert_eq!(rt; replica.stage(alloc, &create), Ok(()));
-        assert_eq!(rt; replica.commit(), Ok(Made::Cap(u32::from(endpoint) + 1)));
+        equal(rt, replica.stage(alloc, &create), Ok(()));
+        equal(rt, replica.commit(), Ok(Made::Cap(u32::from(endpoint) + 1)));
     }
     let more = Ask::Create(1, 1024);
     let again = Ask::Create(1, 0);
@@ -359,8 +368,8 @@ fn fill_capabilities(rt: &impl Abort, alloc: Global, replica: &mut Replica) {
 fn fill_filters(rt: &impl Abort, alloc: Global, replica: &mut Replica) {
     let five = op(alloc, Ask::Install(1, 1, FIVE)).expect(rt, "there is memory");
     for number in 0..1024u32 {
-        assert_eq!(rt; replica.stage(alloc, &five), Ok(()));
-        assert_eq!(rt; replica.commit(), Ok(Made::Filter(number + 1)));
+        equal(rt, replica.stage(alloc, &five), Ok(()));
+        equal(rt, replica.commit(), Ok(Made::Filter(number + 1)));
     }
     let more = Ask::Install(1, 1, FIVE);
     let long = Ask::Install(1, 1, "2,0 0 0 0,0 0 0 0");
@@ -371,12 +380,20 @@ fn fill_filters(rt: &impl Abort, alloc: Global, replica: &mut Replica) {
 
 fn last_filter(rt: &impl Abort, alloc: Global, replica: &mut Replica) {
     let five = op(alloc, Ask::Install(1, 1, FIVE)).expect(rt, "there is memory");
-    assert_eq!(rt; replica.stage(alloc, &five), Ok(()));
-    assert_eq!(rt; replica.stage(alloc, &five), Err(StageFault::AlreadyStaged));
-    assert_eq!(rt; replica.check(alloc, &five), Err(StageFault::AlreadyStaged));
-    assert_eq!(rt; replica.commit(), Ok(Made::Filter(1025)));
-    assert_eq!(rt; replica.commit(), Err(NothingStaged));
-    assert_eq!(rt; replica.abort(), Err(NothingStaged));
+    equal(rt, replica.stage(alloc, &five), Ok(()));
+    equal(
+        rt,
+        replica.stage(alloc, &five),
+        Err(StageFault::AlreadyStaged),
+    );
+    equal(
+        rt,
+        replica.check(alloc, &five),
+        Err(StageFault::AlreadyStaged),
+    );
+    equal(rt, replica.commit(), Ok(Made::Filter(1025)));
+    equal(rt, replica.commit(), Err(NothingStaged));
+    equal(rt, replica.abort(), Err(NothingStaged));
 }
 
 #[test]
@@ -389,8 +406,8 @@ fn equal_programs_are_kept_once(rt: HostRuntime) -> Result<(), Fail> {
 
 /// So many different programs are listed, with so many instructions of all filters together.
 fn counts(rt: &impl Abort, replica: &Replica, programs: usize, instructions: u32) {
-    assert_eq!(rt; replica.distinct_programs(), programs);
-    assert_eq!(rt; replica.total_instructions(), instructions);
+    equal(rt, replica.distinct_programs(), programs);
+    equal(rt, replica.total_instructions(), instructions);
 }
 
 fn kept_once(rt: &impl Abort, alloc: Global, replica: &mut Replica) {
@@ -414,17 +431,17 @@ fn kept_while_used(rt: &impl Abort, alloc: Global, replica: &mut Replica) {
 fn copies_are_equal(rt: HostRuntime) -> Result<(), Fail> {
     let alloc = rt.alloc();
     let first = op(alloc, Ask::Install(3, 4, THREE_LONG))?;
-    match first.copy(alloc)? {
+    match first.clone()? {
         Op::Install {
             domain,
             cap,
             program: copy,
         } => {
-            assert_eq!(rt; (domain, cap), (3, 4));
-            assert_eq!(rt; copy.as_slice(), program(alloc, THREE_LONG)?.as_slice());
-            assert_eq!(rt; copy.into_vec().len(), 3);
+            equal(&rt, (domain, cap), (3, 4));
+            equal(&rt, copy.as_slice(), program(alloc, THREE_LONG)?.as_slice());
+            equal(&rt, copy.as_slice().len(), 3);
         }
-        _ => assert!(rt; false),
+        _ => holds(&rt, false),
     }
     Ok(())
 }
@@ -453,7 +470,7 @@ fn breaks(
     rt: &impl Abort,
     alloc: Global,
     replica: &mut Replica,
-    code: Vec<Insn>,
+    code: &[Insn],
     rule_number: u8,
     pc: u16,
 ) {
@@ -461,12 +478,18 @@ fn breaks(
         rule: rule_number,
         pc,
     });
-    let install = Op::Install {
+    let install = installs(rt, alloc, code);
+    equal(rt, outcome(rt, alloc, replica, &install), wanted);
+}
+
+/// An Install of these instructions.
+fn installs(rt: &impl Abort, alloc: Global, code: &[Insn]) -> Op {
+    let code = code.to_vec(alloc).expect(rt, "there is memory");
+    Op::Install {
         domain: 1,
         cap: 1,
-        program: Program::from_vec(code),
-    };
-    assert_eq!(rt; outcome(rt, alloc, replica, &install), wanted);
+        program: Program::from_vec(alloc, code).expect(rt, "there is memory"),
+    }
 }
 
 fn insn(code: u16, jt: u8, jf: u8, k: u32) -> Insn {
@@ -474,81 +497,87 @@ fn insn(code: u16, jt: u8, jf: u8, k: u32) -> Insn {
 }
 
 /// So many instructions, the last of which is a return.
-fn long(alloc: Global, count: usize) -> Result<Vec<Insn>, Fail> {
-    let mut code = vec![in alloc; insn(135, 0, 0, 0); count.saturating_sub(1)]?;
-    code.push(insn(6, 0, 0, 5))?;
-    Ok(code)
+fn long(rt: &impl Abort, alloc: Global, count: usize) -> Vec<Insn> {
+    let mut code = vec![in alloc; insn(135, 0, 0, 0); count.saturating_sub(1)].expect(
+        rt,
+        "there is memory",
+    );
+    code.push(insn(6, 0, 0, 5)).expect(rt, "there is memory");
+    code
 }
+
+/// The number of a rule of the verifier with an instruction that breaks it in the middle of a program: its code, `jt` and `k`.
+const BROKEN: [(u8, u16, u8, u32); 7] = [
+    (3, 255, 0, 0),
+    (4, 52, 0, 0),
+    (5, 100, 0, 32),
+    (6, 2, 0, 16),
+    (7, 21, 9, 0),
+    (8, 48, 0, 0x8000_0000),
+    (10, 96, 0, 3),
+];
 
 /// Each rule of the verifier is named, with the place; there is memory for each answer.
 #[test]
 fn each_rule_is_named(rt: HostRuntime) -> Result<(), Fail> {
-    let alloc = rt.alloc();
-    let mut replica = Replica::new(alloc, 8192)?;
-    expects(
-        &rt,
-        alloc,
-        &mut replica,
-        Ask::Create(1, 7),
-        Ok(Made::Cap(1)),
-    );
-    breaks(&rt, alloc, &mut replica, Vec::new(alloc), 1, 0);
-    breaks(&rt, alloc, &mut replica, long(alloc, 4097)?, 2, 0);
-    for (number, broken) in [
-        (3, insn(255, 0, 0, 0)),
-        (4, insn(52, 0, 0, 0)),
-        (5, insn(100, 0, 0, 32)),
-        (6, insn(2, 0, 0, 16)),
-        (7, insn(21, 9, 0, 0)),
-        (8, insn(48, 0, 0, 0x8000_0000)),
-        (10, insn(96, 0, 0, 3)),
-    ] {
-        let code = [insn(0, 0, 0, 0), broken, insn(6, 0, 0, 5)];
-        breaks(&rt, alloc, &mut replica, code.to_vec(alloc)?, number, 1);
-    }
-    breaks(
-        &rt,
-        alloc,
-        &mut replica,
-        [insn(0, 0, 0, 7)].to_vec(alloc)?,
-        9,
-        0,
-    );
+    let mut replica = Replica::new(rt.alloc(), 8192)?;
+    creates(&rt, rt.alloc(), &mut replica);
+    whole_programs_break(&rt, rt.alloc(), &mut replica);
+    instructions_break(&rt, rt.alloc(), &mut replica);
     Ok(())
+}
+
+/// The capability that the programs below are installed under.
+fn creates(rt: &impl Abort, alloc: Global, replica: &mut Replica) {
+    expects(rt, alloc, replica, Ask::Create(1, 7), Ok(Made::Cap(1)));
+}
+
+/// Rules on the size and the end.
+fn whole_programs_break(rt: &impl Abort, alloc: Global, replica: &mut Replica) {
+    breaks(rt, alloc, replica, &[], 1, 0);
+    breaks(rt, alloc, replica, &[insn(0, 0, 0, 7)], 9, 0);
+    let too_long = long(rt, alloc, 4097);
+    breaks(rt, alloc, replica, &too_long, 2, 0);
+}
+
+/// Rules on one instruction.
+fn instructions_break(rt: &impl Abort, alloc: Global, replica: &mut Replica) {
+    for (number, code, jt, k) in BROKEN {
+        let broken = insn(code, jt, 0, k);
+        let code = [insn(0, 0, 0, 0), broken, insn(6, 0, 0, 5)];
+        breaks(rt, alloc, replica, &code, number, 1);
+    }
 }
 
 /// The longest program is staged, by an Install and by a Replace.
 #[test]
 fn the_longest_program(rt: HostRuntime) -> Result<(), Fail> {
-    let alloc = rt.alloc();
-    let mut replica = Replica::new(alloc, 4096)?;
-    expects(
-        &rt,
-        alloc,
-        &mut replica,
-        Ask::Create(1, 7),
-        Ok(Made::Cap(1)),
+    let mut replica = Replica::new(rt.alloc(), 4096)?;
+    creates(&rt, rt.alloc(), &mut replica);
+    longest_installed(&rt, rt.alloc(), &mut replica);
+    longest_replaces(&rt, rt.alloc(), &mut replica);
+    let kept = handed(&rt, rt.alloc(), &replica, 60);
+    equal(&rt, kept, (1, keeps(7, 5), None));
+    Ok(())
+}
+
+fn longest_installed(rt: &impl Abort, alloc: Global, replica: &mut Replica) {
+    let install = installs(rt, alloc, &long(rt, alloc, 4096));
+    equal(
+        rt,
+        outcome(rt, alloc, replica, &install),
+        Ok(Made::Filter(1)),
     );
-    let install = Op::Install {
-        domain: 1,
-        cap: 1,
-        program: Program::from_vec(long(alloc, 4096)?),
-    };
-    assert_eq!(rt;
-        outcome(&rt, alloc, &mut replica, &install),
-        Ok(Made::Filter(1))
-    );
+}
+
+fn longest_replaces(rt: &impl Abort, alloc: Global, replica: &mut Replica) {
+    let code = long(rt, alloc, 4096);
     let replace = Op::Replace {
         domain: 1,
         filter: 1,
-        program: Program::from_vec(long(alloc, 4096)?),
+        program: Program::from_vec(alloc, code).expect(rt, "there is memory"),
     };
-    assert_eq!(rt;
-        outcome(&rt, alloc, &mut replica, &replace),
-        Ok(Made::Nothing)
-    );
-    assert_eq!(rt; handed(&rt, alloc, &replica, 60), (1, keeps(7, 5), None));
-    Ok(())
+    equal(rt, outcome(rt, alloc, replica, &replace), Ok(Made::Nothing));
 }
 
 /// The last ids and the last version are given out.
@@ -569,15 +598,15 @@ fn the_last_ids(rt: HostRuntime) -> Result<(), Fail> {
     );
     expects(&rt, alloc, &mut replica, mint, Ok(Made::Cap(cap + 1)));
     expects(&rt, alloc, &mut replica, install, last);
-    assert_eq!(rt; replica.version(), u64::MAX);
+    equal(&rt, replica.version(), u64::MAX);
     Ok(())
 }
 
 fn aborts(rt: &impl Abort, alloc: Global, replica: &mut Replica) {
     let five = op(alloc, Ask::Install(1, 1, FIVE)).expect(rt, "there is memory");
-    assert_eq!(rt; replica.stage(alloc, &five), Ok(()));
-    assert_eq!(rt; replica.abort(), Ok(()));
-    assert_eq!(rt; (replica.version(), replica.budget()), (1, 9));
+    equal(rt, replica.stage(alloc, &five), Ok(()));
+    equal(rt, replica.abort(), Ok(()));
+    equal(rt, (replica.version(), replica.budget()), (1, 9));
     lists_only(rt, replica, 0);
 }
 
@@ -591,21 +620,22 @@ fn expects_again(
 ) -> Result<(), Fail> {
     let op = op(alloc, ask)?;
     if let Err(fault) = replica.check(alloc, &op) {
-        assert_eq!(rt; fault, StageFault::NoMemory);
+        equal(rt, fault, StageFault::NoMemory);
     }
     let shown = (replica.version(), replica.total_instructions());
     let counts = (replica.distinct_programs(), replica.caps().list().len());
     if let Err(fault) = replica.stage(alloc, &op) {
-        assert_eq!(rt; fault, StageFault::NoMemory);
-        assert_eq!(rt; replica.staged(), false);
-        assert_eq!(rt; (replica.version(), replica.total_instructions()), shown);
-        assert_eq!(rt;
+        equal(rt, fault, StageFault::NoMemory);
+        equal(rt, replica.staged(), false);
+        equal(rt, (replica.version(), replica.total_instructions()), shown);
+        equal(
+            rt,
             (replica.distinct_programs(), replica.caps().list().len()),
-            counts
+            counts,
         );
-        assert_eq!(rt; replica.stage(alloc, &op), Ok(()));
+        equal(rt, replica.stage(alloc, &op), Ok(()));
     }
-    assert_eq!(rt; replica.commit(), Ok(wanted));
+    equal(rt, replica.commit(), Ok(wanted));
     Ok(())
 }
 
@@ -642,10 +672,11 @@ fn accepts_again(rt: &impl Abort, alloc: Global, replica: &Replica) -> Result<()
         Ok(kept) => kept,
         Err(_) => replica.accepting(alloc, &[0; 8], 64)?,
     };
-    assert_eq!(rt;
+    equal(
+        rt,
         (kept.get(0).copied(), kept.get(1).copied()),
-        (keeps(3, 5), keeps(7, 6))
+        (keeps(3, 5), keeps(7, 6)),
     );
-    assert_eq!(rt; kept.len(), 2);
+    equal(rt, kept.len(), 2);
     Ok(())
 }

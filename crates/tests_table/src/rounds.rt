@@ -1,5 +1,6 @@
 //! Worked runs of two, three and four cores as calls, a message at a time.
 
+use crate::facts::{equal, holds};
 use bpf_insn::read_ddd;
 use endpoint_caps::Rights;
 use monitor_2pc::{Coordinator, Decision, Message, Participant, Say, StartFault, Step, Veto, Vote};
@@ -64,7 +65,7 @@ fn op(alloc: Global, ask: Ask) -> Result<Op, Fail> {
             Ok(Op::Replace {
                 domain: 1,
                 filter: 1,
-                program: Program::from_vec(code),
+                program: Program::from_vec(alloc, code)?,
             })
         }
         Ask::Install(text) => {
@@ -72,7 +73,7 @@ fn op(alloc: Global, ask: Ask) -> Result<Op, Fail> {
             Ok(Op::Install {
                 domain: 1,
                 cap: 1,
-                program: Program::from_vec(code),
+                program: Program::from_vec(alloc, code)?,
             })
         }
         _ => Ok(plain(ask)),
@@ -178,7 +179,7 @@ impl Peer {
 /// The endpoint, and what it keeps of the packet; there is one at most.
 fn delivered(rt: &impl Abort, alloc: Global, table: &Replica) -> Result<Option<Kept>, Fail> {
     let kept = table.accepting(alloc, &PACKET, 14)?;
-    assert!(rt; kept.len() < 2);
+    holds(rt, kept.len() < 2);
     Ok(kept.first().copied())
 }
 
@@ -202,7 +203,7 @@ fn votes(
 ) -> Result<Step, Fail> {
     let mut told = begun;
     for (from, peer) in (1..8).zip(peers.iter_mut()) {
-        assert!(rt; told.decided.is_none());
+        holds(rt, told.decided.is_none());
         let vote = peer.votes(alloc, told.txn, ask, from == short)?;
         told = home.hears(from, told.txn, vote)?;
     }
@@ -220,12 +221,12 @@ fn ends(
     let outcome = outcome(&decided);
     let mut told = decided;
     for (from, peer) in (1..8).zip(peers.iter_mut()) {
-        assert!(rt; !home.core.idle());
-        assert_eq!(rt; told.reply, None);
+        holds(rt, !home.core.idle());
+        equal(rt, told.reply, None);
         let txn = peer.ends(alloc, &outcome)?;
         told = home.hears_end(from, txn)?;
     }
-    assert!(rt; home.core.idle());
+    holds(rt, home.core.idle());
     Ok(told.reply)
 }
 
@@ -242,10 +243,10 @@ fn decides(
     if begun.decided.is_some() {
         return Ok(begun.decided);
     }
-    assert_eq!(rt; begun.say, Some(Say::Prepare));
+    equal(rt, begun.say, Some(Say::Prepare));
     let decided = votes(rt, alloc, home, peers, begun, ask, short)?;
     let reply = ends(rt, alloc, home, peers, decided)?;
-    assert_eq!(rt; reply, None);
+    equal(rt, reply, None);
     Ok(decided.decided)
 }
 
@@ -272,7 +273,7 @@ fn expects(
     wanted: Decision,
 ) -> Result<(), Fail> {
     let decided = decides(rt, alloc, home, peers, ask, 0)?;
-    assert_eq!(rt; decided, Some(wanted));
+    equal(rt, decided, Some(wanted));
     Ok(())
 }
 
@@ -286,16 +287,17 @@ fn expects_short(
     short: u16,
 ) -> Result<(), Fail> {
     let decided = decides(rt, alloc, home, peers, ask, short)?;
-    assert_eq!(rt; decided, Some(refused(short, Veto::NoMemory)));
+    equal(rt, decided, Some(refused(short, Veto::NoMemory)));
     Ok(())
 }
 
 /// All other cores are at this version, with so many instructions.
 fn are_at(rt: &impl Abort, peers: &[Peer], version: u64, instructions: u32) {
     for peer in peers {
-        assert_eq!(rt;
+        equal(
+            rt,
             (peer.table.version(), peer.table.total_instructions()),
-            (version, instructions)
+            (version, instructions),
         );
     }
 }
@@ -308,7 +310,7 @@ fn deliver(
     wanted: Option<Kept>,
 ) -> Result<(), Fail> {
     for peer in peers {
-        assert_eq!(rt; delivered(rt, alloc, &peer.table)?, wanted);
+        equal(rt, delivered(rt, alloc, &peer.table)?, wanted);
     }
     Ok(())
 }
@@ -332,14 +334,14 @@ fn in_two_phases(
     let install = Ask::Install(ARP);
     let begun = home.starts(alloc, install)?;
     let decided = votes(rt, alloc, home, peers, begun, install, 0)?;
-    assert_eq!(rt; decided.decided, Some(committed(2, Made::Filter(1))));
+    equal(rt, decided.decided, Some(committed(2, Made::Filter(1))));
     let whole = Some(Kept {
         endpoint: 7,
         kept: 14,
     });
-    assert_eq!(rt; delivered(rt, alloc, &home.table)?, whole);
+    equal(rt, delivered(rt, alloc, &home.table)?, whole);
     deliver(rt, alloc, peers, None)?;
-    assert_eq!(rt; ends(rt, alloc, home, peers, decided)?, None);
+    equal(rt, ends(rt, alloc, home, peers, decided)?, None);
     deliver(rt, alloc, peers, whole)
 }
 
@@ -389,7 +391,7 @@ fn agree(rt: &impl Abort, alloc: Global, home: &mut Home, peers: &mut [Peer]) ->
     ] {
         version = version.saturating_add(1);
         expects(rt, alloc, home, peers, ask, committed(version, made))?;
-        assert_eq!(rt; home.table.version(), version);
+        equal(rt, home.table.version(), version);
     }
     are_at(rt, peers, 7, 0);
     Ok(())
@@ -414,9 +416,9 @@ fn within_a_budget(
     let fits = committed(2, Made::Filter(1));
     expects(rt, alloc, home, peers, Ask::Create, made)?;
     expects(rt, alloc, home, peers, Ask::Install(ARP), over)?;
-    assert_eq!(rt; (home.table.version(), home.core.last()), (1, 2));
+    equal(rt, (home.table.version(), home.core.last()), (1, 2));
     expects(rt, alloc, home, peers, Ask::Install(THREE), fits)?;
-    assert_eq!(rt; home.core.last(), 3);
+    equal(rt, home.core.last(), 3);
     are_at(rt, peers, 2, 3);
     Ok(())
 }
@@ -427,7 +429,7 @@ fn a_short_core_is_a_veto(rt: HostRuntime) -> Result<(), Fail> {
     let mut home = Home::new(rt.alloc(), 9, 2)?;
     let mut peers = peers(rt.alloc(), &[9])?;
     expects_short(&rt, rt.alloc(), &mut home, &mut peers, Ask::Create, 1)?;
-    assert_eq!(rt; home.table.version(), 0);
+    equal(&rt, home.table.version(), 0);
     are_at(&rt, &peers, 0, 0);
     Ok(())
 }
@@ -438,8 +440,8 @@ fn submits(rt: &impl Abort, alloc: Global, home: &mut Home, peer: &mut Peer) -> 
         Ok(Message::Submit { op }) => home.core.submit(1, op)?,
         _ => return Err(Fail::from("a request")),
     }
-    assert!(rt; peer.core.outstanding());
-    assert!(rt; peer.core.submit(op(alloc, Ask::Create)?).is_err());
+    holds(rt, peer.core.outstanding());
+    holds(rt, peer.core.submit(op(alloc, Ask::Create)?).is_err());
     Ok(())
 }
 
@@ -457,7 +459,10 @@ fn are_answered(
     home: &mut Home,
     peer: &mut Peer,
 ) -> Result<(), Fail> {
-    assert!(rt; home.starts_for(alloc, 1) == Err(StartFault::NoneWaiting));
+    holds(
+        rt,
+        home.starts_for(alloc, 1) == Err(StartFault::NoneWaiting),
+    );
     submits(rt, alloc, home, peer)?;
     is_committed_for(rt, alloc, home, peer)?;
     submits(rt, alloc, home, peer)?;
@@ -471,14 +476,14 @@ fn is_committed_for(
     peer: &mut Peer,
 ) -> Result<(), Fail> {
     let begun = home.starts_for(alloc, 1)?;
-    assert_eq!(rt; (begun.say, begun.reply), (Some(Say::Prepare), None));
+    equal(rt, (begun.say, begun.reply), (Some(Say::Prepare), None));
     let vote = peer.votes(alloc, 1, Ask::Create, false)?;
     let decided = home.hears(1, 1, vote)?;
     let decision = committed(1, Made::Cap(1));
-    assert_eq!(rt; (decided.decided, decided.reply), (Some(decision), None));
+    equal(rt, (decided.decided, decided.reply), (Some(decision), None));
     let txn = peer.ends(alloc, &outcome(&decided))?;
     let reply = home.hears_end(1, txn)?.reply;
-    assert_eq!(rt; reply, Some((1, decision)));
+    equal(rt, reply, Some((1, decision)));
     is_replied(rt, peer, &decision);
     Ok(())
 }
@@ -491,14 +496,14 @@ fn is_refused_at_once(
 ) -> Result<(), Fail> {
     let decision = refused(0, Veto::Rule(OpFault::EndpointTaken));
     let reply = home.starts_for(alloc, 1)?.reply;
-    assert_eq!(rt; reply, Some((1, decision)));
+    equal(rt, reply, Some((1, decision)));
     is_replied(rt, peer, &decision);
     Ok(())
 }
 
 fn is_replied(rt: &impl Abort, peer: &mut Peer, decision: &Decision) {
-    assert!(rt; peer.core.reply(decision).is_ok());
-    assert!(rt; !peer.core.outstanding());
+    holds(rt, peer.core.reply(decision).is_ok());
+    holds(rt, !peer.core.outstanding());
 }
 
 /// What is decided, once more where memory was refused to one core: then nothing has changed.
@@ -517,7 +522,7 @@ fn decides_again(
                 ..
             },
         ) => {
-            assert_eq!(rt; home.table.version(), version);
+            equal(rt, home.table.version(), version);
             decides(rt, alloc, home, peers, ask, 0)
         }
         decided => Ok(decided),
@@ -539,9 +544,9 @@ fn refused_growths(
     peers: &mut [Peer],
 ) -> Result<(), Fail> {
     let made = decides_again(rt, alloc, home, peers, Ask::Create)?;
-    assert_eq!(rt; made, Some(committed(1, Made::Cap(1))));
+    equal(rt, made, Some(committed(1, Made::Cap(1))));
     let made = decides_again(rt, alloc, home, peers, Ask::Install(THREE))?;
-    assert_eq!(rt; made, Some(committed(2, Made::Filter(1))));
+    equal(rt, made, Some(committed(2, Made::Filter(1))));
     are_at(rt, peers, 2, 3);
     Ok(())
 }

@@ -24,7 +24,7 @@ fn program(rt: &impl Abort, alloc: Global, count: usize) -> Program
         };
         code.push(insn).expect(rt, "there is memory");
     }
-    Program::from_vec(code)
+    Program::from_vec(alloc, code).expect(rt, "there is memory")
 }
 
 /// The oldest message.

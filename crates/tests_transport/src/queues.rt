@@ -1,20 +1,20 @@
 ghost use Rattle.rx_queue.specs.Queue.{SameIntake, SamePort};
 
 use crate::facts::{equal, holds};
-use pcap_reader::{Bytes, Packet};
+use pcap_reader::SharedPacket;
 use rx_queue::{Intake, Job, Port, queue};
+use seq::Shared;
 use std::alloc::Global;
+use std::process::Abort;
 use std::sync::Wait;
 use std::thread;
 
 // A job with this number, whose packet has no byte.
-fn job(alloc: Global, number: u64) -> Job {
+fn job(rt: &impl Abort, alloc: Global, number: u64) -> Job {
+    let bytes = Shared::from_vec(alloc, Vec::new(alloc)).expect(rt, "there is memory");
     Job {
         number,
-        packet: Packet {
-            bytes: Bytes::from_vec(Vec::new(alloc)),
-            original: 60,
-        },
+        packet: SharedPacket::new(bytes, 60),
         floor: 0,
     }
 }
@@ -24,24 +24,28 @@ fn a_queue_of_one(rt: HostRuntime) {
     let alloc = rt.alloc();
     let (mut port, mut intake) = queue(alloc, 1).expect(&rt, "there is memory");
     holds(&rt, intake.front().is_none());
-    holds(&rt, port.put(job(alloc, 1)).is_ok());
-    let refused = port.put(job(alloc, 2));
-    equal(&rt, refused.err().map(|full| full.0), Some(job(alloc, 2)));
+    holds(&rt, port.put(job(&rt, alloc, 1)).is_ok());
+    let refused = port.put(job(&rt, alloc, 2));
+    equal(
+        &rt,
+        refused.err().map(|full| full.0),
+        Some(job(&rt, alloc, 2)),
+    );
     equal(&rt, intake.front().map(|job| job.number), Some(1));
-    equal(&rt, intake.next(), Some(job(alloc, 1)));
+    equal(&rt, intake.next(), Some(job(&rt, alloc, 1)));
     equal(&rt, intake.next(), None);
     intake.look();
     holds(&rt, intake.seen().is_none());
-    holds(&rt, port.put(job(alloc, 3)).is_ok());
+    holds(&rt, port.put(job(&rt, alloc, 3)).is_ok());
     holds(&rt, intake.seen().is_none());
     intake.look();
     equal(&rt, intake.seen().map(|job| job.number), Some(3));
-    equal(&rt, intake.rest(&mut port), Some(job(alloc, 3)));
+    equal(&rt, intake.rest(&mut port), Some(job(&rt, alloc, 3)));
     equal(&rt, intake.rest(&mut port), None);
 }
 
 // Puts jobs with the numbers from 0 on, and waits where the queue is full.
-fn put_all(rt: &impl Wait, alloc: Global, port: Port, count: u64) -> Port
+fn put_all<R: Wait + Abort>(rt: &R, alloc: Global, port: Port, count: u64) -> Port
     ensures { SamePort port result }
 {
     let mut port = port;
@@ -50,7 +54,7 @@ fn put_all(rt: &impl Wait, alloc: Global, port: Port, count: u64) -> Port
         if number >= count {
             return port;
         }
-        match port.put(job(alloc, number)) {
+        match port.put(job(rt, alloc, number)) {
             Ok(()) => number += 1,
             Err(_) => thread::yield_now(),
         }
@@ -92,7 +96,7 @@ fn jobs_go_from_thread_to_thread(rt: HostRuntime) {
     );
     equal(&rt, taken, 997);
     for number in 997..1_000 {
-        equal(&rt, intake.rest(&mut port), Some(job(alloc, number)));
+        equal(&rt, intake.rest(&mut port), Some(job(&rt, alloc, number)));
     }
     equal(&rt, intake.rest(&mut port), None);
 }

@@ -3,6 +3,7 @@
 ghost use Rattle.std.specs.Prelude.{◌≤◌, vec_len};
 
 use super::{core_of, create, job};
+use crate::facts::{equal, holds};
 use core_loop::{Cause, Core, ListLinks, Turn};
 use monitor_messages::{Message, encode};
 use rx_queue::{Port, queue};
@@ -20,7 +21,7 @@ fn commits(core: &mut Core<ListLinks>) -> bool {
 #[test]
 fn a_core_alone_commits(rt: HostRuntime) -> Result<(), Fail> {
     let (mut core, _port) = creator(rt.alloc(), 1)?;
-    assert!(rt; commits(&mut core));
+    holds(&rt, commits(&mut core));
     Ok(())
 }
 
@@ -39,8 +40,8 @@ fn receives(
 fn a_core_alone_receives(rt: HostRuntime) -> Result<(), Fail> {
     let alloc = rt.alloc();
     let (mut core, mut port) = creator(alloc, 1)?;
-    assert!(rt; commits(&mut core));
-    assert!(rt; receives(alloc, &mut core, &mut port)?);
+    holds(&rt, commits(&mut core));
+    holds(&rt, receives(alloc, &mut core, &mut port)?);
     Ok(())
 }
 
@@ -54,8 +55,8 @@ fn waits(alloc: Global, core: &mut Core<ListLinks>, port: &mut Port) -> Result<b
 fn a_job_for_a_later_version_waits(rt: HostRuntime) -> Result<(), Fail> {
     let alloc = rt.alloc();
     let (mut core, mut port) = creator(alloc, 1)?;
-    assert!(rt; commits(&mut core));
-    assert!(rt; waits(alloc, &mut core, &mut port)?);
+    holds(&rt, commits(&mut core));
+    holds(&rt, waits(alloc, &mut core, &mut port)?);
     Ok(())
 }
 
@@ -68,8 +69,8 @@ fn sends_and_waits(core: &mut Core<ListLinks>) -> bool {
 #[test]
 fn a_core_sends_one_request_and_waits(rt: HostRuntime) -> Result<(), Fail> {
     let (mut core, _port) = creator(rt.alloc(), 2)?;
-    assert!(rt; sends_and_waits(&mut core));
-    assert_eq!(rt; core.into_history().len(), 1);
+    holds(&rt, sends_and_waits(&mut core));
+    equal(&rt, core.into_history().len(), 1);
     Ok(())
 }
 
@@ -89,7 +90,7 @@ fn a_bad_message_stops_a_core(rt: HostRuntime) -> Result<(), Fail> {
     let alloc = rt.alloc();
     let stopped = Turn::Stopped(Cause::BadMessage);
     let found = turns_at(alloc, Vec::from_slice(alloc, &[9])?)?;
-    assert_eq!(rt; found, (stopped, stopped, 0, 0));
+    equal(&rt, found, (stopped, stopped, 0, 0));
     Ok(())
 }
 
@@ -99,7 +100,7 @@ fn a_message_that_comes_too_early_stops_a_core(rt: HostRuntime) -> Result<(), Fa
     let stopped = Turn::Stopped(Cause::Stranger);
     let commit = encode(alloc, 1, &Message::Commit { txn: 1 })?;
     let found = turns_at(alloc, commit)?;
-    assert_eq!(rt; found, (stopped, stopped, 0, 0));
+    equal(&rt, found, (stopped, stopped, 0, 0));
     Ok(())
 }
 
@@ -109,7 +110,7 @@ fn the_last_stamp_is_spent(rt: HostRuntime) -> Result<(), Fail> {
     let op = create();
     let prepare = encode(alloc, u64::MAX, &Message::Prepare { txn: 1, op })?;
     let found = turns_at(alloc, prepare)?;
-    assert_eq!(rt; found, (Turn::Spent, Turn::Spent, 0, 0));
+    equal(&rt, found, (Turn::Spent, Turn::Spent, 0, 0));
     Ok(())
 }
 
@@ -130,7 +131,7 @@ fn turn(rt: &impl Abort, core: &mut Core<ListLinks>) {
     let before = (core.history().len(), core.version(), core.pending());
     if core.turn(true) == Turn::NoMemory {
         let after = (core.history().len(), core.version(), core.pending());
-        assert_eq!(rt; before, after);
+        equal(rt, before, after);
     }
 }
 
@@ -141,7 +142,7 @@ fn a_core_alone_with_a_refused_growth(rt: HostRuntime) -> Result<(), Fail> {
     for _ in 0..4 {
         turn(&rt, &mut core);
     }
-    assert!(rt; core.idle() && core.pending() == 0);
-    assert_eq!(rt; core.history().len(), 1);
+    holds(&rt, core.idle() && core.pending() == 0);
+    equal(&rt, core.history().len(), 1);
     Ok(())
 }

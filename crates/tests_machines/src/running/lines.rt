@@ -4,6 +4,7 @@ ghost use Rattle.std.specs.Prelude.{ℕ, IfOk};
 ghost use Rattle.core_links.specs.RingSlots.{ring_view};
 ghost use Rattle.core_loop.specs.Standing.{IsSilent};
 
+use crate::facts::equal;
 use core_loop::{Cause, Core, LineFault, RingLinks, Turn};
 use rtrb::RingBuffer;
 use rx_queue::queue;
@@ -47,27 +48,27 @@ const BAD_MESSAGE: Turn = Turn::Stopped(Cause::BadMessage);
 #[test]
 fn a_line_out_of_sequence_stops_a_core(rt: HostRuntime) -> Result<(), Fail> {
     let found = turns_at(rt.alloc(), &[(4294967297, 5)])?;
-    assert_eq!(rt; found, (OUT_OF_SEQUENCE, OUT_OF_SEQUENCE, 0, 0));
+    equal(&rt, found, (OUT_OF_SEQUENCE, OUT_OF_SEQUENCE, 0, 0));
     Ok(())
 }
 
 #[test]
 fn a_bad_length_stops_a_core(rt: HostRuntime) -> Result<(), Fail> {
     let found = turns_at(rt.alloc(), &[(0, 0)])?;
-    assert_eq!(rt; found, (BAD_LENGTH, BAD_LENGTH, 0, 0));
+    equal(&rt, found, (BAD_LENGTH, BAD_LENGTH, 0, 0));
     Ok(())
 }
 
 #[test]
 fn a_bad_padding_stops_a_core(rt: HostRuntime) -> Result<(), Fail> {
     let found = turns_at(rt.alloc(), &[(4294967296, 261)])?;
-    assert_eq!(rt; found, (BAD_LENGTH, BAD_LENGTH, 0, 0));
+    equal(&rt, found, (BAD_LENGTH, BAD_LENGTH, 0, 0));
     Ok(())
 }
 
 #[test]
 fn bytes_that_are_no_message_stop_a_core(rt: HostRuntime) -> Result<(), Fail> {
     let found = turns_at(rt.alloc(), &[(4294967296, 9)])?;
-    assert_eq!(rt; found, (BAD_MESSAGE, BAD_MESSAGE, 0, 0));
+    equal(&rt, found, (BAD_MESSAGE, BAD_MESSAGE, 0, 0));
     Ok(())
 }

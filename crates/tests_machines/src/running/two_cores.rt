@@ -3,6 +3,7 @@
 ghost use Rattle.std.specs.Prelude.{◌≤◌, vec_len};
 
 use super::{carry, core_of, create, job};
+use crate::facts::{equal, holds};
 use bpf_insn::read_ddd;
 use core_loop::{Core, ListLinks, Stamped, Turn};
 use monitor_messages::{Decision, Message, Veto, Vote, encode};
@@ -60,7 +61,7 @@ fn core_0(alloc: Global, capacity: usize) -> Result<(Core<ListLinks>, Port), Fai
     let links = ListLinks::new(alloc, 0, 2, capacity)?;
     let mut requests = VecDeque::new(alloc);
     requests.push_back(create())?;
-    let program = Program::from_vec(read_ddd(alloc, b"1,6 0 0 65535")?);
+    let program = Program::from_vec(alloc, read_ddd(alloc, b"1,6 0 0 65535")?)?;
     requests.push_back(Op::Install {
         domain: 1,
         cap: 1,
@@ -149,10 +150,10 @@ fn commit_and_receive(
 ) -> Result<(), AllocError> {
     put_jobs(alloc, port)?;
     run(alloc, first, other)?;
-    assert!(rt; is_first(first));
-    assert!(rt; is_other(other));
-    assert!(rt; first.idle() && other.idle());
-    assert_eq!(rt; front(other), Some(2));
+    holds(rt, is_first(first));
+    holds(rt, is_other(other));
+    holds(rt, first.idle() && other.idle());
+    equal(rt, front(other), Some(2));
     Ok(())
 }
 
@@ -192,8 +193,8 @@ fn a_vote_waits_for_a_full_link(rt: HostRuntime) -> Result<(), Fail> {
     };
     let vote = encode(alloc, 2, &message)?;
     let (mut first, _port) = core_0(alloc, 1)?;
-    assert!(rt; starts(&mut first));
-    assert!(rt; waits_with(&mut first, vote));
+    holds(&rt, starts(&mut first));
+    holds(&rt, waits_with(&mut first, vote));
     Ok(())
 }
 
@@ -204,8 +205,8 @@ fn sure_turn(rt: &impl Abort, core: &mut Core<ListLinks>) {
         return;
     }
     let after = (core.history().len(), core.version(), core.pending());
-    assert_eq!(rt; before, after);
-    assert!(rt; core.turn(true) != Turn::NoMemory);
+    equal(rt, before, after);
+    holds(rt, core.turn(true) != Turn::NoMemory);
 }
 
 // Turns both cores, of which one may be refused memory once.
@@ -257,11 +258,11 @@ fn is_for_memory(decision: Decision) -> bool {
 
 // Both cores are done and agree. They did what they do with ample memory, unless one of them voted, or decided, that there was none.
 fn agree(rt: &impl Abort, first: &Core<ListLinks>, other: &Core<ListLinks>) {
-    assert!(rt; first.idle() && other.idle() && first.pending() == 0);
-    assert_eq!(rt; first.version(), other.version());
+    holds(rt, first.idle() && other.idle() && first.pending() == 0);
+    equal(rt, first.version(), other.version());
     if !lacked_memory(first.history()) && !lacked_memory(other.history()) {
-        assert!(rt; is_first(first));
-        assert!(rt; has(other.history(), OTHER.split_at(4).0));
+        holds(rt, is_first(first));
+        holds(rt, has(other.history(), OTHER.split_at(4).0));
     }
 }
 

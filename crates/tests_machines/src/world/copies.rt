@@ -2,6 +2,7 @@
 
 ghost use Rattle.world_core.specs.Refusals.{IsShortEvent};
 
+use crate::facts::{equal, holds};
 use crate::world::{ARP, Ask, REQUEST, boot, op, packet, tells};
 use monitor_2pc::{Message, Vote};
 use std::alloc::Global;
@@ -12,16 +13,16 @@ use world_core::{Answer, Channel, Done, Event, Messages, WorldOver};
 #[test]
 fn packets_are_copied(rt: HostRuntime) {
     let packet = packet(&rt, rt.alloc(), &REQUEST);
-    let copy = packet.copy(rt.alloc()).expect(&rt, "there is memory");
-    assert_eq!(&rt; copy, packet);
+    let copy = packet.clone().expect(&rt, "there is memory");
+    equal(&rt, copy, packet);
 }
 
 #[test]
 fn operations_are_copied(rt: HostRuntime) {
     for ask in [Ask::Create(1, 7), Ask::Install(1, 1, ARP)] {
         let op = op(&rt, rt.alloc(), ask);
-        let copy = op.copy(rt.alloc()).expect(&rt, "there is memory");
-        assert!(&rt; is_same_op(&copy, &op));
+        let copy = op.clone().expect(&rt, "there is memory");
+        holds(&rt, is_same_op(&copy, &op));
     }
 }
 
@@ -67,8 +68,8 @@ fn messages_are_copied(rt: HostRuntime) {
 }
 
 fn is_copied(rt: &impl Abort, alloc: Global, message: &Message) {
-    let copy = message.copy(alloc).expect(rt, "there is memory");
-    assert!(rt; is_same_message(&copy, message));
+    let copy = message.clone().expect(rt, "there is memory");
+    holds(rt, is_same_message(&copy, message));
 }
 
 fn is_same_message(one: &Message, other: &Message) -> bool {
@@ -138,10 +139,10 @@ fn does_copied<C: Channel>(rt: &impl Abort, alloc: Global, world: &mut WorldOver
     match world.apply(&event) {
         Ok(answer) => {
             let done = Done { event, answer };
-            let copy = done.copy(alloc).expect(rt, "there is memory");
-            assert!(rt; is_same_event(&copy.event, &done.event));
-            assert_eq!(rt; tells(&copy.answer), tells(&done.answer));
-            assert_eq!(rt; receivers(&copy.answer), receivers(&done.answer));
+            let copy = done.clone().expect(rt, "there is memory");
+            holds(rt, is_same_event(&copy.event, &done.event));
+            equal(rt, tells(&copy.answer), tells(&done.answer));
+            equal(rt, receivers(&copy.answer), receivers(&done.answer));
         }
         Err(_) => panic!(rt; "the event is done"),
     }

@@ -1,5 +1,6 @@
 //! Which messages are made ready: just those that are sent.
 
+use crate::facts::equal;
 use crate::world::{ARP, Ask, Told, boot, rule, settled, started};
 use monitor_2pc::Message;
 use std::alloc::{AllocError, Global};
@@ -61,23 +62,24 @@ fn taken<C: Channel>(
     number: u64,
     ask: Ask,
 ) -> usize {
-    assert_eq!(rt; started(rt, alloc, world, ask), Told::Prepared(number));
+    equal(rt, started(rt, alloc, world, ask), Told::Prepared(number));
     settled(rt, alloc, world).len()
 }
 
 fn sends_all<C: Channel>(rt: &impl Abort, alloc: Global) {
     let mut world: WorldOver<Sparing<C>> = boot(rt, alloc, &[9, 9, 9, 9, 9, 9, 9, 2]);
     // Prepare and Commit to each of seven cores, and a vote and an acknowledgement of each.
-    assert_eq!(rt; taken(rt, alloc, &mut world, 1, Ask::Create(1, 7)), 28);
+    equal(rt, taken(rt, alloc, &mut world, 1, Ask::Create(1, 7)), 28);
     // Core 7 votes against it: Abort takes the place of Commit.
-    assert_eq!(rt;
+    equal(
+        rt,
         taken(rt, alloc, &mut world, 2, Ask::Install(1, 1, ARP)),
-        28
+        28,
     );
     // What core 0 refuses at once is sent to nobody, and no message is left of it.
     let refused = started(rt, alloc, &mut world, Ask::Create(1, 7));
-    assert_eq!(rt; refused, Told::Decided(rule(OpFault::EndpointTaken)));
-    assert_eq!(rt; taken(rt, alloc, &mut world, 3, Ask::Create(1, 8)), 28);
+    equal(rt, refused, Told::Decided(rule(OpFault::EndpointTaken)));
+    equal(rt, taken(rt, alloc, &mut world, 3, Ask::Create(1, 8)), 28);
 }
 
 #[test]

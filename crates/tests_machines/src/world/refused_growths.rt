@@ -1,6 +1,7 @@
 //! The worked runs where one growth is refused, whichever it is. An event that it meets changes nothing and is done again; a core
 //! that has no memory for an operation refuses it, and then the request is begun again.
 
+use crate::facts::{equal, holds};
 use crate::world::sights::are_equal;
 use crate::world::{
     ARP, Ask, Told, are_told, boot, cap, down, one_core_ahead, outcome, refused, refused_at_once,
@@ -20,7 +21,7 @@ fn two_phases_with_a_refused_growth(rt: HostRuntime) {
 fn two_phase<C: Channel>(rt: &impl Abort, alloc: Global) {
     let mut world = boot::<C>(rt, alloc, &[100, 100]);
     if !is_created(rt, alloc, &mut world) {
-        assert!(rt; is_created(rt, alloc, &mut world));
+        holds(rt, is_created(rt, alloc, &mut world));
     }
     let txn = match installs(rt, alloc, &mut world) {
         Some(txn) => txn,
@@ -120,7 +121,7 @@ fn votes_yes<C: Channel>(rt: &impl Abort, world: &mut WorldOver<C>, txn: u64) ->
     if is_told == Told::TookPrepare(txn, Vote::Yes) {
         return true;
     }
-    assert_eq!(rt; is_told, Told::TookPrepare(txn, Vote::NoMemory));
+    equal(rt, is_told, Told::TookPrepare(txn, Vote::NoMemory));
     false
 }
 
@@ -168,9 +169,9 @@ fn creates_for<C: Channel>(
     submit(rt, world, 1, 7, Told::Submitted);
     submit(rt, world, 1, 7, Told::Fault(WorldFault::Outstanding));
     take(rt, world, 0, 1, Told::TookSubmit);
-    assert!(rt; world.waiting(1).is_some());
+    holds(rt, world.waiting(1).is_some());
     let begun = outcome(rt, world, &Event::StartFor { core: 1 });
-    assert!(rt; world.waiting(1).is_none());
+    holds(rt, world.waiting(1).is_none());
     match begun {
         Told::Prepared(txn) => {
             if votes_yes(rt, world, txn) {
@@ -180,7 +181,7 @@ fn creates_for<C: Channel>(
         }
         _ => {
             let none = refused(0, Veto::NoMemory);
-            assert_eq!(rt; begun, Told::Decided(none));
+            equal(rt, begun, Told::Decided(none));
             settles(rt, alloc, world, &[down(1, Told::TookReply(none))]);
         }
     }

@@ -1,5 +1,6 @@
 //! What the tests see of a world, to compare it with an earlier one.
 
+use crate::facts::equal;
 use monitor_2pc::{Decision, Vote};
 use std::process::Abort;
 use table_replica::Replica;
@@ -103,14 +104,14 @@ fn after_one(before: Places, answer: &Answer) -> Places {
 pub(crate) fn are_equal<C: Channel>(rt: &impl Abort, world: &WorldOver<C>) {
     let home = world.replica(0).expect(rt, "core 0");
     let peer = world.replica(1).expect(rt, "core 1");
-    assert_eq!(rt; (home.staged(), peer.staged()), (false, false));
-    assert_eq!(rt; peer.version(), home.version());
-    assert_eq!(rt; peer.caps().list(), home.caps().list());
-    assert_eq!(rt; peer.caps().next(), home.caps().next());
-    assert_eq!(rt; listed(peer), listed(home));
+    equal(rt, (home.staged(), peer.staged()), (false, false));
+    equal(rt, peer.version(), home.version());
+    equal(rt, peer.caps().list(), home.caps().list());
+    equal(rt, peer.caps().next(), home.caps().next());
+    equal(rt, listed(peer), listed(home));
     for (one, other) in peer.filters().zip(home.filters()) {
-        assert_eq!(rt; (one.id, one.owner), (other.id, other.owner));
-        assert_eq!(rt; (one.cap, one.endpoint), (other.cap, other.endpoint));
-        assert_eq!(rt; one.program.code(), other.program.code());
+        equal(rt, (one.id, one.owner), (other.id, other.owner));
+        equal(rt, (one.cap, one.endpoint), (other.cap, other.endpoint));
+        equal(rt, one.program.code(), other.program.code());
     }
 }
