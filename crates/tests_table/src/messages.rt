@@ -1,5 +1,5 @@
 //! Worked bytes of messages.
-ghost use Rattle.std.specs.Prelude.{◌≤◌, length};
+ghost use Rattle.std.specs.Prelude.{◌≡◌, ◌≤◌, length, IfOk};
 ghost use Rattle.monitor_messages.specs.Coding.{IsShort};
 
 use crate::facts::{equal, holds};
