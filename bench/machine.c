@@ -125,25 +125,25 @@ static size_t read_filter(const char *path)
     return count;
 }
 
-/* Long programs: a chain of conditional jumps, each with a store and a load of a scratch word. */
-static void long_program(size_t count)
+/* Long programs: a chain of conditional jumps, each with a store and, where it is asked for, a load of a scratch word. */
+static void long_program(size_t count, int loads)
 {
     for (size_t i = 0; i < count; i++)
         switch (i % 4) {
         case 0: code[i] = (struct bpf_insn){0x30, 0, 0, i % 100}; break;
         case 1: code[i] = (struct bpf_insn){0x02, 0, 0, i % 16}; break;
         case 2: code[i] = (struct bpf_insn){0x25, 0, 0, 128}; break;
-        case 3: code[i] = (struct bpf_insn){0x60, 0, 0, (i - 2) % 16}; break;
+        case 3: code[i] = (struct bpf_insn){loads ? 0x60 : 0x04, 0, 0, (i - 2) % 16}; break;
         }
     code[count - 1] = (struct bpf_insn){0x06, 0, 0, 5};
 }
 
-static void verify_time(size_t count)
+static void verify_time(size_t count, int loads)
 {
     const uint64_t *words = (const uint64_t *)code;
     uint32_t rounds = 4000000 / count + 1;
     double best = 1e30;
-    long_program(count);
+    long_program(count, loads);
     for (int r = 0; r < 11; r++) {
         double a = now();
         if (bench_verify(words, count, rounds) != rounds) {
@@ -159,8 +159,8 @@ static void verify_time(size_t count)
         if (!bpf_validate(code, count))
             exit(1);
     double theirs = (now() - start) / rounds;
-    printf("verify %4zu insns: %9.1f us, %.2f ns each (bpf_validate, which looks at each instruction alone: %.2f ns each)\n",
-        count, best / 1000, best / count, theirs / count);
+    printf("verify %4zu insns%s: %9.1f us, %.2f ns each (bpf_validate, which looks at each instruction alone: %.2f ns each)\n",
+        count, loads ? "" : " without a scratch load", best / 1000, best / count, theirs / count);
 }
 
 int main(int argc, char **argv)
@@ -183,7 +183,8 @@ int main(int argc, char **argv)
     }
     code[n++] = (struct bpf_insn){0x16, 0, 0, 0};
     compare("mixed", n);
-    for (size_t count = 64; count <= 4096; count *= 4)
-        verify_time(count);
+    for (int loads = 1; loads >= 0; loads--)
+        for (size_t count = 64; count <= 4096; count *= 4)
+            verify_time(count, loads);
     return 0;
 }
