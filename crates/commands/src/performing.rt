@@ -1,8 +1,10 @@
 //! Each request by its engine.
 
-ghost use Rattle.std.specs.Prelude.{◌≡◌, ℕ, List, [], false, map, IfErr, IfOk, IsErrOf};
+ghost use Rattle.std.specs.Prelude.{◌≡◌, ◌⊎◌, ℕ, List, [], true, false, IfErr, IfOk, IsErrOf};
 ghost use Rattle.std.specs.Io.KnownBytes.{Appends};
-ghost use Rattle.console.specs.Devices.{IsFresh};
+ghost use Rattle.console.specs.Devices.{EndsEarly, IsFresh};
+ghost use Rattle.run_engine.specs.Failing.{RunEndsEarly};
+ghost use Rattle.script_input.specs.Inputs.{AllFresh, AreReadInOrder, had};
 ghost use Rattle.commands.specs.Commands.{IsFailure, Shows, ShowsMatch, is_stream, reads_at, reads_of, takes_captures};
 
 use command_line::Request;
@@ -34,28 +36,34 @@ pub fn most_reads(request: &Request) -> u64
 /// Does what was asked for with the input and these captures, and answers the exit status: 0, or 1 where an input was refused. What it
 /// writes is the text of the command for what it read.
 ///
-/// Only `sim` and `run` take captures, and only `run` starts threads, whose receipts ask the gate. After a failure a front of the text may
-/// have been written; where a read failed, only by a stream.
-pub fn perform<T: Threads + Wait + Clock + Sync, G: Gate + Sync, R: Read, F: Read + Drop, W: Write>(
+/// Only `sim` and `run` take captures, which they read after the input and in order, and only `run` starts threads, whose receipts
+/// ask the gate. After a failure a front of the text may have been written; where a read failed, only by a stream. The records of
+/// the sources and of the sink say which of them failed.
+pub fn perform<T: Threads + Wait + Clock + Sync, G: Gate + Sync, R: Read, F: Read, W: Write>(
     rt: &T,
     alloc: Global,
     gate: &G,
     request: &Request,
-    captures: Vec<F>,
+    captures: &mut [Source<F>],
     reader: &mut Source<R>,
     writer: &mut Sink<W>,
 ) -> Result<u8, RunFailure>
     requires fresh { IsFresh reader.old (reads_of request.now) }
+    requires fresh_captures { AllFresh captures.old }
     requires good { writer.old.failed ≡ false }
     ensures shown { IfOk result (λ status. (text : List ℕ) × Appends (W.contents writer.old.inner) (W.contents writer.new.inner) text
-        × Shows request.now (map F.remaining captures.items) (R.remaining reader.old.inner) (R.remaining reader.new.inner) status text) }
+        × Shows request.now (had F.remaining captures.old) (R.remaining reader.old.inner) (R.remaining reader.new.inner) status text) }
+    ensures alone { takes_captures request.now ≡ false → captures.new ≡ captures.old }
+    ensures input_first { (reader.new.ended ≡ true) ⊎ (captures.new ≡ captures.old) }
+    ensures order { AreReadInOrder captures.old captures.new }
     ensures failure { IfErr result (IsFailure request.now) }
+    ensures cause { IfErr result (RunEndsEarly reader.new captures.new writer.new) }
     ensures silent { IsErrOf result (RunFailure.Engine EngineFault.ReadFailed) → is_stream request.now ≡ false → writer.new ≡ writer.old }
 {
     match request {
         Request::Sim { .. } => Ok(run_sim(alloc, captures, reader, writer)?),
         Request::Run { .. } => run_run(rt, alloc, gate, captures, reader, writer),
-        _ => perform_alone(alloc, request, reader, writer).map_err(RunFailure::Engine),
+        _ => Ok(perform_alone(alloc, request, reader, writer)?),
     }
 }
 
@@ -71,6 +79,7 @@ fn perform_alone<R: Read, W: Write>(
     requires good { writer.old.failed ≡ false }
     ensures shown { IfOk result (λ status. (text : List ℕ) × Appends (W.contents writer.old.inner) (W.contents writer.new.inner) text
         × Shows request.now [] (R.remaining reader.old.inner) (R.remaining reader.new.inner) status text) }
+    ensures cause { IfErr result (EndsEarly reader.new writer.new) }
     ensures silent { IsErrOf result EngineFault.ReadFailed → is_stream request.now ≡ false → writer.new ≡ writer.old }
 {
     match request {
@@ -99,6 +108,7 @@ fn perform_match<R: Read, W: Write>(
     requires good { writer.old.failed ≡ false }
     ensures shown { IfOk result (λ status. (text : List ℕ) × Appends (W.contents writer.old.inner) (W.contents writer.new.inner) text
         × ShowsMatch code.now pcap stream (R.remaining reader.old.inner) (R.remaining reader.new.inner) status text) }
+    ensures cause { IfErr result (EndsEarly reader.new writer.new) }
     ensures silent { IsErrOf result EngineFault.ReadFailed → stream ≡ false → writer.new ≡ writer.old }
 {
     if stream {

@@ -1,6 +1,5 @@
-//! Standard input and output and the files, each of which keeps why it failed.
+//! Standard input and output, each of which keeps why it failed.
 
-use std::fs::File;
 use std::io::{self, ErrorKind, Read, Stdin, Stdout, Write};
 
 /// Standard input, and why its last failed read failed.
@@ -32,38 +31,6 @@ impl Read for Input {
         if let Err(error) = &answer {
             self.fault = Some(error.kind());
         }
-        answer
-    }
-}
-
-/// A file of the command line, and whether a read of it failed.
-#[derive(Drop)]
-pub struct Named<'a> {
-    file: File,
-    name: &'a str,
-    failed: bool,
-}
-
-impl<'a> Named<'a> {
-    /// An open file of this name, of which nothing has been read.
-    pub fn new(file: File, name: &'a str) -> Named<'a> {
-        Named {
-            file,
-            name,
-            failed: false,
-        }
-    }
-
-    /// The file's name, where a read of it failed.
-    pub fn failed(&self) -> Option<&'a str> {
-        self.failed.then_some(self.name)
-    }
-}
-
-impl Read for Named<'_> {
-    fn read(&mut self, buffer: &mut [u8]) -> io::Result<usize> {
-        let answer = self.file.read(buffer);
-        self.failed = answer.is_err();
         answer
     }
 }

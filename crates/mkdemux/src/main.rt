@@ -5,9 +5,10 @@
 //! where nobody reads the output any more.
 #![tactic(auto)]
 
-ghost use Rattle.std.specs.Prelude.{◌≡◌, false};
+ghost use Rattle.std.specs.Prelude.{◌≡◌, IfOk, false};
 ghost use Rattle.console.specs.Devices.{IsFresh};
 ghost use Rattle.commands.specs.Commands.{reads_of};
+ghost use Rattle.script_input.specs.Inputs.{AllFresh};
 
 mod devices;
 mod progress;
@@ -17,10 +18,10 @@ use clap::Error;
 use clap::error::ErrorKind;
 use command_line::{Request, request_of};
 use commands::{most_reads, perform};
-use console::{EngineFault, Sink, Source};
+use console::{EngineFault, INPUT_READS, Sink, Source};
 use core_loop::Cause;
 use core_threads::{Free, Halt};
-use devices::{Input, Named, Output};
+use devices::{Input, Output};
 use progress::Progress;
 use run_engine::RunFailure;
 use std::fs::File;
@@ -76,8 +77,10 @@ fn answer_with<T: Threads + Wait + Clock + Sync>(
     rt: &HostRuntime,
     threads: &T,
     request: &Request,
-    mut files: Vec<Named>,
-) -> u8 {
+    mut files: Vec<Source<File>>,
+) -> u8
+    requires { AllFresh files.items }
+{
     invite(rt, request);
     let mut source = Source::new(Input::new(rt.stdin()), most_reads(request));
     let mut sink = Sink::new(Output::new(rt.stdout()));
@@ -86,6 +89,7 @@ fn answer_with<T: Threads + Wait + Clock + Sync>(
         Err(RunFailure::Engine(EngineFault::ReadFailed)) => not_read(
             rt,
             source.inner(),
+            request.captures(),
             files.as_slice(),
         ),
         Err(RunFailure::Engine(EngineFault::WriteFailed)) if sink.inner().is_closed() => FAILED,
@@ -104,19 +108,19 @@ fn performed<T: Threads + Wait + Clock + Sync>(
     rt: &HostRuntime,
     threads: &T,
     request: &Request,
-    files: &mut Vec<Named>,
+    files: &mut [Source<File>],
     source: &mut Source<Input>,
     sink: &mut Sink<Output>,
 ) -> Result<u8, RunFailure>
     requires fresh { IsFresh source.old (reads_of request.now) }
+    requires fresh_files { AllFresh files.old }
     requires good { sink.old.failed ≡ false }
 {
-    let lent = files.iter_mut().collect(rt.alloc())?;
     if !matches!(request, Request::Run { .. }) || !rt.stderr().is_terminal() {
-        return perform(threads, rt.alloc(), &Free, request, lent, source, sink);
+        return perform(threads, rt.alloc(), &Free, request, files, source, sink);
     }
     let progress = Progress::new(rt);
-    let answer = perform(threads, rt.alloc(), &progress, request, lent, source, sink);
+    let answer = perform(threads, rt.alloc(), &progress, request, files, source, sink);
     progress.end();
     answer
 }
@@ -170,13 +174,15 @@ enum OpenFault<'a> {
 }
 
 /// The files of these names, opened in order up to one that can't be.
-fn open_files<'a>(rt: &HostRuntime, names: &[&'a str]) -> Result<Vec<Named<'a>>, OpenFault<'a>> {
+fn open_files<'a>(rt: &HostRuntime, names: &[&'a str]) -> Result<Vec<Source<File>>, OpenFault<'a>>
+    ensures { IfOk result (λ files. AllFresh files.items) }
+{
     let mut files = Vec::new(rt.alloc());
     for name in names {
         let file = open_file(rt, name)?;
-        files
-            .push(Named::new(file, name))
-            .map_err(|_| OpenFault::NoMemory)?;
+        if files.push(Source::new(file, INPUT_READS)).is_err() {
+            return Err(OpenFault::NoMemory);
+        }
     }
     Ok(files)
 }
@@ -228,15 +234,15 @@ fn not_utf8(rt: &HostRuntime) -> u8 {
     USAGE
 }
 
-/// Says on standard error which input could not be read.
-fn not_read(rt: &HostRuntime, source: &Input, files: &[Named]) -> u8 {
-    match files.iter().find_map(|file| file.failed()) {
-        Some(name) => {
+/// Says on standard error which input could not be read: one of these files, or standard input.
+fn not_read(rt: &HostRuntime, input: &Input, names: &[&str], files: &[Source<File>]) -> u8 {
+    for (name, file) in names.iter().zip(files.iter()) {
+        if file.has_failed() {
             let _ = eprintln!(rt; "mkdemux: {name:?} can't be read");
-            FAILED
+            return FAILED;
         }
-        None => failed(rt, source.complaint()),
     }
+    failed(rt, input.complaint())
 }
 
 /// Says on standard error why the program ended early.

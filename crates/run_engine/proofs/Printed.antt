@@ -28,6 +28,3 @@ same_words (Start op) a = refl
 same_words (Submit core op) a = refl
 same_words (StartFor core) a = refl
 same_words (Rx core number packet floor) a = refl
-
-pub same_line : (s : Stamped) → done_line (listed s) ≡ event_line s.done.event (Ok s.done.answer)
-same_line s = ap (λ (words : List ℕ). words ++ codes ": " ++ answer_words s.done.answer ++ codes "\n") (same_words s.done.event s.done.answer)

@@ -1,3 +1,4 @@
 pub mod Work
 pub mod Showing
 pub mod Running
+pub mod Failing

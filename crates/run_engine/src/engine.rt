@@ -1,12 +1,13 @@
 //! `run`: runs a script on cores that are threads.
 
-ghost use Rattle.std.specs.Prelude.{◌≡◌, ◌<◌, ◌≤◌, ◌^◌, ◌⊎◌, ℕ, All, List, length, map, IfOk, IfErr, OnOk, string_bytes, false};
+ghost use Rattle.std.specs.Prelude.{◌≡◌, ◌<◌, ◌≤◌, ◌^◌, ◌⊎◌, ℕ, All, List, length, IfOk, IfErr, OnOk, string_bytes, true, false};
 ghost use Rattle.std.specs.Io.KnownBytes.{Appends};
 ghost use Rattle.console.specs.declared.input.TheConstants.{INPUT_READS};
 ghost use Rattle.console.specs.Devices.{IsFresh};
 ghost use Rattle.mk_script.specs.Limits.{HasLimits, IsLimited};
 ghost use Rattle.mk_script.specs.Threads.{IsForThreads, IsScriptForThreads};
-ghost use Rattle.script_input.specs.Inputs.{AreScriptInputs};
+ghost use Rattle.script_input.specs.Inputs.{AllFresh, AreReadInOrder, AreScriptInputs, NoneFailed, had};
+ghost use Rattle.run_engine.specs.Failing.{IsOfCores, RunEndsEarly, StopsRun};
 ghost use Rattle.run_engine.specs.Running.{HaveDone};
 ghost use Rattle.run_engine.specs.Showing.{Shows, ShowsRun, ShowsRunScript};
 
@@ -59,6 +60,10 @@ impl From<AllocError> for RunFailure {
 }
 
 impl From<RunFault> for RunFailure {
+    ghost use Rattle.run_engine.specs.Failing.{IsOfCores};
+
+    ghost from_gives = { λ _ failure. IsOfCores failure };
+
     fn from(fault: RunFault) -> RunFailure {
         match fault {
             RunFault::Spawn => RunFailure::Spawn,
@@ -76,19 +81,23 @@ impl From<RunFault> for RunFailure {
 ///
 /// Nothing is written before the run has ended, and nothing where it halted, or where an input or memory failed. Where a write
 /// fails, a front of the text may have been written.
-pub fn run_run<T: Threads + Wait + Clock + Sync, G: Gate + Sync, R: Read, F: Read + Drop, W: Write>(
+pub fn run_run<T: Threads + Wait + Clock + Sync, G: Gate + Sync, R: Read, F: Read, W: Write>(
     rt: &T,
     alloc: Global,
     gate: &G,
-    files: Vec<F>,
+    files: &mut [Source<F>],
     reader: &mut Source<R>,
     writer: &mut Sink<W>,
 ) -> Result<u8, RunFailure>
     requires fresh { IsFresh reader.old INPUT_READS }
+    requires fresh_files { AllFresh files.old }
     requires good { writer.old.failed ≡ false }
     ensures shown { IfOk result (λ status. (text : List ℕ) × Appends (W.contents writer.old.inner) (W.contents writer.new.inner) text
-        × ((input : List ℕ) × (inputs : List (List ℕ)) × AreScriptInputs (R.remaining reader.old.inner) (map F.remaining files.items) input inputs × Shows inputs input status text)) }
-    ensures good { OnOk result (writer.new.failed ≡ false) }
+        × ((input : List ℕ) × (inputs : List (List ℕ)) × AreScriptInputs (R.remaining reader.old.inner) (had F.remaining files.old) input inputs × Shows inputs input status text)) }
+    ensures script_first { (reader.new.ended ≡ true) ⊎ (files.new ≡ files.old) }
+    ensures order { AreReadInOrder files.old files.new }
+    ensures well { OnOk result ((reader.new.failed ≡ false) × NoneFailed files.new × (writer.new.failed ≡ false)) }
+    ensures cause { IfErr result (RunEndsEarly reader.new files.new writer.new) }
     ensures silent { IfErr result (λ failure. (failure ≡ RunFailure.Engine EngineFault.WriteFailed) ⊎ (writer.new ≡ writer.old)) }
 {
     let Some(inputs) = read_inputs(alloc, reader, files)? else {
@@ -110,6 +119,7 @@ fn run_text<T: Threads + Wait + Clock + Sync, G: Gate + Sync, W: Write>(
     requires good { writer.old.failed ≡ false }
     ensures shown { IfOk result (λ status. (text : List ℕ) × Appends (W.contents writer.old.inner) (W.contents writer.new.inner) text × ShowsRunScript (files.now) input.now status text) }
     ensures good { OnOk result (writer.new.failed ≡ false) }
+    ensures cause { IfErr result (StopsRun writer.new) }
     ensures silent { IfErr result (λ failure. (failure ≡ RunFailure.Engine EngineFault.WriteFailed) ⊎ (writer.new ≡ writer.old)) }
 {
     match read_script(alloc, input, files, true) {
@@ -131,6 +141,7 @@ fn run_script<T: Threads + Wait + Clock + Sync, G: Gate + Sync, W: Write>(
     requires good { writer.old.failed ≡ false }
     ensures shown { IfOk result (λ status. (status ≡ 0) × ((text : List ℕ) × Appends (W.contents writer.old.inner) (W.contents writer.new.inner) text × ShowsRun script text)) }
     ensures good { OnOk result (writer.new.failed ≡ false) }
+    ensures cause { IfErr result (StopsRun writer.new) }
     ensures silent { IfErr result (λ failure. (failure ≡ RunFailure.Engine EngineFault.WriteFailed) ⊎ (writer.new ≡ writer.old)) }
 {
     let text = text_of_run(rt, alloc, gate, script)?;
@@ -148,6 +159,7 @@ fn text_of_run<T: Threads + Wait + Clock + Sync, G: Gate + Sync>(
     requires limits { HasLimits script }
     requires threads { IsScriptForThreads script }
     ensures shown { IfOk result (λ text. ShowsRun script (string_bytes text)) }
+    ensures failure { IfErr result IsOfCores }
 {
     let Script { budgets, items } = script;
     let ended = run_cores(rt, alloc, gate, budgets.as_slice(), items.into_vec())?;
@@ -171,7 +183,8 @@ fn run_cores<T: Threads + Wait + Clock + Sync, G: Gate + Sync>(
     requires count { (1 ≤ length budgets.now) × (length budgets.now ≤ 8) }
     requires limited { All IsLimited items.items }
     requires at_cores { All (IsForThreads (length budgets.now)) items.items }
-    ensures { IfOk result (λ ended. HaveDone budgets.now items.items ended.cores.items ended.left.items) }
+    ensures done { IfOk result (λ ended. HaveDone budgets.now items.items ended.cores.items ended.left.items) }
+    ensures failure { IfErr result IsOfCores }
 {
     let Work { requests, jobs } = work_of(alloc, items, budgets.len())?;
     let machine = match boot(alloc, budgets, requests) {

@@ -1,7 +1,16 @@
--- What was read of a script and its files.
-use Rattle.std.specs.Prelude.{◌≡◌, ◌<◌, ◌≤◌, ◌++◌, ◌∷◌, ◌⊎◌, [], ℕ, ⊤, Bool, true, false, Option, Some, List, length, slice_get}
-use Rattle.console.specs.declared.input.TheConstants.{INPUT_BYTES}
+-- What was read of a script and its files, in which order, and why it ended early.
+use Rattle.std.specs.Prelude.{◌≡◌, ◌<◌, ◌≤◌, ◌++◌, ◌∷◌, ◌⊎◌, [], ℕ, ⊤, Bool, true, false, Option, Some, List, length, map, slice_get}
+use Rattle.console.specs.declared.fault.EngineFault.{EngineFault}
+use Rattle.console.specs.declared.fault.EngineFault.TheVariants.{ReadFailed, WriteFailed, NoMemory}
+use Rattle.console.specs.declared.input.TheConstants.{INPUT_BYTES, INPUT_READS}
+use Rattle.console.specs.declared.sink.Sink.{Sink}
+use Rattle.console.specs.declared.source.Source.{Source}
+use Rattle.console.specs.Devices.{CannotRead, IsFresh}
 use Rattle.console.specs.Reading.{IsInput}
+
+-- what the readers of these sources have, as far as that is known
+abbrev pub had : {F : Type 0} → (F → Option (List ℕ)) → List (Source F) → List (Option (List ℕ))
+had remaining files = map (λ file. remaining file.inner) files
 
 -- these are what the readers had, as far as that is known
 abbrev pub AreInputs : List (Option (List ℕ)) → List (List ℕ) → Type 0
@@ -26,11 +35,6 @@ abbrev pub Kept : Option (List ℕ) → List (List ℕ) → List (List ℕ) → 
 Kept known held held' true = (input : List ℕ) × (held' ≡ held ++ input ∷ []) × IsInput known input × (length input ≤ INPUT_BYTES)
 Kept known held held' false = (held' ≡ held) × ((input : List ℕ) × IsInput known input × (INPUT_BYTES < length input))
 
--- so far all were kept, or one is too long
-abbrev pub ReadSo : List (Option (List ℕ)) → List (List ℕ) → Bool → Type 0
-ReadSo known held false = AreInputs known held × AllWithin held
-ReadSo known held true = LongAmong known
-
 -- The script and its files
 
 -- these are the script and the files that the readers had, as far as that is known
@@ -48,3 +52,44 @@ SomeLong input files = (INPUT_BYTES < length input) ⊎ OneLonger files
 -- so it is with what the readers had
 abbrev pub HadLong : Option (List ℕ) → List (Option (List ℕ)) → Type 0
 HadLong known others = (input : List ℕ) × (files : List (List ℕ)) × AreScriptInputs known others input files × SomeLong input files
+
+-- The records of the files
+
+-- of each, nothing was read
+abbrev pub AllFresh : {F : Type 0} → List (Source F) → Type 0
+AllFresh files = (place : ℕ) → (file : Source _) → slice_get files place ≡ Some file → IsFresh file INPUT_READS
+
+-- those before one place were read to their ends, and those after it were not read
+pub record AreReadInOrder {F : Type 0} (old new : List (Source F)) : Type 0 where
+  pub place : ℕ
+  pub before : (earlier : ℕ) (file : Source F) → earlier < place → slice_get new earlier ≡ Some file → file.ended ≡ true
+  pub after : (later : ℕ) → place < later → slice_get new later ≡ slice_get old later
+
+-- no read of a file failed
+abbrev pub NoneFailed : {F : Type 0} → List (Source F) → Type 0
+NoneFailed files = (place : ℕ) → (file : Source _) → slice_get files place ≡ Some file → file.failed ≡ false
+
+-- a file can't be read
+pub record OneFails {F : Type 0} (files : List (Source F)) : Type 0 where
+  pub place : ℕ
+  pub file : Source F
+  pub there : slice_get files place ≡ Some file
+  pub fails : CannotRead file
+
+-- why the files aren't read through: one can't be read, or memory was refused while no read had failed
+abbrev pub StopsFiles : {F : Type 0} → List (Source F) → EngineFault → Type 0
+StopsFiles files ReadFailed = OneFails files
+StopsFiles files WriteFailed = ⊥
+StopsFiles files NoMemory = NoneFailed files
+
+-- the same of a script and its files
+abbrev pub StopsInputs : {R F : Type 0} → Source R → List (Source F) → EngineFault → Type 0
+StopsInputs script files ReadFailed = CannotRead script ⊎ OneFails files
+StopsInputs script files WriteFailed = ⊥
+StopsInputs script files NoMemory = (script.failed ≡ false) × NoneFailed files
+
+-- why an engine over a script, its files and a sink ended early
+abbrev pub ScriptEndsEarly : {R F W : Type 0} → Source R → List (Source F) → Sink W → EngineFault → Type 0
+ScriptEndsEarly script files sink ReadFailed = (CannotRead script ⊎ OneFails files) × (sink.failed ≡ false)
+ScriptEndsEarly script files sink WriteFailed = (script.failed ≡ false) × NoneFailed files × (sink.failed ≡ true)
+ScriptEndsEarly script files sink NoMemory = (script.failed ≡ false) × NoneFailed files × (sink.failed ≡ false)

@@ -1,50 +1,36 @@
 //! Reading a script's files.
 
-ghost use Rattle.std.specs.Prelude.{◌≡◌, ◌++◌, ◌∷◌, [], OnOk, Option, List, ℕ, map, IfOk, IfErr, MatchOption};
-ghost use Rattle.console.specs.Devices.{IsFresh};
+ghost use Rattle.std.specs.Prelude.{◌≡◌, ◌++◌, ◌∷◌, [], OnOk, Option, List, ℕ, IfOk, IfErr, MatchOption};
+ghost use Rattle.console.specs.Devices.{IsFresh, IsReadThrough, StopsReading};
 ghost use Rattle.console.specs.Reading.{IsReadFault};
-ghost use Rattle.console.specs.declared.input.TheConstants.{INPUT_READS};
-ghost use Rattle.script_input.specs.Inputs.{AllWithin, AreInputs, Kept, LongAmong, ReadSo};
+ghost use Rattle.console.specs.declared.input.TheConstants.{INPUT_BYTES, INPUT_READS};
+ghost use Rattle.script_input.specs.Inputs.{AllFresh, AllWithin, AreInputs, AreReadInOrder, Kept, LongAmong, NoneFailed, StopsFiles, had};
 
-use console::{EngineFault, INPUT_BYTES, INPUT_READS, Input, Source, read_bounded};
+use console::{EngineFault, INPUT_BYTES, Input, Source, read_bounded};
 use seq::Shared;
 use std::alloc::{AllocError, Global};
 use std::io::Read;
 
 /// What the files hold, in order, or `None` where one is too long; those after it are not read.
-pub(crate) fn read_files<F: Read + Drop>(
+pub(crate) fn read_files<F: Read>(
     alloc: Global,
-    files: Vec<F>,
+    files: &mut [Source<F>],
 ) -> Result<Option<Vec<Shared<u8>>>, EngineFault>
-    ensures read { IfOk result (λ read. MatchOption read (LongAmong (map F.remaining files.items))
-        (λ held. AreInputs (map F.remaining files.items) (held.items) × AllWithin (held.items))) }
+    requires { AllFresh files.old }
+    ensures read { IfOk result (λ read. MatchOption read (LongAmong (had F.remaining files.old))
+        (λ held. AreInputs (had F.remaining files.old) held.items × AllWithin held.items)) }
+    ensures order { AreReadInOrder files.old files.new }
     ensures fault { IfErr result IsReadFault }
+    ensures good { OnOk result (NoneFailed files.new) }
+    ensures cause { IfErr result (StopsFiles files.new) }
 {
     let mut held = Vec::new(alloc);
-    let mut long = false;
-    for file in files {
-        long = keep_unless(alloc, long, file, &mut held)?;
+    'files: for place in 0..files.len() {
+        if !keep(alloc, &mut files[place], &mut held)? {
+            return Ok(None);
+        }
     }
-    if long { Ok(None) } else { Ok(Some(held)) }
-}
-
-/// Reads one file, unless one before it is too long, and tells whether one is now.
-fn keep_unless<F: Read + Drop>(
-    alloc: Global,
-    long: bool,
-    file: F,
-    held: &mut Vec<Shared<u8>>,
-) -> Result<bool, EngineFault>
-    ensures read { IfOk result (λ now. (known : List (Option (List ℕ))) → ReadSo known (held.old.items) long
-        → ReadSo (known ++ F.remaining file ∷ []) (held.new.items) now) }
-    ensures fault { IfErr result IsReadFault }
-{
-    if long {
-        return Ok(true);
-    }
-    let mut source = Source::new(file, INPUT_READS);
-    let whole = keep(alloc, &mut source, held)?;
-    Ok(!whole)
+    Ok(Some(held))
 }
 
 /// Reads one file, and tells whether it was not too long.
@@ -55,7 +41,9 @@ fn keep<F: Read>(
 ) -> Result<bool, EngineFault>
     requires { IsFresh source.old INPUT_READS }
     ensures kept { IfOk result (Kept (F.remaining source.old.inner) (held.old.items) (held.new.items)) }
+    ensures record { IfOk result (IsReadThrough source.new INPUT_BYTES) }
     ensures fault { IfErr result IsReadFault }
+    ensures cause { IfErr result (StopsReading source.new) }
 {
     match read_bounded(alloc, source, INPUT_BYTES)? {
         Input::Whole(bytes) => {

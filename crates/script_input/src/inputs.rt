@@ -1,10 +1,10 @@
 //! Reading a script and its files.
 
-ghost use Rattle.std.specs.Prelude.{◌≡◌, ◌≤◌, map, IfOk, IfErr, IsErrOf, OnOk, MatchOption, false};
+ghost use Rattle.std.specs.Prelude.{◌≡◌, ◌≤◌, ◌⊎◌, IfOk, IfErr, OnOk, MatchOption, true, false};
 ghost use Rattle.console.specs.declared.input.TheConstants.{INPUT_READS};
 ghost use Rattle.console.specs.Devices.{IsFresh};
 ghost use Rattle.console.specs.Reading.{IsReadFault, most_taken};
-ghost use Rattle.script_input.specs.Inputs.{AllShort, AreScriptInputs, HadLong};
+ghost use Rattle.script_input.specs.Inputs.{AllFresh, AllShort, AreReadInOrder, AreScriptInputs, HadLong, NoneFailed, StopsInputs, had};
 
 use crate::files::read_files;
 use console::{EngineFault, INPUT_BYTES, Input, Source, read_bounded};
@@ -20,20 +20,23 @@ pub struct Inputs {
     pub files: Vec<Shared<u8>>,
 }
 
-/// Reads the script to its end, then each file in order. Answers `None` as soon as one is longer than 64 MiB, and `ReadFailed`
-/// where a read fails or an input takes more reads than its limit.
-pub fn read_inputs<R: Read, F: Read + Drop>(
+/// Reads the script to its end, then each file to its end in order. Answers `None` as soon as one is longer than 64 MiB, and
+/// `ReadFailed` where a read fails or an input takes more reads than its limit; nothing after it is read then.
+pub fn read_inputs<R: Read, F: Read>(
     alloc: Global,
     reader: &mut Source<R>,
-    files: Vec<F>,
+    files: &mut [Source<F>],
 ) -> Result<Option<Inputs>, EngineFault>
     requires fresh { IsFresh reader.old INPUT_READS }
-    ensures read { IfOk result (λ read. MatchOption read (HadLong (R.remaining reader.old.inner) (map F.remaining files.items))
-        (λ inputs. AreScriptInputs (R.remaining reader.old.inner) (map F.remaining files.items) inputs.script.items (inputs.files.items)
+    requires fresh_files { AllFresh files.old }
+    ensures read { IfOk result (λ read. MatchOption read (HadLong (R.remaining reader.old.inner) (had F.remaining files.old))
+        (λ inputs. AreScriptInputs (R.remaining reader.old.inner) (had F.remaining files.old) inputs.script.items (inputs.files.items)
         × AllShort inputs.script.items (inputs.files.items))) }
+    ensures script_first { (reader.new.ended ≡ true) ⊎ (files.new ≡ files.old) }
+    ensures order { AreReadInOrder files.old files.new }
     ensures fault { IfErr result IsReadFault }
-    ensures good { OnOk result (reader.new.failed ≡ false) }
-    ensures memory { IsErrOf result EngineFault.NoMemory → reader.new.failed ≡ false }
+    ensures good { OnOk result ((reader.new.failed ≡ false) × NoneFailed files.new) }
+    ensures cause { IfErr result (StopsInputs reader.new files.new) }
     ensures most { reader.new.taken ≤ most_taken }
 {
     let script = match read_bounded(alloc, reader, INPUT_BYTES)? {

@@ -17,11 +17,6 @@ use Rattle.sim_engine.specs.Ways.{home_of, event_of, way_of}
 use Rattle.sim_engine.specs.Simulations.{Tells, Begins, nothing, done, refused, nothing_line, sim, BeginsNext, begun, last, Drains, ends, stops, Next, waits, asked, NoneWaits}
 use Rattle.sim_engine.proofs.Places.{none_left, first_left, empty_left}
 
-pub inside : {A : Type 0} (xs : List A) (i : ℕ) (x : A) → slice_get xs i ≡ Some x → i < length xs
-inside [] i x h = absurd cc
-inside (y ∷ xs) zero x h = omega arith
-inside (y ∷ xs) (suc i) x h = omega (arith, inside xs i x h)
-
 pub begins_nothing : (w : World) (places places' : List (Option Request)) (by : Way) (home : ℕ) → home ≡ home_of by → places' ≡ places → NoneBefore places home (length places)
     → Begins (sim w places) by (sim w places') (nothing_line by)
 begins_nothing w places places' by home is same none = nothing (subst (λ (h : ℕ). NoneAt h (left places)) is (none_left places home none)) (ap (sim w) same) refl

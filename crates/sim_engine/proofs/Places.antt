@@ -16,13 +16,6 @@ some_is x y e = cc
 less_or_at : (k n : ℕ) → k < n + 1 → (k < n) ⊎ (k ≡ n)
 less_or_at k n h = grind arith
 
-pub empty_more : (places : List (Option Request)) (n : ℕ) (place : Option Request) → EmptyBefore places n → slice_get places n ≡ Some place → n < length places → ((request : Request) → place ≡ Some request → ⊥) → EmptyBefore places (n + 1)
-empty_more places n place h at lt none = record { inside = omega arith; empty = λ k request less here. by (less_or_at k n less) request here }
-  where
-    by : {k : ℕ} → (k < n) ⊎ (k ≡ n) → (request : Request) → slice_get places k ≡ Some (Some request) → ⊥
-    by {k} (inl less) request here = h.empty k request less here
-    by {k} (inr same) request here = none request (some_is place (Some request) (sym at ∙ (ap (slice_get places) (sym same) ∙ here)))
-
 pub none_more : (places : List (Option Request)) (home n : ℕ) (place : Option Request) → NoneBefore places home n → slice_get places n ≡ Some place → n < length places → ((request : Request) → place ≡ Some request → request.home ≢ home) → NoneBefore places home (n + 1)
 none_more places home n place h at lt none = record { inside = omega arith; none = λ k request less here. by (less_or_at k n less) request here }
   where

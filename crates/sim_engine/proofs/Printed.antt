@@ -8,6 +8,7 @@ use Rattle.sim_engine.specs.declared.requests.Request.{Request}
 use Rattle.mk_script.specs.declared.script.Item.{Item}
 use Rattle.sim_engine.specs.Simulations.{Simulation, Does, Performs}
 use Rattle.sim_engine.specs.Writing.{Wrote}
+use Rattle.console.proofs.KnownBytesLemmas.{appends-then}
 
 abbrev pub the_sim : World → List Request → Simulation
 the_sim w rs = record { world = w; pending = rs }
@@ -35,32 +36,12 @@ printed_one s s1 s2 done item old now kept kept' line printed does is = record {
   appends = printed.appends;
 }
 
--- a writer that gains bytes and then others gains them all
-pub appends-then : (old mid new : Option (List ℕ)) (bs more : List ℕ) → Appends old mid bs → Appends mid new more → Appends old new (bs ++ more)
-appends-then None mid new bs more first next = cc
-appends-then (Some xs) None new bs more first next = absurd first
-appends-then (Some xs) (Some ys) None bs more first next = absurd next
-appends-then (Some xs) (Some ys) (Some zs) bs more first next = next ∙ ap (λ front. front ++ more) first ∙ append_assoc xs bs more
-
--- a writer that is left alone gains nothing
-pub appends-nothing : (known : Option (List ℕ)) → Appends known known []
-appends-nothing None = cc
-appends-nothing (Some xs) = sym (append-nil xs)
-
 pub printed_wrote : (s s' : Simulation) (done : List Item) (old now now' : Option (List ℕ)) (kept kept' : List ℕ) → Printed s done s' old now kept → Wrote now now' kept kept' → Printed s done s' old now' kept'
 printed_wrote s s' done old now now' kept kept' printed wrote = record {
   written = printed.written ++ wrote.front;
   performs = subst (Performs s done s') (ap (λ (t : List ℕ). printed.written ++ t) wrote.whole ∙ sym (append_assoc printed.written wrote.front kept')) printed.performs;
   appends = appends-then old now now' printed.written wrote.front printed.appends wrote.appends;
 }
-
-pub printed_first : (s : Simulation) (known : Option (List ℕ)) → Printed s [] s known known []
-printed_first s known = record { written = []; performs = (refl, refl); appends = appends-nothing known }
-
-pub take_one : {A : Type 0} (xs : List A) (i : ℕ) (x : A) → slice_get xs i ≡ Some x → take (i + 1) xs ≡ take i xs ++ x ∷ []
-take_one [] i x h = absurd cc
-take_one (y ∷ xs) zero x h = cc h
-take_one {A} (y ∷ xs) (suc i) x h = let e : suc i + 1 ≡ suc (i + 1) = omega arith in ap (λ (n : ℕ). take n (y ∷ xs)) e ∙ ap (λ (ys : List A). y ∷ ys) (take_one xs i x h)
 
 pub halves : {A : Type 0} (xs : List A) (i : ℕ) → xs ≡ take i xs ++ drop i xs
 halves [] zero = refl

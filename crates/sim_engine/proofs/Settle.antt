@@ -20,3 +20,17 @@ joined now line taken later first all e = ap (λ (l : List ℕ). l ++ later) (ap
 
 pub settled : (w wq w' : World) (places places' : List (Option Request)) (taken all : List ℕ) → Quiets w wq taken → Drains (sim wq places) (sim w' places') all → SettlesAll (sim w places) (sim w' places') (taken ++ all)
 settled w wq w' places places' taken all quiet drains = record { quiet = wq; taken = taken; later = all; first = quiet; rest = drains; printed = refl }
+
+-- what settles what was begun settles what was there before
+pub settles_more : (w wq w1 : World) (places places' : List (Option Request)) (taken line : List ℕ) → Quiets w wq taken → BeginsNext (sim wq places) (sim w1 places') line true
+    → (s' : Simulation) (later : List ℕ) → SettlesAll (sim w1 places') s' later → SettlesAll (sim w places) s' (taken ++ line ++ later)
+settles_more w wq w1 places places' taken line quiet more s' later settles = record {
+  quiet = wq;
+  taken = taken;
+  later = line ++ settles.taken ++ settles.later;
+  first = quiet;
+  rest = drains_more wq w1 settles.quiet places places' line settles.taken more settles.first s' settles.later settles.rest;
+  printed =
+      append_assoc taken line later
+      ∙ ap (λ (t : List ℕ). taken ++ t) (ap (λ (t : List ℕ). line ++ t) settles.printed ∙ sym (append_assoc line settles.taken settles.later));
+}

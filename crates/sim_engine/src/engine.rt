@@ -1,6 +1,6 @@
 //! `sim`: runs a script.
 
-ghost use Rattle.std.specs.Prelude.{◌≡◌, ◌<◌, ◌≤◌, ◌^◌, ◌++◌, ◌⊎◌, length, ℕ, List, map, IfOk, IfErr, IsErrOf, OnOk, true, false};
+ghost use Rattle.std.specs.Prelude.{◌≡◌, ◌<◌, ◌≤◌, ◌^◌, ◌++◌, ◌⊎◌, length, ℕ, List, IfOk, IfErr, IsErrOf, OnOk, true, false};
 ghost use Rattle.std.specs.Io.KnownBytes.{Appends};
 ghost use Rattle.console.specs.declared.input.TheConstants.{INPUT_READS};
 ghost use Rattle.console.specs.Devices.{IsFresh, StopsWriting};
@@ -9,7 +9,7 @@ ghost use Rattle.console.specs.Matching.{IsEngineFault, IsPrintFault};
 ghost use Rattle.mk_script.specs.Limits.{HasLimits};
 ghost use Rattle.mk_script.specs.declared.script.Item.{Item as GhostItem};
 ghost use Rattle.mk_script.specs.Scripts.{AreFiles};
-ghost use Rattle.script_input.specs.Inputs.{AreScriptInputs};
+ghost use Rattle.script_input.specs.Inputs.{AllFresh, AreReadInOrder, AreScriptInputs, NoneFailed, ScriptEndsEarly, had};
 ghost use Rattle.sim_engine.specs.Showing.{ShowsSim, ShowsOneStatus, ShowsPart, ShowsFront, ShowsItems, ShowsScript};
 
 use crate::running::perform_all;
@@ -23,53 +23,57 @@ use world_core::{BootFault, Channel, Messages, WorldOver};
 
 /// Runs a script on the world of the cores, prints a line for each event and the tables that are shown, and answers the status.
 ///
-/// The script is read to its end, then each file in order; the script is read whole before its first event. Its first fault is
+/// The script is read to its end, then each file to its end in order, all before the first event. The script's first fault is
 /// printed as `line N: NAME`, status 1. Of a script or a file of more than 64 MiB only `fault InputTooLong` is printed, status
 /// 1. Messages go through lists.
 ///
 /// Answers `ReadFailed`, with nothing written; `WriteFailed`; and `NoMemory`, where a front of the text may have been written.
-pub fn run_sim<R: Read, F: Read + Drop, W: Write>(
+pub fn run_sim<R: Read, F: Read, W: Write>(
     alloc: Global,
-    files: Vec<F>,
+    files: &mut [Source<F>],
     reader: &mut Source<R>,
     writer: &mut Sink<W>,
 ) -> Result<u8, EngineFault>
     requires fresh { IsFresh reader.old INPUT_READS }
+    requires fresh_files { AllFresh files.old }
     requires good { writer.old.failed ≡ false }
     ensures shown { IfOk result (λ status. (text : List ℕ) × Appends (W.contents writer.old.inner) (W.contents writer.new.inner) text
-        × ((input : List ℕ) × (inputs : List (List ℕ)) × AreScriptInputs (R.remaining reader.old.inner) (map F.remaining files.items) input inputs × ShowsSim inputs input status text)) }
+        × ((input : List ℕ) × (inputs : List (List ℕ)) × AreScriptInputs (R.remaining reader.old.inner) (had F.remaining files.old) input inputs × ShowsSim inputs input status text)) }
     ensures only { (input : List ℕ) (inputs : List (List ℕ)) → AreFiles inputs → ShowsOneStatus (ShowsSim inputs input) }
     ensures fault { IfErr result IsEngineFault }
-    ensures well { OnOk result ((reader.new.failed ≡ false) × (writer.new.failed ≡ false)) }
-    ensures write_failed { IsErrOf result EngineFault.WriteFailed → (reader.new.failed ≡ false) × (writer.new.failed ≡ true) }
-    ensures memory { IsErrOf result EngineFault.NoMemory → (reader.new.failed ≡ false) × (writer.new.failed ≡ false) }
+    ensures script_first { (reader.new.ended ≡ true) ⊎ (files.new ≡ files.old) }
+    ensures order { AreReadInOrder files.old files.new }
+    ensures well { OnOk result ((reader.new.failed ≡ false) × NoneFailed files.new × (writer.new.failed ≡ false)) }
+    ensures cause { IfErr result (ScriptEndsEarly reader.new files.new writer.new) }
     ensures most { reader.new.taken ≤ most_taken }
     ensures silent { IsErrOf result EngineFault.ReadFailed → writer.new ≡ writer.old }
     ensures part { IsErrOf result EngineFault.NoMemory → (writer.new ≡ writer.old) ⊎ ((text : List ℕ) × Appends (W.contents writer.old.inner) (W.contents writer.new.inner) text
-        × ((input : List ℕ) × (inputs : List (List ℕ)) × AreScriptInputs (R.remaining reader.old.inner) (map F.remaining files.items) input inputs × ShowsPart inputs input text)) }
+        × ((input : List ℕ) × (inputs : List (List ℕ)) × AreScriptInputs (R.remaining reader.old.inner) (had F.remaining files.old) input inputs × ShowsPart inputs input text)) }
 {
     run_sim_over::<Messages, R, F, W>(alloc, files, reader, writer)
 }
 
 /// Runs a script as `run_sim` does, over channels of one kind.
-pub fn run_sim_over<C: Channel, R: Read, F: Read + Drop, W: Write>(
+pub fn run_sim_over<C: Channel, R: Read, F: Read, W: Write>(
     alloc: Global,
-    files: Vec<F>,
+    files: &mut [Source<F>],
     reader: &mut Source<R>,
     writer: &mut Sink<W>,
 ) -> Result<u8, EngineFault>
     requires fresh { IsFresh reader.old INPUT_READS }
+    requires fresh_files { AllFresh files.old }
     requires good { writer.old.failed ≡ false }
     ensures shown { IfOk result (λ status. (text : List ℕ) × Appends (W.contents writer.old.inner) (W.contents writer.new.inner) text
-        × ((input : List ℕ) × (inputs : List (List ℕ)) × AreScriptInputs (R.remaining reader.old.inner) (map F.remaining files.items) input inputs × ShowsSim inputs input status text)) }
+        × ((input : List ℕ) × (inputs : List (List ℕ)) × AreScriptInputs (R.remaining reader.old.inner) (had F.remaining files.old) input inputs × ShowsSim inputs input status text)) }
     ensures fault { IfErr result IsEngineFault }
-    ensures well { OnOk result ((reader.new.failed ≡ false) × (writer.new.failed ≡ false)) }
-    ensures write_failed { IsErrOf result EngineFault.WriteFailed → (reader.new.failed ≡ false) × (writer.new.failed ≡ true) }
-    ensures memory { IsErrOf result EngineFault.NoMemory → (reader.new.failed ≡ false) × (writer.new.failed ≡ false) }
+    ensures script_first { (reader.new.ended ≡ true) ⊎ (files.new ≡ files.old) }
+    ensures order { AreReadInOrder files.old files.new }
+    ensures well { OnOk result ((reader.new.failed ≡ false) × NoneFailed files.new × (writer.new.failed ≡ false)) }
+    ensures cause { IfErr result (ScriptEndsEarly reader.new files.new writer.new) }
     ensures most { reader.new.taken ≤ most_taken }
     ensures silent { IsErrOf result EngineFault.ReadFailed → writer.new ≡ writer.old }
     ensures part { IsErrOf result EngineFault.NoMemory → (writer.new ≡ writer.old) ⊎ ((text : List ℕ) × Appends (W.contents writer.old.inner) (W.contents writer.new.inner) text
-        × ((input : List ℕ) × (inputs : List (List ℕ)) × AreScriptInputs (R.remaining reader.old.inner) (map F.remaining files.items) input inputs × ShowsPart inputs input text)) }
+        × ((input : List ℕ) × (inputs : List (List ℕ)) × AreScriptInputs (R.remaining reader.old.inner) (had F.remaining files.old) input inputs × ShowsPart inputs input text)) }
 {
     let Some(inputs) = read_inputs(alloc, reader, files)? else {
         return refuse_long(writer);

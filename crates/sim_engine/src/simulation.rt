@@ -106,12 +106,11 @@ pub(crate) fn settle<C: Channel>(
     ensures { OnOk result ((lines : List ℕ) × SettlesAll (sim world.old requests.old) (sim world.new requests.new) lines
         × (text.new.items ≡ text.old.items ++ lines)) }
 {
-    quiet(alloc, world, text)?;
     'requests: loop {
+        quiet(alloc, world, text)?;
         if !begin_next(alloc, world, requests, text)? {
             return Ok(());
         }
-        quiet(alloc, world, text)?;
     }
 }
 

@@ -1,9 +1,12 @@
 //! The engines over a reader and a writer: each run begins with a new source and a new sink.
 
+ghost use Rattle.std.specs.Prelude.{IfOk};
+ghost use Rattle.script_input.specs.Inputs.{AllFresh};
+
 use console::{EngineFault, INPUT_READS, STREAM_READS, Sink, Source};
 use core_threads::Gate;
 use run_engine::RunFailure;
-use std::alloc::Global;
+use std::alloc::{AllocError, Global};
 use std::io::{Read, Write};
 use std::sync::Wait;
 use std::thread::Threads;
@@ -80,14 +83,26 @@ pub fn run_draw<R: Read, W: Write>(
     draw_engine::run_draw(alloc, plain, &mut source, &mut Sink::new(writer))
 }
 
+/// Sources of these files, of which nothing was read.
+fn sources<F: Read + Drop>(alloc: Global, files: Vec<F>) -> Result<Vec<Source<F>>, AllocError>
+    ensures { IfOk result (λ sources. AllFresh sources.items) }
+{
+    let mut sources = Vec::new(alloc);
+    for file in files {
+        sources.push(Source::new(file, INPUT_READS))?;
+    }
+    Ok(sources)
+}
+
 pub fn run_sim<R: Read, F: Read + Drop, W: Write>(
     alloc: Global,
     files: Vec<F>,
     reader: &mut R,
     writer: &mut W,
 ) -> Result<u8, EngineFault> {
+    let mut files = sources(alloc, files)?;
     let mut source = Source::new(reader, INPUT_READS);
-    sim_engine::run_sim(alloc, files, &mut source, &mut Sink::new(writer))
+    sim_engine::run_sim(alloc, &mut files, &mut source, &mut Sink::new(writer))
 }
 
 pub fn run_sim_over<C: Channel, R: Read, F: Read + Drop, W: Write>(
@@ -96,9 +111,10 @@ pub fn run_sim_over<C: Channel, R: Read, F: Read + Drop, W: Write>(
     reader: &mut R,
     writer: &mut W,
 ) -> Result<u8, EngineFault> {
+    let mut files = sources(alloc, files)?;
     let mut source = Source::new(reader, INPUT_READS);
     let mut sink = Sink::new(writer);
-    sim_engine::run_sim_over::<C, &mut R, F, &mut W>(alloc, files, &mut source, &mut sink)
+    sim_engine::run_sim_over::<C, &mut R, F, &mut W>(alloc, &mut files, &mut source, &mut sink)
 }
 
 pub fn run_run<T: Threads + Wait + Clock + Sync, G: Gate + Sync, R: Read, F: Read + Drop, W: Write>(
@@ -109,12 +125,13 @@ pub fn run_run<T: Threads + Wait + Clock + Sync, G: Gate + Sync, R: Read, F: Rea
     reader: &mut R,
     writer: &mut W,
 ) -> Result<u8, RunFailure> {
+    let mut files = sources(alloc, files)?;
     let mut source = Source::new(reader, INPUT_READS);
     run_engine::run_run(
         threads,
         alloc,
         gate,
-        files,
+        &mut files,
         &mut source,
         &mut Sink::new(writer),
     )

@@ -165,6 +165,32 @@ fn a_file_that_fails_to_be_read_shows_nothing(rt: HostRuntime) {
     }
 }
 
+/// How many reads `TWO_PHASE` and two files of nine bytes had, where this read of the script or of the first file fails: 0
+/// for none.
+fn reads(
+    alloc: Global,
+    script_fails: usize,
+    first_fails: usize,
+) -> Result<(usize, usize, usize), AllocError> {
+    let (script, _) = TWO_PHASE;
+    let mut script = Source::slow(script.as_bytes(), script_fails);
+    let mut first = Source::slow(&[7; 9], first_fails);
+    let mut second = Source::slow(&[7; 9], 0);
+    let mut files = Vec::new(alloc);
+    files.push(&mut first)?;
+    files.push(&mut second)?;
+    let _ = run_sim(alloc, files, &mut script, &mut Vec::new(alloc));
+    Ok((script.reads, first.reads, second.reads))
+}
+
+#[test]
+fn the_script_is_read_to_its_end_and_then_each_file(rt: HostRuntime) {
+    let end = TWO_PHASE.0.len() + 1;
+    equal(&rt, reads(rt.alloc(), end, 0), Ok((end, 0, 0)));
+    equal(&rt, reads(rt.alloc(), 0, 10), Ok((end, 10, 0)));
+    equal(&rt, reads(rt.alloc(), 0, 0), Ok((end, 10, 10)));
+}
+
 /// The answer to `TWO_PHASE` where this write fails, and how many bytes were taken.
 fn with_writer(alloc: Global, fails_at: usize) -> (Result<u8, EngineFault>, usize) {
     let (script, _) = TWO_PHASE;

@@ -18,6 +18,9 @@ run_machine-requires-after_bounds g c =
     search inside
 
 pub returns-in-None : goal.returns-in-None
-returns-in-None g c = have_done c.args.budgets.now c.args.items.items c.in_ok-requests.field-0.requests.items c.in_ok-requests.field-0.jobs.items c.in-Ok.machine.cores c.in_ok-ended.ended.cores.items c.in_ok-ended.ended.left.items
-    c.in_ok-ended.ended.halted c.in_ok-requests.ensures.requests c.in_ok-requests.ensures.jobs c.in-None.is c.in-Ok.ensures.machine c.in-Ok.ensures.cores c.in-Ok.ensures.requests c.in_ok-ended.ensures.ended
-    c.in_ok-ended.ensures.machine
+returns-in-None g c = record {
+  done = have_done c.args.budgets.now c.args.items.items c.in_ok-requests.field-0.requests.items c.in_ok-requests.field-0.jobs.items c.in-Ok.machine.cores c.in_ok-ended.ended.cores.items c.in_ok-ended.ended.left.items
+      c.in_ok-ended.ended.halted c.in_ok-requests.ensures.requests c.in_ok-requests.ensures.jobs c.in-None.is c.in-Ok.ensures.machine c.in-Ok.ensures.cores c.in-Ok.ensures.requests c.in_ok-ended.ensures.ended
+      c.in_ok-ended.ensures.machine;
+  failure = tt;
+}

@@ -3,10 +3,12 @@ use Rattle.std.proofs.Common.{take, drop, arith, ◌+◌}
 use Rattle.std.proofs.lemmas.List.{take_all}
 use Rattle.std.specs.Io.KnownBytes.{Appends}
 use Rattle.sim_engine.specs.Simulations.{Performs, just, sim}
-use Rattle.sim_engine.proofs.Printed.{Printed, printed_one, printed_wrote, appends-then, appends-nothing, halves, take_one, on_ok}
+use Rattle.sim_engine.proofs.Printed.{Printed, printed_one, printed_wrote, halves, on_ok}
 use Rattle.sim_engine.proofs.Places.{get_at}
 use Rattle.mk_script.specs.declared.script.Item.{Item}
 use Rattle.sim_engine.proofs.running.perform_all.Goals as goal
+use Rattle.filter_table.proofs.Lists.{take_at}
+use Rattle.console.proofs.KnownBytesLemmas.{appends-then, appends-nothing}
 
 pub returns-in_err-requests-clause-part : goal.returns-in_err-requests-clause-part
 returns-in_err-requests-clause-part g c = λ failed. ([], c.args.items.now, refl, just c.args.world.now, [], [], (refl, refl), appends-nothing (g.W.Write.contents c.args.writer.now.inner))
@@ -25,7 +27,7 @@ loop-item-preserved g c =
       printed = printed_wrote (just c.args.world.now) (sim c.perform.new.world c.perform.new.requests) (take (c.loop-item.item-index + 1) c.args.items.now) (g.W.Write.contents c.args.writer.now.inner) (g.W.Write.contents c.loop-item.writer.inner)
           (g.W.Write.contents c.write_block.new.writer.inner) c.perform.new.text.items c.write_block.new.text.items
           (subst (λ (done : List Item). Printed (just c.args.world.now) done (sim c.perform.new.world c.perform.new.requests) (g.W.Write.contents c.args.writer.now.inner) (g.W.Write.contents c.loop-item.writer.inner) c.perform.new.text.items)
-          (sym (take_one c.args.items.now c.loop-item.item-index c.item-item.result at)) one)
+          (sym (take_at c.args.items.now c.loop-item.item-index c.item-item.result at)) one)
           c.in_ok-write_block.ensures.written;
     }
 

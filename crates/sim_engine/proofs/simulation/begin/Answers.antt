@@ -3,8 +3,9 @@ use Rattle.sim_engine.specs.declared.requests.Request.{Request}
 use Rattle.sim_lines.specs.Events.{event_line}
 use Rattle.sim_engine.specs.Ways.{event_of}
 use Rattle.sim_engine.specs.Simulations.{Begins, sim, nothing_line}
-use Rattle.sim_engine.proofs.Begin.{inside, begins_nothing, begins_done, begins_refused}
+use Rattle.sim_engine.proofs.Begin.{begins_nothing, begins_done, begins_refused}
 use Rattle.sim_engine.proofs.simulation.begin.Goals as goal
+use Rattle.std.proofs.lemmas.Option.{slice_get_within as inside}
 
 pub returns-in_default : goal.returns-in_default
 returns-in_default g c = (nothing_line c.args.by, begins_nothing c.args.world.now c.args.requests.now c.first_at.new.self c.args.by c.home.result c.home.ensures c.in_default.ensures.same c.in_default.ensures.found, c.in_ok-push_nothing.ensures)

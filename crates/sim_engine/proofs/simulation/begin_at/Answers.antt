@@ -5,8 +5,8 @@ use Rattle.sim_engine.specs.Pending.{left}
 use Rattle.sim_engine.specs.Simulations.{Tells}
 use Rattle.sim_engine.specs.Ways.{event_of}
 use Rattle.sim_engine.proofs.Places.{next_left}
-use Rattle.sim_engine.proofs.Begin.{inside}
 use Rattle.sim_engine.proofs.simulation.begin_at.Goals as goal
+use Rattle.std.proofs.lemmas.Option.{slice_get_within as inside}
 
 pub remove-requires : goal.remove-requires
 remove-requires g c = inside c.args.requests.now c.args.place (Some c.requires.request) c.requires.at
