@@ -124,7 +124,15 @@ unread() {
     count unread $?
 }
 
+# An output that takes no byte is reported.
+full() {
+    ../mkdemux dump < two.pcap > /dev/full 2> "$made/said"
+    [ $? -eq 3 ] && [ "$(cat "$made/said")" = "mkdemux: the output can't be written" ]
+    count full-output $?
+}
+
 closes
+full
 not_utf8
 conflicts
 count conflicts $?

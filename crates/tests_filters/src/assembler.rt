@@ -28,7 +28,7 @@ fn faults(alloc: Global, text: &[u8], line: u32, kind: AsmFaultKind) -> bool {
     text.len() < 1 << 20 && assemble(alloc, text) == Err(AsmFault { line, kind })
 }
 
-/// The instruction of the first line of a text that goes on with the labels a and b, one and two instructions behind
+/// The instruction of the first line of a text that goes on with the labels a and b, one and two instructions after
 /// the next.
 fn first(alloc: Global, line: &str) -> Option<Insn> {
     let text = format!(in alloc; "{line}\ntax\na: tax\nb: tax\n").ok()?;
@@ -296,7 +296,7 @@ fn faults_of_texts(rt: HostRuntime) {
     }
 }
 
-/// Adds a line behind others.
+/// Adds a line after others.
 fn append(rt: &impl Abort, text: &mut Vec<u8>, line: &[u8]) {
     text.extend_from_slice(line).expect(rt, "there is memory");
 }
@@ -405,4 +405,23 @@ fn printed_programs(rt: HostRuntime) {
     push_all(&rt, &mut pairs);
     equal(&rt, pairs.printed.len(), 49);
     equal(&rt, printed_again(alloc, &pairs.printed), Some(pairs.read));
+}
+
+/// What a text stands for, or its fault, is given or memory is refused.
+#[test]
+fn texts_with_a_refused_growth(rt: HostRuntime) {
+    let text = b"ldh [12]\njeq #0x806, arp, drop\narp: ret #4\ndrop: ret #0\n";
+    match assemble(rt.alloc(), text) {
+        Ok(program) => equal(&rt, program.len(), 4),
+        Err(fault) => equal(&rt, fault.kind, AsmFaultKind::NoMemory),
+    }
+    if let Err(fault) = assemble(rt.alloc(), b"arp: tax\njmp drop\n") {
+        let AsmFault { line, kind } = fault;
+        holds(
+            &rt,
+            kind == AsmFaultKind::NoMemory || (line == 2 && kind == AsmFaultKind::NoLabel),
+        );
+    } else {
+        holds(&rt, false);
+    }
 }

@@ -2,8 +2,10 @@
 
 use crate::facts::{equal, equal_at, holds};
 use pcap_reader::{
-    Bytes, Capture, CaptureFault, Feed, Header, Packet, Packets, Stop, read_capture,
+    Bytes, Capture, CaptureFault, Feed, Header, Packet, Packets, SharedPackets, Stop, read_capture,
+    share_capture,
 };
+use seq::Shared;
 use std::alloc::Global;
 use std::process::Abort;
 
@@ -68,12 +70,12 @@ const ETHERNET: Header = Header {
     network: 1,
 };
 
-/// Adds bytes behind others.
+/// Adds bytes after others.
 fn append(rt: &impl Abort, bytes: &mut Vec<u8>, more: &[u8]) {
     bytes.extend_from_slice(more).expect(rt, "there is memory");
 }
 
-/// These bytes, one part behind the other.
+/// These bytes, one part after the other.
 fn joined(rt: &impl Abort, alloc: Global, parts: &[&[u8]]) -> Vec<u8> {
     let mut bytes = Vec::new(alloc);
     for part in parts {
@@ -91,7 +93,7 @@ fn packet(rt: &impl Abort, alloc: Global, bytes: &[u8], original: u32) -> Packet
     }
 }
 
-/// Adds a packet behind others.
+/// Adds a packet after others.
 fn add(rt: &impl Abort, packets: &mut Vec<Packet>, packet: Packet) {
     packets.push(packet).expect(rt, "there is memory");
 }
@@ -116,9 +118,33 @@ fn wanted(
     }
 }
 
-/// What is read of a capture, whole and in pieces of 1, 7 and 65,536 bytes.
+/// What is read of a capture whose packets share its bytes.
+fn shared(rt: &impl Abort, alloc: Global, bytes: &[u8]) -> Result<SharedPackets, CaptureFault> {
+    let bytes = Vec::from_slice(alloc, bytes).expect(rt, "there is memory");
+    let file = Shared::from_vec(alloc, bytes).expect(rt, "there is memory");
+    share_capture(alloc, &file)
+}
+
+/// Where the capture has no fault its packets are shared, and else its fault is given.
+fn is_shared(rt: &impl Abort, alloc: Global, bytes: &[u8], want: &Reading) {
+    match shared(rt, alloc, bytes) {
+        Err(fault) => equal(rt, Some(fault), want.fault),
+        Ok(packets) => {
+            holds(rt, want.fault.is_none());
+            let packets = packets.as_slice();
+            equal(rt, packets.len(), want.packets.len());
+            for (packet, want) in packets.iter().zip(want.packets.iter()) {
+                equal(rt, packet.bytes(), want.bytes.as_slice());
+                equal(rt, packet.original(), want.original);
+            }
+        }
+    }
+}
+
+/// What is read of a capture, whole, in pieces of 1, 7 and 65,536 bytes, and shared.
 fn check(rt: &impl Abort, alloc: Global, bytes: &[u8], want: &Reading) {
     equal(rt, &shown(read_capture(alloc, bytes)), want);
+    is_shared(rt, alloc, bytes, want);
     for size in [1, 7, 65_536] {
         equal_at(rt, &read_pieces(alloc, bytes, size), want, &size);
     }
@@ -524,7 +550,7 @@ fn several_hundred_packets_in_each_kind(rt: HostRuntime) {
     }
 }
 
-/// All packets of a made capture behind this header are read.
+/// All packets of a made capture after this header are read.
 fn are_all_read(rt: &impl Abort, alloc: Global, front: &[u8], header: Header) {
     let mut capture = joined(rt, alloc, &[front]);
     let mut packets = Vec::new(alloc);

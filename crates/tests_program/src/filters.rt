@@ -4,5 +4,6 @@ mod captures;
 mod checks;
 mod devices;
 mod matches;
+mod memory;
 mod records;
 mod streams;

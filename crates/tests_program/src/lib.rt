@@ -14,6 +14,8 @@ mod graphs;
 #[cfg(test)]
 mod lines;
 #[cfg(test)]
+mod page;
+#[cfg(test)]
 mod repeated;
 #[cfg(test)]
 mod run;

@@ -137,7 +137,7 @@ static NAMES: [Case; 9] = [
     ("cores 5\ntake 1 0 long\n", 2, BadLine),
 ];
 
-/// Lines behind `trace`, and a `trace` behind what only a simulation does.
+/// Lines after `trace`, and a `trace` after what only a simulation does.
 static TRACES: [Case; 4] = [
     ("cores 5\nsettle\ntrace\n", 3, BadLine),
     ("cores 5\ntrace\nsettle\n", 3, BadLine),

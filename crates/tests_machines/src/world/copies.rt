@@ -2,8 +2,9 @@
 
 ghost use Rattle.world_core.specs.Refusals.{IsShortEvent};
 
+use super::steps::{boot, packet};
+use super::words::{ARP, Ask, REQUEST, op, tells};
 use crate::facts::{equal, holds};
-use crate::world::{ARP, Ask, REQUEST, boot, op, packet, tells};
 use monitor_2pc::{Message, Vote};
 use std::alloc::Global;
 use std::process::Abort;

@@ -1,7 +1,8 @@
 //! Which messages are made ready: just those that are sent.
 
+use super::steps::{boot, settled, started};
+use super::words::{ARP, Ask, Told, rule};
 use crate::facts::equal;
-use crate::world::{ARP, Ask, Told, boot, rule, settled, started};
 use monitor_2pc::Message;
 use std::alloc::{AllocError, Global};
 use std::process::Abort;

@@ -1,12 +1,13 @@
 //! The worked runs where one growth is refused, whichever it is. An event that it meets changes nothing and is done again; a core
 //! that has no memory for an operation refuses it, and then the request is begun again.
 
-use crate::facts::{equal, holds};
-use crate::world::sights::are_equal;
-use crate::world::{
-    ARP, Ask, Told, are_told, boot, cap, down, one_core_ahead, outcome, refused, refused_at_once,
-    replace, revoke, settled, settles, start_for, started, submit, take, up,
+use super::sights::are_equal;
+use super::steps::{
+    are_told, boot, down, outcome, settled, settles, start_for, started, submit, take, up,
 };
+use super::words::{ARP, Ask, Told, cap, refused};
+use super::{one_core_ahead, refused_at_once, replace, revoke};
+use crate::facts::{equal, holds};
 use monitor_2pc::{Veto, Vote};
 use std::alloc::Global;
 use std::process::Abort;

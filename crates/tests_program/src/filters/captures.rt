@@ -13,7 +13,7 @@ const HEADER: &str = "d4c3b2a1020004000000000000000000ffff000001000000";
 /// How many bytes a reader gives at a time.
 const STEPS: [usize; 3] = [1, 7, 65_536];
 
-/// Captures in hexadecimal digits, behind `HEADER` where it is wanted, each with its status and what `dump` shows.
+/// Captures in hexadecimal digits, after `HEADER` where it is wanted, each with its status and what `dump` shows.
 const DUMPS: [(&str, &str, u8, &str); 10] = [
     ("", "", 1, "fault TruncatedHeader\n"),
     (HEADER, "", 0, "pcap little micro snaplen 65535 network 1\n"),
@@ -57,7 +57,7 @@ const DUMPS: [(&str, &str, u8, &str); 10] = [
     ("", "d4c3b2a103000400", 1, "fault BadVersion\n"),
 ];
 
-/// The bytes of two texts of hexadecimal digits, one behind the other.
+/// The bytes of two texts of hexadecimal digits, one after the other.
 fn bytes_of(alloc: Global, front: &str, back: &str) -> Result<Vec<u8>, Fail> {
     let mut bytes = hex::decode(alloc, front)?;
     bytes.extend_from_slice(hex::decode(alloc, back)?.as_slice())?;

@@ -1,50 +1,15 @@
 //! Runs that may be refused memory: what they show then. With ample memory they show all.
 
-ghost use Rattle.std.specs.Prelude.{◌≤◌};
-
 use super::captures::CAPTURE;
 use super::protocol::TWO_PHASE;
 use super::tables::SCRIPTS;
 use crate::engines::run_sim;
 use crate::facts::{equal, holds};
+use crate::page::Page;
 use console::EngineFault;
 use std::alloc::{AllocError, Global};
-use std::io;
-use std::io::{Cursor, ErrorKind, Write};
+use std::io::Cursor;
 use std::process::Abort;
-
-/// How many bytes are taken at most.
-const ROOM: usize = 4096;
-
-/// A writer that takes no memory.
-#[derive(Drop)]
-struct Page {
-    bytes: [u8; ROOM],
-    used: usize,
-    ghost within: { used ≤ 4096 },
-}
-
-impl Page {
-    fn as_slice(&self) -> &[u8] {
-        &self.bytes[..self.used]
-    }
-}
-
-impl Write for Page {
-    fn write(&mut self, buf: &[u8]) -> io::Result<usize> {
-        if buf.len() > ROOM - self.used {
-            return Err(io::Error::from(ErrorKind::WriteZero));
-        }
-        let end = self.used + buf.len();
-        self.bytes[self.used..end].copy_from_slice(buf);
-        self.used = end;
-        Ok(buf.len())
-    }
-
-    fn flush(&mut self) -> io::Result<()> {
-        Ok(())
-    }
-}
 
 /// Whether a vote or a decision tells that there was no memory.
 fn tells_no_memory(text: &[u8]) -> bool {
@@ -57,10 +22,7 @@ fn shows_or_tells(rt: &impl Abort, alloc: Global, script: &[u8], shown: &str) {
     files
         .push(Cursor::new(CAPTURE))
         .expect(rt, "there is memory");
-    let mut page = Page {
-        bytes: [0; ROOM],
-        used: 0,
-    };
+    let mut page = Page::new();
     let mut reader = Cursor::new(script);
     let answer = run_sim(alloc, files, &mut reader, &mut page);
     let text = page.as_slice();
