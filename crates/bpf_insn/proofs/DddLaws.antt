@@ -180,7 +180,7 @@ one_fault text f g a b =
     let pieces : a.0 ≡ b.0 = pieces_same _ _ _ a.1 b.1 in
     fault_same b.0 f g (rw pieces at a.2) b.2
 
--- an answer that is right is the only one, want of memory aside
+-- an answer that is right is the only one, but for NoMemory
 pub only_answer : {V : Type 0} (items : V → List Insn) (text : List ℕ) (r : Result V TextFault) → IfOk r (λ v. Ddd text (items v)) → IfErr r (λ f. (f ≡ NoMemory) ⊎ Faults text f)
     → (program : List Insn) → Ddd text program → MatchResult r (λ v. items v ≡ program) (λ f. f ≡ NoMemory)
 only_answer items text (Ok v) ok err program so = one_program text (items v) program ok so

@@ -89,9 +89,6 @@ pub record FirstSoFar (all left : List (List (List ℕ))) (place : ℕ) (program
   pub at : length good ≡ place
   pub each : AllZip SpellsInsn good program
 
-pub first_start : (all : List (List (List ℕ))) → FirstSoFar all all 0 []
-first_start all = record { good = []; parts = refl; at = refl; each = tt }
-
 pub first_next : (all left rest : List (List (List ℕ))) (w : List (List ℕ)) (place : ℕ) (program program' : List Insn) (i : Insn) → FirstSoFar all left place program → left ≡ w ∷ rest → SpellsInsn w i → program' ≡ program ++ i ∷ [] → FirstSoFar all rest (place + 1) program'
 first_next all left rest w place program program' i so first one e = record {
   good = so.good ++ w ∷ [];
@@ -111,9 +108,6 @@ first_bad all left rest w place count program so first none within = record {
   before = spelled_at so.good program so.each;
   here = none;
 }
-
-pub first_end : (all left : List (List (List ℕ))) (place : ℕ) (program : List Insn) → FirstSoFar all left place program → SpellsFirst all place program
-first_end all left place program so = record { good = so.good; left = left; parts = so.parts; at = so.at; each = so.each }
 
 -- while fewer pieces than there are were read, one is left
 pub first_left : (all left : List (List (List ℕ))) (place count : ℕ) (program : List Insn) → FirstSoFar all left place program → place < count → count ≤ length all → left ≢ []

@@ -40,7 +40,7 @@ not_empty : (w : List ℕ) → 0 < length w → not (length w == 0) ≡ true
 not_empty w some = grind (arith, common_steps)
 
 -- a number that is written is a word of its value
-number_of_decimal : (n : ℕ) → n < 2 ^ 64 → number_of (decimal n) ≡ Some n
+pub number_of_decimal : (n : ℕ) → n < 2 ^ 64 → number_of (decimal n) ≡ Some n
 number_of_decimal n low =
     let some : 0 < length (decimal n) = decimal_nonempty n low in
     let all : all_ascii_digits (decimal n) ≡ true = digits_of_decimal n low in

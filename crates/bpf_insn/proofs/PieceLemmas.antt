@@ -24,23 +24,11 @@ cut_none p bs none =
     let no : All (λ x. p x ≡ false) bs = λ k d within. fails_before_first p bs k d (omega arith) in
     slice_split_none p bs no
 
--- a piece that begins with a blank has the words after it
-pub words_skip : (bs : List ℕ) (i : ℕ) → position is_blank bs ≡ Some i → (length (take i bs) == 0) ≡ true → words_of bs ≡ words_of (drop (i + 1) bs)
-words_skip bs i at empty =
-    let e : words_of bs ≡ filter (λ w. not (length w == 0)) (take i bs ∷ slice_split is_blank (drop (i + 1) bs)) = ap (filter (λ w. not (length w == 0))) (cut_at is_blank bs i at) in
-    rw empty at e
-
 -- other pieces have the word before the first blank
 pub words_take : (bs : List ℕ) (i : ℕ) → position is_blank bs ≡ Some i → (length (take i bs) == 0) ≡ false → words_of bs ≡ take i bs ∷ words_of (drop (i + 1) bs)
 words_take bs i at some =
     let e : words_of bs ≡ filter (λ w. not (length w == 0)) (take i bs ∷ slice_split is_blank (drop (i + 1) bs)) = ap (filter (λ w. not (length w == 0))) (cut_at is_blank bs i at) in
     rw some at e
-
--- a piece without blanks has no word where it is empty
-pub words_empty : (bs : List ℕ) → position is_blank bs ≡ None → (length bs == 0) ≡ true → words_of bs ≡ []
-words_empty bs none empty =
-    let e : words_of bs ≡ filter (λ w. not (length w == 0)) (bs ∷ []) = ap (filter (λ w. not (length w == 0))) (cut_none is_blank bs none) in
-    rw empty at e
 
 -- and else is one word
 pub words_last : (bs : List ℕ) → position is_blank bs ≡ None → (length bs == 0) ≡ false → words_of bs ≡ bs ∷ []

@@ -89,7 +89,7 @@ pub record IsFirstBad (pieces : List (List (List ℕ))) (place : ℕ) : Type 0 w
   pub here : ¬ (IsInsn bad)
 
 -- these pieces spell no program, and this is the first fault: the count, its bound, the number of pieces, the first
--- piece that is no instruction; want of memory is no fault of a text
+-- piece that is no instruction; NoMemory is no fault of a text
 abbrev pub HasFault : List (List (List ℕ)) → TextFault → Type 0
 HasFault pieces (BadNumber place) = ((place ≡ 0) × ((n : ℕ) → ¬ (Counts pieces n)))
     ⊎ ((n : ℕ) × IsCounted pieces n × IsFirstBad pieces place)

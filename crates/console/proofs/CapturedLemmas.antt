@@ -11,18 +11,13 @@ use Rattle.console.specs.declared.input.TheConstants.{INPUT_BYTES}
 use Rattle.console.specs.declared.captured.Captured.{Captured}
 use Rattle.console.specs.Reading.{Fed, GaveCapture}
 
--- more was read than the limit
-pub gave_long : (old new : Option (List ℕ)) (before feed : Feed) (whole : Bool) → Fed old new INPUT_BYTES before feed whole → whole ≡ false → GaveCapture old new None
-gave_long old new before feed true fed e = absurd (cc)
-gave_long old new before feed false fed e = fed
-
 -- all was read
 pub gave_read : (old new : Option (List ℕ)) (before feed : Feed) (whole : Bool) (c : Captured) → Fed old new INPUT_BYTES before feed whole → whole ≡ true
     → ((fed : List ℕ) → Holds fed feed → Reads fed c.header c.packets c.fault) → GaveCapture old new (Some c)
 gave_read old new before feed false c fed e reads = absurd (cc)
 gave_read old new before feed true c fed e reads = (fed.0, fed.1, fed.3, fed.4, reads fed.0 fed.2)
 
--- a feed that gives a capture has met no want of memory
+-- a feed that gives a capture was not refused memory
 pub capture_reads : (bytes : List ℕ) (capture : Capture) (memory : Type 0) → ((memory → ⊥) → GivesWhole bytes (Ok capture)) → (memory → GivesFront bytes (Ok capture))
     → Reads bytes (Some capture.header) capture.packets None
 capture_reads bytes capture memory whole front = whole (λ m. front m)

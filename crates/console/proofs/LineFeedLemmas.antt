@@ -137,18 +137,6 @@ lines_kept program rest old new outcomes none kept counted = record {
   };
 }
 
--- the end, where no line is open
-pub lines_end : (program : List Insn) (feed : LineFeed) (outcomes : List Outcome) → feed.part.items ≡ [] → RunsTo (LinesRan program) (LinesEnded program) [] [] feed feed outcomes outcomes
-lines_end program feed outcomes none = record {
-  front = [];
-  parts = refl;
-  more = [];
-  pushed = sym (append-nil outcomes);
-  runs = λ fed outcomes has short.
-      let all : lines (fed ++ []) ≡ has.good = ap lines (append-nil fed ∙ has.parts ∙ ap (λ t. has.done ++ t) none) ∙ has.whole [] ∙ append-nil has.good in
-      rw (all, append-nil outcomes) has.ran;
-}
-
 -- the lines of all that was taken, where a line is open
 last_line : (taken done part : List ℕ) (good : List (List ℕ)) → taken ≡ done ++ part → ((more : List ℕ) → lines (done ++ more) ≡ good ++ lines more) → IsOneLine part → 0 < length part
     → lines (taken ++ []) ≡ good ++ part ∷ []

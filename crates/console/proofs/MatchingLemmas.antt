@@ -18,6 +18,7 @@ use Rattle.console.specs.Faults.{fault_status, fault_text}
 use Rattle.console.specs.Matching.{Answers, AnswersCaptured, ShowsLines, ShowsCapture, ShowsFirst, ShowsGoodCode, ShowsInput, ShowsPart, ShowsRead, outcome_line, bad_line}
 use Rattle.console.proofs.WholeLemmas.{packets_front}
 use Rattle.console.proofs.KnownBytesLemmas.{appends-then, appends-nothing}
+use Rattle.pcap_reader.proofs.FeedLemmas.{AllZip-push}
 
 -- all is lines that were answered and the rest, and the answers are written but for what is kept back
 pub record SoFar {A : Type 0} (Gives : A → Outcome → Type 0) (all rest : List A) (number : ℕ) (old new : Option (List ℕ)) (kept : List ℕ) : Type 0 where
@@ -41,13 +42,6 @@ so_far_start Gives all known = record {
   appended = appends-nothing known;
   printed = refl;
 }
-
--- one more pair at the end
-pub AllZip-push : {A B : Type 0} (R : A → B → Type 0) (xs : List A) (ys : List B) (x : A) (y : B) → AllZip R xs ys → R x y → AllZip R (xs ++ x ∷ []) (ys ++ y ∷ [])
-AllZip-push R [] [] x y each last = (last, tt)
-AllZip-push R [] (b ∷ ys) x y each last = absurd each
-AllZip-push R (a ∷ xs) [] x y each last = absurd each
-AllZip-push R (a ∷ xs) (b ∷ ys) x y each last = (each.0, AllZip-push R xs ys x y each.1 last)
 
 pub flat_map-push : {A B : Type 0} (f : A → List B) (xs : List A) (x : A) → flat_map f (xs ++ x ∷ []) ≡ flat_map f xs ++ f x
 flat_map-push f [] x = append-nil (f x)
@@ -110,46 +104,6 @@ so_far_bad program all bad rest n m old new last kept kept' left first so err te
     printed = ap (λ t. so.written ++ t) text ∙ sym (append_assoc so.written kept (bad_line m)) ∙ ap (λ t. t ++ bad_line m) so.printed;
   },
   appends-then old new last so.written kept' so.appended more,
-)
-
--- at the end of a capture's packets
-pub so_far_capture : (program : List Insn) (packets : List Captured) (fault : Option CaptureFault) (n : ℕ) (old new last : Option (List ℕ)) (kept : List ℕ)
-    → (left : List Captured) → length left ≡ 0 → SoFar (AnswersCaptured program) packets left n old new kept → Appends new last (kept ++ fault_text fault)
-    → (text : List ℕ) × ShowsCapture program packets fault text × Appends old last text
-so_far_capture program packets fault n old new last kept left none so more = (
-  so.written ++ (kept ++ fault_text fault),
-  record {
-    outcomes = so.outcomes;
-    ran = let whole : packets ≡ so.good = so.front ∙ ap (λ t. so.good ++ t) (nil_from_length left none) ∙ append-nil so.good in rw whole so.ran;
-    printed = sym (append_assoc so.written kept (fault_text fault)) ∙ ap (λ t. t ++ fault_text fault) so.printed;
-  },
-  appends-then old new last so.written (kept ++ fault_text fault) so.appended more,
-)
-
--- where the end was written with the fault behind it
-pub so_far_ended : (r : Result ℕ EngineFault) (program : List Insn) (packets : List Captured) (fault : Option CaptureFault) (n : ℕ) (old new last : Option (List ℕ)) (kept : List ℕ)
-    → (left : List Captured) → length left ≡ 0 → SoFar (AnswersCaptured program) packets left n old new kept
-    → IfOk r (λ status. (status ≡ fault_status fault) × Appends new last (kept ++ fault_text fault))
-    → IfOk r (λ status. (status ≡ fault_status fault) × (text : List ℕ) × ShowsCapture program packets fault text × Appends old last text)
-so_far_ended (Ok status) program packets fault n old new last kept left none so ended =
-    let shown = so_far_capture program packets fault n old new last kept left none so ended.1 in (ended.0, shown.0, shown.1, shown.2)
-so_far_ended (Err e) program packets fault n old new last kept left none so ended = tt
-
--- where memory ran out
-pub so_far_part : {A : Type 0} (Gives : A → Outcome → Type 0) (all rest : List A) (n : ℕ) (old new : Option (List ℕ)) (kept : List ℕ)
-    → SoFar Gives all rest n old new kept → (text : List ℕ) × ShowsFirst Gives all text × Appends old new text
-so_far_part Gives all rest n old new kept so = (
-  so.written,
-  record {
-    good = so.good;
-    left = rest;
-    outcomes = so.outcomes;
-    more = kept;
-    front = so.front;
-    ran = so.ran;
-    printed = so.printed;
-  },
-  so.appended,
 )
 
 -- a reader that lost more than so many bytes had more

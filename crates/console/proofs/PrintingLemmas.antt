@@ -14,9 +14,6 @@ pub record Printing (whole left : List ℕ) (old new : Option (List ℕ)) (kept 
   pub appended : Appends old new written
   pub parts : whole ≡ written ++ (kept ++ left)
 
-pub printing_start : (whole left kept : List ℕ) (known : Option (List ℕ)) → whole ≡ kept ++ left → Printing whole left known known kept
-printing_start whole left kept known parts = record { written = []; appended = appends-nothing known; parts = parts }
-
 pub printing_next : (whole left left' line kept kept' : List ℕ) (old new : Option (List ℕ)) → Printing whole left old new kept → left ≡ line ++ left' → kept' ≡ kept ++ line → Printing whole left' old new kept'
 printing_next whole left left' line kept kept' old new so first text = record {
   written = so.written;
@@ -30,12 +27,6 @@ printing_written whole left kept kept' old new last so more none = record {
   appended = appends-then old new last so.written kept so.appended more;
   parts = so.parts ∙ sym (append_assoc so.written kept left) ∙ ap (λ t. (so.written ++ kept) ++ (t ++ left)) (sym none);
 }
-
--- the text ends with what was kept back and what was left
-pub printing_end : (whole left ending kept : List ℕ) (old new last : Option (List ℕ)) → Printing whole left old new kept → left ≡ ending → Appends new last (kept ++ ending) → Appends old last whole
-printing_end whole left ending kept old new last so same more =
-    let all : whole ≡ so.written ++ (kept ++ ending) = so.parts ∙ ap (λ t. so.written ++ (kept ++ t)) same in
-    rw all (appends-then old new last so.written (kept ++ ending) so.appended more)
 
 pub printing_part : (whole left kept : List ℕ) (old new : Option (List ℕ)) → Printing whole left old new kept → (text : List ℕ) × BeginsWith text whole × Appends old new text
 printing_part whole left kept old new so = (so.written, (kept ++ left, so.parts), so.appended)
@@ -64,6 +55,3 @@ left_lines number rest fault = packet_lines (number + 1) rest ++ fault_text faul
 pub left_first : (number : ℕ) (rest more : List Packet) (p : Packet) (fault : Option CaptureFault) → rest ≡ p ∷ more
     → left_lines number rest fault ≡ packet_line (number + 1) p ++ left_lines (number + 1) more fault
 left_first number rest more p fault first = ap (λ r. left_lines number r fault) first ∙ append_assoc (packet_line (number + 1) p) (packet_lines (number + 1 + 1) more) (fault_text fault)
-
-pub left_none : (number : ℕ) (rest : List Packet) (fault : Option CaptureFault) → rest ≡ [] → left_lines number rest fault ≡ fault_text fault
-left_none number rest fault none = ap (λ r. left_lines number r fault) none

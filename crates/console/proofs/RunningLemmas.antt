@@ -129,15 +129,6 @@ pub record SoRun (program : List Insn) (old new : Option (List ℕ)) (feed : Fee
   pub has : HasRun program given feed outcomes
   pub count : taken ≡ length given
 
-pub so_run_start : (program : List Insn) (known : Option (List ℕ)) (feed : Feed) (outcomes : List Outcome) → HoldsBehind [] [] feed → held_packets feed ≡ [] → outcomes ≡ []
-    → SoRun program known known feed outcomes 0
-so_run_start program known feed outcomes fresh none empty = record {
-  given = [];
-  lost = consumes-nothing known;
-  has = rw empty (record { packets = []; holds = fresh; none = none; ran = tt });
-  count = refl;
-}
-
 pub so_run_next : (program : List Insn) (old mid new : Option (List ℕ)) (feed feed' : Feed) (before after : List Outcome) (taken taken' : ℕ) (piece : List ℕ)
     → SoRun program old mid feed before taken → Consumes mid new piece → taken' ≡ taken + length piece → taken' < 18446744073709551616
     → RunsOn program piece [] feed feed' before after → SoRun program old new feed' after taken'

@@ -19,18 +19,6 @@ use Rattle.console.proofs.KnownBytesLemmas.{appends-then, appends-nothing, consu
 use Rattle.console.proofs.FeedingLemmas.{consumes-kept, consumes-nothing}
 use Rattle.console.proofs.StreamingLemmas.{Streamed, begins_itself, ended_front, no_bytes, ran_front}
 
--- a stream before its first read
-pub streamed_start : (program : List Insn) (from old : Option (List ℕ)) (source : PacketSource) → SourceRan program [] source [] → Streamed program (is_capture source) from from old old source 0
-streamed_start program from old source fresh = record {
-  input = [];
-  shown = [];
-  lost = consumes-nothing from;
-  ran = fresh;
-  appended = appends-nothing old;
-  kind = refl;
-  short = omega arith;
-}
-
 -- what is left where what was read isn't run
 pub left_read : {T E : Type 0} (r : Result T E) (program : List Insn) (pcap : Bool) (from at at' old new : Option (List ℕ)) (source : PacketSource) (turns : ℕ) (piece : List ℕ)
     → Streamed program pcap from at old new source turns → Consumes at at' piece → All (λ b. b < 256) piece
@@ -228,10 +216,3 @@ pub bad_code_left : {T E : Type 0} (r : Result T E) (code line : List ℕ) (pcap
     ⊎ ((input : List ℕ) × Consumes from at input × StreamLeaves code pcap input text))))
 bad_code_left (Ok v) code line pcap from at old new bad failed = tt
 bad_code_left (Err e) code line pcap from at old new bad failed = (failed.0, failed.2, inr (inl (line, bad, failed.1)))
-
--- where nothing was written
-pub nothing_shown : {T E : Type 0} (r : Result T E) (code : List ℕ) (pcap : Bool) (from at old : Option (List ℕ))
-    → OnErr r ((text : List ℕ) × Appends old old text × ((text ≡ []) ⊎ (((whole : List ℕ) × ShowsBadCode code whole × BeginsWith text whole)
-    ⊎ ((input : List ℕ) × Consumes from at input × StreamLeaves code pcap input text))))
-nothing_shown (Ok v) code pcap from at old = tt
-nothing_shown (Err e) code pcap from at old = ([], appends-nothing old, inl refl)

@@ -111,10 +111,6 @@ ended_front program true taken (Capture feed) outcomes text has begins = rw (app
 pub begins_itself : (text : List ℕ) → BeginsWith text text
 begins_itself text = ([], sym (append-nil text))
 
--- lines that ended well
-pub lines_shown : (program : List Insn) (taken : List ℕ) (feed : LineFeed) (outcomes : List Outcome) → LinesEnded program taken feed outcomes → ShowsBytes program false taken 0 (flat_map outcome_line outcomes ++ [])
-lines_shown program taken feed outcomes ended = record { good = lines taken; outcomes = outcomes; complaint = []; ran = ended; stops = inl (refl, refl, refl); printed = refl }
-
 -- lines that stopped at a bad one
 pub bad_shown : (program : List Insn) (taken : List ℕ) (feed : LineFeed) (outcomes : List Outcome) (number : ℕ) → LinesStopped program taken feed outcomes → length taken < 18446744073709551616
     → (feed.number + 1 < 18446744073709551616 → number ≡ feed.number + 1) → ShowsBytes program false taken 1 (flat_map outcome_line outcomes ++ bad_line number)
@@ -132,7 +128,7 @@ pub capture_of : (program : List Insn) (stopped : Bool) (taken : List ℕ) (feed
 capture_of program false taken feed outcomes ended = ended
 capture_of program true taken feed outcomes ended = ended.0
 
--- a front of a text behind another
+-- a front of a text after another
 pub some_of_whole : (program : List Insn) (pcap : Bool) (taken : List ℕ) (status : ℕ) (lines ending front : List ℕ) → ShowsBytes program pcap taken status (lines ++ ending) → BeginsWith front ending
     → ShowsSome program pcap taken (lines ++ front)
 some_of_whole program pcap taken status lines ending front shows begins =
@@ -145,7 +141,7 @@ pub bad_left : (source : PacketSource) (feed : LineFeed) (stopped : Bool) (numbe
 bad_left source feed stopped number front is at counted begins program taken outcomes short ended =
     rw is (some_of_whole program false taken 1 (flat_map outcome_line outcomes) (bad_line number) front (bad_shown program taken feed outcomes number (rw (is, at) at ended) short counted) begins)
 
--- where nothing was written behind the outcomes
+-- where nothing was written after the outcomes
 pub nothing_left : (source : PacketSource) (stopped : Bool) (program : List Insn) (taken : List ℕ) (outcomes : List Outcome) → SourceEnded program stopped taken source outcomes
     → ShowsSome program (is_capture source) taken (flat_map outcome_line outcomes ++ [])
 nothing_left source stopped program taken outcomes ended =

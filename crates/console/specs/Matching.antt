@@ -57,7 +57,7 @@ pub record ShowsLines (program : List Insn) (all : List (List ℕ)) (status : �
   pub stops : Stops all good status complaint
   pub printed : text ≡ flat_map outcome_line outcomes ++ complaint
 
--- what is shown of these packets of a capture, and of the fault behind them
+-- what is shown of these packets of a capture, and of the fault after them
 pub record ShowsCapture (program : List Insn) (packets : List Captured) (fault : Option CaptureFault) (text : List ℕ) : Type 0 where
   pub outcomes : List Outcome
   pub ran : AllZip (AnswersCaptured program) packets outcomes

@@ -40,7 +40,7 @@ RunsInput old new program feed outcomes true =
     (given : List ℕ) × Consumes old new given × IsAtEnd new × (length given ≤ INPUT_BYTES) × HasRun program given feed outcomes
 RunsInput old new program feed outcomes false = LostTooMany old new INPUT_BYTES
 
--- bytes hold a capture with these packets' outcomes, and this fault behind them
+-- bytes hold a capture with these packets' outcomes, and this fault after them
 abbrev pub EndsRun : List Insn → List ℕ → List Outcome → Option CaptureFault → Type 0
 EndsRun program bytes outcomes fault =
     (header : Option Header) × (packets : List Packet) × Reads bytes header packets fault × AllZip (AnswersCaptured program) packets outcomes

@@ -14,7 +14,7 @@ use pcap_reader::CaptureFault;
 use std::alloc::AllocError;
 use std::io::Write;
 
-/// Writes what was kept back of a text, and the line for the fault behind it if there is one, and answers the status.
+/// Writes what was kept back of a text, and the line for the fault after it if there is one, and answers the status.
 pub fn write_ending<W: Write>(
     mut text: String,
     fault: Option<CaptureFault>,

@@ -1,4 +1,4 @@
-//! The engines behind the commands of `mkdemux`, over any reader and any writer.
+//! The engines of the commands of `mkdemux`, over any reader and any writer.
 #![tactic(auto)]
 
 mod capture_fault;

@@ -83,7 +83,7 @@ impl PacketSource {
         }
     }
 
-    /// Writes what stands behind the last outcome, if anything does, and answers the status: a complaint about the line at
+    /// Writes what stands after the last outcome, if anything does, and answers the status: a complaint about the line at
     /// which the run stopped, or the fault of the capture. `text` is an empty buffer.
     pub fn write_end<W: Write>(
         &self,

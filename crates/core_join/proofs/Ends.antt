@@ -8,7 +8,7 @@ use Rattle.filter_table.proofs.Tables.{table_version}
 use Rattle.monitor_2pc.specs.Coordinators.{Idle}
 use Rattle.core_links.specs.Views.{LinkView}
 use Rattle.core_links.specs.RingSlots.{ring_view}
-use Rattle.world_model.proofs.Lists.{get_at, get_within, get_map}
+use Rattle.world_model.proofs.Lists.{get_map}
 use Rattle.world_histories.specs.declared.history.Stamped.{Stamped}
 use Rattle.world_histories.specs.Histories.{Core0, Other, Computation}
 use Rattle.world_histories.specs.Agreement.{HistoriesAgree}
@@ -27,6 +27,8 @@ use Rattle.core_loop.proofs.Conclusions.{concluded}
 use Rattle.core_join.specs.Machines.{RingCore, AreMachine}
 use Rattle.core_join.specs.Conclusions.{histories_of, StandsAt0, StandsAtOther, IsIdle0, version_of_core, ShowsTable, IsRight, Concludes}
 use Rattle.core_join.proofs.Lists.{choose, same_some}
+use Rattle.std.proofs.lemmas.Option.{slice_get_within}
+use Rattle.table_replica.proofs.Shared.{get_at}
 
 -- The laws of histories
 
@@ -83,11 +85,6 @@ shown : (x : Part) (clock : ℕ) (end : Other) → StandsAtOther x clock end →
 shown (part.First core) clock end s = absurd s
 shown (part.Other core) clock end s = s.shown_is
 
--- core 0 with nothing under way is idle, and its history ends so
-pub idle_first : (others cores : ℕ) (x : Part) (clock : ℕ) (end : Core0) (view : ℕ → LinkView) → StandsAt0 others x clock end → HasNothingUnderWay cores x view → IsIdle0 x
-idle_first others cores (part.First core) clock end view s nothing = nothing.0
-idle_first others cores (part.Other core) clock end view s nothing = absurd s
-
 pub idle_at : (others : ℕ) (x : Part) (clock : ℕ) (end : Core0) → StandsAt0 others x clock end → IsIdle0 x → end.place.phase ≡ Idle
 idle_at others (part.First core) clock end s idle = ap (λ p. p.phase) s.place_is ∙ idle
 idle_at others (part.Other core) clock end s idle = absurd s
@@ -107,7 +104,7 @@ pub record OthersEnd (budgets : List ℕ) (others : List RingCore) : Type 0 wher
 others_end : (budget : ℕ) (budgets : List ℕ) (start : RingCore) (others : List RingCore) → AreMachine budget budgets start others → ((k : ℕ) (c : RingCore) → slice_get others k ≡ Some c → Stands ring_view c) → OthersEnd budgets others
 others_end budget budgets start others machine stands =
     let chosen = choose (λ (k : ℕ) (c : RingCore) (d : Other). EndsSo k (replica_of c.part).budget c.part c.clock c.history (ring_view c.links) d) others (λ k c at.
-    let b = get_at budgets k (omega (arith, get_within others k c at, machine.all)) in
+    let b = get_at budgets k (omega (arith, slice_get_within others k c at, machine.all)) in
     end_of k c.part c.number c.cores c.clock c.history (ring_view c.links) (stands k c at) (machine.peers k b.0 c b.1 at).place.number_is) in
     record {
       ends = chosen.ys;
@@ -123,7 +120,7 @@ computation_of budget budgets start others end machine stands o beside =
     let long_h : length (histories_of others) ≡ length budgets = length-map others (λ (c : RingCore). c.history) ∙ machine.all in
     let long_v : length (map (λ (c : RingCore). ring_view c.links) others) ≡ length budgets = length-map others (λ (c : RingCore). ring_view c.links) ∙ machine.all in
     concluded budget budgets start.history (histories_of others) (ring_view start.links) (map (λ (c : RingCore). ring_view c.links) others) end o.ends long_h long_v o.all stands (λ i b h v d at_b at_h at_v at_d.
-    let c = get_at others i (omega (arith, get_within budgets i b at_b, machine.all)) in
+    let c = get_at others i (omega (arith, slice_get_within budgets i b at_b, machine.all)) in
     let x = get_map (λ (c : RingCore). c.history) others i h at_h in
     let y = get_map (λ (c : RingCore). ring_view c.links) others i v at_v in
     let is_h : c.0.history ≡ h = ap (λ (c : RingCore). c.history) (same_some c.0 x.0 (sym c.1 ∙ x.1)) ∙ sym x.2 in
@@ -182,8 +179,8 @@ concludes budget budgets start others machine stands stand beside = record {
 
     end_at : (i : ℕ) (c : RingCore) → slice_get others i ≡ Some c → (d : Other) × (slice_get o.ends i ≡ Some d) × ShowsAt e.end.log c d
     end_at i c at =
-        let b = get_at budgets i (omega (arith, get_within others i c at, machine.all)) in
-        let d = get_at o.ends i (omega (arith, get_within others i c at, machine.all, o.all)) in
+        let b = get_at budgets i (omega (arith, slice_get_within others i c at, machine.all)) in
+        let d = get_at o.ends i (omega (arith, slice_get_within others i c at, machine.all, o.all)) in
         (d.0, d.1, shows_at budget budgets start.history (histories_of others) e.end o.ends i b.0 c d.0 right.agree b.1 d.1 (o.are_at i c d.0 at d.1))
 
     tables : (i : ℕ) (c : RingCore) → slice_get (start ∷ others) i ≡ Some c → ShowsTable e.end.log c

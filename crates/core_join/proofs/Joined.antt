@@ -5,7 +5,7 @@ use mathlib.Core.List.{IsPrefix}
 use Rattle.core_links.specs.RingSlots.{own_of, ring_view, SameLinks, AreJoinedLinks}
 use Rattle.core_links.specs.RingLaws.{SameLinks-itself, SameLinks-along}
 use Rattle.core_links.specs.Views.{LinkView, IsSameView}
-use Rattle.world_model.proofs.Lists.{get_at, get_within, get_more}
+use Rattle.world_model.proofs.Lists.{get_more}
 use Rattle.world_histories.proofs.Lists.{get_next}
 use Rattle.world_histories.specs.declared.history.Stamped.{Stamped}
 use Rattle.core_loop.specs.Standing.{AreBeside}
@@ -16,6 +16,8 @@ use Rattle.core_loop.proofs.Resting.{stands_quiet}
 use Rattle.core_join.specs.Machines.{RingCore, IsPeer, AreMachine}
 use Rattle.core_join.specs.Conclusions.{histories_of}
 use Rattle.core_join.proofs.Machines.{joined_links}
+use Rattle.std.proofs.lemmas.Option.{slice_get_within}
+use Rattle.table_replica.proofs.Shared.{get_at}
 
 -- a core of which only the links were looked at
 pub record IsLookedAt (old new : RingCore) : Type 0 where
@@ -85,7 +87,7 @@ next_peer : (budget : ℕ) (budgets : List ℕ) (start : RingCore) (others : Lis
     → AreMachine budget budgets start others → others ≡ seen ++ other ∷ rest → (b : ℕ) × IsPeer (length budgets) (length seen) b start other
 next_peer budget budgets start others other seen rest machine split =
     let at : slice_get others (length seen) ≡ Some other = ap (λ (l : List RingCore). slice_get l (length seen)) split ∙ get_next seen other rest in
-    let b = get_at budgets (length seen) (omega (arith, get_within others (length seen) other at, machine.all)) in
+    let b = get_at budgets (length seen) (omega (arith, slice_get_within others (length seen) other at, machine.all)) in
     (b.0, machine.peers (length seen) b.0 other b.1 at)
 
 pub next_joined : (budget : ℕ) (budgets : List ℕ) (start : RingCore) (others : List RingCore) (first other : RingCore) (histories : List (List Stamped)) (seen rest : List RingCore)

@@ -1,11 +1,12 @@
 -- The least of the events that come first, core after core.
 use Rattle.std.proofs.Common.{slice_index_or, ◌≡◌, ◌+◌, ◌<◌, ◌≤◌, ◌⊎◌, inl, inr, ℕ, Option, None, Some, List, [], ◌∷◌, length, slice_get, refl, sym, ap, ◌∙◌, subst, arith}
 use Rattle.std.specs.Borrow.{Bor}
-use Rattle.world_model.proofs.Lists.{get_within, map_get}
 use Rattle.world_histories.specs.declared.history.Stamped.{Stamped}
 use Rattle.world_histories.proofs.Lists.{less_or_same}
 use Rattle.core_join.specs.Merges.{shown_histories, IsLeast}
 use Rattle.core_join.proofs.Lists.{get_indexed, starts_with, is_empty}
+use Rattle.std.proofs.lemmas.Option.{slice_get_within}
+use Rattle.filter_table.proofs.Lists.{map-get}
 
 -- this core's first event, of this stamp, is the least of those of the cores below this number
 pub record LeastBelow (left : List (List Stamped)) (n core stamp : ℕ) : Type 0 where
@@ -97,12 +98,12 @@ found_all left n core stamp all found = record {
   event = found.event;
   later = found.later;
   here = found.here;
-  before_all = λ k t rest here. found.before_all k t rest (omega (arith, all, get_within left k (t ∷ rest) here)) here;
+  before_all = λ k t rest here. found.before_all k t rest (omega (arith, all, slice_get_within left k (t ∷ rest) here)) here;
 }
 
 -- a slice among slices, and its first event
 pub shown_at : (left : List (Bor (List Stamped))) (core : ℕ) (h : Bor (List Stamped)) → h ≡ slice_index_or left core h → core < length left → slice_get (shown_histories left) core ≡ Some h.now
-shown_at left core h e lt = map_get (λ (b : Bor (List Stamped)). b.now) left core h (get_indexed left core h e lt)
+shown_at left core h e lt = map-get (λ (b : Bor (List Stamped)). b.now) left core h (get_indexed left core h e lt)
 
 pub shown_first : (left : List (Bor (List Stamped))) (core : ℕ) (h : Bor (List Stamped)) (x : Stamped) → h ≡ slice_index_or left core h → core < length left → Some x ≡ slice_get h.now 0
     → (xs : List Stamped) × (slice_get (shown_histories left) core ≡ Some (x ∷ xs))

@@ -4,8 +4,9 @@ use Rattle.core_links.specs.declared.ring_links.Link.{Link}
 use Rattle.core_links.specs.declared.ring_links.RingLinks.{RingLinks}
 use Rattle.core_links.specs.RingSlots.{own_of, link_to, SameSlot, SameLinks, AreJoinedSlots, AreJoinedLinks}
 use Rattle.core_loop.specs.Cores.{SameCore}
-use Rattle.world_model.proofs.Lists.{get_at, get_within}
 use Rattle.core_join.specs.Machines.{RingCore, HasPlace, IsPeer, IsMachine, AreSameCores}
+use Rattle.std.proofs.lemmas.Option.{slice_get_within}
+use Rattle.table_replica.proofs.Shared.{get_at}
 
 joined_slots : (a b c d : Option Link) → SameSlot a b → SameSlot c d → AreJoinedSlots a c → AreJoinedSlots b d
 joined_slots None b c d same other joined = absurd joined
@@ -40,7 +41,7 @@ machine_ran budget budgets (first ∷ others) (again ∷ others_again) machine s
       place = same_place 0 (suc (length budgets)) budget first again machine.place ran0;
       all = long ∙ machine.all;
       peers = λ i b d at_b at_d.
-          let c = get_at others i (omega (arith, get_within budgets i b at_b, machine.all)) in
+          let c = get_at others i (omega (arith, slice_get_within budgets i b at_b, machine.all)) in
           let p = machine.peers i b c.0 at_b c.1 in
           let ran : SameCore SameLinks c.0 d = same.each (suc i) c.0 d c.1 at_d in
           record {

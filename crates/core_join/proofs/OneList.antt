@@ -3,7 +3,7 @@ use Rattle.std.proofs.Common.{slice_index_or, ◌≡◌, ◌<◌, ◌≤◌, ◌
 use Rattle.std.proofs.lemmas.List.{length-map, map-append, append-nil}
 use Rattle.std.specs.Borrow.{Bor}
 use Rattle.world_events.specs.declared.event.Done.{Done}
-use Rattle.world_model.proofs.Lists.{get_at, get_within, get-set_same, get-set_other, length-slice_set, same_or_not}
+use Rattle.world_model.proofs.Lists.{get-set_same, get-set_other, length-slice_set, same_or_not}
 use Rattle.world_histories.specs.declared.history.Stamped.{Stamped}
 use Rattle.world_histories.specs.Merging.{core_of, part, IsBefore, IsInOrder, Merged, listed, as_listed}
 use Rattle.world_histories.proofs.Lists.{size, size_set}
@@ -11,6 +11,8 @@ use Rattle.world_histories.proofs.Parts.{part_own, part_other, placed}
 use Rattle.world_histories.proofs.Merge.{one_run, run_of, first_of_core, rest_in_order}
 use Rattle.core_join.specs.Merges.{ListsAll, ListsRuns, shown_histories, NoneLeft, IsLeast}
 use Rattle.core_join.proofs.Least.{shown_at}
+use Rattle.std.proofs.lemmas.Option.{slice_get_within}
+use Rattle.table_replica.proofs.Shared.{get_at}
 
 heads : (x y : Stamped) (xs ys : List Stamped) → x ∷ xs ≡ y ∷ ys → x ≡ y
 heads x y xs ys e = cc
@@ -88,15 +90,6 @@ pub record Merging (merged : List Stamped) (left : List (List Stamped)) (list : 
 abbrev pub MergesSo : List (List Stamped) → List (List Stamped) → List Done → Type 0
 MergesSo all left list = (core0 : List Stamped) (others : List (List Stamped)) (merged : List Stamped) → all ≡ core0 ∷ others → Merged core0 others merged → Merging merged left list
 
-pub merges_first : (all left : List (List Stamped)) (list : List Done) → left ≡ all → list ≡ [] → MergesSo all left list
-merges_first all left list same none = λ core0 others merged e m. record {
-  done = [];
-  rest = merged;
-  split = refl;
-  list_is = none;
-  is_rest = subst (λ (l : List (List Stamped)). IsRest l merged) (sym (same ∙ e)) (record { in_order = m.in_order; of_each = m.of_each; of_cores = λ n x at. omega (arith, m.of_cores n x at) });
-}
-
 pub merges_next : (all left : List (List Stamped)) (list : List Done) (core : ℕ) (l : IsLeast left core) → MergesSo all left list → MergesSo all (slice_set left core l.later) (list ++ listed l.event ∷ [])
 merges_next all left list core l was = λ core0 others merged e m.
     let w = was core0 others merged e m in
@@ -139,7 +132,7 @@ pub record SplitsOff (left : List (Bor (List Stamped))) (core : ℕ) (l : IsLeas
 
 pub splits_off : (left : List (Bor (List Stamped))) (core : ℕ) (l : IsLeast (shown_histories left) core) (h later : Bor (List Stamped)) (event : Stamped) → h ≡ slice_index_or left core h → h.now ≡ event ∷ later.now → SplitsOff left core l event later
 splits_off left core l h later event e split =
-    let inside : core < length left = omega (arith, get_within (shown_histories left) core (l.event ∷ l.later) l.here, length-map left (λ (b : Bor (List Stamped)). b.now)) in
+    let inside : core < length left = omega (arith, slice_get_within (shown_histories left) core (l.event ∷ l.later) l.here, length-map left (λ (b : Bor (List Stamped)). b.now)) in
     let at : Some (event ∷ later.now) ≡ Some (l.event ∷ l.later) = sym (shown_at left core h e inside ∙ ap (λ (x : List Stamped). Some x) split) ∙ l.here in
     let first : event ≡ l.event = cc in
     let rest : later.now ≡ l.later = cc in

@@ -17,6 +17,7 @@ use Rattle.world_histories.specs.declared.history.Stamped.{Stamped}
 use Rattle.world_histories.specs.Histories.{Stamping, for_entry, with_stamp, taking, taken_from}
 use Rattle.core_loop.specs.Standing.{Grows}
 use Rattle.core_loop.specs.Carrying.{Quiet, Carries, Hands, HandsOut, IsFirst, Carries0, CarriesOther}
+use Rattle.world_histories.proofs.Lists.{prefix_then}
 
 -- these messages are taken, and nothing else changes
 pub record Takes (v w : LinkView) (ms : List Stamping) : Type 0 where
@@ -117,14 +118,11 @@ reply_stays stamp (Some m) (Some p) v w e r = (r.0, r.1, e ∙ r.2)
 
 -- Quiet looks
 
-prefix_along : {A : Type 0} (xs ys zs : List A) → IsPrefix xs ys → IsPrefix ys zs → IsPrefix xs zs
-prefix_along xs ys zs p q = (p.0 ++ q.0, sym (append_assoc xs p.0 q.0) ∙ (ap (λ l. l ++ q.0) p.1 ∙ q.1))
-
 pub quiet_along : (u v w : LinkView) → Quiet u v → Quiet v w → Quiet u w
 quiet_along u v w p q = record {
   sent_same = q.sent_same ∙ p.sent_same;
   taken_same = q.taken_same ∙ p.taken_same;
-  still_kept = prefix_along u.kept v.kept w.kept p.still_kept q.still_kept;
+  still_kept = prefix_then u.kept v.kept w.kept p.still_kept q.still_kept;
   still_ready = λ r. q.still_ready (p.still_ready r);
   told_same = q.told_same ∙ p.told_same;
   all_shown = λ t.

@@ -72,17 +72,11 @@ pub record SameFrom (old new : ℕ → LinkView) (upto : ℕ) : Type 0 where
   pub itself : new 0 ≡ old 0
   pub rest : (entry : ℕ) → upto ≤ entry → new (suc entry) ≡ old (suc entry)
 
-pub same_from_start : (old : ℕ → LinkView) (upto : ℕ) → SameFrom old old upto
-same_from_start old upto = record { itself = refl; rest = λ entry le. refl }
-
 pub same_from_next : (old mid new : ℕ → LinkView) (upto next : ℕ) → next ≡ suc upto → SameFrom old mid upto → ((p : ℕ) → p ≢ next → new p ≡ mid p) → SameFrom old new next
 same_from_next old mid new upto next is s same = record {
   itself = same 0 (λ x. absurd (omega (arith, is))) ∙ s.itself;
   rest = λ entry le. same (suc entry) (λ x. absurd (omega (arith, is))) ∙ s.rest entry (omega (arith, is));
 }
-
-pub hands_below_none : (stamp : ℕ) (m : Message) (old new : ℕ → LinkView) → HandsBelow stamp m old new 0
-hands_below_none stamp m old new = record { done = λ entry lt. absurd (omega arith) }
 
 pub hands_below_next : (stamp : ℕ) (m : Message) (old mid new : ℕ → LinkView) (upto next : ℕ) → next ≡ suc upto → HandsBelow stamp m old mid upto → SameFrom old mid upto → Hands (mid next) (new next) (with_stamp stamp (m ∷ [])) → ((p : ℕ) → p ≢ next → new p ≡ mid p)
     → HandsBelow stamp m old new next

@@ -44,27 +44,9 @@ considered short core (message.Ack txn) (Some r) core' h some = absurd h
 considered short core (message.Submit op) None core' h some = absurd h
 considered short core (message.Submit op) (Some r) core' h some = absurd h
 
-pub cannot_reply : (short : Bool) (clock : ℕ) (core core' : OtherCore) (m : Stamping) (reply : Option Message) (view : ℕ → LinkView) (r : Refusal)
-    → Considers short core m.message reply core' → CannotReply clock m.stamp reply (view 0) r → CannotTakeOther clock core m view r
-cannot_reply short clock core core' m reply view refusal.NotReady h c = (c.1, considered short core m.message reply core' h c.0)
-cannot_reply short clock core core' m reply view refusal.Spent h c = c
-cannot_reply short clock core core' m reply view refusal.NoMemory h c = tt
-cannot_reply short clock core core' m reply view refusal.Stranger h c = absurd c
-
 pub first_byte : List ℕ → ℕ
 first_byte [] = 0
 first_byte (b ∷ bs) = b
-
--- the first byte of a message says whether it is answered
-pub answered_kind : (bytes : List ℕ) (stamp : ℕ) (m : Message) → (first_byte bytes ≡ 1) ⊎ ((first_byte bytes ≡ 3) ⊎ (first_byte bytes ≡ 4)) → Coded bytes stamp m → IsAnswered m
-unfolding first_byte
-answered_kind bytes stamp (message.Prepare txn op) k c = tt
-answered_kind bytes stamp (message.Commit txn) k c = tt
-answered_kind bytes stamp (message.Abort txn) k c = tt
-answered_kind bytes stamp (message.Vote txn v) k c = let b : first_byte bytes ≡ 2 = ap first_byte c.spelled in absurd (omega (arith, k, b))
-answered_kind bytes stamp (message.Ack txn) k c = let b : first_byte bytes ≡ 5 = ap first_byte c.spelled in absurd (omega (arith, k, b))
-answered_kind bytes stamp (message.Submit op) k c = let b : first_byte bytes ≡ 6 = ap first_byte c.spelled in absurd (omega (arith, k, b))
-answered_kind bytes stamp (message.Reply decision) k c = let b : first_byte bytes ≡ 7 = ap first_byte c.spelled in absurd (omega (arith, k, b))
 
 some_once : (a b : List ℕ) (o : Option (List ℕ)) → o ≡ Some a → o ≡ Some b → a ≡ b
 some_once a b o e f = cc
@@ -80,33 +62,9 @@ pub not_ready_waits : (cores clock peer : ℕ) (x : Part) (m : Stamping) (seen :
 not_ready_waits cores clock peer (part.First core) m seen f c = (m, f, c)
 not_ready_waits cores clock peer (part.Other core) m seen f c = (c.0, λ n g. subst IsAnswered (first_once (seen peer) m n f g) c.1)
 
--- a message whose first byte says that it is answered must wait for the link to core 0
-pub known_waits : (cores peer : ℕ) (x : Part) (bytes : List ℕ) (seen : ℕ → LinkView) → first_of (seen peer).kept ≡ Some bytes → IsKnownAnswered x bytes → (seen 0).ready ≡ false → MustWait cores x peer seen
-known_waits cores peer (part.First core) bytes seen e k r = absurd k
-known_waits cores peer (part.Other core) bytes seen e k r = (r, λ m f. k m.stamp m.message (subst (λ (b : List ℕ). Coded b m.stamp m.message) (some_once f.bytes bytes (first_of (seen peer).kept) f.there e) f.coded))
-
 -- What comes next
 
-pub next_request : (cores : ℕ) (x : Part) (requests : List Op) (seen : ℕ → LinkView) (e : Event) → NoMessageNow cores x seen → IsNextRequest cores x e → IsNext cores x requests seen e
-next_request cores x requests seen (Start op) n r = (n, r)
-next_request cores x requests seen (StartFor core) n r = (n, r)
-next_request cores x requests seen (Submit core op) n r = (n, r)
-next_request cores (part.First core) requests seen (Take to from short) n r = absurd r
-next_request cores (part.Other core) requests seen (Take to from short) n r = absurd r
-next_request cores (part.First core) requests seen (Rx to number packet floor) n r = absurd r
-next_request cores (part.Other core) requests seen (Rx to number packet floor) n r = absurd r
-
-pub next_take : (cores number peer : ℕ) (x : Part) (requests : List Op) (seen : ℕ → LinkView) (e : Event) → e ≡ Take number peer false → IsLeastShowing cores seen peer → IsNext cores x requests seen e
-next_take cores number peer x requests seen e is l = subst (λ (k : Event). IsNext cores x requests seen k) (sym is) l
-
-pub next_receipt : (cores number : ℕ) (job : Job) (x : Part) (requests : List Op) (seen : ℕ → LinkView) (e : Event) → e ≡ Rx number job.number job.packet job.floor → NoMessageNow cores x seen → (CanBeginNext cores x requests seen → ⊥) → IsNext cores x requests seen e
-next_receipt cores number job x requests seen e is n none = subst (λ (k : Event). IsNext cores x requests seen k) (sym is) (n, none)
-
 -- What is seen of the links
-
-nothing_kept : (kept : List (List ℕ)) → first_of kept ≡ None → kept ≡ []
-nothing_kept [] e = refl
-nothing_kept (b ∷ bs) e = absurd cc
 
 -- a peer that shows nothing, after those before it
 pub one_more : (peer : ℕ) (old new : ℕ → LinkView) → ((p : ℕ) → p < peer → ShowsNothing (old p)) → ((p : ℕ) → p ≢ peer → new p ≡ old p) → ((p : ℕ) → p < peer → ShowsNothing (new p))

@@ -75,9 +75,6 @@ given_traffic old new peer message (Err back) g s = λ p. by_place p (same_or_no
     by_place p (inl e) = subst (λ (n : ℕ). ((list_view new n).sent ≡ (list_view old n).sent) × ((list_view new n).taken ≡ (list_view old n).taken)) (sym e) (ap (λ (v : LinkView). v.sent) s.1, ap (λ (v : LinkView). v.taken) s.1)
     by_place p (inr ne) = (ap (λ (v : LinkView). v.sent) (s.2 p ne), ap (λ (v : LinkView). v.taken) (s.2 p ne))
 
-pub same_traffic : (v w : ℕ → LinkView) → ((p : ℕ) → w p ≡ v p) → SameTraffic v w
-same_traffic v w e = λ p. (ap (λ (k : LinkView). k.sent) (e p), ap (λ (k : LinkView). k.taken) (e p))
-
 pub fits : (x : Part) (number cores clock : ℕ) (h : List Stamped) (v : ℕ → LinkView) → IsStanding x number cores clock h v → IsFitting number cores x
 fits (part.First core) number cores clock h v st = (st.1, st.2.others_are, st.2.between)
 fits (part.Other core) number cores clock h v st = (st.0, st.2, st.3.between)
@@ -95,7 +92,3 @@ short_rest (suc entry) all front rest e s = all_rest HasShortProgram front rest 
 flat_map_more : (h : List Stamped) (s : Stamped) → begun (h ++ s ∷ []) ≡ begun h ++ begins s.done.event
 flat_map_more [] s = append-nil (begins s.done.event)
 flat_map_more (x ∷ h) s = ap (λ (l : List Op). begins x.done.event ++ l) (flat_map_more h s) ∙ sym (append_assoc (begins x.done.event) (begun h) (begins s.done.event))
-
-pub requests_more : (h h' : List Stamped) (s : Stamped) (old new : List Op) → h' ≡ h ++ s ∷ [] → old ≡ begins s.done.event ++ new → begun h' ++ new ≡ begun h ++ old
-requests_more h h' s old new e f =
-    ap (λ (l : List Stamped). begun l ++ new) e ∙ (ap (λ (l : List Op). l ++ new) (flat_map_more h s) ∙ (append_assoc (begun h) (begins s.done.event) new ∙ ap (λ (l : List Op). begun h ++ l) (sym f)))

@@ -71,10 +71,6 @@ stands_other_more entry budget h v w c c' s m st step posted took elsewhere = re
   elsewhere = λ peer. still_silent (v (suc peer)) (w (suc peer)) (elsewhere peer) (st.elsewhere peer);
 }
 
--- nothing is sent or taken anew
-pub same_grows : (before after : List (List ℕ)) → after ≡ before → Grows before after []
-same_grows before after e = ([], e ∙ sym (append-nil before), tt)
-
 table_opening : table [] 0 ≡ opening
 table_opening = table_whole []
 

@@ -78,24 +78,3 @@ pub start_sent : (core : Core0) (s : State) (b : ℕ) (place place' : Coordinato
     → told.say ≡ asked_by refusal core.coordinator.others → outgoing told place' ≡ start_sends core op refusal
 start_sent core s b place place' op committed told None starts last says = rw last (start_asked core.coordinator.others s b place place' op committed told starts says)
 start_sent core s b place place' op committed told (Some fault) starts last says = start_silent core.coordinator.others s b place place' op committed told starts says
-
-pub start_for_asked : (others : ℕ) (s : State) (b : ℕ) (place place' : CoordinatorPlace) (requests requests' : Requests) (entry : ℕ) (op : Op) (committed : Option Op) (told : Step) → (h : StartsFor others s b place requests entry place' requests' committed told) → h.op ≡ op → 0 < others
-    → told.say ≡ asked_by None others → outgoing told place' ≡ asks others place.last op
-start_for_asked zero s b place place' requests requests' entry op committed told h is some says = absurd (omega (arith, some))
-start_for_asked (suc others) s b place place' requests requests' entry op committed told h is some says = by_start h.starts
-  where
-    begun_says : h.begun.say ≡ Some Prepare
-    begun_says = sym (ap (λ (y : Step). y.say) h.tells) ∙ says
-
-    by_start : coordinators.Starts (suc others) s b place h.op place' committed h.begun → outgoing told place' ≡ to_all (message.Prepare (place.last + 1) op)
-    by_start (coordinators.refused f a p c t) = absurd (let x = ap (λ (y : Step). y.say) t in let y = begun_says in cc)
-    by_start (coordinators.unstaged f p c t) = absurd (let x = ap (λ (y : Step). y.say) t in let y = begun_says in cc)
-    by_start (coordinators.alone a n p c t) = absurd (let x = ap (λ (y : Step). y.say) t in let y = begun_says in cc)
-    by_start (coordinators.prepared a n p c t) = rw (h.tells, t, p, is) refl
-
-pub start_for_refused : (others : ℕ) (s : State) (b : ℕ) (place place' : CoordinatorPlace) (requests requests' : Requests) (entry : ℕ) (fault : StageFault) (committed : Option Op) (told : Step) → (h : StartsFor others s b place requests entry place' requests' committed told)
-    → told.say ≡ None → told.decided ≡ Some (Refused 0 (veto_of fault)) → outgoing told place' ≡ to_one entry (message.Reply (Refused 0 (veto_of fault)))
-start_for_refused others s b place place' requests requests' entry fault committed told h says decides =
-    let begun_says : h.begun.say ≡ None = sym (ap (λ (y : Step). y.say) h.tells) ∙ says in
-    let begun_decides : h.begun.decided ≡ Some (Refused 0 (veto_of fault)) = sym (ap (λ (y : Step). y.decided) h.tells) ∙ decides in
-    rw (h.tells, begun_says, begun_decides) refl

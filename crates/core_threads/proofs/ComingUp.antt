@@ -3,12 +3,13 @@ use Rattle.std.proofs.Common.{◌≡◌, ◌<◌, ◌≤◌, inl, inr, ℕ, zero
 use Rattle.std.specs.Global.{Global}
 use Rattle.std.specs.declared.collections.VecDeque.{VecDeque}
 use Rattle.std.proofs.lemmas.List.{append-nil}
-use Rattle.world_model.proofs.Lists.{get_more, get_within, get-set_other, length-slice_set}
+use Rattle.world_model.proofs.Lists.{get_more, get-set_other, length-slice_set}
 use Rattle.filter_table.specs.declared.operation.Op.{Op}
 use Rattle.rx_queue.specs.declared.port.Port.{Port}
 use Rattle.core_links.specs.declared.ring_links.RingLinks.{RingLinks}
 use Rattle.core_join.specs.Machines.{RingCore}
 use Rattle.core_threads.specs.Booting.{ComesUp, AddsCore, HaveComeUp}
+use Rattle.std.proofs.lemmas.Option.{slice_get_within}
 
 same_some : {A : Type 0} (x y : A) → Some x ≡ Some y → x ≡ y
 same_some x y e = cc
@@ -17,30 +18,12 @@ get_middle : {A : Type 0} (xs : List A) (x : A) (ys : List A) → slice_get (xs 
 get_middle [] x ys = refl
 get_middle (a ∷ xs) x ys = get_middle xs x ys
 
-get_ahead : {A : Type 0} (xs ys : List A) (i : ℕ) (x : A) → slice_get xs i ≡ Some x → slice_get (xs ++ ys) i ≡ Some x
-get_ahead [] ys i x at = absurd (cc)
-get_ahead (a ∷ xs) ys zero x at = at
-get_ahead (a ∷ xs) ys (suc i) x at = get_ahead xs ys i x at
-
 -- the cores over the links seen have come up, and the lanes of the others are as they were
 pub record ComingUp (count : ℕ) (budgets : List ℕ) (start lanes : List (VecDeque Op Global)) (links seen rest : List RingLinks) (cores : List RingCore) (ports : List Port) : Type 0 where
   pub split : links ≡ seen ++ rest
   pub long : length lanes ≡ length start
   pub ahead : (i : ℕ) → length seen ≤ i → slice_get lanes i ≡ slice_get start i
   pub up : HaveComeUp count budgets start seen cores ports
-
-pub coming_first : (count : ℕ) (budgets : List ℕ) (lanes : List (VecDeque Op Global)) (links rest : List RingLinks) (cores : List RingCore) (ports : List Port) → links ≡ rest → cores ≡ [] → ports ≡ []
-    → ComingUp count budgets lanes lanes links [] rest cores ports
-coming_first count budgets lanes links rest cores ports is none none_ports = record {
-  split = is;
-  long = refl;
-  ahead = λ i _. refl;
-  up = record {
-    all = ap length none;
-    all_ports = ap length none_ports;
-    each = λ i b r l c p at_b at_r at_l. absurd (cc);
-  };
-}
 
 module _ (count : ℕ) (budgets : List ℕ) (start lanes : List (VecDeque Op Global)) (links seen rest items : List RingLinks) (link : RingLinks) (cores cores' : List RingCore) (ports ports' : List Port)
     (was : ComingUp count budgets start lanes links seen items cores ports) (next : items ≡ link ∷ rest) where
@@ -50,7 +33,7 @@ module _ (count : ℕ) (budgets : List ℕ) (start lanes : List (VecDeque Op Glo
       ap (λ (n : ℕ). slice_get links n) was.up.all ∙ ap (λ (l : List RingLinks). slice_get l (length seen)) is ∙ get_middle seen link rest
 
   pub next_inside : length links ≡ length budgets → length cores < length budgets
-  next_inside all = omega (arith, get_within links (length cores) link next_link, all)
+  next_inside all = omega (arith, slice_get_within links (length cores) link next_link, all)
 
   pub next_lane : (lane : VecDeque Op Global) → slice_get lanes (length cores) ≡ Some lane → slice_get start (length cores) ≡ Some lane
   next_lane lane at = sym (was.ahead (length cores) (omega (arith, was.up.all))) ∙ at

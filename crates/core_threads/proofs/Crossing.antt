@@ -49,12 +49,6 @@ staged_send = search (sendable, snapshot_send, contents_send) depth 14
 replica_send : IsSend replica.the_row
 replica_send = search (sendable, contents_send, staged_send) depth 14
 
-core0_send : IsSend core0.the_row
-core0_send = search (sendable, replica_send, coordinator.the_send) depth 14
-
-other_core_send : IsSend other_core.the_row
-other_core_send = search (sendable, replica_send, participant.the_send) depth 14
-
 core0_field_send : IsSend core0.the_field.row
 core0_field_send = search (sendable, replica_send, coordinator.the_send) depth 14
 

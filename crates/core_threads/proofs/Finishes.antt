@@ -1,7 +1,7 @@
 -- What the joined threads come to.
 use Rattle.std.proofs.Common.{All, ◌≡◌, ◌<◌, ℕ, suc, length, List, inl, inr, Option, Some, None, slice_get, map, sym, ap, ◌∙◌, subst, arith, MatchOption}
 use Rattle.std.proofs.lemmas.List.{length-map}
-use Rattle.world_model.proofs.Lists.{get_map, get_at, get_within, map_get}
+use Rattle.world_model.proofs.Lists.{get_map}
 use Rattle.rx_queue.specs.declared.job.Job.{Job}
 use Rattle.core_join.specs.Machines.{RingCore}
 use Rattle.core_threads.specs.declared.feeding.Outlet.{Outlet}
@@ -15,6 +15,9 @@ use Rattle.core_threads.specs.Searching.{AreInPlace, HaltedAt, NoneHalted, Unfin
 use Rattle.core_threads.specs.Finishing.{CanFinish, Finishes}
 use Rattle.core_threads.proofs.Emptying.{below_or}
 use Rattle.core_threads.specs.Runs.{StandsFor, StandsSo}
+use Rattle.std.proofs.lemmas.Option.{slice_get_within}
+use Rattle.filter_table.proofs.Lists.{map-get}
+use Rattle.table_replica.proofs.Shared.{get_at}
 
 abbrev cores_of : List Ran → List RingCore
 cores_of ran = map (λ r. r.core) ran
@@ -22,13 +25,13 @@ cores_of ran = map (λ r. r.core) ran
 module _ (old new : List Ran) (outlets : List Outlet) (can : CanFinish old outlets) (same : AreSameRan old new) where
   before : (i : ℕ) (s : Ran) → slice_get new i ≡ Some s → (r : Ran) × (slice_get old i ≡ Some r) × SameRan r s
   before i s at =
-      let r = get_at old i (omega (arith, get_within new i s at, same.all)) in
+      let r = get_at old i (omega (arith, slice_get_within new i s at, same.all)) in
       (r.0, r.1, same.each i r.0 s r.1 at)
 
   pub in_place : AreInPlace new
   in_place i s at =
       let r = before i s at in
-      let o = get_at outlets i (omega (arith, get_within new i s at, same.all, can.fed.all)) in
+      let o = get_at outlets i (omega (arith, slice_get_within new i s at, same.all, can.fed.all)) in
       ap (λ (c : RingCore). c.number) r.2.core.core ∙ (can.fed.each i r.0 o.0 r.1 o.1).number
 
   stands_still : (why : Halt) (c d : RingCore) → SameButTaken c d → StandsFor why c → StandsFor why d
@@ -82,10 +85,10 @@ module _ (old new : List Ran) (outlets : List Outlet) (can : CanFinish old outle
   least left (Some h) (inr early) = subst (λ (w : Halt). AreUnstopped (cores_of new) (unstopped (cores_of new) h.0 w)) (sym early.0) (unstopped_all early.1.0)
 
   halts_so : (left : List (ℕ × Job)) (place : ℕ) (why : Halt) (h : HaltedAt new place why) → StandsFor why h.its.core → HaltsFor (cores_of new) left place why
-  halts_so left place (halt.Cause cause) h stands = record { core = h.its.core; there = map_get (λ r. r.core) new place h.its h.there; stopped = stands }
-  halts_so left place halt.Spent h stands = omega (arith, get_within new place h.its h.there, length-map new (λ r. r.core))
-  halts_so left place halt.NoMemory h stands = omega (arith, get_within new place h.its h.there, length-map new (λ r. r.core))
-  halts_so left place halt.Limit h stands = omega (arith, get_within new place h.its h.there, length-map new (λ r. r.core))
+  halts_so left place (halt.Cause cause) h stands = record { core = h.its.core; there = map-get (λ r. r.core) new place h.its h.there; stopped = stands }
+  halts_so left place halt.Spent h stands = omega (arith, slice_get_within new place h.its h.there, length-map new (λ r. r.core))
+  halts_so left place halt.NoMemory h stands = omega (arith, slice_get_within new place h.its h.there, length-map new (λ r. r.core))
+  halts_so left place halt.Limit h stands = omega (arith, slice_get_within new place h.its h.there, length-map new (λ r. r.core))
   halts_so left place halt.Early h stands = absurd stands
 
   at_end : (left : List (ℕ × Job)) (i : ℕ) (c : RingCore) → ((r : Ran) → slice_get new i ≡ Some r → IsAtEnd (items_for i left) r.core) → slice_get (cores_of new) i ≡ Some c → IsAtEnd (items_for i left) c
@@ -96,7 +99,7 @@ module _ (old new : List Ran) (outlets : List Outlet) (can : CanFinish old outle
   early_so : (left : List (ℕ × Job)) (place : ℕ) (why : Halt) → why ≡ halt.Early → UnfinishedAt new left place → HaltsFor (cores_of new) left place why
   early_so left place why early u = subst (λ (w : Halt). HaltsFor (cores_of new) left place w) (sym early) (record {
     core = u.its.core;
-    there = map_get (λ r. r.core) new place u.its u.there;
+    there = map-get (λ r. r.core) new place u.its u.there;
     unfinished = u.unfinished;
     lesser = λ i c less at. at_end left i c (λ r at_r. u.lesser i r less at_r) at;
   })

@@ -4,9 +4,6 @@ use Rattle.std.proofs.lemmas.List.{append-nil, map-append}
 use Rattle.rx_queue.specs.declared.job.Job.{Job}
 use Rattle.core_threads.specs.Leaving.{tagged, Leaves}
 
-pub leaves_first : (core : ℕ) (taken : List Job) (left : List (ℕ × Job)) → Leaves core taken taken left left
-leaves_first core taken left = record { more = []; left = sym (append-nil left); whole = append-nil taken }
-
 -- one more
 pub leaves_more : (core : ℕ) (taken jobs jobs' : List Job) (job : Job) (old mid new : List (ℕ × Job)) → Leaves core taken jobs old mid → new ≡ mid ++ (core, job) ∷ [] → jobs' ≡ jobs ++ job ∷ [] → Leaves core taken jobs' old new
 leaves_more core taken jobs jobs' job old mid new was pushed grown = record {

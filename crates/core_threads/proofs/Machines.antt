@@ -4,8 +4,8 @@ use Rattle.std.specs.Global.{Global}
 use Rattle.std.specs.declared.collections.VecDeque.{VecDeque}
 use Rattle.std.proofs.lemmas.Grind.{common_steps}
 use Rattle.std.proofs.lemmas.List.Elements.{All-append}
-use Rattle.std.proofs.lemmas.Option.{get_or_from_slice_get}
-use Rattle.world_model.proofs.Lists.{get_at, get_within, same_or_not}
+use Rattle.std.proofs.lemmas.Option.{get_or_from_slice_get, slice_get_within}
+use Rattle.world_model.proofs.Lists.{same_or_not}
 use Rattle.filter_table.specs.declared.operation.Op.{Op}
 use Rattle.filter_table.specs.Tables.{HasShortProgram}
 use Rattle.rx_queue.specs.declared.port.Port.{Port}
@@ -17,6 +17,7 @@ use Rattle.core_threads.specs.Booted.{IsBooted, AreBooted}
 use Rattle.core_threads.specs.Booting.{ComesUp, HaveComeUp, HaveRequests, AreGivable, AreShortLanes, IsMachineOf}
 use Rattle.core_threads.specs.Lanes.{items_for, AreLanes}
 use Rattle.core_threads.specs.Wiring.{AreSilent, IsWiring}
+use Rattle.table_replica.proofs.Shared.{get_at}
 
 -- the requests of a core other than 0 are short
 short_for : (entry : ℕ) (requests : List (ℕ × Op)) → AreGivable requests → All HasShortProgram (items_for (suc entry) requests)
@@ -69,7 +70,7 @@ module _ (count : ℕ) (lanes : List (VecDeque Op Global)) (cores : List RingCor
 
   from : (budgets : List ℕ) (links : List RingLinks) → HaveComeUp count budgets lanes links cores ports → length links ≡ length budgets → length lanes ≡ length budgets → (i : ℕ) (c : RingCore) → slice_get cores i ≡ Some c → From budgets links i c
   from budgets links up long long_lanes i c at =
-      let below = get_within cores i c at in
+      let below = slice_get_within cores i c at in
       let b = get_at budgets i (omega (arith, below, up.all, long)) in
       let r = get_at lanes i (omega (arith, below, up.all, long, long_lanes)) in
       let l = get_at links i (omega (arith, below, up.all)) in

@@ -23,10 +23,3 @@ pairs_set R [] (b ∷ ys) i y v along at moves = absurd along
 pairs_set R (a ∷ xs) [] i y v along at moves = absurd along
 pairs_set R (a ∷ xs) (b ∷ ys) zero y v along at moves = (moves a (let e : b ≡ y = cc in rw e at along.0), along.1)
 pairs_set R (a ∷ xs) (b ∷ ys) (suc i) y v along at moves = (along.0, pairs_set R xs ys i y v along.1 at moves)
-
--- one more pair
-pub pairs_more : {A B : Type 0} (R : A → B → Type 0) (xs : List A) (ys : List B) (x : A) (y : B) → AllZip R xs ys → R x y → AllZip R (xs ++ x ∷ []) (ys ++ y ∷ [])
-pairs_more R [] [] x y along last = (last, search rules)
-pairs_more R [] (b ∷ ys) x y along last = absurd along
-pairs_more R (a ∷ xs) [] x y along last = absurd along
-pairs_more R (a ∷ xs) (b ∷ ys) x y along last = (along.0, pairs_more R xs ys x y along.1 last)

@@ -1,7 +1,6 @@
 -- A run of a machine, from its boot to its end.
 use Rattle.std.proofs.Common.{◌≡◌, ◌++◌, ℕ, zero, suc, List, [], ◌∷◌, Option, Some, None, slice_get, length, refl, sym, ap, ◌∙◌, subst, arith, rules}
 use Rattle.std.specs.List.{AllZip}
-use Rattle.world_model.proofs.Lists.{get_at, get_within}
 use Rattle.rx_queue.specs.declared.job.Job.{Job}
 use Rattle.rx_queue.specs.declared.port.Port.{Port}
 use Rattle.rx_queue.specs.declared.intake.Intake.{Intake}
@@ -24,6 +23,8 @@ use Rattle.core_threads.specs.Lanes.{items_for}
 use Rattle.core_threads.specs.Leaving.{IsFedBy}
 use Rattle.core_threads.specs.Loading.{IsLoaded, AreLoaded}
 use Rattle.core_threads.specs.Runs.{ThreadRan}
+use Rattle.std.proofs.lemmas.Option.{slice_get_within}
+use Rattle.table_replica.proofs.Shared.{get_at}
 
 -- the first of a pair, where the second stands at a place
 pub pair_at : {A B : Type 0} (R : A → B → Type 0) (xs : List A) (ys : List B) (i : ℕ) (y : B) → AllZip R xs ys → slice_get ys i ≡ Some y → (x : A) × (slice_get xs i ≡ Some x) × R x y
@@ -68,7 +69,7 @@ module _ (machine : List RingCore) (ports : List Port) (jobs : List (ℕ × Job)
   at i r o at_r at_o =
       let c = pair_at (λ c r. ThreadRan c r.core r.halted) machine ran i r have_ran at_r in
       let s = pair_at SameOutlet start outlets i o fed at_o in
-      let p = get_at ports i (omega (arith, get_within machine i c.0 c.1, booted.all)) in
+      let p = get_at ports i (omega (arith, slice_get_within machine i c.0 c.1, booted.all)) in
       record {
         core = c.0;
         port = p.0;
@@ -91,7 +92,7 @@ module _ (machine : List RingCore) (ports : List Port) (jobs : List (ℕ × Job)
 
   is_running : (i : ℕ) (c : RingCore) → slice_get machine i ≡ Some c → c.stopped ≡ None
   is_running i c at_c =
-      let p = get_at ports i (omega (arith, get_within machine i c at_c, booted.all)) in
+      let p = get_at ports i (omega (arith, slice_get_within machine i c at_c, booted.all)) in
       (booted.each i c p.0 at_c p.1).running
 
   pub can_finish : CanFinish ran outlets
@@ -108,8 +109,8 @@ module _ (machine : List RingCore) (ports : List Port) (jobs : List (ℕ × Job)
   module _ (cores : List RingCore) (left : List (ℕ × Job)) (halted : Option (ℕ × Halt)) (finishes : Finishes ran outlets cores left halted) where
     core_ends : (i : ℕ) (old new : RingCore) → slice_get machine i ≡ Some old → slice_get cores i ≡ Some new → CoreEnds (items_for i jobs) (items_for i left) old new
     core_ends i old new at_old at_new =
-        let r = get_at ran i (omega (arith, get_within machine i old at_old, long_ran)) in
-        let o = get_at outlets i (omega (arith, get_within machine i old at_old, long_ran, long_outlets)) in
+        let r = get_at ran i (omega (arith, slice_get_within machine i old at_old, long_ran)) in
+        let o = get_at outlets i (omega (arith, slice_get_within machine i old at_old, long_ran, long_outlets)) in
         let a = at i r.0 o.0 r.1 o.1 in
         let e : a.core ≡ old = (let f = a.core_at in cc) in
         let s = finishes.same i r.0 new r.1 at_new in

@@ -255,7 +255,7 @@ stays_above caps from id parent cap held at child h = both (parent == from) (is_
     both true b h = absurd cc
     both false b h = (refl, h)
 
-not_true : (b : Bool) → not b ≡ true → b ≡ false
+pub not_true : (b : Bool) → not b ≡ true → b ≡ false
 not_true true h = absurd cc
 not_true false h = refl
 
@@ -333,7 +333,7 @@ caps-dropped from entries middle after next kept is was =
     either false true = refl
     either false false = refl
 
-neither : (a b : Bool) → not (a || b) ≡ true → (a ≡ false) × (b ≡ false)
+pub neither : (a b : Bool) → not (a || b) ≡ true → (a ≡ false) × (b ≡ false)
 neither true b h = absurd cc
 neither false true h = absurd cc
 neither false false h = (refl, refl)

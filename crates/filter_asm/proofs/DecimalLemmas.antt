@@ -14,14 +14,11 @@ use Rattle.std.proofs.Common.{inl, inr}
 use Rattle.bpf_insn.specs.Texts.{is_blank}
 use Rattle.filter_asm.specs.Token.{IsToken, EndsBefore, continues, begins_name, continues_name, is_digits}
 use Rattle.filter_asm.specs.Number.{magnitude, number}
+use Rattle.filter_asm.proofs.FitsLemmas.{both}
 
 -- neither a line feed nor a semicolon
 abbrev pub is_plain : ℕ → Bool
 is_plain b = not (b == 10) && not (b == 59)
-
-both : (a b : Bool) → (a && b) ≡ true → (a ≡ true) × (b ≡ true)
-both true b e = (refl, e)
-both false b e = absurd (false≢true e)
 
 pub list_all-weaker : (p q : ℕ → Bool) → ((b : ℕ) → p b ≡ true → q b ≡ true) → (xs : List ℕ) → list_all p xs ≡ true → list_all q xs ≡ true
 list_all-weaker p q weaker [] e = refl

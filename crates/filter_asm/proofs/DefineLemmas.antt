@@ -15,7 +15,7 @@ use Rattle.filter_asm.specs.Program.{place_of, repeats, labels_of, body_of}
 use Rattle.filter_asm.specs.Knows.{Knows}
 use Rattle.filter_asm.specs.Defined.{names_of, at_place}
 
-bytes_eq-comm : (xs ys : List ℕ) → bytes_eq xs ys ≡ bytes_eq ys xs
+pub bytes_eq-comm : (xs ys : List ℕ) → bytes_eq xs ys ≡ bytes_eq ys xs
 bytes_eq-comm xs ys =
     let turned : Decides (bytes_eq ys xs) (xs ≡ ys) = (λ t. sym ((bytes_eq-Decides ys xs).0 t), λ e. (bytes_eq-Decides ys xs).1 (sym e)) in
     same_from_decides (bytes_eq xs ys) (bytes_eq ys xs) (bytes_eq-Decides xs ys) turned

@@ -303,7 +303,7 @@ all_apart (shape ∷ shapes) = list_all (λ other. apart shape.parts other.parts
 table_apart : list_all (λ m. all_apart m.shapes) mnemonics ≡ true
 table_apart = refl
 
-both : (a b : Bool) → (a && b) ≡ true → (a ≡ true) × (b ≡ true)
+pub both : (a b : Bool) → (a && b) ≡ true → (a ≡ true) × (b ≡ true)
 both true b e = (refl, e)
 both false b e = absurd (false≢true e)
 

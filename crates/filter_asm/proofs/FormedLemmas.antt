@@ -13,7 +13,7 @@ use Rattle.filter_asm.specs.declared.fault.AsmFaultKind.{AsmFaultKind}
 use Rattle.filter_asm.specs.Operands.{Operands, operands_at}
 use Rattle.filter_asm.specs.Mnemonics.{Mnemonic, Shape, mnemonics, mnemonic_of, first_fit}
 use Rattle.filter_asm.specs.Program.{repeats, Line, Draft, on_line, line_gives, drafts_from, drafts_of, instruction, instruction_of, instructions, instructions_in, definitions, value_of, room_behind, linked, linked_to, links, reach, short_reach, second_reach, place_of, Asm}
-use Rattle.filter_asm.proofs.ProgramLemmas.{bind_ok, length-drafts_from}
+use Rattle.filter_asm.proofs.ProgramLemmas.{bind_ok, length-drafts_from, on_line_ok}
 
 -- the codes that stand for a form
 abbrev known_codes : List ℕ
@@ -115,10 +115,6 @@ line_known before x d gives fits = elim (cases_Bool (repeats (flat_map (λ l. l.
   | inl twice ↦ let stop = rw twice at gives in cc
   | inr new ↦ body_known (length before + 1) (instructions before) x.body d (rw new at gives) fits
 ]
-
-on_line_ok : {A : Type 0} (line : ℕ) (r : Result A AsmFaultKind) (y : A) → on_line line r ≡ Ok y → r ≡ Ok y
-on_line_ok line (Ok x) y e = cc
-on_line_ok line (Err d) y e = cc
 
 instructions-push : (before : List Line) (x : Line) → instructions (before ++ x ∷ []) ≡ instructions before + instructions_in x.body
 instructions-push [] x = omega arith

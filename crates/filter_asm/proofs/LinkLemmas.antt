@@ -17,10 +17,6 @@ pub links-more : (places : List (List ℕ × ℕ)) (place : ℕ) (draft : Draft)
     → behind done (links places place (draft ∷ drafts)) ≡ behind (done ++ insn ∷ []) (links places (place + 1) drafts)
 links-more places place draft drafts done insn e = rw (← e) (behind-cons done insn (links places (place + 1) drafts))
 
-pub links-stops : (places : List (List ℕ × ℕ)) (place : ℕ) (draft : Draft) (drafts : List Draft) (done : List Insn) (k : AsmFaultKind) → Err k ≡ linked places place draft
-    → behind done (links places place (draft ∷ drafts)) ≡ Err (record { line = draft.line; kind = k })
-links-stops places place draft drafts done k e = rw (← e) refl
-
 step_by : (places : List (List ℕ × ℕ)) (place : ℕ) (draft : Draft) (drafts : List Draft) (done newer : List Insn) (r : Result Insn AsmFaultKind) → r ≡ linked places place draft → IsNext done newer r
     → behind done (links places place (draft ∷ drafts)) ≡ behind newer (links places (place + 1) drafts)
 step_by places place draft drafts done newer (Ok insn) e next = rw next (links-more places place draft drafts done insn e)

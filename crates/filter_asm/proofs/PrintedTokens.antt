@@ -185,7 +185,7 @@ near_by pc d at low = digits-decimal (pc + 1 + d) (omega arith)
 x_operand : Tokens (codes "x" ∷ []) (32 ∷ 120 ∷ [])
 x_operand = next (32 ∷ []) (codes "x") [] [] one_blank (refl, nothing_goes_on 120) tt nothing
 
--- a printed instruction behind a blank
+-- a printed instruction after a blank
 pub tokens_of : (pc : ℕ) (form : Form) → pc < 4096 → Bounded form → Tokens (word_of form ∷ operands_of pc form) (32 ∷ printed pc form)
 tokens_of pc (LdImm k) at b = with_word (codes "ldi") (35 ∷ decimal k) (codes "#" ∷ decimal k ∷ []) (word 108 (codes "di") refl refl refl refl) (immediate (decimal k) (small k b.k))
 tokens_of pc (LdAbs size k) at b =

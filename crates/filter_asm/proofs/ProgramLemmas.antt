@@ -14,7 +14,7 @@ pub bind_ok : {A B E : Type 0} (r : Result A E) (f : A → Result B E) (y : B) �
 bind_ok (Ok x) f y e = (x, refl, e)
 bind_ok (Err d) f y e = cc
 
-on_line_ok : {A : Type 0} (line : ℕ) (r : Result A AsmFaultKind) (y : A) → on_line line r ≡ Ok y → r ≡ Ok y
+pub on_line_ok : {A : Type 0} (line : ℕ) (r : Result A AsmFaultKind) (y : A) → on_line line r ≡ Ok y → r ≡ Ok y
 on_line_ok line (Ok x) y e = cc
 on_line_ok line (Err d) y e = cc
 

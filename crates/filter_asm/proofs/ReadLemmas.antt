@@ -12,12 +12,6 @@ use Rattle.filter_asm.specs.Knows.{Knows}
 use Rattle.filter_asm.specs.Defined.{at_place, Defines}
 use Rattle.filter_asm.proofs.ProgramLemmas.{drafts_from-push, definitions_from-push, length-drafts_from, line_gives-new}
 
-pub instruction_of-some : (line count : ℕ) (word : List ℕ) (operands : List (List ℕ)) (d : Draft) → instruction line count word operands ≡ Ok d → instruction_of line count (word ∷ operands) ≡ Ok (Some d)
-instruction_of-some line count word operands d e = rw e refl
-
-pub instruction_of-err : (line count : ℕ) (word : List ℕ) (operands : List (List ℕ)) (k : AsmFaultKind) → instruction line count word operands ≡ Err k → instruction_of line count (word ∷ operands) ≡ Err k
-instruction_of-err line count word operands k e = rw e refl
-
 module _ (lines : List Line) (old new : Labels) (place : ℕ) (tokens body : List (List ℕ)) (drafts : List Draft) (known : Knows old (definitions lines)) (drafted : drafts_of lines ≡ Ok drafts)
     (defines : Defines old new place tokens body) (place_is : place ≡ length drafts) where
   place_counts : place ≡ instructions lines

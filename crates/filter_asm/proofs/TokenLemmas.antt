@@ -9,7 +9,7 @@ EndsBefore-from : (first : ℕ) (more rest : List ℕ) → (0 < length rest → 
 EndsBefore-from first more [] h = tt
 EndsBefore-from first more (b ∷ rest) h = h (omega arith)
 
--- behind n blanks the token is its first byte and the k bytes that go on with it
+-- after n blanks the token is its first byte and the k bytes that go on with it
 pub token_at : (bytes : List ℕ) (n k : ℕ) (text rest : List ℕ) → n < length bytes → AllPass is_blank (take n bytes) → is_blank (get_or bytes n 0) ≡ false
     → AllPass (continues (get_or bytes n 0)) (take k (drop (n + 1) bytes))
     → (k < length (drop (n + 1) bytes) → continues (get_or bytes n 0) (get_or (drop (n + 1) bytes) k 0) ≡ false)

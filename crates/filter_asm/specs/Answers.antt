@@ -1,4 +1,4 @@
--- What a call answers, want of memory aside. No public clause cites these.
+-- What a call answers, but for NoMemory. No public clause cites these.
 use Rattle.std.specs.Prelude.{◌≡◌, List, [], ◌∷◌, ◌++◌, Result, Ok, Err, ◌⊎◌}
 use Rattle.bpf_insn.specs.declared.insn.Insn.{Insn}
 use Rattle.std.specs.declared.vec.Vec.{Vec}

@@ -6,7 +6,7 @@ use Rattle.filter_asm.specs.Token.{is_name, is_digits}
 use Rattle.filter_asm.specs.Operands.{Part, Exactly, Number, Label, Numeral, Operands}
 use Rattle.filter_asm.specs.Mnemonics.{Shape, Mnemonic, mnemonic_of, first_fit}
 
--- the tokens of a number: a digit token, behind a `-` or not
+-- the tokens of a number: a digit token, after a `-` or not
 abbrev pub spelled_number : Numeral → List (List ℕ)
 spelled_number n = if n.negative then codes "-" ∷ n.digits ∷ [] else n.digits ∷ []
 

@@ -16,12 +16,12 @@ magnitude token =
     else if nat_lt 1 (length token) && slice_index token 0 == 48 then None
     else in_base 10 token
 
--- a number below 2^32 as it stands; behind a `-` one up to 2^31, as its two's complement
+-- a number below 2^32 as it stands; after a `-` one up to 2^31, as its two's complement
 abbrev pub signed : Bool → ℕ → Option ℕ
 signed negative n =
     if negative then (if nat_le n (2 ^ 31) then Some ((2 ^ 32 - n) % 2 ^ 32) else None)
     else (if nat_lt n (2 ^ 32) then Some n else None)
 
--- the value of a number: a digit token, behind a `-` or not
+-- the value of a number: a digit token, after a `-` or not
 unfoldable pub number : Bool → List ℕ → Option ℕ
 number negative token = option_and_then (signed negative) (magnitude token)

@@ -15,6 +15,6 @@ pub record Passed (lines : List Line) (pass : Pass) : Type 0 where
 abbrev pub PassedOneMore : List Line → List ℕ → Pass → Type 0
 PassedOneMore lines bytes pass = (line : Line) × Spells bytes line × Passed (lines ++ line ∷ []) pass
 
--- the line has this fault behind the others
+-- the line has this fault after the others
 abbrev pub LineRefused : List Line → List ℕ → AsmFaultKind → Type 0
 LineRefused lines bytes refusal = (line : Line) × Spells bytes line × (line_gives lines line ≡ Err refusal)

@@ -14,7 +14,7 @@ use Rattle.filter_asm.specs.Number.{number}
 use Rattle.filter_asm.specs.Operands.{Numeral}
 use Rattle.filter_asm.specs.Mnemonics.{mnemonic_of, first_fit}
 
--- a line: its labels, and the tokens behind them
+-- a line: its labels, and the tokens after them
 pub record Line : Type 0 where
   pub labels : List (List ℕ)
   pub body : List (List ℕ)
@@ -29,7 +29,7 @@ labels_of [] = []
 labels_of (token ∷ []) = []
 labels_of (token ∷ next ∷ tokens) = if is_label token next then token ∷ labels_of tokens else []
 
--- the tokens behind the labels
+-- the tokens after the labels
 abbrev pub body_of : List (List ℕ) → List (List ℕ)
 body_of [] = []
 body_of (token ∷ []) = token ∷ []
@@ -49,7 +49,7 @@ SpellsAll [] (line ∷ lines) = ⊥
 SpellsAll (bytes ∷ more) [] = ⊥
 SpellsAll (bytes ∷ more) (line ∷ lines) = Spells bytes line × SpellsAll more lines
 
--- no line stands behind the last LF
+-- no line stands after the last LF
 abbrev pub ended : List (List ℕ) → List (List ℕ)
 ended [] = []
 ended (last ∷ []) = if length last == 0 then [] else last ∷ []
@@ -88,11 +88,11 @@ abbrev pub value_of : Option Numeral → Result ℕ AsmFaultKind
 value_of None = Ok 0
 value_of (Some n) = ok_or (number n.negative n.digits) kind.Number
 
--- a place for one more instruction behind `count` others
+-- a place for one more instruction after `count` others
 abbrev pub room_behind : ℕ → Result ℕ AsmFaultKind
 room_behind count = if nat_lt count MAX_INSNS then Ok count else Err kind.TooLong
 
--- the instruction of a mnemonic and its operands, behind `count` others
+-- the instruction of a mnemonic and its operands, after `count` others
 unfoldable pub instruction : ℕ → ℕ → List ℕ → List (List ℕ) → Result Draft AsmFaultKind
 instruction line count word operands = do
   mnemonic ← ok_or (mnemonic_of word) kind.Mnemonic
@@ -133,13 +133,13 @@ abbrev pub repeats : List (List ℕ) → List (List ℕ) → Bool
 repeats before [] = false
 repeats before (name ∷ names) = list_any (λ other. bytes_eq name other) before || repeats (before ++ name ∷ []) names
 
--- what a line gives behind others that have no fault
+-- what a line gives after others that have no fault
 abbrev pub line_gives : List Line → Line → Result (Option Draft) AsmFaultKind
 line_gives before line =
     if repeats (flat_map (λ l. l.labels) before) line.labels then Err kind.TwiceLabel
     else instruction_of (length before + 1) (instructions before) line.body
 
--- the instructions of the lines behind others, or the first line's fault
+-- the instructions of the lines after others, or the first line's fault
 abbrev pub drafts_from : List Line → List Line → Result (List Draft) Fault
 drafts_from before [] = Ok []
 drafts_from before (line ∷ lines) = do

@@ -13,12 +13,12 @@ begins_name b = is_ascii_alphabetic b || b == 95
 abbrev pub continues_name : ℕ → Bool
 continues_name b = is_ascii_alphanumeric b || b == 95
 
--- whether a byte may stand in the token that begins with `first`, behind its first byte: a name goes on
+-- whether a byte may stand in the token that begins with `first`, after its first byte: a name goes on
 -- with letters, digits and `_`, a digit with letters and digits, and any other byte stands alone
 abbrev pub continues : ℕ → ℕ → Bool
 continues first b = if begins_name first then continues_name b else (is_ascii_digit first && is_ascii_alphanumeric b)
 
--- a token: it begins with no blank, and each byte behind the first may stand there
+-- a token: it begins with no blank, and each byte after the first may stand there
 abbrev pub IsToken : List ℕ → Type 0
 IsToken [] = ⊥
 IsToken (first ∷ more) = (is_blank first ≡ false) × AllPass (continues first) more

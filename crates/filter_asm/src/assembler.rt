@@ -37,7 +37,7 @@ fn nothing_read<'a>(alloc: Global) -> Pass<'a>
     }
 }
 
-/// The instruction of the tokens behind the labels, where there is one.
+/// The instruction of the tokens after the labels, where there is one.
 fn body_draft<'a>(
     number: u32,
     count: usize,
@@ -88,7 +88,7 @@ fn read_line<'a>(
     read_tokens(pass, number, &tokens)
 }
 
-/// The first line, and what stands behind its LF.
+/// The first line, and what stands after its LF.
 fn split_line(text: &[u8]) -> (&[u8], &[u8])
     ensures line { result.0.now ≡ before_first (λ b. b == 10) text.now }
     ensures rest { result.1.now ≡ after_first (λ b. b == 10) text.now }

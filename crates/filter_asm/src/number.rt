@@ -4,7 +4,7 @@ ghost use Rattle.std.specs.Prelude.{◌≡◌, ◌≤◌, ◌<◌, ◌&&◌, if�
 ghost use Rattle.filter_asm.specs.Number as spec;
 ghost use Rattle.filter_asm.specs.ShortNumber.{below_2_32};
 
-/// A number as it is written: its digit token, behind a `-` or not.
+/// A number as it is written: its digit token, after a `-` or not.
 #[derive(Clone, Copy, Debug)]
 pub(crate) struct Numeral<'a> {
     pub negative: bool,

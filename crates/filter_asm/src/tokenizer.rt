@@ -47,7 +47,7 @@ fn blanks(bytes: &[u8]) -> usize
     bytes.iter().take_while(|b| is_blank(**b)).count()
 }
 
-/// How many bytes behind the first belong to its token.
+/// How many bytes after the first belong to its token.
 fn continued(first: u8, more: &[u8]) -> usize
     ensures bound { result ≤ length more.now }
     ensures same { AllPass (continues first) (take result more.now) }

@@ -37,7 +37,7 @@ install_room s budget domain cap program h = let within = first_none (tests s bu
 pub replace_room : (s : State) (budget domain id : ℕ) (program : List Insn) → first (tests s budget (Replace domain id program)) ≡ None → instructions_of (replaced s.filters id program) ≤ budget
 replace_room s budget domain id program h = let within = first_none (tests s budget (Replace domain id program)) 6 _ h refl in grind (arith, nat_tests, within)
 
--- No test names want of memory, or what is staged
+-- No test names memory, or what is staged
 
 abbrev is_other : StageFault → Bool
 is_other NoMemory = true

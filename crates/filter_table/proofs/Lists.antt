@@ -130,7 +130,7 @@ fits_at xs i x h =
 abbrev pub swapped : ℕ → List Insn → ListedFilter → ListedFilter
 swapped id program f = cond (f.id == id) (record f { program = program }) f
 
-map-get : {A B : Type 0} (f : A → B) (xs : List A) (i : ℕ) (x : A) → slice_get xs i ≡ Some x → slice_get (map f xs) i ≡ Some (f x)
+pub map-get : {A B : Type 0} (f : A → B) (xs : List A) (i : ℕ) (x : A) → slice_get xs i ≡ Some x → slice_get (map f xs) i ≡ Some (f x)
 map-get f [] i x h = absurd cc
 map-get f (y ∷ xs) zero x h = cc
 map-get f (y ∷ xs) (suc i) x h = map-get f xs i x h

@@ -10,7 +10,7 @@ use Rattle.endpoint_caps.specs.declared.Rights.{Rights}
 use Rattle.endpoint_caps.specs.declared.Right.TheVariants.{Receive}
 use Rattle.endpoint_caps.specs.Capabilities.{CapTable, IdsBetween, ParentsHeld, cap_at, has_right, is_under, is_some_and, child_of}
 use Rattle.endpoint_caps.specs.Keeping.{entries_of, caps_of, IsKept}
-use Rattle.endpoint_caps.proofs.Keeping.{caps-entries, entries-append, at-append, at-filter, between-filter, none-after, parents-filter, kept-push, stays_above}
+use Rattle.endpoint_caps.proofs.Keeping.{caps-entries, entries-append, at-append, at-filter, between-filter, none-after, parents-filter, kept-push, stays_above, not_true, neither}
 use Rattle.filter_table.specs.Listed.{ListedFilter}
 use Rattle.filter_table.specs.declared.operation.Op.{Op}
 use Rattle.filter_table.specs.declared.operation.Op.TheVariants.{Create, Mint, Revoke, DropCap, Install, Remove, Replace}
@@ -81,18 +81,9 @@ one_more held next c ids parents at held_parent = (subst (λ (cs : List Cap). Id
     shown : caps_of (entries_of held ++ (c.id, c) ∷ []) ≡ held ++ c ∷ []
     shown = ap caps_of (sym (entries-append held (c ∷ []))) ∙ caps-entries (held ++ c ∷ [])
 
-not_true : (b : Bool) → not b ≡ true → b ≡ false
-not_true true h = absurd cc
-not_true false h = refl
-
 not_false : (b : Bool) → not b ≡ false → b ≡ true
 not_false true h = refl
 not_false false h = absurd cc
-
-neither : (a b : Bool) → not (a || b) ≡ true → (a ≡ false) × (b ≡ false)
-neither true b h = absurd cc
-neither false true h = absurd cc
-neither false false h = (refl, refl)
 
 revoked_parents : (held : List Cap) (cap : ℕ) → ParentsHeld held → ParentsHeld (filter (λ c. not (is_under held cap c.id)) held)
 revoked_parents held cap parents = parents-filter (λ id. not (is_under held cap id)) held parents

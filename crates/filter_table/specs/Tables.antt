@@ -3,6 +3,7 @@
 use Rattle.std.specs.Prelude.{◌≡◌, ⊤, ◌==◌, ◌+◌, ◌<◌, ◌≤◌, ◌⊎◌, ◌↔◌, ℕ, Bool, not, cond, leb, ltb, min, Option, Some, None, is_none, List, [], ◌∷◌, ◌++◌, length, filter, map, take}
 use Rattle.std.specs.List.{find, sum_by, Contains}
 use Rattle.bpf_insn.specs.declared.insn.Insn.{Insn}
+use Rattle.bpf_insn.specs.declared.insn.TheConstants.{MAX_INSNS}
 use Rattle.filter_verify.specs.declared.rules.Refusal.{Refusal}
 use Rattle.filter_verify.specs.Rules.{Sound, Refuses}
 use Rattle.filter_verify.specs.Numbers.{number_of, place_of}
@@ -133,10 +134,10 @@ program_of (Install domain cap program) = Some program
 program_of (Replace domain id program) = Some program
 program_of op = None
 
--- a program is sent that has 4096 instructions at most
+-- a program that is sent is within the limit on instructions
 abbrev pub HasShortProgram : Op → Type 0
-HasShortProgram (Install domain cap program) = length program ≤ 4096
-HasShortProgram (Replace domain filter program) = length program ≤ 4096
+HasShortProgram (Install domain cap program) = length program ≤ MAX_INSNS
+HasShortProgram (Replace domain filter program) = length program ≤ MAX_INSNS
 HasShortProgram op = ⊤
 
 -- the answer of the verifier to the program, if there is one

@@ -1,12 +1,10 @@
 -- What can be decided of numbers, and of the form at a place.
-use Rattle.std.proofs.Common.{◌≡◌, ℕ, zero, suc, ◌+◌, ◌<◌, ◌≤◌, ◌⊎◌, List, length, Option, Some, None, inl, inr, arith, refl, ap, sym, subst}
-use Rattle.std.proofs.lemmas.Bool.{cases_eq, cases_lt}
+use Rattle.std.proofs.Common.{◌≡◌, ℕ, zero, suc, ◌+◌, ◌<◌, ◌⊎◌, List, Option, Some, None, inl, inr, arith, refl, ap, subst}
+use Rattle.std.proofs.lemmas.Bool.{cases_eq}
 use Rattle.bpf_insn.specs.declared.insn.Insn.{Insn}
-use Rattle.bpf_insn.specs.declared.form.Size.{Size}
-use Rattle.bpf_insn.specs.declared.form.AluOp.TheVariants.{Div, Lsh, Rsh, Mod}
 use Rattle.bpf_insn.specs.declared.form.Form.{Form}
-use Rattle.bpf_insn.specs.declared.form.Form.TheVariants.{LdAbs, LdMem, LdxMem, St, Stx, AluK, Ja, JmpK, JmpX, RetK, RetA}
-use Rattle.bpf_insn.specs.Program.{form_at, FormAt, JumpsTo, LeadsTo}
+use Rattle.bpf_insn.specs.declared.form.Form.TheVariants.{LdMem, LdxMem, St, Stx, Ja, JmpK, JmpX, RetK, RetA}
+use Rattle.bpf_insn.specs.Program.{form_at, FormAt, LeadsTo}
 use Rattle.bpf_insn.proofs.Places.{FormAt-same}
 use Rattle.filter_verify.specs.Exits.{LoadsForm, StoresForm}
 use Rattle.filter_verify.specs.Paths.{Successor, LoadsWord, StoresWord}

@@ -1,5 +1,5 @@
 -- The pass over the whole program.
-use Rattle.std.proofs.Common.{◌≡◌, ℕ, ◌+◌, ◌<◌, List, length, slice_index_or, Bool, true, false, inl, inr, arith, sym, subst, ◌∙◌, cond, eqb, ltb}
+use Rattle.std.proofs.Common.{◌≡◌, ℕ, ◌+◌, ◌<◌, List, length, slice_index_or, Bool, true, false, inl, inr, arith, sym, subst, ◌∙◌, cond, eqb, ltb, rules}
 use Rattle.std.specs.Int.{bit_at}
 use Rattle.std.proofs.lemmas.Bool.{cases_eq, cases_lt}
 use Rattle.std.proofs.lemmas.Bool.Decides.{nat_tests}
@@ -32,6 +32,10 @@ LoadsWord-here program pc form word at loads =
 -- a set that has a word doesn't lack it
 has_not_lacks : (words : Words) (word : ℕ) → HasWord words word → LacksWord words word → ⊥
 has_not_lacks words word has lack = absurd (omega arith)
+
+-- what is loaded is inside
+pub LoadsWord-inside : (program : List Insn) (pc word : ℕ) → LoadsWord program pc word → pc < length program
+LoadsWord-inside program pc word load = elim load [ inl a ↦ FormAt-inside program pc _ a | inr b ↦ FormAt-inside program pc _ b ]
 
 -- one more instruction
 pub IsSettled-step : (program : List Insn) (pc : ℕ) (form : Form) (old new : List Words) → IsSettled program pc old → FormAt program pc form → ((word : ℕ) → LoadsForm form word → HasAt old pc word) → Flows pc form old new → IsSettled program (pc + 1) new
@@ -78,19 +82,6 @@ Refuses-unwritten program pc word path written shaped settled inside unwritten =
       earlier.unwritten found,
 )
 
--- before the first instruction: no word at the first place, and every word at the others
-pub IsSettled-start : (program : List Insn) (written : List Words) → length written ≡ length program → ((word : ℕ) → LacksAt written 0 word) → ((to word : ℕ) → (to ≡ 0 → ⊥) → to < length program → word < 16 → HasAt written to word) → IsSettled program 0 written
-IsSettled-start program written same opening others = record {
-  same_length = same;
-  opening = opening;
-  loads = λ pc word below _. absurd (omega arith);
-  onward = λ pc to word below _ _ _. absurd (omega arith);
-  reasons = λ to word inside small lack. elim (cases_eq to 0) [
-    | inl first ↦ inl first
-    | inr later ↦ absurd (has_not_lacks _ word (others to word later inside small) lack)
-  ];
-}
-
 -- whether the set at a place has the word, one of sixteen
 in_set : List Words → ℕ → ℕ → Bool
 in_set written pc word = cond (ltb word 16) (eqb (bit_at (slice_index_or written pc (record { 0 = 0 })).0 word) 1) false
@@ -116,8 +107,22 @@ IsKept-settled program written shaped settled = (
           let inside = FormAt-inside program pc leads.0 leads.1 in
           elim (settled.onward pc to word inside has.0 leads has.1) [ inl a ↦ inl (has-in_set written pc word has.0 a) | inr s ↦ inr s ];
       loads = λ pc word load.
-          let inside : pc < length program = elim load [ inl a ↦ FormAt-inside program pc _ a | inr b ↦ FormAt-inside program pc _ b ] in
+          let inside = LoadsWord-inside program pc word load in
           has-in_set written pc word (Shaped-word program shaped pc word inside (inl load)) (settled.loads pc word inside load);
+    },
+  ),
+)
+
+-- a program that loads no scratch word is kept with no set
+pub IsKept-unloaded : (program : List Insn) → IsWellShaped program → ((pc word : ℕ) → LoadsWord program pc word → ⊥) → IsKept program
+IsKept-unloaded program shaped none = (
+  shaped,
+  (
+    λ _ _. false,
+    record {
+      opening = λ word at. search rules;
+      onward = λ pc to word leads at. search rules;
+      loads = λ pc word load. absurd (none pc word load);
     },
   ),
 )

@@ -1,17 +1,17 @@
 -- Every program is sound, or is refused for a reason.
-use Rattle.std.proofs.Common.{◌≡◌, ℕ, zero, suc, ◌+◌, ◌-◌, ◌<◌, ◌≤◌, ◌⊎◌, List, [], ◌∷◌, ◌++◌, length, None, inl, inr, arith, refl, ap, sym, ◌∙◌, subst}
+use Rattle.std.proofs.Common.{◌≡◌, ℕ, zero, suc, ◌+◌, ◌-◌, ◌<◌, ◌≤◌, ◌⊎◌, List, [], ◌∷◌, ◌++◌, length, inl, inr, arith, refl, ap, sym, subst}
 use Rattle.std.proofs.lemmas.Bool.{cases_eq, cases_lt}
 use Rattle.bpf_insn.specs.declared.insn.Insn.{Insn}
 use Rattle.bpf_insn.specs.declared.form.Size.{Size}
 use Rattle.bpf_insn.specs.declared.form.AluOp.TheVariants.{Div, Lsh, Rsh, Mod}
 use Rattle.bpf_insn.specs.declared.form.Form.{Form}
 use Rattle.bpf_insn.specs.declared.form.Form.TheVariants.{LdAbs, LdMem, LdxMem, St, Stx, AluK, Ja, JmpK, JmpX, RetK, RetA}
-use Rattle.bpf_insn.specs.Program.{form_at, FormAt, JumpsTo}
+use Rattle.bpf_insn.specs.Program.{FormAt, JumpsTo}
 use Rattle.bpf_insn.proofs.Places.{FormAt-inside, FormAt-same}
 use Rattle.filter_verify.specs.declared.rules.Refusal.{Refusal}
 use Rattle.filter_verify.specs.declared.rules.Refusal.TheVariants.{Empty, TooLong, BadCode, ZeroDivisor, BadShift, BadWord, JumpOut, Ancillary, NoReturn, Unwritten, NoMemory}
 use Rattle.filter_verify.specs.Paths.{Successor, LoadsWord, StoresWord, IsStoredOn, Path, IsUnwritten, LoadsOnlyWritten}
-use Rattle.filter_verify.specs.Rules.{BreaksAt, EndsInReturn, IsFine, IsFirst, IsReturn, IsSized, IsWellShaped, Refuses, Sound, IsDecided}
+use Rattle.filter_verify.specs.Rules.{BreaksAt, EndsInReturn, IsFine, IsFirst, IsReturn, IsSized, IsWellShaped, Refuses, IsDecided}
 use Rattle.filter_verify.proofs.Forward.{Successor-later}
 use Rattle.filter_verify.proofs.Walks.{Path-more, Path-less, IsStoredOn-more, IsStoredOn-before, IsStoredOn-last, last_of}
 use Rattle.filter_verify.proofs.Deciding.{Decided, first_below, form_or_none, leads_or_not, loads_or_not, stores_or_not}

@@ -4,7 +4,7 @@ use Rattle.std.specs.Prelude.{ℕ}
 use Rattle.filter_verify.specs.declared.rules.Refusal.{Refusal}
 use Rattle.filter_verify.specs.declared.rules.Refusal.TheVariants.{Empty, TooLong, BadCode, ZeroDivisor, BadShift, BadWord, JumpOut, Ancillary, NoReturn, Unwritten, NoMemory}
 
--- the number of a refusal's rule: want of memory is no rule
+-- the number of a refusal's rule: NoMemory is no rule
 abbrev pub number_of : Refusal → ℕ
 number_of Empty = 1
 number_of TooLong = 2

@@ -7,8 +7,9 @@ use Rattle.bpf_insn.proofs.Places.{FormAt-inside}
 use Rattle.filter_vm.specs.declared.machine.tracing.Taken.{Taken}
 use Rattle.bpf_insn.specs.Machine.{Packet, State}
 use Rattle.filter_vm.specs.Tracing.{IsTaken, Traces}
-use Rattle.console.proofs.MatchingLemmas.{AllZip-push, flat_map-push}
+use Rattle.console.proofs.MatchingLemmas.{flat_map-push}
 use Rattle.graph_engine.specs.Explaining.{Explains}
+use Rattle.pcap_reader.proofs.FeedLemmas.{AllZip-push}
 
 -- all is lines that were explained and the rest, and the text is their explanations
 pub record SoFar (program : List Insn) (all rest : List (List ℕ)) (number : ℕ) (text : List ℕ) : Type 0 where

@@ -13,6 +13,8 @@ use Rattle.bpf_insn.specs.Machine.{Packet}
 use Rattle.filter_vm.specs.Tracing.{Traces}
 use Rattle.console.specs.Code.{IsGoodCode}
 use Rattle.console.specs.Matching.{Hex, Stops, outcome_line}
+use Rattle.console.specs.Reading.{ShowsTooLong}
+use Rattle.console.specs.declared.input.TheConstants.{INPUT_BYTES}
 
 -- an instruction that was taken: its line of the assembler text, and the registers after it
 abbrev pub taken_line : List Insn → Taken → List ℕ
@@ -42,8 +44,8 @@ pub record ShowsLines (program : List Insn) (all : List (List ℕ)) (status : �
 -- an input's length has a limit
 abbrev pub ShowsInput : List Insn → List ℕ → ℕ → List ℕ → Type 0
 ShowsInput program input status text =
-    ((length input ≤ 67108864) × ShowsLines program (lines input) status text)
-    ⊎ ((67108864 < length input) × (status ≡ 1) × (text ≡ codes "fault InputTooLong\n"))
+    ((length input ≤ INPUT_BYTES) × ShowsLines program (lines input) status text)
+    ⊎ ((INPUT_BYTES < length input) × ShowsTooLong status text)
 
 -- what is shown of a good code and an input
 abbrev pub ShowsExplained : List ℕ → List ℕ → ℕ → List ℕ → Type 0

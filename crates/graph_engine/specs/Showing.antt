@@ -1,10 +1,12 @@
 -- What `check --graph` shows of an assembler text: the control flow of its program, or why it has none.
-use Rattle.std.specs.Prelude.{◌≡◌, ℕ, ◌<◌, ◌≤◌, ◌⊎◌, List, length, codes, Option, Some, None, Err}
+use Rattle.std.specs.Prelude.{◌≡◌, ℕ, ◌<◌, ◌≤◌, ◌⊎◌, List, length, Option, Some, None, Err}
 use Rattle.bpf_insn.specs.declared.insn.Insn.{Insn}
 use Rattle.filter_asm.specs.Program.{Asm, Assembles, Fault}
 use Rattle.filter_verify.specs.declared.rules.Refusal.{Refusal}
 use Rattle.filter_verify.specs.Rules.{Refuses, Sound}
 use Rattle.console.specs.Checking.{asm_fault_line}
+use Rattle.console.specs.Reading.{ShowsTooLong}
+use Rattle.console.specs.declared.input.TheConstants.{INPUT_BYTES}
 use Rattle.graph_engine.specs.Graph.{graph_text}
 
 -- the verifier accepts the program, or this is the first reason for which it doesn't
@@ -25,5 +27,5 @@ ShowsAsm input status text =
 -- an input's length has a limit
 abbrev pub ShowsGraph : List ℕ → ℕ → List ℕ → Type 0
 ShowsGraph input status text =
-    ((length input ≤ 67108864) × ShowsAsm input status text)
-    ⊎ ((67108864 < length input) × (status ≡ 1) × (text ≡ codes "fault InputTooLong\n"))
+    ((length input ≤ INPUT_BYTES) × ShowsAsm input status text)
+    ⊎ ((INPUT_BYTES < length input) × ShowsTooLong status text)

@@ -19,13 +19,6 @@ pub record BlockSoFar (text rest : List ℕ) (lines : ℕ) (front : List ℕ) : 
   pub parts : 0 < length rest → text ≡ front ++ rest
   pub goes_on : (n number : ℕ) (line : List ℕ) → statements_from n (Some (opened number line)) (text_lines text) ≡ statements_from (n + lines) (Some (grown number line front)) (text_lines rest)
 
-pub none_so_far : (text : List ℕ) → BlockSoFar text text 0 []
-none_so_far text = record {
-  within = omega arith;
-  parts = λ some. refl;
-  goes_on = λ n number line. rw add-zero refl;
-}
-
 -- a text that has an LF is its first line, the LF and the rest
 first_line : (rest : List ℕ) → 0 < length (after_first is_lf rest) → rest ≡ (before_first is_lf rest ++ 10 ∷ []) ++ after_first is_lf rest
 first_line rest some =

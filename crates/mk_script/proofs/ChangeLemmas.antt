@@ -1,4 +1,4 @@
--- What is known behind one more line.
+-- What is known after one more line.
 use Rattle.std.proofs.Common.{◌≡◌, ℕ, ◌+◌, Bool, true, false, ◌||◌, eqb, if◌then◌else◌, List, [], ◌∷◌, ◌++◌, length, Option, Some, None, length-append, append-nil, refl, sym, ap, ◌∙◌, inl, inr, Decides}
 use Rattle.std.specs.Prelude.{map}
 use Rattle.std.specs.List.{flat_map, list_any}
@@ -17,6 +17,7 @@ use Rattle.mk_script.specs.declared.script.Item.{Item}
 use Rattle.mk_script.specs.declared.script.Item.TheVariants.{Ask, Apply}
 use Rattle.mk_script.specs.Meanings.{Meaning, Budgets, NamedProgram, NamedPacket, NamedCapture, Home, Does, Receives, Trace, Nothing, Jobs, Counted, Named, budgets_in, programs_in, packets_in, captures_in, jobs_in, is_trace, is_act, named, home_from, is_traced, jobs_behind, items_in, items_of}
 use Rattle.mk_script.specs.Changes.{KnowsParts, asks_in, events_in}
+use Rattle.filter_asm.proofs.DefineLemmas.{bytes_eq-comm}
 
 pub push_flat : {A : Type 0} (f : Meaning → List A) (given : List Meaning) (m : Meaning) → flat_map f (given ++ m ∷ []) ≡ flat_map f given ++ f m
 push_flat f given m = flat_map-append f given (m ∷ []) ∙ ap (λ l. flat_map f given ++ l) (append-nil (f m))
@@ -40,11 +41,6 @@ same_jobs_behind given m none untraced = rw (same_any is_trace given m untraced,
 
 pub items_push : (given : List Meaning) (m : Meaning) → is_trace m ≡ false → items_of (given ++ m ∷ []) ≡ items_of given ++ items_in (is_traced given) m
 items_push given m untraced = rw (same_any is_trace given m untraced) (push_flat (items_in (is_traced given)) given m)
-
-bytes_eq-comm : (xs ys : List ℕ) → bytes_eq xs ys ≡ bytes_eq ys xs
-bytes_eq-comm xs ys =
-    let turned : Decides (bytes_eq ys xs) (xs ≡ ys) = (λ t. sym ((bytes_eq-Decides ys xs).0 t), λ e. (bytes_eq-Decides ys xs).1 (sym e)) in
-    same_from_decides (bytes_eq xs ys) (bytes_eq ys xs) (bytes_eq-Decides xs ys) turned
 
 -- one more name, which has no value
 named_push : {X : Type 0} (names : List (List ℕ × X)) (name : List ℕ) (x : X) (other : List ℕ) → named names name ≡ None

@@ -1,4 +1,4 @@
--- A line is an `end` where its first word is that, and only blanks stand behind it.
+-- A line is an `end` where its first word is that, and only blanks stand after it.
 use Rattle.std.proofs.Common.{◌≡◌, ℕ, suc, ◌+◌, true, false, ◌&&◌, eqb, List, [], ◌∷◌, length, take, drop, refl, sym, ap, ◌∙◌, inl, inr, arith}
 use Rattle.std.specs.Prelude.{◌⊎◌, not, codes, filter}
 use Rattle.std.specs.List.{position_or_len, slice_split, onto_first}
@@ -42,7 +42,7 @@ front_other (c ∷ bytes) b more e = elim (cases_Bool (is_blank c)) [
   | inr other ↦ let here = rw other at e in let same : c ≡ b = cc in rw (← same) other
 ]
 
--- the parts behind the first blank
+-- the parts after the first blank
 abbrev behind : List ℕ → List (List ℕ)
 behind [] = []
 behind (b ∷ bytes) = slice_split is_blank bytes
@@ -100,7 +100,7 @@ at_word line (b ∷ more) e = ap is_end (word_first b more (front_other line b m
 end_is : (line : List ℕ) → is_end (words_of line) ≡ (let word = drop (blanks line) line in (bytes_eq (take (others word) word) (codes "end") && eqb (blanks (drop (others word) word)) (length (drop (others word) word))))
 end_is line = ap is_end (front_blanks line) ∙ at_word line (drop (blanks line) line) refl
 
--- by the parts of a line: its first word and what stands behind it
+-- by the parts of a line: its first word and what stands after it
 pub end_parts : (line word first rest : List ℕ) (n m : ℕ) → n ≡ blanks line → word ≡ drop n line → m ≡ others word → first ≡ take m word → rest ≡ drop m word
     → is_end (words_of line) ≡ (bytes_eq first (codes "end") && eqb (blanks rest) (length rest))
 end_parts line word first rest n m e e' e'' e''' e'''' = rw (e'''', e''', e'', e', e) (end_is line)

@@ -48,7 +48,7 @@ Tells first brings (Ok x) = (first ≡ None) × brings x
 abbrev Any : {A : Type 0} → A → Type 0
 Any x = Unit {0}
 
--- the first fault: of the numbers, or behind them
+-- the first fault: of the numbers, or after them
 abbrev numbered : Bool → Option ScriptFaultKind → Option ScriptFaultKind
 numbered good rest = if good then rest else Some BadNumber
 

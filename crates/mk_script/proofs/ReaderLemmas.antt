@@ -1,4 +1,4 @@
--- What a reader knows, and what a piece of the text means behind it.
+-- What a reader knows, and what a piece of the text means after it.
 use Rattle.std.proofs.Common.{◌≡◌, ℕ, ◌+◌, true, false, eqb, ◌≤◌, List, [], ◌∷◌, ◌++◌, length, None, Result, Ok, Err, refl, sym, subst, inl, inr, arith}
 use Rattle.std.proofs.lemmas.Bool.Decides.{nat_tests}
 use Rattle.filter_asm.specs.Program.{text_lines}

@@ -6,6 +6,7 @@ use Rattle.std.proofs.lemmas.Bool.{cases_Bool}
 use Rattle.std.proofs.lemmas.Bool.Decides.{nat_tests}
 use Rattle.mk_script.specs.Rows.{Row, rows, command_in, command_by, is_shaped, all_fit}
 use Rattle.mk_script.specs.declared.rows.Command.TheVariants as command
+use Rattle.filter_asm.proofs.FitsLemmas.{both as and_parts}
 
 abbrev IsFew : Row → Type 0
 IsFew r = r.command ≡ command.Cores → (r.open_ended ≡ false) × (length r.forms ≤ 8)
@@ -20,10 +21,6 @@ found_few p (x ∷ xs) r few e = elim (cases_Bool (p x)) [
   | inl here ↦ let found = rw here at e in let same : x ≡ r = cc in rw (← same) few.0
   | inr there ↦ let further = rw there at e in found_few p xs r few.1 further
 ]
-
-and_parts : (a b : Bool) → (a && b) ≡ true → (a ≡ true) × (b ≡ true)
-and_parts true b e = (refl, e)
-and_parts false b e = absurd (cc)
 
 shaped_few : (threads : Bool) (words : List (List ℕ)) (r : Row) → IsFew r → command_by threads words r ≡ Some command.Cores → length words ≤ 8
 shaped_few threads words r few e =

@@ -43,6 +43,6 @@ abbrev pub DraftedMeans : Result Draft ScriptFaultKind → Result Meaning Script
 DraftedMeans (Ok draft) outcome = DraftMeans draft outcome
 DraftedMeans (Err fault) outcome = outcome ≡ Err fault
 
--- a statement means this behind what is known, or has this fault first
+-- a statement means this after what is known, or has this fault first
 abbrev pub Means : Settings → Known → Statement → Result Meaning ScriptFaultKind → Type 0
 Means settings k statement outcome = DraftedMeans (draft_of settings k statement) outcome

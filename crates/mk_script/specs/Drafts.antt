@@ -62,7 +62,7 @@ cores_draft k words = do
   first ← check (not (has_cores k)) Twice
   Ok (Whole (Budgets budgets))
 
--- what stands behind a word and its blanks
+-- what stands after a word and its blanks
 abbrev pub behind_word : List ℕ → List ℕ
 behind_word bytes = let word = drop (position_or_len (λ b. not (is_blank b)) bytes) bytes in drop (position_or_len is_blank word) word
 
@@ -266,7 +266,7 @@ abbrev pub is_left : List (List ℕ) → Bool
 is_left (word ∷ core ∷ number ∷ []) = bytes_eq word (codes "left") && (is_number core && is_number number)
 is_left _ = false
 
--- a vote for want of memory: what stands behind the colon begins with `prepare` and ends with `NoMemory`
+-- a vote NoMemory: what stands after the colon begins with `prepare` and ends with `NoMemory`
 abbrev pub is_short : List (List ℕ) → Bool
 is_short words = bytes_eq (word_at words 0) (codes "prepare") && bytes_eq (word_at words (length words - 1)) (codes "NoMemory")
 

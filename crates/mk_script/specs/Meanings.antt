@@ -70,12 +70,12 @@ home_from core [] domain = core
 home_from core (Home d c ∷ more) domain = home_from (if d == domain then c else core) more domain
 home_from core (_ ∷ more) domain = home_from core more domain
 
--- how many packets were received so far; behind `trace`, the receptions before it, which its events name
+-- how many packets were received so far; after `trace`, the receptions before it, which its events name
 pub data Jobs : Type 0 where
   Counted : ℕ → Jobs
   Named : List Event → Jobs
 
--- what is known behind some lines
+-- what is known after some lines
 pub record Known : Type 0 where
   pub budgets : List ℕ
   pub programs : List ℕ → Option (List Insn)

@@ -56,7 +56,7 @@ number32 words place = Below (2 ^ 32) (word_at words place)
 abbrev pub optional : ℕ → List (List ℕ) → ℕ → List Number
 optional limit words place = if nat_lt place (length words) then Below limit (word_at words place) ∷ [] else []
 
--- what stands behind the `.` of `C.I`
+-- what stands after the `.` of `C.I`
 abbrev pub behind_dot : List ℕ → List ℕ
 behind_dot word = after_first (λ b. b == 46) word
 
@@ -149,7 +149,7 @@ HasBadBody body why = ⊥
 pub record Demands : Type 0 where
   -- its words are a command or an event, which may stand here
   pub is_line : Bool
-  -- it is `cores`, or stands behind that
+  -- it is `cores`, or stands after that
   pub is_ready : Bool
   pub numbers : List Number
   pub is_taken : Bool

@@ -12,7 +12,7 @@ use Rattle.mk_script.specs.Views.{texts}
 abbrev pub grown : ℕ → List ℕ → List ℕ → Opened
 grown number line block = record { number = number; line = line; block = block }
 
--- the statements of a text behind an `asm` line, where the block ends and where it doesn't
+-- the statements of a text after an `asm` line, where the block ends and where it doesn't
 abbrev pub StatementsBehind : List ℕ → Option Block → ℕ → ℕ → List ℕ → Type 0
 StatementsBehind text None n number line = statements_from n (Some (opened number line)) (text_lines text) ≡ unended (opened number line) ∷ []
 StatementsBehind text (Some block) n number line =

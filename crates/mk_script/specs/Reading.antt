@@ -9,7 +9,7 @@ use Rattle.mk_script.specs.Meanings.{Meaning}
 use Rattle.mk_script.specs.Scripts.{MeanBehind}
 use Rattle.mk_script.specs.Statements.{statements, statements_from}
 
--- the first lines were read: what the rest means behind them, the text means behind those given
+-- the first lines were read: what the rest means after them, the text means after those given
 abbrev pub Advances : Settings → List Meaning → ℕ → List ℕ → ℕ → List ℕ → Reading → Type 0
 Advances s given n text lines rest r = (more : List Meaning) × Knows r more × ((outcome : Result (List Meaning) ScriptFault) → MeanBehind s more (statements_from (n + lines) None (text_lines rest)) outcome
     → MeanBehind s given (statements_from n None (text_lines text)) outcome)

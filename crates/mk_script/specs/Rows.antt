@@ -86,11 +86,11 @@ event_rows =
     ∷ row (codes "rx") command.Rx 2 (Any ∷ Any ∷ [])
     ∷ []
 
--- the words behind the first are as many as they may be, and each fits its place
+-- the words after the first are as many as they may be, and each fits its place
 abbrev pub is_shaped : Row → List (List ℕ) → Bool
 is_shaped r words = (nat_le r.least (length words) && (r.open_ended || nat_le (length words) (length r.forms))) && all_fit r.forms words
 
--- the command of a row, where the words behind the first are shaped for it
+-- the command of a row, where the words after the first are shaped for it
 abbrev pub command_by : Bool → List (List ℕ) → Row → Option Command
 command_by threads words r = if (r.for_threads || not threads) && is_shaped r words then Some r.command else None
 

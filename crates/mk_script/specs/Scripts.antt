@@ -13,7 +13,7 @@ use Rattle.mk_script.specs.Bodies.{Means}
 abbrev pub fault_at : ℕ → ScriptFaultKind → ScriptFault
 fault_at line kind = record { line = line; kind = kind }
 
--- the meanings of statements behind those given, or the first fault
+-- the meanings of statements after those given, or the first fault
 abbrev pub MeanBehind : Settings → List Meaning → List Statement → Result (List Meaning) ScriptFault → Type 0
 MeanBehind settings given [] outcome = outcome ≡ Ok given
 MeanBehind settings given (statement ∷ statements) outcome =

@@ -31,7 +31,7 @@ is_end [] = false
 is_end (word ∷ []) = bytes_eq word (codes "end")
 is_end (word ∷ next ∷ words) = false
 
--- an `asm` line, and the lines behind it so far
+-- an `asm` line, and the lines after it so far
 pub record Opened : Type 0 where
   pub number : ℕ
   pub line : List ℕ
@@ -53,7 +53,7 @@ unended o = record { number = o.number; line = o.line; block = None }
 abbrev pub plain : ℕ → List ℕ → Statement
 plain number line = record { number = number; line = line; block = None }
 
--- the statements of lines, the first of which has this number and may stand behind an `asm` line
+-- the statements of lines, the first of which has this number and may stand after an `asm` line
 abbrev pub statements_from : ℕ → Option Opened → List (List ℕ) → List Statement
 statements_from number None [] = []
 statements_from number (Some o) [] = unended o ∷ []

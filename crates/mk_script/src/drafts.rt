@@ -397,7 +397,7 @@ fn is_cores(command: Command) -> bool
     matches!(command, Command::Cores)
 }
 
-/// What a line of a script asks for, by its words and by what is known; not behind `trace`.
+/// What a line of a script asks for, by its words and by what is known; not after `trace`.
 #[tactic(auto, unfolding(crate::specs::Drafts::script_draft))]
 pub(crate) fn script_line<'a>(
     alloc: Global,

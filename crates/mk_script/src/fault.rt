@@ -25,7 +25,7 @@ pub enum BodyFault {
 #[derive(Clone, Copy, Debug, PartialEq, Eq)]
 pub enum ScriptFaultKind {
     /// The word is unknown, the number of words is wrong, a name or rights are spelled wrong, an `asm` block has no `end`,
-    /// or `trace` stands behind something that only a simulation does.
+    /// or `trace` stands after something that only a simulation does.
     BadLine,
     /// The line stands before `cores`.
     NoCores,

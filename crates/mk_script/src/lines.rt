@@ -10,7 +10,7 @@ ghost use Rattle.mk_script.specs.Views.{texts};
 use crate::words::{blanks, cut, word_len, words};
 use std::alloc::{AllocError, Global};
 
-/// The first line, and what stands behind its LF.
+/// The first line, and what stands after its LF.
 fn split_line(text: &[u8]) -> (&[u8], &[u8])
     ensures line { result.0.now ≡ before_first (λ b. b == 10) text.now }
     ensures rest { result.1.now ≡ after_first (λ b. b == 10) text.now }
@@ -49,7 +49,7 @@ fn is_end(line: &[u8]) -> bool
     word == b"end".as_slice() && blanks(rest) == rest.len()
 }
 
-/// The lines of an `asm` block to its `end`: their text, how many lines they are with `end`, and what stands behind it.
+/// The lines of an `asm` block to its `end`: their text, how many lines they are with `end`, and what stands after it.
 #[derive(Drop)]
 struct Block<'a> {
     text: &'a [u8],
@@ -87,7 +87,7 @@ pub(crate) struct Piece<'a> {
     pub block: Option<&'a [u8]>,
     /// How many lines these are.
     pub lines: u32,
-    /// What stands behind them.
+    /// What stands after them.
     pub rest: &'a [u8],
 }
 

@@ -82,7 +82,7 @@ fn read_piece<'a>(
     Ok(())
 }
 
-/// Reads what stands at the front of the text, and answers how many lines it is, and what stands behind it.
+/// Reads what stands at the front of the text, and answers how many lines it is, and what stands after it.
 fn read_first<'a>(
     alloc: Global,
     settings: Settings<'a>,

@@ -9,7 +9,7 @@ use filter_table::Program;
 use pcap_reader::{SharedPacket, SharedPackets};
 use world_events::Event;
 
-/// What the lines so far mean for those behind them, and what they have done.
+/// What the lines so far mean for those after them, and what they have done.
 #[derive(Drop)]
 pub(crate) struct Reading<'a> {
     /// None before `cores`.
@@ -18,7 +18,7 @@ pub(crate) struct Reading<'a> {
     pub packets: Names<'a, SharedPacket>,
     pub captures: Names<'a, SharedPackets>,
     pub homes: Homes,
-    /// How many packets were received; 0 behind `trace`.
+    /// How many packets were received; 0 after `trace`.
     pub received: u64,
     /// Whether something was done that only a simulation does.
     pub acted: bool,

@@ -58,7 +58,7 @@ pub(crate) enum Request {
     Replace,
 }
 
-/// A command, and the words behind its own: what they are, and how many there are at least.
+/// A command, and the words after its own: what they are, and how many there are at least.
 #[derive(Clone, Copy, Debug)]
 pub(crate) struct Row {
     pub word: &'static [u8],
@@ -110,7 +110,7 @@ fn all_fit(forms: &[Form], words: &[&[u8]]) -> bool
     fits(*form, word) && all_fit(forms, words)
 }
 
-/// Whether the words behind a command's own are those that it takes.
+/// Whether the words after a command's own are those that it takes.
 fn is_shaped(row: &Row, words: &[&[u8]]) -> bool
     ensures { result ≡ spec.is_shaped (row_of row.now) (texts words.now) }
 {

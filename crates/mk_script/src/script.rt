@@ -7,7 +7,7 @@ use world_events::Event;
 /// What a script has done, in order.
 #[derive(Drop)]
 pub enum Item {
-    /// A request enters at this core, behind those that are pending there.
+    /// A request enters at this core, after those that are pending there.
     Ask(u16, Op),
     /// The first pending request of core 0 is started.
     Begin,

@@ -1,4 +1,4 @@
-//! The lines behind `trace`: the events of a run.
+//! The lines after `trace`: the events of a run.
 
 ghost use Rattle.std.specs.Prelude.{◌≡◌, ◌==◌, ◌<◌, IfOk};
 ghost use Rattle.bpf_insn.specs.Texts.{words_of};
@@ -36,7 +36,7 @@ fn is_left(words: &[&[u8]]) -> bool
     }
 }
 
-/// Whether the words behind the colon tell of a vote for want of memory.
+/// Whether the words after the colon tell of a vote NoMemory.
 fn is_short(words: &[&[u8]]) -> bool
     ensures { result ≡ spec.is_short (texts words.now) }
 {
@@ -71,7 +71,7 @@ fn job<'a>(jobs: &[Event], words: &[&[u8]]) -> Result<Draft<'a>, ScriptFaultKind
     Ok(act(Item::Apply(event)))
 }
 
-/// The event of these words before a colon, with those behind it.
+/// The event of these words before a colon, with those after it.
 #[tactic(auto, unfolding(crate::specs::Drafts::event_draft, crate::specs::Drafts::core_draft))]
 fn event<'a>(jobs: &[Event], words: &[&[u8]], rest: &[&[u8]]) -> Result<Draft<'a>, ScriptFaultKind>
     ensures drafts { Answered draft_of result (spec.event_draft jobs.now (texts words.now) (texts rest.now)) }
@@ -97,7 +97,7 @@ fn event<'a>(jobs: &[Event], words: &[&[u8]], rest: &[&[u8]]) -> Result<Draft<'a
     }
 }
 
-/// What a line of these words behind `trace` asks for.
+/// What a line of these words after `trace` asks for.
 pub(crate) fn trace_line<'a>(
     alloc: Global,
     jobs: &[Event],

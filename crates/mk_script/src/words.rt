@@ -68,7 +68,7 @@ pub(crate) fn word_len(bytes: &[u8]) -> usize
     bytes.iter().take_while(|b| !is_blank(**b)).count()
 }
 
-/// What stands behind the first word.
+/// What stands after the first word.
 pub(crate) fn behind_word(bytes: &[u8]) -> &[u8]
     ensures { result.now ≡ behind_word bytes.now }
 {
@@ -85,7 +85,7 @@ pub(crate) fn find(byte: u8, bytes: &[u8]) -> usize
     bytes.iter().take_while(|b| **b != byte).count()
 }
 
-/// What stands before the first such byte and behind it; all and nothing, where there is none.
+/// What stands before the first such byte and after it; all and nothing, where there is none.
 pub(crate) fn cut(byte: u8, bytes: &[u8]) -> (&[u8], &[u8])
     ensures before { result.0.now ≡ before_first (λ b. b == byte) bytes.now }
     ensures behind { result.1.now ≡ after_first (λ b. b == byte) bytes.now }

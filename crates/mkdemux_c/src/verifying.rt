@@ -78,7 +78,7 @@ fn answer(refusal: &Refusal) -> u32
 /// out.
 ///
 /// `place` is written in any case. `path` gets as many places of the path to a load of an unwritten word as it has room for;
-/// a room as long as the program always has room for all of them. It is as it was behind them, and for any other answer.
+/// a room as long as the program always has room for all of them. It is as it was after them, and for any other answer.
 #[unsafe(no_mangle)]
 pub extern "C" fn mkdemux_verify(
     alloc: Global,

@@ -48,13 +48,3 @@ pub all_set : (xs : List Bool) (n : ℕ) → length xs ≤ n → ((k : ℕ) → 
 all_set [] n long h = refl
 all_set (false ∷ xs) n long h = absurd (h 0 (omega arith) refl)
 all_set (true ∷ xs) n long h = all_set xs (n - 1) (omega arith) (λ k lt at. h (suc k) (omega arith) at)
-
--- what an acknowledgement tells
-pub reply_told : (place : CoordinatorPlace) (requests : Requests) (entry txn : ℕ) (place' : CoordinatorPlace) (requests' : Requests) (told : Step) (acks : List Bool) (all : Bool) → (h : HearsAck place requests entry txn place' requests' told)
-    → acks ≡ h.acks → list_all (λ ack. ack) (slice_set acks entry true) ≡ all → told.reply ≡ cond all (reply_of requests.asker requests.decided) None
-reply_told place requests entry txn place' requests' told acks all h same is =
-    ap (λ (s : Step). s.reply) h.tells ∙ (ap (λ (p : CoordinatorPlace). reply_at p.phase requests) h.next ∙ by_all (list_all (λ ack. ack) (slice_set h.acks entry true)) (subst (λ (x : List Bool). list_all (λ ack. ack) (slice_set x entry true) ≡ all) same is))
-  where
-    by_all : (b : Bool) → b ≡ all → reply_at (cond b Idle (Acking (slice_set h.acks entry true))) requests ≡ cond all (reply_of requests.asker requests.decided) None
-    by_all true e = rw (← e) refl
-    by_all false e = rw (← e) refl

@@ -15,7 +15,7 @@ use Rattle.monitor_messages.proofs.Numbers.{IsBytes, bind_some, by_rows, ◌⨾�
 use Rattle.monitor_messages.proofs.Operations.{op_takes, op_again}
 use Rattle.monitor_messages.proofs.Decisions.{decision_takes, decision_again}
 
--- what was read behind a kind and a stamp
+-- what was read after a kind and a stamp
 record IsBodyOf (kind : ℕ) (bytes : List ℕ) (m : Message) : Type 0 where
   pub spelled : (stamp : ℕ) → coded stamp m ≡ kind ∷ to_le_bytes w64 stamp ++ bytes
   pub fits : IsMessage m

@@ -114,7 +114,7 @@ rights_again R = rw (last_u8_again 1) refl
 rights_again M = rw (last_u8_again 2) refl
 rights_again Rm = rw (last_u8_again 3) refl
 
--- what was read behind a kind and a domain
+-- what was read after a kind and a domain
 record IsOpOf (kind domain : ℕ) (bytes : List ℕ) (op : Op) : Type 0 where
   pub spelled : op_bytes op ≡ kind ∷ to_le_bytes w16 domain ++ bytes
   pub fits : domain < 2 ^ 16 → IsOp op

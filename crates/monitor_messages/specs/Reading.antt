@@ -3,6 +3,7 @@
 use Rattle.std.specs.Prelude.{◌≡◌, ◌==◌, ◌||◌, ℕ, zero, suc, leb, if◌then◌else◌, List, [], ◌∷◌, Option, Some, None, Result, Ok, Err}
 use Rattle.std.specs.Int.{w16, w32, w64, from_le_bytes}
 use Rattle.bpf_insn.specs.declared.insn.Insn.{Insn}
+use Rattle.bpf_insn.specs.declared.insn.TheConstants.{MAX_INSNS}
 use Rattle.endpoint_caps.specs.declared.Rights.{Rights}
 use Rattle.endpoint_caps.specs.declared.Rights.TheVariants.{R, M, Rm}
 use Rattle.filter_table.specs.declared.operation.Op.{Op}
@@ -97,7 +98,7 @@ insns_at (suc n) bytes = do
 unfoldable pub program_in : List ℕ → Option (List Insn)
 program_in bytes = do
   count ← u16_at bytes
-  if leb count.0 4096 then (insns_at count.0 count.1 >>= λ code. ended code.1 code.0) else None
+  if leb count.0 MAX_INSNS then (insns_at count.0 count.1 >>= λ code. ended code.1 code.0) else None
 
 -- Operations
 

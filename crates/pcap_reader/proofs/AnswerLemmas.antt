@@ -43,36 +43,6 @@ open_part fed h packets offset part keeps half = record {
   ends = (half, keeps.place);
 }
 
--- a feed with this fault
-pub stopped_ending : (fed : List ℕ) (header : Option Header) (packets : List Packet) (f : CaptureFault) → HasStopped fed header packets f
-    → f ≢ NoMemory → IsEnding fed header packets (Err f)
-stopped_ending fed header packets f (inl stood) other = stood.1
-stopped_ending fed header packets f (inr refused) other = absurd (other refused.0)
-
--- what was read where memory was refused
-pub stopped_front : (fed : List ℕ) (header : Option Header) (packets : List Packet) → HasStopped fed header packets NoMemory → ReadsFront fed header packets
-stopped_front fed header packets (inl stood) = absurd stood.0
-stopped_front fed header packets (inr refused) = refused.1
-
--- an open feed without a header, between two records, and within one
-pub no_header_ending : (fed : List ℕ) (header : Option Header) (packets : List Packet) (offset : ℕ) (part : List ℕ) → header ≡ None → IsOpen fed header packets offset part
-    → IsEnding fed header packets (Err TruncatedHeader)
-no_header_ending fed None packets offset part none was = (was.1, was.3)
-no_header_ending fed (Some h) packets offset part none was = absurd (cc)
-
-pub between_ending : (fed : List ℕ) (header : Option Header) (packets : List Packet) (offset : ℕ) (part : List ℕ) (h : Header) → header ≡ Some h → IsOpen fed header packets offset part → part ≡ []
-    → IsEnding fed header packets (Ok h)
-between_ending fed None packets offset part h is was none = absurd (cc)
-between_ending fed (Some k) packets offset part h is was none = let same : k ≡ h = cc in rw (sym same) (open_end fed k packets offset part was.0 none)
-
-pub within_ending : (fed : List ℕ) (header : Option Header) (packets : List Packet) (offset : ℕ) (part : List ℕ) (h : Header) → header ≡ Some h → IsOpen fed header packets offset part → part ≢ []
-    → IsEnding fed header packets (Err (TruncatedRecord offset))
-within_ending fed None packets offset part h is was some = absurd (cc)
-within_ending fed (Some k) packets offset part h is was some = elim was.1 [
-  | inl none ↦ absurd (some none)
-  | inr half ↦ open_part fed k packets offset part was.0 half
-]
-
 not_lasting : (f g : CaptureFault) → Some f ≡ Some g → ¬ (IsLasting f) → ¬ (IsLasting g)
 not_lasting f g same brief = let e : f ≡ g = cc in rw e at brief
 
@@ -96,7 +66,7 @@ tells given fed feed (Err f) held says = stopped_tells (rw says at held.1) where
   stopped_tells (inl stood) = inr (stood.0, feed.header, given ++ feed.packets.items, stood.1)
   stopped_tells (inr refused) = inl refused.0
 
-memory_or_not : (fault : Option CaptureFault) → (fault ≡ Some NoMemory) ⊎ (fault ≢ Some NoMemory)
+pub memory_or_not : (fault : Option CaptureFault) → (fault ≡ Some NoMemory) ⊎ (fault ≢ Some NoMemory)
 memory_or_not None = inr (λ e. cc)
 memory_or_not (Some BadMagic) = inr (λ e. cc)
 memory_or_not (Some BadVersion) = inr (λ e. cc)

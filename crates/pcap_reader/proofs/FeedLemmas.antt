@@ -18,7 +18,7 @@ use Rattle.pcap_reader.specs.Held.{BehindAt, HasStopped, Keeps, IsOpen, HoldsBeh
 use Rattle.pcap_reader.specs.Growth.{GoesOn, IsGrownTo, IsWanted, IsWhole, IsPacket}
 use Rattle.pcap_reader.proofs.Fronts.{word_at-front, stopped-lasts}
 
-AllZip-push : {A B : Type 0} (R : A → B → Type 0) (xs : List A) (ys : List B) (x : A) (y : B) → AllZip R xs ys → R x y → AllZip R (xs ++ x ∷ []) (ys ++ y ∷ [])
+pub AllZip-push : {A B : Type 0} (R : A → B → Type 0) (xs : List A) (ys : List B) (x : A) (y : B) → AllZip R xs ys → R x y → AllZip R (xs ++ x ∷ []) (ys ++ y ∷ [])
 AllZip-push R [] [] x y each last = (last, tt)
 AllZip-push R [] (b ∷ ys) x y each last = absurd each
 AllZip-push R (a ∷ xs) [] x y each last = absurd each
@@ -129,11 +129,6 @@ open_front fed (Some h) packets offset part was = kept_front fed h packets offse
 pub open_refused : (fed : List ℕ) (header : Option Header) (packets : List Packet) (offset : ℕ) (part : List ℕ) → IsOpen fed header packets offset part → HasStopped fed header packets NoMemory
 open_refused fed header packets offset part was = inr (refl, open_front fed header packets offset part was)
 
--- and in one whose part has grown
-pub grown_refused : (fed : List ℕ) (header : Option Header) (packets : List Packet) (offset : ℕ) (part : List ℕ) → IsGrownTo fed header packets offset part → HasStopped fed header packets NoMemory
-grown_refused fed None packets offset part grown = inr (refl, inl (refl, grown.1))
-grown_refused fed (Some h) packets offset part grown = inr (refl, kept_front fed h packets offset part grown.0)
-
 short_header : (fed : List ℕ) → HasNoHeader fed TruncatedHeader → length fed < 24
 short_header fed (inl few) = omega arith
 short_header fed (inr more) = elim more.3 [
@@ -178,11 +173,6 @@ so_fed_start bytes feed none = record {
   none = none;
   holds = λ given fed held short. rw (append-nil fed) (rw none at held.1);
 }
-
-pub so_fed_end : (bytes rest : List ℕ) (old new : Feed) → SoFed bytes rest old new → rest ≡ [] → (given : List Packet) (fed : List ℕ) → HoldsBehind given fed old → length (fed ++ bytes) < 18446744073709551616 → BehindAt given (fed ++ bytes) new None
-so_fed_end bytes rest old new so none given fed held short =
-    let e : bytes ≡ so.done = so.parts ∙ ap (λ t. so.done ++ t) none ∙ append-nil so.done in
-    rw e (so.holds given fed held short)
 
 pub not_empty : (rest : List ℕ) → rest ≢ [] → 0 < length rest
 not_empty [] some = absurd (some refl)

@@ -8,6 +8,7 @@ use Rattle.pcap_reader.specs.declared.capture.Header.{Header}
 use Rattle.pcap_reader.specs.declared.capture.CaptureFault.{CaptureFault}
 use Rattle.pcap_reader.specs.declared.capture.CaptureFault.TheVariants.{BadMagic, BadVersion, TruncatedHeader, TruncatedRecord, TooLong, NoMemory}
 use Rattle.pcap_reader.specs.Sharing.{IsLastOf, SharesTo}
+use Rattle.pcap_reader.proofs.AnswerLemmas.{memory_or_not}
 
 pub shares_none : (bytes : List ℕ) (feed : Feed) (packets : List Packet) → SharesTo bytes bytes feed feed packets packets
 shares_none bytes feed packets = record {
@@ -54,21 +55,12 @@ fed_to file rest rest' old mid new before after held takes shares short = (takes
     two : HoldsBehind after (takes.front ++ shares.front) new
     two = shares.holds takes.front (takes.holds before [] held (omega (arith, short, long, parts))) (omega (arith, short, long))
 
-is_memory : (fault : Option CaptureFault) → (fault ≡ Some NoMemory) ⊎ (fault ≢ Some NoMemory)
-is_memory None = inr (λ e. cc)
-is_memory (Some BadMagic) = inr (λ e. cc)
-is_memory (Some BadVersion) = inr (λ e. cc)
-is_memory (Some TruncatedHeader) = inr (λ e. cc)
-is_memory (Some (TruncatedRecord at)) = inr (λ e. cc)
-is_memory (Some (TooLong at)) = inr (λ e. cc)
-is_memory (Some NoMemory) = inl refl
-
 -- how a capture ends whose packets were all taken
 pub ends_with : (file : List ℕ) (feed : Feed) (given : List Packet) (answer : Result Header CaptureFault) (fault : CaptureFault)
     → (held_fault feed ≢ Some NoMemory → IsEnding file (held_header feed) (given ++ held_packets feed) answer)
     → (held_fault feed ≡ Some NoMemory → answer ≡ Err NoMemory) → answer ≡ Err fault
     → (fault ≡ NoMemory) ⊎ ((header : Option Header) × (packets : List Packet) × Reads file header packets (Some fault))
-ends_with file feed given answer fault whole refused is = elim (is_memory (held_fault feed)) [
+ends_with file feed given answer fault whole refused is = elim (memory_or_not (held_fault feed)) [
   | inl memory ↦ (let same = refused memory in inl (cc))
   | inr other ↦ inr (held_header feed, given ++ held_packets feed, rw is at (whole other))
 ]

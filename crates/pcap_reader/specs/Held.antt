@@ -41,12 +41,12 @@ HasStopped fed header packets fault =
     (IsLasting fault × Reads fed header packets (Some fault))
     ⊎ ((fault ≡ NoMemory) × ReadsFront fed header packets)
 
--- what a feed holds of the bytes behind packets that it gave up, under its fault, if it has one
+-- what a feed holds of the bytes after packets that it gave up, under its fault, if it has one
 abbrev pub BehindAt : List Packet → List ℕ → Feed → Option CaptureFault → Type 0
 BehindAt given fed feed None = IsOpen fed feed.header (given ++ feed.packets.items) feed.offset feed.part.items
 BehindAt given fed feed (Some fault) = HasStopped fed feed.header (given ++ feed.packets.items) fault
 
--- a feed was fed these bytes, gave up these packets of them, and holds what it has read behind those
+-- a feed was fed these bytes, gave up these packets of them, and holds what it has read after those
 abbrev pub HoldsBehind : List Packet → List ℕ → Feed → Type 0
 HoldsBehind given fed feed = All (λ byte. byte < 256) fed × BehindAt given fed feed (held_fault feed)
 
@@ -54,7 +54,7 @@ HoldsBehind given fed feed = All (λ byte. byte < 256) fed × BehindAt given fed
 abbrev pub Holds : List ℕ → Feed → Type 0
 Holds fed feed = HoldsBehind [] fed feed
 
--- what bytes hold, as far as they were read: a capture with this header, or a fault behind what was read
+-- what bytes hold, as far as they were read: a capture with this header, or a fault after what was read
 abbrev pub IsEnding : List ℕ → Option Header → List Packet → Result Header CaptureFault → Type 0
 IsEnding fed header packets (Ok h) = Reads fed (Some h) packets None
 IsEnding fed header packets (Err fault) = Reads fed header packets (Some fault)

@@ -17,7 +17,7 @@ impl Port {
     ghost use Rattle.std.specs.Prelude.{◌≡◌, ◌<◌, ◌∷◌, [], ◌++◌, IsOk, OnOk, IfErr};
     ghost use Rattle.rx_queue.specs.Queue.{jobs_put, free_places, SamePort};
 
-    /// Puts a job behind those that were put before, or hands it back. It succeeds where a free
+    /// Puts a job after those that were put before, or hands it back. It succeeds where a free
     /// place is known. Takes no memory.
     pub fn put(&mut self, job: Job) -> Result<(), Full>
         ensures queue { SamePort self.old self.new }

@@ -14,9 +14,10 @@ use Rattle.table_replica.specs.Distinct.{AreDistinct}
 use Rattle.table_replica.specs.Keeping.{sources, listed_row, ArePlaced, Keeps, there, added, placed_row, AreMoved, MovesTo, before, now, IsShared, IsRebuilt}
 use Rattle.table_replica.specs.Lent.{IsIn}
 use Rattle.filter_table.specs.Tables.{instructions_of, replaced}
-use Rattle.filter_table.proofs.Lists.{fits_at, take_at, map-append'}
+use Rattle.filter_table.proofs.Lists.{fits_at, take_at, map-append', map-get}
 use Rattle.filter_table.proofs.Tables.{sum_filter}
-use Rattle.table_replica.proofs.Shared.{within, front, last, split, there_is, get-map, shared_after, view_after}
+use Rattle.table_replica.proofs.Shared.{get_front, last, split, get_at, shared_after, view_after}
+use Rattle.std.proofs.lemmas.Option.{slice_get_within as within}
 
 -- What is left of rows, or replaced, shows what it should
 
@@ -49,7 +50,7 @@ replaced_shows programs from (row ∷ rows) id place program placed same at =
     by_test (row.id == id) refl (replaced_shows programs from rows id place program (λ k r there. placed (suc k) r there) same at)
   where
     kept : slice_get from row.program ≡ slice_get programs row.program
-    kept = let here = there_is programs row.program (placed 0 row refl) in same row.program here.0 here.1 ∙ sym here.1
+    kept = let here = get_at programs row.program (placed 0 row refl) in same row.program here.0 here.1 ∙ sym here.1
 
     by_test : (t : Bool) → (row.id == id) ≡ t → map (listed_row from) (map (placed_row id place) rows) ≡ replaced (map (listed_row programs) rows) id program
         → map (listed_row from) (map (placed_row id place) (row ∷ rows)) ≡ replaced (map (listed_row programs) (row ∷ rows)) id program
@@ -117,7 +118,7 @@ module _ (from programs : List (List Insn)) (moved : List ℕ) (old : ℕ) (prog
               ap (slice_get (programs ++ program ∷ [])) q_is ∙ (last programs program ∙ ap (λ (x : List Insn). Some x) mine)
           by_test false t =
               let differs : p ≢ old = grind (arith, nat_tests) in
-              front programs (program ∷ []) q other (h.to p q other (sym (get_or-set_other moved old p (place + 1) 0 differs) ∙ is') at')
+              get_front programs (program ∷ []) q other (h.to p q other (sym (get_or-set_other moved old p (place + 1) 0 differs) ∙ is') at')
 
       back : (q : ℕ) (other : List Insn) → slice_get (programs ++ program ∷ []) q ≡ Some other → (p : ℕ) × (get_or (set moved old (place + 1)) p 0 ≡ q + 1) × (slice_get from p ≡ Some other)
       back q other here = by_place (split programs program q other here)
@@ -134,7 +135,7 @@ pub built_fits : (from programs : List (List Insn)) (rows done : List Row) (i to
     → total ≡ instructions_of (map (listed_row programs) done) → map (listed_row programs) done ≡ map (listed_row from) (take i rows)
     → total + length program ≤ instructions_of (map (listed_row from) rows)
 built_fits from programs rows done i total row program at source sum same =
-    let fits = fits_at (map (listed_row from) rows) i (listed_row from row) (get-map (listed_row from) rows i row at) in
+    let fits = fits_at (map (listed_row from) rows) i (listed_row from row) (map-get (listed_row from) rows i row at) in
     let front_is : instructions_of (take i (map (listed_row from) rows)) ≡ total = ap instructions_of (take_map i rows ∙ sym same) ∙ sym sum in
     let long : length (listed_row from row).program ≡ length program = rw source refl in
     omega (arith, fits, front_is, long)
@@ -222,5 +223,5 @@ module _ (rows : List Row) (programs : List (List Insn)) (total : ℕ) (shared :
     pub new_shows : place ≡ length programs → map (listed_row (programs2 ++ program ∷ [])) rows2 ≡ replaced (map (listed_row programs) rows) id program
     new_shows is = ap (λ (ps : List (List Insn)). map (listed_row (ps ++ program ∷ [])) rows2) programs_are
         ∙ (ap (map (listed_row (programs ++ program ∷ []))) rows_are
-        ∙ replaced_shows programs (programs ++ program ∷ []) rows id place program shared.placed (λ k p here. front programs (program ∷ []) k p here)
+        ∙ replaced_shows programs (programs ++ program ∷ []) rows id place program shared.placed (λ k p here. get_front programs (program ∷ []) k p here)
         (ap (slice_get (programs ++ program ∷ [])) is ∙ last programs program))

@@ -21,7 +21,7 @@ use Rattle.table_replica.specs.Distinct.{AreDistinct}
 use Rattle.filter_table.specs.Listed.{ListedFilter}
 use Rattle.table_replica.specs.Keeping.{or_nothing, listed_row, ArePlaced, AreMoved, reach_of, moved_reach, placed_row, IsLive, AreReaches, AreLost, AreHeldAlike, IsRebuilt}
 use Rattle.filter_table.proofs.Lists.{never, in_head, in_tail, first_or_later, in_map, was_mapped, in_filter, from_filter, take_at, get_some}
-use Rattle.table_replica.proofs.Shared.{there_is}
+use Rattle.table_replica.proofs.Shared.{get_at}
 use Rattle.table_replica.proofs.Ordered.{reach_decides, reach_equivalence, dedup_ordered, moved_ordered, not_before}
 
 pub any_is : (lost : List Reach) (r : Reach) → Decides (list_any (λ other. eq-value.it other r) lost) (Contains lost r)
@@ -175,7 +175,7 @@ module _ (caps : List Cap) where
           by_test true e = absurd (are.dead r ((any_is lost r).0 e) live)
           by_test false e = rw e refl
 
-  -- a row that isn't live for a reach, behind those that aren't
+  -- a row that isn't live for a reach, after those that aren't
   pub not_live : (p : Row → Bool) (rows : List Row) (i : ℕ) (row : Row) (r : Reach) → slice_get rows i ≡ Some row → (p row ≡ true → reach_of row ≡ r → is_none (cap_at caps row.cap) ≡ false → ⊥)
       → (IsLive caps (filter p (take i rows)) r → ⊥) → IsLive caps (filter p (take (i + 1) rows)) r → ⊥
   not_live p rows i row r at not_this none live =
@@ -252,7 +252,7 @@ module _ (caps : List Cap) where
   module _ (from programs : List (List Insn)) (rows rows' : List Row) (moved : List ℕ) (distinct : AreDistinct from) (placed : ArePlaced rows (length from)) (placed' : ArePlaced rows' (length programs))
       (m : AreMoved from programs moved) (same : map (listed_row programs) rows' ≡ map (listed_row from) rows) where
     place_of : (ps : List (List Insn)) (rs : List Row) (row : Row) → ArePlaced rs (length ps) → Contains rs row → (p : List Insn) × (slice_get ps row.program ≡ Some p)
-    place_of ps rs row are at = there_is ps row.program (are at.0 row (get_some rs at.0 row at.1 ∙ ap (λ (x : Row). Some x) at.2))
+    place_of ps rs row are at = get_at ps row.program (are at.0 row (get_some rs at.0 row at.1 ∙ ap (λ (x : Row). Some x) at.2))
 
     moves : (row row' : Row) → Contains rows row → Contains rows' row' → listed_row programs row' ≡ listed_row from row → get_or moved row.program 0 ≡ row'.program + 1
     moves row row' at at' e =

@@ -14,7 +14,7 @@ use Rattle.table_replica.specs.declared.filters.Row.{Row}
 use Rattle.table_replica.specs.declared.reaches.Reach.{Reach}
 use Rattle.table_replica.specs.Keeping.{listed_row, or_nothing, reach_of, AreReaches}
 use Rattle.filter_table.proofs.Lists.{never, in_head, in_tail, first_or_later, was_mapped, in_map, three, take_at, map-append'}
-use Rattle.table_replica.proofs.Shared.{there_is}
+use Rattle.table_replica.proofs.Shared.{get_at}
 use Rattle.table_replica.proofs.Ordered.{below_last}
 use Rattle.std.specs.List.{All}
 use Rattle.std.specs.List.Sorted.{IsNonDecreasingBy}
@@ -35,12 +35,6 @@ same_is e k same = grind (arith, nat_tests)
 not_same : (e : ℕ) (k : Kept) → k.endpoint < e → (k.endpoint == e) ≡ false
 not_same e k lt = grind (arith, nat_tests)
 
-equal : (a b : ℕ) → a ≡ b → (a == b) ≡ true
-equal a b e = grind (arith, nat_tests)
-
-unequal : (a b : ℕ) → a ≢ b → (a == b) ≡ false
-unequal a b e = grind (arith, nat_tests)
-
 raised-before : (k : Kept) (ks : List Kept) (e b : ℕ) → e < k.endpoint → raised (k ∷ ks) e b ≡ at_endpoint e b ∷ k ∷ ks
 raised-before k ks e b lt = rw (below_is e k lt) refl
 
@@ -60,7 +54,7 @@ head_above : (k : Kept) (ks : List Kept) → IsIncreasing (k ∷ ks) → IsAbove
 head_above k [] h = tt
 head_above k (m ∷ ks) h = h.0
 
-tail_increases : (k : Kept) (ks : List Kept) → IsIncreasing (k ∷ ks) → IsIncreasing ks
+pub tail_increases : (k : Kept) (ks : List Kept) → IsIncreasing (k ∷ ks) → IsIncreasing ks
 tail_increases k [] h = tt
 tail_increases k (m ∷ ks) h = h.1
 
@@ -392,12 +386,6 @@ earlier_all ks n e h long last d j lt = by_place (three j (n - 1))
 
 -- Endpoints and programs in place of filters
 
-pub none_yet : (caps : List Cap) (packet : Packet) → ReceiversSoFar caps [] packet []
-none_yet caps packet = record {
-  are = record { increasing = tt; each = λ e b. (λ at. absurd (never _ at), λ gets. absurd (never _ gets.hands.listed)) };
-  covers = λ e v h. absurd (never _ h.listed);
-}
-
 -- the verdict that a run gives is that of the program at its place
 pub run_verdict : (programs : List (List Insn)) (place : ℕ) (program : List Insn) (packet : Packet) (verdict steps : ℕ) → slice_get programs place ≡ Some program
     → Ends program packet verdict steps → ((v s : ℕ) → Ends program packet v s → (v ≡ verdict) × (s ≡ steps)) → VerdictAt programs place packet verdict
@@ -434,7 +422,7 @@ verdict_known programs packet verdicts place verdict h known = record {
 module _ (programs : List (List Insn)) (packet : Packet) where
   verdict_is : (reach : Reach) (verdict : ℕ) → reach.program < length programs → VerdictAt programs reach.program packet verdict → IsVerdict (filter_of programs reach).program packet verdict
   verdict_is reach verdict inside known =
-      let p = there_is programs reach.program inside in
+      let p = get_at programs reach.program inside in
       subst (λ (q : List Insn). IsVerdict q packet verdict) (sym (ap or_nothing p.1)) (known p.0 p.1)
 
   one_more : (reaches : List Reach) (i : ℕ) (reach : Reach) → slice_get reaches i ≡ Some reach → map (filter_of programs) (take i reaches) ++ filter_of programs reach ∷ [] ≡ map (filter_of programs) (take (i + 1) reaches)

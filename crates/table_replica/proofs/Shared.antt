@@ -6,17 +6,13 @@ use Rattle.table_replica.specs.declared.filters.Row.{Row}
 use Rattle.table_replica.specs.Keeping.{listed_row, or_nothing, IsShared, Keeps, there, added}
 use Rattle.table_replica.specs.Lent.{IsIn, AreDifferent}
 use Rattle.filter_table.specs.Tables.{instructions_of}
-use Rattle.filter_table.proofs.Lists.{instructions-push, map-append'}
+use Rattle.filter_table.proofs.Lists.{instructions-push, map-append', map-get}
+use Rattle.std.proofs.lemmas.Option.{slice_get_within as within}
 
-pub within : {A : Type 0} (xs : List A) (i : ℕ) (x : A) → slice_get xs i ≡ Some x → i < length xs
-within [] i x h = absurd cc
-within (y ∷ xs) zero x h = omega arith
-within (y ∷ xs) (suc i) x h = omega (arith, within xs i x h)
-
-pub front : {A : Type 0} (xs ys : List A) (i : ℕ) (x : A) → slice_get xs i ≡ Some x → slice_get (xs ++ ys) i ≡ Some x
-front [] ys i x h = absurd cc
-front (y ∷ xs) ys zero x h = h
-front (y ∷ xs) ys (suc i) x h = front xs ys i x h
+pub get_front : {A : Type 0} (xs ys : List A) (i : ℕ) (x : A) → slice_get xs i ≡ Some x → slice_get (xs ++ ys) i ≡ Some x
+get_front [] ys i x h = absurd cc
+get_front (y ∷ xs) ys zero x h = h
+get_front (y ∷ xs) ys (suc i) x h = get_front xs ys i x h
 
 pub last : {A : Type 0} (xs : List A) (x : A) → slice_get (xs ++ x ∷ []) (length xs) ≡ Some x
 last [] x = refl
@@ -32,15 +28,10 @@ split (z ∷ xs) y (suc i) x h = by_rest (split xs y i x h)
     by_rest (inl e) = inl e
     by_rest (inr e) = inr (ap suc e.0, e.1)
 
-pub there_is : {A : Type 0} (xs : List A) (i : ℕ) → i < length xs → (x : A) × (slice_get xs i ≡ Some x)
-there_is [] i lt = absurd (omega arith)
-there_is (x ∷ xs) zero lt = (x, refl)
-there_is (x ∷ xs) (suc i) lt = there_is xs i (omega arith)
-
-pub get-map : {A B : Type 0} (f : A → B) (xs : List A) (i : ℕ) (x : A) → slice_get xs i ≡ Some x → slice_get (map f xs) i ≡ Some (f x)
-get-map f [] i x h = absurd cc
-get-map f (y ∷ xs) zero x h = cc
-get-map f (y ∷ xs) (suc i) x h = get-map f xs i x h
+pub get_at : {A : Type 0} (xs : List A) (i : ℕ) → i < length xs → (x : A) × (slice_get xs i ≡ Some x)
+get_at [] i lt = absurd (omega arith)
+get_at (x ∷ xs) zero lt = (x, refl)
+get_at (x ∷ xs) (suc i) lt = get_at xs i (omega arith)
 
 pub map-get' : {A B : Type 0} (f : A → B) (xs : List A) (i : ℕ) (y : B) → slice_get (map f xs) i ≡ Some y → (x : A) × (slice_get xs i ≡ Some x) × (f x ≡ y)
 map-get' f [] i y h = absurd cc
@@ -52,8 +43,8 @@ same-rows : (programs more : List (List Insn)) (rows : List Row) → ((k : ℕ) 
     → map (listed_row (programs ++ more)) rows ≡ map (listed_row programs) rows
 same-rows programs more [] placed = refl
 same-rows programs more (row ∷ rows) placed =
-    let at = there_is programs row.program (placed 0 row refl) in
-    let same : slice_get (programs ++ more) row.program ≡ slice_get programs row.program = front programs more row.program at.0 at.1 ∙ sym at.1 in
+    let at = get_at programs row.program (placed 0 row refl) in
+    let same : slice_get (programs ++ more) row.program ≡ slice_get programs row.program = get_front programs more row.program at.0 at.1 ∙ sym at.1 in
     rw (same, same-rows programs more rows (λ k r h. placed (suc k) r h)) refl
 
 pub view-keep : (rows : List Row) (programs after : List (List Insn)) (total : ℕ) (program : List Insn) (row : Row) → IsShared rows programs total → Keeps programs program after row.program
@@ -104,7 +95,7 @@ shared-keep rows programs after total program row shared kept = record {
         both (inr a) (inr b) = a.0 ∙ sym b.0
 
     used : Keeps programs program after row.program → (i : ℕ) → i < length after → (k : ℕ) × (r : Row) × (slice_get (rows ++ row ∷ []) k ≡ Some r) × (r.program ≡ i)
-    used (there same at) i lt = let old = shared.used i (rw same at lt) in (old.0, old.1, front rows (row ∷ []) old.0 old.1 old.2, old.3)
+    used (there same at) i lt = let old = shared.used i (rw same at lt) in (old.0, old.1, get_front rows (row ∷ []) old.0 old.1 old.2, old.3)
     used (added same place fresh) i lt = by_old (split' i lt)
       where
         split' : (i : ℕ) → i < length after → (i < length programs) ⊎ (i ≡ length programs)
@@ -114,7 +105,7 @@ shared-keep rows programs after total program row shared kept = record {
             less_or_same a b h = grind arith
 
         by_old : (i < length programs) ⊎ (i ≡ length programs) → (k : ℕ) × (r : Row) × (slice_get (rows ++ row ∷ []) k ≡ Some r) × (r.program ≡ i)
-        by_old (inl old) = let u = shared.used i old in (u.0, u.1, front rows (row ∷ []) u.0 u.1 u.2, u.3)
+        by_old (inl old) = let u = shared.used i old in (u.0, u.1, get_front rows (row ∷ []) u.0 u.1 u.2, u.3)
         by_old (inr new) = (length rows, row, last rows row, place ∙ sym new)
 
 pub different : (rows : List Row) (programs : List (List Insn)) (total : ℕ) → IsShared rows programs total → AreDifferent (map (listed_row programs) rows) (length programs)
@@ -128,12 +119,12 @@ different rows programs total shared = record {
     to : (program : List Insn) → IsIn programs program → (k : ℕ) × (f : ListedFilter) × (slice_get (map (listed_row programs) rows) k ≡ Some f) × (f.program ≡ program)
     to program at =
         let u = shared.used at.0 (within programs at.0 program at.1) in
-        (u.0, listed_row programs u.1, get-map (listed_row programs) rows u.0 u.1 u.2, ap or_nothing (ap (slice_get programs) u.3 ∙ at.1))
+        (u.0, listed_row programs u.1, map-get (listed_row programs) rows u.0 u.1 u.2, ap or_nothing (ap (slice_get programs) u.3 ∙ at.1))
 
     from : (program : List Insn) → (k : ℕ) × (f : ListedFilter) × (slice_get (map (listed_row programs) rows) k ≡ Some f) × (f.program ≡ program) → IsIn programs program
     from program has =
         let r = map-get' (listed_row programs) rows has.0 has.1 has.2 in
-        let at = there_is programs r.0.program (shared.placed has.0 r.0 r.1) in
+        let at = get_at programs r.0.program (shared.placed has.0 r.0 r.1) in
         let same : at.0 ≡ program = sym (ap or_nothing at.1) ∙ (ap (λ (f : ListedFilter). f.program) r.2 ∙ has.3) in
         (r.0.program, at.1 ∙ ap (λ (x : List Insn). Some x) same)
 
@@ -143,15 +134,6 @@ pub get_is : (xs : List (List Insn)) (i : ℕ) (x : List Insn) → i < length xs
 get_is [] i x lt h = absurd (omega arith)
 get_is (y ∷ xs) zero x lt h = ap (λ (z : List Insn). Some z) (sym h)
 get_is (y ∷ xs) (suc i) x lt h = get_is xs i x (omega arith) h
-
-pub found_at : (xs : List (List Insn)) (i : ℕ) (x p : List Insn) → i < length xs → x ≡ get_or xs i x → x ≡ p → slice_get xs i ≡ Some p
-found_at xs i x p lt h e = get_is xs i x lt h ∙ ap (λ (z : List Insn). Some z) e
-
-pub not_at : (xs : List (List Insn)) (i : ℕ) (x p : List Insn) → i < length xs → x ≡ get_or xs i x → (x ≡ p → ⊥) → slice_get xs i ≡ Some p → ⊥
-not_at xs i x p lt h ne at = let y = get_is xs i x lt h in ne (cc (y, at))
-
-pub not_in : (xs : List (List Insn)) (p : List Insn) → ((k : ℕ) → k < length xs → slice_get xs k ≡ Some p → ⊥) → IsIn xs p → ⊥
-not_in xs p none at = none at.0 (within xs at.0 p at.1) at.1
 
 -- A row that was pushed, in the words of the calls
 

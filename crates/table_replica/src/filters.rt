@@ -361,7 +361,7 @@ struct Rebuilding {
     moved: Vec<usize>,
 }
 
-/// The filters of these rows, whose programs have places among `programs` and, behind them, `new`. A program that no row has
+/// The filters of these rows, whose programs have places among `programs` and, after them, `new`. A program that no row has
 /// is left out.
 fn rebuilt(
     alloc: Global,
@@ -384,7 +384,7 @@ fn rebuilt(
         moved: vec![in alloc; 0; programs.len() + 1]?,
     };
     for index in 0..rows.len() {
-        built = with_moved(alloc, built, rows, index, programs, new)?;
+        built = with_moved(built, rows, index, programs, new)?;
     }
     let Rebuilding {
         rows,
@@ -403,7 +403,6 @@ fn rebuilt(
 
 /// One more of the rows, with its program.
 fn with_moved(
-    alloc: Global,
     built: Rebuilding,
     rows: &[Row],
     index: usize,

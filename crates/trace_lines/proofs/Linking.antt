@@ -83,43 +83,6 @@ front-push v fs place at past from to = push_first v from to fs (subst (λ n. le
 
 -- An event
 
--- one that takes no message
-pub nothing_taken : (highest : ℕ) (past : List Event) (state : State) → Follows highest past state → HasTaken highest past None state
-nothing_taken highest past state so = record { asker = so.asker; acks = so.acks; messages = so.messages; within = so.within; taken = so.taken }
-
-one_or_other : (b : Bool) (k n : ℕ) (P : ℕ → Type 0) → P k → P n → P (if b then k else n)
-one_or_other true k n P one other = one
-one_or_other false k n P one other = other
-
-taken_step : (b : Bool) (k n count more : ℕ) (p : Message → Bool) (ms : List Message) → (b ≡ true → length (filter p (take k ms)) ≡ more) → length (filter p (take n ms)) ≡ count
-    → length (filter p (take (if b then k else n) ms)) ≡ (if b then more else count)
-taken_step true k n count more p ms new old = new refl
-taken_step false k n count more p ms new old = old
-
--- the oldest message between two cores is taken: their front goes on to this place
-pub one_taken : (highest : ℕ) (past : List Event) (from to place : ℕ) (old new : State) → Follows highest past old
-    → length (filter (is_between from to) (take place old.messages.items))
-    ≡ min (length (filter (is_between from to) (take (front from to old.fronts.items) old.messages.items)) + 1) (length (filter (is_between from to) old.messages.items))
-    → place ≤ length old.messages.items → new.messages.items ≡ old.messages.items → new.asker ≡ old.asker → new.acks ≡ old.acks
-    → ((f t : ℕ) → front f t new.fronts.items ≡ (if from == f && to == t then place else front f t old.fronts.items))
-    → HasTaken highest past (Some (from, to)) new
-one_taken highest past from to place old new so counted within messages asker acks fronts = record {
-  asker = asker ∙ so.asker;
-  acks = acks ∙ so.acks;
-  messages = messages ∙ so.messages;
-  within = λ f t. rw (messages, fronts f t) (one_or_other (from == f && to == t) place (front f t old.fronts.items) (λ n. n ≤ length old.messages.items) within (so.within f t));
-  taken = λ f t. rw (messages, fronts f t)
-      (taken_step (from == f && to == t) place (front f t old.fronts.items) (taken highest f t past) (min (taken highest f t past + 1) (length (sent_between highest f t past))) (is_between f t) old.messages.items
-      (λ here.
-      let both = and_parts (from == f) (to == t) here in
-      let e = eqb-true from f both.0 in
-      let g = eqb-true to t both.1 in
-      let c = subst (λ u. length (filter (is_between f u) (take place old.messages.items)) ≡ min (length (filter (is_between f u) (take (front f u old.fronts.items) old.messages.items)) + 1) (length (filter (is_between f u) old.messages.items))) g
-      (subst (λ u. length (filter (is_between u to) (take place old.messages.items)) ≡ min (length (filter (is_between u to) (take (front u to old.fronts.items) old.messages.items)) + 1) (length (filter (is_between u to) old.messages.items))) e counted) in
-      c ∙ ap (λ n. min (n + 1) (length (filter (is_between f t) old.messages.items))) (so.taken f t) ∙ ap (λ ms. min (taken highest f t past + 1) (length (filter (is_between f t) ms))) so.messages)
-      (so.taken f t));
-}
-
 -- what it sends follows
 pub follows_next : (highest : ℕ) (past : List Event) (event : Event) (effect : Effect) (mid new : State) → HasTaken highest past (ends_at event.act event.told) mid
     → effect ≡ effect_at event.act event.told

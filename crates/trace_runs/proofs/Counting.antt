@@ -9,7 +9,7 @@ use Rattle.rx_queue.specs.declared.job.Job.{Job}
 use Rattle.world_events.specs.declared.event.Event.{Event}
 use Rattle.world_events.specs.declared.event.Event.TheVariants.{Start, Submit, StartFor, Take, Rx}
 use Rattle.world_events.specs.declared.event.Done.{Done}
-use Rattle.world_model.proofs.Lists.{get_at, same_or_not}
+use Rattle.world_model.proofs.Lists.{same_or_not}
 use Rattle.world_model.proofs.Submissions.{eq_self, eq_other}
 use Rattle.world_histories.specs.declared.history.Stamped.{Stamped}
 use Rattle.world_histories.specs.Merging.{core_of, part, Merged}
@@ -25,6 +25,7 @@ use Rattle.mk_script.specs.Threads.{received}
 use Rattle.run_engine.specs.Work.{jobs_of}
 use Rattle.run_engine.specs.Showing.{ShowsLeft, left_lines}
 use Rattle.trace_text.proofs.EventLemmas.{event_text, left_text, event_line_is, left_line_is}
+use Rattle.table_replica.proofs.Shared.{get_at}
 
 -- Sums over cores
 

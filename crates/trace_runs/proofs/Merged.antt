@@ -7,7 +7,7 @@ use Rattle.world_events.specs.declared.event.Event.{Event}
 use Rattle.world_events.specs.declared.event.Event.TheVariants.{Take}
 use Rattle.world_events.specs.declared.event.Answer.{Answer}
 use Rattle.world_events.specs.declared.event.Answer.TheVariants.{TookPrepare}
-use Rattle.world_model.proofs.Lists.{get_at, same_or_not}
+use Rattle.world_model.proofs.Lists.{same_or_not}
 use Rattle.world_model.proofs.Submissions.{eq_self, eq_other}
 use Rattle.world_histories.specs.declared.history.Stamped.{Stamped}
 use Rattle.world_histories.specs.Merging.{core_of, part, Merged, as_short, as_listed}
@@ -28,6 +28,7 @@ use Rattle.trace_runs.specs.Memory.{WasNotRefused}
 use Rattle.trace_runs.specs.Repeats.{BeginInOrder, PerformsTrace, DiffersByMemory, Repeats, same, short_of_memory, RanScript, CanRepeatMerged, ShowsTrace}
 use Rattle.trace_runs.proofs.Again.{can_repeat}
 use Rattle.trace_runs.proofs.Whatever.{repeats}
+use Rattle.table_replica.proofs.Shared.{get_at}
 
 -- an event that is listed is as it was, but for what it tells of memory
 record SameButShort (event event' : Event) : Type 0 where

@@ -10,7 +10,7 @@ use Rattle.world_events.specs.declared.event.Answer.{Answer}
 use Rattle.world_events.specs.declared.event.Answer.TheVariants.{TookPrepare}
 use Rattle.world_events.specs.declared.event.Done.{Done}
 use Rattle.world_model.specs.Worlds.{World, boot, Happens, Runs, Run}
-use Rattle.world_model.proofs.Lists.{get_within, get_at, same_or_not}
+use Rattle.world_model.proofs.Lists.{same_or_not}
 use Rattle.world_model.proofs.Submissions.{eq_self, eq_other}
 use Rattle.world_model.proofs.Runs.{runs_more}
 use Rattle.world_model.proofs.Known.{run_known}
@@ -28,6 +28,8 @@ use Rattle.mk_script.specs.Threads.{IsScriptForThreads, received}
 use Rattle.run_engine.specs.Work.{jobs_of}
 use Rattle.trace_text.specs.Traces.{IsNamedIn, IsNamed}
 use Rattle.trace_text.proofs.NameLemmas.{named}
+use Rattle.std.proofs.lemmas.Option.{slice_get_within}
+use Rattle.table_replica.proofs.Shared.{get_at}
 
 -- Lists
 
@@ -51,12 +53,12 @@ AreCores cores event = Unit {0}
 names_cores : (others : ℕ) (w w' : World) (event : Event) (answer : Answer) → length w.peers ≡ others → length w.requests.waiting ≡ others → Happens w event w' answer → AreCores (suc others) event
 names_cores others w w' (Start op) answer peers waiting h = tt
 names_cores others w w' (Submit zero op) answer peers waiting h = absurd h
-names_cores others w w' (Submit (suc i) op) answer peers waiting h = omega (arith, peers, get_within w.peers i h.peer h.is_peer)
+names_cores others w w' (Submit (suc i) op) answer peers waiting h = omega (arith, peers, slice_get_within w.peers i h.peer h.is_peer)
 names_cores others w w' (StartFor zero) answer peers waiting h = absurd h
-names_cores others w w' (StartFor (suc i)) answer peers waiting h = omega (arith, waiting, get_within w.requests.waiting i (Some h.here.starts.op) h.here.starts.is_waiting)
+names_cores others w w' (StartFor (suc i)) answer peers waiting h = omega (arith, waiting, slice_get_within w.requests.waiting i (Some h.here.starts.op) h.here.starts.is_waiting)
 names_cores others w w' (Take zero zero short) answer peers waiting h = absurd h
-names_cores others w w' (Take zero (suc i) short) answer peers waiting h = (omega arith, omega (arith, peers, get_within w.peers i h.peer h.is_peer))
-names_cores others w w' (Take (suc i) zero short) answer peers waiting h = (omega (arith, peers, get_within w.peers i h.peer h.is_peer), omega arith)
+names_cores others w w' (Take zero (suc i) short) answer peers waiting h = (omega arith, omega (arith, peers, slice_get_within w.peers i h.peer h.is_peer))
+names_cores others w w' (Take (suc i) zero short) answer peers waiting h = (omega (arith, peers, slice_get_within w.peers i h.peer h.is_peer), omega arith)
 names_cores others w w' (Take (suc i) (suc j) short) answer peers waiting h = absurd h
 names_cores others w w' (Rx core number packet floor) answer peers waiting h = tt
 

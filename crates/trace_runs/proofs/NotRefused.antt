@@ -9,11 +9,12 @@ use Rattle.world_events.specs.declared.event.Event.TheVariants.{Start, Submit, S
 use Rattle.world_events.specs.declared.event.Answer.{Answer}
 use Rattle.world_events.specs.declared.event.Done.{Done}
 use Rattle.world_model.specs.Worlds.{Peer, World, HappensStart, HappensStartFor, HappensSubmit, HappensUp, HappensDown, HappensRx, Happens, Run}
-use Rattle.world_model.proofs.Lists.{get_within, get_at}
 use Rattle.world_model.proofs.RunLaws.{run_agrees}
 use Rattle.world_events.specs.declared.fault.WorldFault.{WorldFault}
 use Rattle.world_events.specs.declared.fault.WorldFault.TheVariants.{NoSuchCore, Nothing, NotReady, NotIdle, Spent, Outstanding, NoneWaiting}
 use Rattle.world_core.specs.Refusals.{StandsFirst}
+use Rattle.std.proofs.lemmas.Option.{slice_get_within}
+use Rattle.table_replica.proofs.Shared.{get_at}
 
 -- each other core has an entry among the requests and among the cores
 peers_wait : (budget : ℕ) (budgets : List ℕ) (before : List Done) (w : World) → Run budget budgets before w → length w.requests.waiting ≡ length w.peers
@@ -39,7 +40,7 @@ submit_stands w w' i op answer fault h f = f
 
 start_for_stands : (w w' : World) (i : ℕ) (answer : Answer) (fault : WorldFault) → length w.requests.waiting ≡ length w.peers → HappensStartFor w i w' answer → StandsFirst w (StartFor (suc i)) fault → ⊥
 start_for_stands w w' i answer NoSuchCore long h f =
-    let p = get_at w.peers i (omega (arith, long, get_within w.requests.waiting i (Some h.here.starts.op) h.here.starts.is_waiting)) in
+    let p = get_at w.peers i (omega (arith, long, slice_get_within w.requests.waiting i (Some h.here.starts.op) h.here.starts.is_waiting)) in
     let x = ap (option_map (λ (q : Peer). q.up)) p.1 in
     let y = f in
     cc

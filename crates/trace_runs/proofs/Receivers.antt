@@ -6,6 +6,7 @@ use Rattle.filter_table.specs.Listed.{ListedFilter}
 use Rattle.filter_table.specs.declared.delivery.Kept.{Kept}
 use Rattle.filter_table.specs.Tables.{IsIncreasing, AreReceivers}
 use Rattle.filter_table.proofs.Lists.{never, in_head, in_tail, first_or_later}
+use Rattle.table_replica.proofs.Receivers.{tail_increases}
 
 -- in increasing order the first is below each that comes later
 later_above : (k : Kept) (ks : List Kept) (x : Kept) → IsIncreasing (k ∷ ks) → Contains ks x → k.endpoint < x.endpoint
@@ -15,10 +16,6 @@ later_above k (m ∷ ks) x h at = by_place (first_or_later m ks x at) (later_abo
     by_place : (m ≡ x) ⊎ Contains ks x → (Contains ks x → m.endpoint < x.endpoint) → k.endpoint < x.endpoint
     by_place (inl same) rest = let e = ap (λ (y : Kept). y.endpoint) same in omega (arith, e, h.0)
     by_place (inr later) rest = omega (arith, rest later, h.0)
-
-tail_increases : (k : Kept) (ks : List Kept) → IsIncreasing (k ∷ ks) → IsIncreasing ks
-tail_increases k [] h = tt
-tail_increases k (m ∷ ks) h = h.1
 
 same_first : (k m : Kept) (ks ms : List Kept) → IsIncreasing (k ∷ ks) → IsIncreasing (m ∷ ms) → Contains (m ∷ ms) k → Contains (k ∷ ks) m → k ≡ m
 same_first k m ks ms hk hm at_m at_k = by_places (first_or_later m ms k at_m) (first_or_later k ks m at_k)

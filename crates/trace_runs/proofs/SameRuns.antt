@@ -6,13 +6,9 @@ use Rattle.world_events.specs.declared.event.Event.{Event}
 use Rattle.world_events.specs.declared.event.Answer.{Answer}
 use Rattle.world_events.specs.declared.event.Done.{Done}
 use Rattle.world_model.specs.Worlds.{World, Happens, Runs}
-use Rattle.world_histories.proofs.Once.{runs_once}
+use Rattle.world_histories.proofs.Once.{happens_once as world_once}
 use Rattle.trace_runs.specs.Memory.{LacksMemory, HadMemory}
 use Rattle.trace_runs.proofs.OneAnswer.{one_answer}
-
--- with one answer an event leads to one world
-pub world_once : (w w1 w2 : World) (event : Event) (answer : Answer) → Happens w event w1 answer → Happens w event w2 answer → w1 ≡ w2
-world_once w w1 w2 event answer a b = runs_once w w1 w2 (record { event = event; answer = answer } ∷ []) (w1, a, refl) (w2, b, refl)
 
 pub happens_once : (w w1 w2 : World) (event : Event) (a1 a2 : Answer) → Happens w event w1 a1 → Happens w event w2 a2 → (LacksMemory event a1 → ⊥) → (LacksMemory event a2 → ⊥) → (a1 ≡ a2) × (w1 ≡ w2)
 happens_once w w1 w2 event a1 a2 x y had1 had2 =

@@ -15,6 +15,7 @@ use Rattle.std.proofs.lemmas.Str.Parse.{tells_all_ascii_digits}
 use Rattle.bpf_insn.specs.Texts.{is_blank, words_of, number_of}
 use Rattle.mk_script.specs.Drafts.{is_number}
 use Rattle.mk_script.specs.Words.{number_below}
+use Rattle.bpf_insn.proofs.DddTextLemmas.{number_of_decimal}
 
 abbrev pub is_lf : ℕ → Bool
 is_lf b = eqb b 10
@@ -96,16 +97,10 @@ decimal_is_number n =
     let some : ltb 0 (length (decimal n)) ≡ true = let more = decimal_some n in grind (arith, nat_tests) in
     rw (some, decimal_digits n) refl
 
--- a number that is printed is read back
-pub decimal_number : (n : ℕ) → n < 2 ^ 64 → number_of (decimal n) ≡ Some n
-decimal_number n low =
-    let some : ltb 0 (length (decimal n)) ≡ true = let more = decimal_some n in grind (arith, nat_tests) in
-    rw (some, decimal_digits n, (decimal_is_IsNumeral n low).1) refl
-
 pub decimal_below : (limit n : ℕ) → n < limit → n < 2 ^ 64 → number_below limit (decimal n) ≡ Ok n
 decimal_below limit n less low =
     let within : ltb n limit ≡ true = grind (arith, nat_tests) in
-    rw (decimal_number n low, within) refl
+    rw (number_of_decimal n low, within) refl
 
 -- Words
 

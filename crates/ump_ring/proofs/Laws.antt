@@ -21,9 +21,6 @@ lines-cons size bytes before (suc count) = ap (λ t. t ++ line_at size bytes (nu
 pub length_of-head : (size number : ℕ) → number < 4294967296 → head_word size number / 4294967296 ≡ size
 length_of-head size number h = omega arith
 
-begun-none : (bytes : List ℕ) → begun 0 bytes ≡ []
-begun-none bytes = refl
-
 begun-short : (size : ℕ) (bytes : List ℕ) → length bytes < size → begun size bytes ≡ []
 begun-short size bytes h = grind arith
 

@@ -32,38 +32,6 @@ cut-last lines line =
     let e : length (lines ++ line ∷ []) - 1 ≡ length lines = omega (arith, length-append lines (line ∷ [])) in
     ap (λ n. take n (lines ++ line ∷ [])) e ∙ take-append_seam lines (line ∷ [])
 
-last-is : (lines : List (List ℕ)) (line : List ℕ) → slice_index_or (lines ++ line ∷ []) (length (lines ++ line ∷ []) - 1) [] ≡ line
-last-is lines line =
-    let e : length (lines ++ line ∷ []) - 1 ≡ length lines = omega (arith, length-append lines (line ∷ [])) in
-    ap (λ n. slice_index_or (lines ++ line ∷ []) n []) e ∙ get_or-append_seam lines line [] []
-
-sound-last : (f : Option LineFault) (fault : LineFault) (lines : List (List ℕ)) (line : List ℕ) → f ≡ Some fault → sound_lines f (lines ++ line ∷ []) ≡ lines
-sound-last f fault lines line e = ap (λ g. sound_lines g (lines ++ line ∷ [])) e ∙ cut-last lines line
-
--- a line with a fault was read
-pub receiving-fault : (old new : Joiner) (lines : List (List ℕ)) (line : List ℕ) (fault : LineFault) → fault_of old ≡ None → IsReceiving old lines
-    → fault_of new ≡ line_fault old.number old.size old.bytes.items line → fault_of new ≡ Some fault
-    → new.number ≡ old.number → new.size ≡ old.size → new.bytes.items ≡ old.bytes.items
-    → IsReceiving new (lines ++ line ∷ []) × (messages_in (sound_lines (fault_of new) (lines ++ line ∷ [])) ≡ messages_in (sound_lines (fault_of old) lines))
-receiving-fault old new lines line fault none is rule faulty number size bytes =
-    let same : sound_lines (fault_of new) (lines ++ line ∷ []) ≡ sound_lines (fault_of old) lines = sound-last (fault_of new) fault lines line faulty ∙ sym (ap (λ f. sound_lines f lines) none) in
-    let long : 1 ≤ length (lines ++ line ∷ []) = omega (arith, length-append lines (line ∷ [])) in (
-      record {
-        read = subst (λ (n : ℕ). HasRead n new.size new.bytes.items (sound_lines new.fault (lines ++ line ∷ []))) (sym number)
-            (subst (λ (s : ℕ). HasRead old.number s new.bytes.items (sound_lines new.fault (lines ++ line ∷ []))) (sym size)
-            (subst (λ (b : List ℕ). HasRead old.number old.size b (sound_lines new.fault (lines ++ line ∷ []))) (sym bytes)
-            (subst (λ (l : List (List ℕ)). HasRead old.number old.size old.bytes.items l) (sym same) is.read)));
-        faulty = λ some. (
-          long,
-          ap (λ n. line_fault n new.size new.bytes.items (slice_index_or (lines ++ line ∷ []) (length (lines ++ line ∷ []) - 1) [])) number
-              ∙ ap (λ s. line_fault old.number s new.bytes.items (slice_index_or (lines ++ line ∷ []) (length (lines ++ line ∷ []) - 1) [])) size
-              ∙ ap (λ b. line_fault old.number old.size b (slice_index_or (lines ++ line ∷ []) (length (lines ++ line ∷ []) - 1) [])) bytes
-              ∙ ap (λ l. line_fault old.number old.size old.bytes.items l) (last-is lines line) ∙ sym rule,
-        );
-      },
-      ap messages_in same,
-    )
-
 none-kept : (ms : List (List ℕ)) → messages_of false ms ≡ ms
 none-kept ms = let e : length ms - 0 ≡ length ms = omega arith in ap (λ n. take n ms) e ∙ take-length ms
 
@@ -160,22 +128,6 @@ given-up j lines is whole = at (message_shown j) refl
         let all : messages_in (sound_lines j.fault lines) ≡ ms ++ m ∷ [] = read ∙ ap (λ t. ms ++ t) one in
         none-kept (messages_in (sound_lines j.fault lines)) ∙ all ∙ ap (λ t. t ++ m ∷ []) (sym (one-kept ms m)) ∙ ap (λ t. messages_of true t ++ m ∷ []) (sym all)
         ∙ ap (λ t. messages_of true (messages_in (sound_lines j.fault lines)) ++ t) (sym one)
-
--- a receiver with a fault stops at the last line
-pub stops-at : (j : Joiner) (lines : List (List ℕ)) (fault : LineFault) → IsReceiving j lines → j.fault ≡ Some fault → StopsAt fault lines
-stops-at j lines fault is e =
-    let fails : j.fault ≢ None = λ n. cc in
-    let (some, faulty) = is.faulty fails in
-    record {
-      before = take (length lines - 1) lines;
-      line = slice_index_or lines (length lines - 1) [];
-      number = j.number;
-      size = j.size;
-      bytes = j.bytes.items;
-      split = split-last lines some;
-      read = subst (λ (f : Option LineFault). HasRead j.number j.size j.bytes.items (sound_lines f lines)) e is.read;
-      faulty = faulty ∙ e;
-    }
 
 -- the messages taken and the one kept are all that came whole
 pub taken-kept : (j : Joiner) (lines : List (List ℕ)) (kept : Bool) → IsReceiving j lines → KeepsMessage kept j → j.fault ≡ None

@@ -33,22 +33,6 @@ sending-from message out number done lines numbered whole messages split going i
       idle = idle;
     }
 
--- a new message, where none is going out
-pub sending-offered : (v : Vec ℕ Global) (out number : ℕ) (lines : List (List ℕ)) → IsSending None out number lines → IsMessage v.items
-    → IsSending (Some v) 0 number lines × (messages_in (settled 0 lines) ≡ messages_in (settled out lines))
-sending-offered v out number lines is is_message =
-    let none : out ≡ 0 = is.idle refl in
-    let same : settled out lines ≡ lines = sym (is.split ∙ ap (λ n. settled out lines ++ lines_below 0 [] (length (settled out lines)) n) none ∙ append-nil (settled out lines)) in
-    let least : 1 ≤ length v.items = is_message.least in
-    let is_split : lines ≡ lines ++ lines_below (length v.items) v.items (length lines) 0 = sym (append-nil lines) in (
-      sending-from (Some v) 0 number lines lines is.numbered
-          (sym same ∙ is.whole ∙ ap (λ d. stream 0 (messages_in d)) same) (subst (λ (d : List (List ℕ)). All IsMessage (messages_in d)) same is.messages)
-          is_split
-          (λ w e. let f : v ≡ w = cc in subst (λ (u : Vec ℕ Global). IsMessage u.items × (0 < line_count (length u.items))) f (is_message, omega arith))
-          (λ e. cc),
-      ap messages_in (settled-is v.items 0 lines lines is_split ∙ sym same),
-    )
-
 -- some lines more, not all
 pub sending-more : (v : Vec ℕ Global) (out count number new : ℕ) (lines now : List (List ℕ)) → IsSending (Some v) out number lines
     → now ≡ settled out lines ++ lines_below (length v.items) v.items (length (settled out lines)) (out + count) → out + count < line_count (length v.items) → new ≡ number_after (length now)
@@ -140,10 +124,3 @@ module _ (message : Option (Vec ℕ Global)) (v : Vec ℕ Global) (out count num
         subst (λ (m : Option (Vec ℕ Global)). IsSending m (out + count) ((number + count) % 0x1_0000_0000) now) (sym e) sending,
         ap (λ ms. ms ++ message_list message) read,
       )
-
--- where nothing is going out, all lines of the messages are out
-pub sending-idle : (message : Option (Vec ℕ Global)) (out number : ℕ) (lines : List (List ℕ)) → IsSending message out number lines → message ≡ None
-    → lines ≡ stream 0 (all_of message out lines)
-unfolding sending-along
-sending-idle None out number lines is e = sym (append-nil lines) ∙ (sending-along None out number lines is).1
-sending-idle (Some v) out number lines is e = cc

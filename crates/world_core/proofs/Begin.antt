@@ -8,7 +8,6 @@ use Rattle.monitor_2pc.specs.Coordinators.{CanStart}
 use Rattle.world_events.specs.declared.event.Event.TheVariants.{Start, StartFor}
 use Rattle.world_model.specs.Cases.{outgoing, StartsAt, StartsForAt}
 use Rattle.world_model.specs.Worlds as worlds
-use Rattle.world_model.proofs.Lists.{get_within, get_at}
 use Rattle.core_steps.specs.declared.core0.Core0.{Core0}
 use Rattle.core_steps.specs.declared.core0.Told.{Told}
 use Rattle.core_steps.specs.declared.other_core.OtherCore.{OtherCore}
@@ -21,6 +20,8 @@ use Rattle.world_core.specs.Sending.{SentOut}
 use Rattle.world_core.proofs.Carried.{readied_seen}
 use Rattle.world_core.proofs.HomeSteps.{idle_staged}
 use Rattle.world_core.proofs.Moving.{alike_sent, moved_seen, moved_kept}
+use Rattle.std.proofs.lemmas.Option.{slice_get_within}
+use Rattle.table_replica.proofs.Shared.{get_at}
 
 -- The other cores after messages were made ready
 
@@ -32,7 +33,7 @@ readied_kept messages home peers peers' m k = record {
   home_kept = k.home_kept;
   others = k.others ∙ sym m.0;
   peers_kept = λ i p at.
-      let old = get_at peers i (omega (arith, m.0, get_within peers' i p at)) in
+      let old = get_at peers i (omega (arith, m.0, slice_get_within peers' i p at)) in
       subst (λ (c : OtherCore). CoreIsKept home.log.items c) (sym (m.1 i old.0 p old.1 at).core) (k.peers_kept i old.0 old.1);
   few = rw m.0 k.few;
   budget = k.budget;
@@ -56,9 +57,6 @@ home_staging home staged = record home { core = staging home.core staged }
 
 pub none_staged : (home : Home) → HomeIsKept home → CanStart (core0_place home.core) → home.core.replica.staged ≡ None
 none_staged home k can = idle_staged home.core.coordinator.phase home.core.replica.staged can.0 k.between.staged
-
-pub staged_idle : (home : Home) (staged : Option Op) → HomeIsKept home → CanStart (core0_place home.core) → HomeIsIdle (home_staging home staged)
-staged_idle home staged k can = record { shown = k.shown; can = record { can = can; sendable = k.between.sendable }; none_begun = k.begun ∙ none_staged home k can }
 
 -- it is taken back
 pub withdrawn : (home : Home) (core : Core0) (staged : Option Op) → home.core.replica.staged ≡ None → core ≡ staging home.core staged → staging core None ≡ home.core

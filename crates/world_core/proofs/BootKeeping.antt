@@ -2,7 +2,7 @@
 use Rattle.std.proofs.Common.{◌≡◌, ◌∙◌, ◌++◌, ◌∷◌, ◌+◌, ◌≤◌, ◌<◌, ℕ, None, Some, List, [], All, length, map, take, get_or, slice_get, refl, ap, sym, subst, arith}
 use Rattle.std.proofs.lemmas.List.{length-map, map-append, take_more}
 use Rattle.std.proofs.lemmas.List.Elements.{All-push}
-use Rattle.std.proofs.lemmas.Option.{get_or_from_slice_get}
+use Rattle.std.proofs.lemmas.Option.{get_or_from_slice_get, slice_get_within}
 use Rattle.filter_table.specs.Tables.{opening, table}
 use Rattle.table_replica.specs.Shown.{ReplicaState}
 use Rattle.monitor_messages.specs.declared.message.Message.{Message}
@@ -11,11 +11,10 @@ use Rattle.world_core.specs.declared.home.Home.{Home}
 use Rattle.world_core.specs.declared.peer.Peer.{Peer}
 use Rattle.world_model.specs.Worlds as worlds
 use Rattle.world_core.specs.Keeping.{seen_peer, seen_world, PeerIsKept, WorldIsKept}
-use Rattle.world_model.proofs.Lists.{get_within}
 use Rattle.world_core.proofs.Keeping.{table_opening}
 
 all_at : {A : Type 0} (P : A → Type 0) (xs : List A) (i : ℕ) (x : A) → All P xs → slice_get xs i ≡ Some x → P x
-all_at P xs i x all at = subst P (get_or_from_slice_get xs i x x at) (all i x (get_within xs i x at))
+all_at P xs i x all at = subst P (get_or_from_slice_get xs i x x at) (all i x (slice_get_within xs i x at))
 
 -- core 0 and the others, as they begin
 pub record Begins {C Piece : Type 0} (messages : C → List Message) (home : Home) (peers : List (Peer C Piece)) (budget : ℕ) (budgets : List ℕ) : Type 0 where

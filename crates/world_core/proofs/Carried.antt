@@ -1,16 +1,14 @@
 -- A message to each of the other cores.
 use Rattle.std.proofs.Common.{◌≡◌, ◌∙◌, ◌++◌, ◌∷◌, ◌+◌, ◌≤◌, ◌<◌, ◌⊎◌, inl, inr, ℕ, suc, Some, List, [], length, map, slice_get, slice_set, slice_index_or, refl, sym, subst, arith}
 use Rattle.std.specs.List.{All}
-use Rattle.std.proofs.lemmas.Option.{slice_get-get_or, get_or_from_slice_get}
+use Rattle.std.proofs.lemmas.Option.{slice_get-get_or, get_or_from_slice_get, slice_get_within}
 use Rattle.monitor_messages.specs.declared.message.Message.{Message}
 use Rattle.world_core.specs.declared.peer.Peer.{Peer}
 use Rattle.std.proofs.lemmas.List.{length-map}
 use Rattle.world_model.specs.Worlds as worlds
 use Rattle.world_core.specs.Keeping.{seen_peer, EachMatches, Readied, IsSent, HasRoom, RoomBelow, RoomFrom}
-use Rattle.world_model.proofs.Lists.{get-set_same, get-set_other, length-slice_set, get_within, get_at, get_front, get_end, get_map, same_or_not}
-
-readied_then : {C Piece : Type 0} (messages : C → List Message) (p q r : Peer C Piece) → Readied messages p q → Readied messages q r → Readied messages p r
-readied_then messages p q r a b = record { core = b.core ∙ a.core; down = b.down ∙ a.down; up = b.up ∙ a.up }
+use Rattle.world_model.proofs.Lists.{get-set_same, get-set_other, length-slice_set, get_end, get_map, same_or_not}
+use Rattle.table_replica.proofs.Shared.{get_front, get_at}
 
 -- the core at a place is now this one
 pub set_at : {P : Type 0} (xs : List P) (i k : ℕ) (q x : P) → i < length xs → slice_get (slice_set xs i q) k ≡ Some x → ((i ≡ k) × (x ≡ q)) ⊎ ((i ≡ k → ⊥) × (slice_get xs k ≡ Some x))
@@ -23,6 +21,9 @@ set_at xs i k q x inside at = by_place (same_or_not i k)
         let s = get-set_same xs i q old.0 old.1 in
         inl (e, cc)
     by_place (inr ne) = inr (ne, sym (get-set_other xs i k q ne) ∙ at)
+
+pub readied_then : {C Piece : Type 0} (messages : C → List Message) (p q r : Peer C Piece) → Readied messages p q → Readied messages q r → Readied messages p r
+readied_then messages p q r a b = record { core = b.core ∙ a.core; down = b.down ∙ a.down; up = b.up ∙ a.up }
 
 pub readied_set : {C Piece : Type 0} (messages : C → List Message) (first peers : List (Peer C Piece)) (i : ℕ) (d q : Peer C Piece) → i < length peers → EachMatches (Readied messages) first peers → Readied messages (slice_index_or peers i d) q
     → EachMatches (Readied messages) first (slice_set peers i q)
@@ -42,7 +43,7 @@ room_set spare peers i q inside below here k p lt at = by_place (set_at peers i 
     by_place (inr x) = below k p (omega (arith, x.0)) x.1
 
 pub room_all : {C Piece : Type 0} (spare : C → ℕ) (peers : List (Peer C Piece)) (n : ℕ) → length peers ≤ n → RoomBelow spare peers n → RoomFrom spare peers 0
-room_all spare peers n long below k p le at = below k p (omega (arith, long, get_within peers k p at)) at
+room_all spare peers n long below k p le at = below k p (omega (arith, long, slice_get_within peers k p at)) at
 
 -- the cores before this entry have the message, and the others are as they were
 pub record SentBelow {C Piece : Type 0} (messages : C → List Message) (m : Message) (first peers : List (Peer C Piece)) (n : ℕ) : Type 0 where
@@ -68,7 +69,7 @@ sent_set {C} {Piece} messages m first peers i d q inside s here = record {
         rw (x.1, ← same) here
 
 pub sent_all : {C Piece : Type 0} (messages : C → List Message) (m : Message) (first peers : List (Peer C Piece)) (n : ℕ) → length peers ≤ n → SentBelow messages m first peers n → EachMatches (IsSent messages m) first peers
-sent_all messages m first peers n long s = (s.long, λ k p p' a b. s.before k p p' (omega (arith, long, get_within peers k p' b)) a b)
+sent_all messages m first peers n long s = (s.long, λ k p p' a b. s.before k p p' (omega (arith, long, slice_get_within peers k p' b)) a b)
 
 pub room_from_set : {C Piece : Type 0} (spare : C → ℕ) (peers : List (Peer C Piece)) (i : ℕ) (q : Peer C Piece) → RoomFrom spare peers i → RoomFrom spare (slice_set peers i q) (i + 1)
 room_from_set spare peers i q room k p le at = room k p (omega arith) (sym (get-set_other peers i k q (λ e. omega (arith, e))) ∙ at)
@@ -78,12 +79,12 @@ room_from_set spare peers i q room k p le at = room k p (omega arith) (sym (get-
 pub all_front : {A : Type 0} (P : A → Type 0) (xs ys : List A) (x : A) → ys ≡ xs ++ x ∷ [] → All P ys → All P xs
 all_front P xs ys x more all k d lt =
     let at : slice_get ys k ≡ Some (slice_index_or xs k d) = subst (λ zs. slice_get zs k ≡ Some (slice_index_or xs k d)) (sym more) (get_front xs (x ∷ []) k (slice_index_or xs k d) (slice_get-get_or xs k d lt)) in
-    subst P (get_or_from_slice_get ys k (slice_index_or xs k d) d at) (all k d (get_within ys k (slice_index_or xs k d) at))
+    subst P (get_or_from_slice_get ys k (slice_index_or xs k d) d at) (all k d (slice_get_within ys k (slice_index_or xs k d) at))
 
 pub all_last : {A : Type 0} (P : A → Type 0) (xs ys : List A) (x : A) → ys ≡ xs ++ x ∷ [] → All P ys → P x
 all_last P xs ys x more all =
     let at : slice_get ys (length xs) ≡ Some x = subst (λ zs. slice_get zs (length xs) ≡ Some x) (sym more) (get_end xs x) in
-    subst P (get_or_from_slice_get ys (length xs) x x at) (all (length xs) x (get_within ys (length xs) x at))
+    subst P (get_or_from_slice_get ys (length xs) x x at) (all (length xs) x (slice_get_within ys (length xs) x at))
 
 -- Lists with the same at each place
 

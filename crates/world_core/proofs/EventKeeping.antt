@@ -17,9 +17,10 @@ use Rattle.world_core.specs.Refusals.{channel, StandsFirst, WorldRefuses}
 use Rattle.world_core.specs.Homes.{StartForRefuses}
 use Rattle.world_core.specs.Keeping.{seen_peer, seen_world, WorldIsKept, PeerCannotSubmit, PeerCannotTake, ChangesOne, Submits, Takes, ReadyToTake}
 use Rattle.world_core.specs.Shown.{ShowsReplica}
-use Rattle.world_model.proofs.Lists.{map_get, get_at}
 use Rattle.world_core.proofs.WorldKeeping.{peer_shows, no_version}
 use Rattle.world_core.proofs.PeerKeeping.{seen_same, submit_happens, submit_kept, awaits_oldest, take_happens, take_kept}
+use Rattle.filter_table.proofs.Lists.{map-get}
+use Rattle.table_replica.proofs.Shared.{get_at}
 
 -- Entries
 
@@ -74,7 +75,7 @@ submit_answered messages home peers peers' w w' core entry op r k view view' e c
     }
     by_result (Err fault) s = record {
       happens = tt;
-      fault = submit_refuses (seen_world messages home peers) entry (seen_peer messages c.before) op fault (map_get (seen_peer messages) peers entry c.before c.there) s.fault;
+      fault = submit_refuses (seen_world messages home peers) entry (seen_peer messages c.before) op fault (map-get (seen_peer messages) peers entry c.before c.there) s.fault;
       same = seen_same messages home peers entry c.before c.after c.there s.same;
       kept = submit_kept messages home peers entry c.before c.after op (Err fault) k c.there s;
     }
@@ -112,7 +113,7 @@ take_answered messages home peers peers' w w' core entry short r k view view' e 
     }
     by_result (Err fault) s = record {
       happens = tt;
-      fault = take_refuses (seen_world messages home peers) entry (seen_peer messages c.before) short fault (map_get (seen_peer messages) peers entry c.before c.there) s.fault;
+      fault = take_refuses (seen_world messages home peers) entry (seen_peer messages c.before) short fault (map-get (seen_peer messages) peers entry c.before c.there) s.fault;
       same = seen_same messages home peers entry c.before c.after c.there s.same;
       kept = take_kept messages home peers entry c.before c.after short (Err fault) k c.there s;
     }
@@ -138,7 +139,7 @@ told_as (Err fault) P Q as' h = as' fault h
 
 -- the messages to core 0
 channel_up : {C Piece : Type 0} (messages : C → List Message) (home : Home) (peers : List (Peer C Piece)) (core entry : ℕ) (p : Peer C Piece) → core ≡ suc entry → slice_get peers entry ≡ Some p → channel (seen_world messages home peers) 0 core ≡ Some (messages p.up)
-channel_up messages home peers core entry p e at = rw e (ap (option_map (λ (x : worlds.Peer). x.up)) (map_get (seen_peer messages) peers entry p at))
+channel_up messages home peers core entry p e at = rw e (ap (option_map (λ (x : worlds.Peer). x.up)) (map-get (seen_peer messages) peers entry p at))
 
 none_first : (ms : List Message) → first_of ms ≡ None → ms ≡ []
 none_first [] e = refl

@@ -5,7 +5,7 @@ use Rattle.monitor_messages.specs.declared.message.Message.{Message}
 use Rattle.world_channels.specs.Channels.{first_of}
 use Rattle.world_model.specs.Agreement.{Expects}
 use Rattle.world_model.specs.Worlds as worlds
-use Rattle.world_model.proofs.Lists.{map_get, get_map}
+use Rattle.world_model.proofs.Lists.{get_map}
 use Rattle.world_model.proofs.RunLaws.{run_no_stranger}
 use Rattle.core_steps.specs.Core0Steps.{core0_place}
 use Rattle.world_core.specs.declared.home.Home.{Home}
@@ -13,10 +13,11 @@ use Rattle.world_core.specs.declared.peer.Peer.{Peer}
 use Rattle.world_core.specs.Refusals.{channel}
 use Rattle.world_core.specs.Keeping.{seen_peer, seen_world, WorldIsKept, GivesUp}
 use Rattle.world_core.proofs.Keeping.{first_rest}
+use Rattle.filter_table.proofs.Lists.{map-get}
 
 -- The oldest message to core 0
 
--- the core that it is from, and the messages behind it
+-- the core that it is from, and the messages after it
 pub record Oldest {C Piece : Type 0} (messages : C → List Message) (peers : List (Peer C Piece)) (core : ℕ) (m : Message) : Type 0 where
   pub entry : ℕ
   pub is_core : core ≡ suc entry
@@ -43,7 +44,7 @@ oldest_up messages home peers w (suc entry) m view e =
 -- core 0 waits for it
 pub expects_up : {C Piece : Type 0} (messages : C → List Message) (home : Home) (peers : List (Peer C Piece)) (core : ℕ) (m : Message) → WorldIsKept messages home peers → (o : Oldest messages peers core m) → Expects (core0_place home.core) home.core.coordinator.requests o.entry m
 expects_up messages home peers core m k o =
-    (run_no_stranger k.budget k.budgets k.events (seen_world messages home peers) k.run).up o.entry (seen_peer messages o.peer) m o.rest (map_get (seen_peer messages) peers o.entry o.peer o.there) o.oldest
+    (run_no_stranger k.budget k.budgets k.events (seen_world messages home peers) k.run).up o.entry (seen_peer messages o.peer) m o.rest (map-get (seen_peer messages) peers o.entry o.peer o.there) o.oldest
 
 pub seen_gives_up : {C Piece : Type 0} (messages : C → List Message) (p p' : Peer C Piece) (rest : List Message) → GivesUp messages p p' → drop 1 (messages p.up) ≡ rest → seen_peer messages p' ≡ record (seen_peer messages p) { up = rest }
 seen_gives_up messages p p' rest g d = rw (g.core, g.down, g.up, d) refl

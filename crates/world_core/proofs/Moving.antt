@@ -12,7 +12,7 @@ use Rattle.world_events.specs.declared.event.Event.TheVariants.{Take}
 use Rattle.world_events.specs.declared.event.Answer.{Answer}
 use Rattle.world_model.specs.Cases.{Outgoing, nothing, to_all, to_one, outgoing, joined, raised, TakesUpAt}
 use Rattle.world_model.specs.Worlds as worlds
-use Rattle.world_model.proofs.Lists.{map_get, get_within, get_at, length-slice_set}
+use Rattle.world_model.proofs.Lists.{length-slice_set}
 use Rattle.world_model.proofs.Runs.{runs_more}
 use Rattle.world_model.proofs.Agreement.{run_inv}
 use Rattle.world_core.specs.declared.home.Home.{Home}
@@ -27,8 +27,11 @@ use Rattle.core_steps.specs.Core0Steps.{core0_place}
 use Rattle.core_steps.proofs.Taking.{version_commit}
 use Rattle.world_core.proofs.PeerKeeping.{map-slice_set}
 use Rattle.world_core.proofs.HomeKeeping.{Oldest, seen_gives_up}
-use Rattle.world_core.proofs.Carried.{set_at, sent_seen}
+use Rattle.world_core.proofs.Carried.{set_at, sent_seen, readied_then}
 use Rattle.world_core.proofs.WorldKeeping.{no_core}
+use Rattle.std.proofs.lemmas.Option.{slice_get_within}
+use Rattle.filter_table.proofs.Lists.{map-get}
+use Rattle.table_replica.proofs.Shared.{get_at}
 
 -- Lists that match at each place
 
@@ -39,7 +42,7 @@ pub matches_then : {P : Type 0} (R : P → P → Type 0) (xs ys zs : List P) →
 matches_then R xs ys zs both a b = (
   b.0 ∙ a.0,
   λ k p r at at'.
-      let q = get_at ys k (omega (arith, b.0, get_within zs k r at')) in
+      let q = get_at ys k (omega (arith, b.0, slice_get_within zs k r at')) in
       both p q.0 r (a.1 k p q.0 at q.1) (b.1 k q.0 r q.1 at'),
 )
 
@@ -47,7 +50,7 @@ matches_as : {P : Type 0} (R S : P → P → Type 0) (xs ys : List P) → ((p q 
 matches_as R S xs ys as' m = (m.0, λ k p q a b. as' p q (m.1 k p q a b))
 
 matches_one : {P : Type 0} (R S : P → P → Type 0) (xs ys : List P) (i : ℕ) → ((p : P) → S p p) → ((p q : P) → R p q → S p q) → ChangesOne xs i ys R → EachMatches S xs ys
-matches_one {P} R S xs ys i self as' c = rw c.changed (length-slice_set xs i c.after, λ k p q a b. by_place k p q a (set_at xs i k c.after q (get_within xs i c.before c.there) b))
+matches_one {P} R S xs ys i self as' c = rw c.changed (length-slice_set xs i c.after, λ k p q a b. by_place k p q a (set_at xs i k c.after q (slice_get_within xs i c.before c.there) b))
   where
     by_place : (k : ℕ) (p q : P) → slice_get xs k ≡ Some p → (((i ≡ k) × (q ≡ c.after)) ⊎ ((i ≡ k → ⊥) × (slice_get xs k ≡ Some q))) → S p q
     by_place k p q a (inl e) =
@@ -78,18 +81,12 @@ alike_sent messages peers peers' (to_one entry m) (inr s) = rw (s.1) (matches_se
 pub alike_both : {C Piece : Type 0} (peers mid peers' : List (Peer C Piece)) → EachMatches Alike peers mid → EachMatches Alike mid peers' → EachMatches Alike peers peers'
 alike_both peers mid peers' a b = matches_then Alike peers mid peers' alike_then a b
 
-readied_then : {C Piece : Type 0} (messages : C → List Message) (p q r : Peer C Piece) → Readied messages p q → Readied messages q r → Readied messages p r
-readied_then messages p q r a b = record { core = b.core ∙ a.core; down = b.down ∙ a.down; up = b.up ∙ a.up }
-
-pub readied_both : {C Piece : Type 0} (messages : C → List Message) (peers mid peers' : List (Peer C Piece)) → EachMatches (Readied messages) peers mid → EachMatches (Readied messages) mid peers' → EachMatches (Readied messages) peers peers'
-readied_both messages peers mid peers' a b = matches_then (Readied messages) peers mid peers' (readied_then messages) a b
-
 -- What is sent shows
 
 sent_one_seen : {C Piece : Type 0} (messages : C → List Message) (m : Message) (peers peers' : List (Peer C Piece)) (entry : ℕ) → ChangesOne peers entry peers' (IsSent messages m)
     → map (seen_peer messages) peers' ≡ worlds.sent_to_one (map (seen_peer messages) peers) entry m (slice_get (map (seen_peer messages) peers) entry)
 sent_one_seen messages m peers peers' entry c =
-    let there = map_get (seen_peer messages) peers entry c.before c.there in
+    let there = map-get (seen_peer messages) peers entry c.before c.there in
     let r = c.related in
     rw (c.changed, map-slice_set (seen_peer messages) peers entry c.after, there, r.core, r.down, r.up) refl
 
@@ -121,8 +118,8 @@ moved_kept messages home home' peers peers' committed event answer k h m happens
   home_kept = h.kept;
   others = h.moves.same_others ∙ (k.others ∙ sym (m.0));
   peers_kept = λ i p at.
-      let old = get_at peers i (omega (arith, m.0, get_within peers' i p at)) in
-      let within = (run_inv k.budget k.budgets k.events (seen_world messages home peers) k.run).within i (seen_peer messages old.0) (map_get (seen_peer messages) peers i old.0 old.1) in
+      let old = get_at peers i (omega (arith, m.0, slice_get_within peers' i p at)) in
+      let within = (run_inv k.budget k.budgets k.events (seen_world messages home peers) k.run).within i (seen_peer messages old.0) (map-get (seen_peer messages) peers i old.0 old.1) in
       rw h.log_next (core_moved home.log.items committed old.0.core p.core within.not_ahead (m.1 i old.0 p old.1 at).core (k.peers_kept i old.0 old.1));
   few = rw (m.0) k.few;
   budget = k.budget;
@@ -152,7 +149,7 @@ pub up_done : {C Piece : Type 0} (messages : C → List Message) (home home' : H
 up_done messages home home' peers mid peers' w core entry m committed told answer k view o same h gives sent here =
     let happens : (short : Bool) → worlds.Happens (seen_world messages home peers) (Take 0 (suc o.entry) short) (seen_world messages home' peers') answer = λ short. record {
       peer = seen_peer messages o.peer;
-      is_peer = map_get (seen_peer messages) peers o.entry o.peer o.there;
+      is_peer = map-get (seen_peer messages) peers o.entry o.peer o.there;
       m = m;
       rest = o.rest;
       oldest = o.oldest;
@@ -171,7 +168,7 @@ up_done messages home home' peers mid peers' w core entry m committed told answe
 
 -- a core that gave up a message can still be sent one
 pub room_given : {C Piece : Type 0} (spare : C → ℕ) (messages : C → List Message) (peers mid : List (Peer C Piece)) (i : ℕ) → ChangesOne peers i mid (GivesUp messages) → RoomFrom spare peers 0 → RoomFrom spare mid 0
-room_given {C} {Piece} spare messages peers mid i c room k p le at = by_place (set_at peers i k c.after p (get_within peers i c.before c.there) (subst (λ (ps : List (Peer C Piece)). slice_get ps k ≡ Some p) c.changed at))
+room_given {C} {Piece} spare messages peers mid i c room k p le at = by_place (set_at peers i k c.after p (slice_get_within peers i c.before c.there) (subst (λ (ps : List (Peer C Piece)). slice_get ps k ≡ Some p) c.changed at))
   where
     by_place : (((i ≡ k) × (p ≡ c.after)) ⊎ ((i ≡ k → ⊥) × (slice_get peers k ≡ Some p))) → HasRoom spare p
     by_place (inl e) =
@@ -180,7 +177,7 @@ room_given {C} {Piece} spare messages peers mid i c room k p le at = by_place (s
     by_place (inr e) = room k p le (e.1)
 
 pub room_at_given : {C Piece : Type 0} (spare : C → ℕ) (messages : C → List Message) (peers mid : List (Peer C Piece)) (i entry : ℕ) → ChangesOne peers i mid (GivesUp messages) → RoomAt spare peers entry → RoomAt spare mid entry
-room_at_given {C} {Piece} spare messages peers mid i entry c room p at = by_place (set_at peers i entry c.after p (get_within peers i c.before c.there) (subst (λ (ps : List (Peer C Piece)). slice_get ps entry ≡ Some p) c.changed at))
+room_at_given {C} {Piece} spare messages peers mid i entry c room p at = by_place (set_at peers i entry c.after p (slice_get_within peers i c.before c.there) (subst (λ (ps : List (Peer C Piece)). slice_get ps entry ≡ Some p) c.changed at))
   where
     by_place : (((i ≡ entry) × (p ≡ c.after)) ⊎ ((i ≡ entry → ⊥) × (slice_get peers entry ≡ Some p))) → HasRoom spare p
     by_place (inl e) =

@@ -21,12 +21,13 @@ use Rattle.world_model.specs.Cases.{raised, sent_up, TakesDownAt}
 use Rattle.world_model.specs.Worlds as worlds
 use Rattle.world_model.specs.Agreement.{commitments, Awaits}
 use Rattle.world_core.specs.Keeping.{seen_peer, seen_world, CoreIsKept, PeerIsKept, WorldIsKept, PeerSubmits, AwaitsOldest, PeerTakes, Submits, Takes}
-use Rattle.world_model.proofs.Lists.{get-set_same, get-set_other, length-slice_set, map_get, same_or_not}
+use Rattle.world_model.proofs.Lists.{get-set_same, get-set_other, length-slice_set, same_or_not}
 use Rattle.world_model.proofs.Invariant.{Pair, at_rest, asked, voted, counted, to_commit, to_abort, acked, finished, Inv}
 use Rattle.world_model.proofs.Runs.{runs_more}
 use Rattle.world_model.proofs.Agreement.{run_inv}
 use Rattle.world_model.proofs.RunLaws.{run_no_stranger}
 use Rattle.world_model.proofs.SoundLogs.{table_of_next}
+use Rattle.filter_table.proofs.Lists.{map-get}
 
 -- Lists
 
@@ -52,7 +53,7 @@ seen_set messages home peers i p' = ap (λ (ps : List worlds.Peer). record (seen
 pub seen_same : {C Piece : Type 0} (messages : C → List Message) (home : Home) (peers : List (Peer C Piece)) (i : ℕ) (p p' : Peer C Piece) → slice_get peers i ≡ Some p → seen_peer messages p' ≡ seen_peer messages p
     → seen_world messages home (slice_set peers i p') ≡ seen_world messages home peers
 seen_same messages home peers i p p' at same = seen_set messages home peers i p' ∙ ap (λ (ps : List worlds.Peer). record (seen_world messages home peers) { peers = ps })
-    (ap (slice_set (map (seen_peer messages) peers) i) same ∙ slice_set-same (map (seen_peer messages) peers) i (seen_peer messages p) (map_get (seen_peer messages) peers i p at))
+    (ap (slice_set (map (seen_peer messages) peers) i) same ∙ slice_set-same (map (seen_peer messages) peers) i (seen_peer messages p) (map-get (seen_peer messages) peers i p at))
 
 pub peers_kept_set : {C Piece : Type 0} (log : List Op) (peers : List (Peer C Piece)) (i : ℕ) (p p' : Peer C Piece) → slice_get peers i ≡ Some p → ((j : ℕ) (q : Peer C Piece) → slice_get peers j ≡ Some q → PeerIsKept log q) → PeerIsKept log p'
     → (j : ℕ) (q : Peer C Piece) → slice_get (slice_set peers i p') j ≡ Some q → PeerIsKept log q
@@ -100,7 +101,7 @@ pub submit_happens : {C Piece : Type 0} (messages : C → List Message) (home : 
     → PeerSubmits (seen_peer messages p) op (seen_peer messages p') answer → worlds.Happens (seen_world messages home peers) (Submit (suc i) op) (seen_world messages home (slice_set peers i p')) answer
 submit_happens messages home peers i p p' op answer at s = record {
   peer = seen_peer messages p;
-  is_peer = map_get (seen_peer messages) peers i p at;
+  is_peer = map-get (seen_peer messages) peers i p at;
   outstanding = true;
   here = record { none_outstanding = s.none_outstanding; now_outstanding = refl; is_answer = s.is_answer };
   next = seen_set messages home peers i p' ∙ rw (s.next, s.is_answer) refl;
@@ -151,13 +152,13 @@ committed_entry log place i p txn rest d (finished acks ph at is) = absurd (cc (
 own_newest : {C Piece : Type 0} (messages : C → List Message) (home : Home) (peers : List (Peer C Piece)) (i : ℕ) (p : Peer C Piece) (txn : ℕ) (op : Op) (rest : List Message) → (k : WorldIsKept messages home peers) → slice_get peers i ≡ Some p
     → messages p.down ≡ message.Prepare txn op ∷ rest → p.core.replica.shown ≡ worlds.newest (seen_world messages home peers)
 own_newest messages home peers i p txn op rest k at down =
-    let pair = (kept_inv messages home peers k).pairs i (seen_peer messages p) (map_get (seen_peer messages) peers i p at) in
+    let pair = (kept_inv messages home peers k).pairs i (seen_peer messages p) (map-get (seen_peer messages) peers i p at) in
     (k.peers_kept i p at).shown ∙ ap (table home.log.items) (prepared_newest home.log.items _ i (seen_peer messages p) txn op (commitments rest) (ap commitments down) pair)
 
 -- the oldest message is one that the core waits for
 pub awaits_oldest : {C Piece : Type 0} (messages : C → List Message) (home : Home) (peers : List (Peer C Piece)) (i : ℕ) (p : Peer C Piece) → WorldIsKept messages home peers → slice_get peers i ≡ Some p → AwaitsOldest messages p
 awaits_oldest messages home peers i p k at m rest down =
-    by_message m down ((run_no_stranger k.budget k.budgets k.events (seen_world messages home peers) k.run).down i (seen_peer messages p) m rest (map_get (seen_peer messages) peers i p at) down)
+    by_message m down ((run_no_stranger k.budget k.budgets k.events (seen_world messages home peers) k.run).down i (seen_peer messages p) m rest (map-get (seen_peer messages) peers i p at) down)
   where
     by_message : (m : Message) → messages p.down ≡ m ∷ rest → Awaits (seen_world messages home peers) (seen_peer messages p) m → AwaitsHere p.core m
     by_message (message.Reply d) e a = a
@@ -181,7 +182,7 @@ pub take_happens : {C Piece : Type 0} (messages : C → List Message) (home : Ho
     → PeerTakes short p.core.replica.shown (seen_peer messages p) p'.core.replica.shown (seen_peer messages p') answer → worlds.Happens (seen_world messages home peers) (Take (suc i) 0 short) (seen_world messages home (slice_set peers i p')) answer
 take_happens messages home peers i p p' short answer k at t = record {
   peer = seen_peer messages p;
-  is_peer = map_get (seen_peer messages) peers i p at;
+  is_peer = map-get (seen_peer messages) peers i p at;
   m = t.m;
   rest = t.rest;
   oldest = t.oldest;
@@ -240,7 +241,7 @@ take_shown messages home peers i p p' short answer k at t = by_message t.m t.old
     by_message (message.Ack txn) e h = absurd h.answers
     by_message (message.Submit op) e h = absurd h.answers
     by_message (message.Commit txn) e h =
-        let pair = (kept_inv messages home peers k).pairs i (seen_peer messages p) (map_get (seen_peer messages) peers i p at) in
+        let pair = (kept_inv messages home peers k).pairs i (seen_peer messages p) (map-get (seen_peer messages) peers i p at) in
         let c = committed_entry home.log.items _ i (seen_peer messages p) txn (commitments t.rest) (ap commitments e) pair in
         let is : t.committed ≡ Some c.0 = h.is_committed ∙ c.1 in
         let next : p'.core.replica.shown ≡ after p.core.replica.shown c.0 = t.table_next ∙ ap (after_commit p.core.replica.shown) is in

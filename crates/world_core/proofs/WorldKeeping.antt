@@ -9,8 +9,8 @@ use Rattle.world_model.specs.Worlds as worlds
 use Rattle.world_model.specs.Agreement.{Agrees}
 use Rattle.world_core.specs.Keeping.{seen_peer, seen_world, WorldIsKept}
 use Rattle.world_core.specs.Shown.{ShowsReplica}
-use Rattle.world_model.proofs.Lists.{map_get}
 use Rattle.world_model.proofs.RunLaws.{run_agrees}
+use Rattle.filter_table.proofs.Lists.{map-get}
 
 agreed : {C Piece : Type 0} (messages : C → List Message) (home : Home) (peers : List (Peer C Piece)) → (k : WorldIsKept messages home peers) → Agrees k.budget k.budgets (seen_world messages home peers)
 agreed messages home peers k = run_agrees k.budget k.budgets k.events (seen_world messages home peers) k.run
@@ -27,7 +27,7 @@ home_shows messages home peers k = record {
 
 pub peer_shows : {C Piece : Type 0} (messages : C → List Message) (home : Home) (peers : List (Peer C Piece)) (i : ℕ) (p : Peer C Piece) → WorldIsKept messages home peers → slice_get peers i ≡ Some p → ShowsReplica (seen_world messages home peers) (suc i) p.core.replica
 peer_shows messages home peers i p k at =
-    let there = map_get (seen_peer messages) peers i p at in
+    let there = map-get (seen_peer messages) peers i p at in
     record {
       version = p.core.replica.shown.version;
       is_version = ap (option_map (λ (x : worlds.Peer). x.version)) there;

@@ -14,8 +14,8 @@ impl<C: Channel> WorldOver<C> {
     ghost use Rattle.world_core.specs.Settling.{NoneDown, TakenDown, TakenUp, TakenNext};
 
     /// Takes messages until all channels are empty: first one from core 0, the least receiver first, then one to core 0, the least
-    /// sender first, looking anew after each. Each event is put into the list with its answer. After want of memory the events
-    /// in the list are done, and no others.
+    /// sender first, looking anew after each. Each event is put into the list with its answer. Where memory is refused, the
+    /// events in the list are done, and no others.
     pub fn settle(&mut self, done: &mut Vec<Done>) -> Result<(), AllocError>
         ensures run { (events : List GhostDone) × (done.new.items ≡ done.old.items ++ events) × Settles self.old events self.new }
         ensures extends { (events : List GhostDone) × (done.new.items ≡ done.old.items ++ events) × Extends self.old events self.new }

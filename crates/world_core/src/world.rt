@@ -123,7 +123,7 @@ impl<C: Channel> WorldOver<C> {
     /// - of a Submit, `NoSuchCore` (of core 0 too) and `Outstanding`;
     /// - of a StartFor, `NoSuchCore` (of core 0 too), `NotIdle`, `Spent` and `NoneWaiting`.
     ///
-    /// `NoMemory` is told where none of them stands. All memory that the event needs is taken before anything changes. The
+    /// `NoMemory` is reported where none of them holds. All memory that the event needs is taken before anything changes. The
     /// program of a submitted request has at most 4,096 instructions.
     pub fn apply(&mut self, event: &Event) -> Result<Answer, WorldFault>
         requires { IsShortEvent event.now }

@@ -5,7 +5,7 @@ ghost use Rattle.world_events.specs.declared.fault.WorldFault.TheVariants as wor
 
 use std::alloc::AllocError;
 
-/// Why an event is not done. The first that stands is told, in this order.
+/// Why an event is not done. The first that holds is reported, in this order.
 #[derive(Clone, Copy, PartialEq, Eq, Debug, Drop)]
 pub enum WorldFault {
     /// There is no such core, or no channel joins the two.

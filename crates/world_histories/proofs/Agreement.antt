@@ -15,11 +15,10 @@ use Rattle.world_model.specs.Worlds.{Peer, World, boot, version_at, Happens, Run
 use Rattle.world_model.specs.Agreement.{Agrees, IsSoundLog}
 use Rattle.world_model.specs.Readings.{commits_at, version_of}
 use Rattle.world_model.specs.Decisions.{DeliversBy, Delivers}
-use Rattle.world_model.proofs.Lists.{get_within, get_at}
 use Rattle.world_model.proofs.Runs.{runs_append, runs_split}
 use Rattle.world_model.proofs.Known.{run_known, version_of-more}
 use Rattle.world_model.proofs.Agreement.{run_inv}
-use Rattle.world_model.proofs.RunLaws.{run_agrees, run_grows}
+use Rattle.world_model.proofs.RunLaws.{run_agrees, run_grows, version_within}
 use Rattle.world_model.proofs.SoundLogs.{run_sound}
 use Rattle.world_histories.specs.declared.history.Stamped.{Stamped}
 use Rattle.world_histories.specs.Histories.{unstamped, Core0, core0_first, History0, Other, other_first, HistoryOther, Computation}
@@ -28,11 +27,13 @@ use Rattle.world_histories.specs.Agreement.{IsAt, Point0, PointOther, GrowsByOne
 use Rattle.world_histories.specs.Answers.{TellsOfCores, InRun}
 use Rattle.world_histories.proofs.Lists.{prefix_then, prefix_self, found}
 use Rattle.world_histories.proofs.Parts.{Placed, placed, front_of_each}
-use Rattle.world_histories.proofs.Fits.{fits_all, version_within}
+use Rattle.world_histories.proofs.Fits.{fits_all}
 use Rattle.world_histories.proofs.Tells.{tells_of_cores}
 use Rattle.world_histories.proofs.Versions.{Held, split0, split_other, path0, path_other}
 use Rattle.world_histories.proofs.Owns.{whole_front}
 use Rattle.world_histories.proofs.Merge.{OneRun, one_run, run_of}
+use Rattle.std.proofs.lemmas.Option.{slice_get_within}
+use Rattle.table_replica.proofs.Shared.{get_at}
 
 -- An event in the run
 
@@ -49,7 +50,7 @@ version_is : (budget : ℕ) (budgets : List ℕ) (events : List Done) (w : World
 version_is budget budgets events w zero h core0 others run long at = ap (λ (n : ℕ). Some n) (run_known budget budgets events w run).version0
 version_is budget budgets events w (suc i) h core0 others run long at =
     let k = run_known budget budgets events w run in
-    let p = get_at w.peers i (omega (arith, k.cores, long, get_within others i h at)) in
+    let p = get_at w.peers i (omega (arith, k.cores, long, slice_get_within others i h at)) in
     ap (option_map (λ (x : Peer). x.version)) p.1 ∙ ap (λ (n : ℕ). Some n) (k.versions i p.0 p.1)
 
 pub in_the_run : (budget : ℕ) (budgets : List ℕ) (core0 : List Stamped) (others : List (List Stamped)) (end : Core0) (ends : List Other) (o : OneRun budget budgets core0 others end ends) (core : ℕ) (h before after : List Stamped) (s : Stamped)
@@ -105,7 +106,7 @@ end_of : (budget : ℕ) (budgets : List ℕ) (core0 : List Stamped) (others : Li
     → (p : Peer) × (slice_get o.world.peers i ≡ Some p) × EndsAs o.world p d
 end_of budget budgets core0 others end ends o i d long at =
     let k = run_known budget budgets (as_listed o.merged) o.world o.run in
-    let p = get_at o.world.peers i (omega (arith, k.cores, long, get_within ends i d at)) in
+    let p = get_at o.world.peers i (omega (arith, k.cores, long, slice_get_within ends i d at)) in
     (p.0, p.1, o.all_end.others i p.0 d p.1 at)
 
 point_0 : (budget : ℕ) (budgets : List ℕ) (core0 : List Stamped) (others : List (List Stamped)) (end : Core0) (ends : List Other) (c : Computation budget budgets core0 others end ends) (o : OneRun budget budgets core0 others end ends)
@@ -206,7 +207,7 @@ agree_by budget budgets core0 others end ends c o = record {
 
     at_end : (i b : ℕ) (d : Other) → slice_get budgets i ≡ Some b → slice_get ends i ≡ Some d → IsAt end.log b d.log
     at_end i b d at_b at_d =
-        let h = get_at others i (omega (arith, c.cores, get_within budgets i b at_b)) in
+        let h = get_at others i (omega (arith, c.cores, slice_get_within budgets i b at_b)) in
         let p = point_other budget budgets core0 others end ends c o i b h.0 d h.0 [] at_b h.1 at_d (sym (append-nil h.0)) in
         subst (λ (x : Other). IsAt end.log b x.log) (sym p.goes_on.1.0) p.is_at
 

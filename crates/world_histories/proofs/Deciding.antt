@@ -24,7 +24,7 @@ use Rattle.world_model.specs.Cases.{TakesUpAt, TakesDownAt, Took}
 use Rattle.world_model.specs.Worlds.{Peer, World, boot, newest, budget_at, HappensUp, HappensDown, Happens, Run}
 use Rattle.world_model.specs.Readings.{version_of, vote_of, Request, sent, request_of, Begins, Begun}
 use Rattle.world_model.specs.Decisions.{HasReason, IsEntryAt, IsWaiting, VetoedBy, MakesChange, vote_by, VotesDecide, DecidesRightly}
-use Rattle.world_model.proofs.Lists.{get_within, get_at, get_front, get_end}
+use Rattle.world_model.proofs.Lists.{get_end}
 use Rattle.world_model.proofs.Runs.{runs_split}
 use Rattle.world_model.proofs.Known.{run_known}
 use Rattle.world_model.proofs.Agreement.{of_core}
@@ -42,6 +42,8 @@ use Rattle.world_histories.proofs.Requests.{Tracks, run_tracks}
 use Rattle.world_histories.proofs.Replies.{begins_in, submits_in}
 use Rattle.world_histories.proofs.Merge.{OneRun, one_run}
 use Rattle.world_histories.proofs.Agreement.{in_the_run}
+use Rattle.std.proofs.lemmas.Option.{slice_get_within}
+use Rattle.table_replica.proofs.Shared.{get_front, get_at}
 
 -- A front of the run
 
@@ -74,7 +76,7 @@ asked_at budget budgets core0 others end ends o front rest before w entry op e r
     )
 
 waiting_core : (budget : ℕ) (budgets : List ℕ) (others : List (List Stamped)) (events : List Done) (w : World) (entry : ℕ) (op : Op) → length others ≡ length budgets → Run budget budgets events w → slice_get w.requests.waiting entry ≡ Some (Some op) → entry < length others
-waiting_core budget budgets others events w entry op long run at = omega (arith, long, (run_known budget budgets events w run).waiting_long, get_within w.requests.waiting entry (Some op) at)
+waiting_core budget budgets others events w entry op long run at = omega (arith, long, (run_known budget budgets events w run).waiting_long, slice_get_within w.requests.waiting entry (Some op) at)
 
 -- Numbers
 
@@ -259,7 +261,7 @@ record Context (budget : ℕ) (budgets : List ℕ) (core0 : List Stamped) (other
 voted_by : (budget : ℕ) (budgets : List ℕ) (core0 : List Stamped) (others : List (List Stamped)) (end : Core0) (ends : List Other) (before : List Stamped) (event : Event) (answer : Answer) (x : Context budget budgets core0 others end ends before event answer) (txn i : ℕ) (h : List Stamped) (v : Vote)
     → slice_get others i ≡ Some h → vote_of (suc i) txn (as_listed x.earlier) ≡ Some v → vote_of (suc i) txn (unstamped h) ≡ Some v
 voted_by budget budgets core0 others end ends before event answer x txn i h v at e =
-    let lt = get_within others i h at in
+    let lt = slice_get_within others i h at in
     let b = get_at budgets i (omega (arith, lt, x.comp.cores)) in
     let d = get_at ends i (omega (arith, lt, x.comp.cores, x.comp.all_end)) in
     let t = x.comp.of_other i b.0 h d.0 b.1 at d.1 in
@@ -279,7 +281,7 @@ vetoed : (budget : ℕ) (budgets : List ℕ) (core0 : List Stamped) (others : Li
 vetoed budget budgets core0 others end ends before event answer x txn op core why h =
     let known = run_known budget budgets (as_listed x.earlier) x.world x.run in
     let p = of_core (λ (q : Peer). q.budget) x.world.peers h.entry h.budget (slice_get x.world.peers h.entry) refl h.is_budget in
-    let within : h.entry < length others = omega (arith, x.comp.cores, known.cores, get_within x.world.peers h.entry p.0 p.1) in
+    let within : h.entry < length others = omega (arith, x.comp.cores, known.cores, slice_get_within x.world.peers h.entry p.0 p.1) in
     record {
       entry = h.entry;
       is_core = h.is_core;

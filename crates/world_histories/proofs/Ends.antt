@@ -5,7 +5,6 @@ use Rattle.filter_table.specs.declared.operation.Op.{Op}
 use Rattle.monitor_2pc.specs.Participants.{ParticipantPlace}
 use Rattle.monitor_2pc.specs.Coordinators.{CoordinatorPlace, Requests}
 use Rattle.world_model.specs.Worlds.{Peer, World, boot}
-use Rattle.world_model.proofs.Lists.{get_within, get_at}
 use Rattle.world_model.proofs.Known.{run_known}
 use Rattle.world_histories.specs.declared.history.Stamped.{Stamped}
 use Rattle.world_histories.specs.Histories.{Stamping, Sending, Core0, core0_first, History0, Other, other_first, HistoryOther, Computation}
@@ -13,6 +12,8 @@ use Rattle.world_histories.specs.Merging.{as_listed, IsRun, EndsAs}
 use Rattle.world_histories.proofs.Clocks.{step0_clock, step_clock}
 use Rattle.world_histories.proofs.Merge.{OneRun, one_run, run_of}
 use Rattle.world_histories.proofs.Once.{runs_once}
+use Rattle.std.proofs.lemmas.Option.{slice_get_within}
+use Rattle.table_replica.proofs.Shared.{get_at}
 
 -- the clock after these events
 clock_of : ℕ → List Stamped → ℕ
@@ -97,7 +98,7 @@ ends_once budget budgets core0 others end end' ends ends' a b = (
 
     each : (i : ℕ) (d d' : Other) → slice_get ends i ≡ Some d → slice_get ends' i ≡ Some d' → d ≡ d'
     each i d d' at at' =
-        let lt = get_within ends i d at in
+        let lt = slice_get_within ends i d at in
         let g = get_at budgets i (omega (arith, a.all_end, lt)) in
         let h = get_at others i (omega (arith, a.all_end, a.cores, lt)) in
         let t = a.of_other i g.0 h.0 d g.1 h.1 at in

@@ -6,12 +6,15 @@ use Rattle.filter_table.proofs.Tables.{table_front}
 use Rattle.world_events.specs.declared.event.Done.{Done}
 use Rattle.world_model.specs.Worlds.{Peer, World, boot, new_peer, version_at, Happens, Run}
 use Rattle.world_model.specs.Agreement.{Agrees, Grows}
-use Rattle.world_model.proofs.Lists.{get_within, get_at, get_map, map_get}
+use Rattle.world_model.proofs.Lists.{get_map}
 use Rattle.world_model.proofs.Runs.{run_keeps, runs_more}
 use Rattle.world_model.proofs.Known.{run_known}
 use Rattle.world_model.proofs.Agreement.{of_core}
-use Rattle.world_model.proofs.RunLaws.{run_agrees, run_grows}
+use Rattle.world_model.proofs.RunLaws.{run_agrees, run_grows, version_within}
 use Rattle.world_histories.proofs.Lists.{less_or_same}
+use Rattle.std.proofs.lemmas.Option.{slice_get_within}
+use Rattle.filter_table.proofs.Lists.{map-get}
+use Rattle.table_replica.proofs.Shared.{get_at}
 
 abbrev pub FitsAll : ℕ → List ℕ → World → Type 0
 FitsAll budget budgets w = (core b known v : ℕ) → slice_get (budget ∷ budgets) core ≡ Some b → version_at w core ≡ Some known → v ≤ known → instructions (table w.log v) ≤ b
@@ -19,16 +22,8 @@ FitsAll budget budgets w = (core b known v : ℕ) → slice_get (budget ∷ budg
 version_there : (budget : ℕ) (budgets : List ℕ) (events : List Done) (w : World) (core b : ℕ) → Run budget budgets events w → slice_get (budget ∷ budgets) core ≡ Some b → (v : ℕ) × (version_at w core ≡ Some v)
 version_there budget budgets events w zero b run at = (w.version, refl)
 version_there budget budgets events w (suc i) b run at =
-    let p = get_at w.peers i (omega (arith, (run_known budget budgets events w run).cores, get_within budgets i b at)) in
+    let p = get_at w.peers i (omega (arith, (run_known budget budgets events w run).cores, slice_get_within budgets i b at)) in
     (p.0.version, ap (option_map (λ (x : Peer). x.version)) p.1)
-
-pub version_within : (budget : ℕ) (budgets : List ℕ) (w : World) (core v : ℕ) → Agrees budget budgets w → version_at w core ≡ Some v → v ≤ length w.log
-version_within budget budgets w zero v a at = let e : w.version ≡ v = cc in omega (arith, a.core0)
-version_within budget budgets w (suc i) v a at = le (a.others i v at)
-  where
-    le : (v ≡ length w.log) ⊎ (v + 1 ≡ length w.log) → v ≤ length w.log
-    le (inl e) = omega arith
-    le (inr e) = omega arith
 
 fits_more : (budget : ℕ) (budgets : List ℕ) (events : List Done) (w w' : World) (done : Done) → Run budget budgets events w → FitsAll budget budgets w → Happens w done.event w' done.answer → FitsAll budget budgets w'
 fits_more budget budgets events w w' done run fits h core b known v at_b at le = by_order (less_or_same v known le)
@@ -66,4 +61,4 @@ fits_all budget budgets = run_keeps budget budgets (λ events w. FitsAll budget 
 
     start : (core b : ℕ) → slice_get (budget ∷ budgets) core ≡ Some b → version_at (boot budget budgets) core ≡ Some 0
     start zero b at = refl
-    start (suc i) b at = ap (option_map (λ (x : Peer). x.version)) (map_get new_peer budgets i b at)
+    start (suc i) b at = ap (option_map (λ (x : Peer). x.version)) (map-get new_peer budgets i b at)

@@ -15,7 +15,7 @@ use Rattle.world_events.specs.declared.event.Answer.TheVariants.{TookPrepare}
 use Rattle.world_events.specs.declared.event.Done.{Done}
 use Rattle.world_model.specs.Cases.{raised, TakesDownAt, Took}
 use Rattle.world_model.specs.Worlds.{Peer, World, newest, new_peer, boot, HappensDown, Happens, Run}
-use Rattle.world_model.proofs.Lists.{get-set_same, get-set_other, length-slice_set, get_map, get_within, get_at}
+use Rattle.world_model.proofs.Lists.{get-set_same, get-set_other, length-slice_set, get_map}
 use Rattle.world_model.proofs.Runs.{runs_more}
 use Rattle.world_model.proofs.Agreement.{run_inv}
 use Rattle.world_model.proofs.Known.{run_known}
@@ -26,8 +26,10 @@ use Rattle.world_histories.proofs.Clocks.{first_sent_to}
 use Rattle.world_histories.proofs.Seats.{Seat, SeatOf, Joint}
 use Rattle.world_histories.proofs.Leads.{Seats, Led, Stands, NotBefore, core0_step}
 use Rattle.world_histories.proofs.Owns.{Owned, own_step}
+use Rattle.std.proofs.lemmas.Option.{slice_get_within}
+use Rattle.table_replica.proofs.Shared.{get_at}
 
--- A vote for want of memory is as it would be with the flag
+-- A vote NoMemory is as it would be with the flag
 
 casts_short : (short : Bool) (s : State) (b : ℕ) (op : Op) (v : Vote) → v ≡ vote.NoMemory → Casts short s b op v → Casts true s b op v
 casts_short short s b op vote.Yes e c = absurd (cc)
@@ -136,7 +138,7 @@ joint_own budget budgets before w c h0 i s r hs end ends j at_h late = record {
     st = stands_at budget budgets before w c h0 hs end ends j
 
     at : (p : Peer) × (slice_get w.peers i ≡ Some p)
-    at = get_at w.peers i (omega (arith, st.cores, j.cores, get_within hs i (s ∷ r) at_h))
+    at = get_at w.peers i (omega (arith, st.cores, j.cores, slice_get_within hs i (s ∷ r) at_h))
 
     mine : SeatOf i w.log at.0 hs ends j.sent j.taken
     mine = j.seats i at.0 at.1
@@ -189,7 +191,7 @@ joint_first budget budgets core0 others end ends h = record {
   where
     seat_first : (i b : ℕ) → slice_get budgets i ≡ Some b → SeatOf i [] (new_peer b) others ends h.sent h.taken
     seat_first i b at_b =
-        let lt = get_within budgets i b at_b in
+        let lt = slice_get_within budgets i b at_b in
         let g = get_at others i (omega (arith, h.cores, lt)) in
         let d = get_at ends i (omega (arith, h.all_end, lt)) in
         let t = h.of_other i b g.0 d.0 at_b g.1 d.1 in

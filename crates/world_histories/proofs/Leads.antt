@@ -13,7 +13,6 @@ use Rattle.world_events.specs.declared.event.Event.TheVariants.{Start, StartFor,
 use Rattle.world_events.specs.declared.event.Answer.{Answer}
 use Rattle.world_model.specs.Cases.{Outgoing, nothing, outgoing, joined, ReceivesAt, StartsAt, StartsForAt, TakesUpAt}
 use Rattle.world_model.specs.Worlds.{Peer, World, newest, sent_out, core0_moves, gave, Happens}
-use Rattle.world_model.proofs.Lists.{get_within, get_at}
 use Rattle.world_model.proofs.Invariant.{Inv, Alone}
 use Rattle.world_model.proofs.Steps.{on_vote}
 use Rattle.world_model.proofs.Submissions.{eq_self, eq_other}
@@ -22,6 +21,8 @@ use Rattle.world_histories.specs.Histories.{Stamping, Sending, sent_by, taking, 
 use Rattle.world_histories.proofs.Lists.{front_is, set_cases}
 use Rattle.world_histories.proofs.Clocks.{tick_after, first_sent_by}
 use Rattle.world_histories.proofs.Seats.{messages, Seat, SeatOf, got_out, seat_got}
+use Rattle.std.proofs.lemmas.Option.{slice_get_within}
+use Rattle.table_replica.proofs.Shared.{get_at}
 
 abbrev pub Seats : List Op → List Peer → List (List Stamped) → List Other → List Sending → List (ℕ × Stamping) → Type 0
 Seats log peers hs ends sent taken = (i : ℕ) (p : Peer) → slice_get peers i ≡ Some p → SeatOf i log p hs ends sent taken
@@ -139,10 +140,10 @@ lead_rx number packet floor budget budgets w c mid stamp answer None out hs ends
 from_core : (budget : ℕ) (budgets : List ℕ) (w : World) (c : Core0) (entry : ℕ) (m : Message) (place : CoordinatorPlace) (requests : Requests) (committed : Option Op) (told : Step) (answer : Answer) → Stands budget budgets w c
     → TakesUpAt (newest w) w.place w.requests entry m place requests committed told answer → entry < length w.peers
 from_core budget budgets w c entry (message.Vote txn v) place requests committed told answer st h =
-    let long = (on_vote w h.hears.votes h.hears.op st.inv h.hears.voting h.hears.on_op).long in omega (arith, long, get_within h.hears.votes entry None h.hears.first_vote)
+    let long = (on_vote w h.hears.votes h.hears.op st.inv h.hears.voting h.hears.on_op).long in omega (arith, long, slice_get_within h.hears.votes entry None h.hears.first_vote)
 from_core budget budgets w c entry (message.Ack txn) place requests committed told answer st h =
-    let a = subst (λ (x : Phase). Alone (length w.peers) (newest w) w.budget x w.place.staged) h.hears.acking st.inv.alone_ok in omega (arith, a.2, get_within h.hears.acks entry false h.hears.first_ack)
-from_core budget budgets w c entry (message.Submit op) place requests committed told answer st h = omega (arith, st.cores, st.waiting_long, get_within w.requests.waiting entry None h.can_submit.none_waiting)
+    let a = subst (λ (x : Phase). Alone (length w.peers) (newest w) w.budget x w.place.staged) h.hears.acking st.inv.alone_ok in omega (arith, a.2, slice_get_within h.hears.acks entry false h.hears.first_ack)
+from_core budget budgets w c entry (message.Submit op) place requests committed told answer st h = omega (arith, st.cores, st.waiting_long, slice_get_within w.requests.waiting entry None h.can_submit.none_waiting)
 from_core budget budgets w c entry m place requests committed told answer st h = absurd h
 
 -- a core whose message was taken

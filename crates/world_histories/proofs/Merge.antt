@@ -2,7 +2,7 @@
 use Rattle.std.proofs.Common.{◌≡◌, ◌<◌, ◌≤◌, ◌⊎◌, ◌==◌, inl, inr, ℕ, zero, suc, true, false, Some, List, [], ◌∷◌, ◌++◌, length, slice_get, slice_set, refl, ap, sym, ◌∙◌, subst, arith, append_assoc}
 use Rattle.std.proofs.lemmas.List.{append-nil}
 use Rattle.world_model.specs.Worlds.{Peer, World, boot, Run}
-use Rattle.world_model.proofs.Lists.{get-set_same, get-set_other, length-slice_set, get_within, get_at, same_or_not}
+use Rattle.world_model.proofs.Lists.{get-set_same, get-set_other, length-slice_set, same_or_not}
 use Rattle.world_model.proofs.Known.{run_known}
 use Rattle.world_model.proofs.Submissions.{eq_self, eq_other}
 use Rattle.world_histories.specs.declared.history.Stamped.{Stamped}
@@ -13,6 +13,8 @@ use Rattle.world_histories.proofs.Parts.{part_own, part_other, placed}
 use Rattle.world_histories.proofs.Clocks.{step0_clock, next0, step_clock, next_other}
 use Rattle.world_histories.proofs.Seats.{SeatOf, Joint}
 use Rattle.world_histories.proofs.Joining.{Next, joint0, joint_own, joint_first}
+use Rattle.std.proofs.lemmas.Option.{slice_get_within}
+use Rattle.table_replica.proofs.Shared.{get_at}
 
 -- the rests of the histories, in one list that goes on with the run
 record Goes (budget : ℕ) (budgets : List ℕ) (before : List Stamped) (all : List (List Stamped)) (end : Core0) (ends : List Other) : Type 0 where
@@ -98,7 +100,7 @@ goes_on budget budgets before all k s r end ends here is least next g = record {
         rw test (g.of_each core h (get-set_other all k core r ne ∙ at))
 
     within : (n : ℕ) (x : Stamped) → slice_get (s ∷ g.later) n ≡ Some x → core_of x.done.event < length all
-    within zero x at = let same : s ≡ x = cc in omega (arith, is, ap (λ (y : Stamped). core_of y.done.event) same, get_within all k (s ∷ r) here)
+    within zero x at = let same : s ≡ x = cc in omega (arith, is, ap (λ (y : Stamped). core_of y.done.event) same, slice_get_within all k (s ∷ r) here)
     within (suc n) x at = omega (arith, g.of_cores n x at, length-slice_set all k r)
 
 -- the rest of a core's history
@@ -106,7 +108,7 @@ own_ahead : (budget : ℕ) (budgets : List ℕ) (before : List Stamped) (w : Wor
     → slice_get hs i ≡ Some (s ∷ r) → (b : ℕ) × (d : Other) × (e : Other) × (taken : List Stamping) × HistoryOther i b d (s ∷ r) e taken
 own_ahead budget budgets before w c h0 hs end ends i s r j at =
     let k = run_known budget budgets (as_listed before) w j.run in
-    let p = get_at w.peers i (omega (arith, k.cores, j.cores, get_within hs i (s ∷ r) at)) in
+    let p = get_at w.peers i (omega (arith, k.cores, j.cores, slice_get_within hs i (s ∷ r) at)) in
     let o = j.seats i p.0 p.1 in
     let same : o.history ≡ s ∷ r = (let x = o.is_history in cc) in
     (p.0.budget, o.seat.core, o.end, o.seat.taken, subst (λ (x : List Stamped). HistoryOther i p.0.budget o.seat.core x o.end o.seat.taken) same o.seat.ahead)

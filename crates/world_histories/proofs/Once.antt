@@ -258,7 +258,7 @@ submit_once w w1 w2 i op answer a b =
 
 -- All events
 
-happens_once : (w w1 w2 : World) (event : Event) (answer : Answer) → Happens w event w1 answer → Happens w event w2 answer → w1 ≡ w2
+pub happens_once : (w w1 w2 : World) (event : Event) (answer : Answer) → Happens w event w1 answer → Happens w event w2 answer → w1 ≡ w2
 happens_once w w1 w2 (Start op) answer a b = start_once w w1 w2 op answer a b
 happens_once w w1 w2 (Submit (suc i) op) answer a b = submit_once w w1 w2 i op answer a b
 happens_once w w1 w2 (StartFor (suc i)) answer a b = start_for_once w w1 w2 i answer a b

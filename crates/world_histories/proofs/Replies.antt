@@ -17,7 +17,7 @@ use Rattle.world_events.specs.declared.event.Done.{Done}
 use Rattle.world_model.specs.Worlds.{World, version_at, Happens}
 use Rattle.world_model.specs.Readings.{Request, version_of, request_of, settled}
 use Rattle.world_model.specs.Decisions.{StandsAt, IsEntered, RepliesRightly}
-use Rattle.world_model.proofs.Lists.{get_within, get_at, get_front, same_or_not}
+use Rattle.world_model.proofs.Lists.{same_or_not}
 use Rattle.world_model.proofs.Submissions.{eq_self, eq_other}
 use Rattle.world_model.proofs.Known.{run_known}
 use Rattle.world_model.proofs.RunLaws.{run_replies}
@@ -31,6 +31,8 @@ use Rattle.world_histories.proofs.Tells.{short_core}
 use Rattle.world_histories.proofs.Requests.{submits_by, begins_of, submits_of, BegunAt, VotedAfter, DecidedAt, at_once, by_votes, Tracks, run_tracks}
 use Rattle.world_histories.proofs.Merge.{one_run}
 use Rattle.world_histories.proofs.Agreement.{in_the_run}
+use Rattle.std.proofs.lemmas.Option.{slice_get_within}
+use Rattle.table_replica.proofs.Shared.{get_front, get_at}
 
 -- The flag of a Take is of no account here
 
@@ -178,7 +180,7 @@ one_request core0 events i submitted decision front e (by_votes txn b v) =
 
 entered_front : (log front : List Op) (op : Op) (d : Decision) → IsPrefix front log → IsEntered front op d → IsEntered log op d
 entered_front log front op (Committed version id) f x =
-    let le : x.0 ≤ length front = omega (arith, get_within front x.0 op x.1.entry) in (
+    let le : x.0 ≤ length front = omega (arith, slice_get_within front x.0 op x.1.entry) in (
       x.0,
       record {
         entry = subst (λ (l : List Op). slice_get l x.0 ≡ Some op) f.1 (get_front front f.0 x.0 op x.1.entry);
@@ -208,7 +210,7 @@ replied budget budgets core0 others end ends c i h before after s d at e is_repl
     let x = replied_by i (as_listed r.earlier) r.world r.world' (listed s).event d (version_of (suc i) (unstamped before)) (short_core s.done.event s.done.answer ∙ r.is_core) r.version
     (subst (λ (a : Answer). Happens r.world (listed s).event r.world' a) is_reply r.happens) (subst (λ (a : Answer). RepliesRightly (as_listed r.earlier) r.world (listed s).event a) is_reply (run_replies budget budgets (as_listed r.earlier) r.world r.world' (listed s).event s.done.answer r.run r.happens)) in
     let known = run_known budget budgets (as_listed r.earlier) r.world r.run in
-    let p = get_at r.world.peers i (omega (arith, known.cores, c.cores, get_within others i h at)) in
+    let p = get_at r.world.peers i (omega (arith, known.cores, c.cores, slice_get_within others i h at)) in
     let t : Tracks (suc i) (as_listed r.earlier) (settled x.0 d) = subst (λ (q : Request). Tracks (suc i) (as_listed r.earlier) q) x.1 (run_tracks budget budgets (as_listed r.earlier) r.world r.run i p.0 p.1) in
     let q = one_request core0 r.earlier i (submissions before) d (r.fronts 0 core0 refl) (omega (arith, t.counted, submits_in i r.earlier, ap submissions r.own)) t.places in
     record {

@@ -23,6 +23,7 @@ use Rattle.world_model.proofs.Submissions.{eq_self}
 use Rattle.world_histories.specs.declared.history.Stamped.{Stamped}
 use Rattle.world_histories.specs.Histories.{Stamping, Sending, unstamped, taking, Core0, Does0, History0, Other, DoesOther, HistoryOther}
 use Rattle.world_histories.proofs.Lists.{prefix_self, prefix_then}
+use Rattle.world_model.proofs.Moves.{counts_start, counts_start_for, counts_vote}
 
 -- Two parts
 
@@ -58,26 +59,6 @@ grown_by core log event answer (Some op) e = record { is_front = (op ∷ [], ref
 
 same_log : (core : ℕ) (log : List Op) (event : Event) (answer : Answer) → commits_at core event answer ≡ false → Grown core log event answer log
 same_log core log event answer e = grown_by core log event answer None (sym e)
-
-counts_start : (op : Op) (others : ℕ) (s : State) (b : ℕ) (place place' : CoordinatorPlace) (o : Op) (committed : Option Op) (told : Step) → Starts others s b place o place' committed told
-    → is_some committed ≡ commits_at 0 (Start op) (start_told told.txn told.decided)
-counts_start op others s b place place' o committed told (refused f a p c t) = rw (c, t) refl
-counts_start op others s b place place' o committed told (unstaged f p c t) = rw (c, t) refl
-counts_start op others s b place place' o committed told (alone a n p c t) = rw (c, t) refl
-counts_start op others s b place place' o committed told (prepared a n p c t) = rw (c, t) refl
-
-counts_start_for : (core others : ℕ) (s : State) (b : ℕ) (place place' : CoordinatorPlace) (o : Op) (committed : Option Op) (told : Step) → Starts others s b place o place' committed told
-    → is_some committed ≡ commits_at 0 (StartFor core) (start_told told.txn told.decided)
-counts_start_for core others s b place place' o committed told (refused f a p c t) = rw (c, t) refl
-counts_start_for core others s b place place' o committed told (unstaged f p c t) = rw (c, t) refl
-counts_start_for core others s b place place' o committed told (alone a n p c t) = rw (c, t) refl
-counts_start_for core others s b place place' o committed told (prepared a n p c t) = rw (c, t) refl
-
-counts_vote : (i : ℕ) (short : Bool) (s : State) (last txn : ℕ) (v : Vote) (op : Op) (votes : List (Option Vote)) (place' : CoordinatorPlace) (committed : Option Op) (told : Step) → Tallies s last op votes place' committed told
-    → is_some committed ≡ commits_at 0 (Take 0 (suc i) short) (TookVote txn v told.decided)
-counts_vote i short s last txn v op votes place' committed told (waits k n p c t) = rw (c, t) refl
-counts_vote i short s last txn v op votes place' committed told (commits_all a p c t) = rw (c, t) refl
-counts_vote i short s last txn v op votes place' committed told (aborts_all core against l a p c t) = rw (c, t) refl
 
 counts_up : (i : ℕ) (short : Bool) (s : State) (place place' : CoordinatorPlace) (requests requests' : Requests) (m : Message) (committed : Option Op) (told : Step) (answer : Answer) → TakesUpAt s place requests i m place' requests' committed told answer
     → is_some committed ≡ commits_at 0 (Take 0 (suc i) short) answer

@@ -63,7 +63,7 @@ step_voting core txn i budget c c' stamp (Take (suc to) zero short) (Some m) ans
 step_voting core txn i budget c c' stamp (Rx (suc k) number packet floor) None answer h = rw h.1.next (silent_vote core txn (Rx (suc k) number packet floor) answer c.place.last c.place.last refl (λ known. refl))
 step_voting core txn i budget c c' stamp event m answer h = absurd h
 
--- what the core has voted on is behind it
+-- what the core has voted on is after it
 votes_behind : (core txn i budget : ℕ) (c c' : Other) (h : List Stamped) (taken : List Stamping) (known : Option Vote) → HistoryOther i budget c h c' taken → ((v : Vote) → known ≡ Some v → txn ≤ c.place.last)
     → (v : Vote) → vote_after core txn known (unstamped h) ≡ Some v → txn ≤ c'.place.last
 votes_behind core txn i budget c c' [] taken known h behind v e = rw h.0 (behind v e)

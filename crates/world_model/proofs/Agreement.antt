@@ -12,13 +12,14 @@ use Rattle.world_events.specs.declared.event.Event.TheVariants.{Start, Submit, S
 use Rattle.world_events.specs.declared.event.Answer.{Answer}
 use Rattle.world_events.specs.declared.event.Done.{Done}
 use Rattle.world_model.specs.Worlds.{Peer, World, boot, newest, Happens, Runs, Run}
-use Rattle.world_model.proofs.Lists.{get_within, get_at}
 use Rattle.world_model.proofs.Invariant.{Pair, at_rest, asked, voted, counted, to_commit, to_abort, acked, finished, Alone, Inv, boot_inv}
 use Rattle.world_model.specs.Agreement.{is_commitment, commitments, Expects, Awaits, NoStranger}
 use Rattle.world_model.specs.Readings.{Request, unsent, followed, request_after, request_of}
 use Rattle.world_model.proofs.Steps.{start_inv, start_for_inv, submit_inv, down_inv, up_inv}
 use Rattle.world_model.proofs.Submissions.{Inv2, in_channel, taken, never_down, never_up, event_stages, boot_stages}
 use Rattle.monitor_2pc.specs.Participants.{Fits}
+use Rattle.std.proofs.lemmas.Option.{slice_get_within}
+use Rattle.table_replica.proofs.Shared.{get_at}
 
 -- An event keeps the invariant
 
@@ -74,7 +75,7 @@ idle_if_quiet w inv empty = by_phase w.place.phase refl
     by_phase Idle e = e
     by_phase (Voting votes) e =
         let a = subst (λ (x : Phase). Alone (length w.peers) (newest w) w.budget x w.place.staged) e inv.alone_ok in
-        let q = get_at w.peers a.1 (omega (arith, a.4, get_within votes a.1 None a.5)) in
+        let q = get_at w.peers a.1 (omega (arith, a.4, slice_get_within votes a.1 None a.5)) in
         let both = empty a.1 q.0 q.1 in
         from_quiet (quiet w.log w.place a.1 q.0 (inv.pairs a.1 q.0 q.1) both.0 both.1) (λ n. n.0 votes e a.5)
       where
@@ -83,7 +84,7 @@ idle_if_quiet w inv empty = by_phase w.place.phase refl
         from_quiet (inr n) no' = absurd (no' n)
     by_phase (Acking acks) e =
         let a = subst (λ (x : Phase). Alone (length w.peers) (newest w) w.budget x w.place.staged) e inv.alone_ok in
-        let q = get_at w.peers a.0 (omega (arith, a.2, get_within acks a.0 false a.3)) in
+        let q = get_at w.peers a.0 (omega (arith, a.2, slice_get_within acks a.0 false a.3)) in
         let both = empty a.0 q.0 q.1 in
         from_quiet (quiet w.log w.place a.0 q.0 (inv.pairs a.0 q.0 q.1) both.0 both.1) (λ n. n.1 acks e a.3)
       where

@@ -22,7 +22,7 @@ use Rattle.world_model.specs.Worlds.{Peer, World, newest, version_at, budget_at,
 use Rattle.world_model.specs.Agreement.{commitments}
 use Rattle.world_model.specs.Readings.{vote_of, sent, request_of, Begun}
 use Rattle.world_model.specs.Decisions.{Prepares, VetoedBy, vote_by, DecidesRightly}
-use Rattle.world_model.proofs.Lists.{get-set_same, get-set_other, length-slice_set, get_within, get_at, same_or_not}
+use Rattle.world_model.proofs.Lists.{get-set_same, get-set_other, length-slice_set, same_or_not}
 use Rattle.world_model.proofs.Invariant.{Pair, at_rest, asked, voted, counted, to_commit, to_abort, acked, finished, Inv}
 use Rattle.world_model.proofs.Steps.{on_vote, Polled, polled, voting_on}
 use Rattle.world_model.proofs.Submissions.{Inv2}
@@ -30,6 +30,8 @@ use Rattle.world_model.proofs.Moves.{Matches, matches_set}
 use Rattle.world_model.proofs.Known.{Known, was, run_known}
 use Rattle.world_model.proofs.Followed.{waits_sent, next_entry, Numbered, run_numbered}
 use Rattle.world_model.proofs.Agreement.{run_inv, run_stages}
+use Rattle.std.proofs.lemmas.Option.{slice_get_within}
+use Rattle.table_replica.proofs.Shared.{get_at}
 
 -- what is known after a run
 record After (budget : ℕ) (budgets : List ℕ) (events : List Done) (w : World) : Type 0 where
@@ -89,7 +91,7 @@ begins events w w' entry op place requests' committed begun answer n its is_sent
     by_case : Starts (length w.peers) (newest w) w.budget w.place op place committed begun → DecidesRightly events w (StartFor (suc entry)) w' answer
     by_case (refused fault al p c t) = rw (is _ t) (op, record { waits = its; is_sent = is_sent }, ((refl, inr (fault, al, refl)), moved _ None _ p c t))
     by_case (unstaged f p c t) = rw (is _ t) (op, record { waits = its; is_sent = is_sent }, ((refl, inl (refl, f)), moved _ None _ p c t))
-    by_case (alone al m p c t) = absurd (omega (arith, m, long, get_within w.requests.waiting entry (Some op) its))
+    by_case (alone al m p c t) = absurd (omega (arith, m, long, slice_get_within w.requests.waiting entry (Some op) its))
     by_case (prepared al m p c t) = rw (is _ t) (op, record { waits = its; is_sent = is_sent }, prepares events w op _ w' n al (moved _ None _ p c t))
 
 decides_start_for : (budget : ℕ) (budgets : List ℕ) (events : List Done) (w w' : World) (i : ℕ) (answer : Answer) → After budget budgets events w → HappensStartFor w i w' answer → DecidesRightly events w (StartFor (suc i)) w' answer
@@ -173,7 +175,7 @@ decides_vote budget budgets events w w' i txn v short answer h m here k = by_tal
     -- the votes that core 0 has were cast, with the events before
     heard : (j : ℕ) (x : Vote) → slice_get votes' j ≡ Some (Some x) → vote_of (suc j) txn events ≡ Some x
     heard j x at =
-        let q = get_at g j (omega (arith, long, length-slice_set w.peers i (record h.peer { up = h.rest }), get_within votes' j (Some x) at)) in
+        let q = get_at g j (omega (arith, long, length-slice_set w.peers i (record h.peer { up = h.rest }), slice_get_within votes' j (Some x) at)) in
         let c = cast_at w.log w.place.last votes' here.hears.op j q.0 x at (ps.pairs j q.0 q.1) in
         let p = was Stands w.peers g j q.0 (stands_set w.peers i h.peer h.rest h.is_peer) q.1 in
         let last : p.0.place.last ≡ txn = sym (ap (λ (y : ParticipantPlace). y.last) p.2.0) ∙ (c.last_is ∙ sym here.hears.number) in
@@ -190,7 +192,7 @@ decides_vote budget budgets events w w' i txn v short answer h m here k = by_tal
 
     veto_of_least : (core : ℕ) (against : Vote) → LeastNo votes' core against → VetoedBy (vote_by events txn) (λ entry. budget_at w (suc entry)) (newest w) here.hears.op core (veto_by against)
     veto_of_least core against least =
-        let q = get_at g least.entry (omega (arith, long, length-slice_set w.peers i (record h.peer { up = h.rest }), get_within votes' least.entry (Some against) least.said)) in
+        let q = get_at g least.entry (omega (arith, long, length-slice_set w.peers i (record h.peer { up = h.rest }), slice_get_within votes' least.entry (Some against) least.said)) in
         let c = cast_at w.log w.place.last votes' here.hears.op least.entry q.0 against least.said (ps.pairs least.entry q.0 q.1) in
         let p = was Stands w.peers g least.entry q.0 (stands_set w.peers i h.peer h.rest h.is_peer) q.1 in
         record {

@@ -22,12 +22,14 @@ use Rattle.world_model.specs.Cases.{Outgoing, outgoing, sent_up, joined, raised,
 use Rattle.world_model.specs.Worlds.{Peer, World, boot, newest, sent_out, core0_moves, HappensStart, HappensUp, HappensDown, Happens, Run}
 use Rattle.world_model.specs.Readings.{Request, unsent, sent, numbered, settled, begun, decided_on, followed, request_after, request_of, Begins, Begun}
 use Rattle.world_model.specs.Decisions.{IsEntryAt, IsEntered}
-use Rattle.world_model.proofs.Lists.{get-set_same, get-set_other, get_within, get_at, get_front, get_end, same_or_not}
+use Rattle.world_model.proofs.Lists.{get-set_same, get-set_other, get_end, same_or_not}
 use Rattle.world_model.proofs.Submissions.{Stage, free, submitted, waiting, served, replied, Served, Inv2, asks, follows_start, follows_other, follows_begun, began, follows_submit, follows_no_submit, took_follows}
 use Rattle.world_model.proofs.Runs.{run_keeps}
 use Rattle.world_model.proofs.Moves.{Matches, matches_self, matches_set, matches_sent, log_joined}
 use Rattle.world_model.proofs.Agreement.{run_stages}
 use Rattle.world_model.proofs.Known.{was, run_known}
+use Rattle.std.proofs.lemmas.Option.{slice_get_within}
+use Rattle.table_replica.proofs.Shared.{get_front, get_at}
 
 -- Lists of events
 
@@ -169,7 +171,7 @@ no_number_down short s b ver place place' out out' (message.Submit op) committed
 -- what waits is the operation of its core's last request
 pub waits_sent : (w : World) (r : ℕ → Request) (i : ℕ) (op : Op) → Inv2 w r → length w.requests.waiting ≡ length w.peers → slice_get w.requests.waiting i ≡ Some (Some op) → r i ≡ sent op
 waits_sent w r i op inv2 long at =
-    let p = get_at w.peers i (omega (arith, long, get_within w.requests.waiting i (Some op) at)) in
+    let p = get_at w.peers i (omega (arith, long, slice_get_within w.requests.waiting i (Some op) at)) in
     (asks w.place w.requests i p.0 (r i) op at (inv2.stages i p.0 p.1)).is_sent
 
 event_numbers : (events : List Done) (w w' : World) (event : Event) (answer : Answer) → Inv2 w (λ j. request_of (suc j) events) → length w.requests.waiting ≡ length w.peers → Happens w event w' answer → NumberMoves events w event w' answer
@@ -240,7 +242,7 @@ next_entry log log' op version next is = rw next (record {
 
 entered_more : (log more : List Op) (op : Op) (d : Decision) → IsEntered log op d → IsEntered (log ++ more) op d
 entered_more log more op (Committed version id) e =
-    let within = get_within log e.0 op e.1.entry in
+    let within = slice_get_within log e.0 op e.1.entry in
     (e.0, record { entry = get_front log more e.0 op e.1.entry; is_version = e.1.is_version; is_made = rw (table_front log more e.0 (omega (arith, within))) e.1.is_made })
 entered_more log more op (Refused core why) e = tt
 
@@ -291,7 +293,7 @@ begin_entered w r i op place requests' committed begun' out answer k inv2 long t
     settles : (o : Op) (d : Decision) → begun (r i) answer ≡ settled o d → Starts (length w.peers) (newest w) w.budget w.place op place committed begun' → IsEntered (joined w.log committed) o d
     settles o d e (refused f al p c t) = let x = began (r i) answer op _ is_sent (is _ t) in let y : d ≡ Refused 0 (veto_of f) = cc in rw y tt
     settles o d e (unstaged f p c t) = let x = began (r i) answer op _ is_sent (is _ t) in let y : d ≡ Refused 0 veto.NoMemory = cc in rw y tt
-    settles o d e (alone al n p c t) = absurd (omega (arith, n, long, get_within w.requests.waiting i (Some op) there))
+    settles o d e (alone al n p c t) = absurd (omega (arith, n, long, slice_get_within w.requests.waiting i (Some op) there))
     settles o d e (prepared al n p c t) = absurd (let x = began (r i) answer op _ is_sent (is _ t) in cc)
 
     by_place : (j : ℕ) (q : Peer) (o : Op) (d : Decision) → slice_get (sent_out w.peers out) j ≡ Some q → q.outstanding ≡ true → followed (suc j) (r j) (StartFor (suc i)) answer ≡ settled o d → ((i ≡ j) ⊎ (i ≡ j → ⊥)) → IsEntered (joined w.log committed) o d

@@ -11,12 +11,14 @@ use Rattle.world_events.specs.declared.event.Done.{Done}
 use Rattle.world_model.specs.Worlds.{Peer, World, boot, new_peer, version_at, Run}
 use Rattle.world_model.specs.Agreement.{Agrees, Grows}
 use Rattle.world_model.specs.Readings.{commits_at, version_of, vote_with, vote_after, vote_of}
-use Rattle.world_model.proofs.Lists.{get_map, get_within, get_at}
+use Rattle.world_model.proofs.Lists.{get_map}
 use Rattle.world_model.proofs.Invariant.{Inv}
 use Rattle.world_model.proofs.Steps.{rests}
 use Rattle.world_model.proofs.Runs.{run_keeps}
 use Rattle.world_model.proofs.Moves.{Matches, EventMoves, event_moves}
 use Rattle.world_model.proofs.Agreement.{run_inv, pair_version, of_core, idle_if_quiet}
+use Rattle.std.proofs.lemmas.Option.{slice_get_within}
+use Rattle.table_replica.proofs.Shared.{get_at}
 
 -- One event more
 
@@ -50,7 +52,7 @@ known_boot budget budgets = record {
 -- a core of the new list, with what it was
 pub was : (R : ℕ → Peer → Peer → Type 0) (old new : List Peer) (i : ℕ) (q : Peer) → Matches R old new → slice_get new i ≡ Some q → (p : Peer) × (slice_get old i ≡ Some p) × R i p q
 was R old new i q m at =
-    let r = get_at old i (omega (arith, m.long, get_within new i q at)) in
+    let r = get_at old i (omega (arith, m.long, slice_get_within new i q at)) in
     (r.0, r.1, m.each i r.0 q r.1 at)
 
 known_more : (budget : ℕ) (budgets : List ℕ) (events : List Done) (w w' : World) (done : Done) → Known budget budgets events w → EventMoves w done.event w' done.answer → Known budget budgets (events ++ done ∷ []) w'
@@ -121,7 +123,7 @@ moves_grow w w' event answer m = record { log = m.log_is; versions = by_core }
         (w'.version, refl, r.0, r.1)
     by_core (suc i) v at =
         let p = of_core (λ (p : Peer). p.version) w.peers i v (slice_get w.peers i) refl at in
-        let q = get_at w'.peers i (omega (arith, m.peers.long, get_within w.peers i p.0 p.1)) in
+        let q = get_at w'.peers i (omega (arith, m.peers.long, slice_get_within w.peers i p.0 p.1)) in
         let moved = m.peers.each i p.0 q.0 p.1 q.1 in
         let r = one_more (commits_at (suc i) event answer) v q.0.version (moved.version_is ∙ ap (λ (n : ℕ). n + cond (commits_at (suc i) event answer) 1 0) p.2) in
         (q.0.version, ap (option_map (λ (x : Peer). x.version)) q.1, r.0, r.1)

@@ -30,16 +30,6 @@ get_replicate zero i x h = absurd (omega arith)
 get_replicate (suc n) zero x h = refl
 get_replicate (suc n) (suc i) x h = get_replicate n i x (omega arith)
 
-pub get_within : {A : Type 0} (xs : List A) (i : ℕ) (x : A) → slice_get xs i ≡ Some x → i < length xs
-get_within [] i x h = absurd cc
-get_within (y ∷ xs) zero x h = omega arith
-get_within (y ∷ xs) (suc i) x h = omega (arith, get_within xs i x h)
-
-pub get_at : {A : Type 0} (xs : List A) (i : ℕ) → i < length xs → (x : A) × (slice_get xs i ≡ Some x)
-get_at [] i h = absurd (omega arith)
-get_at (x ∷ xs) zero h = (x, refl)
-get_at (x ∷ xs) (suc i) h = get_at xs i (omega arith)
-
 -- what a list has at a place, with one more at its end, is the last or was there
 pub get_more : {A : Type 0} (xs : List A) (y x : A) (i : ℕ) → slice_get (xs ++ y ∷ []) i ≡ Some x → ((i ≡ length xs) × (x ≡ y)) ⊎ ((i < length xs) × (slice_get xs i ≡ Some x))
 get_more [] y x zero h = inl (refl, cc)
@@ -72,20 +62,9 @@ same_or_not (suc i) (suc j) = shift (same_or_not i j)
     shift (inl e) = inl (ap suc e)
     shift (inr ne) = inr (λ e. ne (omega (arith, e)))
 
-pub map_get : {A B : Type 0} (f : A → B) (xs : List A) (i : ℕ) (x : A) → slice_get xs i ≡ Some x → slice_get (map f xs) i ≡ Some (f x)
-map_get f [] i x h = absurd cc
-map_get f (y ∷ xs) zero x h = cc
-map_get f (y ∷ xs) (suc i) x h = map_get f xs i x h
-
 pub empty_list : {A : Type 0} (xs : List A) → length xs ≡ 0 → xs ≡ []
 empty_list [] h = refl
 empty_list (x ∷ xs) h = absurd (omega (arith, h))
-
--- what a list has at a place, it has with more at its end
-pub get_front : {A : Type 0} (xs ys : List A) (i : ℕ) (x : A) → slice_get xs i ≡ Some x → slice_get (xs ++ ys) i ≡ Some x
-get_front [] ys i x h = absurd cc
-get_front (z ∷ xs) ys zero x h = h
-get_front (z ∷ xs) ys (suc i) x h = get_front xs ys i x h
 
 pub get_end : {A : Type 0} (xs : List A) (y : A) → slice_get (xs ++ y ∷ []) (length xs) ≡ Some y
 get_end [] y = refl

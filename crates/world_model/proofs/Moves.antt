@@ -142,21 +142,21 @@ core0_event w peers place requests committed out event answer counts long h = re
   peers = matches_sent (PeerMoves event answer) w.peers peers out (moves_sent event answer) h;
 }
 
-counts_start : (op : Op) (others : ℕ) (s : State) (b : ℕ) (place place' : CoordinatorPlace) (o : Op) (committed : Option Op) (told : Step) → Starts others s b place o place' committed told
+pub counts_start : (op : Op) (others : ℕ) (s : State) (b : ℕ) (place place' : CoordinatorPlace) (o : Op) (committed : Option Op) (told : Step) → Starts others s b place o place' committed told
     → is_some committed ≡ commits_at 0 (Start op) (start_told told.txn told.decided)
 counts_start op others s b place place' o committed told (refused f a p c t) = rw (c, t) refl
 counts_start op others s b place place' o committed told (unstaged f p c t) = rw (c, t) refl
 counts_start op others s b place place' o committed told (alone a n p c t) = rw (c, t) refl
 counts_start op others s b place place' o committed told (prepared a n p c t) = rw (c, t) refl
 
-counts_start_for : (core others : ℕ) (s : State) (b : ℕ) (place place' : CoordinatorPlace) (o : Op) (committed : Option Op) (told : Step) → Starts others s b place o place' committed told
+pub counts_start_for : (core others : ℕ) (s : State) (b : ℕ) (place place' : CoordinatorPlace) (o : Op) (committed : Option Op) (told : Step) → Starts others s b place o place' committed told
     → is_some committed ≡ commits_at 0 (StartFor core) (start_told told.txn told.decided)
 counts_start_for core others s b place place' o committed told (refused f a p c t) = rw (c, t) refl
 counts_start_for core others s b place place' o committed told (unstaged f p c t) = rw (c, t) refl
 counts_start_for core others s b place place' o committed told (alone a n p c t) = rw (c, t) refl
 counts_start_for core others s b place place' o committed told (prepared a n p c t) = rw (c, t) refl
 
-counts_vote : (i : ℕ) (short : Bool) (s : State) (last txn : ℕ) (v : Vote) (op : Op) (votes : List (Option Vote)) (place' : CoordinatorPlace) (committed : Option Op) (told : Step) → Tallies s last op votes place' committed told
+pub counts_vote : (i : ℕ) (short : Bool) (s : State) (last txn : ℕ) (v : Vote) (op : Op) (votes : List (Option Vote)) (place' : CoordinatorPlace) (committed : Option Op) (told : Step) → Tallies s last op votes place' committed told
     → is_some committed ≡ commits_at 0 (Take 0 (suc i) short) (TookVote txn v told.decided)
 counts_vote i short s last txn v op votes place' committed told (waits k n p c t) = rw (c, t) refl
 counts_vote i short s last txn v op votes place' committed told (commits_all a p c t) = rw (c, t) refl

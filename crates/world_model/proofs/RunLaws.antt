@@ -54,7 +54,7 @@ known_versions budget budgets events w k (suc i) v at =
 pub run_versions : (budget : ℕ) (budgets : List ℕ) (events : List Done) (w : World) → Run budget budgets events w → TellsVersions events w
 run_versions budget budgets events w run = known_versions budget budgets events w (run_known budget budgets events w run)
 
-version_within : (budget : ℕ) (budgets : List ℕ) (w : World) (core v : ℕ) → Agrees budget budgets w → version_at w core ≡ Some v → v ≤ length w.log
+pub version_within : (budget : ℕ) (budgets : List ℕ) (w : World) (core v : ℕ) → Agrees budget budgets w → version_at w core ≡ Some v → v ≤ length w.log
 version_within budget budgets w zero v a at = let e : w.version ≡ v = cc in omega (arith, a.core0)
 version_within budget budgets w (suc i) v a at = le (a.others i v at)
   where

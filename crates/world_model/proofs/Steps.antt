@@ -20,8 +20,9 @@ use Rattle.world_events.specs.declared.event.Answer.{Answer}
 use Rattle.world_model.specs.Cases.{nothing, to_all, as_reply, said, outgoing, sent_up, raised, VoteAt, AckAt, TakesUpAt, AnswersAt, ReplyAt, TakesDownAt, Took}
 use Rattle.world_model.specs.Worlds.{Peer, World, newest, send, sent_out, sent_to_one, core0_moves, HappensStart, HappensStartFor, HappensSubmit, HappensUp, gave, HappensDown}
 use Rattle.world_model.specs.Agreement.{is_commitment, commitments}
-use Rattle.world_model.proofs.Lists.{get-set_same, get-set_other, length-slice_set, get_map, get_replicate, get_within, get_end, all_true, some_false, same_or_not}
+use Rattle.world_model.proofs.Lists.{get-set_same, get-set_other, length-slice_set, get_map, get_replicate, get_end, all_true, some_false, same_or_not}
 use Rattle.world_model.proofs.Invariant.{more_commitments, same_commitments, pair_like, PeerIs, Pair, at_rest, asked, voted, counted, to_commit, to_abort, acked, finished, Alone, Within, Inv, allowed_more, within_more, fits_more, within_sent}
+use Rattle.std.proofs.lemmas.Option.{slice_get_within}
 
 -- Start
 
@@ -61,7 +62,7 @@ prepared_inv w requests op inv idle allowed some = record {
   allowed = inv.allowed;
   alone_ok = (op, 0, refl, allowed, simp (length-map, length-replicate), get_replicate (length w.peers) 0 None some);
   pairs = λ i p at. let r = get_map (send (message.Prepare (w.place.last + 1) op)) w.peers i p at in
-      rw r.2 (asked_by w.log w.place op (length w.peers) i r.0 (get_within w.peers i r.0 r.1) idle (inv.pairs i r.0 r.1));
+      rw r.2 (asked_by w.log w.place op (length w.peers) i r.0 (slice_get_within w.peers i r.0 r.1) idle (inv.pairs i r.0 r.1));
   within = λ i p at. let r = get_map (send (message.Prepare (w.place.last + 1) op)) w.peers i p at in
       rw r.2 (within_sent w.log (message.Prepare (w.place.last + 1) op) r.0 (inv.within i r.0 r.1));
 }
@@ -73,8 +74,8 @@ alone_inv w requests op inv allowed none = record {
   fits = fits_more w.log op w.budget allowed inv.fits;
   allowed = allowed_more w.log op w.budget allowed inv.allowed;
   alone_ok = refl;
-  pairs = λ i p at. absurd (omega (arith, get_within w.peers i p at));
-  within = λ i p at. absurd (omega (arith, get_within w.peers i p at));
+  pairs = λ i p at. absurd (omega (arith, slice_get_within w.peers i p at));
+  within = λ i p at. absurd (omega (arith, slice_get_within w.peers i p at));
 }
 
 -- one core is changed, and nothing else
@@ -336,7 +337,7 @@ commit_out log last votes op j q all (counted vs o v short ph st at c is) =
     let here : slice_get votes j ≡ Some (Some v) = rw (← e) at in
     let y : v ≡ vote.Yes = (let h = all j (Some v) here in cc) in
     let casts = subst (λ (x : Vote). Casts short (table log (length log)) q.budget op x) y (subst (λ (x : Op). Casts short (table log (length log)) q.budget x v) eo c) in
-    to_commit (replicate (length votes) false) op (length log) refl (get_replicate (length votes) j false (get_within votes j (Some v) here)) (length-append log (op ∷ []))
+    to_commit (replicate (length votes) false) op (length log) refl (get_replicate (length votes) j false (slice_get_within votes j (Some v) here)) (length-append log (op ∷ []))
     (rw (table_next log op) casts.1) (get_end log op)
     (record { version_is = is.version_is; last_is = is.last_is; voted_is = is.voted_is ∙ rw y refl; staged_is = is.staged_is ∙ rw (y, eo) refl; down_is = more_commitments q.down (message.Commit last) [] refl is.down_is; up_is = is.up_is })
 commit_out log last votes op j q all (at_rest ph is) = absurd cc
@@ -355,7 +356,7 @@ abort_out log last votes op j q all (voted vs o v short ph st at c is) = absurd 
 abort_out log last votes op j q all (counted vs o v short ph st at c is) =
     let e : vs ≡ votes = cc in
     let here : slice_get votes j ≡ Some (Some v) = rw (← e) at in
-    to_abort (replicate (length votes) false) v (staged_by v o) refl (get_replicate (length votes) j false (get_within votes j (Some v) here))
+    to_abort (replicate (length votes) false) v (staged_by v o) refl (get_replicate (length votes) j false (slice_get_within votes j (Some v) here))
     (record { version_is = is.version_is; last_is = is.last_is; voted_is = is.voted_is; staged_is = is.staged_is; down_is = more_commitments q.down (message.Abort last) [] refl is.down_is; up_is = is.up_is })
 abort_out log last votes op j q all (at_rest ph is) = absurd cc
 abort_out log last votes op j q all (to_commit acks o version ph at le fits entry is) = absurd cc
@@ -427,7 +428,7 @@ commit_inv w requests votes op peers i v inv on len at all polled = record {
   version = omega (arith, inv.version, length-append w.log (op ∷ []));
   fits = fits_more w.log op w.budget on.allowed inv.fits;
   allowed = allowed_more w.log op w.budget on.allowed inv.allowed;
-  alone_ok = (i, refl, simp (length-map, length-replicate) (on.long ∙ sym len), get_replicate (length votes) i false (get_within votes i v at));
+  alone_ok = (i, refl, simp (length-map, length-replicate) (on.long ∙ sym len), get_replicate (length votes) i false (slice_get_within votes i v at));
   pairs = λ j q here. let r = get_map (send (message.Commit w.place.last)) peers j q here in rw r.2 (commit_out w.log w.place.last votes op j r.0 all (polled.pairs j r.0 r.1));
   within = λ j q here. let r = get_map (send (message.Commit w.place.last)) peers j q here in rw r.2 (within_sent (w.log ++ op ∷ []) (message.Commit w.place.last) r.0 (within_more w.log op r.0 (polled.within j r.0 r.1)));
 }
@@ -440,7 +441,7 @@ abort_inv w requests votes op peers i v inv on len at all polled = record {
   version = inv.version;
   fits = inv.fits;
   allowed = inv.allowed;
-  alone_ok = (i, refl, simp (length-map, length-replicate) (on.long ∙ sym len), get_replicate (length votes) i false (get_within votes i v at));
+  alone_ok = (i, refl, simp (length-map, length-replicate) (on.long ∙ sym len), get_replicate (length votes) i false (slice_get_within votes i v at));
   pairs = λ j q here. let r = get_map (send (message.Abort w.place.last)) peers j q here in rw r.2 (abort_out w.log w.place.last votes op j r.0 all (polled.pairs j r.0 r.1));
   within = λ j q here. let r = get_map (send (message.Abort w.place.last)) peers j q here in rw r.2 (within_sent w.log (message.Abort w.place.last) r.0 (polled.within j r.0 r.1));
 }

@@ -21,9 +21,10 @@ use Rattle.world_model.specs.Worlds.{Peer, World, newest, boot, new_peer, idle_a
 use Rattle.world_model.specs.Agreement.{is_commitment, commitments}
 use Rattle.world_model.specs.Readings.{Request, unsent, sent, numbered, settled, begun, decided_on, followed}
 use Rattle.world_model.specs.Decisions.{StandsAt}
-use Rattle.world_model.proofs.Lists.{get-set_same, get-set_other, get_map, get_replicate, get_within, same_or_not}
+use Rattle.world_model.proofs.Lists.{get-set_same, get-set_other, get_map, get_replicate, same_or_not}
 use Rattle.world_model.proofs.Invariant.{Inv}
 use Rattle.world_model.proofs.Steps.{rests, acked_inv}
+use Rattle.std.proofs.lemmas.Option.{slice_get_within}
 
 -- Messages of requests
 
@@ -687,7 +688,7 @@ pub boot_stages : (budget : ℕ) (budgets : List ℕ) → Inv2 (boot budget budg
 boot_stages budget budgets = record { desk = (refl, refl); stages = λ i p at. at_boot i p at (get_map new_peer budgets i p at) }
   where
     at_boot : (i : ℕ) (p : Peer) → slice_get (map new_peer budgets) i ≡ Some p → ((b : ℕ) × (slice_get budgets i ≡ Some b) × (p ≡ new_peer b)) → Stage idle_at_first (no_requests (length budgets)) i p unsent
-    at_boot i p at r = rw r.2 (free (record { outstanding_is = refl; up_is = refl; waiting_is = get_replicate (length budgets) i None (get_within budgets i r.0 r.1) }) (λ e. cc) refl)
+    at_boot i p at r = rw r.2 (free (record { outstanding_is = refl; up_is = refl; waiting_is = get_replicate (length budgets) i None (slice_get_within budgets i r.0 r.1) }) (λ e. cc) refl)
 
 -- What no channel holds
 

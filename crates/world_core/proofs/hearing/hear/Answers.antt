@@ -1,6 +1,6 @@
 use Rattle.std.proofs.Common.{◌≡◌, ◌∙◌, ◌-◌, ℕ, length, refl, ap, subst, arith}
 use Rattle.world_model.specs.Cases.{outgoing, TakesUpAt}
-use Rattle.world_model.proofs.Lists.{get_within, length-slice_set}
+use Rattle.world_model.proofs.Lists.{length-slice_set}
 use Rattle.core_steps.specs.Core0Steps.{core0_place, sent}
 use Rattle.world_core.specs.Keeping.{seen_world}
 use Rattle.world_core.specs.Sending.{SentOut}
@@ -8,6 +8,7 @@ use Rattle.world_core.proofs.Begin.{readied_same, readied_kept, on_err}
 use Rattle.world_core.proofs.HomeKeeping.{oldest_up, expects_up}
 use Rattle.world_core.proofs.Moving.{ready_given, made_given, up_done}
 use Rattle.world_core.proofs.hearing.hear.Goals as goal
+use Rattle.std.proofs.lemmas.Option.{slice_get_within}
 
 pub returns-in_err-ready-clause-same : goal.returns-in_err-ready-clause-same
 returns-in_err-ready-clause-same g c = on_err c.from_residual.result _ (readied_same g.C.Channel.messages c.args.home.now c.args.peers.now c.make_ready.new.peers c.make_ready.ensures.peers)
@@ -23,7 +24,7 @@ take-told-requires-clause-expects g c =
 pub drop_at-requires : goal.drop_at-requires
 drop_at-requires g c =
     let o = oldest_up g.C.Channel.messages c.args.home.now c.args.peers.now _ c.args.core c.args.message refl c.requires.oldest in
-    omega (arith, o.is_core, c.from.ensures, get_within c.args.peers.now o.entry o.peer o.there, c.make_ready.ensures.peers.0)
+    omega (arith, o.is_core, c.from.ensures, slice_get_within c.args.peers.now o.entry o.peer o.there, c.make_ready.ensures.peers.0)
 
 pub send-requires : goal.send-requires
 send-requires g c = ready_given g.C.Channel.spare g.C.Channel.messages c.make_ready.new.peers c.drop_at.new.peers (c.from.result - 1) c.in_ok-ready.ready c.drop_at.ensures c.in_ok-ready.ensures.ready.room

@@ -2,9 +2,10 @@ use Rattle.std.proofs.Common.{rules, ◌≡◌, ◌∙◌, ◌-◌, ◌<◌, inl
 use Rattle.world_events.specs.declared.event.Event.TheVariants.{Take}
 use Rattle.world_model.specs.Worlds.{Peer, World, Happens}
 use Rattle.world_core.specs.Refusals.{WorldRefuses}
-use Rattle.world_model.proofs.Lists.{get_within, same_or_not}
+use Rattle.world_model.proofs.Lists.{same_or_not}
 use Rattle.world_core.proofs.Settled.{next_up, refused_up}
 use Rattle.world_core.proofs.world.WorldOver.take_to_core_0.Goals as goal
+use Rattle.std.proofs.lemmas.Option.{slice_get_within}
 
 pub returns-in-Ok-clause-taken : goal.returns-in-Ok-clause-taken
 returns-in-Ok-clause-taken g c =
@@ -34,6 +35,6 @@ returns-clause-taken g c =
       same,
       λ i p at. record {
         none_down = c.requires.none_down i p at;
-        none_up = c.loop-core.invariant.1 i p (omega (arith, c.loop-core-test.false, c.requires.cores, get_within c.args.self.now.peers i p at)) (rw same at);
+        none_up = c.loop-core.invariant.1 i p (omega (arith, c.loop-core-test.false, c.requires.cores, slice_get_within c.args.self.now.peers i p at)) (rw same at);
       },
     )
