@@ -8,7 +8,8 @@ use Rattle.script_input.specs.Inputs.{NoneFailed, ScriptEndsEarly}
 use Rattle.run_engine.specs.declared.engine.RunFailure.{RunFailure}
 use Rattle.run_engine.specs.declared.engine.RunFailure.TheVariants.{Engine}
 
--- a run of cores reads nothing and writes nothing: of an engine's faults it has NoMemory alone
+-- A run of cores reads nothing and writes nothing: of an engine's faults it has NoMemory alone. No public clause cites this,
+-- nor the next.
 abbrev pub IsOfCores : RunFailure → Type 0
 IsOfCores (Engine fault) = fault ≡ NoMemory
 IsOfCores failure = ⊤

@@ -76,7 +76,8 @@ pub record OneFails {F : Type 0} (files : List (Source F)) : Type 0 where
   pub there : slice_get files place ≡ Some file
   pub fails : CannotRead file
 
--- why the files aren't read through: one can't be read, or memory was refused while no read had failed
+-- Why the files aren't read through: one can't be read, or memory was refused while no read had failed. No public clause
+-- cites this.
 abbrev pub StopsFiles : {F : Type 0} → List (Source F) → EngineFault → Type 0
 StopsFiles files ReadFailed = OneFails files
 StopsFiles files WriteFailed = ⊥
