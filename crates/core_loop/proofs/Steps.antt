@@ -1,10 +1,10 @@
 -- A step of a core's parts is Event's case from each state that it stands in.
-use Rattle.std.proofs.Common.{◌≡◌, ◌∙◌, ◌+◌, ℕ, suc, max, true, false, Bool, Option, None, Some, List, length, refl, ap, sym, subst, arith}
+use Rattle.std.proofs.Common.{◌≡◌, ◌∙◌, ◌+◌, ℕ, suc, max, true, false, Bool, Option, None, Some, length, refl, ap, sym, subst, arith}
 use Rattle.filter_table.specs.declared.operation.Op.{Op}
 use Rattle.filter_table.specs.Tables.{State, table}
-use Rattle.filter_table.proofs.Tables.{table_next, table_version}
+use Rattle.filter_table.proofs.Tables.{table_version}
 use Rattle.monitor_2pc.specs.Places.{after_commit}
-use Rattle.monitor_2pc.specs.Coordinators.{CoordinatorPlace, Requests, Phase, Idle, Voting, Acking, StagedByPhase, coordinator_place}
+use Rattle.monitor_2pc.specs.Coordinators.{CoordinatorPlace, Requests, Idle, coordinator_place}
 use Rattle.monitor_2pc.specs.Participants.{ParticipantPlace}
 use Rattle.world_events.specs.declared.event.Event.TheVariants.{Start, Submit, StartFor, Take}
 use Rattle.world_events.specs.declared.event.Answer.{Answer}
@@ -16,13 +16,9 @@ use Rattle.core_steps.specs.declared.core0.Told.{Told}
 use Rattle.core_steps.specs.declared.other_core.OtherCore.{OtherCore}
 use Rattle.core_steps.specs.Core0Steps.{core0_place, BetweenSteps, HasWaiting, Moves, Starts, StartsForCore, TakesUp}
 use Rattle.core_steps.specs.OtherCoreSteps.{other_place, IsBetweenSteps, TakesDown}
+use Rattle.core_steps.proofs.Tables.{table_joined, idle_phase}
 use Rattle.core_loop.specs.Keeping.{IsHome, IsOther}
 use Rattle.core_loop.specs.Events.{Leads0, LeadsOther}
-
--- the newest table once this is committed, if anything is
-pub table_joined : (log : List Op) (committed : Option Op) → after_commit (table log (length log)) committed ≡ table (joined log committed) (length (joined log committed))
-table_joined log None = refl
-table_joined log (Some op) = sym (table_next log op)
 
 -- where core 0 stands once it has moved
 abbrev pub moved : ℕ → First → Core0 → Option Op → Core0
@@ -65,11 +61,6 @@ pub withdrawn : (core : First) (staged : Option Op) → core.replica.staged ≡ 
 withdrawn core staged none e = ap (λ (s : Option Op). staging core s) (e ∙ sym none)
 
 -- where core 0 is idle, nothing is staged
-idle_phase : (phase : Phase) (staged : Option Op) → phase ≡ Idle → StagedByPhase phase staged → staged ≡ None
-idle_phase Idle staged e h = h
-idle_phase (Voting votes) staged e h = absurd cc
-idle_phase (Acking acks) staged e h = absurd cc
-
 pub idle_staged : (core : First) → core.coordinator.phase ≡ Idle → BetweenSteps core → core.replica.staged ≡ None
 idle_staged core e b = idle_phase core.coordinator.phase core.replica.staged e b.staged
 

@@ -1,3 +1,4 @@
 pub mod Codable
 pub mod Sending
 pub mod Taking
+pub mod Tables

@@ -23,7 +23,7 @@ use Rattle.run_engine.specs.Showing.{ShowsRun, left_lines}
 use Rattle.run_engine.proofs.Works.{jobs_inside}
 use Rattle.trace_text.specs.Traces.{EndsInLf, IsNamed, trace_of, traced_script}
 use Rattle.trace_text.proofs.TraceLemmas.{read_back}
-use Rattle.trace_runs.specs.Memory.{WasNotRefused}
+use Rattle.world_events.specs.Memory.{WasNotRefused}
 use Rattle.trace_runs.specs.Repeats.{DiffersByMemory, RanScript}
 use Rattle.trace_runs.specs.Printed.{events_of, event_lines, with_trace}
 use Rattle.trace_runs.proofs.Naming.{run_names_cores, receptions, all_named}

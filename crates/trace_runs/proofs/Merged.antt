@@ -24,7 +24,7 @@ use Rattle.world_histories.specs.Histories.{Core0, Other}
 use Rattle.world_histories.specs.Merging.{IsRun}
 use Rattle.world_histories.proofs.Merge.{run_of}
 use Rattle.sim_lines.specs.Events.{done_line}
-use Rattle.trace_runs.specs.Memory.{WasNotRefused}
+use Rattle.world_events.specs.Memory.{WasNotRefused}
 use Rattle.trace_runs.specs.Repeats.{BeginInOrder, PerformsTrace, DiffersByMemory, Repeats, same, short_of_memory, RanScript, CanRepeatMerged, ShowsTrace}
 use Rattle.trace_runs.proofs.Again.{can_repeat}
 use Rattle.trace_runs.proofs.Whatever.{repeats}

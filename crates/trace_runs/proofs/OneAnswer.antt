@@ -24,8 +24,7 @@ use Rattle.world_events.specs.declared.event.Answer.{Answer}
 use Rattle.world_events.specs.declared.event.Answer.TheVariants.{Prepared, Decided, TookPrepare, TookVote, TookCommit, TookAbort, Delivered}
 use Rattle.world_model.specs.Cases.{raised, captured, start_told, TakesUpAt, TakesDownAt, Took, ReceivesAt}
 use Rattle.world_model.specs.Worlds.{Peer, World, newest, HappensStart, HappensStartFor, HappensUp, HappensDown, HappensRx, Happens}
-use Rattle.trace_text.specs.Traces.{lacked_memory}
-use Rattle.trace_runs.specs.Memory.{IsRefusedForMemory, LacksMemory}
+use Rattle.world_events.specs.Memory.{lacked_memory, IsRefusedForMemory, LacksMemory}
 use Rattle.trace_runs.proofs.Receivers.{receivers_once}
 
 -- Whether an operation is allowed

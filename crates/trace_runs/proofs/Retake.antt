@@ -13,7 +13,7 @@ use Rattle.world_events.specs.declared.event.Answer.{Answer}
 use Rattle.world_events.specs.declared.event.Answer.TheVariants.{TookPrepare}
 use Rattle.world_model.specs.Cases.{Took, TakesDownAt}
 use Rattle.world_model.specs.Worlds.{World, Happens}
-use Rattle.trace_text.specs.Traces.{lacked_memory}
+use Rattle.world_events.specs.Memory.{lacked_memory}
 use Rattle.trace_runs.specs.Traces.{retold}
 
 -- the vote that was cast can be cast where the core is short of memory exactly if it voted so

@@ -14,7 +14,7 @@ use Rattle.script_input.proofs.Reading.{not_long}
 use Rattle.mk_script.specs.Threads.{for_simulation}
 use Rattle.sim_engine.specs.Showing.{ShowsItems, ShowsScript, ShowsSim}
 use Rattle.trace_text.specs.Traces.{traced_script}
-use Rattle.trace_runs.specs.Memory.{WasNotRefused}
+use Rattle.world_events.specs.Memory.{WasNotRefused}
 use Rattle.trace_runs.specs.Repeats.{DiffersByMemory, RanScript}
 use Rattle.trace_runs.proofs.Merged.{shown, only}
 

@@ -26,8 +26,8 @@ use Rattle.sim_engine.specs.declared.way.Way.TheVariants as way
 use Rattle.sim_engine.specs.Ways.{home_of, event_of}
 use Rattle.core_loop.specs.Cores.{begins}
 use Rattle.sim_engine.specs.Simulations.{Simulation, Tells, Applies, Does, Begins, nothing, done, refused, Performs}
-use Rattle.trace_text.specs.Traces.{lacked_memory, item_of, trace_item, asks_of}
-use Rattle.trace_runs.specs.Memory.{IsRefusedForMemory, LacksMemory, WasNotRefused}
+use Rattle.trace_text.specs.Traces.{item_of, trace_item, asks_of}
+use Rattle.world_events.specs.Memory.{lacked_memory, IsRefusedForMemory, LacksMemory, WasNotRefused}
 use Rattle.trace_runs.specs.Traces.{retold, begun_at}
 use Rattle.trace_runs.specs.Repeats.{BeginInOrder, PerformsTrace, Repeats, same, short_of_memory}
 use Rattle.trace_runs.proofs.SameRuns.{happens_once}

@@ -1,4 +1,3 @@
-pub mod Memory
 pub mod Traces
 pub mod Repeats
 pub mod Printed

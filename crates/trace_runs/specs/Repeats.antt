@@ -14,7 +14,7 @@ use Rattle.core_threads.specs.Lanes.{items_for}
 use Rattle.mk_script.specs.declared.script.Item.{Item}
 use Rattle.sim_engine.specs.Simulations.{Simulation, just, Performs}
 use Rattle.sim_engine.specs.Showing.{ShowsItems}
-use Rattle.trace_runs.specs.Memory.{LacksMemory}
+use Rattle.world_events.specs.Memory.{LacksMemory}
 use Rattle.run_engine.specs.Work.{requests_of}
 use Rattle.trace_text.specs.Traces.{trace_item, asks_of}
 use Rattle.trace_runs.specs.Traces.{retold, begun_at}

@@ -8,7 +8,7 @@ use Rattle.world_events.specs.declared.event.Answer.{Answer}
 use Rattle.world_events.specs.declared.event.Done.{Done}
 use Rattle.world_histories.specs.Merging.{core_of}
 use Rattle.core_loop.specs.Cores.{begins}
-use Rattle.trace_text.specs.Traces.{lacked_memory}
+use Rattle.world_events.specs.Memory.{lacked_memory}
 
 -- the event as a trace tells it: a take is short of memory exactly where the core voted so
 abbrev pub retold : Event → Answer → Event

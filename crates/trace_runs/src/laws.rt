@@ -19,7 +19,7 @@ ghost use Rattle.sim_engine.specs.Showing.{ShowsSim};
 ghost use Rattle.sim_engine.specs.Simulations.{Simulation};
 ghost use Rattle.run_engine.specs.Showing.{ShowsRun};
 ghost use Rattle.trace_text.specs.Traces.{EndsInLf, traced_script};
-ghost use Rattle.trace_runs.specs.Memory.{LacksMemory, HadMemory, WasNotRefused};
+ghost use Rattle.world_events.specs.Memory.{LacksMemory, HadMemory, WasNotRefused};
 ghost use Rattle.trace_runs.specs.Printed.{event_lines, events_of, with_trace};
 ghost use Rattle.trace_runs.specs.Repeats.{BeginInOrder, PerformsTrace, CanRepeat, DiffersByMemory, Repeats, RanScript, CanRepeatMerged, ShowsTrace};
 

@@ -20,7 +20,7 @@ use Rattle.world_events.specs.declared.event.Answer.TheVariants.{Prepared, Decid
 use Rattle.mk_script.specs.Drafts.{is_short}
 use Rattle.sim_lines.specs.Decisions.{rule_words, veto_words, made_words, decision_words, vote_name}
 use Rattle.sim_lines.specs.Events.{answer_words, decided_words, kept_word, kept_words}
-use Rattle.trace_text.specs.Traces.{lacked_memory}
+use Rattle.world_events.specs.Memory.{lacked_memory}
 use Rattle.trace_text.proofs.TextLemmas.{is_lf, Lacks, lacks_append, decimal_lf, decimal_some, decimal_blank, words_then, words_one}
 use Rattle.trace_text.proofs.LineLemmas.{begins_with}
 

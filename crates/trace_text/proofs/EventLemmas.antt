@@ -22,7 +22,8 @@ use Rattle.mk_script.specs.Rows.{event_of}
 use Rattle.mk_script.specs.Statements.{plain}
 use Rattle.mk_script.specs.Words.{number_below}
 use Rattle.sim_lines.specs.Events.{event_words, answer_words, done_line, left_line}
-use Rattle.trace_text.specs.Traces.{item_of, trace_item, lacked_memory, IsNamedIn}
+use Rattle.trace_text.specs.Traces.{item_of, trace_item, IsNamedIn}
+use Rattle.world_events.specs.Memory.{lacked_memory}
 use Rattle.trace_text.proofs.AnswerLemmas.{answer_lf, answer_short}
 use Rattle.trace_text.proofs.LineLemmas.{before_colon, after_colon, IsAlone, stands_alone}
 use Rattle.trace_text.proofs.TextLemmas.{is_lf, is_colon, Lacks, lacks_append, decimal_lf, decimal_colon, decimal_blank, decimal_some, decimal_is_number, decimal_below, words_then, words_one}

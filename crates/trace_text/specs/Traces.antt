@@ -1,12 +1,11 @@
 -- What a run printed, after its script and a line `trace`, and the script that this stands for.
-use Rattle.std.specs.Prelude.{◌≡◌, ◌<◌, ◌^◌, ℕ, Bool, true, false, List, [], ◌∷◌, ◌++◌, codes, filter, map, Some}
+use Rattle.std.specs.Prelude.{◌≡◌, ◌<◌, ◌^◌, ℕ, List, [], ◌∷◌, ◌++◌, codes, filter, map, Some}
 use Rattle.std.specs.List.{flat_map}
-use Rattle.filter_table.specs.declared.decision.Vote.TheVariants as vote
 use Rattle.world_events.specs.declared.event.Event.{Event}
 use Rattle.world_events.specs.declared.event.Event.TheVariants.{Start, Submit, StartFor, Take, Rx}
 use Rattle.world_events.specs.declared.event.Answer.{Answer}
-use Rattle.world_events.specs.declared.event.Answer.TheVariants.{TookPrepare}
 use Rattle.world_events.specs.declared.event.Done.{Done}
+use Rattle.world_events.specs.Memory.{lacked_memory}
 use Rattle.mk_script.specs.declared.script.Item.{Item}
 use Rattle.mk_script.specs.declared.script.Item.TheVariants as item
 use Rattle.mk_script.specs.declared.script.Script.{Script}
@@ -18,11 +17,6 @@ use Rattle.sim_lines.specs.Events.{done_line, left_line}
 -- a run as text: `trace`, the line of each event, and the line of each packet that was left, by its core and its number
 abbrev pub trace_of : List Done → List (ℕ × ℕ) → List ℕ
 trace_of events left = codes "trace\n" ++ flat_map done_line events ++ flat_map (λ l. left_line l.0 l.1) left
-
--- the core voted against an operation because it had no memory for it
-abbrev pub lacked_memory : Answer → Bool
-lacked_memory (TookPrepare txn vote.NoMemory) = true
-lacked_memory answer = false
 
 -- what the line of an event asks for: the event once more, where a core that lacked memory lacks it again
 abbrev pub item_of : Event → Answer → Item

@@ -14,11 +14,11 @@ use Rattle.core_steps.specs.declared.other_core.OtherCore.{OtherCore}
 use Rattle.core_steps.specs.Core0Steps.{core0_place, Moves}
 use Rattle.world_core.specs.declared.home.Home.{Home}
 use Rattle.world_core.specs.declared.peer.Peer.{Peer}
-use Rattle.world_core.specs.Homes.{HomeIsKept, HomeIsIdle, HomeMoves, HomeStarts, HomeStartsFor}
+use Rattle.world_core.specs.Homes.{HomeIsKept, HomeMoves, HomeStarts, HomeStartsFor}
 use Rattle.world_core.specs.Keeping.{seen_peer, seen_world, CoreIsKept, WorldIsKept, EachMatches, Readied}
 use Rattle.world_core.specs.Sending.{SentOut}
 use Rattle.world_core.proofs.Carried.{readied_seen}
-use Rattle.world_core.proofs.HomeSteps.{idle_staged}
+use Rattle.core_steps.proofs.Tables.{idle_phase}
 use Rattle.world_core.proofs.Moving.{alike_sent, moved_seen, moved_kept}
 use Rattle.std.proofs.lemmas.Option.{slice_get_within}
 use Rattle.table_replica.proofs.Shared.{get_at}
@@ -56,7 +56,7 @@ abbrev pub home_staging : Home → Option Op → Home
 home_staging home staged = record home { core = staging home.core staged }
 
 pub none_staged : (home : Home) → HomeIsKept home → CanStart (core0_place home.core) → home.core.replica.staged ≡ None
-none_staged home k can = idle_staged home.core.coordinator.phase home.core.replica.staged can.0 k.between.staged
+none_staged home k can = idle_phase home.core.coordinator.phase home.core.replica.staged can.0 k.between.staged
 
 -- it is taken back
 pub withdrawn : (home : Home) (core : Core0) (staged : Option Op) → home.core.replica.staged ≡ None → core ≡ staging home.core staged → staging core None ≡ home.core

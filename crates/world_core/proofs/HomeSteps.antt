@@ -2,31 +2,20 @@
 use Rattle.std.proofs.Common.{◌≡◌, ◌∙◌, ℕ, Option, None, Some, List, length, slice_get, slice_set, refl, ap, sym}
 use Rattle.filter_table.specs.declared.operation.Op.{Op}
 use Rattle.filter_table.specs.Tables.{State, table}
-use Rattle.filter_table.proofs.Tables.{table_next}
 use Rattle.filter_table.specs.declared.decision.Vote.{Vote}
 use Rattle.monitor_messages.specs.declared.message.Message.{Message}
 use Rattle.monitor_messages.specs.declared.message.Message.TheVariants as message
 use Rattle.monitor_2pc.specs.declared.step.Step.{Step}
 use Rattle.monitor_2pc.specs.Places.{after_commit}
-use Rattle.monitor_2pc.specs.Coordinators.{CoordinatorPlace, Phase, Idle, Voting, Acking, Requests, StagedByPhase, refused, unstaged, alone, prepared, Tallies, waits, commits_all, aborts_all}
+use Rattle.monitor_2pc.specs.Coordinators.{CoordinatorPlace, Requests, refused, unstaged, alone, prepared, Tallies, waits, commits_all, aborts_all}
 use Rattle.monitor_2pc.specs.Coordinators as coordinators
 use Rattle.world_events.specs.declared.event.Answer.{Answer}
 use Rattle.world_model.specs.Cases.{joined, TakesUpAt}
 use Rattle.core_steps.specs.declared.core0.Told.{Told}
 use Rattle.core_steps.specs.Core0Steps.{Moves, Starts, StartsForCore, TakesUp, core0_place}
+use Rattle.core_steps.proofs.Tables.{table_joined}
 use Rattle.world_core.specs.declared.home.Home.{Home}
 use Rattle.world_core.specs.Homes.{HomeIsKept, HomeIsIdle, HomeStarts, HomeStartsFor, HomeTakes, begun_op, logged, begun_by, entered, still_begun}
-
--- the newest table once this is committed, if anything is
-pub table_joined : (log : List Op) (committed : Option Op) → after_commit (table log (length log)) committed ≡ table (joined log committed) (length (joined log committed))
-table_joined log None = refl
-table_joined log (Some op) = sym (table_next log op)
-
--- where core 0 is idle, nothing is staged
-pub idle_staged : (phase : Phase) (staged : Option Op) → phase ≡ Idle → StagedByPhase phase staged → staged ≡ None
-idle_staged Idle staged e h = h
-idle_staged (Voting votes) staged e h = absurd cc
-idle_staged (Acking acks) staged e h = absurd cc
 
 home_kept : (home home' : Home) (committed : Option Op) → home.core.replica.shown ≡ table home.log.items (length home.log.items) → Moves home.core committed home'.core → home'.log.items ≡ joined home.log.items committed → begun_op home'.begun ≡ home'.core.replica.staged → HomeIsKept home'
 home_kept home home' committed shown m log begun = record {

@@ -11,19 +11,17 @@ use Rattle.filter_table.specs.declared.decision.Vote.{Vote}
 use Rattle.filter_table.specs.declared.decision.Vote.TheVariants as vote
 use Rattle.monitor_2pc.specs.declared.step.Step.{Step}
 use Rattle.monitor_2pc.specs.Participants.{ParticipantPlace, Answers, commits}
-use Rattle.monitor_2pc.specs.Coordinators.{CoordinatorPlace, Requests, Starts, refused, unstaged, alone, prepared, Tallies, waits, commits_all, aborts_all}
 use Rattle.world_events.specs.declared.event.Event.{Event}
 use Rattle.world_events.specs.declared.event.Event.TheVariants.{Start, Submit, StartFor, Take, Rx}
 use Rattle.world_events.specs.declared.event.Answer.{Answer}
-use Rattle.world_events.specs.declared.event.Answer.TheVariants.{TookVote}
 use Rattle.world_events.specs.declared.event.Done.{Done}
-use Rattle.world_model.specs.Cases.{Outgoing, joined, start_told, TakesUpAt, TakesDownAt, Took}
+use Rattle.world_model.specs.Cases.{Outgoing, joined, start_told, TakesDownAt, Took}
 use Rattle.world_model.specs.Readings.{commits_at, version_of}
 use Rattle.world_model.proofs.Submissions.{eq_self}
 use Rattle.world_histories.specs.declared.history.Stamped.{Stamped}
 use Rattle.world_histories.specs.Histories.{Stamping, Sending, unstamped, taking, Core0, Does0, History0, Other, DoesOther, HistoryOther}
 use Rattle.world_histories.proofs.Lists.{prefix_self, prefix_then}
-use Rattle.world_model.proofs.Moves.{counts_start, counts_start_for, counts_vote}
+use Rattle.world_model.proofs.Moves.{counts_start, counts_start_for, up_counts}
 
 -- Two parts
 
@@ -60,14 +58,6 @@ grown_by core log event answer (Some op) e = record { is_front = (op ∷ [], ref
 same_log : (core : ℕ) (log : List Op) (event : Event) (answer : Answer) → commits_at core event answer ≡ false → Grown core log event answer log
 same_log core log event answer e = grown_by core log event answer None (sym e)
 
-counts_up : (i : ℕ) (short : Bool) (s : State) (place place' : CoordinatorPlace) (requests requests' : Requests) (m : Message) (committed : Option Op) (told : Step) (answer : Answer) → TakesUpAt s place requests i m place' requests' committed told answer
-    → is_some committed ≡ commits_at 0 (Take 0 (suc i) short) answer
-counts_up i short s place place' requests requests' (message.Vote txn v) committed told answer h =
-    counts_vote i short s txn txn v h.hears.op _ place' committed told h.hears.tallies ∙ ap (commits_at 0 (Take 0 (suc i) short)) (sym h.is_answer)
-counts_up i short s place place' requests requests' (message.Ack txn) committed told answer h = rw (h.none_committed, h.is_answer) refl
-counts_up i short s place place' requests requests' (message.Submit op) committed told answer h = rw (h.none_committed, h.is_answer) refl
-counts_up i short s place place' requests requests' m committed told answer h = absurd h
-
 grown0 : (others budget : ℕ) (c c' : Core0) (stamp : ℕ) (event : Event) (m : Option Stamping) (answer : Answer) (sent : Outgoing) → Does0 others budget c stamp event m c' answer sent → Grown 0 c.log event answer c'.log
 grown0 others budget c c' stamp (Start op) None answer sent h =
     rw h.next (grown_by 0 c.log (Start op) answer h.committed (counts_start op _ _ _ _ _ _ _ _ h.here.starts ∙ ap (commits_at 0 (Start op)) (sym h.here.is_answer)))
@@ -75,7 +65,7 @@ grown0 others budget c c' stamp (StartFor (suc i)) None answer sent h =
     rw h.next (grown_by 0 c.log (StartFor (suc i)) answer h.committed
     (counts_start_for (suc i) _ _ _ _ _ _ _ _ h.here.starts.starts ∙ (ap (λ (t : Step). commits_at 0 (StartFor (suc i)) (start_told t.txn t.decided)) (sym h.here.starts.tells) ∙ ap (commits_at 0 (StartFor (suc i))) (sym h.here.is_answer))))
 grown0 others budget c c' stamp (Take zero (suc i) short) (Some m) answer sent h =
-    rw h.next (grown_by 0 c.log (Take 0 (suc i) short) answer h.committed (counts_up i short _ c.place h.place c.requests h.requests m.message h.committed h.told answer h.here))
+    rw h.next (grown_by 0 c.log (Take 0 (suc i) short) answer h.committed (up_counts i short _ c.place h.place c.requests h.requests m.message h.committed h.told answer h.here).0)
 grown0 others budget c c' stamp (Rx zero number packet floor) None answer sent h = rw h.next (same_log 0 c.log (Rx 0 number packet floor) answer (rw h.here.is_answer refl))
 grown0 others budget c c' stamp event m answer sent h = absurd h
 

@@ -180,7 +180,7 @@ waiting_at_phase Idle r = refl
 waiting_at_phase (Voting votes) r = refl
 waiting_at_phase (Acking acks) r = refl
 
-up_counts : (i : ℕ) (short : Bool) (s : State) (place place' : CoordinatorPlace) (requests requests' : Requests) (m : Message) (committed : Option Op) (told : Step) (answer : Answer) → TakesUpAt s place requests i m place' requests' committed told answer
+pub up_counts : (i : ℕ) (short : Bool) (s : State) (place place' : CoordinatorPlace) (requests requests' : Requests) (m : Message) (committed : Option Op) (told : Step) (answer : Answer) → TakesUpAt s place requests i m place' requests' committed told answer
     → (is_some committed ≡ commits_at 0 (Take 0 (suc i) short) answer) × (length requests'.waiting ≡ length requests.waiting)
 up_counts i short s place place' requests requests' (message.Vote txn v) committed told answer h =
     (counts_vote i short s txn txn v h.hears.op _ place' committed told h.hears.tallies ∙ ap (commits_at 0 (Take 0 (suc i) short)) (sym h.is_answer), ap (λ (r : Requests). length r.waiting) h.requests_next)

@@ -1,15 +1,20 @@
 -- The one thing that the events of a run don't tell of their answers: whether a core had memory (Lamport 1978, "Time, clocks, and
 -- the ordering of events in a distributed system", section "Ordering the events totally": a state machine that does the same events
 -- in the same order does the same).
-use Rattle.std.specs.Prelude.{◌≡◌, true, false}
-use Rattle.filter_table.specs.declared.decision.Veto.TheVariants as veto
+use Rattle.std.specs.Prelude.{◌≡◌, Bool, true, false}
 use Rattle.filter_table.specs.declared.decision.Decision.TheVariants.{Refused}
+use Rattle.filter_table.specs.declared.decision.Veto.TheVariants as veto
+use Rattle.filter_table.specs.declared.decision.Vote.TheVariants as vote
 use Rattle.world_events.specs.declared.event.Event.{Event}
 use Rattle.world_events.specs.declared.event.Event.TheVariants.{Start, StartFor, Take}
 use Rattle.world_events.specs.declared.event.Answer.{Answer}
-use Rattle.world_events.specs.declared.event.Answer.TheVariants.{Decided}
+use Rattle.world_events.specs.declared.event.Answer.TheVariants.{Decided, TookPrepare}
 use Rattle.world_events.specs.declared.event.Done.{Done}
-use Rattle.trace_text.specs.Traces.{lacked_memory}
+
+-- the core voted against an operation because it had no memory for it
+abbrev pub lacked_memory : Answer → Bool
+lacked_memory (TookPrepare txn vote.NoMemory) = true
+lacked_memory answer = false
 
 -- core 0 had no memory for the request
 abbrev pub IsRefusedForMemory : Answer → Type 0
