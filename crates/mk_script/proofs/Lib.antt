@@ -2,7 +2,6 @@ pub mod DigitLemmas
 pub mod BlockLemmas
 pub mod PieceLemmas
 pub mod NumbersLemmas
-pub mod ReplayLemmas
 pub mod ChangeLemmas
 pub mod WordLemmas
 pub mod RowLemmas
@@ -15,3 +14,4 @@ pub mod ThreadLemmas
 pub mod SimulationLemmas
 pub mod EndLemmas
 pub mod OrderLemmas
+pub mod ReplayLemmas

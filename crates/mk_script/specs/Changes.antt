@@ -5,7 +5,7 @@ use Rattle.bpf_insn.specs.declared.insn.Insn.{Insn}
 use Rattle.pcap_reader.specs.declared.capture.Packet.{Packet}
 use Rattle.world_events.specs.declared.event.Event.{Event}
 use Rattle.mk_script.specs.declared.meaning.Meaning.{Meaning}
-use Rattle.mk_script.specs.declared.meaning.Meaning.TheVariants.{Budgets, NamedProgram, NamedPacket, NamedCapture, Home, Does, Receives, Trace, Nothing}
+use Rattle.mk_script.specs.declared.meaning.Meaning.TheVariants.{Budgets, NamedProgram, NamedPacket, NamedCapture, Home, Does, Receives, Replays, Trace, Nothing}
 use Rattle.mk_script.specs.declared.meaning.Draft.{Draft}
 use Rattle.mk_script.specs.declared.meaning.Draft.TheVariants.{Whole, Assembler, Decimal, Savefile}
 use Rattle.mk_script.specs.declared.reading.Reading.{Reading}
@@ -49,7 +49,8 @@ Follows r (NamedPacket name packet) = value_of r.packets name.now ≡ None
 Follows r (NamedCapture name packets) = value_of r.captures name.now ≡ None
 Follows r (Home domain core) = Unit {0}
 Follows r (Does item) = Unit {0}
-Follows r (Receives events) = r.jobs ≡ None
+Follows r (Receives event) = r.jobs ≡ None
+Follows r (Replays replay) = r.jobs ≡ None
 Follows r Trace = (r.jobs ≡ None) × (r.acted ≡ false)
 Follows r Nothing = Unit {0}
 

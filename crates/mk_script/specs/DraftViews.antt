@@ -1,10 +1,11 @@
 -- What contracts see of meanings and drafts. No public clause cites these.
-use Rattle.std.specs.Prelude.{◌≡◌, ◌⊎◌, ℕ, Option, Some, None, Result, Ok, Err}
+use Rattle.std.specs.Prelude.{◌≡◌, ◌⊎◌, ℕ, List, [], ◌∷◌, Option, Some, None, Result, Ok, Err}
 use Rattle.std.specs.declared.vec.Vec.{Vec}
 use Rattle.std.specs.declared.alloc.Global.{Global}
 use Rattle.world_events.specs.declared.event.Event.{Event}
 use Rattle.mk_script.specs.declared.meaning.Meaning.{Meaning}
-use Rattle.mk_script.specs.declared.meaning.Meaning.TheVariants.{Budgets, NamedProgram, NamedPacket, NamedCapture, Home, Does, Receives, Trace, Nothing}
+use Rattle.mk_script.specs.declared.meaning.Meaning.TheVariants.{Budgets, NamedProgram, NamedPacket, NamedCapture, Home, Does, Receives, Replays, Trace, Nothing}
+use Rattle.mk_script.specs.declared.meaning.Replay.{Replay}
 use Rattle.mk_script.specs.declared.meaning.Draft.{Draft}
 use Rattle.mk_script.specs.declared.meaning.Draft.TheVariants.{Whole, Assembler, Decimal, Savefile}
 use Rattle.mk_script.specs.declared.fault.ScriptFaultKind.{ScriptFaultKind}
@@ -16,6 +17,10 @@ use Rattle.mk_script.specs.Drafts as drafts
 use Rattle.mk_script.specs.Names.{value_of}
 use Rattle.mk_script.specs.Homes.{home_in}
 
+-- the receptions of a capture's packets
+abbrev pub events_of : Replay → List Event
+events_of replay = drafts.replayed replay.cores replay.received replay.floor 0 replay.packets
+
 abbrev pub meaning_of : Meaning → meanings.Meaning
 meaning_of (Budgets budgets) = meanings.Budgets budgets.items
 meaning_of (NamedProgram name program) = meanings.NamedProgram name.now program
@@ -23,7 +28,8 @@ meaning_of (NamedPacket name packet) = meanings.NamedPacket name.now packet
 meaning_of (NamedCapture name packets) = meanings.NamedCapture name.now packets
 meaning_of (Home domain core) = meanings.Home domain core
 meaning_of (Does item) = meanings.Does item
-meaning_of (Receives events) = meanings.Receives events.items
+meaning_of (Receives event) = meanings.Receives (event ∷ [])
+meaning_of (Replays replay) = meanings.Receives (events_of replay)
 meaning_of Trace = meanings.Trace
 meaning_of Nothing = meanings.Nothing
 

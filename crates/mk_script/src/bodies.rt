@@ -59,7 +59,10 @@ fn captured<'a>(
     ensures named { IfOk result (λ m. IsNamedCapture name.now m) }
 {
     match share_capture(alloc, file) {
-        Ok(packets) => Ok(Meaning::NamedCapture(name, packets)),
+        Ok(packets) => {
+            let packets = Shared::from_vec(alloc, packets.into_vec())?;
+            Ok(Meaning::NamedCapture(name, packets))
+        }
         Err(CaptureFault::NoMemory) => Err(ScriptFaultKind::NoMemory),
         Err(fault) => Err(ScriptFaultKind::BadBody(BodyFault::Capture(fault))),
     }

@@ -14,7 +14,7 @@ ghost use Rattle.mk_script.specs.declared.fault.ScriptFaultKind.TheVariants.{NoM
 
 use crate::commands::{check, domain_of, op_of};
 use crate::fault::{BodyFault, ScriptFaultKind};
-use crate::meaning::{Draft, Meaning};
+use crate::meaning::{Draft, Meaning, Replay};
 use crate::number::{number, number16, number16_below, number32, number64};
 use crate::reading::Reading;
 use crate::rows::{Command, Request, command_of};
@@ -266,7 +266,6 @@ fn core_at(
 /// A packet that is received.
 #[tactic(auto, unfolding(crate::specs::Drafts::rx_draft))]
 fn rx<'a>(
-    alloc: Global,
     settings: Settings<'a>,
     reading: &Reading<'a>,
     words: &[&'a [u8]],
@@ -278,49 +277,17 @@ fn rx<'a>(
     let core = core_at(settings, reading, word_at(words, 1))?;
     let floor = floor_at(words, 3)?;
     let packet = packet_at(reading, word_at(words, 2))?.clone()?;
-    let mut events = Vec::new(alloc);
-    events.push(Event::Rx {
+    Ok(Draft::Whole(Meaning::Receives(Event::Rx {
         core,
         number: reading.received + 1,
         packet,
         floor,
-    })?;
-    Ok(Draft::Whole(Meaning::Receives(events)))
+    })))
 }
 
 /// The packets of a capture, each received at the core of its place.
-fn replayed(
-    alloc: Global,
-    cores: usize,
-    received: u64,
-    floor: u64,
-    packets: &[SharedPacket],
-) -> Result<Vec<Event>, ScriptFaultKind>
-    requires some { 0 < cores }
-    requires few { cores ≤ 8 }
-    requires room { received < 2 ^ 63 }
-    ensures ok { IfOk result (λ v. v.items ≡ spec.replayed cores received floor 0 packets.now) }
-    ensures err { IfErr result (λ fault. fault ≡ NoMemory) }
-{
-    let mut events = Vec::new(alloc);
-    for (place, packet) in packets.iter().enumerate() {
-        let packet = packet.clone()?;
-        events.push(Event::Rx {
-            core: (place % cores) as u16,
-            number: received + place as u64 + 1,
-            packet,
-            floor,
-        })?;
-    }
-    Ok(events)
-}
-
 #[tactic(auto, unfolding(crate::specs::Drafts::replay_draft))]
-fn replay<'a>(
-    alloc: Global,
-    reading: &Reading<'a>,
-    words: &[&'a [u8]],
-) -> Result<Draft<'a>, ScriptFaultKind>
+fn replay<'a>(reading: &Reading<'a>, words: &[&'a [u8]]) -> Result<Draft<'a>, ScriptFaultKind>
     requires some { 0 < vec_len reading.now.budgets }
     requires untraced { reading.now.jobs ≡ None }
     ensures drafts { Answered draft_of result (spec.replay_draft (known_of reading.now) reading.now.received (texts words.now)) }
@@ -330,14 +297,12 @@ fn replay<'a>(
     let Some(packets) = reading.captures.get(word_at(words, 1)) else {
         return Err(ScriptFaultKind::NoName);
     };
-    let events = replayed(
-        alloc,
-        reading.budgets.len(),
-        reading.received,
+    Ok(Draft::Whole(Meaning::Replays(Replay {
+        packets: packets.clone()?,
+        cores: reading.budgets.len(),
+        received: reading.received,
         floor,
-        packets.as_slice(),
-    )?;
-    Ok(Draft::Whole(Meaning::Receives(events)))
+    })))
 }
 
 /// What stands on a line by its command.
@@ -373,8 +338,8 @@ fn draft_by<'a>(
         Command::Submit => Ok(act(Item::Submit(number16(word_at(words, 1))?))),
         Command::StartFor => Ok(act(Item::StartFor(number16(word_at(words, 1))?))),
         Command::Take => take(words, words.len() > 3),
-        Command::Rx => rx(alloc, settings, reading, words),
-        Command::Replay => replay(alloc, reading, words),
+        Command::Rx => rx(settings, reading, words),
+        Command::Replay => replay(reading, words),
         Command::Settle => Ok(act(Item::Settle)),
         Command::Show => Ok(act(Item::Show(number16(word_at(words, 1))?))),
         Command::Trace => Ok(Draft::Whole(Meaning::Trace)),

@@ -6,7 +6,8 @@ use crate::homes::Homes;
 use crate::names::Names;
 use crate::script::Item;
 use filter_table::Program;
-use pcap_reader::{SharedPacket, SharedPackets};
+use pcap_reader::SharedPacket;
+use seq::Shared;
 use world_events::Event;
 
 /// What the lines so far mean for those after them, and what they have done.
@@ -16,7 +17,7 @@ pub(crate) struct Reading<'a> {
     pub budgets: Vec<u32>,
     pub programs: Names<'a, Program>,
     pub packets: Names<'a, SharedPacket>,
-    pub captures: Names<'a, SharedPackets>,
+    pub captures: Names<'a, Shared<SharedPacket>>,
     pub homes: Homes,
     /// How many packets were received; 0 after `trace`.
     pub received: u64,

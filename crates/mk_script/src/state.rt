@@ -1,14 +1,14 @@
 //! How a line changes what is known.
 
-ghost use Rattle.std.specs.Prelude.{◌≡◌, ◌≤◌, ◌+◌, ◌++◌, ◌∷◌, List, [], None, map, IfOk, OnOk, vec_len};
+ghost use Rattle.std.specs.Prelude.{◌≡◌, ◌≤◌, ◌+◌, ◌++◌, ◌∷◌, List, [], None, length, map, IfOk, OnOk, vec_len};
 ghost use Rattle.std.specs.List.{flat_map};
 ghost use Rattle.mk_script.specs.Changes.{Follows, Knows, asks_in, events_in};
-ghost use Rattle.mk_script.specs.DraftViews.{meaning_of};
+ghost use Rattle.mk_script.specs.DraftViews.{events_of, meaning_of};
 ghost use Rattle.mk_script.specs.Meanings as meanings;
 ghost use Rattle.mk_script.specs.declared.script.Item.TheVariants.{Apply};
 
 use crate::homes::Homes;
-use crate::meaning::Meaning;
+use crate::meaning::{Meaning, Replay};
 use crate::names::Names;
 use crate::reading::Reading;
 use crate::script::Item;
@@ -39,14 +39,21 @@ fn is_request(item: &Item) -> bool
     matches!(item, Item::Ask(_, _))
 }
 
-/// Receives packets.
-fn receive(items: &mut Vec<Item>, events: Vec<Event>) -> Result<(), AllocError>
-    ensures items { OnOk result (items.new.items ≡ items.old.items ++ map (λ e. Apply e) events.items) }
-    ensures len { OnOk result (vec_len items.new ≡ vec_len items.old + vec_len events) }
+/// Adds the receptions of a capture's packets.
+fn receive_all(items: &mut Vec<Item>, replay: &Replay) -> Result<(), AllocError>
+    ensures items { OnOk result (items.new.items ≡ items.old.items ++ map (λ e. Apply e) (events_of replay.now)) }
+    ensures len { OnOk result (vec_len items.new ≡ vec_len items.old + length replay.now.packets) }
     ensures grows { vec_len items.old ≤ vec_len items.new }
 {
-    for event in events {
-        items.push(Item::Apply(event))?;
+    let packets = replay.packets.as_slice();
+    for (place, packet) in packets.iter().enumerate() {
+        let packet = packet.clone()?;
+        items.push(Item::Apply(Event::Rx {
+            core: (place % replay.cores) as u16,
+            number: replay.received + place as u64 + 1,
+            packet,
+            floor: replay.floor,
+        }))?;
     }
     Ok(())
 }
@@ -75,14 +82,23 @@ fn does<'a>(reading: &mut Reading<'a>, item: Item) -> Result<(), AllocError>
     Ok(())
 }
 
-/// Receives packets.
-fn receives<'a>(reading: &mut Reading<'a>, events: Vec<Event>) -> Result<(), AllocError>
+/// Receives a packet.
+fn receives<'a>(reading: &mut Reading<'a>, event: Event) -> Result<(), AllocError>
     requires { reading.old.jobs ≡ None }
-    ensures { OnOk result ((given : List meanings.Meaning) → Knows reading.old given → Knows reading.new (given ++ meanings.Receives events.items ∷ [])) }
+    ensures { OnOk result ((given : List meanings.Meaning) → Knows reading.old given → Knows reading.new (given ++ meanings.Receives (event ∷ []) ∷ [])) }
 {
-    let count = events.len() as u64;
-    receive(&mut reading.items, events)?;
-    reading.received += count;
+    reading.items.push(Item::Apply(event))?;
+    reading.received += 1;
+    Ok(())
+}
+
+/// Receives the packets of a capture.
+fn replays<'a>(reading: &mut Reading<'a>, replay: &Replay) -> Result<(), AllocError>
+    requires { reading.old.jobs ≡ None }
+    ensures { OnOk result ((given : List meanings.Meaning) → Knows reading.old given → Knows reading.new (given ++ meanings.Receives (events_of replay.now) ∷ [])) }
+{
+    receive_all(&mut reading.items, replay)?;
+    reading.received += replay.packets.as_slice().len() as u64;
     Ok(())
 }
 
@@ -130,7 +146,8 @@ pub(crate) fn add<'a>(
             Ok(())
         }
         Meaning::Does(item) => does(reading, item),
-        Meaning::Receives(events) => receives(reading, events),
+        Meaning::Receives(event) => receives(reading, event),
+        Meaning::Replays(replay) => replays(reading, &replay),
         Meaning::Trace => traces(alloc, reading),
         Meaning::Nothing => Ok(()),
     }

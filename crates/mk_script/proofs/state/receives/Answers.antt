@@ -1,4 +1,4 @@
-use Rattle.std.proofs.Common.{◌≡◌, ◌+◌, length, ap, arith}
+use Rattle.std.proofs.Common.{◌+◌, [], ◌∷◌, ap, refl}
 use Rattle.mk_script.specs.DraftViews.{jobs_of}
 use Rattle.mk_script.proofs.ChangeLemmas.{knows_receives}
 use Rattle.mk_script.proofs.state.receives.Goals as goal
@@ -7,5 +7,4 @@ pub returns : goal.returns
 returns c =
     let r = c.args.reading.now in
     let counted = ap (jobs_of r.received) c.requires in
-    let len : r.received + c.len-count.result ≡ r.received + length c.args.events.items = omega (arith, c.args.events.ok.0, c.len-count.ensures) in
-    λ given knows. rw c.requires (knows_receives _ _ _ _ _ _ _ _ given knows c.args.events.items r.received (r.received + c.len-count.result) c.receive.new.items.items counted len c.in_ok-receive.ensures.items)
+    λ given knows. rw c.requires (knows_receives _ _ _ _ _ _ _ _ given knows (c.args.event ∷ []) r.received (r.received + 1) c.push.new.self.items counted refl c.in_ok-push.ensures.items)
