@@ -1,5 +1,5 @@
 -- Two that are the same, or part where a core is out of memory.
-use Rattle.std.proofs.Common.{◌≡◌, ℕ, List, ◌++◌, Ok, refl, ap, sym, ◌∙◌, subst, append_assoc}
+use Rattle.std.proofs.Common.{◌≡◌, ℕ, List, ◌++◌, Ok, ap, sym, ◌∙◌, subst, append_assoc}
 use Rattle.sim_lines.specs.Events.{event_line}
 use Rattle.sim_engine.specs.Memory.{DepartsByMemory}
 

@@ -1,5 +1,5 @@
 -- What settling begins: it comes to an end, and is the same twice.
-use Rattle.std.proofs.Common.{◌≡◌, ◌<◌, ◌≤◌, ◌+◌, ◌*◌, ◌⊎◌, inl, inr, ℕ, zero, suc, Option, Some, None, List, [], ◌∷◌, ◌++◌, length, slice_get, refl, ap, sym, ◌∙◌, subst, arith}
+use Rattle.std.proofs.Common.{◌≡◌, ◌<◌, ◌+◌, ◌⊎◌, inl, inr, ℕ, zero, suc, Option, Some, None, List, [], ◌∷◌, ◌++◌, length, slice_get, refl, ap, sym, ◌∙◌, subst, arith}
 use Rattle.std.specs.Prelude.{Ok, Err, option_and_then}
 use Rattle.std.specs.List.{All}
 use Rattle.std.proofs.lemmas.Bool.{cases_lt}
@@ -12,15 +12,15 @@ use Rattle.world_events.specs.declared.fault.WorldFault.{WorldFault}
 use Rattle.world_events.specs.Memory.{LacksMemory, HadMemory}
 use Rattle.world_model.specs.Worlds.{World}
 use Rattle.world_model.proofs.RunLaws.{run_agrees}
-use Rattle.world_core.specs.Refusals.{Reached, StandsFirst, waiting_at}
+use Rattle.world_core.specs.Refusals.{Reached, waiting_at}
 use Rattle.sim_lines.specs.Events.{event_line}
 use Rattle.sim_engine.specs.declared.requests.Request.{Request}
 use Rattle.sim_engine.specs.Settling.{most_left}
-use Rattle.sim_engine.specs.Simulations.{Simulation, Tells, Next, waits, asked, NoneWaits, NothingLeft, Quiets, Drains, ends, stops, goes_on, SettlesAll}
+use Rattle.sim_engine.specs.Simulations.{Simulation, Tells, Next, waits, asked, NoneWaits, NothingLeft, Quiets, Drains, ends, stops, goes_on}
 use Rattle.sim_engine.specs.Ways.{event_of, way_of}
 use Rattle.sim_engine.proofs.Departing.{Compared, same, compared_as, compared_texts, compared_then}
 use Rattle.sim_engine.proofs.Settling.{begun_leaves}
-use Rattle.sim_engine.proofs.Twice.{HadTold, Told, is_done, is_refused, told_amply, QuietsAmply, quiets_amply, reached_more, reached_told, reached_settled, not_refused, told_twice, quieted_twice}
+use Rattle.sim_engine.proofs.Twice.{Told, is_done, is_refused, told_amply, quiets_amply, reached_more, reached_settled, not_refused, told_twice, quieted_twice}
 
 -- What is next
 
@@ -102,7 +102,7 @@ module _ (budget : ℕ) (budgets : List ℕ) where
           let quiet = quiets_amply budget budgets begun run' in
           let s' : Simulation = record { world = quiet.end; pending = rest } in
           let later = more s' (reached_settled budget budgets begun quiet.end quiet.quiets.taken run' quiet.quiets.settles)
-              (omega (arith, less, begun_leaves s begun quiet.end event rest answer quiet.text next tells quiet.quiets)) in
+          (omega (arith, less, begun_leaves s begun quiet.end event rest answer quiet.text next tells quiet.quiets)) in
           record {
             end = later.end;
             text = event_line event (Ok answer) ++ quiet.text ++ later.text;

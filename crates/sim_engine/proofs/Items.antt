@@ -1,13 +1,11 @@
 -- A script's items: they come to an end, and are the same twice.
 use Rattle.std.proofs.Common.{◌≡◌, ◌<◌, ◌⊎◌, inl, inr, ℕ, Option, Some, None, List, [], ◌∷◌, ◌++◌, length, refl, ap, sym, ◌∙◌, subst}
-use Rattle.std.specs.Prelude.{Result, Ok, Err}
+use Rattle.std.specs.Prelude.{Ok, Err}
 use Rattle.std.specs.List.{All}
 use Rattle.std.proofs.lemmas.List.{append_assoc}
 use Rattle.filter_table.specs.Tables.{table}
 use Rattle.world_events.specs.declared.event.Event.{Event}
 use Rattle.world_events.specs.declared.event.Event.TheVariants.{StartFor}
-use Rattle.world_events.specs.declared.event.Answer.{Answer}
-use Rattle.world_events.specs.declared.fault.WorldFault.{WorldFault}
 use Rattle.world_events.specs.Memory.{LacksMemory, HadMemory}
 use Rattle.world_model.specs.Worlds.{World, version_at}
 use Rattle.world_core.specs.Refusals.{Reached}
@@ -18,7 +16,7 @@ use Rattle.mk_script.specs.declared.script.Item.TheVariants as item
 use Rattle.sim_engine.specs.declared.requests.Request.{Request}
 use Rattle.sim_engine.specs.declared.way.Way.{Way}
 use Rattle.sim_engine.specs.declared.way.Way.TheVariants as way
-use Rattle.sim_engine.specs.Pending.{FirstAt, NoneAt}
+use Rattle.sim_engine.specs.Pending.{NoneAt}
 use Rattle.sim_engine.specs.Simulations.{Simulation, Tells, Applies, Begins, nothing, done, refused, nothing_line, Drains, ends, stops, goes_on, SettlesAll, Shows, no_core_line, Does, Performs}
 use Rattle.sim_engine.specs.Ways.{home_of, event_of}
 use Rattle.sim_engine.proofs.Departing.{Compared, same, compared_as, compared_texts, compared_then}

@@ -1,5 +1,5 @@
 -- What is shown of a script: some text, and that once but for cores that are out of memory.
-use Rattle.std.proofs.Common.{◌≡◌, ◌<◌, ◌≤◌, ◌^◌, ◌⊎◌, ℕ, zero, suc, Bool, true, false, List, [], ◌∷◌, ◌++◌, length, slice_get, Some, Result, Ok, Err, inl, inr, refl, sym, ◌∙◌, ap, subst, arith}
+use Rattle.std.proofs.Common.{◌≡◌, ◌<◌, ◌≤◌, ◌⊎◌, ℕ, suc, List, [], ◌∷◌, ◌++◌, length, Some, Result, Ok, Err, inl, inr, refl, sym, ◌∙◌, ap, subst, arith}
 use Rattle.std.proofs.lemmas.Bool.{cases_Bool, cases_lt}
 use Rattle.std.proofs.lemmas.List.{append_assoc}
 use Rattle.console.specs.declared.input.TheConstants.{INPUT_BYTES}
@@ -16,11 +16,11 @@ use Rattle.mk_script.proofs.LawLemmas.{one_outcome}
 use Rattle.mk_script.proofs.LimitLemmas.{limits_from, some_budgets, same_ok}
 use Rattle.mk_script.proofs.TotalLemmas.{some_outcome}
 use Rattle.script_input.specs.Faults.{script_fault_line}
-use Rattle.script_input.specs.Inputs.{AllShort, AllWithin, OneLonger, SomeLong}
+use Rattle.script_input.specs.Inputs.{AllShort, AllWithin, OneLonger}
 use Rattle.script_input.proofs.Reading.{not_long}
 use Rattle.world_model.specs.Worlds.{boot}
 use Rattle.sim_engine.specs.Memory.{DepartsByMemory, SameButForMemory}
-use Rattle.sim_engine.specs.Showing.{ShowsItems, ShowsOneButForMemory, ShowsScript, ShowsSim, ShowsSome}
+use Rattle.sim_engine.specs.Showing.{ShowsAmply, ShowsItems, ShowsOneButForMemory, ShowsScript, ShowsSim}
 use Rattle.sim_engine.specs.Simulations.{Simulation, Performs, just}
 use Rattle.sim_engine.proofs.Departing.{Compared, same, one_lacks, other_lacks}
 use Rattle.sim_engine.proofs.Items.{HadPerforms, performs_amply, performs_on, performed_twice}
@@ -133,10 +133,10 @@ module _ (files : List (List ℕ)) (input : List ℕ) (are_files : AreFiles file
   -- Some text
 
   -- where the status is 1
-  refused_some : (text : List ℕ) → ShowsSim files input 1 text → ShowsSome (ShowsSim files input)
+  refused_some : (text : List ℕ) → ShowsSim files input 1 text → ShowsAmply (ShowsSim files input)
   refused_some text shows = (1, text, shows, λ other more shows'. inl ((sim_once 1 other text more shows shows').1 refl))
 
-  script_some : (script : Script) → AllShort input files → Stands (for_simulation files) input (Ok script) → ShowsSome (ShowsSim files input)
+  script_some : (script : Script) → AllShort input files → Stands (for_simulation files) input (Ok script) → ShowsAmply (ShowsSim files input)
   script_some script short stands = (0, all.text, inl (short, inl (script, stands, refl, all.shows)), by)
     where
       all : ItemsAmply script.budgets script.items
@@ -157,14 +157,14 @@ module _ (files : List (List ℕ)) (input : List ℕ) (are_files : AreFiles file
       by (inr short) (inl within) = inl (short, within)
       by (inr short) (inr longer) = inr (suc longer.0, longer.1, longer.2, longer.3)
 
-  pub sim_some : ShowsSome (ShowsSim files input)
+  pub sim_some : ShowsAmply (ShowsSim files input)
   sim_some = by_length (cases_lt INPUT_BYTES (length input)) (within_or_longer files)
     where
-      by_outcome : AllShort input files → (outcome : Result Script ScriptFault) → Stands (for_simulation files) input outcome → ShowsSome (ShowsSim files input)
+      by_outcome : AllShort input files → (outcome : Result Script ScriptFault) → Stands (for_simulation files) input outcome → ShowsAmply (ShowsSim files input)
       by_outcome short (Ok script) stands = script_some script short stands
       by_outcome short (Err fault) stands = refused_some (script_fault_line fault) (inl (short, inr (fault, stands, refl, refl)))
 
-      by_length : (INPUT_BYTES < length input) ⊎ (length input ≤ INPUT_BYTES) → AllWithin files ⊎ OneLonger files → ShowsSome (ShowsSim files input)
+      by_length : (INPUT_BYTES < length input) ⊎ (length input ≤ INPUT_BYTES) → AllWithin files ⊎ OneLonger files → ShowsAmply (ShowsSim files input)
       by_length (inl long) rest = refused_some too_long_line (inr (inl long, (refl, refl)))
       by_length (inr short) (inr longer) = refused_some too_long_line (inr (inr longer, (refl, refl)))
       by_length (inr short) (inl within) = let outcome = some_outcome (for_simulation files) input in by_outcome (short, within) outcome.0 outcome.1

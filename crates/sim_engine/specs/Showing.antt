@@ -34,8 +34,8 @@ ShowsOneButForMemory Shows =
     (status other : ℕ) (text more : List ℕ) → Shows status text → Shows other more → (status ≡ other) × (status ≡ 1 → text ≡ more) × SameButForMemory text more
 
 -- a text is shown from which each text that is shown departs only where a core is out of memory
-abbrev pub ShowsSome : (ℕ → List ℕ → Type 0) → Type 0
-ShowsSome Shows =
+abbrev pub ShowsAmply : (ℕ → List ℕ → Type 0) → Type 0
+ShowsAmply Shows =
     (status : ℕ) × (text : List ℕ) × Shows status text × ((other : ℕ) (more : List ℕ) → Shows other more → (text ≡ more) ⊎ DepartsByMemory text more)
 
 -- the text is a front of a whole text that is shown of a script that stands
