@@ -1,5 +1,5 @@
 -- A fault that stands is the only one, the take that comes next too, and a core lacks memory or doesn't.
-use Rattle.std.proofs.Common.{◌≡◌, ◌≢◌, ◌<◌, ◌⊎◌, inl, inr, ℕ, zero, suc, Bool, true, false, Some, None, [], List, slice_get, refl, ap, sym, ◌∙◌, subst, arith}
+use Rattle.std.proofs.Common.{◌≡◌, ◌≢◌, ◌<◌, ◌⊎◌, inl, inr, ℕ, zero, suc, Bool, true, false, Some, [], List, slice_get, refl, ap, sym, ◌∙◌, subst, arith}
 use Rattle.std.specs.Prelude.{option_map}
 use Rattle.filter_table.specs.declared.operation.Op.{Op}
 use Rattle.filter_table.proofs.Lists.{three}
@@ -38,7 +38,8 @@ lacks_or_not event answer = inr (λ h. h)
 outstanding_joined : (w : World) (core : ℕ) (op : Op) → StandsFirst w (Submit core op) NoSuchCore → StandsFirst w (Submit core op) Outstanding → ⊥
 outstanding_joined w zero op a b = absurd (omega (arith, b.2))
 outstanding_joined w (suc i) op a b =
-    let at : slice_get w.peers i ≡ Some b.1 = subst (λ (n : ℕ). slice_get w.peers n ≡ Some b.1) {x = b.0} (omega (arith, b.2)) b.3 in
+    let e : b.0 ≡ i = omega (arith, b.2) in
+    let at : slice_get w.peers i ≡ Some b.1 = subst (λ (n : ℕ). slice_get w.peers n ≡ Some b.1) e b.3 in
     let x = ap (option_map (λ (p : Peer). p.up)) at in
     let y = a in
     cc

@@ -1,5 +1,5 @@
 -- Core 0 gives out no number past the last one.
-use Rattle.std.proofs.Common.{◌≡◌, ◌≤◌, ℕ, zero, suc, Option, List, [], refl, ap, ◌∙◌, arith}
+use Rattle.std.proofs.Common.{◌≡◌, ◌≤◌, ℕ, zero, suc, Option, List, ap, ◌∙◌, arith}
 use Rattle.filter_table.specs.declared.operation.Op.{Op}
 use Rattle.filter_table.specs.declared.decision.Vote.{Vote}
 use Rattle.filter_table.specs.Tables.{State}
@@ -12,7 +12,7 @@ use Rattle.world_events.specs.declared.event.Event.TheVariants.{Start, Submit, S
 use Rattle.world_events.specs.declared.event.Answer.{Answer}
 use Rattle.world_events.specs.declared.event.Done.{Done}
 use Rattle.world_model.specs.Cases.{TakesUpAt}
-use Rattle.world_model.specs.Worlds.{World, boot, Happens, Run}
+use Rattle.world_model.specs.Worlds.{World, Happens, Run}
 use Rattle.world_model.proofs.Runs.{run_keeps}
 
 start_within : (others : ℕ) (s : State) (budget : ℕ) (place place' : CoordinatorPlace) (op : Op) (committed : Option Op) (told : Step) → CanStart place → Starts others s budget place op place' committed told → place'.last ≤ 18446744073709551615
@@ -42,5 +42,5 @@ next_last w w' (Rx core number packet floor) answer le h = rw h.next le
 next_last w w' event answer le h = absurd h
 
 pub last_within : (budget : ℕ) (budgets : List ℕ) (events : List Done) (w : World) → Run budget budgets events w → w.place.last ≤ 18446744073709551615
-last_within budget budgets = run_keeps budget budgets (λ events w. w.place.last ≤ 18446744073709551615) (omega arith)
-    (λ events w w' done run le h. next_last w w' done.event done.answer le h)
+last_within budget budgets events w run = run_keeps budget budgets (λ before x. x.place.last ≤ 18446744073709551615) (omega arith)
+    (λ before x x' done run' le h. next_last x x' done.event done.answer le h) events w run
