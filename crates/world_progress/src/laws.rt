@@ -10,11 +10,12 @@ ghost use Rattle.world_model.specs.Worlds.{World, Happens, Runs, Run};
 ghost use Rattle.world_core.specs.Refusals.{StandsFirst, AllQuiet, Settles};
 ghost use Rattle.world_progress.specs.Progress.{DoneOrRefused, SettlesAmply};
 
-/// In every run each event can be done with no core out of memory, or a fault stands, and not both.
+/// In every run each event can be done with no core out of memory, or a fault stands, and not both. The fault is the only one.
 pub fn events_are_done_or_refused()
     ensures some { (budget : ℕ) (budgets : List ℕ) (events : List Done) (w : World) (event : Event) → Run budget budgets events w → DoneOrRefused w event }
     ensures one { (budget : ℕ) (budgets : List ℕ) (events : List Done) (w w' : World) (event : Event) (answer : Answer) (fault : WorldFault) →
         Run budget budgets events w → Happens w event w' answer → StandsFirst w event fault → ⊥ }
+    ensures fault { (w : World) (event : Event) (fault other : WorldFault) → StandsFirst w event fault → StandsFirst w event other → fault ≡ other }
 {}
 
 /// From one world the events of a run alone tell their answers and the world at its end, unless a core is out of memory: two runs
