@@ -3,7 +3,6 @@ pub mod Begin
 pub mod Settle
 pub mod Settling
 pub mod Printed
-pub mod Stub
 pub mod Departing
 pub mod Twice
 pub mod First

@@ -14,11 +14,16 @@ use Rattle.world_events.specs.Memory.{LacksMemory, HadMemory}
 use Rattle.world_model.specs.Worlds.{World, boot, Happens}
 use Rattle.world_model.proofs.Runs.{runs_more}
 use Rattle.world_core.specs.Refusals.{WorldRefuses, StandsFirst, Reached, AllQuiet, Settles}
+use Rattle.world_progress.specs.Progress.{DoneOrRefused}
+use Rattle.world_progress.proofs.Told.{event_told}
+use Rattle.world_progress.proofs.Ends.{run_settles}
+use Rattle.world_progress.proofs.Once.{lacks_or_not, stands_once, next_once, quiet_no_next}
+use Rattle.world_progress.proofs.SameRuns.{happens_once}
+use Rattle.world_progress.proofs.NotRefused.{none_stands}
 use Rattle.sim_lines.specs.Events.{event_line, done_line}
 use Rattle.sim_engine.specs.Memory.{DepartsByMemory}
 use Rattle.sim_engine.specs.Simulations.{Tells, Quiets}
 use Rattle.sim_engine.proofs.Departing.{Compared, same, one_lacks, other_lacks, compared_as, compared_texts, compared_then}
-use Rattle.sim_engine.proofs.Stub.{DoneOrRefused, event_told, run_settles, lacks_or_not, stands_once, next_once, quiet_no_next, happens_once, none_stands}
 
 -- a fault that is told stands
 stands : (w : World) (event : Event) (fault : WorldFault) → fault ≢ NoMemory → WorldRefuses w event fault → StandsFirst w event fault
