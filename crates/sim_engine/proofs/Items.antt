@@ -83,10 +83,6 @@ shown_once w core text more (inl x) (inr y) = absurd (let a = x.1 in let b = y.0
 shown_once w core text more (inr x) (inl y) = absurd (let a = x.0 in let b = y.1 in cc)
 shown_once w core text more (inr x) (inr y) = x.1 ∙ sym y.1
 
--- what settles, by its parts
-abbrev settles_of : (s s' : Simulation) (text : List ℕ) → SettlesAll s s' text → SettlesAll s s' text
-settles_of s s' text x = x
-
 module _ (budget : ℕ) (budgets : List ℕ) where
   applies_amply : (s : Simulation) (event : Event) → Reached budget budgets s.world → (end : Simulation) × (text : List ℕ) × (does : Applies s event end text) × HadTold event does.0
   applies_amply s event run = by (told_amply budget budgets s.world event run)
@@ -146,13 +142,16 @@ module _ (budget : ℕ) (budgets : List ℕ) where
   reached_begun s s' by text run (done first f answer tells printed) = reached_told budget budgets s.world s'.world (event_of by first.op) (Ok answer) run tells
   reached_begun s s' by text run (refused first rest f fault tells is printed) = subst (λ (x : Simulation). Reached budget budgets x.world) (sym is) run
 
+  reached_settles : (s s' : Simulation) (text : List ℕ) → Reached budget budgets s.world → SettlesAll s s' text → Reached budget budgets s'.world
+  reached_settles s s' text run settles = reached_drained settles.rest (reached_settled budget budgets s.world settles.quiet settles.first.taken run settles.first.settles)
+
   reached_does : (s s' : Simulation) (i : Item) (text : List ℕ) → Reached budget budgets s.world → Does s i s' text → Reached budget budgets s'.world
   reached_does s s' (item.Ask home op) text run does = subst (λ (x : Simulation). Reached budget budgets x.world) (sym does.0) run
   reached_does s s' item.Begin text run does = reached_begun s s' way.Start text run does
   reached_does s s' (item.Submit core) text run does = reached_begun s s' (way.Submit core) text run does
   reached_does s s' (item.StartFor core) text run does = reached_told budget budgets s.world s'.world (StartFor core) does.0 run does.1
   reached_does s s' (item.Apply event) text run does = reached_told budget budgets s.world s'.world event does.0 run does.1
-  reached_does s s' item.Settle text run does = let x = settles_of s s' text does in reached_drained x.rest (reached_settled budget budgets s.world x.quiet x.first.taken run x.first.settles)
+  reached_does s s' item.Settle text run does = reached_settles s s' text run does
   reached_does s s' (item.Show core) text run does = subst (λ (x : Simulation). Reached budget budgets x.world) (sym does.0) run
 
   pub performs_amply : (s : Simulation) (items : List Item) → Reached budget budgets s.world → PerformsAmply s items
