@@ -19,7 +19,7 @@ use Rattle.script_input.specs.Faults.{script_fault_line}
 use Rattle.script_input.specs.Inputs.{AllShort, AllWithin, OneLonger}
 use Rattle.script_input.proofs.Reading.{not_long}
 use Rattle.world_model.specs.Worlds.{boot}
-use Rattle.sim_engine.specs.Memory.{DepartsByMemory, SameButForMemory}
+use Rattle.sim_engine.specs.Memory.{DepartsAlone, SameButForMemory}
 use Rattle.sim_engine.specs.Showing.{ShowsAmply, ShowsItems, ShowsOneButForMemory, ShowsScript, ShowsSim}
 use Rattle.sim_engine.specs.Simulations.{Simulation, Performs, just}
 use Rattle.sim_engine.proofs.Departing.{Compared, same, one_lacks, other_lacks}
@@ -30,9 +30,9 @@ use Rattle.sim_engine.proofs.Items.{HadPerforms, performs_amply, performs_on, pe
 same_but : (S Had : Type 0) (one other : S) (text more : List ℕ) → Compared S Had one other text more → SameButForMemory text more
 same_but S Had one other text more (same is printed) = inl printed
 same_but S Had one other text more (one_lacks lacks departs) = inr (inr departs)
-same_but S Had one other text more (other_lacks departs) = inr (inl departs)
+same_but S Had one other text more (other_lacks alone) = inr (inl alone.departs)
 
-as_ample : (S Had : Type 0) (one other : S) (text more : List ℕ) → Had → Compared S Had one other text more → (text ≡ more) ⊎ DepartsByMemory text more
+as_ample : (S Had : Type 0) (one other : S) (text more : List ℕ) → Had → Compared S Had one other text more → (text ≡ more) ⊎ DepartsAlone text more
 as_ample S Had one other text more had (same is printed) = inl printed
 as_ample S Had one other text more had (one_lacks lacks departs) = absurd (lacks had)
 as_ample S Had one other text more had (other_lacks departs) = inr departs
@@ -47,7 +47,7 @@ shows_on budget others items text x =
 record ItemsAmply (budgets : List ℕ) (items : List Item) : Type 0 where
   pub text : List ℕ
   pub shows : ShowsItems budgets items text
-  pub others : length budgets ≤ 8 → (more : List ℕ) → ShowsItems budgets items more → (text ≡ more) ⊎ DepartsByMemory text more
+  pub others : length budgets ≤ 8 → (more : List ℕ) → ShowsItems budgets items more → (text ≡ more) ⊎ DepartsAlone text more
 
 items_amply : (budgets : List ℕ) (items : List Item) → 1 ≤ length budgets → ItemsAmply budgets items
 items_amply [] items some = absurd (omega arith)
@@ -142,7 +142,7 @@ module _ (files : List (List ℕ)) (input : List ℕ) (are_files : AreFiles file
       all : ItemsAmply script.budgets script.items
       all = items_amply script.budgets script.items (has_budgets (for_simulation files) input script stands)
 
-      by : (other : ℕ) (more : List ℕ) → ShowsSim files input other more → (all.text ≡ more) ⊎ DepartsByMemory all.text more
+      by : (other : ℕ) (more : List ℕ) → ShowsSim files input other more → (all.text ≡ more) ⊎ DepartsAlone all.text more
       by other more (inl (short', inl x)) =
           all.others (few_cores script short.0 stands) more (subst (λ (s : Script). ShowsItems s.budgets s.items more) (same_script x.0 script x.1 stands) x.3)
       by other more (inl (short', inr x)) = absurd (not_both script x.0 stands x.1)

@@ -60,7 +60,7 @@ HadTold event (Ok answer) = LacksMemory event answer → ⊥
 HadTold event (Err fault) = Unit {0}
 
 -- a line alone
-departs_here : (event : Event) (answer lacking : Answer) → LacksMemory event lacking → DepartsByMemory (event_line event (Ok answer)) (event_line event (Ok lacking))
+abbrev departs_here : (event : Event) (answer lacking : Answer) → LacksMemory event lacking → DepartsByMemory (event_line event (Ok answer)) (event_line event (Ok lacking))
 departs_here event answer lacking lacks = record {
   front = [];
   event = event;
@@ -121,7 +121,7 @@ module _ (budget : ℕ) (budgets : List ℕ) where
       by : LacksMemory event a1 ⊎ (LacksMemory event a1 → ⊥) → LacksMemory event a2 ⊎ (LacksMemory event a2 → ⊥)
           → Compared World (LacksMemory event a1 → ⊥) w1 w2 (event_line event (Ok a1)) (event_line event (Ok a2))
       by (inl lacks) other = one_lacks (λ had. had lacks) (departs_here event a2 a1 lacks)
-      by (inr had) (inl lacks) = other_lacks (departs_here event a1 a2 lacks)
+      by (inr had) (inl lacks) = other_lacks (record { departs = departs_here event a1 a2 lacks; had_memory = had })
       by (inr had) (inr had') = let once = happens_once w w1 w2 event a1 a2 x y had had' in same once.1 (ap (λ (a : Answer). event_line event (Ok a)) once.0)
   told_twice w w1 w2 event (Ok a1) (Err f2) run x y = absurd (not_refused w w1 w2 event a1 f2 run x y)
   told_twice w w1 w2 event (Err f1) (Ok a2) run x y = absurd (not_refused w w2 w1 event a2 f1 run y x)

@@ -19,6 +19,11 @@ pub record DepartsByMemory (text other : List ℕ) : Type 0 where
   pub text_is : text ≡ front ++ (event_line event (Ok answer) ++ more)
   pub other_is : other ≡ front ++ (event_line event (Ok lacking) ++ later)
 
+-- so it is, and the text itself does not say so there
+pub record DepartsAlone (text other : List ℕ) : Type 0 where
+  pub departs : DepartsByMemory text other
+  pub had_memory : LacksMemory departs.event departs.answer → ⊥
+
 -- the texts are the same, or one departs so from the other
 abbrev pub SameButForMemory : List ℕ → List ℕ → Type 0
 SameButForMemory text other = (text ≡ other) ⊎ (DepartsByMemory text other ⊎ DepartsByMemory other text)

@@ -9,7 +9,7 @@ use Rattle.mk_script.specs.Threads.{for_simulation}
 use Rattle.console.specs.Reading.{ShowsTooLong}
 use Rattle.script_input.specs.Faults.{script_fault_line}
 use Rattle.script_input.specs.Inputs.{AllShort, SomeLong}
-use Rattle.sim_engine.specs.Memory.{DepartsByMemory, SameButForMemory}
+use Rattle.sim_engine.specs.Memory.{DepartsAlone, SameButForMemory}
 use Rattle.sim_engine.specs.Simulations.{Simulation, Performs, just}
 
 -- what the script's items print, on cores with its budgets
@@ -33,10 +33,10 @@ abbrev pub ShowsOneButForMemory : (ℕ → List ℕ → Type 0) → Type 0
 ShowsOneButForMemory Shows =
     (status other : ℕ) (text more : List ℕ) → Shows status text → Shows other more → (status ≡ other) × (status ≡ 1 → text ≡ more) × SameButForMemory text more
 
--- a text is shown from which each text that is shown departs only where a core is out of memory
+-- a text is shown from which each text that is shown departs only where that alone says that a core was out of memory
 abbrev pub ShowsAmply : (ℕ → List ℕ → Type 0) → Type 0
 ShowsAmply Shows =
-    (status : ℕ) × (text : List ℕ) × Shows status text × ((other : ℕ) (more : List ℕ) → Shows other more → (text ≡ more) ⊎ DepartsByMemory text more)
+    (status : ℕ) × (text : List ℕ) × Shows status text × ((other : ℕ) (more : List ℕ) → Shows other more → (text ≡ more) ⊎ DepartsAlone text more)
 
 -- the text is a front of a whole text that is shown of a script that stands
 abbrev pub ShowsPart : List (List ℕ) → List ℕ → List ℕ → Type 0
