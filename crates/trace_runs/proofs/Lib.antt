@@ -1,10 +1,6 @@
-pub mod Receivers
-pub mod OneAnswer
-pub mod SameRuns
 pub mod Pending
 pub mod Retake
 pub mod Again
-pub mod NotRefused
 pub mod Whatever
 pub mod Merged
 pub mod Shown

@@ -1,22 +1,22 @@
 -- Whatever a trace shows is the run, or differs first where a core is out of memory.
-use Rattle.std.proofs.Common.{◌≡◌, ◌≢◌, ◌⊎◌, inl, inr, ℕ, Bool, true, false, List, [], ◌∷◌, ◌++◌, map, refl, ap, sym, ◌∙◌, subst, append_assoc}
+use Rattle.std.proofs.Common.{◌≡◌, ◌≢◌, ◌⊎◌, inl, inr, ℕ, List, [], ◌∷◌, ◌++◌, map, refl, ap, sym, ◌∙◌, subst, append_assoc}
 use Rattle.std.specs.Prelude.{Result, Ok, Err}
 use Rattle.std.specs.List.{All, flat_map}
 use Rattle.std.proofs.lemmas.List.{append-nil}
 use Rattle.std.proofs.lemmas.List.Elements.{All-head, All-tail}
 use Rattle.filter_table.specs.declared.operation.Op.{Op}
-use Rattle.filter_table.specs.declared.decision.Veto.TheVariants as veto
-use Rattle.filter_table.specs.declared.decision.Decision.TheVariants.{Refused}
 use Rattle.world_events.specs.declared.event.Event.{Event}
 use Rattle.world_events.specs.declared.event.Event.TheVariants.{Start, Submit, StartFor, Take, Rx}
 use Rattle.world_events.specs.declared.event.Answer.{Answer}
-use Rattle.world_events.specs.declared.event.Answer.TheVariants.{Decided}
 use Rattle.world_events.specs.declared.event.Done.{Done}
 use Rattle.world_model.specs.Worlds.{World, boot, Happens, Runs, Run}
 use Rattle.world_model.proofs.Runs.{runs_more}
 use Rattle.world_events.specs.declared.fault.WorldFault.{WorldFault}
 use Rattle.world_events.specs.declared.fault.WorldFault.TheVariants.{NoSuchCore, Nothing, NotReady, NotIdle, Spent, Outstanding, NoneWaiting, NoMemory}
 use Rattle.world_core.specs.Refusals.{WorldRefuses, StandsFirst}
+use Rattle.world_progress.proofs.Once.{lacks_or_not}
+use Rattle.world_progress.proofs.NotRefused.{none_stands}
+use Rattle.world_progress.proofs.SameRuns.{happens_once}
 use Rattle.sim_lines.specs.Events.{event_line, done_line}
 use Rattle.mk_script.specs.declared.script.Item.{Item}
 use Rattle.mk_script.specs.declared.script.Item.TheVariants as item
@@ -27,31 +27,14 @@ use Rattle.sim_engine.specs.Ways.{home_of, event_of}
 use Rattle.core_loop.specs.Cores.{begins}
 use Rattle.sim_engine.specs.Simulations.{Simulation, Tells, Applies, Does, Begins, nothing, done, refused, Performs}
 use Rattle.trace_text.specs.Traces.{item_of, trace_item, asks_of}
-use Rattle.world_events.specs.Memory.{lacked_memory, IsRefusedForMemory, LacksMemory, WasNotRefused}
+use Rattle.world_events.specs.Memory.{IsRefusedForMemory, LacksMemory, WasNotRefused}
 use Rattle.trace_runs.specs.Traces.{retold, begun_at}
 use Rattle.trace_runs.specs.Repeats.{BeginInOrder, PerformsTrace, Repeats, same, short_of_memory}
-use Rattle.trace_runs.proofs.SameRuns.{happens_once}
 use Rattle.trace_runs.proofs.Pending.{BeginsFirst, not_none, begun_first, as_request}
 use Rattle.trace_runs.proofs.Retake.{happens_retold}
 use Rattle.trace_runs.proofs.Again.{at, Begin, BeginWith, begin_still, asked, begin_asked}
-use Rattle.trace_runs.proofs.NotRefused.{none_stands}
 
--- Whether a core was out of memory
-
-refused_or_not : (answer : Answer) → IsRefusedForMemory answer ⊎ (IsRefusedForMemory answer → ⊥)
-refused_or_not (Decided (Refused core veto.NoMemory)) = inl tt
-refused_or_not answer = inr (λ h. h)
-
-short_or_not : (short votes : Bool) → ((short ≡ false) × (votes ≡ true)) ⊎ ((short ≡ false) × (votes ≡ true) → ⊥)
-short_or_not true votes = inr (λ h. let x = h.0 in cc)
-short_or_not false true = inl (refl, refl)
-short_or_not false false = inr (λ h. let x = h.1 in cc)
-
-lacks_or_not : (event : Event) (answer : Answer) → LacksMemory event answer ⊎ (LacksMemory event answer → ⊥)
-lacks_or_not (Start op) answer = refused_or_not answer
-lacks_or_not (StartFor core) answer = refused_or_not answer
-lacks_or_not (Take to from short) answer = short_or_not short (lacked_memory answer)
-lacks_or_not event answer = inr (λ h. h)
+-- What one event tells
 
 -- a trace tells of each vote NoMemory
 had_again : (event : Event) (answer : Answer) → (IsRefusedForMemory answer → ⊥) → LacksMemory (retold event answer) answer → ⊥
@@ -60,8 +43,6 @@ had_again (StartFor core) answer had out = had out
 had_again (Take to from short) answer had out = let x = out.0 in let y = out.1 in cc
 had_again (Submit core op) answer had out = out
 had_again (Rx core number packet floor) answer had out = out
-
--- What one event tells
 
 stands : (w : World) (event : Event) (fault : WorldFault) → fault ≢ NoMemory → WorldRefuses w event fault → StandsFirst w event fault
 stands w event NoMemory other h = absurd (other refl)

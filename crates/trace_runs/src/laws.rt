@@ -1,11 +1,9 @@
 //! Laws, each the contract of a function that does nothing.
 
-ghost use Rattle.std.specs.Prelude.{◌≡◌, ◌∷◌, ◌⊎◌, ℕ, All, List, Ok, map};
+ghost use Rattle.std.specs.Prelude.{◌≡◌, ◌∷◌, ◌⊎◌, ℕ, All, List, Ok};
 ghost use Rattle.std.specs.List.{flat_map};
-ghost use Rattle.world_events.specs.declared.event.Answer.{Answer};
 ghost use Rattle.world_events.specs.declared.event.Done.{Done};
-ghost use Rattle.world_events.specs.declared.event.Event.{Event};
-ghost use Rattle.world_model.specs.Worlds.{World, Happens, Runs, Run};
+ghost use Rattle.world_model.specs.Worlds.{World, Run};
 ghost use Rattle.world_histories.specs.declared.history.Stamped.{Stamped};
 ghost use Rattle.world_histories.specs.Histories.{Core0, Other};
 ghost use Rattle.world_histories.specs.Merging.{as_listed};
@@ -19,19 +17,9 @@ ghost use Rattle.sim_engine.specs.Showing.{ShowsSim};
 ghost use Rattle.sim_engine.specs.Simulations.{Simulation};
 ghost use Rattle.run_engine.specs.Showing.{ShowsRun};
 ghost use Rattle.trace_text.specs.Traces.{EndsInLf, traced_script};
-ghost use Rattle.world_events.specs.Memory.{LacksMemory, HadMemory, WasNotRefused};
+ghost use Rattle.world_events.specs.Memory.{WasNotRefused};
 ghost use Rattle.trace_runs.specs.Printed.{event_lines, events_of, with_trace};
 ghost use Rattle.trace_runs.specs.Repeats.{BeginInOrder, PerformsTrace, CanRepeat, DiffersByMemory, Repeats, RanScript, CanRepeatMerged, ShowsTrace};
-
-/// From one world the events of a run alone tell their answers and the world at its end, unless a core is out of memory: two runs
-/// of the same events are the same where core 0 refused no request for lack of memory in either, and each core that voted so was
-/// short of memory by its event.
-pub fn answers_follow_from_events()
-    ensures event { (w w1 w2 : World) (event : Event) (a1 a2 : Answer) → Happens w event w1 a1 → Happens w event w2 a2 →
-        (LacksMemory event a1 → ⊥) → (LacksMemory event a2 → ⊥) → (a1 ≡ a2) × (w1 ≡ w2) }
-    ensures runs { (w w1 w2 : World) (done1 done2 : List Done) → Runs w done1 w1 → Runs w done2 w2 →
-        map (λ done. done.event) done1 ≡ map (λ done. done.event) done2 → All HadMemory done1 → All HadMemory done2 → (done1 ≡ done2) × (w1 ≡ w2) }
-{}
 
 /// After a script's requests `sim` can do the events of any run whose cores begin those requests in order, prints the lines of the
 /// events with their answers, and ends in the run's world. Where core 0 refused no request for lack of memory in that run, `sim`

@@ -1,7 +1,6 @@
-//! A run's events, done again: the answers are the same unless a core is out of memory, and `sim` does a merged run of cores
-//! again after the requests of its script, and shows the same lines (Lamport, "Time, clocks, and the ordering of events in a
-//! distributed system", CACM 1978). What `run` printed is such a run: after its script and a line `trace`, `sim` shows its events
-//! once more.
+//! A run's events, done again: `sim` does a merged run of cores again after the requests of its script, and shows the same lines
+//! unless a core is out of memory (Lamport, "Time, clocks, and the ordering of events in a distributed system", CACM 1978). What
+//! `run` printed is such a run: after its script and a line `trace`, `sim` shows its events once more.
 //!
 //! Here are laws alone, each the contract of a function that does nothing.
 #![tactic(auto)]
@@ -9,6 +8,6 @@
 mod laws;
 
 pub use laws::{
-    answers_follow_from_events, merged_runs_are_done_again, printed_runs_are_done_again,
-    runs_are_done_again, sim_shows_the_trace,
+    merged_runs_are_done_again, printed_runs_are_done_again, runs_are_done_again,
+    sim_shows_the_trace,
 };

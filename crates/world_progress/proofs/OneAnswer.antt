@@ -25,7 +25,7 @@ use Rattle.world_events.specs.declared.event.Answer.TheVariants.{Prepared, Decid
 use Rattle.world_model.specs.Cases.{raised, captured, start_told, TakesUpAt, TakesDownAt, Took, ReceivesAt}
 use Rattle.world_model.specs.Worlds.{Peer, World, newest, HappensStart, HappensStartFor, HappensUp, HappensDown, HappensRx, Happens}
 use Rattle.world_events.specs.Memory.{lacked_memory, IsRefusedForMemory, LacksMemory}
-use Rattle.trace_runs.proofs.Receivers.{receivers_once}
+use Rattle.world_progress.proofs.Receivers.{receivers_once}
 
 -- Whether an operation is allowed
 

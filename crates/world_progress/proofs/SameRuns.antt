@@ -8,7 +8,7 @@ use Rattle.world_events.specs.declared.event.Done.{Done}
 use Rattle.world_model.specs.Worlds.{World, Happens, Runs}
 use Rattle.world_histories.proofs.Once.{happens_once as world_once}
 use Rattle.world_events.specs.Memory.{LacksMemory, HadMemory}
-use Rattle.trace_runs.proofs.OneAnswer.{one_answer}
+use Rattle.world_progress.proofs.OneAnswer.{one_answer}
 
 pub happens_once : (w w1 w2 : World) (event : Event) (a1 a2 : Answer) → Happens w event w1 a1 → Happens w event w2 a2 → (LacksMemory event a1 → ⊥) → (LacksMemory event a2 → ⊥) → (a1 ≡ a2) × (w1 ≡ w2)
 happens_once w w1 w2 event a1 a2 x y had1 had2 =

@@ -1,0 +1,11 @@
+pub mod Receivers
+pub mod OneAnswer
+pub mod SameRuns
+pub mod NotRefused
+pub mod Once
+pub mod Outcomes
+pub mod Accepted
+pub mod Tallied
+pub mod Spending
+pub mod Told
+pub mod Ends
