@@ -3,4 +3,9 @@ pub mod Begin
 pub mod Settle
 pub mod Settling
 pub mod Printed
-pub mod Once
+pub mod Departing
+pub mod Twice
+pub mod First
+pub mod Drained
+pub mod Items
+pub mod Shown

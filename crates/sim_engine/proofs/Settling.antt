@@ -138,6 +138,11 @@ next_less s w event rest answer (waits core op at least is same) h = rw same (om
 next_less s w event rest answer (asked first none is same) h =
     rw is (omega (arith, asked_more s.world w first.home first.op answer (subst (λ (e : Event). Happens s.world e w answer) same h)))
 
+-- what is begun and followed by all messages leaves less
+pub begun_leaves : (s : Simulation) (w w' : World) (event : Event) (rest : List Request) (answer : Answer) (text : List ℕ) → Next s event rest → Happens s.world event w answer → Quiets w w' text
+    → most_left (record { world = w'; pending = rest }) < most_left s
+begun_leaves s w w' event rest answer text next happens quiet = omega (arith, quieted w w' quiet.taken quiet.settles, next_less s w event rest answer next happens)
+
 pub begun_less : (s s1 : Simulation) (line text : List ℕ) (w : World) → Quiets s.world w text → BeginsNext (record { world = w; pending = s.pending }) s1 line true → most_left s1 < most_left s
 begun_less s s1 line text w quiet (begun event rest answer next tells now is) =
     rw now (omega (arith, quieted s.world w quiet.taken quiet.settles, next_less (record { world = w; pending = s.pending }) s1.world event rest answer next tells))

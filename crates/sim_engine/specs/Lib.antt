@@ -4,4 +4,5 @@ pub mod Keeping
 pub mod Simulations
 pub mod Settling
 pub mod Writing
+pub mod Memory
 pub mod Showing

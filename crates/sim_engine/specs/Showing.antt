@@ -9,6 +9,7 @@ use Rattle.mk_script.specs.Threads.{for_simulation}
 use Rattle.console.specs.Reading.{ShowsTooLong}
 use Rattle.script_input.specs.Faults.{script_fault_line}
 use Rattle.script_input.specs.Inputs.{AllShort, SomeLong}
+use Rattle.sim_engine.specs.Memory.{DepartsByMemory, SameButForMemory}
 use Rattle.sim_engine.specs.Simulations.{Simulation, Performs, just}
 
 -- what the script's items print, on cores with its budgets
@@ -27,16 +28,16 @@ ShowsSim files input status text =
     (AllShort input files × ShowsScript files input status text)
     ⊎ (SomeLong input files × ShowsTooLong status text)
 
--- one status is shown at most, and where it is 1 one text: what a script does that is done differs where a core lacked memory
-abbrev pub ShowsOneStatus : (ℕ → List ℕ → Type 0) → Type 0
-ShowsOneStatus Shows = (status other : ℕ) (text more : List ℕ) → Shows status text → Shows other more → (status ≡ other) × (status ≡ 1 → text ≡ more)
+-- one status is shown at most, where it is 1 one text, and else texts that are the same but for cores that are out of memory
+abbrev pub ShowsOneButForMemory : (ℕ → List ℕ → Type 0) → Type 0
+ShowsOneButForMemory Shows =
+    (status other : ℕ) (text more : List ℕ) → Shows status text → Shows other more → (status ≡ other) × (status ≡ 1 → text ≡ more) × SameButForMemory text more
 
--- a front of what the first of the script's items print
-abbrev pub ShowsFront : List (List ℕ) → List ℕ → List ℕ → Type 0
-ShowsFront files input text =
-    (script : Script) × Stands (for_simulation files) input (Ok script) × (done rest : List Item) × (script.items ≡ done ++ rest) × (more : List ℕ)
-    × ShowsItems script.budgets done (text ++ more)
+-- a text is shown from which each text that is shown departs only where a core is out of memory
+abbrev pub ShowsAmply : (ℕ → List ℕ → Type 0) → Type 0
+ShowsAmply Shows =
+    (status : ℕ) × (text : List ℕ) × Shows status text × ((other : ℕ) (more : List ℕ) → Shows other more → (text ≡ more) ⊎ DepartsByMemory text more)
 
--- such a front, where nothing is too long
+-- the text is a front of a whole text that is shown of a script that stands
 abbrev pub ShowsPart : List (List ℕ) → List ℕ → List ℕ → Type 0
-ShowsPart files input text = AllShort input files × ShowsFront files input text
+ShowsPart files input text = (more : List ℕ) × ShowsSim files input 0 (text ++ more)

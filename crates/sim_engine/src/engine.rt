@@ -10,7 +10,7 @@ ghost use Rattle.mk_script.specs.Limits.{HasLimits};
 ghost use Rattle.mk_script.specs.declared.script.Item.{Item as GhostItem};
 ghost use Rattle.mk_script.specs.Scripts.{AreFiles};
 ghost use Rattle.script_input.specs.Inputs.{AllFresh, AreReadInOrder, AreScriptInputs, NoneFailed, ScriptEndsEarly, had};
-ghost use Rattle.sim_engine.specs.Showing.{ShowsSim, ShowsOneStatus, ShowsPart, ShowsFront, ShowsItems, ShowsScript};
+ghost use Rattle.sim_engine.specs.Showing.{ShowsAmply, ShowsItems, ShowsOneButForMemory, ShowsPart, ShowsScript, ShowsSim};
 
 use crate::running::perform_all;
 use console::{EngineFault, Sink, Source, refuse_long};
@@ -39,7 +39,8 @@ pub fn run_sim<R: Read, F: Read, W: Write>(
     requires good { writer.old.failed ≡ false }
     ensures shown { IfOk result (λ status. (text : List ℕ) × Appends (W.contents writer.old.inner) (W.contents writer.new.inner) text
         × ((input : List ℕ) × (inputs : List (List ℕ)) × AreScriptInputs (R.remaining reader.old.inner) (had F.remaining files.old) input inputs × ShowsSim inputs input status text)) }
-    ensures only { (input : List ℕ) (inputs : List (List ℕ)) → AreFiles inputs → ShowsOneStatus (ShowsSim inputs input) }
+    ensures some { (input : List ℕ) (inputs : List (List ℕ)) → AreFiles inputs → ShowsAmply (ShowsSim inputs input) }
+    ensures only { (input : List ℕ) (inputs : List (List ℕ)) → AreFiles inputs → ShowsOneButForMemory (ShowsSim inputs input) }
     ensures fault { IfErr result IsEngineFault }
     ensures script_first { (reader.new.ended ≡ true) ⊎ (files.new ≡ files.old) }
     ensures order { AreReadInOrder files.old files.new }
@@ -95,7 +96,7 @@ fn run_text<C: Channel, W: Write>(
     ensures good { OnOk result (writer.new.failed ≡ false) }
     ensures cause { IfErr result (StopsWriting writer.new) }
     ensures part { IsErrOf result EngineFault.NoMemory → (writer.new ≡ writer.old) ⊎ ((text : List ℕ) × Appends (W.contents writer.old.inner) (W.contents writer.new.inner) text
-        × ShowsFront inputs.now input.now text) }
+        × ((more : List ℕ) × ShowsScript inputs.now input.now 0 (text ++ more))) }
 {
     match read_script(alloc, input, inputs, false) {
         Ok(script) => run_script::<C, W>(alloc, &script, writer),
