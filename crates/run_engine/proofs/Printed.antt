@@ -1,14 +1,12 @@
 -- The line of an event doesn't say whether a take was short of memory.
-use Rattle.std.proofs.Common.{◌≡◌, ◌++◌, ℕ, List, Ok, refl, ap}
-use Rattle.std.specs.Prelude.{codes}
+use Rattle.std.proofs.Common.{◌≡◌, refl}
 use Rattle.filter_table.specs.declared.decision.Vote.TheVariants.{Yes, Budget, NoMemory}
 use Rattle.world_events.specs.declared.event.Event.{Event}
 use Rattle.world_events.specs.declared.event.Event.TheVariants.{Start, Submit, StartFor, Take, Rx}
 use Rattle.world_events.specs.declared.event.Answer.{Answer}
 use Rattle.world_events.specs.declared.event.Answer.TheVariants as answer
-use Rattle.world_histories.specs.declared.history.Stamped.{Stamped}
-use Rattle.world_histories.specs.Merging.{as_short, listed}
-use Rattle.sim_lines.specs.Events.{answer_words, done_line, event_line, event_words}
+use Rattle.world_histories.specs.Merging.{as_short}
+use Rattle.sim_lines.specs.Events.{event_words}
 
 same_words : (e : Event) (a : Answer) → event_words (as_short e a) ≡ event_words e
 same_words (Take to from short) (answer.TookPrepare txn Yes) = refl

@@ -1,18 +1,17 @@
 -- What the bytes of a printed line are: digits, words that blanks part, and no LF or colon where there is none.
-use Rattle.std.proofs.Common.{◌≡◌, ℕ, zero, suc, ◌/◌, ◌%◌, ◌<◌, ◌^◌, Bool, true, false, not, eqb, ltb, List, [], ◌∷◌, ◌++◌, length, filter, Some, Ok, refl, ap, ◌∙◌, inl, inr, arith}
+use Rattle.std.proofs.Common.{◌≡◌, ℕ, zero, suc, ◌/◌, ◌%◌, ◌<◌, ◌^◌, Bool, true, false, not, eqb, ltb, List, [], ◌∷◌, ◌++◌, length, filter, Ok, refl, ap, ◌∙◌, inl, inr, arith}
 use Rattle.std.specs.List.{All, list_any, slice_split}
 use Rattle.std.specs.Fmt.{decimal, digits, digits_onto, digit_glyph}
 use Rattle.std.specs.Int.{IsInRange}
 use Rattle.std.specs.Str.{all_ascii_digits}
 use Rattle.std.proofs.lemmas.Bool.{cases_Bool}
 use Rattle.std.proofs.lemmas.Bool.Decides.{nat_tests}
-use Rattle.std.proofs.lemmas.Fmt.{decimal_is_IsNumeral}
 use Rattle.std.proofs.lemmas.Grind.{common_steps}
 use Rattle.std.proofs.lemmas.List.Elements.{All-nil, All-cons}
 use Rattle.std.proofs.lemmas.List.Folds.{list_any-append}
 use Rattle.std.proofs.lemmas.List.Splits.{slice_split_at, slice_split_none}
 use Rattle.std.proofs.lemmas.Str.Parse.{tells_all_ascii_digits}
-use Rattle.bpf_insn.specs.Texts.{is_blank, words_of, number_of}
+use Rattle.bpf_insn.specs.Texts.{is_blank, words_of}
 use Rattle.mk_script.specs.Drafts.{is_number}
 use Rattle.mk_script.specs.Words.{number_below}
 use Rattle.bpf_insn.proofs.DddTextLemmas.{number_of_decimal}

@@ -1,4 +1,4 @@
-use Rattle.std.proofs.Common.{◌⊎◌, inl, map, IfOk, Result}
+use Rattle.std.proofs.Common.{inl, IfOk, Result}
 use Rattle.std.proofs.lemmas.Result.{IfOk-weaker}
 use Rattle.run_engine.proofs.engine.run_run.Goals as goal
 
