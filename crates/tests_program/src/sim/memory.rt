@@ -2,7 +2,7 @@
 
 use super::captures::CAPTURE;
 use super::protocol::TWO_PHASE;
-use super::tables::SCRIPTS;
+use super::tables::TABLES;
 use crate::engines::run_sim;
 use crate::facts::{equal, holds};
 use crate::page::Page;
@@ -10,6 +10,7 @@ use console::EngineFault;
 use std::alloc::{AllocError, Global};
 use std::io::Cursor;
 use std::process::Abort;
+use world_core::Messages;
 
 /// Whether a vote or a decision tells that there was no memory.
 fn tells_no_memory(text: &[u8]) -> bool {
@@ -24,7 +25,12 @@ fn shows_or_tells(rt: &impl Abort, alloc: Global, script: &[u8], shown: &str) {
         .expect(rt, "there is memory");
     let mut page = Page::new();
     let mut reader = Cursor::new(script);
-    let answer = run_sim(alloc, files, &mut reader, &mut page);
+    let answer = run_sim::<Messages, Cursor<&[u8]>, Cursor<&[u8]>, Page>(
+        alloc,
+        files,
+        &mut reader,
+        &mut page,
+    );
     let text = page.as_slice();
     if answer == Err(EngineFault::NoMemory) {
         holds(rt, shown.as_bytes().starts_with(text));
@@ -36,9 +42,9 @@ fn shows_or_tells(rt: &impl Abort, alloc: Global, script: &[u8], shown: &str) {
 
 #[test]
 fn a_refused_growth_is_told(rt: HostRuntime) {
-    let (script, shown) = TWO_PHASE;
+    let (script, _, shown) = TWO_PHASE;
     shows_or_tells(&rt, rt.alloc(), script.as_bytes(), shown);
-    for (script, shown) in SCRIPTS {
+    for (script, _, shown) in TABLES {
         shows_or_tells(&rt, rt.alloc(), script.as_bytes(), shown);
     }
 }
