@@ -10,4 +10,6 @@ mod running;
 #[cfg(test)]
 mod threads;
 #[cfg(test)]
+mod words;
+#[cfg(test)]
 mod world;
