@@ -27,7 +27,7 @@ use world_model::{Answer, Done, Event};
 /// What an event is, but for programs and packets: a word, and three numbers that are 0 where it has none.
 type Asked = (&'static str, u16, u16, u64);
 
-fn asked(event: &Event) -> Asked {
+fn kind_of(event: &Event) -> Asked {
     match event {
         Event::Start { .. } => ("start", 0, 0, 0),
         Event::Submit { core, .. } => ("submit", *core, 0, 0),
@@ -46,7 +46,7 @@ fn asked(event: &Event) -> Asked {
 fn lists(rt: &impl Abort, list: &[Done], wanted: &[(Asked, Told)]) {
     equal(rt, list.len(), wanted.len());
     for (done, wanted) in list.iter().zip(wanted.iter()) {
-        equal(rt, (asked(&done.event), tells(&done.answer)), *wanted);
+        equal(rt, (kind_of(&done.event), tells(&done.answer)), *wanted);
     }
 }
 
@@ -242,10 +242,10 @@ fn two_cores_beside_each_other(rt: HostRuntime) {
 }
 
 /// Takes of messages by hand: the core, the stamp, the core that each message is from, and what is told.
-type ByHand = (u16, u64, u16, Told);
+type Took = (u16, u64, u16, Told);
 
 /// Histories of four cores, the last one empty.
-static BY_HAND: [&[ByHand]; 4] = [
+static HISTORIES: [&[Took]; 4] = [
     &[(0, 4, 1, Told::TookSubmit), (0, 7, 2, Told::TookAck(3))],
     &[
         (1, 4, 0, Told::TookPrepare(3, Vote::NoMemory)),
@@ -267,7 +267,7 @@ fn answer(told: Told) -> Answer {
     }
 }
 
-fn history(alloc: Global, takes: &[ByHand]) -> Result<Vec<Stamped>, AllocError> {
+fn history(alloc: Global, takes: &[Took]) -> Result<Vec<Stamped>, AllocError> {
     let mut history = Vec::new(alloc);
     for (to, stamp, from, told) in takes {
         let event = Event::Take {
@@ -286,7 +286,7 @@ fn history(alloc: Global, takes: &[ByHand]) -> Result<Vec<Stamped>, AllocError> 
 
 fn by_hand(alloc: Global) -> Result<Vec<Done>, AllocError> {
     let mut cores = Vec::new(alloc);
-    for takes in &BY_HAND {
+    for takes in &HISTORIES {
         cores.push(history(alloc, takes)?)?;
     }
     merge(alloc, &Histories { cores })

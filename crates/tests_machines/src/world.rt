@@ -323,7 +323,7 @@ const REPLACED: Run = (
     ],
 );
 
-static RUNS: [Run; 7] = [
+static WORKED: [Run; 7] = [
     GREATEST_VERDICT,
     TWO_PHASES,
     BUDGET_VETO,
@@ -335,8 +335,8 @@ static RUNS: [Run; 7] = [
 
 #[test]
 fn worked_runs(rt: HostRuntime) {
-    runs::<Messages>(&rt, rt.alloc(), &RUNS);
-    runs::<Lines>(&rt, rt.alloc(), &RUNS);
+    runs::<Messages>(&rt, rt.alloc(), &WORKED);
+    runs::<Lines>(&rt, rt.alloc(), &WORKED);
 }
 
 /// Runs of one core, which go on as ever after a growth that was refused.

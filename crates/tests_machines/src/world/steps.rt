@@ -142,7 +142,7 @@ pub(crate) fn settled<C: Channel>(
 }
 
 /// The core that takes a message, the core that it is from, and what is told; of other events zeros.
-fn taken(done: &Done) -> Taken {
+fn take_of(done: &Done) -> Taken {
     let told = tells(&done.answer);
     match &done.event {
         Event::Take {
@@ -158,7 +158,7 @@ fn taken(done: &Done) -> Taken {
 pub(crate) fn are_told(rt: &impl Abort, done: &[Done], wanted: &[Taken]) {
     equal(rt, done.len(), wanted.len());
     for (done, wanted) in done.iter().zip(wanted.iter()) {
-        equal(rt, taken(done), *wanted);
+        equal(rt, take_of(done), *wanted);
     }
 }
 
@@ -212,7 +212,7 @@ const CAP: Cap = Cap {
     parent: None,
 };
 
-fn step<C: Channel>(
+fn take_step<C: Channel>(
     rt: &impl Abort,
     alloc: Global,
     world: &mut WorldOver<C>,
@@ -250,7 +250,7 @@ pub(crate) fn steps<C: Channel>(
     steps: &[Step],
 ) {
     for (number, next) in steps.iter().enumerate() {
-        step(rt, alloc, world, *next, &number);
+        take_step(rt, alloc, world, *next, &number);
     }
 }
 
