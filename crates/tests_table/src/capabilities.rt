@@ -1,8 +1,8 @@
 //! The worked calls on a table of capabilities.
 use crate::facts::{equal, equal_at};
 use endpoint_caps::{Cap, CapFault, Caps, Right, Rights};
+use std::alloc::Global;
 use std::process::Abort;
-use std::test::Fail;
 
 /// A call on a table.
 #[derive(Clone, Copy)]
@@ -139,19 +139,26 @@ static TABLES: [&[Run]; 3] = [
 ];
 
 /// A copy shows the same.
-#[test]
-fn derives_and_revokes(rt: HostRuntime) -> Result<(), Fail> {
-    for runs in &TABLES {
-        let mut caps = Caps::new(rt.alloc())?;
-        for run in runs.iter() {
-            answers(&rt, &mut caps, run);
-            equal(&rt, caps.get(1000), None);
-            let copy = caps.copy(rt.alloc())?;
-            equal(&rt, copy.list(), caps.list());
-            equal(&rt, copy.next(), caps.next());
-        }
+fn has_same_copy(rt: &impl Abort, alloc: Global, caps: &Caps) {
+    let copy = caps.copy(alloc).expect(rt, "there is memory");
+    equal(rt, copy.list(), caps.list());
+    equal(rt, copy.next(), caps.next());
+}
+
+fn all_answer(rt: &impl Abort, alloc: Global, caps: &mut Caps, runs: &[Run]) {
+    for run in runs {
+        answers(rt, caps, run);
+        equal(rt, caps.get(1000), None);
+        has_same_copy(rt, alloc, caps);
     }
-    Ok(())
+}
+
+#[test]
+fn derives_and_revokes(rt: HostRuntime) {
+    for runs in &TABLES {
+        let mut caps = Caps::new(rt.alloc()).expect(&rt, "there is memory");
+        all_answer(&rt, rt.alloc(), &mut caps, runs);
+    }
 }
 
 const LAST: u32 = u32::MAX - 1;
@@ -175,15 +182,18 @@ static LAST_IDS: [(u32, &[(Call, Answer)]); 3] = [
     ),
 ];
 
-#[test]
-fn ids_are_spent(rt: HostRuntime) -> Result<(), Fail> {
-    for (next, calls) in &LAST_IDS {
-        let mut caps = Caps::resume(rt.alloc(), *next)?;
-        for (call, wanted) in calls.iter() {
-            equal_at(&rt, make(&mut caps, *call), *wanted, next);
-        }
+fn each_answers(rt: &impl Abort, caps: &mut Caps, calls: &[(Call, Answer)]) {
+    for (number, (call, wanted)) in calls.iter().enumerate() {
+        equal_at(rt, make(caps, *call), *wanted, &number);
     }
-    Ok(())
+}
+
+#[test]
+fn ids_are_spent(rt: HostRuntime) {
+    for (next, calls) in &LAST_IDS {
+        let mut caps = Caps::resume(rt.alloc(), *next).expect(&rt, "there is memory");
+        each_answers(&rt, &mut caps, calls);
+    }
 }
 
 /// 1,024 capabilities are held, and no more.
@@ -199,19 +209,18 @@ static FULL: [(Call, Answer); 9] = [
     (Call::Create(1, 1024), Ok(1026)),
 ];
 
-#[test]
-fn table_is_full(rt: HostRuntime) -> Result<(), Fail> {
-    let mut caps = Caps::new(rt.alloc())?;
+fn fills(rt: &impl Abort, caps: &mut Caps) {
     for endpoint in 0..1023u16 {
-        equal(&rt, caps.create(1, endpoint), Ok(u32::from(endpoint) + 1));
+        equal(rt, caps.create(1, endpoint), Ok(u32::from(endpoint) + 1));
     }
-    for (number, (call, wanted)) in FULL.iter().enumerate() {
-        equal_at(&rt, make(&mut caps, *call), *wanted, &number);
-    }
-    let copy = caps.copy(rt.alloc())?;
-    equal(&rt, copy.list(), caps.list());
-    equal(&rt, copy.next(), caps.next());
-    Ok(())
+    each_answers(rt, caps, &FULL);
+}
+
+#[test]
+fn table_is_full(rt: HostRuntime) {
+    let mut caps = Caps::new(rt.alloc()).expect(&rt, "there is memory");
+    fills(&rt, &mut caps);
+    has_same_copy(&rt, rt.alloc(), &caps);
 }
 
 /// A call, made once more where a growth was refused, which has changed nothing.
@@ -226,19 +235,26 @@ fn answers_again(rt: &impl Abort, caps: &mut Caps, call: Call, id: u32) {
     equal(rt, caps.next(), id.saturating_add(1));
 }
 
-/// A growth that is refused changes nothing, and the same call again answers as ever.
-#[test]
-fn refused_growth_changes_nothing(rt: HostRuntime) -> Result<(), Fail> {
-    let mut caps = Caps::new(rt.alloc())?;
+fn fills_again(rt: &impl Abort, caps: &mut Caps) {
     for endpoint in 0..40u16 {
         let id = u32::from(endpoint) + 1;
-        answers_again(&rt, &mut caps, Call::Create(1, endpoint), id);
+        answers_again(rt, caps, Call::Create(1, endpoint), id);
     }
-    answers_again(&rt, &mut caps, Call::Mint(1, 1, 2, Rights::R), 41);
-    let copy = match caps.copy(rt.alloc()) {
+    answers_again(rt, caps, Call::Mint(1, 1, 2, Rights::R), 41);
+}
+
+fn copied_again(rt: &impl Abort, alloc: Global, caps: &Caps) -> Caps {
+    match caps.copy(alloc) {
         Ok(copy) => copy,
-        Err(_) => caps.copy(rt.alloc())?,
-    };
+        Err(_) => caps.copy(alloc).expect(rt, "there is memory"),
+    }
+}
+
+/// A growth that is refused changes nothing, and the same call again answers as ever.
+#[test]
+fn refused_growth_changes_nothing(rt: HostRuntime) {
+    let mut caps = Caps::new(rt.alloc()).expect(&rt, "there is memory");
+    fills_again(&rt, &mut caps);
+    let copy = copied_again(&rt, rt.alloc(), &caps);
     equal(&rt, copy.list(), caps.list());
-    Ok(())
 }

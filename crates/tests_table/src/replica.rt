@@ -449,13 +449,12 @@ fn take_steps(rt: &impl Abort, alloc: Global, replica: &mut Replica, name: &str,
 }
 
 #[test]
-fn worked_runs(rt: HostRuntime) -> Result<(), Fail> {
+fn worked_runs(rt: HostRuntime) {
     for (name, budget, steps) in &RUNS {
-        let mut replica = Replica::new(rt.alloc(), *budget)?;
+        let mut replica = Replica::new(rt.alloc(), *budget).expect(&rt, "there is memory");
         take_steps(&rt, rt.alloc(), &mut replica, name, steps);
         equal_at(&rt, replica.budget(), *budget, name);
     }
-    Ok(())
 }
 
 /// The version, the next ids of a capability and of a filter, and the steps of a replica that goes on from there.
@@ -502,17 +501,19 @@ static LAST: [(u64, u32, u32, &[Step]); 3] = [
 
 /// The last ids and the last version are given out.
 #[test]
-fn the_last_ids(rt: HostRuntime) -> Result<(), Fail> {
-    for (version, next_cap, next_filter, steps) in &LAST {
-        let mut replica = Replica::resume(rt.alloc(), 9, *version, *next_cap, *next_filter)?;
+fn the_last_ids(rt: HostRuntime) {
+    for (version, cap, filter, steps) in &LAST {
+        let mut replica = Replica::resume(rt.alloc(), 9, *version, *cap, *filter).expect(
+            &rt,
+            "there is memory",
+        );
         take_steps(&rt, rt.alloc(), &mut replica, "the last ids", steps);
     }
-    Ok(())
 }
 
-/// A copy of an operation and one of a listed program are the same.
+/// A copy of an operation is the same.
 #[test]
-fn copies_are_equal(rt: HostRuntime) -> Result<(), Fail> {
+fn operations_are_copied(rt: HostRuntime) -> Result<(), Fail> {
     let alloc = rt.alloc();
     let install = op(alloc, Ask::Install(3, 4, THREE_LONG))?;
     if let Op::Install {
@@ -527,11 +528,21 @@ fn copies_are_equal(rt: HostRuntime) -> Result<(), Fail> {
     } else {
         holds(&rt, false);
     }
-    let mut replica = Replica::new(alloc, 100)?;
-    take_steps(&rt, alloc, &mut replica, "copies", &[CREATED]);
-    take_steps(&rt, alloc, &mut replica, "copies", &[INSTALLED]);
-    is_copied(&rt, alloc, &replica);
     Ok(())
+}
+
+/// A copy of a listed program is the same.
+#[test]
+fn programs_are_copied(rt: HostRuntime) {
+    let mut replica = Replica::new(rt.alloc(), 100).expect(&rt, "there is memory");
+    take_steps(
+        &rt,
+        rt.alloc(),
+        &mut replica,
+        "copies",
+        &[CREATED, INSTALLED],
+    );
+    is_copied(&rt, rt.alloc(), &replica);
 }
 
 const INSTALLED: Step = Step::Does(Ask::Install(1, 1, ALL), Ok(Made::Filter(1)));
@@ -582,19 +593,27 @@ static OPERATIONS: [(Ask, Made); 9] = [
     (Ask::Remove(2, 3), Made::Nothing),
 ];
 
-#[test]
-fn refused_growths_change_nothing(rt: HostRuntime) -> Result<(), Fail> {
-    let alloc = rt.alloc();
-    let mut replica = Replica::new(alloc, 10)?;
+fn commit_again(rt: &impl Abort, alloc: Global, replica: &mut Replica) {
     for (ask, made) in &OPERATIONS {
-        commits_again(&rt, alloc, &mut replica, &op(alloc, *ask)?, *made);
+        commits_again(rt, alloc, replica, &asked(rt, alloc, *ask), *made);
     }
+}
+
+fn accepts_again(rt: &impl Abort, alloc: Global, replica: &Replica) {
     let kept = match replica.accepting(alloc, &[0; 8], 64) {
         Ok(kept) => kept,
-        Err(_) => replica.accepting(alloc, &[0; 8], 64)?,
+        Err(_) => replica
+            .accepting(alloc, &[0; 8], 64)
+            .expect(rt, "there is memory"),
     };
-    equal(&rt, kept.as_slice(), [keeps(3, 5), keeps(7, 6)].as_slice());
-    Ok(())
+    equal(rt, kept.as_slice(), [keeps(3, 5), keeps(7, 6)].as_slice());
+}
+
+#[test]
+fn refused_growths_change_nothing(rt: HostRuntime) {
+    let mut replica = Replica::new(rt.alloc(), 10).expect(&rt, "there is memory");
+    commit_again(&rt, rt.alloc(), &mut replica);
+    accepts_again(&rt, rt.alloc(), &replica);
 }
 
 fn keeps(endpoint: u16, kept: u32) -> Kept {
