@@ -13,12 +13,12 @@ import tempfile
 
 ROWS = pathlib.Path(__file__).resolve().parent
 PROGRAM = pathlib.Path(sys.argv[1] if len(sys.argv) > 1 else ROWS.parent / "mkdemux").resolve()
-ESCAPES = {"n": b"\n", "r": b"\r", "t": b"\t", "s": b" ", "\\": b"\\"}
+ESCAPES = {b"n": b"\n", b"r": b"\r", b"t": b"\t", b"v": b"\v", b"s": b" ", b"\\": b"\\"}
 
 
 def plain(text):
     """The bytes of a text, with its escapes taken for what they stand for."""
-    return re.sub(rb"\\([nrts\\])", lambda found: ESCAPES[found[1].decode()], text.encode())
+    return re.sub(rb"\\([nrtvs\\])", lambda found: ESCAPES[found[1]], text.encode())
 
 
 def meant(text):
@@ -50,7 +50,7 @@ class Row:
         elif mark == "@":
             self.inputs[rest] = b""
         elif mark == ">":
-            self.outputs[-1] += plain(rest) + b"\n"
+            self.outputs[-1] += line_of(rest)
         elif mark == "or":
             self.outputs.append(b"")
         elif mark == "=":

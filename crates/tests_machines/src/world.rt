@@ -8,21 +8,27 @@ mod sights;
 mod steps;
 
 use self::steps::{Asked, Run, Step, runs};
-use crate::facts::holds;
+use crate::facts::equal;
 use crate::words::{ALL, ARP, Ask, CAP, FILTER, REQUEST, THREE, Told};
 use endpoint_caps::Rights;
 use monitor_messages::{Decision, Veto, Vote};
+use std::alloc::Global;
 use table_replica::{Made, OpFault};
 use world_core::{BootFault, Lines, Messages, World, WorldFault};
 
+/// Why there is no machine with these budgets, if there is none.
+fn fault_of(alloc: Global, budgets: &[u32]) -> Option<BootFault> {
+    match World::boot(alloc, budgets) {
+        Ok(_) => None,
+        Err(fault) => Some(fault),
+    }
+}
+
 #[test]
 fn machines_have_one_to_eight_cores(rt: HostRuntime) {
-    let none = World::boot(rt.alloc(), &[]);
-    holds(&rt, matches!(none, Err(BootFault::CoreCount)));
-    let nine = World::boot(rt.alloc(), &[9; 9]);
-    holds(&rt, matches!(nine, Err(BootFault::CoreCount)));
-    let eight = World::boot(rt.alloc(), &[9; 8]);
-    holds(&rt, eight.is_ok());
+    equal(&rt, fault_of(rt.alloc(), &[]), Some(BootFault::CoreCount));
+    equal(&rt, fault_of(rt.alloc(), &[9; 9]), Some(BootFault::CoreCount));
+    equal(&rt, fault_of(rt.alloc(), &[9; 8]), None);
 }
 
 const OTHER_CAP: Decision = Decision::Committed {

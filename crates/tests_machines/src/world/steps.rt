@@ -256,13 +256,11 @@ pub(crate) fn steps<C: Channel>(
 
 /// The machine with these budgets, made once more where a growth is refused.
 pub(crate) fn boot<C: Channel>(rt: &impl Abort, alloc: Global, budgets: &[u32]) -> WorldOver<C> {
-    match WorldOver::boot(alloc, budgets) {
-        Ok(world) => world,
-        Err(_) => match WorldOver::boot(alloc, budgets) {
-            Ok(world) => world,
-            Err(_) => panic!(rt; "there is memory"),
-        },
+    if let Ok(world) = WorldOver::boot(alloc, budgets) {
+        return world;
     }
+    let again = WorldOver::boot(alloc, budgets).ok();
+    again.expect(rt, "there is memory")
 }
 
 /// Budgets, and steps of a machine with these.
