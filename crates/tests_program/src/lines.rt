@@ -5,7 +5,6 @@ use pcap_reader::SharedPacket;
 use seq::Shared;
 use sim_lines::line_of;
 use std::alloc::{AllocError, Global};
-use std::test::Fail;
 use table_replica::{Kept, Op};
 use world_core::WorldFault;
 use world_model::{Answer, Event, KeptList};
@@ -39,21 +38,20 @@ fn receipt(alloc: Global) -> Result<(Event, Answer), AllocError> {
 }
 
 #[test]
-fn the_greatest_numbers(rt: HostRuntime) -> Result<(), Fail> {
-    let (event, answer) = receipt(rt.alloc())?;
-    let line = line_of(rt.alloc(), &event, &Ok(answer))?;
+fn the_greatest_numbers(rt: HostRuntime) {
+    let (event, answer) = receipt(rt.alloc()).expect(&rt, "there is memory");
+    let line = line_of(rt.alloc(), &event, &Ok(answer)).expect(&rt, "there is memory");
     let wanted = "rx 0 3: version 18446744073709551615 7=14 65535=4294967295\n";
     equal(&rt, line.as_slice(), wanted.as_bytes());
-    Ok(())
 }
 
 #[test]
-fn the_last_number_is_spent(rt: HostRuntime) -> Result<(), Fail> {
+fn the_last_number_is_spent(rt: HostRuntime) {
     let op = Op::Create {
         domain: 1,
         endpoint: 7,
     };
-    let line = line_of(rt.alloc(), &Event::Start { op }, &Err(WorldFault::Spent))?;
+    let spent = Err(WorldFault::Spent);
+    let line = line_of(rt.alloc(), &Event::Start { op }, &spent).expect(&rt, "there is memory");
     equal(&rt, line.as_slice(), b"start: fault Spent\n".as_slice());
-    Ok(())
 }

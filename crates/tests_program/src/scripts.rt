@@ -1,11 +1,10 @@
 //! Scripts, and the items that they stand for.
 
-use crate::facts::{equal, holds};
+use crate::facts::holds;
 use endpoint_caps::Rights;
 use mk_script::{Item, Script, ScriptFault, read_script};
 use seq::Shared;
 use std::alloc::{AllocError, Global};
-use std::test::Fail;
 use table_replica::Op;
 use world_model::Event;
 
@@ -134,24 +133,26 @@ fn gives(alloc: Global, text: &str, threads: bool, want: &str) -> bool {
     }
 }
 
+/// Whether the cores of a text have these budgets.
+fn has_budgets(alloc: Global, text: &str, wanted: &[u32]) -> bool {
+    match read(alloc, text, false) {
+        Some(Ok(script)) => script.budgets.as_slice() == wanted,
+        _ => false,
+    }
+}
+
 #[test]
-fn every_word(rt: HostRuntime) -> Result<(), Fail> {
-    let alloc = rt.alloc();
+fn every_word(rt: HostRuntime) {
     let text =
         "# each word\ncores 100 07\nasm f\nldh [12]\nret a\nend\nddd g 1,6 0 0 10 \npacket p 0aFF 60\npacket none -\ncapture c 1\nhome 2 1\ncreate 1 7\ncreate 2 8\nmint 1 1 2 r\nmint 1 1 2 m\nmint 1 1 2 rm\nrevoke 1 1\ndrop 2 2\ninstall 1 1 f\ninstall 2 1 g\nremove 1 4294967295\nreplace 1 1 g\nhome 2 0\ncreate 2 9\nstart\nsubmit 1\nstartfor 65535\ntake 1 0\ntake 0 1 short\nrx 1 p\nrx 0 none 3\nrx 0 c.2\nreplay c 18446744073709551615\nrx 0 c.1\nsettle\nshow 0";
     let want =
         "0: create 1 7\n1: create 2 8\n0: mint 1 1 2 r\n0: mint 1 1 2 m\n0: mint 1 1 2 rm\n0: revoke 1 1\n1: drop 2 2\n0: install 1 1 2\n1: install 2 1 1\n0: remove 1 4294967295\n0: replace 1 1 1\n0: create 2 9\nstart\nsubmit 1\nstartfor 65535\ntake 1 0 false\ntake 0 1 true\nrx 1 1 2 60 0\nrx 0 2 0 0 3\nrx 0 3 1 1 0\nrx 0 4 1 1 18446744073709551615\nrx 1 5 1 1 18446744073709551615\nrx 0 6 1 9 18446744073709551615\nrx 0 7 1 1 0\nsettle\nshow 0\n";
-    holds(&rt, gives(alloc, text, false, want));
-    let budgets = read(alloc, text, false)
-        .ok_or("too long")?
-        .ok()
-        .ok_or("fault")?;
-    equal(&rt, budgets.budgets.as_slice(), [100, 7].as_slice());
-    Ok(())
+    holds(&rt, gives(rt.alloc(), text, false, want));
+    holds(&rt, has_budgets(rt.alloc(), text, &[100, 7]));
 }
 
 #[test]
-fn a_trace(rt: HostRuntime) -> Result<(), Fail> {
+fn a_trace(rt: HostRuntime) {
     let alloc = rt.alloc();
     let run =
         "cores 100 100\nddd all 1,6 0 0 65535\npacket q 0102030405\ncreate 1 7\ninstall 1 1 all\nrx 1 q 2\nrx 0 q 9\n";
@@ -169,5 +170,4 @@ fn a_trace(rt: HostRuntime) -> Result<(), Fail> {
     let want =
         "0: create 1 7\n0: install 1 1 1\nstart\nsubmit 1\nstartfor 1\ntake 1 0 false\ntake 1 0 true\nrx 1 1 5 5 2\nrx 0 2 5 5 9\n";
     holds(&rt, gives(alloc, traced, false, want));
-    Ok(())
 }

@@ -4,7 +4,7 @@ use crate::devices::Pieces;
 use crate::engines::{Command, run};
 use crate::facts::equal_at;
 use std::alloc::Global;
-use std::test::Fail;
+use std::process::Abort;
 
 /// Little-endian, microseconds, snaplen 65535, network 1.
 const HEADER: &str = "d4c3b2a1020004000000000000000000ffff000001000000";
@@ -13,7 +13,7 @@ const HEADER: &str = "d4c3b2a1020004000000000000000000ffff000001000000";
 const FIRST: Command<'static> = Command::Match("2,48 0 0 0,22 0 0 0", true);
 
 /// Commands and their captures in hexadecimal digits, each with its status and what is shown.
-const CAPTURES: [(Command<'static>, &str, &str, u8, &str); 17] = [
+static CAPTURES: [(Command<'static>, &str, &str, u8, &str); 17] = [
     (Command::Dump, "", "", 1, "fault TruncatedHeader\n"),
     (
         Command::Dump,
@@ -108,23 +108,37 @@ const CAPTURES: [(Command<'static>, &str, &str, u8, &str); 17] = [
 ];
 
 /// The bytes of two texts of hexadecimal digits, one after the other.
-pub fn bytes_of(alloc: Global, front: &str, back: &str) -> Result<Vec<u8>, Fail> {
-    let mut bytes = hex::decode(alloc, front)?;
-    bytes.extend_from_slice(hex::decode(alloc, back)?.as_slice())?;
-    Ok(bytes)
+pub fn bytes_of(rt: &impl Abort, alloc: Global, front: &str, back: &str) -> Vec<u8> {
+    let mut bytes = hex::decode(alloc, front).expect(rt, "digits");
+    let more = hex::decode(alloc, back).expect(rt, "digits");
+    bytes
+        .extend_from_slice(more.as_slice())
+        .expect(rt, "there is memory");
+    bytes
+}
+
+/// However many bytes a read gives, the command ends with this status and shows this text.
+fn shows(
+    rt: &impl Abort,
+    alloc: Global,
+    command: Command<'_>,
+    capture: &[u8],
+    status: u8,
+    shown: &str,
+) {
+    for step in [1, 7, 65_536] {
+        let mut out = Vec::new(alloc);
+        let mut reader = Pieces::new(capture, step, 0);
+        let answer = run(alloc, command, &mut reader, &mut out);
+        equal_at(rt, answer, Ok(status), &shown);
+        equal_at(rt, out.as_slice(), shown.as_bytes(), &shown);
+    }
 }
 
 #[test]
-fn captures_in_pieces(rt: HostRuntime) -> Result<(), Fail> {
-    for (command, header, records, status, shown) in CAPTURES {
-        let capture = bytes_of(rt.alloc(), header, records)?;
-        for step in [1, 7, 65_536] {
-            let mut out = Vec::new(rt.alloc());
-            let mut reader = Pieces::new(capture.as_slice(), step, 0);
-            let answer = run(rt.alloc(), command, &mut reader, &mut out);
-            equal_at(&rt, answer, Ok(status), &shown);
-            equal_at(&rt, out.as_slice(), shown.as_bytes(), &shown);
-        }
+fn captures_in_pieces(rt: HostRuntime) {
+    for (command, header, records, status, shown) in &CAPTURES {
+        let capture = bytes_of(&rt, rt.alloc(), header, records);
+        shows(&rt, rt.alloc(), *command, &capture, *status, shown);
     }
-    Ok(())
 }

@@ -31,7 +31,7 @@ fn show_or_end(rt: &impl Abort, alloc: Global, rows: &[Row]) {
     }
 }
 
-const MATCHES: [Row; 4] = [
+static MATCHES: [Row; 4] = [
     (
         Command::Match("1,6 0 0 5", false),
         b"05\n06\n",
@@ -63,7 +63,7 @@ fn matches_with_a_refused_growth(rt: HostRuntime) {
     show_or_end(&rt, rt.alloc(), &MATCHES);
 }
 
-const CAPTURES: [Row; 2] = [
+static CAPTURES: [Row; 2] = [
     (Command::Match("1,6 0 0 5", true), CAPTURE, 0, "5 1\n"),
     (
         Command::Dump,
@@ -78,7 +78,7 @@ fn captures_with_a_refused_growth(rt: HostRuntime) {
     show_or_end(&rt, rt.alloc(), &CAPTURES);
 }
 
-const CHECKS: [Row; 3] = [
+static CHECKS: [Row; 3] = [
     (
         Command::Check(false),
         ARP,

@@ -7,7 +7,6 @@ use crate::facts::equal_at;
 use console::EngineFault;
 use std::alloc::Global;
 use std::process::Abort;
-use std::test::Fail;
 
 /// Little-endian, microseconds, snaplen 65535, network 1; two packets, of 2 and of 0 bytes, and a packet of 3.
 const RECORDS: &str = "d4c3b2a1020004000000000000000000ffff000001000000\
@@ -65,7 +64,7 @@ type Line = (
     &'static str,
 );
 
-const OF_LINES: [Line; 13] = [
+static OF_LINES: [Line; 13] = [
     // Lines cut at every byte.
     ("", (1, 20), (0, 1), DONE, ""),
     ("05", (1, 20), (0, 1), DONE, "5 2\n"),
@@ -104,15 +103,15 @@ const OF_LINES: [Line; 13] = [
 
 #[test]
 fn lines_cut_at_every_byte(rt: HostRuntime) {
-    for (input, steps, fails, answer, shown) in OF_LINES {
+    for (input, steps, fails, answer, shown) in &OF_LINES {
         ends(
             &rt,
             rt.alloc(),
             LINES,
             input.as_bytes(),
-            steps,
-            fails,
-            (answer, shown),
+            *steps,
+            *fails,
+            (*answer, shown),
         );
     }
     // A bad code reads nothing.
@@ -138,7 +137,7 @@ type Cut = (
     &'static str,
 );
 
-const OF_CAPTURES: [Cut; 13] = [
+static OF_CAPTURES: [Cut; 13] = [
     // Captures cut at every byte.
     (RECORDS, "", (1, 130), (0, 1), DONE, "171 2\n0 1\n7 2\n"),
     (
@@ -207,18 +206,17 @@ const OF_CAPTURES: [Cut; 13] = [
 ];
 
 #[test]
-fn captures_cut_at_every_byte(rt: HostRuntime) -> Result<(), Fail> {
-    for (front, back, steps, fails, answer, shown) in OF_CAPTURES {
-        let input = bytes_of(rt.alloc(), front, back)?;
+fn captures_cut_at_every_byte(rt: HostRuntime) {
+    for (front, back, steps, fails, answer, shown) in &OF_CAPTURES {
+        let input = bytes_of(&rt, rt.alloc(), front, back);
         ends(
             &rt,
             rt.alloc(),
             CAPTURES,
-            input.as_slice(),
-            steps,
-            fails,
-            (answer, shown),
+            &input,
+            *steps,
+            *fails,
+            (*answer, shown),
         );
     }
-    Ok(())
 }

@@ -9,7 +9,7 @@ pub const CAPTURE: &[u8] = b"\xd4\xc3\xb2\xa1\x02\0\x04\0\0\0\0\0\0\0\0\0\xff\xf
     \0\0\0\0\0\0\0\0\x01\0\0\0\x01\0\0\0\x03";
 
 /// Scripts that name the capture, their status, and what they show.
-pub const OF_CAPTURES: [Script; 3] = [
+pub static OF_CAPTURES: [Script; 3] = [
     // The packets come to the cores in turn.
     (
         "cores 9 9\n\
@@ -49,14 +49,14 @@ pub const CUT: &[u8] = b"\xd4\xc3\xb2\xa1\x02\0\x04\0\0\0\0\0\0\0\0\0\xff\xff\0\
     \0\0\0\0\0\0\0\0\x01\0\0\0\x01\0\0\0\x02\
     \0\0\0\0\0\0\0\0\x01\0\0\0\x01\0\0\0";
 
-pub const CUT_SCRIPTS: [Script; 1] = [(
+pub static CUT_SCRIPTS: [Script; 1] = [(
     "cores 9\n\ncapture c 1\n",
     1,
     "line 3: BadBody capture TruncatedRecord 58\n",
 )];
 
 /// A script for a run, and what the run printed for it after `trace`.
-pub const TRACED: [Script; 1] = [(
+pub static TRACED: [Script; 1] = [(
     "cores 100 100\n\
      ddd all 1,6 0 0 65535\n\
      packet q 0102030405\n\

@@ -44,7 +44,7 @@ fn shows_or_tells(rt: &impl Abort, alloc: Global, script: &[u8], shown: &str) {
 fn a_refused_growth_is_told(rt: HostRuntime) {
     let (script, _, shown) = TWO_PHASE;
     shows_or_tells(&rt, rt.alloc(), script.as_bytes(), shown);
-    for (script, _, shown) in TABLES {
+    for (script, _, shown) in &TABLES {
         shows_or_tells(&rt, rt.alloc(), script.as_bytes(), shown);
     }
 }
@@ -88,10 +88,14 @@ const TRACE: &str = "start: prepared 1\n\
      rx 1 2: version 3 none\n\
      rx 0 3: version 3 7=1\n";
 
-#[test]
-fn a_refused_growth_of_a_trace_is_told(rt: HostRuntime) -> Result<(), AllocError> {
-    let mut script = Vec::from_slice(rt.alloc(), TRACED.as_bytes())?;
+fn traced(alloc: Global) -> Result<Vec<u8>, AllocError> {
+    let mut script = Vec::from_slice(alloc, TRACED.as_bytes())?;
     script.extend_from_slice(TRACE.as_bytes())?;
+    Ok(script)
+}
+
+#[test]
+fn a_refused_growth_of_a_trace_is_told(rt: HostRuntime) {
+    let script = traced(rt.alloc()).expect(&rt, "there is memory");
     shows_or_tells(&rt, rt.alloc(), &script, TRACE);
-    Ok(())
 }

@@ -35,7 +35,7 @@ pub const TWO_PHASE: Script = (
 );
 
 /// Scripts, and what they show.
-pub const AGREEMENT: [Script; 6] = [
+pub static AGREEMENT: [Script; 6] = [
     TWO_PHASE,
     // A core whose budget is too small refuses for all.
     (

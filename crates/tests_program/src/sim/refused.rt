@@ -3,7 +3,7 @@
 use super::runs::Script;
 
 /// Scripts, and the line of each one's first fault.
-pub const REFUSED: [Script; 9] = [
+pub static REFUSED: [Script; 9] = [
     ("create 1 7\n", 1, "line 1: NoCores\n"),
     ("cores\n", 1, "line 1: BadLine\n"),
     ("cores 1 x\n", 1, "line 1: BadNumber\n"),

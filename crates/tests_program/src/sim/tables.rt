@@ -3,7 +3,7 @@
 use super::runs::Script;
 
 /// Scripts, and what they show.
-pub const TABLES: [Script; 5] = [
+pub static TABLES: [Script; 5] = [
     // The greatest verdict says how many bytes an endpoint gets.
     (
         "cores 10\n\
