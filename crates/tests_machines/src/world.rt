@@ -27,7 +27,11 @@ fn fault_of(alloc: Global, budgets: &[u32]) -> Option<BootFault> {
 #[test]
 fn machines_have_one_to_eight_cores(rt: HostRuntime) {
     equal(&rt, fault_of(rt.alloc(), &[]), Some(BootFault::CoreCount));
-    equal(&rt, fault_of(rt.alloc(), &[9; 9]), Some(BootFault::CoreCount));
+    equal(
+        &rt,
+        fault_of(rt.alloc(), &[9; 9]),
+        Some(BootFault::CoreCount),
+    );
     equal(&rt, fault_of(rt.alloc(), &[9; 8]), None);
 }
 
@@ -345,11 +349,14 @@ fn worked_runs(rt: HostRuntime) {
     runs::<Lines>(&rt, rt.alloc(), &WORKED);
 }
 
-/// Runs of one core, which go on as ever after a growth that was refused.
-static ALONE: [Run; 2] = [REVOKED, REPLACED];
+#[test]
+fn a_revoke_with_a_refused_growth(rt: HostRuntime) {
+    runs::<Messages>(&rt, rt.alloc(), &[REVOKED]);
+    runs::<Lines>(&rt, rt.alloc(), &[REVOKED]);
+}
 
 #[test]
-fn one_core_with_a_refused_growth(rt: HostRuntime) {
-    runs::<Messages>(&rt, rt.alloc(), &ALONE);
-    runs::<Lines>(&rt, rt.alloc(), &ALONE);
+fn a_replacement_with_a_refused_growth(rt: HostRuntime) {
+    runs::<Messages>(&rt, rt.alloc(), &[REPLACED]);
+    runs::<Lines>(&rt, rt.alloc(), &[REPLACED]);
 }
