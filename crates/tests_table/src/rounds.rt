@@ -242,7 +242,8 @@ fn rounds_of_requests(rt: HostRuntime) {
     let alloc = rt.alloc();
     for (budget, budgets, rows, instructions) in &RUNS {
         let mut peers = peers(&rt, alloc, budgets);
-        let mut home = Home::new(&rt, alloc, *budget, peers.len().saturating_add(1) as u16, 0);
+        let others = budgets.len().min(7) as u16;
+        let mut home = Home::new(&rt, alloc, *budget, others + 1, 0);
         agree(&rt, alloc, &mut home, &mut peers, rows);
         are_at(&rt, &peers, home.table.version(), *instructions);
     }

@@ -10,7 +10,7 @@ use pcap_reader::SharedPacket;
 use std::alloc::{AllocError, Global};
 use std::process::Abort;
 use table_replica::Op;
-use world_core::{Done, Messages};
+use world_core::{Answer, Done, Event, Messages};
 
 fn packet_of(packet: &SharedPacket) -> Result<SharedPacket, AllocError>
     ensures { IfOk result (λ copy. copy ≡ packet.now) }
@@ -30,10 +30,16 @@ fn message_of(message: &Message) -> Result<Message, AllocError>
     message.clone()
 }
 
-fn done_of(done: &Done) -> Result<Done, AllocError>
-    ensures { IfOk result (λ copy. copy ≡ done.now) }
+fn event_of(event: &Event) -> Result<Event, AllocError>
+    ensures { IfOk result (λ copy. copy ≡ event.now) }
 {
-    done.clone()
+    event.clone()
+}
+
+fn answer_of(answer: &Answer) -> Result<Answer, AllocError>
+    ensures { IfOk result (λ copy. copy ≡ answer.now) }
+{
+    answer.clone()
 }
 
 /// The events of a run of two phases, each of which is done.
@@ -63,7 +69,9 @@ fn events_are_copied(rt: HostRuntime) {
             Ok(answer) => answer,
             Err(_) => panic!(&rt; "the event is done"),
         };
-        holds(&rt, done_of(&Done { event, answer }).is_ok());
+        holds(&rt, event_of(&event).is_ok());
+        holds(&rt, answer_of(&answer).is_ok());
+        holds(&rt, Done { event, answer }.clone().is_ok());
     }
 }
 
