@@ -130,13 +130,17 @@ impl Gate for Never {
     fn did(&self, _core: u16, _number: u64) {}
 }
 
-#[test]
-fn a_core_halts_at_its_limit(rt: HostRuntime) -> Result<(), Fail> {
-    let alloc = rt.alloc();
+// Runs one core, which has a job that it may never receive.
+fn halting_run<R: Threads + Wait + Clock + Sync>(rt: &R, alloc: Global) -> Result<Ended, Fail> {
     let mut jobs = Vec::new(alloc);
     jobs.push((0, job(alloc, 1, 0)?))?;
     let machine = boot(alloc, &[100], Vec::new(alloc))?;
-    let ended = run_machine(&rt, alloc, machine, jobs, &Never, 1_000)?;
+    Ok(run_machine(rt, alloc, machine, jobs, &Never, 1_000)?)
+}
+
+#[test]
+fn a_core_halts_at_its_limit(rt: HostRuntime) -> Result<(), Fail> {
+    let ended = halting_run(&rt, rt.alloc())?;
     equal(&rt, ended.halted, Some((0, Halt::Limit)));
     equal(&rt, left(&ended), Some((0, 1, 1)));
     Ok(())
@@ -171,18 +175,26 @@ impl Gate for Meeting {
     fn did(&self, _core: u16, _number: u64) {}
 }
 
-#[test]
-fn two_cores_wait_for_each_other(rt: HostRuntime) -> Result<(), Fail> {
-    let alloc = rt.alloc();
+// Runs two cores with a job each.
+fn meeting_run<R: Threads + Wait + Clock + Sync>(
+    rt: &R,
+    alloc: Global,
+    gate: &Meeting,
+) -> Result<Ended, Fail> {
     let mut jobs = Vec::new(alloc);
     jobs.push((0, job(alloc, 1, 0)?))?;
     jobs.push((1, job(alloc, 2, 0)?))?;
+    let machine = boot(alloc, &[100, 100], Vec::new(alloc))?;
+    Ok(run_machine(rt, alloc, machine, jobs, gate, LIMIT)?)
+}
+
+#[test]
+fn two_cores_wait_for_each_other(rt: HostRuntime) -> Result<(), Fail> {
     let gate = Meeting {
         here: [AtomicBool::new(false), AtomicBool::new(false)],
         met: AtomicU64::new(0),
     };
-    let machine = boot(alloc, &[100, 100], Vec::new(alloc))?;
-    let ended = run_machine(&rt, alloc, machine, jobs, &gate, LIMIT)?;
+    let ended = meeting_run(&rt, rt.alloc(), &gate)?;
     equal(&rt, ended.halted, None);
     equal(&rt, gate.met.load(Ordering::SeqCst), 2);
     let nobody = Told::Delivered(0, 0, 0, 0);
