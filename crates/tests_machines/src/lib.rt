@@ -1,4 +1,4 @@
-//! Tests of machines by their public calls: all cores as one value, a core that runs, joined cores, cores as threads.
+//! Tests of machines by their public calls: a core that runs, joined cores, cores as threads.
 #![tactic(auto)]
 
 #[cfg(test)]
@@ -11,5 +11,3 @@ mod running;
 mod threads;
 #[cfg(test)]
 mod words;
-#[cfg(test)]
-mod world;
