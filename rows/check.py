@@ -3,7 +3,7 @@
 
     rows/check.py [PROGRAM]     PROGRAM is ./mkdemux, if none is given
 
-A line for each row that fails and for each file of rows; the last line is `N passed, M failed`, and the status 1 where one failed."""
+A line for each row that fails and for each file of rows. The last line is `N passed, M failed`; the status is 1 where one failed."""
 import pathlib
 import re
 import shlex
@@ -23,8 +23,9 @@ def plain(text):
 
 def meant(text):
     """The bytes that a text stands for: {WORDS}*N is N times the words."""
-    parts = re.split(r"\{([^{}]*)\}\*(\d+)", text)
-    return b"".join(plain(parts[k]) + plain(parts[k + 1]) * int(parts[k + 2]) for k in range(0, len(parts) - 1, 3)) + plain(parts[-1])
+    *repeated, last = re.split(r"\{([^{}]*)\}\*(\d+)", text)
+    pieces = zip(repeated[::3], repeated[1::3], repeated[2::3])
+    return b"".join(plain(before) + plain(words) * int(times) for before, words, times in pieces) + plain(last)
 
 
 def line_of(text):
