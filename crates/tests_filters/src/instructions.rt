@@ -19,11 +19,6 @@ fn spells(alloc: Global, text: &[u8], want: &[Insn]) -> bool {
     }
 }
 
-/// The fault of a text, if it has one.
-fn fault(alloc: Global, text: &[u8]) -> Option<TextFault> {
-    read_ddd(alloc, text).err()
-}
-
 /// The filter of ARP packets over Ethernet.
 fn arp() -> [Insn; 4] {
     [
@@ -61,82 +56,6 @@ fn texts_of_programs(rt: HostRuntime) {
     holds(&rt, spells(alloc, b"0,\n", &[]));
 }
 
-#[test]
-fn faults_of_texts(rt: HostRuntime) {
-    let alloc = rt.alloc();
-    let count: [&[u8]; 12] = [
-        b"",
-        b" \t\r",
-        b",\n,",
-        b"\n1,6 0 0 5",
-        b"x,6 0 0 5",
-        b"1 1,6 0 0 5",
-        b"-1,6 0 0 5",
-        b"+1,6 0 0 5",
-        b"0x1,6 0 0 5",
-        b"1;6 0 0 5",
-        b"1\x0b,6 0 0 5",
-        b"4097x",
-    ];
-    for text in count {
-        equal_at(
-            &rt,
-            fault(alloc, text),
-            Some(TextFault::BadNumber(0)),
-            &text,
-        );
-    }
-    let first: [&[u8]; 9] = [
-        b"1,6 0 256 5",
-        b"1,65536 0 0 5",
-        b"1,6 256 0 5",
-        b"1,6 0 0 4294967296",
-        b"1,6 0 0 99999999999999999999999999",
-        b"1,6 0 0",
-        b"1,6 0 0 5 5",
-        b"2,,6 0 0 5",
-        b"3,6 0 0 5k,6 0 0,6 0 0 5",
-    ];
-    for text in first {
-        equal_at(
-            &rt,
-            fault(alloc, text),
-            Some(TextFault::BadNumber(1)),
-            &text,
-        );
-    }
-    equal(
-        &rt,
-        fault(alloc, b"3,6 0 0 5,6 0 0 5,6 0 0 -5"),
-        Some(TextFault::BadNumber(3)),
-    );
-    let long: [&[u8]; 4] = [
-        b"4097",
-        b"4097,x",
-        b"18446744073709551617,6 0 0 5",
-        b"99999999999999999999999999999999999999999",
-    ];
-    for text in long {
-        equal_at(&rt, fault(alloc, text), Some(TextFault::TooLong), &text);
-    }
-    let other: [&[u8]; 6] = [
-        b"2,6 0 0 5",
-        b"1,6 0 0 5,6 0 0 5",
-        b"1",
-        b"0,6 0 0 5",
-        b"2,x",
-        b"4096,6 0 0 5",
-    ];
-    for text in other {
-        equal_at(
-            &rt,
-            fault(alloc, text),
-            Some(TextFault::CountMismatch),
-            &text,
-        );
-    }
-}
-
 /// A text of so many instructions.
 fn returns(rt: &impl Abort, alloc: Global, count: u32) -> String {
     let mut text = format!(in alloc; "{count}").expect(rt, "there is memory");
@@ -150,11 +69,8 @@ fn returns(rt: &impl Abort, alloc: Global, count: u32) -> String {
 fn the_longest_program(rt: HostRuntime) {
     are_returns(&rt, rt.alloc(), 4096);
     let longer = returns(&rt, rt.alloc(), 4097);
-    equal(
-        &rt,
-        fault(rt.alloc(), longer.as_bytes()),
-        Some(TextFault::TooLong),
-    );
+    let fault = read_ddd(rt.alloc(), longer.as_bytes()).err();
+    equal(&rt, fault, Some(TextFault::TooLong));
 }
 
 /// A text of so many instructions is read as these.
@@ -168,14 +84,14 @@ fn are_returns(rt: &impl Abort, alloc: Global, count: u32) {
 }
 
 /// The codes of the loads from the packet, at a fixed place and at one from the index register on.
-const LOADS: [(u16, u16, Size); 3] = [
+static LOADS: [(u16, u16, Size); 3] = [
     (0x20, 0x40, Size::Word),
     (0x28, 0x48, Size::Half),
     (0x30, 0x50, Size::Byte),
 ];
 
 /// The codes of the operations, with a constant and with the index register.
-const OPERATIONS: [(u16, u16, AluOp); 10] = [
+static OPERATIONS: [(u16, u16, AluOp); 10] = [
     (0x04, 0x0c, AluOp::Add),
     (0x14, 0x1c, AluOp::Sub),
     (0x24, 0x2c, AluOp::Mul),
@@ -189,14 +105,14 @@ const OPERATIONS: [(u16, u16, AluOp); 10] = [
 ];
 
 /// The codes of the conditional jumps, with a constant and with the index register.
-const TESTS: [(u16, u16, Test); 4] = [
+static TESTS: [(u16, u16, Test); 4] = [
     (0x15, 0x1d, Test::Equal),
     (0x25, 0x2d, Test::Greater),
     (0x35, 0x3d, Test::GreaterOrEqual),
     (0x45, 0x4d, Test::AnyBit),
 ];
 
-const OTHERS: [(u16, Form); 15] = [
+static OTHERS: [(u16, Form); 15] = [
     (0x00, Form::LdImm { k: 7 }),
     (0x60, Form::LdMem { k: 7 }),
     (0x80, Form::LdLen),
@@ -220,33 +136,30 @@ fn has_form(rt: &impl Abort, code: u16, form: Form) {
 
 #[test]
 fn codes_of_forms(rt: HostRuntime) {
-    for (fixed, indexed, size) in LOADS {
-        has_form(&rt, fixed, Form::LdAbs { size, k: 7 });
-        has_form(&rt, indexed, Form::LdInd { size, k: 7 });
+    for (fixed, indexed, size) in &LOADS {
+        let (size, k) = (*size, 7);
+        has_form(&rt, *fixed, Form::LdAbs { size, k });
+        has_form(&rt, *indexed, Form::LdInd { size, k });
     }
-    for (constant, index, op) in OPERATIONS {
-        has_form(&rt, constant, Form::AluK { op, k: 7 });
-        has_form(&rt, index, Form::AluX { op });
+    for (constant, index, op) in &OPERATIONS {
+        let (op, k) = (*op, 7);
+        has_form(&rt, *constant, Form::AluK { op, k });
+        has_form(&rt, *index, Form::AluX { op });
     }
-    for (constant, index, test) in TESTS {
-        has_form(
-            &rt,
-            constant,
-            Form::JmpK {
-                test,
-                k: 7,
-                jt: 3,
-                jf: 5,
-            },
-        );
-        has_form(&rt, index, Form::JmpX { test, jt: 3, jf: 5 });
+    for (constant, index, test) in &TESTS {
+        let (test, k, jt, jf) = (*test, 7, 3, 5);
+        has_form(&rt, *constant, Form::JmpK { test, k, jt, jf });
+        has_form(&rt, *index, Form::JmpX { test, jt, jf });
     }
-    for (code, form) in OTHERS {
-        has_form(&rt, code, form);
+    for (code, form) in &OTHERS {
+        has_form(&rt, *code, *form);
     }
-    let known = (0..=u16::MAX)
-        .filter(|code| insn(*code, 3, 5, 7).form().is_some())
-        .count();
+    let mut known = 0u32;
+    for code in 0..=u16::MAX {
+        if insn(code, 3, 5, 7).form().is_some() {
+            known = known.saturating_add(1);
+        }
+    }
     equal(&rt, known, 49);
 }
 
@@ -294,7 +207,7 @@ fn prints_as(alloc: Global, program: &[Insn], want: &str) -> bool {
 }
 
 /// Each code, and the text at place 0 of its instruction with 1, 2 and 7 in its fields.
-const TEXTS: [(u16, &str); 49] = [
+static TEXTS: [(u16, &str); 49] = [
     (0x00, "ldi #7"),
     (0x20, "ld [7]"),
     (0x28, "ldh [7]"),
@@ -352,8 +265,8 @@ fn assembler_texts(rt: HostRuntime) {
     let lines = "l0: ldh [12]\nl1: jeq #2054, l2, l3\nl2: ret #4294967295\nl3: ret #0\n";
     holds(&rt, prints_as(alloc, &arp(), lines));
     holds(&rt, prints_as(alloc, &[], ""));
-    for (code, want) in TEXTS {
-        begins_with(&rt, alloc, code, want);
+    for (code, want) in &TEXTS {
+        begins_with(&rt, alloc, *code, want);
     }
 }
 
@@ -367,24 +280,94 @@ fn begins_with(rt: &impl Abort, alloc: Global, code: u16, want: &str) {
     holds_at(rt, prints_as(alloc, &program, text.as_str()), &want);
 }
 
+/// Instructions before a return, and whether they are printable there.
+static BEFORE_A_RETURN: [(Insn, bool); 8] = [
+    (
+        Insn {
+            code: 5,
+            jt: 0,
+            jf: 0,
+            k: 1,
+        },
+        false,
+    ),
+    (
+        Insn {
+            code: 5,
+            jt: 0,
+            jf: 0,
+            k: 0,
+        },
+        true,
+    ),
+    (
+        Insn {
+            code: 5,
+            jt: 0,
+            jf: 0,
+            k: 4294967295,
+        },
+        false,
+    ),
+    (
+        Insn {
+            code: 0x15,
+            jt: 1,
+            jf: 0,
+            k: 0,
+        },
+        false,
+    ),
+    (
+        Insn {
+            code: 0x15,
+            jt: 0,
+            jf: 1,
+            k: 0,
+        },
+        false,
+    ),
+    (
+        Insn {
+            code: 0x15,
+            jt: 0,
+            jf: 0,
+            k: 0,
+        },
+        true,
+    ),
+    (
+        Insn {
+            code: 0x1d,
+            jt: 1,
+            jf: 0,
+            k: 0,
+        },
+        false,
+    ),
+    (
+        Insn {
+            code: 0x1d,
+            jt: 0,
+            jf: 1,
+            k: 0,
+        },
+        false,
+    ),
+];
+
 #[test]
 fn what_is_printable(rt: HostRuntime) {
-    let alloc = rt.alloc();
-    holds(&rt, printable(&[]));
-    holds(&rt, printable(&arp()));
     let end = insn(6, 0, 0, 0);
-    holds(&rt, !printable(&[insn(5, 0, 0, 0)]));
-    holds(&rt, !printable(&[insn(5, 0, 0, 1), end]));
-    holds(&rt, printable(&[insn(5, 0, 0, 0), end]));
-    holds(&rt, !printable(&[insn(5, 0, 0, 4294967295), end]));
-    holds(&rt, !printable(&[insn(0x15, 1, 0, 0), end]));
-    holds(&rt, !printable(&[insn(0x15, 0, 1, 0), end]));
-    holds(&rt, printable(&[insn(0x15, 0, 0, 0), end]));
-    holds(&rt, !printable(&[insn(0x1d, 1, 0, 0), end]));
-    holds(&rt, !printable(&[insn(0x1d, 0, 1, 0), end]));
-    holds(&rt, !printable(&[insn(0x0e, 0, 0, 0), end]));
-    let longest = vec![in alloc; end; 4096].expect(&rt, "there is memory");
-    holds(&rt, printable(&longest));
-    let longer = vec![in alloc; end; 4097].expect(&rt, "there is memory");
-    holds(&rt, !printable(&longer));
+    equal(&rt, printable(&[]), true);
+    equal(&rt, printable(&arp()), true);
+    equal(&rt, printable(&[insn(5, 0, 0, 0)]), false);
+    for (one, wanted) in &BEFORE_A_RETURN {
+        equal_at(&rt, printable(&[*one, end]), *wanted, one);
+    }
+    equal(&rt, printable(&[insn(0x0e, 0, 0, 0), end]), false);
+    for (count, wanted) in [(4096, true), (4097, false)] {
+        let long = vec![in rt.alloc(); end; count].expect(&rt, "there is memory");
+        equal(&rt, printable(&long), wanted);
+    }
 }

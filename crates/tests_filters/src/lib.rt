@@ -10,6 +10,4 @@ mod facts;
 #[cfg(test)]
 mod instructions;
 #[cfg(test)]
-mod machine;
-#[cfg(test)]
 mod verifier;

@@ -10,16 +10,6 @@ fn insn(code: u16, jt: u8, jf: u8, k: u32) -> Insn {
     Insn { code, jt, jf, k }
 }
 
-/// The program of one instruction before `ret #0`.
-fn before_return(code: u16, jt: u8, jf: u8, k: u32) -> [Insn; 2] {
-    [insn(code, jt, jf, k), insn(6, 0, 0, 0)]
-}
-
-/// Why the program is refused, or None if it is accepted.
-fn refusal(alloc: Global, code: &[Insn]) -> Option<Refusal> {
-    verify(alloc, code).err()
-}
-
 /// So many times `txa`, and a return.
 fn txa_program(rt: &impl Abort, alloc: Global, count: usize) -> Vec<Insn> {
     let mut code = vec![in alloc; insn(135, 0, 0, 0); count].expect(rt, "there is memory");
@@ -27,200 +17,18 @@ fn txa_program(rt: &impl Abort, alloc: Global, count: usize) -> Vec<Insn> {
     code
 }
 
-/// A jump over 255 instructions, and the returns below it.
-fn longest_jump(rt: &impl Abort, alloc: Global, returns: usize) -> Vec<Insn> {
-    let mut code = vec![in alloc; insn(21, 255, 0, 0)].expect(rt, "there is memory");
-    for _ in 0..returns {
-        code.push(insn(6, 0, 0, 1)).expect(rt, "there is memory");
-    }
-    code
-}
-
+/// A text of so many instructions is no program, so no command shows this.
 #[test]
-fn sizes(rt: HostRuntime) {
-    let alloc = rt.alloc();
-    equal(&rt, refusal(alloc, &[]), Some(Refusal::Empty));
-    equal(&rt, refusal(alloc, &[insn(6, 0, 0, 5)]), None);
-    let longest = txa_program(&rt, alloc, MAX_INSNS - 1);
-    equal(&rt, longest.len(), 4096);
-    equal(&rt, refusal(alloc, longest.as_slice()), None);
-    let long = txa_program(&rt, alloc, MAX_INSNS);
+fn the_longest_program(rt: HostRuntime) {
+    let long = txa_program(&rt, rt.alloc(), MAX_INSNS);
     equal(&rt, long.len(), 4097);
-    equal(&rt, refusal(alloc, long.as_slice()), Some(Refusal::TooLong));
-}
-
-#[test]
-fn constants(rt: HostRuntime) {
-    let alloc = rt.alloc();
-    for code in [148, 52] {
-        equal(
-            &rt,
-            refusal(alloc, &before_return(code, 0, 0, 0)),
-            Some(Refusal::ZeroDivisor(0)),
-        );
-        equal(&rt, refusal(alloc, &before_return(code, 0, 0, 1)), None);
-    }
-    for code in [100, 116] {
-        equal(
-            &rt,
-            refusal(alloc, &before_return(code, 0, 0, 32)),
-            Some(Refusal::BadShift(0)),
-        );
-        equal(&rt, refusal(alloc, &before_return(code, 0, 0, 31)), None);
-    }
-    for code in [2, 3] {
-        equal(
-            &rt,
-            refusal(alloc, &before_return(code, 0, 0, 16)),
-            Some(Refusal::BadWord(0)),
-        );
-        equal(&rt, refusal(alloc, &before_return(code, 0, 0, 15)), None);
-    }
-    for code in [96, 97] {
-        equal(
-            &rt,
-            refusal(alloc, &before_return(code, 0, 0, 16)),
-            Some(Refusal::BadWord(0)),
-        );
-    }
-    for code in [32, 40, 48] {
-        equal(
-            &rt,
-            refusal(alloc, &before_return(code, 0, 0, 2147483648)),
-            Some(Refusal::Ancillary(0)),
-        );
-        equal(
-            &rt,
-            refusal(alloc, &before_return(code, 0, 0, 2147483647)),
-            None,
-        );
-    }
-    for code in [64, 177] {
-        equal(
-            &rt,
-            refusal(alloc, &before_return(code, 0, 0, 2147483648)),
-            None,
-        );
-    }
-}
-
-#[test]
-fn targets(rt: HostRuntime) {
-    let alloc = rt.alloc();
-    equal(&rt, refusal(alloc, &before_return(5, 0, 0, 0)), None);
-    equal(
-        &rt,
-        refusal(alloc, &before_return(5, 0, 0, 1)),
-        Some(Refusal::JumpOut(0)),
-    );
-    equal(
-        &rt,
-        refusal(alloc, &before_return(5, 0, 0, u32::MAX)),
-        Some(Refusal::JumpOut(0)),
-    );
-    equal(
-        &rt,
-        refusal(alloc, &before_return(21, 1, 0, 0)),
-        Some(Refusal::JumpOut(0)),
-    );
-    equal(
-        &rt,
-        refusal(alloc, &before_return(29, 0, 1, 0)),
-        Some(Refusal::JumpOut(0)),
-    );
-    equal(&rt, refusal(alloc, &longest_jump(&rt, alloc, 256)), None);
-    equal(
-        &rt,
-        refusal(alloc, longest_jump(&rt, alloc, 255).as_slice()),
-        Some(Refusal::JumpOut(0)),
-    );
-}
-
-#[test]
-fn the_first_rule_that_is_broken(rt: HostRuntime) {
-    let alloc = rt.alloc();
-    let two_rules = [insn(255, 0, 0, 0), insn(148, 0, 0, 0)];
-    equal(&rt, refusal(alloc, &two_rules), Some(Refusal::BadCode(0)));
-    let later_place = [insn(0, 0, 0, 0), insn(2, 0, 0, 16), insn(6, 0, 0, 0)];
-    equal(&rt, refusal(alloc, &later_place), Some(Refusal::BadWord(1)));
-    let no_return = [insn(0, 0, 0, 0), insn(148, 0, 0, 0)];
-    equal(
-        &rt,
-        refusal(alloc, &no_return),
-        Some(Refusal::ZeroDivisor(1)),
-    );
-    let unwritten = [insn(96, 0, 0, 0), insn(0, 0, 0, 0)];
-    equal(&rt, refusal(alloc, &unwritten), Some(Refusal::NoReturn));
-}
-
-#[test]
-fn loads_of_unwritten_words(rt: HostRuntime) {
-    let alloc = rt.alloc();
-    let one_arm = [
-        insn(40, 0, 0, 12),
-        insn(21, 0, 1, 2048),
-        insn(2, 0, 0, 0),
-        insn(96, 0, 0, 0),
-        insn(22, 0, 0, 0),
-    ];
-    let path = Places::from_vec([0, 1, 3].to_vec(alloc).expect(&rt, "there is memory"));
-    equal(
-        &rt,
-        refusal(alloc, &one_arm),
-        Some(Refusal::Unwritten {
-            pc: 3,
-            word: 0,
-            path,
-        }),
-    );
-    let least_place = [
-        insn(21, 1, 0, 0),
-        insn(2, 0, 0, 0),
-        insn(96, 0, 0, 0),
-        insn(97, 0, 0, 1),
-        insn(22, 0, 0, 0),
-    ];
-    let path = Places::from_vec([0, 2].to_vec(alloc).expect(&rt, "there is memory"));
-    equal(
-        &rt,
-        refusal(alloc, &least_place),
-        Some(Refusal::Unwritten {
-            pc: 2,
-            word: 0,
-            path,
-        }),
-    );
-}
-
-#[test]
-fn loads_of_written_words(rt: HostRuntime) {
-    let alloc = rt.alloc();
-    let both_arms = [
-        insn(40, 0, 0, 12),
-        insn(21, 0, 2, 2048),
-        insn(2, 0, 0, 0),
-        insn(5, 0, 0, 1),
-        insn(2, 0, 0, 0),
-        insn(96, 0, 0, 0),
-        insn(22, 0, 0, 0),
-    ];
-    equal(&rt, refusal(alloc, &both_arms), None);
-    let unreached = [insn(5, 0, 0, 1), insn(96, 0, 0, 3), insn(6, 0, 0, 0)];
-    equal(&rt, refusal(alloc, &unreached), None);
-    let after_a_return = [
-        insn(21, 1, 0, 0),
-        insn(6, 0, 0, 0),
-        insn(3, 0, 0, 15),
-        insn(97, 0, 0, 15),
-        insn(22, 0, 0, 0),
-    ];
-    equal(&rt, refusal(alloc, &after_a_return), None);
+    equal(&rt, verify(rt.alloc(), &long).err(), Some(Refusal::TooLong));
 }
 
 #[test]
 fn copies(rt: HostRuntime) {
     let alloc = rt.alloc();
-    let code = before_return(40, 0, 0, 12);
+    let code = [insn(40, 0, 0, 12), insn(6, 0, 0, 0)];
     let program = verify(alloc, &code).expect(&rt, "there is memory");
     equal(&rt, program.code(), &code[..]);
     equal(

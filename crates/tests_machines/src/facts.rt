@@ -8,6 +8,16 @@ pub(crate) fn equal<T: Drop + PartialEq + Debug>(rt: &impl Abort, got: T, wanted
     assert_eq!(rt; got, wanted);
 }
 
+/// The two are equal, in this row of a table.
+pub(crate) fn equal_at<T: Drop + PartialEq + Debug, Row: Debug>(
+    rt: &impl Abort,
+    got: T,
+    wanted: T,
+    row: &Row,
+) {
+    assert_eq!(rt; got, wanted, "{row:?}");
+}
+
 /// The fact holds.
 pub(crate) fn holds(rt: &impl Abort, fact: bool) {
     assert!(rt; fact);

@@ -9,115 +9,50 @@ ghost use Rattle.core_loop.specs.Cores.{AreShort};
 ghost use Rattle.core_join.specs.Machines.{HasPlace, IsMachine};
 
 use crate::facts::equal;
-use bpf_insn::{TextFault, read_ddd};
+use crate::words::{ARP, CAP, FILTER, REQUEST, Told, program, tells};
+use bpf_insn::TextFault;
 use core_join::{Histories, conclude, in_order, merge};
 use core_loop::{Core, RingLinks, Stamped};
-use monitor_messages::{Decision, Vote};
+use monitor_messages::Vote;
 use pcap_reader::SharedPacket;
 use rx_queue::{Intake, Job, queue};
 use seq::Shared;
 use std::alloc::{AllocError, Global};
 use std::collections::VecDeque;
 use std::process::Abort;
-use std::test::Fail;
-use table_replica::{Kept, Made, Op, Program};
+use table_replica::Op;
 use ump_ring::ring;
 use world_model::{Answer, Done, Event};
 
-// What an event is, but for programs and packets.
-#[derive(Clone, Copy, PartialEq, Eq, Debug)]
-enum Asked {
-    Start,
-    Submit(u16),
-    StartFor(u16),
-    Take(u16, u16, bool),
-    Rx(u16, u64),
-}
-
-// What its answer tells; of the endpoints that get a packet, how many there are and the first.
-#[derive(Clone, Copy, PartialEq, Eq, Debug)]
-enum Told {
-    Prepared(u64),
-    Decided(Decision),
-    Submitted,
-    TookPrepare(u64, Vote),
-    TookVote(u64, Vote, Option<Decision>),
-    TookCommit(u64, u64),
-    TookAbort(u64, u64),
-    TookAck(u64),
-    TookSubmit,
-    TookReply(Decision),
-    Delivered(u64, usize, Option<Kept>),
-}
-
-// Gives a packet of the address resolution protocol whole to an endpoint, and no other.
-const ARP: &str = "4,40 0 0 12,21 0 1 2054,6 0 0 4294967295,6 0 0 0";
-
-// The destination, source and type of such a packet.
-const REQUEST: [u8; 14] = [
-    0xff, 0xff, 0xff, 0xff, 0xff, 0xff, 0x00, 0x11, 0x22, 0x33, 0x44, 0x55, 0x08, 0x06,
-];
-
-const CREATED: Decision = Decision::Committed {
-    version: 1,
-    made: Made::Cap(1),
-};
-
-const INSTALLED: Decision = Decision::Committed {
-    version: 2,
-    made: Made::Filter(1),
-};
+/// What an event is, but for programs and packets: a word, and three numbers that are 0 where it has none.
+type Asked = (&'static str, u16, u16, u64);
 
 fn kind_of(event: &Event) -> Asked {
     match event {
-        Event::Start { .. } => Asked::Start,
-        Event::Submit { core, .. } => Asked::Submit(*core),
-        Event::StartFor { core } => Asked::StartFor(*core),
-        Event::Take { to, from, short } => Asked::Take(*to, *from, *short),
-        Event::Rx { core, number, .. } => Asked::Rx(*core, *number),
+        Event::Start { .. } => ("start", 0, 0, 0),
+        Event::Submit { core, .. } => ("submit", *core, 0, 0),
+        Event::StartFor { core } => ("start for", *core, 0, 0),
+        Event::Take {
+            to,
+            from,
+            short: false,
+        } => ("take", *to, *from, 0),
+        Event::Take { to, from, .. } => ("take short of memory", *to, *from, 0),
+        Event::Rx { core, number, .. } => ("rx", *core, 0, *number),
     }
 }
 
-fn outcome_of(answer: &Answer) -> Told {
-    match answer {
-        Answer::Prepared { txn } => Told::Prepared(*txn),
-        Answer::Decided(decision) => Told::Decided(*decision),
-        Answer::Submitted => Told::Submitted,
-        Answer::TookPrepare { txn, vote } => Told::TookPrepare(*txn, *vote),
-        Answer::TookVote { txn, vote, decided } => Told::TookVote(*txn, *vote, *decided),
-        Answer::TookCommit { txn, version } => Told::TookCommit(*txn, *version),
-        Answer::TookAbort { txn, version } => Told::TookAbort(*txn, *version),
-        Answer::TookAck { txn } => Told::TookAck(*txn),
-        Answer::TookSubmit => Told::TookSubmit,
-        Answer::TookReply { decision } => Told::TookReply(*decision),
-        Answer::Delivered { version, kept } => {
-            let kept = kept.as_slice();
-            Told::Delivered(*version, kept.len(), kept.first().copied())
-        }
-    }
-}
-
-// The list has just these events.
+/// The list has just these events.
 fn lists(rt: &impl Abort, list: &[Done], wanted: &[(Asked, Told)]) {
     equal(rt, list.len(), wanted.len());
     for (done, wanted) in list.iter().zip(wanted.iter()) {
-        equal(rt, kind_of(&done.event), wanted.0);
-        equal(rt, outcome_of(&done.answer), wanted.1);
+        equal(rt, (kind_of(&done.event), tells(&done.answer)), *wanted);
     }
-}
-
-// The packet goes to endpoint 5, whole, at this version.
-fn delivered(version: u64) -> Told {
-    let kept = Kept {
-        endpoint: 5,
-        kept: 14,
-    };
-    Told::Delivered(version, 1, Some(kept))
 }
 
 // A creation of a capability, and an installation of a filter under it.
 fn installation(alloc: Global) -> Result<VecDeque<Op>, TextFault> {
-    let program = Program::from_vec(alloc, read_ddd(alloc, ARP.as_bytes())?)?;
+    let program = program(alloc, ARP)?;
     let mut requests = VecDeque::new(alloc);
     requests.push_back(creation())?;
     requests.push_back(Op::Install {
@@ -251,135 +186,126 @@ fn run_of(
     merge(alloc, &conclude(alloc, cores)?)
 }
 
-#[test]
-fn a_core_alone(rt: HostRuntime) -> Result<(), Fail> {
-    let alloc = rt.alloc();
-    let list = run_alone(alloc, installation(alloc)?)?;
-    lists(
-        &rt,
-        &list,
-        &[
-            (Asked::Start, Told::Decided(CREATED)),
-            (Asked::Start, Told::Decided(INSTALLED)),
-            (Asked::Rx(0, 7), delivered(2)),
-        ],
-    );
-    Ok(())
-}
+static ALONE: [(Asked, Told); 3] = [
+    (("start", 0, 0, 0), Told::Decided(CAP)),
+    (("start", 0, 0, 0), Told::Decided(FILTER)),
+    (("rx", 0, 0, 7), Told::Delivered(2, 1, 5, 14)),
+];
 
 #[test]
-fn two_cores_install_and_receive(rt: HostRuntime) -> Result<(), Fail> {
+fn a_core_alone(rt: HostRuntime) {
     let alloc = rt.alloc();
-    let list = run_of(alloc, installation(alloc)?, VecDeque::new(alloc))?;
-    lists(
-        &rt,
-        &list,
-        &[
-            (Asked::Start, Told::Prepared(1)),
-            (Asked::Take(1, 0, false), Told::TookPrepare(1, Vote::Yes)),
-            (
-                Asked::Take(0, 1, false),
-                Told::TookVote(1, Vote::Yes, Some(CREATED)),
-            ),
-            (Asked::Take(1, 0, false), Told::TookCommit(1, 1)),
-            (Asked::Take(0, 1, false), Told::TookAck(1)),
-            (Asked::Start, Told::Prepared(2)),
-            (Asked::Take(1, 0, false), Told::TookPrepare(2, Vote::Yes)),
-            (
-                Asked::Take(0, 1, false),
-                Told::TookVote(2, Vote::Yes, Some(INSTALLED)),
-            ),
-            (Asked::Rx(0, 7), delivered(2)),
-            (Asked::Take(1, 0, false), Told::TookCommit(2, 2)),
-            (Asked::Take(0, 1, false), Told::TookAck(2)),
-            (Asked::Rx(1, 8), delivered(2)),
-        ],
-    );
-    Ok(())
+    let requests = installation(alloc).expect(&rt, "there is memory");
+    let list = run_alone(alloc, requests).expect(&rt, "there is memory");
+    lists(&rt, &list, &ALONE);
 }
 
+static INSTALLED: [(Asked, Told); 12] = [
+    (("start", 0, 0, 0), Told::Prepared(1)),
+    (("take", 1, 0, 0), Told::TookPrepare(1, Vote::Yes)),
+    (("take", 0, 1, 0), Told::TookVote(1, Vote::Yes, Some(CAP))),
+    (("take", 1, 0, 0), Told::TookCommit(1, 1)),
+    (("take", 0, 1, 0), Told::TookAck(1)),
+    (("start", 0, 0, 0), Told::Prepared(2)),
+    (("take", 1, 0, 0), Told::TookPrepare(2, Vote::Yes)),
+    (
+        ("take", 0, 1, 0),
+        Told::TookVote(2, Vote::Yes, Some(FILTER)),
+    ),
+    (("rx", 0, 0, 7), Told::Delivered(2, 1, 5, 14)),
+    (("take", 1, 0, 0), Told::TookCommit(2, 2)),
+    (("take", 0, 1, 0), Told::TookAck(2)),
+    (("rx", 1, 0, 8), Told::Delivered(2, 1, 5, 14)),
+];
+
+static SUBMITTED: [(Asked, Told); 8] = [
+    (("submit", 1, 0, 0), Told::Submitted),
+    (("take", 0, 1, 0), Told::TookSubmit),
+    (("start for", 1, 0, 0), Told::Prepared(1)),
+    (("take", 1, 0, 0), Told::TookPrepare(1, Vote::Yes)),
+    (("take", 0, 1, 0), Told::TookVote(1, Vote::Yes, Some(CAP))),
+    (("take", 1, 0, 0), Told::TookCommit(1, 1)),
+    (("take", 0, 1, 0), Told::TookAck(1)),
+    (("take", 1, 0, 0), Told::TookReply(CAP)),
+];
+
+// Two cores install and receive; then core 0 decides a request of core 1.
 #[test]
-fn core_0_decides_a_request_of_core_1(rt: HostRuntime) -> Result<(), Fail> {
+fn two_cores_beside_each_other(rt: HostRuntime) {
     let alloc = rt.alloc();
-    let list = run_of(alloc, VecDeque::new(alloc), submission(alloc)?)?;
-    lists(
-        &rt,
-        &list,
-        &[
-            (Asked::Submit(1), Told::Submitted),
-            (Asked::Take(0, 1, false), Told::TookSubmit),
-            (Asked::StartFor(1), Told::Prepared(1)),
-            (Asked::Take(1, 0, false), Told::TookPrepare(1, Vote::Yes)),
-            (
-                Asked::Take(0, 1, false),
-                Told::TookVote(1, Vote::Yes, Some(CREATED)),
-            ),
-            (Asked::Take(1, 0, false), Told::TookCommit(1, 1)),
-            (Asked::Take(0, 1, false), Told::TookAck(1)),
-            (Asked::Take(1, 0, false), Told::TookReply(CREATED)),
-        ],
-    );
-    Ok(())
+    let requests = installation(alloc).expect(&rt, "there is memory");
+    let list = run_of(alloc, requests, VecDeque::new(alloc)).expect(&rt, "there is memory");
+    lists(&rt, &list, &INSTALLED);
+    let submissions = submission(alloc).expect(&rt, "there is memory");
+    let list = run_of(alloc, VecDeque::new(alloc), submissions).expect(&rt, "there is memory");
+    lists(&rt, &list, &SUBMITTED);
 }
 
-// The core took a message of the other under this stamp.
-fn took(stamp: u64, to: u16, from: u16, answer: Answer) -> Stamped {
-    let event = Event::Take {
-        to,
-        from,
-        short: false,
-    };
-    Stamped {
-        stamp,
-        done: Done { event, answer },
+/// Takes of messages by hand: the core, the stamp, the core that each message is from, and what is told.
+type Took = (u16, u64, u16, Told);
+
+/// Histories of four cores, the last one empty.
+static HISTORIES: [&[Took]; 4] = [
+    &[(0, 4, 1, Told::TookSubmit), (0, 7, 2, Told::TookAck(3))],
+    &[
+        (1, 4, 0, Told::TookPrepare(3, Vote::NoMemory)),
+        (1, 9, 0, Told::TookAbort(3, 0)),
+    ],
+    &[
+        (2, 3, 0, Told::TookPrepare(3, Vote::Budget)),
+        (2, 4, 0, Told::TookAbort(3, 0)),
+    ],
+    &[],
+];
+
+fn answer(told: Told) -> Answer {
+    match told {
+        Told::TookPrepare(txn, vote) => Answer::TookPrepare { txn, vote },
+        Told::TookAbort(txn, version) => Answer::TookAbort { txn, version },
+        Told::TookAck(txn) => Answer::TookAck { txn },
+        _ => Answer::TookSubmit,
     }
 }
 
-fn vote(txn: u64, vote: Vote) -> Answer {
-    Answer::TookPrepare { txn, vote }
+fn history(alloc: Global, takes: &[Took]) -> Result<Vec<Stamped>, AllocError> {
+    let mut history = Vec::new(alloc);
+    for (to, stamp, from, told) in takes {
+        let event = Event::Take {
+            to: *to,
+            from: *from,
+            short: false,
+        };
+        let answer = answer(*told);
+        history.push(Stamped {
+            stamp: *stamp,
+            done: Done { event, answer },
+        })?;
+    }
+    Ok(history)
 }
 
-fn abort(txn: u64) -> Answer {
-    Answer::TookAbort { txn, version: 0 }
-}
-
-// Two events of a core.
-fn history(alloc: Global, earlier: Stamped, later: Stamped) -> Result<Vec<Stamped>, AllocError> {
-    Ok(vec![in alloc; earlier, later]?)
-}
-
-// Histories of four cores, the last one empty.
-fn by_hand(alloc: Global) -> Result<Histories, AllocError> {
+fn by_hand(alloc: Global) -> Result<Vec<Done>, AllocError> {
     let mut cores = Vec::new(alloc);
-    let submit = took(4, 0, 1, Answer::TookSubmit);
-    let ack = took(7, 0, 2, Answer::TookAck { txn: 3 });
-    cores.push(history(alloc, submit, ack)?)?;
-    let no_memory = took(4, 1, 0, vote(3, Vote::NoMemory));
-    cores.push(history(alloc, no_memory, took(9, 1, 0, abort(3)))?)?;
-    let over_budget = took(3, 2, 0, vote(3, Vote::Budget));
-    cores.push(history(alloc, over_budget, took(4, 2, 0, abort(3)))?)?;
-    cores.push(Vec::new(alloc))?;
-    Ok(Histories { cores })
+    for takes in &HISTORIES {
+        cores.push(history(alloc, takes)?)?;
+    }
+    merge(alloc, &Histories { cores })
 }
+
+static BY_STAMP_AND_CORE: [(Asked, Told); 6] = [
+    (("take", 2, 0, 0), Told::TookPrepare(3, Vote::Budget)),
+    (("take", 0, 1, 0), Told::TookSubmit),
+    (
+        ("take short of memory", 1, 0, 0),
+        Told::TookPrepare(3, Vote::NoMemory),
+    ),
+    (("take", 2, 0, 0), Told::TookAbort(3, 0)),
+    (("take", 0, 2, 0), Told::TookAck(3)),
+    (("take", 1, 0, 0), Told::TookAbort(3, 0)),
+];
 
 #[test]
-fn histories_by_stamp_and_core(rt: HostRuntime) -> Result<(), Fail> {
-    let alloc = rt.alloc();
-    let list = merge(alloc, &by_hand(alloc)?)?;
-    lists(
-        &rt,
-        &list,
-        &[
-            (Asked::Take(2, 0, false), Told::TookPrepare(3, Vote::Budget)),
-            (Asked::Take(0, 1, false), Told::TookSubmit),
-            (
-                Asked::Take(1, 0, true),
-                Told::TookPrepare(3, Vote::NoMemory),
-            ),
-            (Asked::Take(2, 0, false), Told::TookAbort(3, 0)),
-            (Asked::Take(0, 2, false), Told::TookAck(3)),
-            (Asked::Take(1, 0, false), Told::TookAbort(3, 0)),
-        ],
-    );
-    Ok(())
+fn histories_by_stamp_and_core(rt: HostRuntime) {
+    let list = by_hand(rt.alloc()).expect(&rt, "there is memory");
+    lists(&rt, &list, &BY_STAMP_AND_CORE);
 }

@@ -1,4 +1,4 @@
-//! Tests of machines by their public calls: all cores as one value, a core that runs, joined cores, cores as threads.
+//! Tests of machines by their public calls: a core that runs, joined cores, cores as threads.
 #![tactic(auto)]
 
 #[cfg(test)]
@@ -10,4 +10,4 @@ mod running;
 #[cfg(test)]
 mod threads;
 #[cfg(test)]
-mod world;
+mod words;

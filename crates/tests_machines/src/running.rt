@@ -8,22 +8,10 @@ ghost use Rattle.std.specs.Prelude.{◌≤◌, ◌<◌};
 ghost use Rattle.filter_table.specs.Tables.{HasShortProgram};
 
 use core_loop::{Core, ListLinks};
-use pcap_reader::SharedPacket;
-use rx_queue::{Job, Port, queue};
-use seq::Shared;
+use rx_queue::{Port, queue};
 use std::alloc::{AllocError, Global};
 use std::collections::VecDeque;
 use table_replica::Op;
-
-// A job of a packet of five bytes, for a table of this version or a later one.
-pub(crate) fn job(alloc: Global, number: u64, floor: u64) -> Result<Job, AllocError> {
-    let bytes = Vec::from_slice(alloc, &[1, 2, 3, 4, 5])?;
-    Ok(Job {
-        number,
-        packet: SharedPacket::new(Shared::from_vec(alloc, bytes)?, 5),
-        floor,
-    })
-}
 
 pub(crate) fn create() -> Op
     ensures { HasShortProgram result }

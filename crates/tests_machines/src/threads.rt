@@ -5,14 +5,11 @@ ghost use Rattle.core_join.specs.Machines.{IsMachine};
 ghost use Rattle.core_threads.specs.Booting.{AreGivable};
 
 use crate::facts::{equal, holds};
-use bpf_insn::read_ddd;
+use crate::words::{ALL, Told, is_for_memory, job, program, tells};
 use core_join::{conclude, merge};
 use core_loop::{Core, RingLinks};
 use core_threads::{BootFault, Ended, Free, Gate, Halt, Machine, RunFault, boot, run_machine};
-use monitor_messages::{Decision, Veto, Vote};
-use pcap_reader::SharedPacket;
 use rx_queue::Job;
-use seq::Shared;
 use std::alloc::{AllocError, Global};
 use std::process::Abort;
 use std::sync::Wait;
@@ -20,24 +17,11 @@ use std::sync::atomic::{AtomicBool, AtomicU64, Ordering};
 use std::test::Fail;
 use std::thread::Threads;
 use std::time::Clock;
-use table_replica::{Kept, Op, Program};
-use world_model::{Answer, Done, Event};
+use table_replica::Op;
+use world_model::{Done, Event};
 
 // A limit that is never met.
 const LIMIT: u64 = 50_000_000;
-
-// Accepts every packet.
-const ALL: &str = "1,6 0 0 65535";
-
-// A job with a packet of five bytes.
-fn job(alloc: Global, number: u64, floor: u64) -> Result<Job, Fail> {
-    let bytes = Vec::from_slice(alloc, &[1, 2, 3, 4, 5])?;
-    Ok(Job {
-        number,
-        packet: SharedPacket::new(Shared::from_vec(alloc, bytes)?, 5),
-        floor,
-    })
-}
 
 // On core 0 of so many, domain 1 creates endpoint 7 and installs a filter that accepts every packet.
 fn requests(alloc: Global, cores: usize) -> Result<Vec<(u16, Op)>, Fail>
@@ -59,7 +43,7 @@ fn requests(alloc: Global, cores: usize) -> Result<Vec<(u16, Op)>, Fail>
         Op::Install {
             domain: 1,
             cap: 1,
-            program: Program::from_vec(alloc, read_ddd(alloc, ALL.as_bytes())?)?,
+            program: program(alloc, ALL)?,
         },
     ))?;
     Ok(requests)
@@ -92,55 +76,39 @@ fn worked_run<R: Threads + Wait + Clock + Sync>(
     Ok(run_machine(rt, alloc, machine, jobs, &Free, LIMIT)?)
 }
 
-// How many events a machine of two cores has in its one list.
-fn count_events<R: Threads + Wait + Clock + Sync>(rt: &R, alloc: Global) -> Result<usize, Fail> {
-    let ended = worked_run(rt, alloc, &[100, 100])?;
-    let histories = conclude(alloc, ended.cores)?;
-    let list = merge(alloc, &histories)?;
-    Ok(list.len())
-}
-
-#[test]
-fn what_two_cores_did_is_one_run(rt: HostRuntime) -> Result<(), Fail> {
-    let count = count_events(&rt, rt.alloc())?;
-    equal(&rt, count, 11);
-    Ok(())
-}
-
-// The last event of a core where that is a receipt: the job's number, the version, how many endpoints get the packet, and the
-// first of them.
-fn last_receipt(ended: &Ended, place: usize) -> Option<(u64, u64, usize, Option<Kept>)> {
+// The last event of a core where that is a receipt: the job's number, and what is told.
+fn last_receipt(ended: &Ended, place: usize) -> Option<(u64, Told)> {
     let last = ended.cores.get(place)?.history().last()?;
-    match (&last.done.event, &last.done.answer) {
-        (Event::Rx { number, .. }, Answer::Delivered { version, kept }) => {
-            let kept = kept.as_slice();
-            Some((*number, *version, kept.len(), kept.first().copied()))
-        }
+    match &last.done.event {
+        Event::Rx { number, .. } => Some((*number, tells(&last.done.answer))),
         _ => None,
     }
+}
+
+// The core and the number of the first job that was left, and how many were left.
+fn left(ended: &Ended) -> Option<(u16, u64, usize)> {
+    let (core, job) = ended.left.first()?;
+    Some((*core, job.number, ended.left.len()))
 }
 
 fn ends_as_worked(rt: &impl Abort, ended: &Ended, cores: usize) {
     equal(rt, ended.halted, None);
     equal(rt, ended.cores.len(), cores);
     for core in &ended.cores {
-        equal(rt, core.version(), 2);
-        equal(rt, core.pending(), 0);
+        equal(rt, (core.version(), core.pending()), (2, 0));
     }
-    let kept = Kept {
-        endpoint: 7,
-        kept: 5,
-    };
-    equal(rt, last_receipt(ended, 1), Some((1, 2, 1, Some(kept))));
-    equal(rt, ended.left.len(), 1);
-    let left = ended.left.first().map(|left| (left.0, left.1.number));
-    equal(rt, left, Some((1, 2)));
+    let received = Told::Delivered(2, 1, 7, 5);
+    equal(rt, last_receipt(ended, 1), Some((1, received)));
+    equal(rt, left(ended), Some((1, 2, 1)));
 }
 
+// What two cores did is one run, of so many events.
 #[test]
 fn two_cores_commit_and_receive(rt: HostRuntime) -> Result<(), Fail> {
     let ended = worked_run(&rt, rt.alloc(), &[100, 100])?;
     ends_as_worked(&rt, &ended, 2);
+    let list = list_of(rt.alloc(), ended.cores)?;
+    equal(&rt, list.len(), 11);
     Ok(())
 }
 
@@ -162,17 +130,19 @@ impl Gate for Never {
     fn did(&self, _core: u16, _number: u64) {}
 }
 
-#[test]
-fn a_core_halts_at_its_limit(rt: HostRuntime) -> Result<(), Fail> {
-    let alloc = rt.alloc();
+// Runs one core, which has a job that it may never receive.
+fn halting_run<R: Threads + Wait + Clock + Sync>(rt: &R, alloc: Global) -> Result<Ended, Fail> {
     let mut jobs = Vec::new(alloc);
     jobs.push((0, job(alloc, 1, 0)?))?;
     let machine = boot(alloc, &[100], Vec::new(alloc))?;
-    let ended = run_machine(&rt, alloc, machine, jobs, &Never, 1_000)?;
+    Ok(run_machine(rt, alloc, machine, jobs, &Never, 1_000)?)
+}
+
+#[test]
+fn a_core_halts_at_its_limit(rt: HostRuntime) -> Result<(), Fail> {
+    let ended = halting_run(&rt, rt.alloc())?;
     equal(&rt, ended.halted, Some((0, Halt::Limit)));
-    let left = ended.left.first().map(|left| (left.0, left.1.number));
-    equal(&rt, left, Some((0, 1)));
-    equal(&rt, ended.left.len(), 1);
+    equal(&rt, left(&ended), Some((0, 1, 1)));
     Ok(())
 }
 
@@ -205,34 +175,42 @@ impl Gate for Meeting {
     fn did(&self, _core: u16, _number: u64) {}
 }
 
-#[test]
-fn two_cores_wait_for_each_other(rt: HostRuntime) -> Result<(), Fail> {
-    let alloc = rt.alloc();
+// Runs two cores with a job each.
+fn meeting_run<R: Threads + Wait + Clock + Sync>(
+    rt: &R,
+    alloc: Global,
+    gate: &Meeting,
+) -> Result<Ended, Fail> {
     let mut jobs = Vec::new(alloc);
     jobs.push((0, job(alloc, 1, 0)?))?;
     jobs.push((1, job(alloc, 2, 0)?))?;
+    let machine = boot(alloc, &[100, 100], Vec::new(alloc))?;
+    Ok(run_machine(rt, alloc, machine, jobs, gate, LIMIT)?)
+}
+
+#[test]
+fn two_cores_wait_for_each_other(rt: HostRuntime) -> Result<(), Fail> {
     let gate = Meeting {
         here: [AtomicBool::new(false), AtomicBool::new(false)],
         met: AtomicU64::new(0),
     };
-    let machine = boot(alloc, &[100, 100], Vec::new(alloc))?;
-    let ended = run_machine(&rt, alloc, machine, jobs, &gate, LIMIT)?;
+    let ended = meeting_run(&rt, rt.alloc(), &gate)?;
     equal(&rt, ended.halted, None);
     equal(&rt, gate.met.load(Ordering::SeqCst), 2);
-    equal(&rt, last_receipt(&ended, 0), Some((1, 0, 0, None)));
-    equal(&rt, last_receipt(&ended, 1), Some((2, 0, 0, None)));
-    holds(&rt, ended.left.is_empty());
+    let nobody = Told::Delivered(0, 0, 0, 0);
+    equal(&rt, last_receipt(&ended, 0), Some((1, nobody)));
+    equal(&rt, last_receipt(&ended, 1), Some((2, nobody)));
+    equal(&rt, left(&ended), None);
     Ok(())
 }
 
 #[test]
-fn a_machine_has_1_to_8_cores(rt: HostRuntime) -> Result<(), Fail> {
+fn a_machine_has_1_to_8_cores(rt: HostRuntime) {
     let alloc = rt.alloc();
     let none = boot(alloc, &[], Vec::new(alloc));
     equal(&rt, none.err(), Some(BootFault::CoreCount));
     let nine = boot(alloc, &[100; 9], Vec::new(alloc));
     equal(&rt, nine.err(), Some(BootFault::CoreCount));
-    Ok(())
 }
 
 // Runs a machine of two cores that may be refused memory: its end, or why there is none.
@@ -260,26 +238,6 @@ fn list_of(alloc: Global, cores: Vec<Core<RingLinks>>) -> Result<Vec<Done>, Allo
     merge(alloc, &conclude(alloc, cores)?)
 }
 
-// Whether a core voted, or decided, that there was no memory.
-fn lacked_memory(list: &[Done]) -> bool {
-    list.iter().any(|done| match &done.answer {
-        Answer::TookPrepare { vote, .. } => *vote == Vote::NoMemory,
-        Answer::Decided(decision) => is_for_memory(*decision),
-        Answer::TookVote {
-            decided: Some(decision),
-            ..
-        } => is_for_memory(*decision),
-        _ => false,
-    })
-}
-
-fn is_for_memory(decision: Decision) -> bool {
-    match decision {
-        Decision::Refused { why, .. } => why == Veto::NoMemory,
-        Decision::Committed { .. } => false,
-    }
-}
-
 // An end with ample memory has all events. Else a core halted, voted or decided that there was none.
 fn ends_within<A: Abort>(rt: &A, alloc: Global, ended: Ended)
     requires { (budget : ℕ) × (rest : List ℕ) × IsMachine budget rest ended.cores.items }
@@ -296,7 +254,8 @@ fn ends_within<A: Abort>(rt: &A, alloc: Global, ended: Ended)
     }
     holds(rt, !left.is_empty() && left.len() <= 2);
     if let Ok(list) = list_of(alloc, cores) {
-        holds(rt, list.len() == 11 || lacked_memory(&list));
+        let lacked_memory = list.iter().any(|done| is_for_memory(&done.answer));
+        holds(rt, list.len() == 11 || lacked_memory);
     }
 }
 

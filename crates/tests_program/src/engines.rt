@@ -3,84 +3,56 @@
 ghost use Rattle.std.specs.Prelude.{IfOk};
 ghost use Rattle.script_input.specs.Inputs.{AllFresh};
 
-use console::{EngineFault, INPUT_READS, STREAM_READS, Sink, Source};
-use core_threads::Gate;
+use console::{
+    EngineFault, INPUT_READS, STREAM_READS, Sink, Source, run_check, run_dump, run_match,
+    run_stream,
+};
+use core_threads::Free;
+use draw_engine::run_draw;
+use graph_engine::{run_explain, run_graph};
 use run_engine::RunFailure;
 use std::alloc::{AllocError, Global};
-use std::io::{Read, Write};
+use std::io::{Cursor, Read, Write};
 use std::sync::Wait;
 use std::thread::Threads;
 use std::time::Clock;
 use world_core::Channel;
 
-pub fn run_match<R: Read, W: Write>(
-    alloc: Global,
-    code: &[u8],
-    pcap: bool,
-    reader: &mut R,
-    writer: &mut W,
-) -> Result<u8, EngineFault> {
-    let mut source = Source::new(reader, INPUT_READS);
-    console::run_match(alloc, code, pcap, &mut source, &mut Sink::new(writer))
+/// A command that reads standard input alone. The flags are `--pcap` and `--asm`.
+#[derive(Clone, Copy)]
+pub enum Command<'a> {
+    Match(&'a str, bool),
+    Stream(&'a str, bool),
+    Explain(&'a str),
+    Check(bool),
+    Graph,
+    Dump,
+    Draw,
 }
 
-pub fn run_stream<R: Read, W: Write>(
+/// The status of a command.
+pub fn run<R: Read, W: Write>(
     alloc: Global,
-    code: &[u8],
-    pcap: bool,
+    command: Command<'_>,
     reader: &mut R,
     writer: &mut W,
 ) -> Result<u8, EngineFault> {
-    let mut source = Source::new(reader, STREAM_READS);
-    console::run_stream(alloc, code, pcap, &mut source, &mut Sink::new(writer))
-}
-
-pub fn run_check<R: Read, W: Write>(
-    alloc: Global,
-    asm: bool,
-    reader: &mut R,
-    writer: &mut W,
-) -> Result<u8, EngineFault> {
+    let mut sink = Sink::new(writer);
+    if let Command::Stream(code, pcap) = command {
+        let mut source = Source::new(reader, STREAM_READS);
+        return run_stream(alloc, code.as_bytes(), pcap, &mut source, &mut sink);
+    }
     let mut source = Source::new(reader, INPUT_READS);
-    console::run_check(alloc, asm, &mut source, &mut Sink::new(writer))
-}
-
-pub fn run_dump<R: Read, W: Write>(
-    alloc: Global,
-    reader: &mut R,
-    writer: &mut W,
-) -> Result<u8, EngineFault> {
-    let mut source = Source::new(reader, INPUT_READS);
-    console::run_dump(alloc, &mut source, &mut Sink::new(writer))
-}
-
-pub fn run_graph<R: Read, W: Write>(
-    alloc: Global,
-    reader: &mut R,
-    writer: &mut W,
-) -> Result<u8, EngineFault> {
-    let mut source = Source::new(reader, INPUT_READS);
-    graph_engine::run_graph(alloc, &mut source, &mut Sink::new(writer))
-}
-
-pub fn run_explain<R: Read, W: Write>(
-    alloc: Global,
-    code: &[u8],
-    reader: &mut R,
-    writer: &mut W,
-) -> Result<u8, EngineFault> {
-    let mut source = Source::new(reader, INPUT_READS);
-    graph_engine::run_explain(alloc, code, &mut source, &mut Sink::new(writer))
-}
-
-pub fn run_draw<R: Read, W: Write>(
-    alloc: Global,
-    plain: bool,
-    reader: &mut R,
-    writer: &mut W,
-) -> Result<u8, EngineFault> {
-    let mut source = Source::new(reader, INPUT_READS);
-    draw_engine::run_draw(alloc, plain, &mut source, &mut Sink::new(writer))
+    match command {
+        Command::Match(code, pcap) | Command::Stream(code, pcap) => {
+            run_match(alloc, code.as_bytes(), pcap, &mut source, &mut sink)
+        }
+        Command::Explain(code) => run_explain(alloc, code.as_bytes(), &mut source, &mut sink),
+        Command::Check(asm) => run_check(alloc, asm, &mut source, &mut sink),
+        Command::Graph => run_graph(alloc, &mut source, &mut sink),
+        Command::Dump => run_dump(alloc, &mut source, &mut sink),
+        Command::Draw => run_draw(alloc, false, &mut source, &mut sink),
+    }
 }
 
 /// Sources of these files, of which nothing was read.
@@ -94,18 +66,7 @@ fn sources<F: Read + Drop>(alloc: Global, files: Vec<F>) -> Result<Vec<Source<F>
     Ok(sources)
 }
 
-pub fn run_sim<R: Read, F: Read + Drop, W: Write>(
-    alloc: Global,
-    files: Vec<F>,
-    reader: &mut R,
-    writer: &mut W,
-) -> Result<u8, EngineFault> {
-    let mut files = sources(alloc, files)?;
-    let mut source = Source::new(reader, INPUT_READS);
-    sim_engine::run_sim(alloc, &mut files, &mut source, &mut Sink::new(writer))
-}
-
-pub fn run_sim_over<C: Channel, R: Read, F: Read + Drop, W: Write>(
+pub fn run_sim<C: Channel, R: Read, F: Read + Drop, W: Write>(
     alloc: Global,
     files: Vec<F>,
     reader: &mut R,
@@ -117,22 +78,15 @@ pub fn run_sim_over<C: Channel, R: Read, F: Read + Drop, W: Write>(
     sim_engine::run_sim_over::<C, &mut R, F, &mut W>(alloc, &mut files, &mut source, &mut sink)
 }
 
-pub fn run_run<T: Threads + Wait + Clock + Sync, G: Gate + Sync, R: Read, F: Read + Drop, W: Write>(
+pub fn run_run<T: Threads + Wait + Clock + Sync, R: Read, W: Write>(
     threads: &T,
     alloc: Global,
-    gate: &G,
-    files: Vec<F>,
     reader: &mut R,
     writer: &mut W,
 ) -> Result<u8, RunFailure> {
+    let files: Vec<Cursor<&[u8]>> = Vec::new(alloc);
     let mut files = sources(alloc, files)?;
     let mut source = Source::new(reader, INPUT_READS);
-    run_engine::run_run(
-        threads,
-        alloc,
-        gate,
-        &mut files,
-        &mut source,
-        &mut Sink::new(writer),
-    )
+    let mut sink = Sink::new(writer);
+    run_engine::run_run(threads, alloc, &Free, &mut files, &mut source, &mut sink)
 }

@@ -1,9 +1,8 @@
-//! The engines over readers and writers in memory, some of which fail.
+//! The commands that read standard input alone, over readers and writers in memory, some of which fail.
 
 mod captures;
-mod checks;
 mod devices;
-mod matches;
+mod limits;
 mod memory;
 mod records;
 mod streams;

@@ -1,8 +1,9 @@
-//! Tests of the program's engines by their public calls, with exact output: filters, scripts, traces, pictures, runs.
+//! Tests of the program's engines by their public calls, with exact output: filters, scripts, runs. Rows of inputs and outputs that need
+//! no call of their own are in the folder rows/.
 #![tactic(auto)]
 
 #[cfg(test)]
-mod drawings;
+mod devices;
 #[cfg(test)]
 mod engines;
 #[cfg(test)]
@@ -10,18 +11,12 @@ mod facts;
 #[cfg(test)]
 mod filters;
 #[cfg(test)]
-mod graphs;
-#[cfg(test)]
 mod lines;
 #[cfg(test)]
 mod page;
-#[cfg(test)]
-mod repeated;
 #[cfg(test)]
 mod run;
 #[cfg(test)]
 mod scripts;
 #[cfg(test)]
 mod sim;
-#[cfg(test)]
-mod traces;

@@ -1,293 +1,338 @@
-//! Worked calls of the protocol.
-ghost use Rattle.monitor_2pc.specs.Participants.{StagedByVote};
-ghost use Rattle.monitor_2pc.specs.Coordinators.{StagedByPhase};
-
-use crate::facts::{equal, holds};
-use monitor_2pc::{
-    Coordinator, Decision, Message, Participant, Say, StartFault, Step, Stranger, Veto, Vote,
-};
+//! Worked calls of the protocol: what each role answers to messages that fit and to strangers.
+use crate::asks::{Ask, Sent};
+use crate::cores::{Heard, Home, Peer, asked};
+use crate::facts::equal_at;
+use monitor_2pc::{Decision, Message, Say, StartFault, Step, Veto, Vote};
 use std::alloc::Global;
 use std::process::Abort;
-use std::test::Fail;
-use table_replica::{Made, Op, OpFault, Program, Replica};
+use table_replica::{Made, Op, OpFault};
 
-fn create(endpoint: u16) -> Op {
-    Op::Create {
-        domain: 1,
-        endpoint,
+/// A call on core 0.
+#[derive(Clone, Copy)]
+enum Call {
+    Start(Ask),
+    /// The core keeps a request of the other.
+    Submit(u16, Ask),
+    StartFor(u16),
+    Vote(u16, u64, Vote),
+    Ack(u16, u64),
+    /// Whether the core has the creation of endpoint 7 by domain 1 waiting, or nothing.
+    Waits(u16),
+    IsIdle,
+    IsStaged,
+}
+
+/// What core 0 answers: a step, or a word.
+type Said = Result<Step, &'static str>;
+
+fn of_start(answer: Result<Step, StartFault>) -> Said {
+    match answer {
+        Ok(step) => Ok(step),
+        Err(StartFault::NotIdle) => Err("not idle"),
+        Err(StartFault::Spent) => Err("spent"),
+        Err(StartFault::NoneWaiting) => Err("none waiting"),
     }
 }
 
-fn committed(version: u64, made: Made) -> Decision {
-    Decision::Committed { version, made }
+fn word(fact: bool, yes: &'static str, no: &'static str) -> Said {
+    if fact { Err(yes) } else { Err(no) }
 }
 
-fn told(txn: u64, say: Option<Say>, decided: Option<Decision>) -> Step {
-    Step {
-        txn,
-        say,
-        decided,
-        reply: None,
-    }
-}
-
-#[test]
-fn messages_of_other_cores(rt: HostRuntime) -> Result<(), Fail> {
-    let alloc = rt.alloc();
-    let mut replica = Replica::new(alloc, 9)?;
-    let mut core = Participant::new(0);
-    let ack = Message::Ack { txn: 0 };
-    holds(&rt, core.answer(alloc, &mut replica, &ack, false).is_err());
-    let submit = Message::Submit { op: create(7) };
-    holds(
-        &rt,
-        core.answer(alloc, &mut replica, &submit, false).is_err(),
-    );
-    let decision = committed(1, Made::Cap(1));
-    let reply = Message::Reply { decision };
-    holds(
-        &rt,
-        core.answer(alloc, &mut replica, &reply, false).is_err(),
-    );
-    Ok(())
-}
-
-#[test]
-fn numbers_are_spent(rt: HostRuntime) -> Result<(), Fail> {
-    let alloc = rt.alloc();
-    let mut replica = Replica::new(alloc, 9)?;
-    let mut core = Coordinator::new(2, 18_446_744_073_709_551_615);
-    let spent = core.start(alloc, &mut replica, &create(7));
-    equal(&rt, spent, Err(StartFault::Spent));
-    holds(&rt, core.submit(1, create(7)).is_ok());
-    let spent = core.start_for(alloc, &mut replica, 1);
-    equal(&rt, spent, Err(StartFault::Spent));
-    holds(&rt, core.waiting(1).is_some());
-    Ok(())
-}
-
-#[test]
-fn one_core_alone(rt: HostRuntime) -> Result<(), Fail> {
-    let alloc = rt.alloc();
-    let mut replica = Replica::new(alloc, 9)?;
-    let mut core = Coordinator::new(1, 0);
-    let made = core.start(alloc, &mut replica, &create(7));
-    let decision = committed(1, Made::Cap(1));
-    equal(&rt, made, Ok(told(1, None, Some(decision))));
-    let refused = core.start(alloc, &mut replica, &create(7));
-    let why = Veto::Rule(OpFault::EndpointTaken);
-    let decision = Decision::Refused { core: 0, why };
-    equal(&rt, refused, Ok(told(1, None, Some(decision))));
-    Ok(())
-}
-
-/// Of the cores that refuse, the least is named, whichever is heard first.
-#[test]
-fn the_least_core_is_named(rt: HostRuntime) -> Result<(), Fail> {
-    let alloc = rt.alloc();
-    let mut table = Replica::new(alloc, 9)?;
-    let mut core = Coordinator::new(4, 8);
-    holds(&rt, core.start(alloc, &mut table, &create(7)).is_ok());
-    holds(&rt, core.vote(&mut table, 3, 9, Vote::NoMemory).is_ok());
-    holds(&rt, core.vote(&mut table, 2, 9, Vote::Budget).is_ok());
-    let last = core.vote(&mut table, 1, 9, Vote::Yes);
-    let why = Veto::Budget;
-    let decision = Decision::Refused { core: 2, why };
-    equal(&rt, last, Ok(told(9, Some(Say::Abort), Some(decision))));
-    equal(&rt, table.staged(), false);
-    Ok(())
-}
-
-#[test]
-fn a_core_has_one_request(rt: HostRuntime) -> Result<(), Fail> {
-    let mut first = Coordinator::new(2, 0);
-    let mut second = Participant::new(0);
-    let sent = second.submit(create(7));
-    holds(&rt, matches!(sent, Ok(Message::Submit { .. })));
-    equal(&rt, second.outstanding(), true);
-    holds(&rt, second.submit(create(8)).is_err());
-    holds(&rt, first.submit(0, create(7)).is_err());
-    holds(&rt, first.submit(2, create(7)).is_err());
-    holds(&rt, first.submit(1, create(7)).is_ok());
-    holds(&rt, first.submit(1, create(8)).is_err());
-    let waiting = first.waiting(1);
-    holds(
-        &rt,
-        matches!(
-            waiting,
-            Some(Op::Create {
+fn waits(waiting: Option<&Op>) -> Said {
+    match waiting {
+        Some(
+            Op::Create {
                 domain: 1,
-                endpoint: 7
-            })
+                endpoint: 7,
+            },
+        ) => Err("waits"),
+        Some(_) => Err("another waits"),
+        None => Err("none waits"),
+    }
+}
+
+fn core_0_says(rt: &impl Abort, alloc: Global, home: &mut Home, call: Call) -> Said {
+    match call {
+        Call::Start(ask) => of_start(home.starts(rt, alloc, ask)),
+        Call::Submit(from, ask) => {
+            let kept = home.core.submit(from, asked(rt, alloc, ask)).is_ok();
+            word(kept, "kept", "stranger")
+        }
+        Call::StartFor(from) => of_start(home.starts_for(alloc, from)),
+        Call::Vote(from, txn, vote) => home.hears(from, txn, vote).ok_or("stranger"),
+        Call::Ack(from, txn) => home.hears_end(from, txn).ok_or("stranger"),
+        Call::Waits(from) => waits(home.core.waiting(from)),
+        Call::IsIdle => word(home.core.idle(), "idle", "busy"),
+        Call::IsStaged => word(home.table.staged(), "staged", "not staged"),
+    }
+}
+
+const CREATE: Ask = Ask::Create(1, 7);
+
+const CAP: Decision = Decision::Committed {
+    version: 1,
+    made: Made::Cap(1),
+};
+
+const TAKEN: Decision = Decision::Refused {
+    core: 0,
+    why: Veto::Rule(OpFault::EndpointTaken),
+};
+
+const NO_FILTER: Decision = Decision::Refused {
+    core: 0,
+    why: Veto::Rule(OpFault::NoFilter),
+};
+
+const OVER_BUDGET: Decision = Decision::Refused {
+    core: 2,
+    why: Veto::Budget,
+};
+
+const MADE_1: Said = Ok(Step {
+    txn: 1,
+    say: None,
+    decided: Some(CAP),
+    reply: None,
+});
+
+const REFUSED_1: Said = Ok(Step {
+    txn: 1,
+    say: None,
+    decided: Some(TAKEN),
+    reply: None,
+});
+
+const PREPARE_9: Said = Ok(Step {
+    txn: 9,
+    say: Some(Say::Prepare),
+    decided: None,
+    reply: None,
+});
+
+const NOTHING_9: Said = Ok(Step {
+    txn: 9,
+    say: None,
+    decided: None,
+    reply: None,
+});
+
+const ABORT_9: Said = Ok(Step {
+    txn: 9,
+    say: Some(Say::Abort),
+    decided: Some(OVER_BUDGET),
+    reply: None,
+});
+
+const PREPARE_1: Said = Ok(Step {
+    txn: 1,
+    say: Some(Say::Prepare),
+    decided: None,
+    reply: None,
+});
+
+const NOTHING_1: Said = Ok(Step {
+    txn: 1,
+    say: None,
+    decided: None,
+    reply: None,
+});
+
+const COMMIT_1: Said = Ok(Step {
+    txn: 1,
+    say: Some(Say::Commit),
+    decided: Some(CAP),
+    reply: None,
+});
+
+/// How many cores there are, core 0's last number, and calls with what it answers.
+type Run = (u16, u64, &'static [(Call, Said)]);
+
+static OF_CORE_0: [Run; 7] = [
+    // Numbers are spent.
+    (
+        2,
+        u64::MAX,
+        &[
+            (Call::Start(CREATE), Err("spent")),
+            (Call::Submit(1, CREATE), Err("kept")),
+            (Call::StartFor(1), Err("spent")),
+            (Call::Waits(1), Err("waits")),
+        ],
+    ),
+    // One core alone.
+    (
+        1,
+        0,
+        &[
+            (Call::Start(CREATE), MADE_1),
+            (Call::Start(CREATE), REFUSED_1),
+        ],
+    ),
+    // Of the cores that refuse, the least is named, whichever is heard first.
+    (
+        4,
+        8,
+        &[
+            (Call::Start(CREATE), PREPARE_9),
+            (Call::Vote(3, 9, Vote::NoMemory), NOTHING_9),
+            (Call::Vote(2, 9, Vote::Budget), NOTHING_9),
+            (Call::Vote(1, 9, Vote::Yes), ABORT_9),
+            (Call::IsStaged, Err("not staged")),
+        ],
+    ),
+    // A core has one request.
+    (
+        2,
+        0,
+        &[
+            (Call::Submit(0, CREATE), Err("stranger")),
+            (Call::Submit(2, CREATE), Err("stranger")),
+            (Call::Submit(1, CREATE), Err("kept")),
+            (Call::Submit(1, Ask::Create(1, 8)), Err("stranger")),
+            (Call::Waits(1), Err("waits")),
+            (Call::Waits(0), Err("none waits")),
+            (Call::Waits(2), Err("none waits")),
+        ],
+    ),
+    // A decision at once is a reply.
+    (
+        2,
+        0,
+        &[
+            (Call::StartFor(1), Err("none waiting")),
+            (Call::Submit(1, Ask::Remove(1, 1)), Err("kept")),
+            (
+                Call::StartFor(1),
+                Ok(Step {
+                    txn: 0,
+                    say: None,
+                    decided: Some(NO_FILTER),
+                    reply: Some((1, NO_FILTER)),
+                }),
+            ),
+            (Call::Waits(1), Err("none waits")),
+        ],
+    ),
+    // Strangers among votes.
+    (
+        3,
+        0,
+        &[
+            (Call::Start(CREATE), PREPARE_1),
+            (Call::Vote(1, 1, Vote::Yes), NOTHING_1),
+            (Call::Vote(1, 1, Vote::Yes), Err("stranger")),
+            (Call::Vote(2, 2, Vote::Yes), Err("stranger")),
+            (Call::Vote(3, 1, Vote::Yes), Err("stranger")),
+            (Call::Ack(1, 1), Err("stranger")),
+            (Call::Start(Ask::Create(1, 8)), Err("not idle")),
+            (Call::Vote(2, 1, Vote::Yes), COMMIT_1),
+        ],
+    ),
+    // Strangers among acknowledgements.
+    (
+        3,
+        0,
+        &[
+            (Call::Start(CREATE), PREPARE_1),
+            (Call::Vote(2, 1, Vote::Yes), NOTHING_1),
+            (Call::Vote(1, 1, Vote::Yes), COMMIT_1),
+            (Call::Ack(2, 1), NOTHING_1),
+            (Call::IsIdle, Err("busy")),
+            (Call::Ack(2, 1), Err("stranger")),
+            (Call::Ack(1, 2), Err("stranger")),
+            (Call::Ack(0, 1), Err("stranger")),
+            (Call::Ack(1, 1), NOTHING_1),
+            (Call::IsIdle, Err("idle")),
+        ],
+    ),
+];
+
+#[test]
+fn what_core_0_says(rt: HostRuntime) {
+    for (cores, last, calls) in &OF_CORE_0 {
+        let mut home = Home::new(&rt, rt.alloc(), 9, *cores, *last);
+        for (number, (call, wanted)) in calls.iter().enumerate() {
+            let found = core_0_says(&rt, rt.alloc(), &mut home, *call);
+            equal_at(&rt, found, *wanted, &(cores, number));
+        }
+    }
+}
+
+/// A call on another core.
+#[derive(Clone, Copy)]
+enum Asks {
+    Answer(Sent),
+    Submit(Ask),
+    Reply(Decision),
+    IsOutstanding,
+}
+
+fn submits(peer: &mut Peer, op: Op) -> bool {
+    matches!(peer.core.submit(op), Ok(Message::Submit { .. }))
+}
+
+fn answers(rt: &impl Abort, alloc: Global, peer: &mut Peer, call: Asks) -> Heard {
+    let is_done = match call {
+        Asks::Answer(sent) => return peer.answers(rt, alloc, sent, false),
+        Asks::Submit(ask) => submits(peer, asked(rt, alloc, ask)),
+        Asks::Reply(decision) => peer.core.reply(&decision).is_ok(),
+        Asks::IsOutstanding => peer.core.outstanding(),
+    };
+    if is_done { YES } else { NO }
+}
+
+const YES: Heard = ("yes", 0, Vote::Yes);
+
+const NO: Heard = ("no", 0, Vote::Yes);
+
+const STRANGER: Heard = ("stranger", 0, Vote::Yes);
+
+static OF_ANOTHER: [&[(Asks, Heard)]; 4] = [
+    // Messages of other cores.
+    &[
+        (Asks::Answer(Sent::Ack(0)), STRANGER),
+        (Asks::Answer(Sent::Submit(CREATE)), STRANGER),
+        (Asks::Answer(Sent::Reply(CAP)), STRANGER),
+    ],
+    // A core has one request.
+    &[
+        (Asks::Submit(CREATE), YES),
+        (Asks::IsOutstanding, YES),
+        (Asks::Submit(Ask::Create(1, 8)), NO),
+    ],
+    // A reply ends the request.
+    &[
+        (Asks::Reply(CAP), NO),
+        (Asks::Submit(CREATE), YES),
+        (Asks::Reply(CAP), YES),
+        (Asks::IsOutstanding, NO),
+        (Asks::Reply(CAP), NO),
+    ],
+    // Strangers.
+    &[
+        (Asks::Answer(Sent::Commit(1)), STRANGER),
+        (Asks::Answer(Sent::Prepare(2, CREATE)), STRANGER),
+        (
+            Asks::Answer(Sent::Prepare(1, Ask::Install(1, 9, "0"))),
+            STRANGER,
         ),
-    );
-    holds(&rt, first.waiting(0).is_none());
-    holds(&rt, first.waiting(2).is_none());
-    Ok(())
-}
-
-#[test]
-fn a_decision_at_once_is_a_reply(rt: HostRuntime) -> Result<(), Fail> {
-    let alloc = rt.alloc();
-    let mut first = Coordinator::new(2, 0);
-    let mut table = Replica::new(alloc, 9)?;
-    let none = first.start_for(alloc, &mut table, 1);
-    equal(&rt, none, Err(StartFault::NoneWaiting));
-    let remove = Op::Remove {
-        domain: 1,
-        filter: 1,
-    };
-    holds(&rt, first.submit(1, remove).is_ok());
-    let refused = first.start_for(alloc, &mut table, 1);
-    let why = Veto::Rule(OpFault::NoFilter);
-    let decision = Decision::Refused { core: 0, why };
-    let wanted = Step {
-        txn: 0,
-        say: None,
-        decided: Some(decision),
-        reply: Some((1, decision)),
-    };
-    equal(&rt, refused, Ok(wanted));
-    holds(&rt, first.waiting(1).is_none());
-    Ok(())
-}
-
-#[test]
-fn a_reply_ends_the_request(rt: HostRuntime) {
-    let mut core = Participant::new(0);
-    let decision = committed(1, Made::Cap(1));
-    holds(&rt, core.reply(&decision).is_err());
-    holds(&rt, core.submit(create(7)).is_ok());
-    holds(&rt, core.reply(&decision).is_ok());
-    equal(&rt, core.outstanding(), false);
-    holds(&rt, core.reply(&decision).is_err());
-}
-
-#[test]
-fn strangers_among_votes(rt: HostRuntime) -> Result<(), Fail> {
-    let mut replica = Replica::new(rt.alloc(), 9)?;
-    let mut core = Coordinator::new(3, 0);
-    let begun = core.start(rt.alloc(), &mut replica, &create(7));
-    equal(&rt, begun, Ok(told(1, Some(Say::Prepare), None)));
-    votes_of_strangers(&rt, &mut core, &mut replica);
-    let again = core.start(rt.alloc(), &mut replica, &create(8));
-    equal(&rt, again, Err(StartFault::NotIdle));
-    let last = core.vote(&mut replica, 2, 1, Vote::Yes);
-    let decided = Some(committed(1, Made::Cap(1)));
-    equal(&rt, last, Ok(told(1, Some(Say::Commit), decided)));
-    Ok(())
-}
-
-fn votes_of_strangers(rt: &impl Abort, core: &mut Coordinator, replica: &mut Replica)
-    requires { StagedByPhase core.old.phase replica.old.staged }
-    ensures { StagedByPhase core.new.phase replica.new.staged }
-{
-    let first = core.vote(replica, 1, 1, Vote::Yes);
-    equal(rt, first, Ok(told(1, None, None)));
-    let twice = core.vote(replica, 1, 1, Vote::Yes);
-    equal(rt, twice, Err(Stranger));
-    let other_number = core.vote(replica, 2, 2, Vote::Yes);
-    equal(rt, other_number, Err(Stranger));
-    let no_core = core.vote(replica, 3, 1, Vote::Yes);
-    equal(rt, no_core, Err(Stranger));
-    equal(rt, core.ack(1, 1), Err(Stranger));
-}
-
-#[test]
-fn strangers_among_acknowledgements(rt: HostRuntime) -> Result<(), Fail> {
-    let mut replica = Replica::new(rt.alloc(), 9)?;
-    let mut core = Coordinator::new(3, 0);
-    holds(
-        &rt,
-        core.start(rt.alloc(), &mut replica, &create(7)).is_ok(),
-    );
-    holds(&rt, core.vote(&mut replica, 2, 1, Vote::Yes).is_ok());
-    let last = core.vote(&mut replica, 1, 1, Vote::Yes);
-    let decision = committed(1, Made::Cap(1));
-    equal(&rt, last, Ok(told(1, Some(Say::Commit), Some(decision))));
-    acknowledgements_of_strangers(&rt, &mut core);
-    Ok(())
-}
-
-fn acknowledgements_of_strangers(rt: &impl Abort, core: &mut Coordinator) {
-    equal(rt, core.ack(2, 1), Ok(told(1, None, None)));
-    equal(rt, core.idle(), false);
-    equal(rt, core.ack(2, 1), Err(Stranger));
-    equal(rt, core.ack(1, 2), Err(Stranger));
-    equal(rt, core.ack(0, 1), Err(Stranger));
-    equal(rt, core.ack(1, 1), Ok(told(1, None, None)));
-    equal(rt, core.idle(), true);
-    equal(rt, core.last(), 1);
-}
-
-#[test]
-fn strangers_to_another_core(rt: HostRuntime) -> Result<(), Fail> {
-    let mut replica = Replica::new(rt.alloc(), 9)?;
-    let mut core = Participant::new(0);
-    is_stranger(
-        &rt,
-        rt.alloc(),
-        &mut core,
-        &mut replica,
-        &Message::Commit { txn: 1 },
-    );
-    is_stranger(
-        &rt,
-        rt.alloc(),
-        &mut core,
-        &mut replica,
-        &prepare(2, create(7)),
-    );
-    let code = Vec::new(rt.alloc());
-    let program = Program::from_vec(rt.alloc(), code).expect(&rt, "there is memory");
-    let refused = Op::Install {
-        domain: 1,
-        cap: 9,
-        program,
-    };
-    is_stranger(
-        &rt,
-        rt.alloc(),
-        &mut core,
-        &mut replica,
-        &prepare(1, refused),
-    );
-    let vote = core.answer(rt.alloc(), &mut replica, &prepare(1, create(7)), false);
-    holds(
-        &rt,
-        matches!(
-            vote,
-            Ok(Message::Vote {
-                txn: 1,
-                vote: Vote::Yes
-            })
+        (
+            Asks::Answer(Sent::Prepare(1, CREATE)),
+            ("vote", 1, Vote::Yes),
         ),
-    );
-    is_stranger(
-        &rt,
-        rt.alloc(),
-        &mut core,
-        &mut replica,
-        &prepare(2, create(8)),
-    );
-    let ack = core.answer(rt.alloc(), &mut replica, &Message::Abort { txn: 1 }, false);
-    holds(&rt, matches!(ack, Ok(Message::Ack { txn: 1 })));
-    Ok(())
-}
+        (Asks::Answer(Sent::Prepare(2, Ask::Create(1, 8))), STRANGER),
+        (Asks::Answer(Sent::Abort(1)), ("ack", 1, Vote::Yes)),
+    ],
+];
 
-fn prepare(txn: u64, op: Op) -> Message {
-    Message::Prepare { txn, op }
-}
-
-fn is_stranger(
-    rt: &impl Abort,
-    alloc: Global,
-    core: &mut Participant,
-    replica: &mut Replica,
-    message: &Message,
-)
-    requires { StagedByVote core.old.voted replica.old.staged }
-    ensures { StagedByVote core.new.voted replica.new.staged }
-{
-    holds(rt, core.answer(alloc, replica, message, false).is_err());
+#[test]
+fn what_another_core_answers(rt: HostRuntime) {
+    for (run, calls) in OF_ANOTHER.iter().enumerate() {
+        let mut peer = Peer::new(&rt, rt.alloc(), 9);
+        for (number, (call, wanted)) in calls.iter().enumerate() {
+            let found = answers(&rt, rt.alloc(), &mut peer, *call);
+            equal_at(&rt, found, *wanted, &(run, number));
+        }
+    }
 }

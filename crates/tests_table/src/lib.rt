@@ -2,9 +2,13 @@
 #![tactic(auto)]
 
 #[cfg(test)]
+mod asks;
+#[cfg(test)]
 mod capabilities;
 #[cfg(test)]
 mod commit;
+#[cfg(test)]
+mod cores;
 #[cfg(test)]
 mod facts;
 #[cfg(test)]

@@ -1,7 +1,8 @@
 //! Worked bytes of messages.
-ghost use Rattle.std.specs.Prelude.{◌≡◌, ◌≤◌, length, IfOk};
+ghost use Rattle.std.specs.Prelude.{◌≤◌, length};
 ghost use Rattle.monitor_messages.specs.Coding.{IsShort};
 
+use crate::asks::{Ask, Sent, message};
 use crate::facts::{equal, holds};
 use bpf_insn::Insn;
 use endpoint_caps::Rights;
@@ -64,158 +65,160 @@ fn bad(rt: &impl Abort, alloc: Global, bytes: &[u8]) {
     );
 }
 
-fn insn(code: u16, jt: u8, jf: u8, k: u32) -> Insn {
-    Insn { code, jt, jf, k }
+/// Two instructions.
+const TWO: &str = "2,21 1 2 2054,6 0 0 65535";
+
+/// Messages with their bytes, but for the stamp.
+static SPELLED: [(Sent, &[u8]); 20] = [
+    (
+        Sent::Prepare(1, Ask::Create(1, 7)),
+        &[1, 1, 0, 0, 0, 0, 0, 0, 0, 1, 1, 0, 7, 0],
+    ),
+    (
+        Sent::Reply(Decision::Committed {
+            version: 1,
+            made: Made::Cap(1),
+        }),
+        &[7, 0, 1, 0, 0, 0, 0, 0, 0, 0, 1, 1, 0, 0, 0],
+    ),
+    // Votes and outcomes.
+    (
+        Sent::Vote(0x0807_0605_0403_0201, Vote::Yes),
+        &[2, 1, 2, 3, 4, 5, 6, 7, 8, 0],
+    ),
+    (
+        Sent::Vote(0x0807_0605_0403_0201, Vote::Budget),
+        &[2, 1, 2, 3, 4, 5, 6, 7, 8, 1],
+    ),
+    (
+        Sent::Vote(0x0807_0605_0403_0201, Vote::NoMemory),
+        &[2, 1, 2, 3, 4, 5, 6, 7, 8, 2],
+    ),
+    (
+        Sent::Commit(0x0807_0605_0403_0201),
+        &[3, 1, 2, 3, 4, 5, 6, 7, 8],
+    ),
+    (
+        Sent::Abort(0x0807_0605_0403_0201),
+        &[4, 1, 2, 3, 4, 5, 6, 7, 8],
+    ),
+    (
+        Sent::Ack(0x0807_0605_0403_0201),
+        &[5, 1, 2, 3, 4, 5, 6, 7, 8],
+    ),
+    // Operations.
+    (
+        Sent::Submit(Ask::Mint(0x0201, 0x0403_0201, 5, Rights::R)),
+        &[6, 2, 1, 2, 1, 2, 3, 4, 5, 0, 1],
+    ),
+    (
+        Sent::Submit(Ask::Mint(0x0201, 0x0403_0201, 5, Rights::M)),
+        &[6, 2, 1, 2, 1, 2, 3, 4, 5, 0, 2],
+    ),
+    (
+        Sent::Submit(Ask::Mint(0x0201, 0x0403_0201, 5, Rights::Rm)),
+        &[6, 2, 1, 2, 1, 2, 3, 4, 5, 0, 3],
+    ),
+    (
+        Sent::Submit(Ask::Revoke(0x0201, 0x0403_0201)),
+        &[6, 3, 1, 2, 1, 2, 3, 4],
+    ),
+    (
+        Sent::Submit(Ask::DropCap(0x0201, 0x0403_0201)),
+        &[6, 4, 1, 2, 1, 2, 3, 4],
+    ),
+    (
+        Sent::Submit(Ask::Remove(0x0201, 9)),
+        &[6, 6, 1, 2, 9, 0, 0, 0],
+    ),
+    (
+        Sent::Submit(Ask::Install(1, 2, TWO)),
+        &[
+            6, 5, 1, 0, 2, 0, 0, 0, 2, 0, 21, 0, 1, 2, 6, 8, 0, 0, 6, 0, 0, 0, 255, 255, 0, 0,
+        ],
+    ),
+    (
+        Sent::Submit(Ask::Replace(1, 9, "0")),
+        &[6, 7, 1, 0, 9, 0, 0, 0, 0, 0],
+    ),
+    // Decisions.
+    (
+        Sent::Reply(Decision::Committed {
+            version: 2,
+            made: Made::Nothing,
+        }),
+        &[7, 0, 2, 0, 0, 0, 0, 0, 0, 0, 0],
+    ),
+    (
+        Sent::Reply(Decision::Committed {
+            version: 2,
+            made: Made::Filter(3),
+        }),
+        &[7, 0, 2, 0, 0, 0, 0, 0, 0, 0, 2, 3, 0, 0, 0],
+    ),
+    (
+        Sent::Reply(Decision::Refused {
+            core: 1,
+            why: Veto::Budget,
+        }),
+        &[7, 1, 1, 0, 0],
+    ),
+    (
+        Sent::Reply(Decision::Refused {
+            core: 0,
+            why: Veto::NoMemory,
+        }),
+        &[7, 1, 0, 0, 1],
+    ),
+];
+
+/// Rules with their bytes in a decision.
+static RULES: [(OpFault, &[u8]); 14] = [
+    (OpFault::NoCap, &[1]),
+    (OpFault::NotHolder, &[2]),
+    (OpFault::NoRight, &[3]),
+    (OpFault::RightsExceed, &[4]),
+    (OpFault::EndpointTaken, &[5]),
+    (OpFault::CapsFull, &[6]),
+    (OpFault::IdsSpent, &[7]),
+    (OpFault::NoFilter, &[11]),
+    (OpFault::NotOwner, &[12]),
+    (OpFault::TableFull, &[13]),
+    (OpFault::FilterIdsSpent, &[14]),
+    (OpFault::VersionsSpent, &[18]),
+    (OpFault::BadProgram { rule: 1, pc: 4095 }, &[17, 1, 255, 15]),
+    (
+        OpFault::BadProgram { rule: 10, pc: 4095 },
+        &[17, 10, 255, 15],
+    ),
+];
+
+/// The bytes of a refusal by a rule of core 0.
+fn refusal(alloc: Global, rule: &[u8]) -> Result<Vec<u8>, AllocError> {
+    let mut bytes = Vec::from_slice(alloc, &[7, 1, 0, 0, 2])?;
+    bytes.extend_from_slice(rule)?;
+    Ok(bytes)
 }
 
-fn reply(core: u16, why: Veto) -> Message
-    ensures { IsShort result }
-{
-    Message::Reply {
-        decision: Decision::Refused { core, why },
+#[test]
+fn messages_are_spelled(rt: HostRuntime) -> Result<(), Fail> {
+    let alloc = rt.alloc();
+    for (sent, body) in &SPELLED {
+        spelled(&rt, alloc, &message(alloc, *sent)?, body);
     }
-}
-
-#[test]
-fn prepare_of_a_create(rt: HostRuntime) {
-    let alloc = rt.alloc();
-    let op = Op::Create {
-        domain: 1,
-        endpoint: 7,
-    };
-    let message = Message::Prepare { txn: 1, op };
-    let body = [1, 1, 0, 0, 0, 0, 0, 0, 0, 1, 1, 0, 7, 0];
-    spelled(&rt, alloc, &message, &body);
-}
-
-#[test]
-fn reply_of_a_commit(rt: HostRuntime) {
-    let alloc = rt.alloc();
-    let decision = Decision::Committed {
-        version: 1,
-        made: Made::Cap(1),
-    };
-    let body = [7, 0, 1, 0, 0, 0, 0, 0, 0, 0, 1, 1, 0, 0, 0];
-    spelled(&rt, alloc, &Message::Reply { decision }, &body);
-}
-
-#[test]
-fn votes_and_outcomes(rt: HostRuntime) {
-    let alloc = rt.alloc();
-    let txn = 0x0807_0605_0403_0201;
-    let numbered = [0, 1, 2, 3, 4, 5, 6, 7, 8];
-    for (number, vote) in [(0, Vote::Yes), (1, Vote::Budget), (2, Vote::NoMemory)] {
-        let body = [2, 1, 2, 3, 4, 5, 6, 7, 8, number];
-        spelled(&rt, alloc, &Message::Vote { txn, vote }, &body);
-    }
-    let mut body = numbered;
-    body[0] = 3;
-    spelled(&rt, alloc, &Message::Commit { txn }, &body);
-    body[0] = 4;
-    spelled(&rt, alloc, &Message::Abort { txn }, &body);
-    body[0] = 5;
-    spelled(&rt, alloc, &Message::Ack { txn }, &body);
-}
-
-#[test]
-fn operations(rt: HostRuntime) {
-    let alloc = rt.alloc();
-    let (domain, cap, filter) = (0x0201, 0x0403_0201, 9);
-    let rights = [(1, Rights::R), (2, Rights::M), (3, Rights::Rm)];
-    for (number, rights) in rights {
-        let op = Op::Mint {
-            domain,
-            cap,
-            to: 5,
-            rights,
+    for (fault, rule) in &RULES {
+        let decision = Decision::Refused {
+            core: 0,
+            why: Veto::Rule(*fault),
         };
-        let body = [6, 2, 1, 2, 1, 2, 3, 4, 5, 0, number];
-        spelled(&rt, alloc, &Message::Submit { op }, &body);
+        spelled(
+            &rt,
+            alloc,
+            &Message::Reply { decision },
+            &refusal(alloc, rule)?,
+        );
     }
-    let op = Op::Revoke { domain, cap };
-    let body = [6, 3, 1, 2, 1, 2, 3, 4];
-    spelled(&rt, alloc, &Message::Submit { op }, &body);
-    let op = Op::DropCap { domain, cap };
-    let body = [6, 4, 1, 2, 1, 2, 3, 4];
-    spelled(&rt, alloc, &Message::Submit { op }, &body);
-    let op = Op::Remove { domain, filter };
-    let body = [6, 6, 1, 2, 9, 0, 0, 0];
-    spelled(&rt, alloc, &Message::Submit { op }, &body);
-}
-
-#[test]
-fn operations_with_a_program(rt: HostRuntime) {
-    install_of_two(&rt, rt.alloc());
-    replace_by_none(&rt, rt.alloc());
-}
-
-fn install_of_two(rt: &impl Abort, alloc: Global) {
-    let op = Op::Install {
-        domain: 1,
-        cap: 2,
-        program: two_instructions(rt, alloc),
-    };
-    let body = [
-        6, 5, 1, 0, 2, 0, 0, 0, 2, 0, 21, 0, 1, 2, 6, 8, 0, 0, 6, 0, 0, 0, 255, 255, 0, 0,
-    ];
-    spelled(rt, alloc, &Message::Submit { op }, &body);
-}
-
-fn replace_by_none(rt: &impl Abort, alloc: Global) {
-    let op = Op::Replace {
-        domain: 1,
-        filter: 9,
-        program: Program::from_vec(alloc, Vec::new(alloc)).expect(rt, "there is memory"),
-    };
-    let body = [6, 7, 1, 0, 9, 0, 0, 0, 0, 0];
-    spelled(rt, alloc, &Message::Submit { op }, &body);
-}
-
-#[test]
-fn decisions(rt: HostRuntime) {
-    let alloc = rt.alloc();
-    let version = 2;
-    let made = Made::Nothing;
-    let message = Message::Reply {
-        decision: Decision::Committed { version, made },
-    };
-    spelled(&rt, alloc, &message, &[7, 0, 2, 0, 0, 0, 0, 0, 0, 0, 0]);
-    let made = Made::Filter(3);
-    let message = Message::Reply {
-        decision: Decision::Committed { version, made },
-    };
-    let body = [7, 0, 2, 0, 0, 0, 0, 0, 0, 0, 2, 3, 0, 0, 0];
-    spelled(&rt, alloc, &message, &body);
-    spelled(&rt, alloc, &reply(1, Veto::Budget), &[7, 1, 1, 0, 0]);
-    spelled(&rt, alloc, &reply(0, Veto::NoMemory), &[7, 1, 0, 0, 1]);
-}
-
-#[test]
-fn rules(rt: HostRuntime) {
-    let alloc = rt.alloc();
-    let rules = [
-        (1, OpFault::NoCap),
-        (2, OpFault::NotHolder),
-        (3, OpFault::NoRight),
-        (4, OpFault::RightsExceed),
-        (5, OpFault::EndpointTaken),
-        (6, OpFault::CapsFull),
-        (7, OpFault::IdsSpent),
-        (11, OpFault::NoFilter),
-        (12, OpFault::NotOwner),
-        (13, OpFault::TableFull),
-        (14, OpFault::FilterIdsSpent),
-        (18, OpFault::VersionsSpent),
-    ];
-    for (number, fault) in rules {
-        let message = reply(0, Veto::Rule(fault));
-        spelled(&rt, alloc, &message, &[7, 1, 0, 0, 2, number]);
-    }
-    for rule in [1, 10] {
-        let fault = OpFault::BadProgram { rule, pc: 4095 };
-        let body = [7, 1, 0, 0, 2, 17, rule, 255, 15];
-        spelled(&rt, alloc, &reply(0, Veto::Rule(fault)), &body);
-    }
+    Ok(())
 }
 
 /// A program of 4,096 instructions is sent in 32,794 bytes, and one of 4,097 is not read.
@@ -225,15 +228,26 @@ fn the_longest_message(rt: HostRuntime) {
     longest_replaces(&rt, rt.alloc(), program);
 }
 
+fn load(k: u32) -> Insn {
+    Insn {
+        code: 0,
+        jt: 0,
+        jf: 0,
+        k,
+    }
+}
+
 /// A program of 4,096 instructions.
 fn longest(rt: &impl Abort, alloc: Global) -> Program
     ensures { length result ≤ 4096 }
 {
     let mut code = Vec::new(alloc);
     for k in 0..4096 {
-        code.push(insn(0, 0, 0, k)).expect(rt, "there is memory");
+        code.push(load(k)).expect(rt, "there is memory");
     }
-    assert!(rt; code.len() <= 4096);
+    if code.len() > 4096 {
+        rt.abort()
+    }
     Program::from_vec(alloc, code).expect(rt, "there is memory")
 }
 
@@ -251,7 +265,7 @@ fn longest_sent(rt: &impl Abort, alloc: Global) -> Program
     let program = installed(rt, alloc, &bytes);
     let code = program.as_slice();
     equal(rt, code.len(), 4096);
-    equal(rt, code.get(4095), Some(&insn(0, 0, 0, 4095)));
+    equal(rt, code.get(4095), Some(&load(4095)));
     program
 }
 
@@ -285,57 +299,50 @@ fn longest_replaces(rt: &impl Abort, alloc: Global, program: Program)
     read_back(rt, alloc, &bytes);
 }
 
-#[test]
-fn no_messages(rt: HostRuntime) {
-    // nothing, no kind, and one too many
-    bad(&rt, rt.alloc(), &[]);
-    for kind in [0, 8] {
-        let bytes = [kind, 1, 0, 0, 0, 0, 0, 0, 0, 1, 0, 0, 0, 0, 0, 0, 0];
-        bad(&rt, rt.alloc(), &bytes);
-    }
-    // a vote
-    let bytes = [2, 1, 0, 0, 0, 0, 0, 0, 0, 1, 0, 0, 0, 0, 0, 0, 0, 3];
-    bad(&rt, rt.alloc(), &bytes);
-}
+/// Bytes that are no messages.
+static BAD: [&[u8]; 21] = [
+    // Nothing, no kind, one too many, and a vote.
+    &[],
+    &[0, 1, 0, 0, 0, 0, 0, 0, 0, 1, 0, 0, 0, 0, 0, 0, 0],
+    &[8, 1, 0, 0, 0, 0, 0, 0, 0, 1, 0, 0, 0, 0, 0, 0, 0],
+    &[2, 1, 0, 0, 0, 0, 0, 0, 0, 1, 0, 0, 0, 0, 0, 0, 0, 3],
+    // Operations, and rights.
+    &[6, 1, 0, 0, 0, 0, 0, 0, 0, 0, 1, 0, 7, 0],
+    &[6, 1, 0, 0, 0, 0, 0, 0, 0, 8, 1, 0, 7, 0, 0, 0],
+    &[6, 1, 0, 0, 0, 0, 0, 0, 0, 2, 1, 0, 2, 0, 0, 0, 5, 0, 0],
+    &[6, 1, 0, 0, 0, 0, 0, 0, 0, 2, 1, 0, 2, 0, 0, 0, 5, 0, 4],
+    // A decision, what was made, and why.
+    &[7, 1, 0, 0, 0, 0, 0, 0, 0, 2, 0, 0, 0],
+    &[7, 1, 0, 0, 0, 0, 0, 0, 0, 0, 1, 0, 0, 0, 0, 0, 0, 0, 3],
+    &[7, 1, 0, 0, 0, 0, 0, 0, 0, 1, 0, 0, 3],
+    // A rule, and a refusal of the verifier.
+    &[7, 1, 0, 0, 0, 0, 0, 0, 0, 1, 0, 0, 2, 0],
+    &[7, 1, 0, 0, 0, 0, 0, 0, 0, 1, 0, 0, 2, 8],
+    &[7, 1, 0, 0, 0, 0, 0, 0, 0, 1, 0, 0, 2, 10],
+    &[7, 1, 0, 0, 0, 0, 0, 0, 0, 1, 0, 0, 2, 15],
+    &[7, 1, 0, 0, 0, 0, 0, 0, 0, 1, 0, 0, 2, 16],
+    &[7, 1, 0, 0, 0, 0, 0, 0, 0, 1, 0, 0, 2, 17],
+    &[7, 1, 0, 0, 0, 0, 0, 0, 0, 1, 0, 0, 2, 19],
+    &[7, 1, 0, 0, 0, 0, 0, 0, 0, 1, 0, 0, 2, 17, 0, 0, 0],
+    &[7, 1, 0, 0, 0, 0, 0, 0, 0, 1, 0, 0, 2, 17, 11, 0, 0],
+    &[7, 1, 0, 0, 0, 0, 0, 0, 0, 1, 0, 0, 2, 17, 255, 0, 0],
+];
+
+/// The head of an Install of 4,097 instructions.
+const TOO_LONG: [u8; 18] = [6, 1, 0, 0, 0, 0, 0, 0, 0, 5, 1, 0, 1, 0, 0, 0, 1, 16];
 
 #[test]
-fn no_operations(rt: HostRuntime) -> Result<(), Fail> {
+fn no_messages(rt: HostRuntime) -> Result<(), Fail> {
     let alloc = rt.alloc();
-    bad(&rt, alloc, &[6, 1, 0, 0, 0, 0, 0, 0, 0, 0, 1, 0, 7, 0]);
-    let bytes = [6, 1, 0, 0, 0, 0, 0, 0, 0, 8, 1, 0, 7, 0, 0, 0];
-    bad(&rt, alloc, &bytes);
-    for rights in [0, 4] {
-        let bytes = [6, 1, 0, 0, 0, 0, 0, 0, 0, 2, 1, 0, 2, 0, 0, 0, 5, 0, rights];
-        bad(&rt, alloc, &bytes);
+    for bytes in &BAD {
+        bad(&rt, alloc, bytes);
     }
-    // 4,097 instructions
-    let mut long = Vec::from_slice(
-        alloc,
-        &[6, 1, 0, 0, 0, 0, 0, 0, 0, 5, 1, 0, 1, 0, 0, 0, 1, 16],
-    )?;
+    let mut long = Vec::from_slice(alloc, &TOO_LONG)?;
     for _ in 0..4097 {
         long.extend_from_slice(&[6, 0, 0, 0, 0, 0, 0, 0])?;
     }
     bad(&rt, alloc, &long);
     Ok(())
-}
-
-#[test]
-fn no_decisions(rt: HostRuntime) {
-    // a decision, what was made, and why
-    let alloc = rt.alloc();
-    bad(&rt, alloc, &[7, 1, 0, 0, 0, 0, 0, 0, 0, 2, 0, 0, 0]);
-    let bytes = [7, 1, 0, 0, 0, 0, 0, 0, 0, 0, 1, 0, 0, 0, 0, 0, 0, 0, 3];
-    bad(&rt, alloc, &bytes);
-    bad(&rt, alloc, &[7, 1, 0, 0, 0, 0, 0, 0, 0, 1, 0, 0, 3]);
-    // a rule, and a refusal of the verifier
-    for number in [0, 8, 10, 15, 16, 17, 19] {
-        bad(&rt, alloc, &[7, 1, 0, 0, 0, 0, 0, 0, 0, 1, 0, 0, 2, number]);
-    }
-    for rule in [0, 11, 255] {
-        let bytes = [7, 1, 0, 0, 0, 0, 0, 0, 0, 1, 0, 0, 2, 17, rule, 0, 0];
-        bad(&rt, alloc, &bytes);
-    }
 }
 
 /// The bytes of the message under stamp 1, asked for once more where a growth is refused.
@@ -371,44 +378,33 @@ fn spelled_again(rt: &impl Abort, alloc: Global, message: &Message, wanted: &[u8
     equal(rt, encoded(rt, alloc, &read).as_slice(), wanted);
 }
 
-/// A program of two instructions, made once more where a growth is refused.
-fn two_instructions(rt: &impl Abort, alloc: Global) -> Program
-    ensures { length result ≤ 4096 }
-{
-    let code = [insn(21, 1, 2, 0x0806), insn(6, 0, 0, 65535)];
-    match shared(alloc, &code) {
-        Ok(program) => program,
-        Err(_) => shared(alloc, &code).expect(rt, "there is memory"),
-    }
-}
-
-fn shared(alloc: Global, code: &[Insn]) -> Result<Program, AllocError>
-    ensures { IfOk result (λ program. program ≡ code.now) }
-{
-    Program::from_vec(alloc, code.to_vec(alloc)?)
-}
+/// Messages with all of their bytes.
+static AGAIN: [(Sent, &[u8]); 2] = [
+    (
+        Sent::Prepare(1, Ask::Create(1, 7)),
+        &[
+            1, 1, 0, 0, 0, 0, 0, 0, 0, 1, 0, 0, 0, 0, 0, 0, 0, 1, 1, 0, 7, 0,
+        ],
+    ),
+    (
+        Sent::Submit(Ask::Install(1, 2, TWO)),
+        &[
+            6, 1, 0, 0, 0, 0, 0, 0, 0, 5, 1, 0, 2, 0, 0, 0, 2, 0, 21, 0, 1, 2, 6, 8, 0, 0, 6, 0, 0,
+            0, 255, 255, 0, 0,
+        ],
+    ),
+];
 
 /// One growth may be refused, whichever it is: the call says so, and the same call again answers as with ample memory.
 #[test]
-fn refused_growths_change_nothing(rt: HostRuntime) {
-    let op = Op::Create {
-        domain: 1,
-        endpoint: 7,
-    };
-    let create = Message::Prepare { txn: 1, op };
-    let bytes = [
-        1, 1, 0, 0, 0, 0, 0, 0, 0, 1, 0, 0, 0, 0, 0, 0, 0, 1, 1, 0, 7, 0,
-    ];
-    spelled_again(&rt, rt.alloc(), &create, &bytes);
-    let op = Op::Install {
-        domain: 1,
-        cap: 2,
-        program: two_instructions(&rt, rt.alloc()),
-    };
-    let install = Message::Submit { op };
-    let bytes = [
-        6, 1, 0, 0, 0, 0, 0, 0, 0, 5, 1, 0, 2, 0, 0, 0, 2, 0, 21, 0, 1, 2, 6, 8, 0, 0, 6, 0, 0, 0,
-        255, 255, 0, 0,
-    ];
-    spelled_again(&rt, rt.alloc(), &install, &bytes);
+fn refused_growths_change_nothing(rt: HostRuntime) -> Result<(), Fail> {
+    let alloc = rt.alloc();
+    for (sent, bytes) in &AGAIN {
+        let message = match message(alloc, *sent) {
+            Ok(message) => message,
+            Err(_) => message(alloc, *sent)?,
+        };
+        spelled_again(&rt, alloc, &message, bytes);
+    }
+    Ok(())
 }

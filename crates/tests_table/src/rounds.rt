@@ -1,14 +1,13 @@
-//! Worked runs of two, three and four cores as calls, a message at a time.
+//! Worked runs of two, three, four and eight cores as calls, a message at a time.
 
-use crate::facts::{equal, holds};
-use bpf_insn::read_ddd;
+use crate::asks::{Ask, Sent};
+use crate::cores::{Home, Peer, asked};
+use crate::facts::{equal, equal_at, holds};
 use endpoint_caps::Rights;
-use monitor_2pc::{Coordinator, Decision, Message, Participant, Say, StartFault, Step, Veto, Vote};
+use monitor_2pc::{Decision, Message, Say, StartFault, Step, Veto, Vote};
 use std::alloc::Global;
-use std::marker::Model;
 use std::process::Abort;
-use std::test::Fail;
-use table_replica::{Kept, Made, Op, OpFault, Program, Replica};
+use table_replica::{Kept, Made, OpFault, Replica};
 
 /// The ARP packets, whole.
 const ARP: &str = "4,40 0 0 12,21 0 1 2054,6 0 0 4294967295,6 0 0 0";
@@ -19,177 +18,17 @@ const THREE: &str = "3,0 0 0 0,7 0 0 0,6 0 0 64";
 /// The head of an ARP packet.
 const PACKET: [u8; 14] = [255, 255, 255, 255, 255, 255, 0, 17, 34, 51, 68, 85, 8, 6];
 
-/// What is asked for, by domain 1.
-#[derive(Clone, Copy)]
-enum Ask {
-    /// A capability of endpoint 7.
-    Create,
-    /// A filter under capability 1, of this program.
-    Install(&'static str),
-    /// Of filter 1 another program.
-    Replace(&'static str),
-    /// A capability minted from capability 1.
-    Mint,
-    /// All that was minted from capability 1 goes.
-    Revoke,
-    /// Filter 1 goes.
-    Remove,
-    /// Capability 1 goes.
-    DropCap,
-}
+const CREATE: Ask = Ask::Create(1, 7);
 
-/// A request about capability 1 or filter 1 that brings no program.
-fn plain(ask: Ask) -> Op {
-    let (domain, cap, filter) = (1, 1, 1);
-    match ask {
-        Ask::Mint => Op::Mint {
-            domain,
-            cap,
-            to: 2,
-            rights: Rights::R,
-        },
-        Ask::Revoke => Op::Revoke { domain, cap },
-        Ask::Remove => Op::Remove { domain, filter },
-        Ask::DropCap => Op::DropCap { domain, cap },
-        Ask::Create | Ask::Install(_) | Ask::Replace(_) => Op::Create {
-            domain,
-            endpoint: 7,
-        },
-    }
-}
+const CAP: Decision = Decision::Committed {
+    version: 1,
+    made: Made::Cap(1),
+};
 
-fn op(alloc: Global, ask: Ask) -> Result<Op, Fail> {
-    match ask {
-        Ask::Replace(text) => {
-            let code = read_ddd(alloc, text.as_bytes())?;
-            Ok(Op::Replace {
-                domain: 1,
-                filter: 1,
-                program: Program::from_vec(alloc, code)?,
-            })
-        }
-        Ask::Install(text) => {
-            let code = read_ddd(alloc, text.as_bytes())?;
-            Ok(Op::Install {
-                domain: 1,
-                cap: 1,
-                program: Program::from_vec(alloc, code)?,
-            })
-        }
-        _ => Ok(plain(ask)),
-    }
-}
-
-fn committed(version: u64, made: Made) -> Decision {
-    Decision::Committed { version, made }
-}
-
-/// Core 0 with its replica.
-#[derive(Drop)]
-struct Home {
-    core: Coordinator,
-    table: Replica,
-}
-
-impl Model for Home {
-    ghost use Rattle.monitor_2pc.specs.Coordinators.{CoordinatorState, StagedByPhase};
-
-    ghost Value = { CoordinatorState };
-
-    ghost view = { λ h. h.core };
-
-    ghost invariant = { λ h. StagedByPhase h.core.phase h.table.staged };
-}
-
-impl Home {
-    ghost use Rattle.std.specs.Prelude.{◌≤◌};
-
-    fn new(alloc: Global, budget: u32, cores: u16) -> Result<Home, Fail>
-        requires least { 1 ≤ cores }
-        requires most { cores ≤ 8 }
-    {
-        Ok(Home {
-            core: Coordinator::new(cores, 0),
-            table: Replica::new(alloc, budget)?,
-        })
-    }
-
-    fn starts(&mut self, alloc: Global, ask: Ask) -> Result<Step, Fail> {
-        let op = op(alloc, ask)?;
-        Ok(self.core.start(alloc, &mut self.table, &op)?)
-    }
-
-    fn starts_for(&mut self, alloc: Global, from: u16) -> Result<Step, StartFault> {
-        self.core.start_for(alloc, &mut self.table, from)
-    }
-
-    fn hears(&mut self, from: u16, txn: u64, vote: Vote) -> Result<Step, Fail> {
-        Ok(self.core.vote(&mut self.table, from, txn, vote)?)
-    }
-
-    fn hears_end(&mut self, from: u16, txn: u64) -> Result<Step, Fail> {
-        Ok(self.core.ack(from, txn)?)
-    }
-}
-
-/// Another core with its replica.
-#[derive(Drop)]
-struct Peer {
-    core: Participant,
-    table: Replica,
-}
-
-impl Model for Peer {
-    ghost use Rattle.monitor_2pc.specs.Participants.{ParticipantState, StagedByVote};
-
-    ghost Value = { ParticipantState };
-
-    ghost view = { λ p. p.core };
-
-    ghost invariant = { λ p. StagedByVote p.core.voted p.table.staged };
-}
-
-impl Peer {
-    fn new(alloc: Global, budget: u32) -> Result<Peer, Fail> {
-        Ok(Peer {
-            core: Participant::new(0),
-            table: Replica::new(alloc, budget)?,
-        })
-    }
-
-    fn votes(&mut self, alloc: Global, txn: u64, ask: Ask, short: bool) -> Result<Vote, Fail> {
-        let message = Message::Prepare {
-            txn,
-            op: op(alloc, ask)?,
-        };
-        match self.core.answer(alloc, &mut self.table, &message, short)? {
-            Message::Vote { txn: of, vote } if of == txn => Ok(vote),
-            _ => Err(Fail::from("a vote")),
-        }
-    }
-
-    fn ends(&mut self, alloc: Global, outcome: &Message) -> Result<u64, Fail> {
-        match self.core.answer(alloc, &mut self.table, outcome, false)? {
-            Message::Ack { txn } => Ok(txn),
-            _ => Err(Fail::from("an acknowledgement")),
-        }
-    }
-}
-
-/// The endpoint, and what it keeps of the packet; there is one at most.
-fn delivered(rt: &impl Abort, alloc: Global, table: &Replica) -> Result<Option<Kept>, Fail> {
-    let kept = table.accepting(alloc, &PACKET, 14)?;
-    holds(rt, kept.len() < 2);
-    Ok(kept.first().copied())
-}
-
-/// The outcome that core 0 sends.
-fn outcome(told: &Step) -> Message {
-    match told.say {
-        Some(Say::Commit) => Message::Commit { txn: told.txn },
-        _ => Message::Abort { txn: told.txn },
-    }
-}
+const FILTER: Decision = Decision::Committed {
+    version: 2,
+    made: Made::Filter(1),
+};
 
 /// Each other core votes on what core 0 began, in order, and the last vote decides; the core of this number is short of memory.
 fn votes(
@@ -200,14 +39,14 @@ fn votes(
     begun: Step,
     ask: Ask,
     short: u16,
-) -> Result<Step, Fail> {
+) -> Step {
     let mut told = begun;
     for (from, peer) in (1..8).zip(peers.iter_mut()) {
-        holds(rt, told.decided.is_none());
-        let vote = peer.votes(alloc, told.txn, ask, from == short)?;
-        told = home.hears(from, told.txn, vote)?;
+        equal(rt, told.decided, None);
+        let vote = peer.votes(rt, alloc, told.txn, ask, from == short);
+        told = home.hears(from, told.txn, vote).expect(rt, "a vote");
     }
-    Ok(told)
+    told
 }
 
 /// Each other core ends the operation, in order; core 0 is idle after the last one, and not before. What core 0 then replies.
@@ -217,17 +56,21 @@ fn ends(
     home: &mut Home,
     peers: &mut [Peer],
     decided: Step,
-) -> Result<Option<(u16, Decision)>, Fail> {
-    let outcome = outcome(&decided);
+) -> Option<(u16, Decision)> {
+    let outcome = match decided.say {
+        Some(Say::Commit) => Sent::Commit(decided.txn),
+        _ => Sent::Abort(decided.txn),
+    };
     let mut told = decided;
     for (from, peer) in (1..8).zip(peers.iter_mut()) {
         holds(rt, !home.core.idle());
         equal(rt, told.reply, None);
-        let txn = peer.ends(alloc, &outcome)?;
-        told = home.hears_end(from, txn)?;
+        let (word, txn, _) = peer.answers(rt, alloc, outcome, false);
+        equal(rt, word, "ack");
+        told = home.hears_end(from, txn).expect(rt, "an acknowledgement");
     }
     holds(rt, home.core.idle());
-    Ok(told.reply)
+    told.reply
 }
 
 /// What core 0 decides on a request of its own, at once or when all have voted; then all have ended it.
@@ -238,267 +81,267 @@ fn decides(
     peers: &mut [Peer],
     ask: Ask,
     short: u16,
-) -> Result<Option<Decision>, Fail> {
-    let begun = home.starts(alloc, ask)?;
+) -> Option<Decision> {
+    let begun = home.starts(rt, alloc, ask).expect(rt, "core 0 is idle");
     if begun.decided.is_some() {
-        return Ok(begun.decided);
+        return begun.decided;
     }
     equal(rt, begun.say, Some(Say::Prepare));
-    let decided = votes(rt, alloc, home, peers, begun, ask, short)?;
-    let reply = ends(rt, alloc, home, peers, decided)?;
-    equal(rt, reply, None);
-    Ok(decided.decided)
-}
-
-fn refused(core: u16, why: Veto) -> Decision {
-    Decision::Refused { core, why }
+    let decided = votes(rt, alloc, home, peers, begun, ask, short);
+    equal(rt, ends(rt, alloc, home, peers, decided), None);
+    decided.decided
 }
 
 /// The other cores, with these budgets.
-fn peers(alloc: Global, budgets: &[u32]) -> Result<Vec<Peer>, Fail> {
+fn peers(rt: &impl Abort, alloc: Global, budgets: &[u32]) -> Vec<Peer> {
     let mut peers = Vec::new(alloc);
     for budget in budgets {
-        peers.push(Peer::new(alloc, *budget)?)?;
+        let peer = Peer::new(rt, alloc, *budget);
+        holds(rt, peers.push(peer).is_ok());
     }
-    Ok(peers)
-}
-
-/// Core 0 decides so on a request of its own.
-fn expects(
-    rt: &impl Abort,
-    alloc: Global,
-    home: &mut Home,
-    peers: &mut [Peer],
-    ask: Ask,
-    wanted: Decision,
-) -> Result<(), Fail> {
-    let decided = decides(rt, alloc, home, peers, ask, 0)?;
-    equal(rt, decided, Some(wanted));
-    Ok(())
-}
-
-/// The core of this number is short of memory for a request, and so refuses it.
-fn expects_short(
-    rt: &impl Abort,
-    alloc: Global,
-    home: &mut Home,
-    peers: &mut [Peer],
-    ask: Ask,
-    short: u16,
-) -> Result<(), Fail> {
-    let decided = decides(rt, alloc, home, peers, ask, short)?;
-    equal(rt, decided, Some(refused(short, Veto::NoMemory)));
-    Ok(())
+    peers
 }
 
 /// All other cores are at this version, with so many instructions.
 fn are_at(rt: &impl Abort, peers: &[Peer], version: u64, instructions: u32) {
     for peer in peers {
-        equal(
-            rt,
-            (peer.table.version(), peer.table.total_instructions()),
-            (version, instructions),
-        );
+        let found = (peer.table.version(), peer.table.total_instructions());
+        equal(rt, found, (version, instructions));
     }
 }
 
-/// All other cores deliver the packet so.
-fn deliver(
-    rt: &impl Abort,
-    alloc: Global,
-    peers: &[Peer],
-    wanted: Option<Kept>,
-) -> Result<(), Fail> {
-    for peer in peers {
-        equal(rt, delivered(rt, alloc, &peer.table)?, wanted);
+/// A request of core 0's own, which other core is short of memory, or 0, what is decided, and core 0's version and last number then.
+type Row = (Ask, u16, Decision, u64, u64);
+
+/// The budgets of core 0 and of the others, the requests, and the instructions that the others have then.
+type Run = (u32, &'static [u32], &'static [Row], u32);
+
+const OVER_BUDGET_OF_1: Decision = Decision::Refused {
+    core: 1,
+    why: Veto::Budget,
+};
+
+const OVER_BUDGET_OF_2: Decision = Decision::Refused {
+    core: 2,
+    why: Veto::Budget,
+};
+
+const NO_MEMORY_ON_1: Decision = Decision::Refused {
+    core: 1,
+    why: Veto::NoMemory,
+};
+
+static RUNS: [Run; 4] = [
+    // With four cores all are asked, the last vote decides, and the least core that refuses is named.
+    (
+        100,
+        &[100, 3, 3],
+        &[
+            (CREATE, 0, CAP, 1, 1),
+            (Ask::Install(1, 1, ARP), 0, OVER_BUDGET_OF_2, 1, 2),
+            (Ask::Install(1, 1, ARP), 1, NO_MEMORY_ON_1, 1, 3),
+            (Ask::Install(1, 1, THREE), 0, FILTER, 2, 4),
+        ],
+        3,
+    ),
+    // Where there is memory, each kind of request is agreed on by all.
+    (
+        4,
+        &[4, 4, 4, 4, 4, 4, 4],
+        &[
+            (CREATE, 0, CAP, 1, 1),
+            (
+                Ask::Mint(1, 1, 2, Rights::R),
+                0,
+                Decision::Committed {
+                    version: 2,
+                    made: Made::Cap(2),
+                },
+                2,
+                2,
+            ),
+            (
+                Ask::Install(1, 1, THREE),
+                0,
+                Decision::Committed {
+                    version: 3,
+                    made: Made::Filter(1),
+                },
+                3,
+                3,
+            ),
+            (
+                Ask::Replace(1, 1, ARP),
+                0,
+                Decision::Committed {
+                    version: 4,
+                    made: Made::Nothing,
+                },
+                4,
+                4,
+            ),
+            (
+                Ask::Revoke(1, 1),
+                0,
+                Decision::Committed {
+                    version: 5,
+                    made: Made::Nothing,
+                },
+                5,
+                5,
+            ),
+            (
+                Ask::Remove(1, 1),
+                0,
+                Decision::Committed {
+                    version: 6,
+                    made: Made::Nothing,
+                },
+                6,
+                6,
+            ),
+            (
+                Ask::DropCap(1, 1),
+                0,
+                Decision::Committed {
+                    version: 7,
+                    made: Made::Nothing,
+                },
+                7,
+                7,
+            ),
+        ],
+        0,
+    ),
+    // What one core has no room for is refused to all.
+    (
+        100,
+        &[3],
+        &[
+            (CREATE, 0, CAP, 1, 1),
+            (Ask::Install(1, 1, ARP), 0, OVER_BUDGET_OF_1, 1, 2),
+            (Ask::Install(1, 1, THREE), 0, FILTER, 2, 3),
+        ],
+        3,
+    ),
+    // A core that is short of memory refuses the first operation of all.
+    (9, &[9], &[(CREATE, 1, NO_MEMORY_ON_1, 0, 1)], 0),
+];
+
+fn agree(rt: &impl Abort, alloc: Global, home: &mut Home, peers: &mut [Peer], rows: &[Row]) {
+    for (number, (ask, short, wanted, version, last)) in rows.iter().enumerate() {
+        let decided = decides(rt, alloc, home, peers, *ask, *short);
+        equal_at(rt, decided, Some(*wanted), &number);
+        let found = (home.table.version(), home.core.last());
+        equal_at(rt, found, (*version, *last), &number);
     }
-    Ok(())
 }
+
+#[test]
+fn rounds_of_requests(rt: HostRuntime) {
+    let alloc = rt.alloc();
+    for (budget, budgets, rows, instructions) in &RUNS {
+        let mut peers = peers(&rt, alloc, budgets);
+        let others = budgets.len().min(7) as u16;
+        let mut home = Home::new(&rt, alloc, *budget, others + 1, 0);
+        agree(&rt, alloc, &mut home, &mut peers, rows);
+        are_at(&rt, &peers, home.table.version(), *instructions);
+    }
+}
+
+/// The endpoint, and what it keeps of the packet; there is one at most.
+fn delivered(rt: &impl Abort, alloc: Global, table: &Replica) -> Option<Kept> {
+    let kept = table
+        .accepting(alloc, &PACKET, 14)
+        .expect(rt, "there is memory");
+    holds(rt, kept.len() < 2);
+    kept.first().copied()
+}
+
+const WHOLE: Kept = Kept {
+    endpoint: 7,
+    kept: 14,
+};
 
 /// One core commits after the other, and each delivers by its own version.
 #[test]
-fn two_phases(rt: HostRuntime) -> Result<(), Fail> {
-    let mut home = Home::new(rt.alloc(), 100, 2)?;
-    let mut peers = peers(rt.alloc(), &[100])?;
-    in_two_phases(&rt, rt.alloc(), &mut home, &mut peers)
+fn two_phases(rt: HostRuntime) {
+    let mut home = Home::new(&rt, rt.alloc(), 100, 2, 0);
+    let mut peers = peers(&rt, rt.alloc(), &[100]);
+    in_two_phases(&rt, rt.alloc(), &mut home, &mut peers);
 }
 
-fn in_two_phases(
-    rt: &impl Abort,
-    alloc: Global,
-    home: &mut Home,
-    peers: &mut [Peer],
-) -> Result<(), Fail> {
-    let made = committed(1, Made::Cap(1));
-    expects(rt, alloc, home, peers, Ask::Create, made)?;
-    let install = Ask::Install(ARP);
-    let begun = home.starts(alloc, install)?;
-    let decided = votes(rt, alloc, home, peers, begun, install, 0)?;
-    equal(rt, decided.decided, Some(committed(2, Made::Filter(1))));
-    let whole = Some(Kept {
-        endpoint: 7,
-        kept: 14,
-    });
-    equal(rt, delivered(rt, alloc, &home.table)?, whole);
-    deliver(rt, alloc, peers, None)?;
-    equal(rt, ends(rt, alloc, home, peers, decided)?, None);
-    deliver(rt, alloc, peers, whole)
+fn in_two_phases(rt: &impl Abort, alloc: Global, home: &mut Home, peers: &mut [Peer]) {
+    agree(rt, alloc, home, peers, &[(CREATE, 0, CAP, 1, 1)]);
+    let install = Ask::Install(1, 1, ARP);
+    let begun = home.starts(rt, alloc, install).expect(rt, "core 0 is idle");
+    let decided = votes(rt, alloc, home, peers, begun, install, 0);
+    equal(rt, decided.decided, Some(FILTER));
+    equal(rt, delivered(rt, alloc, &home.table), Some(WHOLE));
+    deliver(rt, alloc, peers, None);
+    equal(rt, ends(rt, alloc, home, peers, decided), None);
+    deliver(rt, alloc, peers, Some(WHOLE));
 }
 
-/// With four cores all are asked, the last vote decides, and the least core that refuses is named.
-#[test]
-fn four_cores(rt: HostRuntime) -> Result<(), Fail> {
-    let mut home = Home::new(rt.alloc(), 100, 4)?;
-    let mut peers = peers(rt.alloc(), &[100, 3, 3])?;
-    among_four(&rt, rt.alloc(), &mut home, &mut peers)
-}
-
-fn among_four(
-    rt: &impl Abort,
-    alloc: Global,
-    home: &mut Home,
-    peers: &mut [Peer],
-) -> Result<(), Fail> {
-    let made = committed(1, Made::Cap(1));
-    let over = refused(2, Veto::Budget);
-    let fits = committed(2, Made::Filter(1));
-    expects(rt, alloc, home, peers, Ask::Create, made)?;
-    expects(rt, alloc, home, peers, Ask::Install(ARP), over)?;
-    expects_short(rt, alloc, home, peers, Ask::Install(ARP), 1)?;
-    expects(rt, alloc, home, peers, Ask::Install(THREE), fits)?;
-    are_at(rt, peers, 2, 3);
-    Ok(())
-}
-
-/// Where there is memory, each kind of request is agreed on by all.
-#[test]
-fn each_kind_is_agreed_on(rt: HostRuntime) -> Result<(), Fail> {
-    let mut home = Home::new(rt.alloc(), 4, 8)?;
-    let mut peers = peers(rt.alloc(), &[4, 4, 4, 4, 4, 4, 4])?;
-    agree(&rt, rt.alloc(), &mut home, &mut peers)
-}
-
-fn agree(rt: &impl Abort, alloc: Global, home: &mut Home, peers: &mut [Peer]) -> Result<(), Fail> {
-    let mut version = 0u64;
-    for (ask, made) in [
-        (Ask::Create, Made::Cap(1)),
-        (Ask::Mint, Made::Cap(2)),
-        (Ask::Install(THREE), Made::Filter(1)),
-        (Ask::Replace(ARP), Made::Nothing),
-        (Ask::Revoke, Made::Nothing),
-        (Ask::Remove, Made::Nothing),
-        (Ask::DropCap, Made::Nothing),
-    ] {
-        version = version.saturating_add(1);
-        expects(rt, alloc, home, peers, ask, committed(version, made))?;
-        equal(rt, home.table.version(), version);
+/// All other cores deliver the packet so.
+fn deliver(rt: &impl Abort, alloc: Global, peers: &[Peer], wanted: Option<Kept>) {
+    for peer in peers {
+        equal(rt, delivered(rt, alloc, &peer.table), wanted);
     }
-    are_at(rt, peers, 7, 0);
-    Ok(())
 }
 
-/// What one core has no room for is refused to all.
-#[test]
-fn a_budget_is_a_veto(rt: HostRuntime) -> Result<(), Fail> {
-    let mut home = Home::new(rt.alloc(), 100, 2)?;
-    let mut peers = peers(rt.alloc(), &[3])?;
-    within_a_budget(&rt, rt.alloc(), &mut home, &mut peers)
-}
-
-fn within_a_budget(
-    rt: &impl Abort,
-    alloc: Global,
-    home: &mut Home,
-    peers: &mut [Peer],
-) -> Result<(), Fail> {
-    let made = committed(1, Made::Cap(1));
-    let over = refused(1, Veto::Budget);
-    let fits = committed(2, Made::Filter(1));
-    expects(rt, alloc, home, peers, Ask::Create, made)?;
-    expects(rt, alloc, home, peers, Ask::Install(ARP), over)?;
-    equal(rt, (home.table.version(), home.core.last()), (1, 2));
-    expects(rt, alloc, home, peers, Ask::Install(THREE), fits)?;
-    equal(rt, home.core.last(), 3);
-    are_at(rt, peers, 2, 3);
-    Ok(())
-}
-
-/// A core that is short of memory refuses the first operation of all.
-#[test]
-fn a_short_core_is_a_veto(rt: HostRuntime) -> Result<(), Fail> {
-    let mut home = Home::new(rt.alloc(), 9, 2)?;
-    let mut peers = peers(rt.alloc(), &[9])?;
-    expects_short(&rt, rt.alloc(), &mut home, &mut peers, Ask::Create, 1)?;
-    equal(&rt, home.table.version(), 0);
-    are_at(&rt, &peers, 0, 0);
-    Ok(())
-}
-
-/// Sends the request of core 1 to core 0, which keeps it as waiting.
-fn submits(rt: &impl Abort, alloc: Global, home: &mut Home, peer: &mut Peer) -> Result<(), Fail> {
-    match peer.core.submit(op(alloc, Ask::Create)?) {
-        Ok(Message::Submit { op }) => home.core.submit(1, op)?,
-        _ => return Err(Fail::from("a request")),
+/// Sends the creation that core 1 asks for to core 0, which keeps it as waiting.
+fn submits(rt: &impl Abort, alloc: Global, home: &mut Home, peer: &mut Peer) {
+    match peer.core.submit(asked(rt, alloc, CREATE)) {
+        Ok(Message::Submit { op }) => holds(rt, home.core.submit(1, op).is_ok()),
+        _ => rt.abort(),
     }
     holds(rt, peer.core.outstanding());
-    holds(rt, peer.core.submit(op(alloc, Ask::Create)?).is_err());
-    Ok(())
+    holds(rt, peer.core.submit(asked(rt, alloc, CREATE)).is_err());
 }
+
+const TAKEN: Decision = Decision::Refused {
+    core: 0,
+    why: Veto::Rule(OpFault::EndpointTaken),
+};
 
 /// Requests of another core: one is committed after all have voted, the next is refused at once, and each gets its Reply.
 #[test]
-fn requests_of_another_core(rt: HostRuntime) -> Result<(), Fail> {
-    let mut home = Home::new(rt.alloc(), 9, 2)?;
-    let mut peer = Peer::new(rt.alloc(), 9)?;
-    are_answered(&rt, rt.alloc(), &mut home, &mut peer)
+fn requests_of_another_core(rt: HostRuntime) {
+    let mut home = Home::new(&rt, rt.alloc(), 9, 2, 0);
+    let mut peer = Peer::new(&rt, rt.alloc(), 9);
+    are_answered(&rt, rt.alloc(), &mut home, &mut peer);
 }
 
-fn are_answered(
-    rt: &impl Abort,
-    alloc: Global,
-    home: &mut Home,
-    peer: &mut Peer,
-) -> Result<(), Fail> {
-    holds(
-        rt,
-        home.starts_for(alloc, 1) == Err(StartFault::NoneWaiting),
-    );
-    submits(rt, alloc, home, peer)?;
-    is_committed_for(rt, alloc, home, peer)?;
-    submits(rt, alloc, home, peer)?;
-    is_refused_at_once(rt, alloc, home, peer)
+fn are_answered(rt: &impl Abort, alloc: Global, home: &mut Home, peer: &mut Peer) {
+    equal(rt, home.starts_for(alloc, 1), Err(StartFault::NoneWaiting));
+    submits(rt, alloc, home, peer);
+    is_committed_for(rt, alloc, home, peer);
+    submits(rt, alloc, home, peer);
+    let refused = home.starts_for(alloc, 1).expect(rt, "core 0 is idle");
+    equal(rt, refused.reply, Some((1, TAKEN)));
+    is_replied(rt, peer, &TAKEN);
 }
 
-fn is_committed_for(
-    rt: &impl Abort,
-    alloc: Global,
-    home: &mut Home,
-    peer: &mut Peer,
-) -> Result<(), Fail> {
-    let begun = home.starts_for(alloc, 1)?;
+fn is_committed_for(rt: &impl Abort, alloc: Global, home: &mut Home, peer: &mut Peer) {
+    let begun = home.starts_for(alloc, 1).expect(rt, "core 0 is idle");
     equal(rt, (begun.say, begun.reply), (Some(Say::Prepare), None));
-    let vote = peer.votes(alloc, 1, Ask::Create, false)?;
-    let decided = home.hears(1, 1, vote)?;
-    let decision = committed(1, Made::Cap(1));
-    equal(rt, (decided.decided, decided.reply), (Some(decision), None));
-    let txn = peer.ends(alloc, &outcome(&decided))?;
-    let reply = home.hears_end(1, txn)?.reply;
-    equal(rt, reply, Some((1, decision)));
-    is_replied(rt, peer, &decision);
-    Ok(())
-}
-
-fn is_refused_at_once(
-    rt: &impl Abort,
-    alloc: Global,
-    home: &mut Home,
-    peer: &mut Peer,
-) -> Result<(), Fail> {
-    let decision = refused(0, Veto::Rule(OpFault::EndpointTaken));
-    let reply = home.starts_for(alloc, 1)?.reply;
-    equal(rt, reply, Some((1, decision)));
-    is_replied(rt, peer, &decision);
-    Ok(())
+    let vote = peer.votes(rt, alloc, 1, CREATE, false);
+    let decided = home.hears(1, 1, vote).expect(rt, "a vote");
+    equal(
+        rt,
+        (decided.say, decided.decided),
+        (Some(Say::Commit), Some(CAP)),
+    );
+    equal(rt, decided.reply, None);
+    equal(
+        rt,
+        peer.answers(rt, alloc, Sent::Commit(1), false),
+        ("ack", 1, Vote::Yes),
+    );
+    let ended = home.hears_end(1, 1).expect(rt, "an acknowledgement");
+    equal(rt, ended.reply, Some((1, CAP)));
+    is_replied(rt, peer, &CAP);
 }
 
 fn is_replied(rt: &impl Abort, peer: &mut Peer, decision: &Decision) {
@@ -513,40 +356,31 @@ fn decides_again(
     home: &mut Home,
     peers: &mut [Peer],
     ask: Ask,
-) -> Result<Option<Decision>, Fail> {
+) -> Option<Decision> {
     let version = home.table.version();
-    match decides(rt, alloc, home, peers, ask, 0)? {
-        Some(
-            Decision::Refused {
-                why: Veto::NoMemory,
-                ..
-            },
-        ) => {
-            equal(rt, home.table.version(), version);
-            decides(rt, alloc, home, peers, ask, 0)
-        }
-        decided => Ok(decided),
+    let decided = decides(rt, alloc, home, peers, ask, 0);
+    if let Some(
+        Decision::Refused {
+            why: Veto::NoMemory,
+            ..
+        },
+    ) = decided
+    {
+        equal(rt, home.table.version(), version);
+        return decides(rt, alloc, home, peers, ask, 0);
     }
+    decided
 }
 
 /// A growth that is refused inside a core's stage is its vote or decision NoMemory, and the request again is committed.
 #[test]
-fn refused_growths_are_vetoes(rt: HostRuntime) -> Result<(), Fail> {
-    let mut home = Home::new(rt.alloc(), 9, 3)?;
-    let mut peers = peers(rt.alloc(), &[9, 9])?;
-    refused_growths(&rt, rt.alloc(), &mut home, &mut peers)
-}
-
-fn refused_growths(
-    rt: &impl Abort,
-    alloc: Global,
-    home: &mut Home,
-    peers: &mut [Peer],
-) -> Result<(), Fail> {
-    let made = decides_again(rt, alloc, home, peers, Ask::Create)?;
-    equal(rt, made, Some(committed(1, Made::Cap(1))));
-    let made = decides_again(rt, alloc, home, peers, Ask::Install(THREE))?;
-    equal(rt, made, Some(committed(2, Made::Filter(1))));
-    are_at(rt, peers, 2, 3);
-    Ok(())
+fn refused_growths_are_vetoes(rt: HostRuntime) {
+    let alloc = rt.alloc();
+    let mut home = Home::new(&rt, alloc, 9, 3, 0);
+    let mut peers = peers(&rt, alloc, &[9, 9]);
+    let made = decides_again(&rt, alloc, &mut home, &mut peers, CREATE);
+    equal(&rt, made, Some(CAP));
+    let made = decides_again(&rt, alloc, &mut home, &mut peers, Ask::Install(1, 1, THREE));
+    equal(&rt, made, Some(FILTER));
+    are_at(&rt, &peers, 2, 3);
 }

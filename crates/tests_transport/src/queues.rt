@@ -19,19 +19,21 @@ fn job(rt: &impl Abort, alloc: Global, number: u64) -> Job {
     }
 }
 
+fn number(job: Option<&Job>) -> Option<u64> {
+    Some(job?.number)
+}
+
 #[test]
 fn a_queue_of_one(rt: HostRuntime) {
     let alloc = rt.alloc();
     let (mut port, mut intake) = queue(alloc, 1).expect(&rt, "there is memory");
     holds(&rt, intake.front().is_none());
     holds(&rt, port.put(job(&rt, alloc, 1)).is_ok());
-    let refused = port.put(job(&rt, alloc, 2));
-    equal(
-        &rt,
-        refused.err().map(|full| full.0),
-        Some(job(&rt, alloc, 2)),
-    );
-    equal(&rt, intake.front().map(|job| job.number), Some(1));
+    match port.put(job(&rt, alloc, 2)) {
+        Ok(()) => rt.abort(),
+        Err(full) => equal(&rt, full.0, job(&rt, alloc, 2)),
+    }
+    equal(&rt, number(intake.front()), Some(1));
     equal(&rt, intake.next(), Some(job(&rt, alloc, 1)));
     equal(&rt, intake.next(), None);
     intake.look();
@@ -39,7 +41,7 @@ fn a_queue_of_one(rt: HostRuntime) {
     holds(&rt, port.put(job(&rt, alloc, 3)).is_ok());
     holds(&rt, intake.seen().is_none());
     intake.look();
-    equal(&rt, intake.seen().map(|job| job.number), Some(3));
+    equal(&rt, number(intake.seen()), Some(3));
     equal(&rt, intake.rest(&mut port), Some(job(&rt, alloc, 3)));
     equal(&rt, intake.rest(&mut port), None);
 }

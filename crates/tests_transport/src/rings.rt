@@ -1,7 +1,8 @@
-ghost use Rattle.std.specs.Prelude.{◌≡◌, ◌≤◌, vec_len};
+ghost use Rattle.std.specs.Prelude.{◌≡◌, ◌≤◌, length, vec_len};
 ghost use Rattle.ump_ring.specs.Receivers.{SameReceiver};
 ghost use Rattle.ump_ring.specs.Senders.{SameSender};
 
+use crate::channels::long_prepare;
 use crate::facts::{equal, holds};
 use rtrb::RingBuffer;
 use std::alloc::Global;
@@ -53,36 +54,63 @@ fn shows_none(receiver: &mut Receiver) -> bool
     }
 }
 
+// Pushes and looks by turns until the receiver shows something. Gives the lines and the turns.
+fn by_turns(sender: &mut Sender, receiver: &mut Receiver) -> (u64, u32) {
+    let mut lines = 0u64;
+    for turn in 1..600 {
+        lines = lines.wrapping_add(u64::from(sender.push_some().lines));
+        if !shows_none(receiver) {
+            return (lines, turn);
+        }
+    }
+    (lines, 600)
+}
+
+// Nine full rings and ten lines, and then the message, which is taken once.
+fn through_a_ring(rt: &impl Abort, alloc: Global, wanted: &[u8], sent: Vec<u8>)
+    requires { (1 ≤ vec_len sent) × (vec_len sent ≤ 32832) }
+{
+    equal(rt, wanted.len(), 32_794);
+    let (mut sender, mut receiver) = ring(alloc, 64).expect(rt, "there is memory");
+    holds(rt, sender.offer(sent).is_ok());
+    equal(rt, by_turns(&mut sender, &mut receiver), (586, 10));
+    holds(rt, sender.idle());
+    holds(rt, shows(&mut receiver, wanted));
+    holds(rt, takes(&mut receiver, wanted));
+    holds(rt, shows_none(&mut receiver));
+}
+
+// Line 1 of a message comes twice.
+fn one_line_twice(rt: &impl Abort, alloc: Global, bytes: &[u8])
+    requires { length bytes.now ≤ 32832 }
+{
+    let mut joiner = Joiner::new(alloc).expect(rt, "there is memory");
+    let again = line_at(bytes, 1, 1);
+    equal(rt, joiner.line(&line_at(bytes, 0, 0)), Ok(false));
+    equal(rt, joiner.line(&again), Ok(false));
+    equal(rt, joiner.line(&again), Err(LineFault::OutOfSequence));
+    holds(rt, joiner.message().is_none());
+}
+
 #[test]
 fn a_long_message(rt: HostRuntime) {
     let alloc = rt.alloc();
-    let (mut sender, mut receiver) = ring(alloc, 64).expect(&rt, "there is memory");
     let wanted = message(&rt, alloc, 32_794);
-    holds(&rt, sender.offer(message(&rt, alloc, 32_794)).is_ok());
-    let mut lines = 0u64;
-    let mut turns = 0u32;
-    for _ in 0..600 {
-        lines = lines.wrapping_add(u64::from(sender.push_some().lines));
-        turns = turns.wrapping_add(1);
-        if !shows_none(&mut receiver) {
-            break;
-        }
+    through_a_ring(&rt, alloc, &wanted, message(&rt, alloc, 32_794));
+    one_line_twice(&rt, alloc, &wanted);
+}
+
+// The longest message: that of a Prepare.
+#[test]
+fn the_longest_message(rt: HostRuntime) {
+    let alloc = rt.alloc();
+    let wanted = long_prepare(alloc, 1).expect(&rt, "there is memory");
+    let sent = long_prepare(alloc, 1).expect(&rt, "there is memory");
+    if wanted.len() != 32_794 || sent.len() != 32_794 {
+        rt.abort()
     }
-    equal(&rt, lines, 586);
-    equal(&rt, turns, 10);
-    holds(&rt, sender.idle());
-    holds(&rt, shows(&mut receiver, &wanted));
-    holds(&rt, takes(&mut receiver, &wanted));
-    holds(&rt, shows_none(&mut receiver));
-    let mut joiner = Joiner::new(alloc).expect(&rt, "there is memory");
-    equal(&rt, joiner.line(&line_at(&wanted, 0, 0)), Ok(false));
-    equal(&rt, joiner.line(&line_at(&wanted, 1, 1)), Ok(false));
-    equal(
-        &rt,
-        joiner.line(&line_at(&wanted, 1, 1)),
-        Err(LineFault::OutOfSequence),
-    );
-    holds(&rt, joiner.message().is_none());
+    through_a_ring(&rt, alloc, &wanted, sent);
+    one_line_twice(&rt, alloc, &wanted);
 }
 
 /// A message of 22 bytes is one line: that of a Prepare of number 1 under stamp 1, a Create by domain 1 of endpoint 7.
@@ -174,14 +202,10 @@ fn a_ring_of_one(rt: HostRuntime) {
             whole: false,
         },
     );
-    equal(
-        &rt,
-        sender
-            .offer(message(&rt, alloc, 3))
-            .err()
-            .map(|busy| busy.0.len()),
-        Some(3),
-    );
+    match sender.offer(message(&rt, alloc, 3)) {
+        Ok(()) => rt.abort(),
+        Err(busy) => equal(&rt, busy.0.len(), 3),
+    }
     holds(&rt, shows_none(&mut receiver));
     equal(
         &rt,
@@ -248,12 +272,19 @@ fn take_one(receiver: &mut Receiver, number: u64) -> Option<bool>
 {
     let wanted = (number % 251) as u8;
     match receiver.take() {
-        Ok(Some(bytes)) => Some(
-            bytes.len() == size_of(number) && bytes.iter().all(|byte| *byte == wanted),
-        ),
+        Ok(Some(bytes)) => Some(bytes.len() == size_of(number) && are_all(bytes, wanted)),
         Ok(None) => None,
         Err(_) => Some(false),
     }
+}
+
+fn are_all(bytes: &[u8], wanted: u8) -> bool {
+    for byte in bytes {
+        if *byte != wanted {
+            return false;
+        }
+    }
+    true
 }
 
 // Takes messages with the numbers from 0 on, and says how many were right. It ends where the other thread has.

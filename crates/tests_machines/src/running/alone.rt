@@ -2,119 +2,17 @@
 
 ghost use Rattle.std.specs.Prelude.{◌≤◌, vec_len};
 
-use super::{core_of, create, job};
-use crate::facts::{equal, holds};
+use super::{core_of, create};
+use crate::facts::{equal, equal_at, holds};
+use crate::words::job;
 use core_loop::{Cause, Core, ListLinks, Turn};
 use monitor_messages::{Message, encode};
 use rx_queue::{Port, queue};
 use std::alloc::{AllocError, Global};
 use std::collections::VecDeque;
 use std::process::Abort;
-use std::test::Fail;
 
-// Whether a core commits its request, and then has nothing to do.
-fn commits(core: &mut Core<ListLinks>) -> bool {
-    let did = core.turn(true) == Turn::Did;
-    did && core.version() == 1 && core.pending() == 0 && core.turn(true) == Turn::Idle
-}
-
-#[test]
-fn a_core_alone_commits(rt: HostRuntime) -> Result<(), Fail> {
-    let (mut core, _port) = creator(rt.alloc(), 1)?;
-    holds(&rt, commits(&mut core));
-    Ok(())
-}
-
-// Whether a core that has committed receives a job only in a turn that may.
-fn receives(
-    alloc: Global,
-    core: &mut Core<ListLinks>,
-    port: &mut Port,
-) -> Result<bool, AllocError> {
-    let _ = port.put(job(alloc, 7, 1)?);
-    let waited = core.turn(false) == Turn::Idle;
-    Ok(waited && core.turn(true) == Turn::Did && core.turn(true) == Turn::Idle)
-}
-
-#[test]
-fn a_core_alone_receives(rt: HostRuntime) -> Result<(), Fail> {
-    let alloc = rt.alloc();
-    let (mut core, mut port) = creator(alloc, 1)?;
-    holds(&rt, commits(&mut core));
-    holds(&rt, receives(alloc, &mut core, &mut port)?);
-    Ok(())
-}
-
-// Whether a job for a later version waits.
-fn waits(alloc: Global, core: &mut Core<ListLinks>, port: &mut Port) -> Result<bool, AllocError> {
-    let _ = port.put(job(alloc, 7, 2)?);
-    Ok(core.turn(true) == Turn::Idle)
-}
-
-#[test]
-fn a_job_for_a_later_version_waits(rt: HostRuntime) -> Result<(), Fail> {
-    let alloc = rt.alloc();
-    let (mut core, mut port) = creator(alloc, 1)?;
-    holds(&rt, commits(&mut core));
-    holds(&rt, waits(alloc, &mut core, &mut port)?);
-    Ok(())
-}
-
-// Whether a core sends its request and then waits.
-fn sends_and_waits(core: &mut Core<ListLinks>) -> bool {
-    let did = core.turn(true) == Turn::Did;
-    did && core.turn(true) == Turn::Idle && core.version() == 0 && !core.idle()
-}
-
-#[test]
-fn a_core_sends_one_request_and_waits(rt: HostRuntime) -> Result<(), Fail> {
-    let (mut core, _port) = creator(rt.alloc(), 2)?;
-    holds(&rt, sends_and_waits(&mut core));
-    equal(&rt, core.into_history().len(), 1);
-    Ok(())
-}
-
-// What core 1 of two answers where this is given to it as core 0's, twice.
-fn turns_at(alloc: Global, message: Vec<u8>) -> Result<(Turn, Turn, u64, usize), Fail>
-    requires length { (1 ≤ vec_len message) × (vec_len message ≤ 32832) }
-{
-    let (mut core, _port) = core_of(alloc, 1, 2, 4)?;
-    let _ = core.give(0, message);
-    let first = core.turn(true);
-    let second = core.turn(true);
-    Ok((first, second, core.version(), core.history().len()))
-}
-
-#[test]
-fn a_bad_message_stops_a_core(rt: HostRuntime) -> Result<(), Fail> {
-    let alloc = rt.alloc();
-    let stopped = Turn::Stopped(Cause::BadMessage);
-    let found = turns_at(alloc, Vec::from_slice(alloc, &[9])?)?;
-    equal(&rt, found, (stopped, stopped, 0, 0));
-    Ok(())
-}
-
-#[test]
-fn a_message_that_comes_too_early_stops_a_core(rt: HostRuntime) -> Result<(), Fail> {
-    let alloc = rt.alloc();
-    let stopped = Turn::Stopped(Cause::Stranger);
-    let commit = encode(alloc, 1, &Message::Commit { txn: 1 })?;
-    let found = turns_at(alloc, commit)?;
-    equal(&rt, found, (stopped, stopped, 0, 0));
-    Ok(())
-}
-
-#[test]
-fn the_last_stamp_is_spent(rt: HostRuntime) -> Result<(), Fail> {
-    let alloc = rt.alloc();
-    let op = create();
-    let prepare = encode(alloc, u64::MAX, &Message::Prepare { txn: 1, op })?;
-    let found = turns_at(alloc, prepare)?;
-    equal(&rt, found, (Turn::Spent, Turn::Spent, 0, 0));
-    Ok(())
-}
-
-// A core of this many cores that is to create an endpoint, over links of capacity 1.
+/// A core of this many cores that is to create an endpoint, over links of capacity 1.
 fn creator(alloc: Global, cores: u16) -> Result<(Core<ListLinks>, Port), AllocError>
     requires { 1 ≤ cores × cores ≤ 8 }
 {
@@ -124,6 +22,110 @@ fn creator(alloc: Global, cores: u16) -> Result<(Core<ListLinks>, Port), AllocEr
     let links = ListLinks::new(alloc, 0, cores, 1)?;
     let core = Core::new(alloc, links, 100, 0, cores, requests, intake)?;
     Ok((core, port))
+}
+
+/// A turn, which may receive a packet or not, with its answer; or a job with its number and its floor, which is put.
+#[derive(Clone, Copy)]
+enum Step {
+    Turns(bool, Turn),
+    Puts(u64, u64),
+}
+
+/// The steps, and then the version, the requests that are pending, whether the core is idle, and the events of its history.
+fn runs(
+    rt: &impl Abort,
+    alloc: Global,
+    core: &mut Core<ListLinks>,
+    port: &mut Port,
+    steps: &[Step],
+    wanted: (u64, usize, bool, usize),
+) {
+    for step in steps {
+        match step {
+            Step::Turns(may, wanted) => equal(rt, core.turn(*may), *wanted),
+            Step::Puts(number, floor) => {
+                let job = job(alloc, *number, *floor).expect(rt, "there is memory");
+                holds(rt, port.put(job).is_ok());
+            }
+        }
+    }
+    let found = (
+        core.version(),
+        core.pending(),
+        core.idle(),
+        core.history().len(),
+    );
+    equal_at(rt, found, wanted, &steps.len());
+}
+
+/// The request is committed, and then there is nothing to do; a job is received only in a turn that may, and one for a later version
+/// waits.
+static ALONE: [Step; 7] = [
+    Step::Turns(true, Turn::Did),
+    Step::Turns(true, Turn::Idle),
+    Step::Puts(7, 1),
+    Step::Turns(false, Turn::Idle),
+    Step::Turns(true, Turn::Did),
+    Step::Turns(true, Turn::Idle),
+    Step::Puts(8, 2),
+];
+
+/// A request is sent to the other core, whose answer doesn't come.
+static SENDS: [Step; 2] = [Step::Turns(true, Turn::Did), Step::Turns(true, Turn::Idle)];
+
+#[test]
+fn a_core_commits_and_receives(rt: HostRuntime) {
+    let alloc = rt.alloc();
+    let (mut core, mut port) = creator(alloc, 1).expect(&rt, "there is memory");
+    let (core, port) = (&mut core, &mut port);
+    runs(&rt, alloc, core, port, &ALONE[..1], (1, 0, true, 1));
+    runs(&rt, alloc, core, port, &ALONE[1..], (1, 0, true, 2));
+    runs(&rt, alloc, core, port, &SENDS[1..], (1, 0, true, 2));
+}
+
+#[test]
+fn a_core_sends_one_request_and_waits(rt: HostRuntime) {
+    let alloc = rt.alloc();
+    let (mut core, mut port) = creator(alloc, 2).expect(&rt, "there is memory");
+    runs(&rt, alloc, &mut core, &mut port, &SENDS, (0, 0, false, 1));
+    equal(&rt, core.into_history().len(), 1);
+}
+
+// What core 1 of two answers where this is given to it as core 0's, twice.
+fn turns_at(alloc: Global, message: Vec<u8>) -> Result<(Turn, Turn, u64, usize), AllocError>
+    requires length { (1 ≤ vec_len message) × (vec_len message ≤ 32832) }
+{
+    let (mut core, _port) = core_of(alloc, 1, 2, 4)?;
+    let _ = core.give(0, message);
+    let first = core.turn(true);
+    let second = core.turn(true);
+    Ok((first, second, core.version(), core.history().len()))
+}
+
+// The core stands still at a message, whatever it is asked.
+fn stands_still(rt: &impl Abort, alloc: Global, message: Vec<u8>, turn: Turn)
+    requires length { (1 ≤ vec_len message) × (vec_len message ≤ 32832) }
+{
+    let found = turns_at(alloc, message).expect(rt, "there is memory");
+    equal(rt, found, (turn, turn, 0, 0));
+}
+
+// A message that is none, one that comes too early, and the last stamp.
+#[test]
+fn messages_that_stop_a_core(rt: HostRuntime) {
+    let alloc = rt.alloc();
+    let bad = Vec::from_slice(alloc, &[9]).expect(&rt, "there is memory");
+    stands_still(&rt, alloc, bad, Turn::Stopped(Cause::BadMessage));
+    let commit = encode(alloc, 1, &Message::Commit { txn: 1 }).expect(&rt, "there is memory");
+    stands_still(&rt, alloc, commit, Turn::Stopped(Cause::Stranger));
+    let op = create();
+    let prepare = encode(alloc, u64::MAX, &Message::Prepare { txn: 1, op });
+    stands_still(
+        &rt,
+        alloc,
+        prepare.expect(&rt, "there is memory"),
+        Turn::Spent,
+    );
 }
 
 // A turn; one that is refused memory changes nothing.
@@ -137,12 +139,11 @@ fn turn(rt: &impl Abort, core: &mut Core<ListLinks>) {
 
 // Turns that commit the request, or refuse it where it lacked memory.
 #[test]
-fn a_core_alone_with_a_refused_growth(rt: HostRuntime) -> Result<(), Fail> {
-    let (mut core, _port) = creator(rt.alloc(), 1)?;
+fn a_core_alone_with_a_refused_growth(rt: HostRuntime) {
+    let (mut core, _port) = creator(rt.alloc(), 1).expect(&rt, "there is memory");
     for _ in 0..4 {
         turn(&rt, &mut core);
     }
     holds(&rt, core.idle() && core.pending() == 0);
     equal(&rt, core.history().len(), 1);
-    Ok(())
 }

@@ -10,7 +10,6 @@ use rtrb::RingBuffer;
 use rx_queue::queue;
 use std::alloc::{AllocError, Global};
 use std::collections::VecDeque;
-use std::test::Fail;
 use ump_ring::{Joiner, Line, Receiver, ring};
 
 // The links of core 1 of two, over which these lines have come: their first two words, where all others are 0.
@@ -39,36 +38,21 @@ fn turns_at(alloc: Global, heads: &[(u64, u64)]) -> Result<(Turn, Turn, u64, usi
     Ok((first, second, core.version(), core.history().len()))
 }
 
-const OUT_OF_SEQUENCE: Turn = Turn::Stopped(Cause::Line(LineFault::OutOfSequence));
-
-const BAD_LENGTH: Turn = Turn::Stopped(Cause::Line(LineFault::BadLength));
-
-const BAD_MESSAGE: Turn = Turn::Stopped(Cause::BadMessage);
-
-#[test]
-fn a_line_out_of_sequence_stops_a_core(rt: HostRuntime) -> Result<(), Fail> {
-    let found = turns_at(rt.alloc(), &[(4294967297, 5)])?;
-    equal(&rt, found, (OUT_OF_SEQUENCE, OUT_OF_SEQUENCE, 0, 0));
-    Ok(())
-}
+/// The heads of lines, and what stops the core at them.
+static STOPS: [(&[(u64, u64)], Cause); 4] = [
+    (&[(4294967297, 5)], Cause::Line(LineFault::OutOfSequence)),
+    (&[(0, 0)], Cause::Line(LineFault::BadLength)),
+    // A bad padding.
+    (&[(4294967296, 261)], Cause::Line(LineFault::BadLength)),
+    // Bytes that are no message.
+    (&[(4294967296, 9)], Cause::BadMessage),
+];
 
 #[test]
-fn a_bad_length_stops_a_core(rt: HostRuntime) -> Result<(), Fail> {
-    let found = turns_at(rt.alloc(), &[(0, 0)])?;
-    equal(&rt, found, (BAD_LENGTH, BAD_LENGTH, 0, 0));
-    Ok(())
-}
-
-#[test]
-fn a_bad_padding_stops_a_core(rt: HostRuntime) -> Result<(), Fail> {
-    let found = turns_at(rt.alloc(), &[(4294967296, 261)])?;
-    equal(&rt, found, (BAD_LENGTH, BAD_LENGTH, 0, 0));
-    Ok(())
-}
-
-#[test]
-fn bytes_that_are_no_message_stop_a_core(rt: HostRuntime) -> Result<(), Fail> {
-    let found = turns_at(rt.alloc(), &[(4294967296, 9)])?;
-    equal(&rt, found, (BAD_MESSAGE, BAD_MESSAGE, 0, 0));
-    Ok(())
+fn lines_that_stop_a_core(rt: HostRuntime) {
+    for (heads, cause) in &STOPS {
+        let found = turns_at(rt.alloc(), heads).expect(&rt, "there is memory");
+        let stopped = Turn::Stopped(*cause);
+        equal(&rt, found, (stopped, stopped, 0, 0));
+    }
 }

@@ -1,6 +1,7 @@
 //! What a source and a sink record: a failing, an interrupted and a short reader and writer.
 
-use console::{EngineFault, Got, Input, Sink, Source, read_bounded, write_bytes};
+use crate::facts::{equal, holds};
+use console::{EngineFault, Got, Sink, Source, read_bounded, write_bytes};
 use std::io;
 use std::io::{ErrorKind, Read, Write};
 
@@ -57,11 +58,10 @@ fn a_read_is_recorded(rt: HostRuntime) {
         let answers = [answer];
         let mut source = Source::new(Script::new(&answers), 5);
         let got = source.read(&mut [0; 4]);
-        assert!(rt; got == want);
-        assert_eq!(rt; source.left(), 4);
-        assert_eq!(rt; source.taken(), taken);
-        assert_eq!(rt; source.has_failed(), failed);
-        assert_eq!(rt; source.inner().calls, 1);
+        holds(&rt, got == want);
+        let shown = (source.left(), source.taken(), source.has_failed());
+        equal(&rt, shown, (4, taken, failed));
+        equal(&rt, source.inner().calls, 1);
     }
 }
 
@@ -69,12 +69,9 @@ fn a_read_is_recorded(rt: HostRuntime) {
 fn nothing_is_read_after_a_failed_read(rt: HostRuntime) {
     let answers = [Ok(2), INTERRUPTED, REFUSED, Ok(2)];
     let mut source = Source::new(Script::new(&answers), 9);
-    let fault = match read_bounded(rt.alloc(), &mut source, 99) {
-        Ok(Input::Whole(_) | Input::TooLong) => None,
-        Err(fault) => Some(fault),
-    };
-    assert!(rt; fault == Some(EngineFault::ReadFailed));
-    assert_eq!(rt; source.inner().calls, 3);
+    let fault = read_bounded(rt.alloc(), &mut source, 99).err();
+    equal(&rt, fault, Some(EngineFault::ReadFailed));
+    equal(&rt, source.inner().calls, 3);
 }
 
 #[test]
@@ -95,7 +92,7 @@ fn a_write_goes_on_until_it_fails(rt: HostRuntime) {
     for (answers, want, calls) in rows {
         let mut sink = Sink::new(Script::new(&answers));
         let answer = write_bytes(&mut sink, b"abcdef");
-        assert_eq!(rt; answer, want);
-        assert_eq!(rt; sink.inner().calls, calls);
+        equal(&rt, answer, want);
+        equal(&rt, sink.inner().calls, calls);
     }
 }

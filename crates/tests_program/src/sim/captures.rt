@@ -1,6 +1,6 @@
 //! Captures, and the traces of runs.
 
-use super::runs::shows;
+use super::runs::Script;
 
 /// Three packets of one byte each.
 pub const CAPTURE: &[u8] = b"\xd4\xc3\xb2\xa1\x02\0\x04\0\0\0\0\0\0\0\0\0\xff\xff\0\0\x01\0\0\0\
@@ -9,7 +9,7 @@ pub const CAPTURE: &[u8] = b"\xd4\xc3\xb2\xa1\x02\0\x04\0\0\0\0\0\0\0\0\0\xff\xf
     \0\0\0\0\0\0\0\0\x01\0\0\0\x01\0\0\0\x03";
 
 /// Scripts that name the capture, their status, and what they show.
-const SCRIPTS: [(&str, u8, &str); 3] = [
+pub static OF_CAPTURES: [Script; 3] = [
     // The packets come to the cores in turn.
     (
         "cores 9 9\n\
@@ -43,22 +43,20 @@ const SCRIPTS: [(&str, u8, &str); 3] = [
     ("cores 9\ncapture c 2\n", 1, "line 2: NoName\n"),
 ];
 
-#[test]
-fn captures_are_replayed(rt: HostRuntime) {
-    for (script, status, shown) in SCRIPTS {
-        shows(&rt, rt.alloc(), script, Some(CAPTURE), status, shown);
-    }
-}
+/// The capture, cut before its last byte.
+pub const CUT: &[u8] = b"\xd4\xc3\xb2\xa1\x02\0\x04\0\0\0\0\0\0\0\0\0\xff\xff\0\0\x01\0\0\0\
+    \0\0\0\0\0\0\0\0\x01\0\0\0\x01\0\0\0\x01\
+    \0\0\0\0\0\0\0\0\x01\0\0\0\x01\0\0\0\x02\
+    \0\0\0\0\0\0\0\0\x01\0\0\0\x01\0\0\0";
 
-#[test]
-fn a_cut_capture_is_refused(rt: HostRuntime) {
-    let script = "cores 9\n\ncapture c 1\n";
-    let shown = "line 3: BadBody capture TruncatedRecord 58\n";
-    shows(&rt, rt.alloc(), script, Some(&CAPTURE[..74]), 1, shown);
-}
+pub static CUT_SCRIPTS: [Script; 1] = [(
+    "cores 9\n\ncapture c 1\n",
+    1,
+    "line 3: BadBody capture TruncatedRecord 58\n",
+)];
 
 /// A script for a run, and what the run printed for it after `trace`.
-const TRACED: (&str, &str) = (
+pub static TRACED: [Script; 1] = [(
     "cores 100 100\n\
      ddd all 1,6 0 0 65535\n\
      packet q 0102030405\n\
@@ -79,6 +77,7 @@ const TRACED: (&str, &str) = (
      take 0 1: ack 2\n\
      rx 1 1: version 2 7=5\n\
      left 1 2\n",
+    0,
     "start: prepared 1\n\
      take 1 0: prepare 1 Yes\n\
      take 0 1: vote 1 Yes committed 1 cap 1\n\
@@ -90,10 +89,4 @@ const TRACED: (&str, &str) = (
      take 1 0: commit 2 version 2\n\
      take 0 1: ack 2\n\
      rx 1 1: version 2 7=5\n",
-);
-
-#[test]
-fn a_trace_is_repeated(rt: HostRuntime) {
-    let (script, shown) = TRACED;
-    shows(&rt, rt.alloc(), script, None, 0, shown);
-}
+)];

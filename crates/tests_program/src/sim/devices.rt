@@ -1,286 +1,181 @@
 //! Readers and writers that give or take little at a time, fail when they are told to, or have too much.
 
 use super::protocol::TWO_PHASE;
+use crate::devices::{Pieces, Taker};
 use crate::engines::run_sim;
 use crate::facts::{equal, equal_at};
 use console::EngineFault;
 use std::alloc::{AllocError, Global};
-use std::io;
-use std::io::{Cursor, ErrorKind, Read, Write};
 use std::process::Abort;
+use world_core::Messages;
 
 /// The most bytes of one input.
 const LIMIT: usize = 67_108_864;
 
-/// A reader that has some bytes and then some marks `#`, gives at most `step` bytes a read, and fails at one of its
-/// reads: 0 for none.
-#[derive(Drop)]
-struct Source<'a> {
-    bytes: &'a [u8],
-    marks: usize,
-    step: usize,
-    reads: usize,
-    fails_at: usize,
-}
+/// How a run ends, what it writes, and how many reads the script and the two files had.
+type Seen = (Result<u8, EngineFault>, Vec<u8>, [usize; 3]);
 
-impl<'a> Source<'a> {
-    /// Bytes, one a read.
-    fn slow(bytes: &'a [u8], fails_at: usize) -> Source<'a> {
-        Source {
-            bytes,
-            marks: 0,
-            step: 1,
-            reads: 0,
-            fails_at,
-        }
-    }
-
-    /// This many marks.
-    fn of_marks(marks: usize) -> Source<'a> {
-        Source {
-            bytes: &[],
-            marks,
-            step: usize::MAX,
-            reads: 0,
-            fails_at: 0,
-        }
-    }
-}
-
-impl Read for Source<'_> {
-    fn read(&mut self, buf: &mut [u8]) -> io::Result<usize> {
-        self.reads = self.reads.saturating_add(1);
-        if self.reads == self.fails_at {
-            return Err(io::Error::from(ErrorKind::PermissionDenied));
-        }
-        if self.bytes.is_empty() {
-            let count = self.marks.min(buf.len());
-            buf[..count].fill(b'#');
-            self.marks -= count;
-            return Ok(count);
-        }
-        let count = self.step.min(self.bytes.len()).min(buf.len());
-        buf[..count].copy_from_slice(&self.bytes[..count]);
-        self.bytes = &self.bytes[count..];
-        Ok(count)
-    }
-}
-
-/// A writer that takes one byte a write, and fails at one of its writes: 0 for none.
-#[derive(Drop)]
-struct Sink {
-    taken: usize,
-    writes: usize,
-    fails_at: usize,
-}
-
-impl Write for Sink {
-    fn write(&mut self, buf: &[u8]) -> io::Result<usize> {
-        self.writes = self.writes.saturating_add(1);
-        if self.writes == self.fails_at {
-            return Err(io::Error::from(ErrorKind::PermissionDenied));
-        }
-        let count = buf.len().min(1);
-        self.taken = self.taken.saturating_add(count);
-        Ok(count)
-    }
-
-    fn flush(&mut self) -> io::Result<()> {
-        Ok(())
-    }
-}
-
-/// Two files.
-fn pair<'a>(
+/// A run of a script and two files.
+fn run<'a>(
     alloc: Global,
-    first: Source<'a>,
-    second: Source<'a>,
-) -> Result<Vec<Source<'a>>, AllocError> {
-    let mut files = Vec::new(alloc);
-    files.push(first)?;
-    files.push(second)?;
-    Ok(files)
-}
-
-/// The answer to a script and two files, and what is written.
-fn answer(
-    alloc: Global,
-    mut script: Source<'_>,
-    first: Source<'_>,
-    second: Source<'_>,
-    out: &mut Vec<u8>,
-) -> Result<u8, EngineFault> {
-    let files = pair(alloc, first, second)?;
-    run_sim(alloc, files, &mut script, out)
-}
-
-#[test]
-fn a_script_that_fails_to_be_read_shows_nothing(rt: HostRuntime) {
-    let (script, shown) = TWO_PHASE;
-    // One read for each byte, and one that finds the end.
-    let reads = script.len() + 1;
-    for fails_at in 1..reads + 2 {
-        let mut out = Vec::new(rt.alloc());
-        let reader = Source::slow(script.as_bytes(), fails_at);
-        let answer = answer(
-            rt.alloc(),
-            reader,
-            Source::of_marks(0),
-            Source::of_marks(0),
-            &mut out,
-        );
-        if fails_at <= reads {
-            equal_at(&rt, answer, Err(EngineFault::ReadFailed), &fails_at);
-            equal(&rt, out.len(), 0);
-        } else {
-            equal(&rt, answer, Ok(0));
-            equal(&rt, out.as_slice(), shown.as_bytes());
-        }
-    }
-}
-
-#[test]
-fn a_file_that_fails_to_be_read_shows_nothing(rt: HostRuntime) {
-    let (script, shown) = TWO_PHASE;
-    let bytes: &[u8] = &[7; 9];
-    for fails_at in 1..12 {
-        for second in [false, true] {
-            let (one, other) = if second { (0, fails_at) } else { (fails_at, 0) };
-            let mut out = Vec::new(rt.alloc());
-            let answer = answer(
-                rt.alloc(),
-                Source::slow(script.as_bytes(), 0),
-                Source::slow(bytes, one),
-                Source::slow(bytes, other),
-                &mut out,
-            );
-            if fails_at <= 10 {
-                equal_at(&rt, answer, Err(EngineFault::ReadFailed), &fails_at);
-                equal(&rt, out.len(), 0);
-            } else {
-                equal(&rt, answer, Ok(0));
-                equal(&rt, out.as_slice(), shown.as_bytes());
-            }
-        }
-    }
-}
-
-/// How many reads `TWO_PHASE` and two files of nine bytes had, where this read of the script or of the first file fails: 0
-/// for none.
-fn reads(
-    alloc: Global,
-    script_fails: usize,
-    first_fails: usize,
-) -> Result<(usize, usize, usize), AllocError> {
-    let (script, _) = TWO_PHASE;
-    let mut script = Source::slow(script.as_bytes(), script_fails);
-    let mut first = Source::slow(&[7; 9], first_fails);
-    let mut second = Source::slow(&[7; 9], 0);
+    mut script: Pieces<'_>,
+    mut first: Pieces<'a>,
+    mut second: Pieces<'a>,
+) -> Result<Seen, AllocError> {
+    let mut out = Vec::new(alloc);
     let mut files = Vec::new(alloc);
     files.push(&mut first)?;
     files.push(&mut second)?;
-    let _ = run_sim(alloc, files, &mut script, &mut Vec::new(alloc));
-    Ok((script.reads, first.reads, second.reads))
+    let answer = run_sim::<Messages, Pieces<'_>, &mut Pieces<'_>, Vec<u8>>(
+        alloc,
+        files,
+        &mut script,
+        &mut out,
+    );
+    Ok((answer, out, [script.reads, first.reads, second.reads]))
 }
 
+/// The run ends so, with this text written, and with so many reads.
+fn ends(
+    rt: &impl Abort,
+    seen: Result<Seen, AllocError>,
+    answer: Result<u8, EngineFault>,
+    shown: &str,
+    reads: [usize; 3],
+) {
+    let (found, out, read) = seen.expect(rt, "there is memory");
+    equal_at(rt, found, answer, &reads);
+    equal_at(rt, out.as_slice(), shown.as_bytes(), &reads);
+    equal(rt, read, reads);
+}
+
+/// `TWO_PHASE` and two files of nine bytes, one byte a read, where these reads fail: 0 for none.
+fn slow(alloc: Global, fails_at: [usize; 3]) -> Result<Seen, AllocError> {
+    let (script, _, _) = TWO_PHASE;
+    run(
+        alloc,
+        Pieces::new(script.as_bytes(), 1, fails_at[0]),
+        Pieces::new(&[7; 9], 1, fails_at[1]),
+        Pieces::new(&[7; 9], 1, fails_at[2]),
+    )
+}
+
+const FAILED: Result<u8, EngineFault> = Err(EngineFault::ReadFailed);
+
+// The script is read to its end, and then each file.
 #[test]
-fn the_script_is_read_to_its_end_and_then_each_file(rt: HostRuntime) {
-    let end = TWO_PHASE.0.len() + 1;
-    equal(&rt, reads(rt.alloc(), end, 0), Ok((end, 0, 0)));
-    equal(&rt, reads(rt.alloc(), 0, 10), Ok((end, 10, 0)));
-    equal(&rt, reads(rt.alloc(), 0, 0), Ok((end, 10, 10)));
+fn an_input_that_fails_to_be_read_shows_nothing(rt: HostRuntime) {
+    let (script, _, shown) = TWO_PHASE;
+    // One read for each byte, and one that finds the end.
+    let end = script.len() + 1;
+    for fails_at in 1..end + 1 {
+        ends(
+            &rt,
+            slow(rt.alloc(), [fails_at, 0, 0]),
+            FAILED,
+            "",
+            [fails_at, 0, 0],
+        );
+    }
+    for fails_at in 1..11 {
+        ends(
+            &rt,
+            slow(rt.alloc(), [0, fails_at, 0]),
+            FAILED,
+            "",
+            [end, fails_at, 0],
+        );
+        ends(
+            &rt,
+            slow(rt.alloc(), [0, 0, fails_at]),
+            FAILED,
+            "",
+            [end, 10, fails_at],
+        );
+    }
+    for fails_at in [[end + 1, 0, 0], [0, 11, 0], [0, 0, 11], [0, 0, 0]] {
+        ends(&rt, slow(rt.alloc(), fails_at), Ok(0), shown, [end, 10, 10]);
+    }
 }
 
 /// The answer to `TWO_PHASE` where this write fails, and how many bytes were taken.
 fn with_writer(alloc: Global, fails_at: usize) -> (Result<u8, EngineFault>, usize) {
-    let (script, _) = TWO_PHASE;
-    let files: Vec<Cursor<&[u8]>> = Vec::new(alloc);
-    let mut sink = Sink {
-        taken: 0,
-        writes: 0,
-        fails_at,
-    };
-    let answer = run_sim(alloc, files, &mut Cursor::new(script.as_bytes()), &mut sink);
-    (answer, sink.taken)
+    let (script, _, _) = TWO_PHASE;
+    let files: Vec<Pieces<'_>> = Vec::new(alloc);
+    let mut taker = Taker::new(fails_at);
+    let mut reader = Pieces::new(script.as_bytes(), 64, 0);
+    let answer = run_sim::<Messages, Pieces<'_>, Pieces<'_>, Taker>(
+        alloc,
+        files,
+        &mut reader,
+        &mut taker,
+    );
+    (answer, taker.taken)
 }
 
 #[test]
 fn a_write_that_fails_is_reported(rt: HostRuntime) {
-    let (_, shown) = TWO_PHASE;
+    let (_, _, shown) = TWO_PHASE;
     for fails_at in 1..shown.len() + 1 {
-        let (answer, taken) = with_writer(rt.alloc(), fails_at);
-        equal_at(&rt, answer, Err(EngineFault::WriteFailed), &fails_at);
-        equal(&rt, taken, fails_at - 1);
+        let seen = with_writer(rt.alloc(), fails_at);
+        equal(&rt, seen, (Err(EngineFault::WriteFailed), fails_at - 1));
     }
-    let (answer, taken) = with_writer(rt.alloc(), shown.len() + 1);
-    equal(&rt, answer, Ok(0));
-    equal(&rt, taken, shown.len());
+    let seen = with_writer(rt.alloc(), shown.len() + 1);
+    equal(&rt, seen, (Ok(0), shown.len()));
 }
 
-/// A script and two files show this text, with status 1.
-fn refuses(
+/// A script and two files end so, with this text; which reads were made is left open.
+fn ends_with(
     rt: &impl Abort,
-    alloc: Global,
-    script: Source<'_>,
-    first: Source<'_>,
-    second: Source<'_>,
+    seen: Result<Seen, AllocError>,
+    answer: Result<u8, EngineFault>,
     shown: &str,
 ) {
-    let mut out = Vec::new(alloc);
-    let answer = answer(alloc, script, first, second, &mut out);
-    equal_at(rt, answer, Ok(1), &shown);
+    let (found, out, _) = seen.expect(rt, "there is memory");
+    equal_at(rt, found, answer, &shown);
     equal(rt, out.as_slice(), shown.as_bytes());
 }
 
 #[test]
 fn a_file_has_a_limit(rt: HostRuntime) {
-    let script = b"cores 9\ncapture c 1\n";
+    let alloc = rt.alloc();
     for (marks, shown) in [
         (LIMIT, "line 2: BadBody capture BadMagic\n"),
         (LIMIT + 1, "fault InputTooLong\n"),
     ] {
-        refuses(
-            &rt,
-            rt.alloc(),
-            Source::slow(script, 0),
-            Source::of_marks(marks),
-            Source::of_marks(0),
-            shown,
-        );
+        let script = Pieces::new(b"cores 9\ncapture c 1\n", 1, 0);
+        let seen = run(alloc, script, Pieces::of_marks(marks), Pieces::of_marks(0));
+        ends_with(&rt, seen, Ok(1), shown);
     }
 }
 
+// An input that would be read then fails, but for the last: a file that fails comes before one that is too long.
 #[test]
 fn nothing_is_read_after_an_input_that_is_too_long(rt: HostRuntime) {
+    let alloc = rt.alloc();
     let long = "fault InputTooLong\n";
-    refuses(
-        &rt,
-        rt.alloc(),
-        Source::of_marks(LIMIT + 1),
-        Source::slow(b"", 1),
-        Source::slow(b"", 1),
-        long,
+    let script = Pieces::of_marks(LIMIT + 1);
+    let seen = run(
+        alloc,
+        script,
+        Pieces::new(b"", 1, 1),
+        Pieces::new(b"", 1, 1),
     );
-    refuses(
-        &rt,
-        rt.alloc(),
-        Source::slow(b"cores 9\n", 0),
-        Source::of_marks(LIMIT + 1),
-        Source::slow(b"", 1),
-        long,
+    ends_with(&rt, seen, Ok(1), long);
+    let script = Pieces::new(b"cores 9\n", 1, 0);
+    let seen = run(
+        alloc,
+        script,
+        Pieces::of_marks(LIMIT + 1),
+        Pieces::new(b"", 1, 1),
     );
-}
-
-#[test]
-fn a_file_that_fails_comes_before_one_that_is_too_long(rt: HostRuntime) {
-    let mut out = Vec::new(rt.alloc());
-    let answer = answer(
-        rt.alloc(),
-        Source::slow(b"no script\n", 0),
-        Source::slow(b"", 1),
-        Source::of_marks(LIMIT + 1),
-        &mut out,
+    ends_with(&rt, seen, Ok(1), long);
+    let script = Pieces::new(b"no script\n", 1, 0);
+    let seen = run(
+        alloc,
+        script,
+        Pieces::new(b"", 1, 1),
+        Pieces::of_marks(LIMIT + 1),
     );
-    equal(&rt, answer, Err(EngineFault::ReadFailed));
-    equal(&rt, out.len(), 0);
+    ends_with(&rt, seen, FAILED, "");
 }

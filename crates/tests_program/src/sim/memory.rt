@@ -2,7 +2,7 @@
 
 use super::captures::CAPTURE;
 use super::protocol::TWO_PHASE;
-use super::tables::SCRIPTS;
+use super::tables::TABLES;
 use crate::engines::run_sim;
 use crate::facts::{equal, holds};
 use crate::page::Page;
@@ -10,6 +10,7 @@ use console::EngineFault;
 use std::alloc::{AllocError, Global};
 use std::io::Cursor;
 use std::process::Abort;
+use world_core::Messages;
 
 /// Whether a vote or a decision tells that there was no memory.
 fn tells_no_memory(text: &[u8]) -> bool {
@@ -24,7 +25,12 @@ fn shows_or_tells(rt: &impl Abort, alloc: Global, script: &[u8], shown: &str) {
         .expect(rt, "there is memory");
     let mut page = Page::new();
     let mut reader = Cursor::new(script);
-    let answer = run_sim(alloc, files, &mut reader, &mut page);
+    let answer = run_sim::<Messages, Cursor<&[u8]>, Cursor<&[u8]>, Page>(
+        alloc,
+        files,
+        &mut reader,
+        &mut page,
+    );
     let text = page.as_slice();
     if answer == Err(EngineFault::NoMemory) {
         holds(rt, shown.as_bytes().starts_with(text));
@@ -36,9 +42,9 @@ fn shows_or_tells(rt: &impl Abort, alloc: Global, script: &[u8], shown: &str) {
 
 #[test]
 fn a_refused_growth_is_told(rt: HostRuntime) {
-    let (script, shown) = TWO_PHASE;
+    let (script, _, shown) = TWO_PHASE;
     shows_or_tells(&rt, rt.alloc(), script.as_bytes(), shown);
-    for (script, shown) in SCRIPTS {
+    for (script, _, shown) in &TABLES {
         shows_or_tells(&rt, rt.alloc(), script.as_bytes(), shown);
     }
 }
@@ -82,10 +88,14 @@ const TRACE: &str = "start: prepared 1\n\
      rx 1 2: version 3 none\n\
      rx 0 3: version 3 7=1\n";
 
-#[test]
-fn a_refused_growth_of_a_trace_is_told(rt: HostRuntime) -> Result<(), AllocError> {
-    let mut script = Vec::from_slice(rt.alloc(), TRACED.as_bytes())?;
+fn traced(alloc: Global) -> Result<Vec<u8>, AllocError> {
+    let mut script = Vec::from_slice(alloc, TRACED.as_bytes())?;
     script.extend_from_slice(TRACE.as_bytes())?;
+    Ok(script)
+}
+
+#[test]
+fn a_refused_growth_of_a_trace_is_told(rt: HostRuntime) {
+    let script = traced(rt.alloc()).expect(&rt, "there is memory");
     shows_or_tells(&rt, rt.alloc(), &script, TRACE);
-    Ok(())
 }

@@ -1,9 +1,9 @@
 //! How the cores agree, as scripts show it.
 
-use super::runs::shows;
+use super::runs::Script;
 
 /// Two requests, of which the second is committed on core 1 while packets come, and what is shown.
-pub const TWO_PHASE: (&str, &str) = (
+pub const TWO_PHASE: Script = (
     "cores 100 100\n\
      ddd arp 4,40 0 0 12,21 0 1 2054,6 0 0 4294967295,6 0 0 0\n\
      packet p ffffffffffff0011223344550806\n\
@@ -18,6 +18,7 @@ pub const TWO_PHASE: (&str, &str) = (
      take 1 0\n\
      rx 1 p\n\
      rx 1 p 3\n",
+    0,
     "start: prepared 1\n\
      take 1 0: prepare 1 Yes\n\
      take 0 1: vote 1 Yes committed 1 cap 1\n\
@@ -34,7 +35,7 @@ pub const TWO_PHASE: (&str, &str) = (
 );
 
 /// Scripts, and what they show.
-const SCRIPTS: [(&str, &str); 6] = [
+pub static AGREEMENT: [Script; 6] = [
     TWO_PHASE,
     // A core whose budget is too small refuses for all.
     (
@@ -45,6 +46,7 @@ const SCRIPTS: [(&str, &str); 6] = [
          install 1 1 arp\n\
          install 1 1 three\n\
          settle\n",
+        0,
         "start: prepared 1\n\
          take 1 0: prepare 1 Yes\n\
          take 0 1: vote 1 Yes committed 1 cap 1\n\
@@ -71,6 +73,7 @@ const SCRIPTS: [(&str, &str); 6] = [
          take 1 0\n\
          take 0 1\n\
          start\n",
+        0,
         "start: prepared 1\n\
          take 1 0: prepare 1 NoMemory\n\
          take 0 1: vote 1 NoMemory refused NoMemory core 1\n\
@@ -88,6 +91,7 @@ const SCRIPTS: [(&str, &str); 6] = [
          take 0 1\n\
          take 2 0\n\
          show 2\n",
+        0,
         "start: prepared 1\n\
          start: fault NotIdle\n\
          take 0 1: fault Nothing\n\
@@ -111,6 +115,7 @@ const SCRIPTS: [(&str, &str); 6] = [
          take 0 1\n\
          take 1 0\n\
          settle\n",
+        0,
         "startfor 1: fault NoneWaiting\n\
          submit 1: sent\n\
          submit 1: fault Outstanding\n\
@@ -135,6 +140,7 @@ const SCRIPTS: [(&str, &str); 6] = [
          start\n\
          take 1 0 short\n\
          settle\n",
+        0,
         "start: prepared 1\n\
          start: fault NotIdle\n\
          take 1 0: prepare 1 NoMemory\n\
@@ -148,10 +154,3 @@ const SCRIPTS: [(&str, &str); 6] = [
          take 0 1: ack 2\n",
     ),
 ];
-
-#[test]
-fn agreement_is_shown(rt: HostRuntime) {
-    for (script, shown) in SCRIPTS {
-        shows(&rt, rt.alloc(), script, None, 0, shown);
-    }
-}

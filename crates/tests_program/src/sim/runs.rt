@@ -1,63 +1,61 @@
-//! Runs of scripts in memory.
+//! Runs of scripts in memory, over each kind of channel.
 
-use crate::engines::{run_sim, run_sim_over};
+use super::captures::{CAPTURE, CUT, CUT_SCRIPTS, OF_CAPTURES, TRACED};
+use super::protocol::AGREEMENT;
+use super::refused::REFUSED;
+use super::tables::TABLES;
+use crate::engines::run_sim;
 use crate::facts::equal_at;
 use console::EngineFault;
 use std::alloc::{AllocError, Global};
 use std::io::Cursor;
 use std::process::Abort;
-use world_core::Lines;
+use world_core::{Channel, Lines, Messages};
 
-/// The file that a script names, if it names one.
-fn readers(
-    alloc: Global,
-    file: Option<&'static [u8]>,
-) -> Result<Vec<Cursor<&'static [u8]>>, AllocError> {
+/// A script with its status and what it shows.
+pub type Script = (&'static str, u8, &'static str);
+
+/// One file.
+fn files(alloc: Global, file: &'static [u8]) -> Result<Vec<Cursor<&'static [u8]>>, AllocError> {
     let mut files = Vec::new(alloc);
-    if let Some(bytes) = file {
-        files.push(Cursor::new(bytes))?;
-    }
+    files.push(Cursor::new(file))?;
     Ok(files)
 }
 
-/// The answer to a script, and what is written.
-fn through_lists(
+/// The answer to a script with one file, and what is written.
+fn answer<C: Channel>(
     alloc: Global,
     script: &str,
-    file: Option<&'static [u8]>,
+    file: &'static [u8],
     out: &mut Vec<u8>,
 ) -> Result<u8, EngineFault> {
-    let files = readers(alloc, file)?;
-    run_sim(alloc, files, &mut Cursor::new(script.as_bytes()), out)
-}
-
-/// The same over channels that keep lines.
-fn through_lines(
-    alloc: Global,
-    script: &str,
-    file: Option<&'static [u8]>,
-    out: &mut Vec<u8>,
-) -> Result<u8, EngineFault> {
-    let files = readers(alloc, file)?;
+    let files = files(alloc, file)?;
     let mut reader = Cursor::new(script.as_bytes());
-    run_sim_over::<Lines, Cursor<&[u8]>, Cursor<&[u8]>, Vec<u8>>(alloc, files, &mut reader, out)
+    run_sim::<C, Cursor<&[u8]>, Cursor<&[u8]>, Vec<u8>>(alloc, files, &mut reader, out)
 }
 
-/// A script ends with this status and shows just this text, over each kind of channel.
-pub fn shows(
-    rt: &impl Abort,
-    alloc: Global,
-    script: &str,
-    file: Option<&'static [u8]>,
-    status: u8,
-    shown: &str,
-) {
-    let mut out = Vec::new(alloc);
-    let answer = through_lists(alloc, script, file, &mut out);
-    equal_at(rt, answer, Ok(status), &script);
-    equal_at(rt, out.as_slice(), shown.as_bytes(), &script);
-    let mut out = Vec::new(alloc);
-    let answer = through_lines(alloc, script, file, &mut out);
-    equal_at(rt, answer, Ok(status), &script);
-    equal_at(rt, out.as_slice(), shown.as_bytes(), &script);
+/// Each script ends with its status and shows just its text.
+fn show<C: Channel>(rt: &impl Abort, alloc: Global, file: &'static [u8], scripts: &[Script]) {
+    for (script, status, shown) in scripts {
+        let mut out = Vec::new(alloc);
+        let answer = answer::<C>(alloc, script, file, &mut out);
+        equal_at(rt, answer, Ok(*status), script);
+        equal_at(rt, out.as_slice(), shown.as_bytes(), script);
+    }
+}
+
+/// All scripts, over channels of this kind.
+fn show_all<C: Channel>(rt: &impl Abort, alloc: Global) {
+    show::<C>(rt, alloc, CAPTURE, &AGREEMENT);
+    show::<C>(rt, alloc, CAPTURE, &TABLES);
+    show::<C>(rt, alloc, CAPTURE, &REFUSED);
+    show::<C>(rt, alloc, CAPTURE, &OF_CAPTURES);
+    show::<C>(rt, alloc, CAPTURE, &TRACED);
+    show::<C>(rt, alloc, CUT, &CUT_SCRIPTS);
+}
+
+#[test]
+fn scripts_over_each_kind_of_channel(rt: HostRuntime) {
+    show_all::<Messages>(&rt, rt.alloc());
+    show_all::<Lines>(&rt, rt.alloc());
 }

@@ -1,9 +1,9 @@
 //! What the filter table does, as scripts show it.
 
-use super::runs::shows;
+use super::runs::Script;
 
 /// Scripts, and what they show.
-pub const SCRIPTS: [(&str, &str); 5] = [
+pub static TABLES: [Script; 5] = [
     // The greatest verdict says how many bytes an endpoint gets.
     (
         "cores 10\n\
@@ -15,6 +15,7 @@ pub const SCRIPTS: [(&str, &str); 5] = [
          install 1 1 sixty\n\
          settle\n\
          rx 0 z\n",
+        0,
         "start: committed 1 cap 1\n\
          start: committed 2 filter 1\n\
          start: committed 3 filter 2\n\
@@ -37,6 +38,7 @@ pub const SCRIPTS: [(&str, &str); 5] = [
          remove 1 1\n\
          settle\n\
          show 0\n",
+        0,
         "start: committed 1 cap 1\n\
          start: committed 2 cap 2\n\
          start: committed 3 filter 1\n\
@@ -56,6 +58,7 @@ pub const SCRIPTS: [(&str, &str); 5] = [
          create 1 7\n\
          install 1 1 bad\n\
          settle\n",
+        0,
         "start: committed 1 cap 1\n\
          start: refused BadProgram 9 0\n",
     ),
@@ -76,6 +79,7 @@ pub const SCRIPTS: [(&str, &str); 5] = [
          replace 1 1 all\n\
          settle\n\
          show 0\n",
+        0,
         "start: committed 1 cap 1\n\
          start: committed 2 filter 1\n\
          start: committed 3 filter 2\n\
@@ -100,6 +104,7 @@ pub const SCRIPTS: [(&str, &str); 5] = [
          replace 1 1 three\n\
          settle\n\
          show 0\n",
+        0,
         "start: committed 1 cap 1\n\
          start: committed 2 filter 1\n\
          start: committed 3 filter 2\n\
@@ -110,10 +115,3 @@ pub const SCRIPTS: [(&str, &str); 5] = [
          filter 2 owner 1 cap 1 endpoint 7 instructions 1\n",
     ),
 ];
-
-#[test]
-fn tables_are_shown(rt: HostRuntime) {
-    for (script, shown) in SCRIPTS {
-        shows(&rt, rt.alloc(), script, None, 0, shown);
-    }
-}

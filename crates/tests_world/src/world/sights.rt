@@ -1,7 +1,7 @@
 //! What the tests see of a world, to compare it with an earlier one.
 
 use crate::facts::equal;
-use monitor_2pc::{Decision, Vote};
+use monitor_messages::{Decision, Vote};
 use std::process::Abort;
 use table_replica::Replica;
 use world_core::{Answer, Channel, Done, WorldOver};
@@ -19,7 +19,7 @@ pub(crate) struct Sight {
 }
 
 /// How many filters are listed.
-fn listed(replica: &Replica) -> usize {
+pub(crate) fn listed(replica: &Replica) -> usize {
     let mut count = 0usize;
     for _filter in replica.filters() {
         count = count.wrapping_add(1);

@@ -1,12 +1,13 @@
-//! Requests, answers and decisions in short forms, and packets and programs that several runs use.
+//! Requests, answers and decisions in plain values, and packets and programs that several runs use.
 
 use bpf_insn::{TextFault, read_ddd};
 use endpoint_caps::Rights;
-use monitor_2pc::{Decision, Veto, Vote};
+use monitor_messages::{Decision, Veto, Vote};
 use std::alloc::Global;
 use std::process::Abort;
-use table_replica::{Kept, Made, Op, OpFault, Program};
-use world_core::{Answer, WorldFault};
+use table_replica::{Made, Op, Program};
+use world_core::WorldFault;
+use world_model::Answer;
 
 /// What is asked of the table. Programs are decimal texts.
 #[derive(Clone, Copy)]
@@ -20,7 +21,8 @@ pub(crate) enum Ask {
     Replace(u16, u32, &'static str),
 }
 
-/// What an event tells: its answer, of which the list of endpoints is shown by its length and its first, or its fault.
+/// What an event tells: its answer or its fault. Of the endpoints that get a packet, it has how many there are and the first, with so
+/// many bytes, or zeros.
 #[derive(Clone, Copy, PartialEq, Eq, Debug)]
 pub(crate) enum Told {
     Prepared(u64),
@@ -33,7 +35,7 @@ pub(crate) enum Told {
     TookAck(u64),
     TookSubmit,
     TookReply(Decision),
-    Delivered(u64, usize, Option<Kept>),
+    Delivered(u64, usize, u16, u32),
     Fault(WorldFault),
 }
 
@@ -99,39 +101,30 @@ pub(crate) fn tells(answer: &Answer) -> Told {
         Answer::TookReply { decision } => Told::TookReply(*decision),
         Answer::Delivered { version, kept } => {
             let kept = kept.as_slice();
-            Told::Delivered(*version, kept.len(), kept.first().copied())
+            match kept.first() {
+                Some(first) => Told::Delivered(*version, kept.len(), first.endpoint, first.kept),
+                None => Told::Delivered(*version, 0, 0, 0),
+            }
         }
     }
 }
 
-pub(crate) fn cap(version: u64, id: u32) -> Decision {
-    let made = Made::Cap(id);
-    Decision::Committed { version, made }
-}
+/// The first capability is made, at the first version.
+pub(crate) const CAP: Decision = Decision::Committed {
+    version: 1,
+    made: Made::Cap(1),
+};
 
-pub(crate) fn filter(version: u64, id: u32) -> Decision {
-    let made = Made::Filter(id);
-    Decision::Committed { version, made }
-}
+/// The first filter is made, at the second version.
+pub(crate) const FILTER: Decision = Decision::Committed {
+    version: 2,
+    made: Made::Filter(1),
+};
 
-pub(crate) fn nothing(version: u64) -> Decision {
-    let made = Made::Nothing;
-    Decision::Committed { version, made }
-}
-
-pub(crate) fn refused(core: u16, why: Veto) -> Decision {
-    Decision::Refused { core, why }
-}
-
-pub(crate) fn rule(fault: OpFault) -> Decision {
-    refused(0, Veto::Rule(fault))
-}
-
-/// So many endpoints get the packet, this one first with so many bytes.
-pub(crate) fn delivered(version: u64, count: usize, endpoint: u16, kept: u32) -> Told {
-    Told::Delivered(version, count, Some(Kept { endpoint, kept }))
-}
-
-pub(crate) fn no_delivery(version: u64) -> Told {
-    Told::Delivered(version, 0, None)
+/// A core has no memory for the operation.
+pub(crate) fn no_memory(core: u16) -> Decision {
+    Decision::Refused {
+        core,
+        why: Veto::NoMemory,
+    }
 }

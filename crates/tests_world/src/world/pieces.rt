@@ -1,12 +1,12 @@
 //! Which messages are made ready: just those that are sent.
 
-use super::steps::{boot, settled, started};
-use super::words::{ARP, Ask, Told, rule};
+use super::TAKEN;
+use super::steps::{Asked, boot, outcome, settled};
 use crate::facts::equal;
-use monitor_2pc::Message;
+use crate::words::{ARP, Ask, Told};
+use monitor_messages::Message;
 use std::alloc::{AllocError, Global};
 use std::process::Abort;
-use table_replica::OpFault;
 use world_core::{Channel, Lines, Messages, WorldOver};
 
 /// A channel that makes no piece while one that it made isn't put.
@@ -63,7 +63,8 @@ fn taken<C: Channel>(
     number: u64,
     ask: Ask,
 ) -> usize {
-    equal(rt, started(rt, alloc, world, ask), Told::Prepared(number));
+    let told = outcome(rt, alloc, world, Asked::Start(ask));
+    equal(rt, told, Told::Prepared(number));
     settled(rt, alloc, world).len()
 }
 
@@ -78,8 +79,8 @@ fn sends_all<C: Channel>(rt: &impl Abort, alloc: Global) {
         28,
     );
     // What core 0 refuses at once is sent to nobody, and no message is left of it.
-    let refused = started(rt, alloc, &mut world, Ask::Create(1, 7));
-    equal(rt, refused, Told::Decided(rule(OpFault::EndpointTaken)));
+    let refused = outcome(rt, alloc, &mut world, Asked::Start(Ask::Create(1, 7)));
+    equal(rt, refused, Told::Decided(TAKEN));
     equal(rt, taken(rt, alloc, &mut world, 3, Ask::Create(1, 8)), 28);
 }
 

@@ -1,0 +1,118 @@
+//! Core 0 and another core, each with its replica.
+
+use crate::asks::{Ask, Sent, message, op};
+use crate::facts::equal;
+use monitor_2pc::{Coordinator, Message, Participant, StartFault, Step, Vote};
+use std::alloc::Global;
+use std::marker::Model;
+use std::process::Abort;
+use table_replica::{Op, Replica};
+
+pub(crate) fn asked(rt: &impl Abort, alloc: Global, ask: Ask) -> Op {
+    op(alloc, ask).expect(rt, "there is memory")
+}
+
+/// Core 0 with its replica.
+#[derive(Drop)]
+pub(crate) struct Home {
+    pub core: Coordinator,
+    pub table: Replica,
+}
+
+impl Model for Home {
+    ghost use Rattle.monitor_2pc.specs.Coordinators.{CoordinatorState, StagedByPhase};
+
+    ghost Value = { CoordinatorState };
+
+    ghost view = { λ h. h.core };
+
+    ghost invariant = { λ h. StagedByPhase h.core.phase h.table.staged };
+}
+
+impl Home {
+    /// With this budget, among so many cores, of which there are 1 to 8; its last number was this.
+    pub fn new(rt: &impl Abort, alloc: Global, budget: u32, cores: u16, last: u64) -> Home {
+        Home {
+            core: Coordinator::new(cores.clamp(1, 8), last),
+            table: Replica::new(alloc, budget).expect(rt, "there is memory"),
+        }
+    }
+
+    pub fn starts(&mut self, rt: &impl Abort, alloc: Global, ask: Ask) -> Result<Step, StartFault> {
+        let op = asked(rt, alloc, ask);
+        self.core.start(alloc, &mut self.table, &op)
+    }
+
+    pub fn starts_for(&mut self, alloc: Global, from: u16) -> Result<Step, StartFault> {
+        self.core.start_for(alloc, &mut self.table, from)
+    }
+
+    /// What it says when it hears a vote; none where the vote fits nothing.
+    pub fn hears(&mut self, from: u16, txn: u64, vote: Vote) -> Option<Step> {
+        self.core.vote(&mut self.table, from, txn, vote).ok()
+    }
+
+    pub fn hears_end(&mut self, from: u16, txn: u64) -> Option<Step> {
+        self.core.ack(from, txn).ok()
+    }
+}
+
+/// Another core with its replica.
+#[derive(Drop)]
+pub(crate) struct Peer {
+    pub core: Participant,
+    pub table: Replica,
+}
+
+impl Model for Peer {
+    ghost use Rattle.monitor_2pc.specs.Participants.{ParticipantState, StagedByVote};
+
+    ghost Value = { ParticipantState };
+
+    ghost view = { λ p. p.core };
+
+    ghost invariant = { λ p. StagedByVote p.core.voted p.table.staged };
+}
+
+/// What another core answers to a message: its vote or its acknowledgement of a number, or nothing.
+pub(crate) type Heard = (&'static str, u64, Vote);
+
+fn heard_of(answer: &Message) -> Heard {
+    match answer {
+        Message::Vote { txn, vote } => ("vote", *txn, *vote),
+        Message::Ack { txn } => ("ack", *txn, Vote::Yes),
+        _ => ("another message", 0, Vote::Yes),
+    }
+}
+
+impl Peer {
+    pub fn new(rt: &impl Abort, alloc: Global, budget: u32) -> Peer {
+        Peer {
+            core: Participant::new(0),
+            table: Replica::new(alloc, budget).expect(rt, "there is memory"),
+        }
+    }
+
+    /// What it answers, being short of memory or not.
+    pub fn answers(&mut self, rt: &impl Abort, alloc: Global, sent: Sent, short: bool) -> Heard {
+        let message = message(alloc, sent).expect(rt, "there is memory");
+        match self.core.answer(alloc, &mut self.table, &message, short) {
+            Ok(answer) => heard_of(&answer),
+            Err(_) => ("stranger", 0, Vote::Yes),
+        }
+    }
+
+    /// Its vote on this number.
+    pub fn votes(
+        &mut self,
+        rt: &impl Abort,
+        alloc: Global,
+        txn: u64,
+        ask: Ask,
+        short: bool,
+    ) -> Vote {
+        let (word, of, vote) = self.answers(rt, alloc, Sent::Prepare(txn, ask), short);
+        equal(rt, (word, of), ("vote", txn));
+        vote
+    }
+}

@@ -1,0 +1,9 @@
+//! Tests of all cores as one value by their public calls.
+#![tactic(auto)]
+
+#[cfg(test)]
+mod facts;
+#[cfg(test)]
+mod words;
+#[cfg(test)]
+mod world;
