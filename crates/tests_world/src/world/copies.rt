@@ -10,7 +10,7 @@ use pcap_reader::SharedPacket;
 use std::alloc::{AllocError, Global};
 use std::process::Abort;
 use table_replica::Op;
-use world_core::{Answer, Done, Event, Messages};
+use world_core::{Answer, Done, Event, Messages, WorldOver};
 
 fn packet_of(packet: &SharedPacket) -> Result<SharedPacket, AllocError>
     ensures { IfOk result (λ copy. copy ≡ packet.now) }
@@ -59,19 +59,24 @@ static EVENTS: [Asked; 13] = [
     Asked::Rx(1, &REQUEST, 0),
 ];
 
+/// The event is done. It is copied, and so are its answer and both together.
+fn is_copied(rt: &impl Abort, alloc: Global, world: &mut WorldOver<Messages>, asked: Asked) {
+    let event = event(rt, alloc, asked);
+    match world.apply(&event) {
+        Ok(answer) => {
+            holds(rt, event_of(&event).is_ok());
+            holds(rt, answer_of(&answer).is_ok());
+            holds(rt, Done { event, answer }.clone().is_ok());
+        }
+        Err(_) => panic!(rt; "the event is done"),
+    }
+}
+
 #[test]
 fn events_are_copied(rt: HostRuntime) {
-    let alloc = rt.alloc();
-    let mut world = boot::<Messages>(&rt, alloc, &[100, 100]);
+    let mut world = boot::<Messages>(&rt, rt.alloc(), &[100, 100]);
     for asked in &EVENTS {
-        let event = event(&rt, alloc, *asked);
-        let answer = match world.apply(&event) {
-            Ok(answer) => answer,
-            Err(_) => panic!(&rt; "the event is done"),
-        };
-        holds(&rt, event_of(&event).is_ok());
-        holds(&rt, answer_of(&answer).is_ok());
-        holds(&rt, Done { event, answer }.clone().is_ok());
+        is_copied(&rt, rt.alloc(), &mut world, *asked);
     }
 }
 
