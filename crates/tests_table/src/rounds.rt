@@ -97,7 +97,7 @@ fn peers(rt: &impl Abort, alloc: Global, budgets: &[u32]) -> Vec<Peer> {
     let mut peers = Vec::new(alloc);
     for budget in budgets {
         let peer = Peer::new(rt, alloc, *budget);
-        holds(rt, peers.push(peer).is_ok());
+        peers.push(peer).expect(rt, "there is memory");
     }
     peers
 }
