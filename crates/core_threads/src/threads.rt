@@ -81,10 +81,20 @@ fn join_last(rest: Result<Joined, RunFault>, ran: Ran) -> Result<Joined, RunFaul
         IfOk result (λ joined. HaveRan (cores ++ core ∷ []) joined.ran.items) }
     ensures outlets { (outlets : List GhostOutlet) → IfOk rest (λ joined. SameOutlets outlets joined.outlets.items) → IfOk result (λ joined. SameOutlets outlets joined.outlets.items) }
 {
-    let mut joined = rest?;
+    // A core is dropped by a call: left to a way out, each of its parts is dropped there, which takes minutes to prove.
+    let mut joined = match rest {
+        Ok(joined) => joined,
+        Err(fault) => {
+            drop(ran);
+            return Err(fault);
+        }
+    };
     match joined.ran.push(ran) {
         Ok(()) => Ok(joined),
-        Err(_) => Err(RunFault::NoMemory),
+        Err(refused) => {
+            drop((refused, joined));
+            Err(RunFault::NoMemory)
+        }
     }
 }
 

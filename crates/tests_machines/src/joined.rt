@@ -140,8 +140,13 @@ fn two_cores(
 {
     let (links, other_links) = joined_links(alloc)?;
     let first = core(alloc, links, 0, 2, first, 7)?;
-    let second = core(alloc, other_links, 1, 2, second, 8)?;
-    Ok((first, second))
+    match core(alloc, other_links, 1, 2, second, 8) {
+        Ok(second) => Ok((first, second)),
+        Err(fault) => {
+            drop(first);
+            Err(fault)
+        }
+    }
 }
 
 // Lets the two take turns.

@@ -7,10 +7,11 @@ mod two_cores;
 ghost use Rattle.std.specs.Prelude.{◌≤◌, ◌<◌};
 ghost use Rattle.filter_table.specs.Tables.{HasShortProgram};
 
-use core_loop::{Core, ListLinks};
+use core_loop::{Core, ListLinks, Turn};
 use rx_queue::{Port, queue};
 use std::alloc::{AllocError, Global};
 use std::collections::VecDeque;
+use std::process::Abort;
 use table_replica::Op;
 
 pub(crate) fn create() -> Op
@@ -22,20 +23,45 @@ pub(crate) fn create() -> Op
     }
 }
 
+/// A list with the one request to create an endpoint.
+pub(crate) fn creation(rt: &impl Abort, alloc: Global) -> VecDeque<Op> {
+    let mut requests = VecDeque::new(alloc);
+    requests.push_back(create()).expect(rt, "there is memory");
+    requests
+}
+
 // A core other than 0 has no requests.
 pub(crate) fn core_of(
+    rt: &impl Abort,
     alloc: Global,
     number: u16,
     cores: u16,
     capacity: usize,
-) -> Result<(Core<ListLinks>, Port), AllocError>
+) -> (Core<ListLinks>, Port)
     requires number { 1 ≤ number × number < cores × cores ≤ 8 }
 {
-    let (port, intake) = queue(alloc, 4)?;
-    let links = ListLinks::new(alloc, number, cores, capacity)?;
-    let requests = VecDeque::new(alloc);
-    let core = Core::new(alloc, links, 100, number, cores, requests, intake)?;
-    Ok((core, port))
+    let (port, intake) = queue(alloc, 4).expect(rt, "there is memory");
+    let links = ListLinks::new(alloc, number, cores, capacity).expect(rt, "there is memory");
+    let core = Core::new(
+        alloc,
+        links,
+        100,
+        number,
+        cores,
+        VecDeque::new(alloc),
+        intake,
+    );
+    (core.expect(rt, "there is memory"), port)
+}
+
+/// The events of a core's history, its version, and its requests that are pending.
+pub(crate) fn place(core: &Core<ListLinks>) -> (usize, u64, usize) {
+    (core.history().len(), core.version(), core.pending())
+}
+
+/// Whether the core took a turn for which there was memory.
+pub(crate) fn has_turned(core: &mut Core<ListLinks>) -> bool {
+    core.turn(true) != Turn::NoMemory
 }
 
 // Gives what a core sent to a peer to that peer. A copy that is refused memory once is tried again, so that no message is lost.

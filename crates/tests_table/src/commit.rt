@@ -256,6 +256,7 @@ fn what_core_0_says(rt: HostRuntime) {
             let found = core_0_says(&rt, rt.alloc(), &mut home, *call);
             equal_at(&rt, found, *wanted, &(cores, number));
         }
+        drop(home);
     }
 }
 
@@ -334,5 +335,6 @@ fn what_another_core_answers(rt: HostRuntime) {
             let found = answers(&rt, rt.alloc(), &mut peer, *call);
             equal_at(&rt, found, *wanted, &(run, number));
         }
+        drop(peer);
     }
 }

@@ -26,11 +26,11 @@ fn spelled(rt: &impl Abort, alloc: Global, message: &Message, body: &[u8])
 
 /// The bytes of a message, with stamp 1 after its kind.
 fn stamped(alloc: Global, body: &[u8]) -> Result<Vec<u8>, AllocError> {
+    let (kind, rest) = body.split_at(body.len().min(1));
     let mut bytes = Vec::new(alloc);
-    let kind = body.len().min(1);
-    bytes.extend_from_slice(&body[..kind])?;
+    bytes.extend_from_slice(kind)?;
     bytes.extend_from_slice(&[1, 0, 0, 0, 0, 0, 0, 0])?;
-    bytes.extend_from_slice(&body[kind..])?;
+    bytes.extend_from_slice(rest)?;
     Ok(bytes)
 }
 

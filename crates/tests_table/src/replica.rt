@@ -454,6 +454,7 @@ fn worked_runs(rt: HostRuntime) {
         let mut replica = Replica::new(rt.alloc(), *budget).expect(&rt, "there is memory");
         take_steps(&rt, rt.alloc(), &mut replica, name, steps);
         equal_at(&rt, replica.budget(), *budget, name);
+        drop(replica);
     }
 }
 
@@ -508,6 +509,7 @@ fn the_last_ids(rt: HostRuntime) {
             "there is memory",
         );
         take_steps(&rt, rt.alloc(), &mut replica, "the last ids", steps);
+        drop(replica);
     }
 }
 
@@ -543,6 +545,7 @@ fn programs_are_copied(rt: HostRuntime) {
         &[CREATED, INSTALLED],
     );
     is_copied(&rt, rt.alloc(), &replica);
+    drop(replica);
 }
 
 const INSTALLED: Step = Step::Does(Ask::Install(1, 1, ALL), Ok(Made::Filter(1)));
@@ -614,6 +617,7 @@ fn refused_growths_change_nothing(rt: HostRuntime) {
     let mut replica = Replica::new(rt.alloc(), 10).expect(&rt, "there is memory");
     commit_again(&rt, rt.alloc(), &mut replica);
     accepts_again(&rt, rt.alloc(), &replica);
+    drop(replica);
 }
 
 fn keeps(endpoint: u16, kept: u32) -> Kept {

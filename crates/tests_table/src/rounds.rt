@@ -246,6 +246,7 @@ fn rounds_of_requests(rt: HostRuntime) {
         let mut home = Home::new(&rt, alloc, *budget, others + 1, 0);
         agree(&rt, alloc, &mut home, &mut peers, rows);
         are_at(&rt, &peers, home.table.version(), *instructions);
+        drop((home, peers));
     }
 }
 
@@ -269,6 +270,7 @@ fn two_phases(rt: HostRuntime) {
     let mut home = Home::new(&rt, rt.alloc(), 100, 2, 0);
     let mut peers = peers(&rt, rt.alloc(), &[100]);
     in_two_phases(&rt, rt.alloc(), &mut home, &mut peers);
+    drop((home, peers));
 }
 
 fn in_two_phases(rt: &impl Abort, alloc: Global, home: &mut Home, peers: &mut [Peer]) {
@@ -311,6 +313,7 @@ fn requests_of_another_core(rt: HostRuntime) {
     let mut home = Home::new(&rt, rt.alloc(), 9, 2, 0);
     let mut peer = Peer::new(&rt, rt.alloc(), 9);
     are_answered(&rt, rt.alloc(), &mut home, &mut peer);
+    drop((home, peer));
 }
 
 fn are_answered(rt: &impl Abort, alloc: Global, home: &mut Home, peer: &mut Peer) {
@@ -383,4 +386,5 @@ fn refused_growths_are_vetoes(rt: HostRuntime) {
     let made = decides_again(&rt, alloc, &mut home, &mut peers, Ask::Install(1, 1, THREE));
     equal(&rt, made, Some(FILTER));
     are_at(&rt, &peers, 2, 3);
+    drop((home, peers));
 }

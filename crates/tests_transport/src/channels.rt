@@ -1,6 +1,7 @@
 //! Messages through channels of both kinds.
 
 ghost use Rattle.std.specs.Prelude.{IsTrue};
+ghost use Rattle.filter_table.specs.Tables.{HasShortProgram};
 ghost use Rattle.monitor_messages.specs.Coding.{IsShort};
 
 use crate::facts::{equal, holds};
@@ -10,17 +11,24 @@ use std::process::Abort;
 use table_replica::Op;
 use world_channels::{Channel, Lines, Messages};
 
-/// The message has no program, or one of at most 4,096 instructions.
+/// The operation has no program, or one of at most 4,096 instructions.
+fn has_short_program(op: &Op) -> bool
+    ensures { IsTrue result → HasShortProgram op.now }
+{
+    match op {
+        Op::Install { program, .. } | Op::Replace { program, .. } => {
+            program.as_slice().len() <= 4096
+        }
+        _ => true,
+    }
+}
+
+/// So has the message.
 fn is_short(message: &Message) -> bool
     ensures { IsTrue result → IsShort message.now }
 {
     match message {
-        Message::Prepare { op, .. } | Message::Submit { op } => match op {
-            Op::Install { program, .. } | Op::Replace { program, .. } => {
-                program.as_slice().len() <= 4096
-            }
-            _ => true,
-        },
+        Message::Prepare { op, .. } | Message::Submit { op } => has_short_program(op),
         _ => true,
     }
 }

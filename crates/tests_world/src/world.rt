@@ -18,10 +18,7 @@ use world_core::{BootFault, Lines, Messages, World, WorldFault};
 
 /// Why there is no machine with these budgets, if there is none.
 fn fault_of(alloc: Global, budgets: &[u32]) -> Option<BootFault> {
-    match World::boot(alloc, budgets) {
-        Ok(_) => None,
-        Err(fault) => Some(fault),
-    }
+    World::boot(alloc, budgets).err()
 }
 
 #[test]

@@ -38,9 +38,9 @@ impl<C: Channel> Peer<C> {
         ensures seen { IfOk result (λ peer. seen_peer C.messages peer ≡ new_peer budget) }
         ensures kept { IfOk result (λ peer. PeerIsKept [] peer) }
     {
-        let core = OtherCore::new(alloc, budget)?;
         let down = C::new(alloc)?;
         let up = C::new(alloc)?;
+        let core = OtherCore::new(alloc, budget)?;
         Ok(Peer { core, down, up })
     }
 

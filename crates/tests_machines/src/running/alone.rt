@@ -2,26 +2,24 @@
 
 ghost use Rattle.std.specs.Prelude.{◌≤◌, vec_len};
 
-use super::{core_of, create};
+use super::{core_of, create, creation, has_turned, place};
 use crate::facts::{equal, equal_at, holds};
 use crate::words::job;
 use core_loop::{Cause, Core, ListLinks, Turn};
 use monitor_messages::{Message, encode};
 use rx_queue::{Port, queue};
-use std::alloc::{AllocError, Global};
-use std::collections::VecDeque;
+use std::alloc::Global;
 use std::process::Abort;
 
 /// A core of this many cores that is to create an endpoint, over links of capacity 1.
-fn creator(alloc: Global, cores: u16) -> Result<(Core<ListLinks>, Port), AllocError>
+fn creator(rt: &impl Abort, alloc: Global, cores: u16) -> (Core<ListLinks>, Port)
     requires { 1 ≤ cores × cores ≤ 8 }
 {
-    let (port, intake) = queue(alloc, 4)?;
-    let mut requests = VecDeque::new(alloc);
-    requests.push_back(create())?;
-    let links = ListLinks::new(alloc, 0, cores, 1)?;
-    let core = Core::new(alloc, links, 100, 0, cores, requests, intake)?;
-    Ok((core, port))
+    let (port, intake) = queue(alloc, 4).expect(rt, "there is memory");
+    let links = ListLinks::new(alloc, 0, cores, 1).expect(rt, "there is memory");
+    let requests = creation(rt, alloc);
+    let core = Core::new(alloc, links, 100, 0, cores, requests, intake);
+    (core.expect(rt, "there is memory"), port)
 }
 
 /// A turn, which may receive a packet or not, with its answer; or a job with its number and its floor, which is put.
@@ -76,7 +74,7 @@ static SENDS: [Step; 2] = [Step::Turns(true, Turn::Did), Step::Turns(true, Turn:
 #[test]
 fn a_core_commits_and_receives(rt: HostRuntime) {
     let alloc = rt.alloc();
-    let (mut core, mut port) = creator(alloc, 1).expect(&rt, "there is memory");
+    let (mut core, mut port) = creator(&rt, alloc, 1);
     let (core, port) = (&mut core, &mut port);
     runs(&rt, alloc, core, port, &ALONE[..1], (1, 0, true, 1));
     runs(&rt, alloc, core, port, &ALONE[1..], (1, 0, true, 2));
@@ -86,28 +84,20 @@ fn a_core_commits_and_receives(rt: HostRuntime) {
 #[test]
 fn a_core_sends_one_request_and_waits(rt: HostRuntime) {
     let alloc = rt.alloc();
-    let (mut core, mut port) = creator(alloc, 2).expect(&rt, "there is memory");
+    let (mut core, mut port) = creator(&rt, alloc, 2);
     runs(&rt, alloc, &mut core, &mut port, &SENDS, (0, 0, false, 1));
     equal(&rt, core.into_history().len(), 1);
 }
 
-// What core 1 of two answers where this is given to it as core 0's, twice.
-fn turns_at(alloc: Global, message: Vec<u8>) -> Result<(Turn, Turn, u64, usize), AllocError>
-    requires length { (1 ≤ vec_len message) × (vec_len message ≤ 32832) }
-{
-    let (mut core, _port) = core_of(alloc, 1, 2, 4)?;
-    let _ = core.give(0, message);
-    let first = core.turn(true);
-    let second = core.turn(true);
-    Ok((first, second, core.version(), core.history().len()))
-}
-
-// The core stands still at a message, whatever it is asked.
+// Core 1 of two, to which this is given as core 0's, stands still at it, whatever it is asked.
 fn stands_still(rt: &impl Abort, alloc: Global, message: Vec<u8>, turn: Turn)
     requires length { (1 ≤ vec_len message) × (vec_len message ≤ 32832) }
 {
-    let found = turns_at(alloc, message).expect(rt, "there is memory");
-    equal(rt, found, (turn, turn, 0, 0));
+    let (mut core, _port) = core_of(rt, alloc, 1, 2, 4);
+    let _ = core.give(0, message);
+    let turns = (core.turn(true), core.turn(true));
+    equal(rt, turns, (turn, turn));
+    equal(rt, (core.version(), core.history().len()), (0, 0));
 }
 
 // A message that is none, one that comes too early, and the last stamp.
@@ -130,17 +120,16 @@ fn messages_that_stop_a_core(rt: HostRuntime) {
 
 // A turn; one that is refused memory changes nothing.
 fn turn(rt: &impl Abort, core: &mut Core<ListLinks>) {
-    let before = (core.history().len(), core.version(), core.pending());
-    if core.turn(true) == Turn::NoMemory {
-        let after = (core.history().len(), core.version(), core.pending());
-        equal(rt, before, after);
+    let before = place(core);
+    if !has_turned(core) {
+        equal(rt, before, place(core));
     }
 }
 
 // Turns that commit the request, or refuse it where it lacked memory.
 #[test]
 fn a_core_alone_with_a_refused_growth(rt: HostRuntime) {
-    let (mut core, _port) = creator(rt.alloc(), 1).expect(&rt, "there is memory");
+    let (mut core, _port) = creator(&rt, rt.alloc(), 1);
     for _ in 0..4 {
         turn(&rt, &mut core);
     }

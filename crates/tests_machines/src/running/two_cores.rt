@@ -2,10 +2,9 @@
 
 ghost use Rattle.std.specs.Prelude.{◌≤◌, vec_len};
 
-use super::{carry, core_of, create};
+use super::{carry, core_of, creation, has_turned, place};
 use crate::facts::{equal, holds};
 use crate::words::{ALL, CAP, FILTER, Told, is_for_memory, job, program, tells};
-use bpf_insn::TextFault;
 use core_loop::{Core, ListLinks, Stamped, Turn};
 use monitor_messages::{Message, Vote, encode};
 use rx_queue::{Port, queue};
@@ -14,19 +13,24 @@ use std::collections::VecDeque;
 use std::process::Abort;
 use table_replica::Op;
 
-// Core 0 of two, which is to create endpoint 7 and to install a filter that accepts every packet.
-fn core_0(alloc: Global, capacity: usize) -> Result<(Core<ListLinks>, Port), TextFault> {
-    let (port, intake) = queue(alloc, 4)?;
-    let links = ListLinks::new(alloc, 0, 2, capacity)?;
-    let mut requests = VecDeque::new(alloc);
-    requests.push_back(create())?;
-    requests.push_back(Op::Install {
+// Requests to create endpoint 7 and to install a filter that accepts every packet.
+fn installation(rt: &impl Abort, alloc: Global) -> VecDeque<Op> {
+    let mut requests = creation(rt, alloc);
+    let install = Op::Install {
         domain: 1,
         cap: 1,
-        program: program(alloc, ALL)?,
-    })?;
-    let core = Core::new(alloc, links, 100, 0, 2, requests, intake)?;
-    Ok((core, port))
+        program: program(alloc, ALL).expect(rt, "there is memory"),
+    };
+    requests.push_back(install).expect(rt, "there is memory");
+    requests
+}
+
+// Core 0 of two, which has both requests.
+fn core_0(rt: &impl Abort, alloc: Global, capacity: usize) -> (Core<ListLinks>, Port) {
+    let (port, intake) = queue(alloc, 4).expect(rt, "there is memory");
+    let links = ListLinks::new(alloc, 0, 2, capacity).expect(rt, "there is memory");
+    let core = Core::new(alloc, links, 100, 0, 2, installation(rt, alloc), intake);
+    (core.expect(rt, "there is memory"), port)
 }
 
 // The history has just these stamps and answers.
@@ -55,11 +59,10 @@ static OTHER: [(u64, Told); 4] = [
 
 // A turn; one that is refused memory changes nothing, and the next is as the first would have been.
 fn sure_turn(rt: &impl Abort, core: &mut Core<ListLinks>) {
-    let before = (core.history().len(), core.version(), core.pending());
-    if core.turn(true) == Turn::NoMemory {
-        let after = (core.history().len(), core.version(), core.pending());
-        equal(rt, before, after);
-        holds(rt, core.turn(true) != Turn::NoMemory);
+    let before = place(core);
+    if !has_turned(core) {
+        equal(rt, before, place(core));
+        holds(rt, has_turned(core));
     }
 }
 
@@ -88,7 +91,7 @@ fn front(core: &mut Core<ListLinks>) -> Option<u64> {
 // Core 1 comes up beside core 0, with a job for version 2 and one for version 9. The two commit, and core 1 receives the job that it
 // can.
 fn commit_and_receive(rt: &impl Abort, alloc: Global, first: &mut Core<ListLinks>) {
-    let (mut other, mut port) = core_of(alloc, 1, 2, 8).expect(rt, "there is memory");
+    let (mut other, mut port) = core_of(rt, alloc, 1, 2, 8);
     for (number, floor) in [(1, 2), (2, 9)] {
         let job = job(alloc, number, floor).expect(rt, "there is memory");
         holds(rt, port.put(job).is_ok());
@@ -104,7 +107,7 @@ fn commit_and_receive(rt: &impl Abort, alloc: Global, first: &mut Core<ListLinks
 
 #[test]
 fn two_cores_commit_and_receive(rt: HostRuntime) {
-    let (mut first, _port) = core_0(rt.alloc(), 8).expect(&rt, "there is memory");
+    let (mut first, _port) = core_0(&rt, rt.alloc(), 8);
     commit_and_receive(&rt, rt.alloc(), &mut first);
 }
 
@@ -127,7 +130,7 @@ fn a_vote_waits_for_a_full_link(rt: HostRuntime) {
         &rt,
         "there is memory",
     );
-    let (mut first, _port) = core_0(rt.alloc(), 1).expect(&rt, "there is memory");
+    let (mut first, _port) = core_0(&rt, rt.alloc(), 1);
     holds(&rt, waits_with(&mut first, vote));
 }
 
@@ -141,7 +144,7 @@ fn lacked_memory(history: &[Stamped]) -> bool {
 // Core 1 comes up beside core 0. Then both cores are done and agree. They did what they do with ample memory, unless one of them voted,
 // or decided, that there was none.
 fn agree(rt: &impl Abort, alloc: Global, first: &mut Core<ListLinks>) {
-    let (mut other, _port) = core_of(alloc, 1, 2, 8).expect(rt, "there is memory");
+    let (mut other, _port) = core_of(rt, alloc, 1, 2, 8);
     run(rt, alloc, first, &mut other).expect(rt, "there is memory");
     holds(rt, first.idle() && other.idle() && first.pending() == 0);
     equal(rt, first.version(), other.version());
@@ -153,6 +156,6 @@ fn agree(rt: &impl Abort, alloc: Global, first: &mut Core<ListLinks>) {
 
 #[test]
 fn two_cores_with_a_refused_growth(rt: HostRuntime) {
-    let (mut first, _port) = core_0(rt.alloc(), 8).expect(&rt, "there is memory");
+    let (mut first, _port) = core_0(&rt, rt.alloc(), 8);
     agree(&rt, rt.alloc(), &mut first);
 }

@@ -78,6 +78,7 @@ fn events_are_copied(rt: HostRuntime) {
     for asked in &EVENTS {
         is_copied(&rt, rt.alloc(), &mut world, *asked);
     }
+    drop(world);
 }
 
 fn are_copied(rt: &impl Abort, alloc: Global, txn: u64, ask: Ask) {

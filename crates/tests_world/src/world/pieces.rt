@@ -82,6 +82,7 @@ fn sends_all<C: Channel>(rt: &impl Abort, alloc: Global) {
     let refused = outcome(rt, alloc, &mut world, Asked::Start(Ask::Create(1, 7)));
     equal(rt, refused, Told::Decided(TAKEN));
     equal(rt, taken(rt, alloc, &mut world, 3, Ask::Create(1, 8)), 28);
+    drop(world);
 }
 
 #[test]

@@ -57,6 +57,7 @@ fn two_phase<C: Channel>(rt: &impl Abort, alloc: Global) {
     );
     settles(rt, alloc, &mut world, &[(0, 1, Told::TookAck(txn))]);
     are_equal(rt, &world);
+    drop(world);
 }
 
 /// The number under which core 1 is asked.
@@ -165,6 +166,7 @@ fn home<C: Channel>(rt: &impl Abort, alloc: Global) {
     tell(rt, alloc, &mut world, &[(Asked::StartFor(1), taken)]);
     settles(rt, alloc, &mut world, &[(1, 0, Told::TookReply(TAKEN))]);
     are_equal(rt, &world);
+    drop(world);
 }
 
 /// The number of core 1's request, on which it has voted Yes; none where a core had no memory for that, and core 1 has the reply.

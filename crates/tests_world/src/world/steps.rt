@@ -271,5 +271,6 @@ pub(crate) fn runs<C: Channel>(rt: &impl Abort, alloc: Global, runs: &[Run]) {
     for (budgets, wanted) in runs {
         let mut world = boot::<C>(rt, alloc, budgets);
         steps(rt, alloc, &mut world, wanted);
+        drop(world);
     }
 }
