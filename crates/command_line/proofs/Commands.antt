@@ -2,11 +2,12 @@
 use Rattle.std.proofs.Common.{◌≡◌, ◌∙◌, ◌+◌, ◌&&◌, ◌++◌, [], ◌∷◌, ap, arith, length, length-append, refl, Bool, true, false, not, List}
 use Rattle.std.proofs.lemmas.Bool.{ne_eqb}
 use Rattle.std.specs.Borrow.{Bor}
+use Rattle.std.specs.Prelude.{Result, Ok, Err, IfOk}
 use Rattle.clap.specs.Simple.{has_plain_fields}
 use Rattle.clap.specs.Walk.{is_empty, is_free_arg, rule_of}
 use Rattle.clap.specs.Adds.{AddsConflicts}
 use Rattle.clap.specs.declared.builder.arg.Arg.{Arg}
-use Rattle.clap.specs.Words.{App, Rule, Shape, Text, shape_of}
+use Rattle.clap.specs.Words.{App, Rule, Text, shape_of}
 use Rattle.clap.specs.declared.builder.command.Command.{Command}
 use Rattle.clap.specs.declared.builder.command.Command.TheViews.{out-Command}
 use Rattle.command_line.specs.Program.{IsCommand, command}
@@ -41,3 +42,9 @@ adds_conflict old new x adds =
     let some : is_empty new.conflicts.items ≡ false = ap is_empty adds.1 ∙ not_empty old.conflicts.items x in
     let bound : is_free_arg (record old { conflicts = new.conflicts }) ≡ false = second_is_false old.exclusive (is_empty new.conflicts.items) _ some in
     ap rule_of adds.0 ∙ ap (λ free. record (rule_of old) { is_free = free }) bound
+
+-- an argument that was made has both its rule and its place
+pub is_argument : {E : Type 0} (made : Result Arg E) (rule : Rule) → IfOk made (λ a. rule_of a ≡ rule) → IfOk made (λ a. a.global ≡ false)
+    → IfOk made (λ a. (rule_of a ≡ rule) × (a.global ≡ false))
+is_argument (Ok argument) rule is local = (is, local)
+is_argument (Err refused) rule is local = tt

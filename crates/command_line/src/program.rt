@@ -1,8 +1,8 @@
 //! The commands of the program, with their help.
 
-ghost use Rattle.std.specs.Prelude.{◌≡◌, [], ◌∷◌, IfOk, codes, false};
-ghost use Rattle.clap.specs.Words.{app_of, rule_of};
-ghost use Rattle.command_line.specs.Program.{IsCommand, code, files, flag, lone_flag, program};
+ghost use Rattle.std.specs.Prelude.{◌≡◌, List, [], ◌∷◌, IfOk, codes, false};
+ghost use Rattle.clap.specs.Words.{Rule, Text, app_of, rule_of, with_rule, with_subcommand};
+ghost use Rattle.command_line.specs.Program.{IsCommand, code, command, files, flag, lone_flag, program};
 
 use crate::texts::{
     ABOUT, ASM_HELP, CHECK_ABOUT, CHECK_DETAILS, CHECK_EXAMPLE, CODE_HELP, DRAW_ABOUT,
@@ -17,43 +17,77 @@ use std::alloc::{AllocError, Global};
 pub(crate) fn command<'a>(alloc: Global) -> Result<Command<'a>, AllocError>
     ensures { IfOk result (λ c. app_of c ≡ program) }
 {
-    Command::new(alloc, "mkdemux")
+    let command = Command::new(alloc, "mkdemux")
         .version(VERSION)
         .about(ABOUT)
         .after_help(EXIT_STATUS)
-        .subcommand_required(true)
-        .subcommand(matching(alloc)?)?
-        .subcommand(checking(alloc)?)?
-        .subcommand(dumping(alloc))?
-        .subcommand(simulating(alloc)?)?
-        .subcommand(running(alloc)?)?
-        .subcommand(drawing(alloc)?)
+        .subcommand_required(true);
+    let command = with_command(command, matching(alloc))?;
+    let command = with_command(command, checking(alloc))?;
+    let command = with_command(command, Ok(dumping(alloc)))?;
+    let command = with_command(command, simulating(alloc))?;
+    let command = with_command(command, running(alloc))?;
+    with_command(command, drawing(alloc))
+}
+
+// A command line with one more command, where that could be made.
+fn with_command<'a>(
+    line: Command<'a>,
+    made: Result<Command<'a>, AllocError>,
+) -> Result<Command<'a>, AllocError>
+    ensures { (name : Text) (rules : List Rule) → IfOk made.entry (IsCommand name rules)
+        → IfOk result (λ c. app_of c ≡ with_subcommand (app_of line.entry) (command name rules)) }
+{
+    match made {
+        Ok(command) => line.subcommand(command),
+        Err(refused) => {
+            drop(line);
+            Err(refused)
+        }
+    }
 }
 
 // `match CODE [--pcap] [--stream]`, `match CODE --explain`
 fn matching<'a>(alloc: Global) -> Result<Command<'a>, AllocError>
     ensures { IfOk result (IsCommand (codes "match") (code ∷ flag (codes "pcap") ∷ flag (codes "stream") ∷ lone_flag (codes "explain") ∷ [])) }
 {
-    Command::new(alloc, "match")
+    let command = Command::new(alloc, "match")
         .about(MATCH_ABOUT)
         .long_about(MATCH_DETAILS)
         .after_help(MATCH_EXAMPLE)
         .arg(code(alloc))?
         .arg(flag(alloc, "pcap", PCAP_HELP))?
-        .arg(flag(alloc, "stream", STREAM_HELP))?
-        .arg(explain(alloc)?)
+        .arg(flag(alloc, "stream", STREAM_HELP))?;
+    with_argument(command, explain(alloc))
 }
 
 // `check [--asm]`, `check --graph`
 fn checking<'a>(alloc: Global) -> Result<Command<'a>, AllocError>
     ensures { IfOk result (IsCommand (codes "check") (flag (codes "asm") ∷ lone_flag (codes "graph") ∷ [])) }
 {
-    Command::new(alloc, "check")
+    let command = Command::new(alloc, "check")
         .about(CHECK_ABOUT)
         .long_about(CHECK_DETAILS)
         .after_help(CHECK_EXAMPLE)
-        .arg(flag(alloc, "asm", ASM_HELP))?
-        .arg(lone_flag(alloc, "graph", GRAPH_HELP, "asm")?)
+        .arg(flag(alloc, "asm", ASM_HELP))?;
+    with_argument(command, lone_flag(alloc, "graph", GRAPH_HELP, "asm"))
+}
+
+// A command with one more argument, where that could be made.
+fn with_argument<'a>(
+    command: Command<'a>,
+    made: Result<Arg<'a>, AllocError>,
+) -> Result<Command<'a>, AllocError>
+    ensures { (rule : Rule) → IfOk made.entry (λ a. (rule_of a ≡ rule) × (a.global ≡ false))
+        → IfOk result (λ c. app_of c ≡ with_rule (app_of command.entry) rule) }
+{
+    match made {
+        Ok(argument) => command.arg(argument),
+        Err(refused) => {
+            drop(command);
+            Err(refused)
+        }
+    }
 }
 
 // `dump`

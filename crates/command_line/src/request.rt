@@ -1,7 +1,7 @@
 //! A request, and the words that make it.
 
 ghost use Rattle.std.specs.Prelude.{◌≡◌, ◌∷◌, [], Bool, Some, codes, true, map, IfErr, IfOk};
-ghost use Rattle.clap.specs.Words.{Text, found_of, kind_of, rows_of, subcommand_of, takes};
+ghost use Rattle.clap.specs.Words.{Text, found_of, kind_of, rows_of, subcommand_of, subcommand_rows_of, takes};
 ghost use Rattle.clap.specs.declared.error.kind.ErrorKind.{ErrorKind};
 ghost use Rattle.command_line.specs.Program.{program};
 ghost use Rattle.command_line.specs.Requests.{Asks, AsksBy, BeginsWithDigit, IsExplain, IsFiles, IsMatch, Spells};
@@ -86,13 +86,23 @@ fn parsed<'a, S: AsStr>(alloc: Global, words: &'a [S]) -> Result<Option<Request<
     ensures asked { IfOk result (AsksBy (subcommand_of program (map S.text words.entry.now))) }
     ensures taken { IfErr result (λ e. takes program (map S.text words.entry.now) ≡ true → kind_of e ≡ ErrorKind.OutOfMemory) }
 {
-    let command = command(alloc)?;
-    match command.try_get_matches_from(words) {
-        Ok(matches) => match matches.subcommand() {
-            Some((name, found)) => Ok(asked(alloc, name, found)?),
-            None => Ok(None),
-        },
+    match command(alloc)?.try_get_matches_from(words) {
+        Ok(matches) => {
+            let chosen = chosen(alloc, &matches);
+            drop(matches);
+            Ok(chosen?)
+        }
         Err(error) => Err(error),
+    }
+}
+
+// What the command among these words asks for.
+fn chosen<'a>(alloc: Global, matches: &ArgMatches<'a>) -> Result<Option<Request<'a>>, AllocError>
+    ensures { IfOk result (AsksBy (subcommand_rows_of matches.now)) }
+{
+    match matches.subcommand() {
+        Some((name, found)) => asked(alloc, name, found),
+        None => Ok(None),
     }
 }
 

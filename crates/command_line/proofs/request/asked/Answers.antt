@@ -1,4 +1,4 @@
-use Rattle.std.proofs.Common.{ap, rules, ◌≡◌, ◌∙◌, [], List, ℕ, Bool, true, false, subst}
+use Rattle.std.proofs.Common.{ap, rules, ◌≡◌, ◌∙◌, [], List, ℕ, subst}
 use Rattle.std.specs.Borrow.{Bor}
 use Rattle.std.specs.Prelude.{codes, unwrap_or}
 use Rattle.clap.specs.Words.{first_of, found_of, rows_of}

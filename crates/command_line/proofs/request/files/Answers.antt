@@ -1,4 +1,4 @@
-use Rattle.std.proofs.Common.{ap, refl, ◌≡◌, ◌∙◌, [], List, ℕ, map}
+use Rattle.std.proofs.Common.{ap, ◌∙◌, [], List, ℕ, map}
 use Rattle.std.specs.Borrow.{Bor}
 use Rattle.std.specs.Prelude.{codes, unwrap_or}
 use Rattle.clap.specs.Words.{found_of}
