@@ -16,7 +16,9 @@ use Rattle.core_loop.specs.declared.part.Part.{Part}
 use Rattle.core_loop.specs.declared.part.Part.TheVariants as part
 use Rattle.core_loop.specs.declared.refusal.Refusal.{Refusal}
 use Rattle.core_loop.specs.declared.refusal.Refusal.TheVariants as refusal
+use Rattle.core_loop.specs.declared.sending.Ready.{Ready}
 use Rattle.core_loop.specs.Carrying.{Carries0, CarriesOther, CanCarry}
+use Rattle.core_loop.specs.Sending.{IsMade}
 use Rattle.core_loop.specs.Keeping.{IsHome, IsOther}
 
 -- Event's case leads from this state of core 0's history to one in which core 0 stands
@@ -50,6 +52,14 @@ abbrev pub Acts : ℕ → ℕ → ℕ → (ℕ → LinkView) → (ℕ → LinkVi
 Acts number cores clock old new (part.First core) (part.First core') s = Acts0 (cores - 1) clock old new core core' s
 Acts number cores clock old new (part.Other core) (part.Other core') s = (entry : ℕ) × (number ≡ suc entry) × ActsOther entry clock old new core core' s
 Acts number cores clock old new x y s = ⊥
+
+-- what is ready stands for what core 0 sends once it has taken this message, over links that take messages
+abbrev pub SendsTaken : ℕ → First → ℕ → Message → (ℕ → LinkView) → ℕ → Ready → Type 0
+SendsTaken others core from m view stamp r =
+    (out : Outgoing)
+    × IsMade others stamp out r
+    × CanCarry others out view
+    × ((core' : First) (told : Told) → TakesUp core from m core' told → outgoing told.step (core0_place core') ≡ out)
 
 -- why core 0 doesn't take a message of this core now
 abbrev pub CannotTake0 : ℕ → ℕ → ℕ → First → Stamping → (ℕ → LinkView) → Refusal → Type 0

@@ -88,9 +88,12 @@ pub(crate) fn take<L: Links>(
         Part::First(core) => first::take(core, links, alloc, cores - 1, clock, peer, sent, message),
         Part::Other(core) => {
             if peer != 0 {
+                drop(message);
                 return Err(Refusal::Stranger);
             }
-            other::take(core, links, alloc, number, clock, sent, message)
+            let taken = other::take(core, links, alloc, number, clock, sent, &message);
+            drop(message);
+            taken
         }
     }
 }

@@ -1,6 +1,6 @@
 //! The events of core 0.
 
-ghost use Rattle.std.specs.Prelude.{◌≡◌, ◌≢◌, ◌≤◌, ◌<◌, ◌∷◌, ◌++◌, [], ℕ, suc, true, false, Some, IfOk, IfErr, IfSome, IfNone, OnErr, OnOk, slice_get};
+ghost use Rattle.std.specs.Prelude.{◌≡◌, ◌≢◌, ◌≤◌, ◌<◌, ◌+◌, max, ◌∷◌, ◌++◌, [], ℕ, suc, true, false, Some, IfOk, IfErr, IfSome, IfNone, OnErr, OnOk, slice_get};
 ghost use Rattle.filter_table.specs.declared.operation.Op.{Op as GhostOp};
 ghost use Rattle.monitor_2pc.specs.Coordinators.{Idle};
 ghost use Rattle.monitor_2pc.specs.Starting.{WasStaged};
@@ -8,7 +8,7 @@ ghost use Rattle.core_steps.specs.Core0Steps.{BetweenSteps, CanBegin, HasWaiting
 ghost use Rattle.world_events.specs.declared.event.Event.TheVariants.{Start, StartFor, Take};
 ghost use Rattle.core_loop.specs.Carrying.{IsFirst};
 ghost use Rattle.core_loop.specs.Sending.{CanBeSent, IsMade};
-ghost use Rattle.core_loop.specs.Events.{Acts0, CannotTake0, CannotStart0};
+ghost use Rattle.core_loop.specs.Events.{Acts0, SendsTaken, CannotTake0, CannotStart0};
 ghost use Rattle.core_loop.specs.Outcomes.{OnEvent, OnNone, OnIdle};
 ghost use Rattle.core_loop.specs.Turning.{IsUnshortened};
 ghost use Rattle.core_loop.specs.Cores.{begins};
@@ -26,6 +26,13 @@ use std::alloc::{AllocError, Global};
 use std::collections::VecDeque;
 use world_events::{Done, Event};
 use world_histories::Stamped;
+
+/// What core 0 sends of a message that it takes, made ready, and the event's stamp.
+#[derive(Drop)]
+struct Sending {
+    ready: Ready,
+    stamp: u64,
+}
 
 /// Takes the first message that is kept of a peer, which this is, with its stamp. Core 0 has so many others.
 pub(crate) fn take<L: Links>(
@@ -48,21 +55,20 @@ pub(crate) fn take<L: Links>(
     ensures why { IfErr result (CannotTake0 others clock peer core.old (record { stamp = sent; message = message }) (L.view links.old)) }
     ensures same { OnErr result ((core.new ≡ core.old) × (links.new ≡ links.old)) }
 {
-    let outgoing = core.take_sends(peer, &message);
-    if !can_carry(links, others, &outgoing) {
-        return Err(Refusal::NotReady);
-    }
-    let Some(stamp) = next_stamp(clock, sent) else {
-        return Err(Refusal::Spent);
+    let sending = match ready_take(core, links, alloc, others, clock, peer, sent, &message) {
+        Ok(sending) => sending,
+        Err(refusal) => {
+            drop(message);
+            return Err(refusal);
+        }
     };
-    let Ok(ready) = make_ready(alloc, stamp, others, &outgoing) else {
-        return Err(Refusal::NoMemory);
-    };
+    let stamp = sending.stamp;
     let Ok(told) = core.take(peer, message) else {
+        drop(sending);
         return Err(Refusal::Stranger);
     };
     let _ = links.give_up(peer);
-    send(links, others, ready);
+    send(links, others, sending.ready);
     let event = Event::Take {
         to: 0,
         from: peer,
@@ -75,6 +81,40 @@ pub(crate) fn take<L: Links>(
             answer: told.answer,
         },
     })
+}
+
+// Makes ready what core 0 sends of a message once it has taken it. The links that it goes over take messages.
+fn ready_take<L: Links>(
+    core: &Core0,
+    links: &L,
+    alloc: Global,
+    others: u16,
+    clock: u64,
+    peer: u16,
+    sent: u64,
+    message: &Message,
+) -> Result<Sending, Refusal>
+    requires { BetweenSteps core.now }
+    ensures stamp { IfOk result (λ sending. sending.stamp ≡ max clock sent + 1) }
+    ensures sends { IfOk result (λ sending. SendsTaken others core.now peer message.now (L.view links.now) sending.stamp sending.ready) }
+    ensures lengths { IfOk result (λ sending. CanBeSent sending.ready) }
+    ensures why { IfErr result (CannotTake0 others clock peer core.now (record { stamp = sent; message = message.now }) (L.view links.now)) }
+{
+    let outgoing = core.take_sends(peer, message);
+    if !can_carry(links, others, &outgoing) {
+        drop(outgoing);
+        return Err(Refusal::NotReady);
+    }
+    let Some(stamp) = next_stamp(clock, sent) else {
+        drop(outgoing);
+        return Err(Refusal::Spent);
+    };
+    let ready = make_ready(alloc, stamp, others, &outgoing);
+    drop(outgoing);
+    match ready {
+        Ok(ready) => Ok(Sending { ready, stamp }),
+        Err(AllocError) => Err(Refusal::NoMemory),
+    }
 }
 
 /// Starts the first of its own requests. Core 0 is idle, and the links to its others take messages.

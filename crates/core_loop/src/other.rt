@@ -45,27 +45,27 @@ pub(crate) fn take<L: Links>(
     number: u16,
     clock: u64,
     sent: u64,
-    message: Message,
+    message: &Message,
 ) -> Result<Stamped, Refusal>
     requires between { IsBetweenSteps core.old }
-    requires first { IsFirst (L.view links.old 0) (record { stamp = sent; message = message }) }
+    requires first { IsFirst (L.view links.old 0) (record { stamp = sent; message = message.now }) }
     ensures acts { IfOk result (λ s. (entry : ℕ) → number ≡ suc entry → ActsOther entry clock (L.view links.old) (L.view links.new) core.old core.new s) }
     ensures event { IfOk result (λ s. s.done.event ≡ Take number 0 false) }
     ensures links { OnOk result (L.same links.old links.new) }
     ensures between { IsBetweenSteps core.new }
-    ensures why { IfErr result (CannotTakeOther clock core.old (record { stamp = sent; message = message }) (L.view links.old)) }
+    ensures why { IfErr result (CannotTakeOther clock core.old (record { stamp = sent; message = message.now }) (L.view links.old)) }
     ensures same { OnErr result ((core.new ≡ core.old) × (links.new ≡ links.old)) }
 {
-    let Ok(reply) = core.consider(alloc, &message, false) else {
+    let Ok(reply) = core.consider(alloc, message, false) else {
         return Err(Refusal::Stranger);
     };
     match ready_reply(links, alloc, clock, sent, &reply) {
         Err(refusal) => {
-            core.withdraw(&message);
+            core.withdraw(message);
             Err(refusal)
         }
         Ok(ready) => {
-            let answer = core.take(&message, &reply);
+            let answer = core.take(message, &reply);
             let _ = links.give_up(0);
             send_reply(links, ready.piece);
             let event = Event::Take {

@@ -6,6 +6,7 @@ ghost use Rattle.mk_script.specs.Drafts as spec;
 ghost use Rattle.mk_script.specs.Meanings as meanings;
 ghost use Rattle.mk_script.specs.Changes.{DraftFollows};
 ghost use Rattle.mk_script.specs.declared.reading.Reading.{Reading};
+ghost use Rattle.mk_script.specs.declared.script.Item.TheVariants as done;
 ghost use Rattle.mk_script.specs.declared.rows.Command.{Command};
 ghost use Rattle.mk_script.specs.DraftViews.{Answered, draft_of, known_of, settings_of};
 ghost use Rattle.mk_script.specs.Views.{texts};
@@ -211,6 +212,36 @@ pub(crate) fn act<'a>(item: Item) -> Draft<'a>
     Draft::Whole(Meaning::Does(item))
 }
 
+/// A core submits.
+#[tactic(auto, unfolding(crate::specs::Drafts::core_draft))]
+pub(crate) fn submit<'a>(words: &[&[u8]]) -> Result<Draft<'a>, ScriptFaultKind>
+    ensures drafts { Answered draft_of result (spec.core_draft done.Submit (texts words.now)) }
+    ensures follows { (r : Reading) → IfOk result (λ d. DraftFollows r d) }
+{
+    let core = number16(word_at(words, 1))?;
+    Ok(act(Item::Submit(core)))
+}
+
+/// Core 0 starts what a core has waiting.
+#[tactic(auto, unfolding(crate::specs::Drafts::core_draft))]
+pub(crate) fn start_for<'a>(words: &[&[u8]]) -> Result<Draft<'a>, ScriptFaultKind>
+    ensures drafts { Answered draft_of result (spec.core_draft done.StartFor (texts words.now)) }
+    ensures follows { (r : Reading) → IfOk result (λ d. DraftFollows r d) }
+{
+    let core = number16(word_at(words, 1))?;
+    Ok(act(Item::StartFor(core)))
+}
+
+/// A core's table is shown.
+#[tactic(auto, unfolding(crate::specs::Drafts::core_draft))]
+fn show<'a>(words: &[&[u8]]) -> Result<Draft<'a>, ScriptFaultKind>
+    ensures drafts { Answered draft_of result (spec.core_draft done.Show (texts words.now)) }
+    ensures follows { (r : Reading) → IfOk result (λ d. DraftFollows r d) }
+{
+    let core = number16(word_at(words, 1))?;
+    Ok(act(Item::Show(core)))
+}
+
 /// A message that is taken.
 #[tactic(auto, unfolding(crate::specs::Drafts::take_draft))]
 pub(crate) fn take<'a>(words: &[&[u8]], short: bool) -> Result<Draft<'a>, ScriptFaultKind>
@@ -306,7 +337,6 @@ fn replay<'a>(reading: &Reading<'a>, words: &[&'a [u8]]) -> Result<Draft<'a>, Sc
 }
 
 /// What stands on a line by its command.
-#[tactic(auto, unfolding(crate::specs::Drafts::core_draft))]
 fn draft_by<'a>(
     alloc: Global,
     settings: Settings<'a>,
@@ -335,13 +365,13 @@ fn draft_by<'a>(
         Command::Home => home(reading, words),
         Command::Request(asked) => request(reading, words, asked),
         Command::Start => Ok(act(Item::Begin)),
-        Command::Submit => Ok(act(Item::Submit(number16(word_at(words, 1))?))),
-        Command::StartFor => Ok(act(Item::StartFor(number16(word_at(words, 1))?))),
+        Command::Submit => submit(words),
+        Command::StartFor => start_for(words),
         Command::Take => take(words, words.len() > 3),
         Command::Rx => rx(settings, reading, words),
         Command::Replay => replay(reading, words),
         Command::Settle => Ok(act(Item::Settle)),
-        Command::Show => Ok(act(Item::Show(number16(word_at(words, 1))?))),
+        Command::Show => show(words),
         Command::Trace => Ok(Draft::Whole(Meaning::Trace)),
     }
 }

@@ -10,7 +10,7 @@ ghost use Rattle.mk_script.specs.Views.{texts};
 use crate::words::{find, is_name};
 
 /// What stands at a place of a line.
-#[derive(Clone, Copy, Debug)]
+#[derive(Clone, Copy)]
 pub(crate) enum Form {
     /// Any word: whether it is a number in range, or what it spells, is looked at later.
     Any,
@@ -25,7 +25,7 @@ pub(crate) enum Form {
 }
 
 /// What a line asks for.
-#[derive(Clone, Copy, Debug)]
+#[derive(Clone, Copy)]
 pub(crate) enum Command {
     Cores,
     Asm,
@@ -47,7 +47,7 @@ pub(crate) enum Command {
 }
 
 /// What a request asks for.
-#[derive(Clone, Copy, Debug)]
+#[derive(Clone, Copy)]
 pub(crate) enum Request {
     Create,
     Mint,
@@ -59,7 +59,7 @@ pub(crate) enum Request {
 }
 
 /// A command, and the words after its own: what they are, and how many there are at least.
-#[derive(Clone, Copy, Debug)]
+#[derive(Clone, Copy)]
 pub(crate) struct Row {
     pub word: &'static [u8],
     pub command: Command,

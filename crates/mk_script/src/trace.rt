@@ -8,7 +8,7 @@ ghost use Rattle.mk_script.specs.declared.reading.Reading.{Reading};
 ghost use Rattle.mk_script.specs.DraftViews.{Answered, draft_of};
 ghost use Rattle.mk_script.specs.Views.{texts};
 
-use crate::drafts::{act, counted, take};
+use crate::drafts::{act, counted, start_for, submit, take};
 use crate::fault::ScriptFaultKind;
 use crate::meaning::{Draft, Meaning};
 use crate::number::{number, number16, number64};
@@ -72,15 +72,15 @@ fn job<'a>(jobs: &[Event], words: &[&[u8]]) -> Result<Draft<'a>, ScriptFaultKind
 }
 
 /// The event of these words before a colon, with those after it.
-#[tactic(auto, unfolding(crate::specs::Drafts::event_draft, crate::specs::Drafts::core_draft))]
+#[tactic(auto, unfolding(crate::specs::Drafts::event_draft))]
 fn event<'a>(jobs: &[Event], words: &[&[u8]], rest: &[&[u8]]) -> Result<Draft<'a>, ScriptFaultKind>
     ensures drafts { Answered draft_of result (spec.event_draft jobs.now (texts words.now) (texts rest.now)) }
     ensures follows { (r : Reading) → IfOk result (λ d. DraftFollows r d) }
 {
     match event_of(words).ok_or(ScriptFaultKind::BadLine)? {
         Command::Start => Ok(act(Item::Begin)),
-        Command::Submit => Ok(act(Item::Submit(number16(word_at(words, 1))?))),
-        Command::StartFor => Ok(act(Item::StartFor(number16(word_at(words, 1))?))),
+        Command::Submit => submit(words),
+        Command::StartFor => start_for(words),
         Command::Take => take(words, is_short(rest)),
         Command::Rx => job(jobs, words),
         Command::Cores

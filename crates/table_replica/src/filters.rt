@@ -17,7 +17,9 @@ ghost use Rattle.filter_table.specs.Tables.{AreReceivers};
 
 use crate::Kept;
 use crate::programs::{Programs, Shared};
-use crate::reaches::{Reach, add_reach, all_reaches, moved_reaches, reaches_without, receivers};
+use crate::reaches::{
+    Reach, add_reach, all_reaches, moved_reaches, reaches_and, reaches_without, receivers,
+};
 use bpf_insn::Insn;
 use endpoint_caps::Caps;
 use filter_verify::Verified;
@@ -128,7 +130,14 @@ impl Filters {
         ensures { IfOk result (λ filters. filters ≡ record { listed = self.now.listed ++ shown_filter filter.entry ∷ []; under = caps.now }) }
     {
         let instructions = self.instructions + filter.program.code().len() as u32;
-        let (programs, program) = keep(alloc, self.programs.copy(alloc)?, filter.program)?;
+        let mut programs = self.programs.copy(alloc)?;
+        let program = match keep(alloc, &mut programs, filter.program) {
+            Ok(place) => place,
+            Err(error) => {
+                drop(programs);
+                return Err(error);
+            }
+        };
         let row = Row {
             id: filter.id,
             owner: filter.owner,
@@ -136,19 +145,19 @@ impl Filters {
             endpoint: filter.endpoint,
             program,
         };
-        let mut rows = Vec::with_capacity(alloc, self.rows.len() + 1)?;
-        rows.extend_from_slice(&self.rows)?;
-        rows.push(row)?;
-        let mut reaches = Vec::with_capacity(alloc, self.reaches.len() + 1)?;
-        reaches.extend_from_slice(&self.reaches)?;
-        add_reach(&mut reaches, caps, &row)?;
-        Ok(Filters {
-            rows,
-            programs,
-            reaches,
-            instructions,
-            under: Snapshot::of(caps),
-        })
+        match lists_and(alloc, &self.rows, &self.reaches, caps, row) {
+            Ok((rows, reaches)) => Ok(Filters {
+                rows,
+                programs,
+                reaches,
+                instructions,
+                under: Snapshot::of(caps),
+            }),
+            Err(error) => {
+                drop(programs);
+                Err(error)
+            }
+        }
     }
 
     /// The same filters under capabilities that hold those of the filters as before.
@@ -310,6 +319,24 @@ impl<'a> Iterator for FilterIter<'a> {
     }
 }
 
+/// The rows and their reaches, and those of one more row.
+fn lists_and(
+    alloc: Global,
+    rows: &[Row],
+    reaches: &[Reach],
+    caps: &Caps,
+    row: Row,
+) -> Result<(Vec<Row>, Vec<Reach>), AllocError>
+    ensures rows { IfOk result (λ lists. lists.0.items ≡ rows.now ++ row ∷ []) }
+    ensures reaches { IfOk result (λ lists. AreReaches caps.now.held rows.now reaches.now → AreReaches caps.now.held (rows.now ++ row ∷ []) lists.1.items) }
+{
+    let reaches = reaches_and(alloc, reaches, caps, &row)?;
+    let mut all = Vec::with_capacity(alloc, rows.len() + 1)?;
+    all.extend_from_slice(rows)?;
+    all.push(row)?;
+    Ok((all, reaches))
+}
+
 /// The rows but those of one filter.
 fn rows_without(alloc: Global, rows: &[Row], id: u32) -> Result<Vec<Row>, AllocError>
     ensures { IfOk result (λ left. left.items ≡ filter (λ row. not (row.id == id)) rows.now) }
@@ -377,26 +404,28 @@ fn rebuilt(
     requires reached { AreReaches caps.now.held rows.now reaches.now }
     ensures { IfOk result (λ filters. filters ≡ record { listed = map (listed_row (sources programs.now (option_copied new.entry))) rows.now; under = caps.now }) }
 {
+    let moved = vec![in alloc; 0; programs.len() + 1]?;
     let mut built = Rebuilding {
         rows: Vec::with_capacity(alloc, rows.len())?,
         programs: Programs::new(alloc),
         instructions: 0,
-        moved: vec![in alloc; 0; programs.len() + 1]?,
+        moved,
     };
     for index in 0..rows.len() {
         built = with_moved(built, rows, index, programs, new)?;
     }
-    let Rebuilding {
-        rows,
-        programs,
-        instructions,
-        moved,
-    } = built;
+    let reaches = match moved_reaches(alloc, reaches, &built.moved) {
+        Ok(reaches) => reaches,
+        Err(error) => {
+            drop(built);
+            return Err(error);
+        }
+    };
     Ok(Filters {
-        rows,
-        programs,
-        reaches: moved_reaches(alloc, reaches, &moved)?,
-        instructions,
+        rows: built.rows,
+        programs: built.programs,
+        reaches,
+        instructions: built.instructions,
         under: Snapshot::of(caps),
     })
 }
@@ -473,21 +502,16 @@ fn move_to(
     Ok((programs, moved, place))
 }
 
-/// The place of a program among those that are kept, and these with it.
-fn keep(
-    alloc: Global,
-    mut programs: Programs,
-    program: &Verified,
-) -> Result<(Programs, usize), AllocError>
-    ensures { IfOk result (λ kept. Keeps programs program.now kept.0 kept.1) }
+/// The place of a program among those that are kept, where it goes last if it isn't there yet.
+fn keep(alloc: Global, programs: &mut Programs, program: &Verified) -> Result<usize, AllocError>
+    ensures { IfOk result (λ place. Keeps programs.old program.now programs.new place) }
 {
     let program = Shared::new(alloc, program.clone()?)?;
-    match programs.place_of(&program) {
-        Some(place) => Ok((programs, place)),
-        None => {
-            let place = programs.len();
-            programs.push(program)?;
-            Ok((programs, place))
-        }
+    if let Some(place) = programs.place_of(&program) {
+        drop(program);
+        return Ok(place);
     }
+    let place = programs.len();
+    programs.push(program)?;
+    Ok(place)
 }

@@ -51,6 +51,21 @@ pub(crate) fn all_reaches(
     Ok(reaches)
 }
 
+/// The reaches and those of one more row.
+pub(crate) fn reaches_and(
+    alloc: Global,
+    reaches: &[Reach],
+    caps: &Caps,
+    row: &Row,
+) -> Result<Vec<Reach>, AllocError>
+    ensures { IfOk result (λ all. (rows : List GhostRow) → AreReaches caps.now.held rows reaches.now → AreReaches caps.now.held (rows ++ row.now ∷ []) all.items) }
+{
+    let mut all = Vec::with_capacity(alloc, reaches.len() + 1)?;
+    all.extend_from_slice(reaches)?;
+    add_reach(&mut all, caps, row)?;
+    Ok(all)
+}
+
 /// The reaches of one more row too.
 pub(crate) fn add_reach(reaches: &mut Vec<Reach>, caps: &Caps, row: &Row) -> Result<(), AllocError>
     ensures { OnOk result ((rows : List GhostRow) → AreReaches caps.now.held rows reaches.old.items → AreReaches caps.now.held (rows ++ row.now ∷ []) reaches.new.items) }

@@ -1,6 +1,6 @@
 -- Core 0 starts a request, and asks the other cores or answers the one that asked.
-use Rattle.std.proofs.Common.{◌≡◌, ◌∙◌, ℕ, suc, Option, None, List, length, map, refl, sym, subst, arith}
-use Rattle.std.specs.Prelude.{Result, Ok, Err, OnErr}
+use Rattle.std.proofs.Common.{◌≡◌, ◌∙◌, ℕ, zero, suc, Option, None, Some, List, length, map, slice_get, refl, ap, sym, subst, arith}
+use Rattle.std.specs.Prelude.{option_and_then, Result, Ok, Err, IfOk, OnOk, OnErr}
 use Rattle.std.proofs.lemmas.List.{length-map}
 use Rattle.filter_table.specs.declared.operation.Op.{Op}
 use Rattle.monitor_messages.specs.declared.message.Message.{Message}
@@ -11,11 +11,12 @@ use Rattle.world_model.specs.Worlds as worlds
 use Rattle.core_steps.specs.declared.core0.Core0.{Core0}
 use Rattle.core_steps.specs.declared.core0.Told.{Told}
 use Rattle.core_steps.specs.declared.other_core.OtherCore.{OtherCore}
-use Rattle.core_steps.specs.Core0Steps.{core0_place, Moves}
+use Rattle.core_steps.specs.Core0Steps.{core0_place, HasWaiting, Moves}
 use Rattle.world_core.specs.declared.home.Home.{Home}
 use Rattle.world_core.specs.declared.peer.Peer.{Peer}
 use Rattle.world_core.specs.Homes.{HomeIsKept, HomeMoves, HomeStarts, HomeStartsFor}
 use Rattle.world_core.specs.Keeping.{seen_peer, seen_world, CoreIsKept, WorldIsKept, EachMatches, Readied}
+use Rattle.world_core.specs.Refusals.{waiting_at}
 use Rattle.world_core.specs.Sending.{SentOut}
 use Rattle.world_core.proofs.Carried.{readied_seen}
 use Rattle.core_steps.proofs.Tables.{idle_phase}
@@ -45,6 +46,25 @@ readied_kept messages home peers peers' m k = record {
 pub on_err : {T E : Type 0} (r : Result T E) (P : Type 0) → P → OnErr r P
 on_err (Ok v) P h = tt
 on_err (Err e) P h = h
+
+pub ok_stays : {T E : Type 0} (r : Result T E) (P Q : Type 0) → (P → Q) → OnOk r P → OnOk r Q
+ok_stays (Ok v) P Q as' h = as' h
+ok_stays (Err e) P Q as' h = tt
+
+pub ok_shows : {T E : Type 0} (r : Result T E) (P Q : T → Type 0) → ((v : T) → P v → Q v) → IfOk r P → IfOk r Q
+ok_shows (Ok v) P Q as' h = as' v h
+ok_shows (Err e) P Q as' h = tt
+
+-- A core that has no request waiting
+
+pub none_waiting : {C Piece : Type 0} (messages : C → List Message) (home : Home) (peers : List (Peer C Piece)) (core : ℕ) → ((entry : ℕ) (op : Op) → HasWaiting home.core core entry op → ⊥) → waiting_at (seen_world messages home peers) core ≡ None
+none_waiting messages home peers zero none = refl
+none_waiting messages home peers (suc entry) none = by_place (slice_get home.core.coordinator.requests.waiting entry) refl
+  where
+    by_place : (o : Option (Option Op)) → slice_get home.core.coordinator.requests.waiting entry ≡ o → waiting_at (seen_world messages home peers) (suc entry) ≡ None
+    by_place None e = ap (option_and_then (λ waits. waits)) e
+    by_place (Some None) e = ap (option_and_then (λ waits. waits)) e
+    by_place (Some (Some op)) e = absurd (none entry op (record { is_core = refl; is_waiting = e }))
 
 -- Core 0 after it was asked to stage a request
 

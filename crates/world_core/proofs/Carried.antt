@@ -6,7 +6,7 @@ use Rattle.monitor_messages.specs.declared.message.Message.{Message}
 use Rattle.world_core.specs.declared.peer.Peer.{Peer}
 use Rattle.std.proofs.lemmas.List.{length-map}
 use Rattle.world_model.specs.Worlds as worlds
-use Rattle.world_core.specs.Keeping.{seen_peer, EachMatches, Readied, IsSent, HasRoom, RoomBelow, RoomFrom}
+use Rattle.world_core.specs.Keeping.{seen_peer, EachMatches, Readied, IsSent, HasRoom, RoomAt, RoomBelow, RoomFrom}
 use Rattle.world_model.proofs.Lists.{get-set_same, get-set_other, length-slice_set, get_end, get_map, same_or_not}
 use Rattle.table_replica.proofs.Shared.{get_front, get_at}
 
@@ -35,6 +35,19 @@ readied_set {C} {Piece} messages first peers i d q inside m here = (length-slice
         let mid : slice_get peers k ≡ Some (slice_index_or peers i d) = subst (λ (n : ℕ). slice_get peers n ≡ Some (slice_index_or peers i d)) x.0 (slice_get-get_or peers i d inside) in
         rw x.1 (readied_then messages p (slice_index_or peers i d) q (m.1 k p (slice_index_or peers i d) a mid) here)
 
+pub readied_none : {C Piece : Type 0} (messages : C → List Message) (peers : List (Peer C Piece)) → EachMatches (Readied messages) peers peers
+readied_none {C} {Piece} messages peers = (refl, λ k p p' a b. (let e : p ≡ p' = cc in subst (λ (x : Peer C Piece). Readied messages p x) e (record { core = refl; down = refl; up = refl })))
+
+pub readied_at : {C Piece : Type 0} (messages : C → List Message) (peers : List (Peer C Piece)) (i : ℕ) (d q : Peer C Piece) → i < length peers → Readied messages (slice_index_or peers i d) q → EachMatches (Readied messages) peers (slice_set peers i q)
+readied_at messages peers i d q inside here = readied_set messages peers peers i d q inside (readied_none messages peers) here
+
+pub room_here : {C Piece : Type 0} (spare : C → ℕ) (peers : List (Peer C Piece)) (i : ℕ) (q : Peer C Piece) → i < length peers → HasRoom spare q → RoomAt spare (slice_set peers i q) i
+room_here spare peers i q inside here p at = by_place (set_at peers i i q p inside at)
+  where
+    by_place : (((i ≡ i) × (p ≡ q)) ⊎ ((i ≡ i → ⊥) × (slice_get peers i ≡ Some p))) → HasRoom spare p
+    by_place (inl x) = rw x.1 here
+    by_place (inr x) = absurd (x.0 refl)
+
 pub room_set : {C Piece : Type 0} (spare : C → ℕ) (peers : List (Peer C Piece)) (i : ℕ) (q : Peer C Piece) → i < length peers → RoomBelow spare peers i → HasRoom spare q → RoomBelow spare (slice_set peers i q) (i + 1)
 room_set spare peers i q inside below here k p lt at = by_place (set_at peers i k q p inside at)
   where
@@ -50,6 +63,9 @@ pub record SentBelow {C Piece : Type 0} (messages : C → List Message) (m : Mes
   pub long : length peers ≡ length first
   pub before : (k : ℕ) (p p' : Peer C Piece) → k < n → slice_get first k ≡ Some p → slice_get peers k ≡ Some p' → IsSent messages m p p'
   pub from : (k : ℕ) → n ≤ k → slice_get peers k ≡ slice_get first k
+
+pub sent_none : {C Piece : Type 0} (messages : C → List Message) (m : Message) (peers : List (Peer C Piece)) → SentBelow messages m peers peers 0
+sent_none messages m peers = record { long = refl; before = λ k p p' lt a b. absurd (omega (arith, lt)); from = λ k le. refl }
 
 pub sent_set : {C Piece : Type 0} (messages : C → List Message) (m : Message) (first peers : List (Peer C Piece)) (i : ℕ) (d q : Peer C Piece) → i < length peers → SentBelow messages m first peers i → IsSent messages m (slice_index_or peers i d) q
     → SentBelow messages m first (slice_set peers i q) (i + 1)

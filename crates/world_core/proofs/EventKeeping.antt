@@ -1,10 +1,10 @@
 -- What the calls of the world answer, from what its cores do.
-use Rattle.std.proofs.Common.{◌≡◌, ◌≢◌, ◌∙◌, ◌-◌, ◌<◌, ◌∷◌, [], ℕ, suc, Bool, true, Option, None, Some, List, Result, Ok, Err, length, slice_get, slice_set, refl, ap, sym, subst, arith}
+use Rattle.std.proofs.Common.{◌≡◌, ◌≢◌, ◌∙◌, ◌-◌, ◌<◌, ◌∷◌, [], ℕ, zero, suc, Bool, true, Option, None, Some, List, Result, Ok, Err, length, slice_get, slice_set, slice_index_or, refl, ap, sym, subst, arith}
 use Rattle.std.specs.Prelude.{option_map, option_and_then, IfOk, IfErr, IsErrAnd, OnErr}
 use Rattle.filter_table.specs.declared.operation.Op.{Op}
 use Rattle.monitor_messages.specs.declared.message.Message.{Message}
 use Rattle.world_events.specs.declared.event.Event.{Event}
-use Rattle.world_events.specs.declared.event.Event.TheVariants.{Submit, StartFor, Take}
+use Rattle.world_events.specs.declared.event.Event.TheVariants.{Start, Submit, StartFor, Take}
 use Rattle.world_events.specs.declared.event.Answer.{Answer}
 use Rattle.world_events.specs.declared.fault.WorldFault.{WorldFault}
 use Rattle.world_events.specs.declared.fault.WorldFault.TheVariants.{NoSuchCore, Nothing, NotReady, NotIdle, Spent, Outstanding, NoneWaiting, NoMemory}
@@ -17,8 +17,9 @@ use Rattle.world_core.specs.Refusals.{channel, StandsFirst, WorldRefuses}
 use Rattle.world_core.specs.Homes.{StartForRefuses}
 use Rattle.world_core.specs.Keeping.{seen_peer, seen_world, WorldIsKept, PeerCannotSubmit, PeerCannotTake, ChangesOne, Submits, Takes, ReadyToTake}
 use Rattle.world_core.specs.Shown.{ShowsReplica}
-use Rattle.world_core.proofs.WorldKeeping.{peer_shows, no_version}
+use Rattle.world_core.proofs.WorldKeeping.{peer_shows, no_version, no_core}
 use Rattle.world_core.proofs.PeerKeeping.{seen_same, submit_happens, submit_kept, awaits_oldest, take_happens, take_kept}
+use Rattle.std.proofs.lemmas.Option.{slice_get-get_or, slice_get_past}
 use Rattle.filter_table.proofs.Lists.{map-get}
 use Rattle.table_replica.proofs.Shared.{get_at}
 
@@ -127,6 +128,10 @@ pub told_no_memory : (r : Result Answer WorldFault) (P : WorldFault → Type 0) 
 told_no_memory (Ok answer) P h p = tt
 told_no_memory (Err fault) P h p = subst P (sym h) p
 
+pub told_err : (r : Result Answer WorldFault) (P : WorldFault → Type 0) (Q : Answer → Type 0) → IsErrAnd r P → IfOk r Q
+told_err (Ok answer) P Q h = absurd h
+told_err (Err fault) P Q h = tt
+
 pub done_as : (r : Result Answer WorldFault) (P Q : Answer → Type 0) → ((answer : Answer) → P answer → Q answer) → IfOk r P → IfOk r Q
 done_as (Ok answer) P Q as' h = as' answer h
 done_as (Err fault) P Q as' h = tt
@@ -136,6 +141,17 @@ told_as (Ok answer) P Q as' h = tt
 told_as (Err fault) P Q as' h = as' fault h
 
 -- Core 0's takes
+
+-- what the core with an entry answers of its oldest message
+pub first_at : {C Piece E : Type 0} (messages : C → List Message) (peers : List (Peer C Piece)) (entry : ℕ) (d : Peer C Piece) → entry < length peers → (r : Result (Option Message) E)
+    → IfOk r (λ message. message ≡ first_of (messages (slice_index_or peers entry d).up)) → IfOk r (λ message. option_map (λ (p : Peer C Piece). first_of (messages p.up)) (slice_get peers entry) ≡ Some message)
+first_at {C} {Piece} messages peers entry d inside (Ok message) h = ap (option_map (λ (p : Peer C Piece). first_of (messages p.up))) (slice_get-get_or peers entry d inside) ∙ ap (λ (o : Option Message). Some o) (sym h)
+first_at messages peers entry d inside (Err fault) h = tt
+
+pub some_at : {C Piece E : Type 0} (messages : C → List Message) (peers : List (Peer C Piece)) (entry : ℕ) (d : Peer C Piece) → entry < length peers → (r : Result (Option Message) E)
+    → OnErr r (messages (slice_index_or peers entry d).up ≢ []) → OnErr r (option_map (λ (p : Peer C Piece). messages p.up) (slice_get peers entry) ≢ Some [])
+some_at messages peers entry d inside (Ok message) h = tt
+some_at {C} {Piece} messages peers entry d inside (Err fault) h = λ none. h (let x = ap (option_map (λ (p : Peer C Piece). messages p.up)) (slice_get-get_or peers entry d inside) in cc)
 
 -- the messages to core 0
 channel_up : {C Piece : Type 0} (messages : C → List Message) (home : Home) (peers : List (Peer C Piece)) (core entry : ℕ) (p : Peer C Piece) → core ≡ suc entry → slice_get peers entry ≡ Some p → channel (seen_world messages home peers) 0 core ≡ Some (messages p.up)
@@ -185,6 +201,18 @@ heard_no_memory w core m short first = by_channel (channel w 0 core) refl
     by_channel (Some []) e = absurd (let x = rw e at first in cc)
     by_channel (Some (n ∷ ms)) e = up_refuses w core short (n ∷ ms) e (λ x. cc)
 
+-- A Start
+
+pub start_no_memory : (w : worlds.World) (op : Op) → w.place.phase ≡ Idle → w.place.last ≢ 18446744073709551615 → WorldRefuses w (Start op) NoMemory
+start_no_memory w op idle unspent NotIdle s = s idle
+start_no_memory w op idle unspent Spent s = unspent (s.1)
+start_no_memory w op idle unspent NoSuchCore s = s
+start_no_memory w op idle unspent Nothing s = s
+start_no_memory w op idle unspent NotReady s = s
+start_no_memory w op idle unspent Outstanding s = s
+start_no_memory w op idle unspent NoneWaiting s = s
+start_no_memory w op idle unspent NoMemory s = s
+
 -- A StartFor
 
 pub start_for_refuses : (w : worlds.World) (core : ℕ) (fault : WorldFault) → channel w 0 core ≢ None → w.place.phase ≡ Idle → w.place.last ≢ 18446744073709551615 → StartForRefuses w core fault → WorldRefuses w (StartFor core) fault
@@ -201,6 +229,14 @@ start_for_refuses w core NoMemory there idle unspent h = none
     none Outstanding s = s
     none NoMemory s = s
 start_for_refuses w core fault there idle unspent h = absurd h
+
+pub no_channel : {C Piece : Type 0} (messages : C → List Message) (home : Home) (peers : List (Peer C Piece)) (core : ℕ) → length peers < core → channel (seen_world messages home peers) 0 core ≡ None
+no_channel messages home peers zero few = refl
+no_channel messages home peers (suc entry) few = ap (option_map (λ (p : worlds.Peer). p.up)) (no_core messages peers entry (slice_get_past peers entry (omega (arith, few))))
+
+pub no_channel_down : {C Piece : Type 0} (messages : C → List Message) (home : Home) (peers : List (Peer C Piece)) (core : ℕ) → length peers < core → channel (seen_world messages home peers) core 0 ≡ None
+no_channel_down messages home peers zero few = refl
+no_channel_down messages home peers (suc entry) few = ap (option_map (λ (p : worlds.Peer). p.down)) (no_core messages peers entry (slice_get_past peers entry (omega (arith, few))))
 
 pub has_channel : {C Piece : Type 0} (messages : C → List Message) (home : Home) (peers : List (Peer C Piece)) (core entry : ℕ) → core ≡ suc entry → entry < length peers → channel (seen_world messages home peers) 0 core ≢ None
 has_channel messages home peers core entry e inside none =

@@ -1,7 +1,7 @@
 -- What an event of core 0 leaves of the other cores, and of the world.
 use Rattle.std.specs.declared.alloc.Global.{Global}
 use Rattle.std.specs.declared.vec.Vec.{Vec}
-use Rattle.std.proofs.Common.{◌≡◌, ◌∙◌, ◌++◌, ◌∷◌, ◌≤◌, ◌⊎◌, inl, inr, All, ℕ, suc, Bool, Option, None, Some, List, [], length, map, slice_get, refl, ap, sym, subst, arith, false}
+use Rattle.std.proofs.Common.{◌≡◌, ◌∙◌, ◌++◌, ◌∷◌, ◌<◌, ◌≤◌, ◌⊎◌, inl, inr, All, ℕ, suc, Bool, Option, None, Some, List, [], length, map, slice_get, refl, ap, sym, subst, arith, false}
 use Rattle.filter_table.specs.declared.operation.Op.{Op}
 use Rattle.filter_table.specs.Tables.{State, table}
 use Rattle.filter_table.proofs.Tables.{table_front}
@@ -29,7 +29,7 @@ use Rattle.world_core.proofs.PeerKeeping.{map-slice_set}
 use Rattle.world_core.proofs.HomeKeeping.{Oldest, seen_gives_up}
 use Rattle.world_core.proofs.Carried.{set_at, sent_seen, readied_then}
 use Rattle.world_core.proofs.WorldKeeping.{no_core}
-use Rattle.std.proofs.lemmas.Option.{slice_get_within}
+use Rattle.std.proofs.lemmas.Option.{slice_get_within, slice_get_past}
 use Rattle.filter_table.proofs.Lists.{map-get}
 use Rattle.table_replica.proofs.Shared.{get_at}
 
@@ -201,6 +201,26 @@ made_given made peers mid nothing (ToOne place piece) long h = absurd h
 made_given made peers mid (to_all m) Nothing long h = absurd h
 made_given made peers mid (to_all m) (ToOne place piece) long h = absurd h
 made_given made peers mid (to_one entry m) (ToAll pieces) long h = absurd h
+
+pub sent_to_none : {C Piece : Type 0} (made : Piece → Message) (messages : C → List Message) (peers : List (Peer C Piece)) (out : Outgoing) (ready : Ready Piece) → ready ≡ Nothing → IsMade made peers out ready → SentOut messages peers out peers
+sent_to_none made messages peers nothing ready is h = refl
+sent_to_none made messages peers (to_all m) ready is h = absurd (rw is at h)
+sent_to_none made messages peers (to_one entry m) ready is h = let few = rw is at h in inr (slice_get_past peers entry few, refl)
+
+pub sent_to_one : {C Piece : Type 0} (made : Piece → Message) (messages : C → List Message) (peers peers' : List (Peer C Piece)) (out : Outgoing) (ready : Ready Piece) (place : ℕ) (piece : Piece) → ready ≡ ToOne place piece
+    → ChangesOne peers place peers' (IsSent messages (made piece)) → IsMade made peers out ready → SentOut messages peers out peers'
+sent_to_one made messages peers peers' nothing ready place piece is put h = absurd (rw is at h)
+sent_to_one made messages peers peers' (to_all m) ready place piece is put h = absurd (rw is at h)
+sent_to_one {C} {Piece} made messages peers peers' (to_one entry m) ready place piece is put h =
+    let x = rw is at h in
+    let here = subst (λ (n : ℕ). ChangesOne peers n peers' (IsSent messages (made piece))) x.0 put in
+    inl (subst (λ (s : Message). ChangesOne peers entry peers' (IsSent messages s)) x.1 here)
+
+pub room_to_all : {C Piece : Type 0} (spare : C → ℕ) (peers : List (Peer C Piece)) (ready : Ready Piece) (pieces : Vec Piece Global) → ready ≡ ToAll pieces → HasRoomFor spare peers ready → RoomFrom spare peers 0 × (length pieces.items ≡ length peers)
+room_to_all spare peers ready pieces is room = rw is at room
+
+pub room_to_one : {C Piece : Type 0} (spare : C → ℕ) (peers : List (Peer C Piece)) (ready : Ready Piece) (place : ℕ) (piece : Piece) → ready ≡ ToOne place piece → HasRoomFor spare peers ready → (place < length peers) × RoomAt spare peers place
+room_to_one spare peers ready place piece is room = rw is at room
 
 pub sent_to_all : {C Piece : Type 0} (made : Piece → Message) (messages : C → List Message) (peers peers' : List (Peer C Piece)) (out : Outgoing) (ready : Ready Piece) (pieces : Vec Piece Global) → ready ≡ ToAll pieces
     → ((m : Message) → All (λ piece. made piece ≡ m) pieces.items → EachMatches (IsSent messages m) peers peers') → IsMade made peers out ready → SentOut messages peers out peers'

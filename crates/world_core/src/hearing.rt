@@ -31,6 +31,7 @@ pub(crate) fn hear<C: Channel>(
 {
     let outgoing = home.core.take_sends(core, &message);
     let ready = make_ready(peers, alloc, &outgoing)?;
+    drop(outgoing);
     let told = home.take(core, message);
     drop_at(peers, usize::from(core) - 1);
     send(peers, ready);

@@ -56,8 +56,10 @@ impl<C: Channel> Peer<C> {
         if self.core.participant.outstanding() {
             return Err(WorldFault::Outstanding);
         }
-        let op = op.clone()?;
-        let piece = self.up.prepare(&Message::Submit { op })?;
+        let message = Message::Submit { op: op.clone()? };
+        let prepared = self.up.prepare(&message);
+        drop(message);
+        let piece = prepared?;
         let answer = self.core.submit();
         self.up.put(piece);
         Ok(answer)
@@ -75,7 +77,12 @@ impl<C: Channel> Peer<C> {
     {
         match self.down.first()? {
             None => Err(WorldFault::Nothing),
-            Some(message) => Ok(self.take_in(alloc, &message, short)?),
+            Some(message) => {
+                // A message is dropped by a call, as core 0 is in `assemble`.
+                let taken = self.take_in(alloc, &message, short);
+                drop(message);
+                Ok(taken?)
+            }
         }
     }
 
@@ -98,10 +105,12 @@ impl<C: Channel> Peer<C> {
             unreachable!()
         };
         let Ok(ready) = self.ready_up(&reply) else {
+            drop(reply);
             self.core.withdraw(message);
             return Err(AllocError);
         };
         let answer = self.core.take(message, &reply);
+        drop(reply);
         self.put_up(ready);
         self.down.drop_first();
         Ok(answer)

@@ -57,7 +57,9 @@ fn ready_start<C: Channel>(
     ensures ready { IfOk result (IsReady C.spare C.made_for peers.new (start_sends core.now op.now refusal)) }
 {
     let outgoing = core.start_sends(op, refusal)?;
-    make_ready(peers, alloc, &outgoing)
+    let ready = make_ready(peers, alloc, &outgoing);
+    drop(outgoing);
+    ready
 }
 
 /// Core 0 starts the request that a core has waiting, and asks the other cores, or answers that core at once.
@@ -102,5 +104,7 @@ fn ready_start_for<C: Channel>(
     ensures ready { IfOk result (λ ready. (entry : ℕ) (op : GhostOp) → HasWaiting core0.now core entry op → IsReady C.spare C.made_for peers.new (start_for_sends entry core0.now op refusal) ready) }
 {
     let outgoing = core0.start_for_sends(core, refusal)?;
-    make_ready(peers, alloc, &outgoing)
+    let ready = make_ready(peers, alloc, &outgoing);
+    drop(outgoing);
+    ready
 }

@@ -77,9 +77,15 @@ impl<C: Channel> WorldOver<C> {
         requires { length others.now ≤ 7 }
         ensures { IfOk result (λ world. world ≡ worlds.boot budget others.now) }
     {
+        // Core 0 is dropped by a call: left to a way out, each of its parts is dropped there, which takes long to prove.
         let home = Home::new(alloc, budget, others.len() as u16)?;
-        let peers = new_peers(alloc, others)?;
-        Ok(WorldOver { alloc, home, peers })
+        match new_peers(alloc, others) {
+            Ok(peers) => Ok(WorldOver { alloc, home, peers }),
+            Err(error) => {
+                drop(home);
+                Err(error)
+            }
+        }
     }
 
     /// How many cores there are. Some run of a machine led here.

@@ -16,8 +16,8 @@ returns-clause-acts g c = λ entry number.
     let view = g.L.Links.view in
     let stamp = c.in-Ok-ready_reply.ready.stamp in
     let answer = c.take-answer.result in
-    let m : Stamping = record { stamp = c.args.sent; message = c.args.message } in
-    let t : TakesDown false c.args.core.now c.args.message c.take-answer.new.self answer = c.take-answer.ensures.takes false c.args.core.now c.requires.between c.in-Ok.ensures.considers in
+    let m : Stamping = record { stamp = c.args.sent; message = c.args.message.now } in
+    let t : TakesDown false c.args.core.now c.args.message.now c.take-answer.new.self answer = c.take-answer.ensures.takes false c.args.core.now c.requires.between c.in-Ok.ensures.considers in
     let ready = reply_stays stamp c.in-Ok.reply c.in-Ok-ready_reply.ready.piece (view c.args.links.now 0) (view c.give_up.new.self 0) c.give_up.ensures.given.1.ready c.in-Ok-ready_reply.ensures.ready in
     let given = c.give_up.ensures.given in
     record {

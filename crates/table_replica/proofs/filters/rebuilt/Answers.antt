@@ -13,7 +13,7 @@ pub loop-index-init : goal.loop-index-init
 loop-index-init c =
     let few = sources_few c.args.programs.now (option_copied c.args.new) in
     nothing_built (sources c.args.programs.now (option_copied c.args.new)) (c.len.result + 1) _ (omega (arith, few, c.len.ensures.count))
-    c.in_ok-with_capacity.ensures.items c.new.ensures refl (c.in_ok-vec.ensures.items_if_clones_equal (λ n same. same))
+    c.in_ok-with_capacity.ensures.items c.new.ensures refl (c.in_ok-moved.ensures.items_if_clones_equal (λ n same. same))
 
 whole : (c : goal.After-deref) → IsRebuilt (sources c.args.programs.now (option_copied c.args.new)) c.args.rows.now c.loop-index.built
 whole c = subst (λ (rs : List Row). IsRebuilt (sources c.args.programs.now (option_copied c.args.new)) rs c.loop-index.built) (take_all c.loop-index.index c.args.rows.now (omega (arith, c.loop-index-test.false))) c.loop-index.invariant
@@ -36,5 +36,5 @@ invariant_of-result c =
       shared = c.loop-index.invariant.shared;
       reached = rw c.of.ensures
           (built_reached c.args.caps.now.held from c.args.rows.now c.loop-index.built c.requires.distinct c.requires.placed all c.args.reaches.now c.requires.reached c.deref.result.now c.deref.ensures.value
-          c.in_ok-moved_reaches.field-0.items c.in_ok-moved_reaches.ensures);
+          c.in-Ok.reaches.items c.in-Ok.ensures);
     }

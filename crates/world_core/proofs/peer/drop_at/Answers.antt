@@ -10,3 +10,6 @@ returns g c = record {
   changed = refl;
   related = record { core = refl; down = refl; up = c.drop_first.ensures };
 }
+
+pub bounds-peers-entry : goal.bounds-peers-entry
+bounds-peers-entry g c = c.requires

@@ -1,9 +1,10 @@
 use Rattle.std.proofs.Common.{◌≡◌, ◌≤◌, ◌∷◌, [], length, slice_index_or, ap, subst, arith}
 use Rattle.std.proofs.lemmas.List.{length-append}
+use Rattle.std.proofs.lemmas.Option.{slice_get-get_or}
 use Rattle.monitor_messages.specs.declared.message.Message.{Message}
 use Rattle.world_core.specs.Keeping.{IsSent}
 use Rattle.world_model.proofs.Lists.{length-slice_set}
-use Rattle.world_core.proofs.Carried.{sent_set, sent_all, room_from_set, all_front, all_last}
+use Rattle.world_core.proofs.Carried.{sent_none, sent_set, sent_all, room_from_set, all_front, all_last}
 use Rattle.world_core.proofs.peer.put_all.Goals as goal
 use Rattle.world_core.proofs.peer.put_all.Goals.{in-Some, in-None}
 
@@ -26,3 +27,9 @@ pub returns : goal.returns
 returns g c = λ m all.
     let long : length c.loop-peer.peers ≤ c.loop-peer.peer-index = omega (arith, c.loop-peer-test.false, (c.loop-peer.invariant.2 m all).1.long) in
     sent_all g.C.Channel.messages m c.args.peers.now c.loop-peer.peers c.loop-peer.peer-index long (c.loop-peer.invariant.2 m all).1
+
+pub loop-peer-init : goal.loop-peer-init
+loop-peer-init g c = (omega (arith, c.requires.count), c.requires.room, λ m all. (all, sent_none g.C.Channel.messages m c.args.peers.now))
+
+pub put_down-requires : goal.put_down-requires
+put_down-requires g c = c.loop-peer.invariant.1 c.loop-peer.peer-index _ (omega arith) (slice_get-get_or c.loop-peer.peers c.loop-peer.peer-index c.peer-item.result (omega (arith, c.loop-peer-test.true)))

@@ -10,3 +10,9 @@ returns g c = record {
   changed = refl;
   related = c.put_down.ensures;
 }
+
+pub put_down-requires : goal.put_down-requires
+put_down-requires g c = c.requires.room _ (slice_get-get_or c.args.peers.now c.args.entry c.index-peers-entry.result c.requires.inside)
+
+pub bounds-peers-entry : goal.bounds-peers-entry
+bounds-peers-entry g c = c.requires.inside

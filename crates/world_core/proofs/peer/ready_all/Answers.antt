@@ -1,8 +1,14 @@
-use Rattle.std.proofs.Common.{◌≡◌, ◌<◌, ◌≤◌, ◌∷◌, [], length, ap, arith}
+use Rattle.std.proofs.Common.{◌≡◌, ◌<◌, ◌≤◌, ◌∷◌, [], length, ap, arith, rules}
 use Rattle.std.proofs.lemmas.List.{length-append}
 use Rattle.world_core.proofs.BootKeeping.{all_more}
-use Rattle.world_core.proofs.Carried.{readied_set, room_set, room_all}
+use Rattle.world_core.proofs.Carried.{readied_none, readied_set, room_set, room_all}
 use Rattle.world_core.proofs.peer.ready_all.Goals as goal
+
+pub returns-in_err-pieces-clause-seen : goal.returns-in_err-pieces-clause-seen
+returns-in_err-pieces-clause-seen g c = readied_none g.C.Channel.messages c.args.peers.now
+
+pub loop-peer-init : goal.loop-peer-init
+loop-peer-init g c = (readied_none g.C.Channel.messages c.args.peers.now, λ k p lt at. absurd (omega (arith, lt)), search rules, search rules)
 
 pub returns-in_err-piece-clause-seen : goal.returns-in_err-piece-clause-seen
 returns-in_err-piece-clause-seen g c =
@@ -27,3 +33,9 @@ pub returns-clause-room : goal.returns-clause-room
 returns-clause-room g c =
     let long : length c.loop-peer.peers ≤ c.loop-peer.peer-index = omega (arith, c.loop-peer-test.false, c.loop-peer.invariant.0.0) in
     room_all g.C.Channel.spare c.loop-peer.peers c.loop-peer.peer-index long c.loop-peer.invariant.1
+
+pub returns-clause-seen : goal.returns-clause-seen
+returns-clause-seen g c = c.loop-peer.invariant.0
+
+pub returns-clause-pieces : goal.returns-clause-pieces
+returns-clause-pieces g c = c.loop-peer.invariant.2

@@ -10,3 +10,6 @@ returns g c = record {
   changed = refl;
   related = record { done = c.submit.ensures.submits; fault = c.submit.ensures.fault; same = c.submit.ensures.same; replica = c.submit.ensures.replica; voted = c.submit.ensures.voted };
 }
+
+pub bounds-peers-entry : goal.bounds-peers-entry
+bounds-peers-entry g c = c.requires.inside

@@ -13,3 +13,9 @@ returns g c = record {
   changed = refl;
   related = record { done = c.take.ensures.takes; fault = c.take.ensures.fault; same = c.take.ensures.same; same_core = c.take.ensures.same_core; between = c.take.ensures.now_between };
 }
+
+pub take-requires-clause-between : goal.take-requires-clause-between
+take-requires-clause-between g c = (c.requires.ready _ (slice_get-get_or c.args.peers.now c.args.entry c.index-peers-entry.result c.requires.inside)).between
+
+pub bounds-peers-entry : goal.bounds-peers-entry
+bounds-peers-entry g c = c.requires.inside

@@ -11,23 +11,23 @@ use Rattle.table_replica.proofs.filters.Filters.with.Goals as goal
 
 pub invariant_of-result : goal.invariant_of-result
 invariant_of-result c =
-    let row : Row = record { id = c.args.filter.id; owner = c.args.filter.owner; cap = c.args.filter.cap; endpoint = c.args.filter.endpoint; program = c.in_ok-programs.program } in
-    let pushed = c.in_ok-push.ensures.items ∙ ap (λ (rs : List Row). rs ++ row ∷ []) (c.in_ok-extend_from_slice.ensures.items ∙ (ap (λ (rs : List Row). rs ++ c.deref.result.now) c.in_ok-rows.ensures.items ∙ c.deref.ensures.value)) in
-    let keeps = subst (λ (ps : List (List Insn)). Keeps ps c.args.filter.program.now c.in_ok-programs.programs c.in_ok-programs.program) c.in_ok-copy.ensures c.in_ok-programs.ensures in
+    let row : Row = record { id = c.args.filter.id; owner = c.args.filter.owner; cap = c.args.filter.cap; endpoint = c.args.filter.endpoint; program = c.in-Ok.place } in
+    let pushed = c.in-Ok-lists_and.ensures.rows ∙ ap (λ (rs : List Row). rs ++ row ∷ []) c.deref.ensures.value in
+    let keeps = subst (λ (ps : List (List Insn)). Keeps ps c.args.filter.program.now c.keep.new.programs c.in-Ok.place) c.in_ok-programs.ensures c.in-Ok.ensures in
     let before = subst (λ (t : CapTable). AreReaches t.held c.self.inside.rows.items c.self.inside.reaches.items) (ap (λ (t : FilterTable). t.under) c.self.view_is ∙ sym c.requires.caps) c.self.invariant.reached in
+    let lent = subst (λ (rs : List Reach). AreReaches c.args.caps.now.held c.self.inside.rows.items rs) (sym c.deref-2.ensures.value) before in
     record {
-      shared = shared_after c.self.inside.rows.items c.self.inside.programs c.self.inside.instructions c.args.filter.program.now c.in_ok-programs.programs row c.self.invariant.shared keeps
-          c.push.new.self.items pushed _ (ap (λ (n : ℕ). c.self.inside.instructions + n) (ap length c.code.ensures.code));
-      reached = rw (c.of.ensures, pushed) (c.in_ok-add_reach.ensures c.self.inside.rows.items
-          (subst (AreReaches c.args.caps.now.held c.self.inside.rows.items)
-          (sym (c.in_ok-extend_from_slice-2.ensures.items ∙ (ap (λ (rs : List Reach). rs ++ c.deref-2.result.now) c.in_ok-reaches.ensures.items ∙ c.deref-2.ensures.value))) before));
+      shared = shared_after c.self.inside.rows.items c.self.inside.programs c.self.inside.instructions c.args.filter.program.now c.keep.new.programs row c.self.invariant.shared keeps
+          c.in-Ok-lists_and.rows.items pushed _ (ap (λ (n : ℕ). c.self.inside.instructions + n) (ap length c.code.ensures.code));
+      reached = rw (c.of.ensures, c.in-Ok-lists_and.ensures.rows) (c.in-Ok-lists_and.ensures.reaches
+          (subst (λ (rows : List Row). AreReaches c.args.caps.now.held rows c.deref-2.result.now) (sym c.deref.ensures.value) lent));
     }
 
-pub returns : goal.returns
-returns c =
-    let row : Row = record { id = c.args.filter.id; owner = c.args.filter.owner; cap = c.args.filter.cap; endpoint = c.args.filter.endpoint; program = c.in_ok-programs.program } in
-    let pushed = c.in_ok-push.ensures.items ∙ ap (λ (rs : List Row). rs ++ row ∷ []) (c.in_ok-extend_from_slice.ensures.items ∙ (ap (λ (rs : List Row). rs ++ c.deref.result.now) c.in_ok-rows.ensures.items ∙ c.deref.ensures.value)) in
-    let keeps = subst (λ (ps : List (List Insn)). Keeps ps c.args.filter.program.now c.in_ok-programs.programs c.in_ok-programs.program) c.in_ok-copy.ensures c.in_ok-programs.ensures in
-    let listed = view_after c.self.inside.rows.items c.self.inside.programs c.self.inside.instructions c.args.filter.program.now c.in_ok-programs.programs row c.self.invariant.shared keeps
-    c.push.new.self.items pushed ∙ ap (λ (t : FilterTable). t.listed ++ shown_filter c.args.filter ∷ []) c.self.view_is in
+pub returns-in-Ok-lists_and : goal.returns-in-Ok-lists_and
+returns-in-Ok-lists_and c =
+    let row : Row = record { id = c.args.filter.id; owner = c.args.filter.owner; cap = c.args.filter.cap; endpoint = c.args.filter.endpoint; program = c.in-Ok.place } in
+    let pushed = c.in-Ok-lists_and.ensures.rows ∙ ap (λ (rs : List Row). rs ++ row ∷ []) c.deref.ensures.value in
+    let keeps = subst (λ (ps : List (List Insn)). Keeps ps c.args.filter.program.now c.keep.new.programs c.in-Ok.place) c.in_ok-programs.ensures c.in-Ok.ensures in
+    let listed = view_after c.self.inside.rows.items c.self.inside.programs c.self.inside.instructions c.args.filter.program.now c.keep.new.programs row c.self.invariant.shared keeps
+    c.in-Ok-lists_and.rows.items pushed ∙ ap (λ (t : FilterTable). t.listed ++ shown_filter c.args.filter ∷ []) c.self.view_is in
     λ j. record { listed = listed j; under = c.of.ensures j }

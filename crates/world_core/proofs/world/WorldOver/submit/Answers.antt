@@ -3,8 +3,9 @@ use Rattle.std.specs.Vec.{with_items}
 use Rattle.std.proofs.lemmas.List.{with_items_is}
 use Rattle.world_core.specs.Keeping.{ChangesOne, Submits}
 use Rattle.world_model.proofs.Lists.{length-slice_set}
-use Rattle.world_core.proofs.EventKeeping.{submit_answered}
+use Rattle.world_core.proofs.EventKeeping.{submit_answered, no_channel}
 use Rattle.world_core.proofs.world.WorldOver.submit.Goals as goal
+use Rattle.world_core.proofs.world.WorldOver.submit.Goals.{then-core-eq0-via-then-core-eq0, then-core-eq0-via-else-core-eq0+then-from-len}
 
 pub invariant_of-self : goal.invariant_of-self
 invariant_of-self g c =
@@ -53,3 +54,9 @@ returns-clause-same g c =
     let answered = submit_answered g.C.Channel.messages c.self.inside.home c.self.inside.peers.items (with_items c.self.inside.peers c.submit_at.new.peers).items c.args.self.now _ c.args.core (c.from-entry.result - 1) c.args.op.now c.submit_at.result
     c.self.invariant c.self.view_is refl core_is change in
     answered.same
+
+pub returns-then-core-eq0-clause-fault : goal.returns-then-core-eq0-clause-fault
+returns-then-core-eq0-clause-fault g c = elim c.then-core-eq0.branch [
+  | then-core-eq0-via-then-core-eq0 w ↦ rw w.if-core-eq0.true refl
+  | then-core-eq0-via-else-core-eq0+then-from-len w ↦ rw (← c.self.view_is) (no_channel g.C.Channel.messages c.self.inside.home c.self.inside.peers.items c.args.core (omega (arith, w.if-from-len.true, w.from.ensures, w.len.ensures, c.self.inside.peers.ok.0)))
+]

@@ -3,8 +3,9 @@ use Rattle.std.specs.Vec.{with_items}
 use Rattle.std.proofs.lemmas.List.{with_items_is}
 use Rattle.world_core.specs.Keeping.{ChangesOne, Takes}
 use Rattle.world_model.proofs.Lists.{length-slice_set}
-use Rattle.world_core.proofs.EventKeeping.{take_answered, take_ready}
+use Rattle.world_core.proofs.EventKeeping.{take_answered, take_ready, no_channel_down}
 use Rattle.world_core.proofs.world.WorldOver.take_down.Goals as goal
+use Rattle.world_core.proofs.world.WorldOver.take_down.Goals.{then-core-eq0-via-then-core-eq0, then-core-eq0-via-else-core-eq0+then-from-len}
 
 pub invariant_of-self : goal.invariant_of-self
 invariant_of-self g c =
@@ -57,3 +58,9 @@ returns-clause-same g c =
 pub take_at-requires-clause-ready : goal.take_at-requires-clause-ready
 take_at-requires-clause-ready g c = λ p at.
     take_ready g.C.Channel.messages c.self.inside.home c.self.inside.peers.items (c.from-entry.result - 1) c.self.invariant p (rw (← c.deref_mut.ensures.value) at)
+
+pub returns-then-core-eq0-clause-fault : goal.returns-then-core-eq0-clause-fault
+returns-then-core-eq0-clause-fault g c = elim c.then-core-eq0.branch [
+  | then-core-eq0-via-then-core-eq0 w ↦ rw w.if-core-eq0.true refl
+  | then-core-eq0-via-else-core-eq0+then-from-len w ↦ rw (← c.self.view_is) (no_channel_down g.C.Channel.messages c.self.inside.home c.self.inside.peers.items c.args.core (omega (arith, w.if-from-len.true, w.from.ensures, w.len.ensures, c.self.inside.peers.ok.0)))
+]
