@@ -124,6 +124,8 @@ fn run_script<C: Channel, W: Write>(
         Err(BootFault::CoreCount) => unreachable!(),
         Err(BootFault::NoMemory) => return Err(EngineFault::NoMemory),
     };
-    perform_all(alloc, &mut world, script.items.as_slice(), writer)?;
+    let done = perform_all(alloc, &mut world, script.items.as_slice(), writer);
+    drop(world);
+    done?;
     Ok(0)
 }

@@ -14,7 +14,6 @@ use std::alloc::{AllocError, Global};
 use std::process::Abort;
 use std::sync::Wait;
 use std::sync::atomic::{AtomicBool, AtomicU64, Ordering};
-use std::test::Fail;
 use std::thread::Threads;
 use std::time::Clock;
 use table_replica::Op;
@@ -24,56 +23,49 @@ use world_model::{Done, Event};
 const LIMIT: u64 = 50_000_000;
 
 // On core 0 of so many, domain 1 creates endpoint 7 and installs a filter that accepts every packet.
-fn requests(alloc: Global, cores: usize) -> Result<Vec<(u16, Op)>, Fail>
+fn requests(rt: &impl Abort, alloc: Global, cores: usize) -> Vec<(u16, Op)>
     requires { 1 ≤ cores }
-    ensures inside { IfOk result (λ requests. All (λ r. r.0 < cores) requests.items) }
-    ensures short { IfOk result (λ requests. AreGivable requests.items) }
+    ensures inside { All (λ r. r.0 < cores) result.items }
+    ensures short { AreGivable result.items }
 {
     let _cores = cores;
-    let mut requests = Vec::new(alloc);
-    requests.push((
-        0,
-        Op::Create {
-            domain: 1,
-            endpoint: 7,
-        },
-    ))?;
-    requests.push((
-        0,
-        Op::Install {
-            domain: 1,
-            cap: 1,
-            program: program(alloc, ALL)?,
-        },
-    ))?;
-    Ok(requests)
+    let program = program(alloc, ALL).expect(rt, "there is memory");
+    let create = Op::Create {
+        domain: 1,
+        endpoint: 7,
+    };
+    let install = Op::Install {
+        domain: 1,
+        cap: 1,
+        program,
+    };
+    vec![in alloc; (0, create), (0, install)].expect(rt, "there is memory")
 }
 
 // Job 1 of core 1, among so many, waits for version 2, and its job 2 for version 9.
-fn waiting_jobs(alloc: Global, cores: usize) -> Result<Vec<(u16, Job)>, Fail>
+fn waiting_jobs(rt: &impl Abort, alloc: Global, cores: usize) -> Vec<(u16, Job)>
     requires { 2 ≤ cores }
-    ensures { IfOk result (λ jobs. All (λ j. j.0 < cores) jobs.items) }
+    ensures { All (λ j. j.0 < cores) result.items }
 {
     let _cores = cores;
-    let mut jobs = Vec::new(alloc);
-    jobs.push((1, job(alloc, 1, 2)?))?;
-    jobs.push((1, job(alloc, 2, 9)?))?;
-    Ok(jobs)
+    let first = job(alloc, 1, 2).expect(rt, "there is memory");
+    let second = job(alloc, 2, 9).expect(rt, "there is memory");
+    vec![in alloc; (1, first), (1, second)].expect(rt, "there is memory")
 }
 
 // Runs a machine with these budgets.
-fn worked_run<R: Threads + Wait + Clock + Sync>(
+fn worked_run<R: Abort + Threads + Wait + Clock + Sync>(
     rt: &R,
     alloc: Global,
     budgets: &[u32],
-) -> Result<Ended, Fail>
+) -> Ended
     requires { (2 ≤ length budgets.now) × (length budgets.now ≤ 8) }
-    ensures { IfOk result (λ ended. (budget : ℕ) × (rest : List ℕ) × IsMachine budget rest ended.cores.items) }
+    ensures { (budget : ℕ) × (rest : List ℕ) × IsMachine budget rest result.cores.items }
 {
-    let requests = requests(alloc, budgets.len())?;
-    let jobs = waiting_jobs(alloc, budgets.len())?;
-    let machine = boot(alloc, budgets, requests)?;
-    Ok(run_machine(rt, alloc, machine, jobs, &Free, LIMIT)?)
+    let requests = requests(rt, alloc, budgets.len());
+    let machine = boot(alloc, budgets, requests).expect(rt, "there is memory");
+    let jobs = waiting_jobs(rt, alloc, budgets.len());
+    run_machine(rt, alloc, machine, jobs, &Free, LIMIT).expect(rt, "threads start")
 }
 
 // The last event of a core where that is a receipt: the job's number, and what is told.
@@ -104,19 +96,20 @@ fn ends_as_worked(rt: &impl Abort, ended: &Ended, cores: usize) {
 
 // What two cores did is one run, of so many events.
 #[test]
-fn two_cores_commit_and_receive(rt: HostRuntime) -> Result<(), Fail> {
-    let ended = worked_run(&rt, rt.alloc(), &[100, 100])?;
+fn two_cores_commit_and_receive(rt: HostRuntime) {
+    let ended = worked_run(&rt, rt.alloc(), &[100, 100]);
     ends_as_worked(&rt, &ended, 2);
-    let list = list_of(rt.alloc(), ended.cores)?;
+    let Ended { cores, left, .. } = ended;
+    let list = list_of(rt.alloc(), cores).expect(&rt, "there is memory");
     equal(&rt, list.len(), 11);
-    Ok(())
+    drop((list, left));
 }
 
 #[test]
-fn eight_cores_commit_and_receive(rt: HostRuntime) -> Result<(), Fail> {
-    let ended = worked_run(&rt, rt.alloc(), &[100; 8])?;
+fn eight_cores_commit_and_receive(rt: HostRuntime) {
+    let ended = worked_run(&rt, rt.alloc(), &[100; 8]);
     ends_as_worked(&rt, &ended, 8);
-    Ok(())
+    drop(ended);
 }
 
 // Lets no job through.
@@ -131,19 +124,19 @@ impl Gate for Never {
 }
 
 // Runs one core, which has a job that it may never receive.
-fn halting_run<R: Threads + Wait + Clock + Sync>(rt: &R, alloc: Global) -> Result<Ended, Fail> {
-    let mut jobs = Vec::new(alloc);
-    jobs.push((0, job(alloc, 1, 0)?))?;
-    let machine = boot(alloc, &[100], Vec::new(alloc))?;
-    Ok(run_machine(rt, alloc, machine, jobs, &Never, 1_000)?)
+fn halting_run<R: Abort + Threads + Wait + Clock + Sync>(rt: &R, alloc: Global) -> Ended {
+    let machine = boot(alloc, &[100], Vec::new(alloc)).expect(rt, "there is memory");
+    let job = job(alloc, 1, 0).expect(rt, "there is memory");
+    let jobs = vec![in alloc; (0, job)].expect(rt, "there is memory");
+    run_machine(rt, alloc, machine, jobs, &Never, 1_000).expect(rt, "threads start")
 }
 
 #[test]
-fn a_core_halts_at_its_limit(rt: HostRuntime) -> Result<(), Fail> {
-    let ended = halting_run(&rt, rt.alloc())?;
+fn a_core_halts_at_its_limit(rt: HostRuntime) {
+    let ended = halting_run(&rt, rt.alloc());
     equal(&rt, ended.halted, Some((0, Halt::Limit)));
     equal(&rt, left(&ended), Some((0, 1, 1)));
-    Ok(())
+    drop(ended);
 }
 
 // Each core's first question sets its flag, and then looks for the other core's.
@@ -176,32 +169,32 @@ impl Gate for Meeting {
 }
 
 // Runs two cores with a job each.
-fn meeting_run<R: Threads + Wait + Clock + Sync>(
+fn meeting_run<R: Abort + Threads + Wait + Clock + Sync>(
     rt: &R,
     alloc: Global,
     gate: &Meeting,
-) -> Result<Ended, Fail> {
-    let mut jobs = Vec::new(alloc);
-    jobs.push((0, job(alloc, 1, 0)?))?;
-    jobs.push((1, job(alloc, 2, 0)?))?;
-    let machine = boot(alloc, &[100, 100], Vec::new(alloc))?;
-    Ok(run_machine(rt, alloc, machine, jobs, gate, LIMIT)?)
+) -> Ended {
+    let machine = boot(alloc, &[100, 100], Vec::new(alloc)).expect(rt, "there is memory");
+    let first = job(alloc, 1, 0).expect(rt, "there is memory");
+    let second = job(alloc, 2, 0).expect(rt, "there is memory");
+    let jobs = vec![in alloc; (0, first), (1, second)].expect(rt, "there is memory");
+    run_machine(rt, alloc, machine, jobs, gate, LIMIT).expect(rt, "threads start")
 }
 
 #[test]
-fn two_cores_wait_for_each_other(rt: HostRuntime) -> Result<(), Fail> {
+fn two_cores_wait_for_each_other(rt: HostRuntime) {
     let gate = Meeting {
         here: [AtomicBool::new(false), AtomicBool::new(false)],
         met: AtomicU64::new(0),
     };
-    let ended = meeting_run(&rt, rt.alloc(), &gate)?;
+    let ended = meeting_run(&rt, rt.alloc(), &gate);
     equal(&rt, ended.halted, None);
     equal(&rt, gate.met.load(Ordering::SeqCst), 2);
     let nobody = Told::Delivered(0, 0, 0, 0);
     equal(&rt, last_receipt(&ended, 0), Some((1, nobody)));
     equal(&rt, last_receipt(&ended, 1), Some((2, nobody)));
     equal(&rt, left(&ended), None);
-    Ok(())
+    drop(ended);
 }
 
 #[test]
@@ -225,10 +218,13 @@ fn run_within<R: Threads + Wait + Clock + Sync>(
     requires jobs { All (λ j. j.0 < 2) jobs.items }
     ensures { IfOk result (λ ended. (budget : ℕ) × (rest : List ℕ) × IsMachine budget rest ended.cores.items) }
 {
-    let Ok(machine) = boot(alloc, &[100, 100], requests) else {
-        return Err(RunFault::NoMemory);
-    };
-    Ok(run_machine(rt, alloc, machine, jobs, &Free, LIMIT)?)
+    match boot(alloc, &[100, 100], requests) {
+        Ok(machine) => run_machine(rt, alloc, machine, jobs, &Free, LIMIT),
+        Err(_) => {
+            drop(jobs);
+            Err(RunFault::NoMemory)
+        }
+    }
 }
 
 // The list of what two cores did, or none where there was no memory for it.
@@ -253,6 +249,7 @@ fn ends_within<A: Abort>(rt: &A, alloc: Global, ended: Ended)
         return;
     }
     holds(rt, !left.is_empty() && left.len() <= 2);
+    drop(left);
     if let Ok(list) = list_of(alloc, cores) {
         let lacked_memory = list.iter().any(|done| is_for_memory(&done.answer));
         holds(rt, list.len() == 11 || lacked_memory);
@@ -260,13 +257,12 @@ fn ends_within<A: Abort>(rt: &A, alloc: Global, ended: Ended)
 }
 
 #[test]
-fn a_machine_with_a_refused_growth(rt: HostRuntime) -> Result<(), Fail> {
+fn a_machine_with_a_refused_growth(rt: HostRuntime) {
     let alloc = rt.alloc();
-    let requests = requests(alloc, 2)?;
-    let jobs = waiting_jobs(alloc, 2)?;
+    let requests = requests(&rt, alloc, 2);
+    let jobs = waiting_jobs(&rt, alloc, 2);
     match run_within(&rt, alloc, requests, jobs) {
         Ok(ended) => ends_within(&rt, alloc, ended),
         Err(fault) => holds(&rt, matches!(fault, RunFault::NoMemory | RunFault::Spawn)),
     }
-    Ok(())
 }

@@ -71,14 +71,24 @@ static ALONE: [Step; 7] = [
 /// A request is sent to the other core, whose answer doesn't come.
 static SENDS: [Step; 2] = [Step::Turns(true, Turn::Did), Step::Turns(true, Turn::Idle)];
 
+// The one core of a machine commits, receives what it may, and then rests.
+fn commits_and_receives(
+    rt: &impl Abort,
+    alloc: Global,
+    core: &mut Core<ListLinks>,
+    port: &mut Port,
+) {
+    runs(rt, alloc, core, port, &ALONE[..1], (1, 0, true, 1));
+    runs(rt, alloc, core, port, &ALONE[1..], (1, 0, true, 2));
+    runs(rt, alloc, core, port, &SENDS[1..], (1, 0, true, 2));
+}
+
 #[test]
 fn a_core_commits_and_receives(rt: HostRuntime) {
     let alloc = rt.alloc();
     let (mut core, mut port) = creator(&rt, alloc, 1);
-    let (core, port) = (&mut core, &mut port);
-    runs(&rt, alloc, core, port, &ALONE[..1], (1, 0, true, 1));
-    runs(&rt, alloc, core, port, &ALONE[1..], (1, 0, true, 2));
-    runs(&rt, alloc, core, port, &SENDS[1..], (1, 0, true, 2));
+    commits_and_receives(&rt, alloc, &mut core, &mut port);
+    drop((core, port));
 }
 
 #[test]
@@ -86,18 +96,28 @@ fn a_core_sends_one_request_and_waits(rt: HostRuntime) {
     let alloc = rt.alloc();
     let (mut core, mut port) = creator(&rt, alloc, 2);
     runs(&rt, alloc, &mut core, &mut port, &SENDS, (0, 0, false, 1));
-    equal(&rt, core.into_history().len(), 1);
+    let history = core.into_history();
+    equal(&rt, history.len(), 1);
+    drop((history, port));
 }
 
-// Core 1 of two, to which this is given as core 0's, stands still at it, whatever it is asked.
-fn stands_still(rt: &impl Abort, alloc: Global, message: Vec<u8>, turn: Turn)
+// A core that is given this as core 0's stands still at it, whatever it is asked.
+fn stops_at(rt: &impl Abort, core: &mut Core<ListLinks>, message: Vec<u8>, turn: Turn)
     requires length { (1 ≤ vec_len message) × (vec_len message ≤ 32832) }
 {
-    let (mut core, _port) = core_of(rt, alloc, 1, 2, 4);
     let _ = core.give(0, message);
     let turns = (core.turn(true), core.turn(true));
     equal(rt, turns, (turn, turn));
     equal(rt, (core.version(), core.history().len()), (0, 0));
+}
+
+// So does core 1 of two.
+fn stands_still(rt: &impl Abort, alloc: Global, message: Vec<u8>, turn: Turn)
+    requires length { (1 ≤ vec_len message) × (vec_len message ≤ 32832) }
+{
+    let (mut core, port) = core_of(rt, alloc, 1, 2, 4);
+    stops_at(rt, &mut core, message, turn);
+    drop((core, port));
 }
 
 // A message that is none, one that comes too early, and the last stamp.
@@ -127,12 +147,17 @@ fn turn(rt: &impl Abort, core: &mut Core<ListLinks>) {
 }
 
 // Turns that commit the request, or refuse it where it lacked memory.
+fn settles(rt: &impl Abort, core: &mut Core<ListLinks>) {
+    for _ in 0..4 {
+        turn(rt, core);
+    }
+    holds(rt, core.idle() && core.pending() == 0);
+    equal(rt, core.history().len(), 1);
+}
+
 #[test]
 fn a_core_alone_with_a_refused_growth(rt: HostRuntime) {
-    let (mut core, _port) = creator(&rt, rt.alloc(), 1);
-    for _ in 0..4 {
-        turn(&rt, &mut core);
-    }
-    holds(&rt, core.idle() && core.pending() == 0);
-    equal(&rt, core.history().len(), 1);
+    let (mut core, port) = creator(&rt, rt.alloc(), 1);
+    settles(&rt, &mut core);
+    drop((core, port));
 }

@@ -7,9 +7,10 @@ ghost use Rattle.core_loop.specs.Standing.{IsSilent};
 use crate::facts::equal;
 use core_loop::{Cause, Core, LineFault, RingLinks, Turn};
 use rtrb::RingBuffer;
-use rx_queue::queue;
+use rx_queue::{Port, queue};
 use std::alloc::{AllocError, Global};
 use std::collections::VecDeque;
+use std::process::Abort;
 use ump_ring::{Joiner, Line, Receiver, ring};
 
 // The links of core 1 of two, over which these lines have come: their first two words, where all others are 0.
@@ -27,15 +28,27 @@ fn given_links(alloc: Global, heads: &[(u64, u64)]) -> Result<RingLinks, AllocEr
     Ok(links)
 }
 
-// What two turns of that core answer, and what it has done and knows then.
-fn turns_at(alloc: Global, heads: &[(u64, u64)]) -> Result<(Turn, Turn, u64, usize), AllocError> {
-    let (_port, intake) = queue(alloc, 1)?;
-    let links = given_links(alloc, heads)?;
-    let requests = VecDeque::new(alloc);
-    let mut core = Core::new(alloc, links, 100, 1, 2, requests, intake)?;
+// That core, with the port of its queue.
+fn given_core(rt: &impl Abort, alloc: Global, heads: &[(u64, u64)]) -> (Core<RingLinks>, Port) {
+    let (port, intake) = queue(alloc, 1).expect(rt, "there is memory");
+    let links = given_links(alloc, heads).expect(rt, "there is memory");
+    let core = Core::new(alloc, links, 100, 1, 2, VecDeque::new(alloc), intake);
+    (core.expect(rt, "there is memory"), port)
+}
+
+// What two turns answer, and what the core has done and knows then.
+fn two_turns(core: &mut Core<RingLinks>) -> (Turn, Turn, u64, usize) {
     let first = core.turn(true);
     let second = core.turn(true);
-    Ok((first, second, core.version(), core.history().len()))
+    (first, second, core.version(), core.history().len())
+}
+
+// What two turns of that core come to.
+fn turns_at(rt: &impl Abort, alloc: Global, heads: &[(u64, u64)]) -> (Turn, Turn, u64, usize) {
+    let (mut core, port) = given_core(rt, alloc, heads);
+    let found = two_turns(&mut core);
+    drop((core, port));
+    found
 }
 
 /// The heads of lines, and what stops the core at them.
@@ -51,7 +64,7 @@ static STOPS: [(&[(u64, u64)], Cause); 4] = [
 #[test]
 fn lines_that_stop_a_core(rt: HostRuntime) {
     for (heads, cause) in &STOPS {
-        let found = turns_at(rt.alloc(), heads).expect(&rt, "there is memory");
+        let found = turns_at(&rt, rt.alloc(), heads);
         let stopped = Turn::Stopped(*cause);
         equal(&rt, found, (stopped, stopped, 0, 0));
     }

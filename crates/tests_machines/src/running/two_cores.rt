@@ -88,27 +88,38 @@ fn front(core: &mut Core<ListLinks>) -> Option<u64> {
     Some(core.seen()?.number)
 }
 
-// Core 1 comes up beside core 0, with a job for version 2 and one for version 9. The two commit, and core 1 receives the job that it
-// can.
-fn commit_and_receive(rt: &impl Abort, alloc: Global, first: &mut Core<ListLinks>) {
-    let (mut other, mut port) = core_of(rt, alloc, 1, 2, 8);
-    for (number, floor) in [(1, 2), (2, 9)] {
-        let job = job(alloc, number, floor).expect(rt, "there is memory");
-        holds(rt, port.put(job).is_ok());
-    }
-    run(rt, alloc, first, &mut other).expect(rt, "there is memory");
+// The two commit, and core 1 receives the job that it can.
+fn commit_and_receive(
+    rt: &impl Abort,
+    alloc: Global,
+    first: &mut Core<ListLinks>,
+    other: &mut Core<ListLinks>,
+) {
+    run(rt, alloc, first, other).expect(rt, "there is memory");
     has(rt, first.history(), &FIRST);
     let (agreed, received) = other.history().split_at(other.history().len().min(4));
     has(rt, agreed, &OTHER);
     has(rt, received, &[(10, Told::Delivered(2, 1, 7, 5))]);
     holds(rt, first.idle() && other.idle());
-    equal(rt, front(&mut other), Some(2));
+    equal(rt, front(other), Some(2));
+}
+
+// Core 1 of two, with a job for version 2 and one for version 9.
+fn busy_core(rt: &impl Abort, alloc: Global) -> (Core<ListLinks>, Port) {
+    let (core, mut port) = core_of(rt, alloc, 1, 2, 8);
+    for (number, floor) in [(1, 2), (2, 9)] {
+        let job = job(alloc, number, floor).expect(rt, "there is memory");
+        holds(rt, port.put(job).is_ok());
+    }
+    (core, port)
 }
 
 #[test]
 fn two_cores_commit_and_receive(rt: HostRuntime) {
-    let (mut first, _port) = core_0(&rt, rt.alloc(), 8);
-    commit_and_receive(&rt, rt.alloc(), &mut first);
+    let (mut first, port) = core_0(&rt, rt.alloc(), 8);
+    let (mut other, other_port) = busy_core(&rt, rt.alloc());
+    commit_and_receive(&rt, rt.alloc(), &mut first, &mut other);
+    drop((first, port, other, other_port));
 }
 
 // Whether core 0 starts its request, is given this as core 1's, and then waits with it.
@@ -130,8 +141,9 @@ fn a_vote_waits_for_a_full_link(rt: HostRuntime) {
         &rt,
         "there is memory",
     );
-    let (mut first, _port) = core_0(&rt, rt.alloc(), 1);
+    let (mut first, port) = core_0(&rt, rt.alloc(), 1);
     holds(&rt, waits_with(&mut first, vote));
+    drop((first, port));
 }
 
 // Whether the core voted, or decided, that there was no memory.
@@ -141,11 +153,10 @@ fn lacked_memory(history: &[Stamped]) -> bool {
         .any(|event| is_for_memory(&event.done.answer))
 }
 
-// Core 1 comes up beside core 0. Then both cores are done and agree. They did what they do with ample memory, unless one of them voted,
-// or decided, that there was none.
-fn agree(rt: &impl Abort, alloc: Global, first: &mut Core<ListLinks>) {
-    let (mut other, _port) = core_of(rt, alloc, 1, 2, 8);
-    run(rt, alloc, first, &mut other).expect(rt, "there is memory");
+// Both cores come to be done and agree. They did what they do with ample memory, unless one of them voted, or decided, that there was
+// none.
+fn agree(rt: &impl Abort, alloc: Global, first: &mut Core<ListLinks>, other: &mut Core<ListLinks>) {
+    run(rt, alloc, first, other).expect(rt, "there is memory");
     holds(rt, first.idle() && other.idle() && first.pending() == 0);
     equal(rt, first.version(), other.version());
     if !lacked_memory(first.history()) && !lacked_memory(other.history()) {
@@ -156,6 +167,8 @@ fn agree(rt: &impl Abort, alloc: Global, first: &mut Core<ListLinks>) {
 
 #[test]
 fn two_cores_with_a_refused_growth(rt: HostRuntime) {
-    let (mut first, _port) = core_0(&rt, rt.alloc(), 8);
-    agree(&rt, rt.alloc(), &mut first);
+    let (mut first, port) = core_0(&rt, rt.alloc(), 8);
+    let (mut other, other_port) = core_of(&rt, rt.alloc(), 1, 2, 8);
+    agree(&rt, rt.alloc(), &mut first, &mut other);
+    drop((first, port, other, other_port));
 }

@@ -1,5 +1,6 @@
 use Rattle.std.proofs.Common.{[], ◌∷◌}
+use Rattle.std.proofs.lemmas.Result.{IfOk-weaker}
 use Rattle.tests_machines.proofs.threads.run_within.Goals as goal
 
-pub returns : goal.returns
-returns g c = (100, 100 ∷ [], c.in_ok-run_machine.ensures.machine 100 (100 ∷ []) c.in-Ok.ensures.machine)
+pub returns-in-Ok : goal.returns-in-Ok
+returns-in-Ok g c = IfOk-weaker c.run_machine.result _ _ (λ ended keeps. (100, 100 ∷ [], keeps 100 (100 ∷ []) c.in-Ok.ensures.machine)) c.run_machine.ensures.machine

@@ -1,4 +1,5 @@
 use Rattle.std.proofs.Common.{ℕ, List, [], ◌∷◌}
+use Rattle.std.proofs.lemmas.Result.{IfOk-at_ok}
 use Rattle.core_join.specs.Machines.{RingCore, IsMachine}
 use Rattle.core_threads.specs.Booting.{IsMachineOf}
 use Rattle.tests_machines.proofs.threads.worked_run.Goals as goal
@@ -9,4 +10,8 @@ still_machine [] old new m keeps = absurd m
 still_machine (budget ∷ rest) old new m keeps = (budget, rest, keeps budget rest m)
 
 pub returns : goal.returns
-returns g c = still_machine c.args.budgets.now c.in_ok-machine.machine.cores c.in_ok-run_machine.field-0.cores.items c.in_ok-machine.ensures.machine c.in_ok-run_machine.ensures.machine
+returns g c =
+    let cores = c.expect-machine.result.cores in
+    let up = IfOk-at_ok (λ machine. IsMachineOf c.args.budgets.now machine.cores) c.expect-machine.ensures c.boot.ensures.machine in
+    still_machine c.args.budgets.now cores c.expect.result.cores.items up
+    (IfOk-at_ok (λ ended. (budget : ℕ) (rest : List ℕ) → IsMachine budget rest cores → IsMachine budget rest ended.cores.items) c.expect.ensures c.run_machine.ensures.machine)
