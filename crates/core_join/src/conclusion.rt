@@ -21,6 +21,7 @@ pub fn conclude(alloc: Global, cores: Vec<Core<RingLinks>>) -> Result<Histories,
     ensures histories { IfOk result (λ h. listed_histories h.cores.items ≡ histories_of cores.items) }
     ensures computation { IfOk result (λ _. OfMachine cores.items Concludes) }
 {
+    // With the room taken first, no way out of the loop has cores to drop, which would be most of the proof.
     let mut histories = Vec::with_capacity(alloc, cores.len())?;
     let mut cores = cores.into_iter();
     let Some(mut first) = cores.next() else {
@@ -28,7 +29,7 @@ pub fn conclude(alloc: Global, cores: Vec<Core<RingLinks>>) -> Result<Histories,
     };
     for mut other in cores {
         first.beside(&mut other);
-        histories.push(other.into_history())?;
+        histories.push_reserved(other.into_history());
     }
     histories.insert(0, first.into_history())?;
     Ok(Histories { cores: histories })

@@ -126,13 +126,17 @@ pub(crate) fn run_cores<R: Threads + Wait + Clock + Sync, G: Gate + Sync>(
             ensures outlets { IfOk result (λ joined. SameOutlets outlets.items joined.outlets.items) }
         {
             let promise = Runs(Snapshot::of(&core));
-            let Ok(child) = scope.spawn_with(
+            let child = match scope.spawn_with(
                 promise,
                 move || run_thread(rt, core, flags, gate, bounds),
-            ) else {
-                flags.halt();
-                drop((cores, outlets));
-                return Err(RunFault::Spawn);
+            ) {
+                Ok(child) => child,
+                // The error has the thread's code, and so the core: it is dropped by a call, as in `join_last`.
+                Err(refused) => {
+                    flags.halt();
+                    drop((refused, cores, outlets));
+                    return Err(RunFault::Spawn);
+                }
             };
             let rest = run_cores(rt, alloc, cores, outlets, flags, gate, bounds);
             join_last(rest, child.join(rt))
