@@ -1,0 +1,176 @@
+#!/usr/bin/env python3
+"""Tries the edits of crates/*/must-fail: with each, the prover must refuse the function that the edit names, by the clause that it names.
+
+    edits/try.py BUILT [CRATE..]
+
+BUILT is a copy of the repository that `rt ci` has just proved; the libraries that the crates use are taken from there.
+
+`rt ci` would prove the whole crate for its edits once more, and again with each. This proves just the functions that edits name and
+what they call, and all edits of a crate at once: a function's proof rests on the contracts of what it calls and not on the bodies,
+so no edit changes what another comes to. Of two edits in one function, the second is tried after the first.
+
+The last line is `N passed, M failed`."""
+import collections
+import concurrent.futures
+import os
+import pathlib
+import re
+import shutil
+import subprocess
+import sys
+import tempfile
+
+sys.dont_write_bytecode = True
+
+from edit import CRATES, Edit, Misfit
+
+PARTS = ("src", "specs", "proofs")
+# What the prover says of a proof that names what the edit took away. This tells nothing of the goal.
+LOST = re.compile(r"has no field|has no `|is not in scope")
+# What a proof may need: so many run at once as memory has room for.
+GIGABYTES_EACH = 4
+
+
+def below(built):
+    """The libraries that each crate uses, and the words of its line before them, by the crate's name."""
+    lines = (line.split("#")[0] for line in (built / "crates.txt").read_text(encoding="utf-8").splitlines())
+    split = (line.partition(":") for line in lines if ":" in line)
+    return {words.split()[0]: (names.split(), words.split()[1:]) for words, _, names in split}
+
+
+class Prover:
+    def __init__(self, built):
+        doc = subprocess.run(["rt", "doc"], check=True, capture_output=True, text=True).stdout
+        self.kit = pathlib.Path(doc.strip()).parent
+        self.built = built.resolve()
+        self.below = below(built)
+
+    def words(self, crate):
+        """What the prover is told of the crate: its libraries and the program logic, as `rt` tells it."""
+        names, kind = self.below[crate]
+        own = {name: self.built / "crates" / name / "out/rlib" for name in self.below}
+        kits = self.kit / "rlibs"
+        words = ["--crate-name", crate, "src/lib.rt", "--extern", f"std={kits}/std.rlib"]
+        for name in names:
+            words += ["--extern", f"{name}={own.get(name, kits)}/{name}.rlib"]
+        for folder in [kits, *own.values()]:
+            words += ["-L", f"dependency={folder}"]
+        words += ["--antt-project", f"{self.kit}/rattle/logic/antt-project.json", "--logic-built", f"{self.kit}/logic_built"]
+        return words + ["--crate-type", "staticlib"] * ("staticlib" in kind)
+
+    def prove(self, crate, folder, functions, kept):
+        """What the prover says of these functions of the crate in this folder. It keeps there what it proved, for the next call."""
+        only = [word for function in sorted(functions) for word in ("--only", function)]
+        words = [self.kit / "bin/rattle", "check", *self.words(crate), "--jobs", "1", "--incremental", kept, *only]
+        return subprocess.run(words, cwd=folder, stdin=subprocess.DEVNULL, stdout=subprocess.PIPE, stderr=subprocess.STDOUT, text=True, errors="replace")
+
+
+def unproved(crate, said):
+    """The goals that the prover didn't prove, by their functions."""
+    goals = collections.defaultdict(list)
+    for line in said.splitlines():
+        answered = None if LOST.search(line) else re.match(r"\./proofs/(\S+)/\w+\.antt:\d+:\d+: error: `([^`]+)`", line)
+        searched = re.match(rf"fn {crate}::(\S+): no proof: .*?`search` did not prove ((`[^`]+`(, )?)+)", line)
+        if answered:
+            goals[answered[1].replace("/", "::")].append(answered[2])
+        elif searched:
+            goals[searched[1]] += re.findall("`([^`]+)`", searched[2])
+    return goals
+
+
+def is_of(goal, clause):
+    """Whether this goal is one of the clause. `returns` is the clause without a name."""
+    named = goal.rpartition("-clause-")[2] if "-clause-" in goal else None
+    return clause in (goal, named) or clause == "returns" and named is None and goal.startswith("returns")
+
+
+def judge(edit, crate, ran):
+    """Whether the edit is refused as it must be, and a line that says so."""
+    label = f"must-fail {crate}/{edit.file.stem}"
+    goals = unproved(crate, ran.stdout)[edit.function]
+    if ran.returncode == 1 and any(is_of(goal, edit.clause) for goal in goals):
+        return True, f"{label}: refused, as it must be, by {edit.clause} of {edit.function}"
+    if ran.returncode not in (0, 1) or "only=" not in ran.stdout:
+        first = next((line for line in ran.stdout.splitlines() if "error" in line), ran.stdout[:200])
+        return False, f"{label}: NOT TRIED: the prover ended with status {ran.returncode}: {first}"
+    instead = f", but by {', '.join(goals)}" if goals else ""
+    return False, f"{label}: NOT REFUSED by {edit.clause} of {edit.function}{instead}"
+
+
+def copy(crate, folder):
+    for part in PARTS:
+        shutil.rmtree(folder / part, ignore_errors=True)
+        if (CRATES / crate / part).is_dir():
+            shutil.copytree(CRATES / crate / part, folder / part)
+
+
+def try_together(prover, crate, edits, folder):
+    """Tries these edits, but those of a function that another edit is in; gives the results, and the edits that are left."""
+    copy(crate, folder)
+    tried, left, results = {}, [], []
+    for edit in edits:
+        try:
+            if edit.function not in tried:
+                edit.apply(folder)
+                tried[edit.function] = edit
+            else:
+                left.append(edit)
+        except Misfit as why:
+            if tried:
+                left.append(edit)
+            else:
+                results.append((False, f"must-fail {crate}/{edit.file.stem}: BAD EDIT: {why}"))
+    if tried:
+        ran = prover.prove(crate, folder, tried, folder.parent / "kept")
+        results += [judge(edit, crate, ran) for edit in tried.values()]
+    return results, left
+
+
+def try_all(prover, crate, edits):
+    with tempfile.TemporaryDirectory(prefix="edits-") as room:
+        folder = pathlib.Path(room) / "crate"
+        folder.mkdir()
+        results, left = try_together(prover, crate, edits, folder)
+        while left:
+            more, left = try_together(prover, crate, left, folder)
+            results += more
+        return results
+
+
+def edits_of(crate):
+    edits = [Edit(file) for file in sorted((CRATES / crate / "must-fail").glob("*.edit"))]
+    unclear = [edit.file for edit in edits if edit.function is None]
+    if unclear:
+        sys.exit(f"{unclear[0].relative_to(CRATES.parent)} has no line `# refused by: FUNCTION: CLAUSE`")
+    return edits
+
+
+def lanes():
+    """How many proofs run at once."""
+    free = re.search(r"MemAvailable:\s+(\d+) kB", pathlib.Path("/proc/meminfo").read_text())
+    return max(1, min(len(os.sched_getaffinity(0)), int(free[1]) // (GIGABYTES_EACH << 20)))
+
+
+def size(crate):
+    return sum(file.stat().st_size for part in PARTS for file in (CRATES / crate / part).rglob("*") if file.is_file())
+
+
+def main(built, *names):
+    prover = Prover(pathlib.Path(built))
+    # The longest first, so that none is left alone at the end.
+    crates = sorted(names or prover.below, key=size, reverse=True)
+    edits = {crate: found for crate in crates if (found := edits_of(crate))}
+    passed = failed = 0
+    with concurrent.futures.ThreadPoolExecutor(lanes()) as pool:
+        running = [pool.submit(try_all, prover, crate, found) for crate, found in edits.items()]
+        for ended in concurrent.futures.as_completed(running):
+            for is_refused, line in ended.result():
+                print(line, flush=True)
+                passed += is_refused
+                failed += not is_refused
+    print(f"{passed} passed, {failed} failed")
+    return 1 if failed else 0
+
+
+if __name__ == "__main__":
+    sys.exit(main(*sys.argv[1:]))
