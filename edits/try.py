@@ -66,15 +66,19 @@ class Prover:
 
 
 def unproved(crate, said):
-    """The goals that the prover didn't prove, by their functions."""
-    goals = collections.defaultdict(list)
+    """The goals that the prover didn't prove, by their functions. Those that it looked for itself are noted right before the function's line."""
+    goals, noted = collections.defaultdict(list), []
     for line in said.splitlines():
-        answered = None if LOST.search(line) else re.match(r"\./proofs/(\S+)/\w+\.antt:\d+:\d+: error: `([^`]+)`", line)
-        searched = re.match(rf"fn {crate}::(\S+): no proof: .*?`search` did not prove ((`[^`]+`(, )?)+)", line)
-        if answered:
+        answered = re.match(r"\./proofs/(\S+)/\w+\.antt:\d+:\d+: error: `([^`]+)`", line)
+        searched = re.match(r"note: src/\S+: .*?\(`([^`]+)`\)", line)
+        ended = re.match(rf"fn {crate}::(\S+): (no proof|not proved)", line)
+        if answered and not LOST.search(line):
             goals[answered[1].replace("/", "::")].append(answered[2])
         elif searched:
-            goals[searched[1]] += re.findall("`([^`]+)`", searched[2])
+            noted.append(searched[1])
+        elif ended:
+            goals[ended[1]] += noted
+            noted = []
     return goals
 
 
