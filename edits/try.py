@@ -83,7 +83,7 @@ def unproved(crate, said):
 
 
 def is_of(goal, clause):
-    """Whether this goal is one of the clause. `returns` is the clause without a name."""
+    """Whether this goal is one of the clause. `returns` is what the function ensures, where the goal names no clause."""
     named = goal.rpartition("-clause-")[2] if "-clause-" in goal else None
     return clause in (goal, named) or clause == "returns" and named is None and goal.startswith("returns")
 
