@@ -181,3 +181,11 @@ some_left n r seen is = elim (eqb_tells n 0) [
   | inl e ↦ let never = e.0 in absurd (cc)
   | inr e ↦ omega (arith, e.1)
 ]
+
+-- and one that was
+pub none_left : (n : ℕ) (items : List ℕ) (r : Bool) → r ≡ (n == 0) → r ≡ true → length items ≡ n → items ≡ []
+none_left n [] r seen is long = refl
+none_left n (x ∷ xs) r seen is long = elim (eqb_tells n 0) [
+  | inl e ↦ absurd (omega (arith, e.1, long))
+  | inr e ↦ let never = e.0 in absurd (cc)
+]

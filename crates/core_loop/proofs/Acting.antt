@@ -1,6 +1,9 @@
 -- One event of a core, whichever part it has.
-use Rattle.std.proofs.Common.{length, ◌≡◌, ◌≤◌, ◌-◌, ◌+◌, ◌∙◌, ℕ, suc, max, List, [], ◌∷◌, ◌++◌, refl, sym, ap, subst, arith}
-use Rattle.std.specs.Prelude.{Option, Some, None, Result, Ok, Err, IfOk}
+use Rattle.std.proofs.Common.{length, ◌≡◌, ◌≤◌, ◌-◌, ◌+◌, ◌⊎◌, inl, inr, ◌∙◌, ℕ, suc, max, Bool, List, [], ◌∷◌, ◌++◌, refl, sym, ap, subst, arith}
+use Rattle.std.specs.Prelude.{Option, Some, None, Result, Ok, Err, IfOk, IfErr, IfSome, IsSome}
+use mathlib.Core.List.{IsPrefix}
+use Rattle.rx_queue.specs.declared.intake.Intake.{Intake}
+use Rattle.rx_queue.specs.Queue.{jobs_seen}
 use Rattle.core_links.specs.Views.{LinkView}
 use Rattle.filter_table.specs.declared.operation.Op.{Op}
 use Rattle.table_replica.specs.Shown.{ReplicaState}
@@ -23,9 +26,12 @@ use Rattle.core_loop.specs.Standing.{Stands0, StandsOther}
 use Rattle.core_loop.specs.Keeping.{IsStanding, replica_of}
 use Rattle.core_loop.specs.Events.{Acts, ActsOther}
 use Rattle.core_loop.specs.Outcomes.{OnEvent, OnNone, OnIdle}
-use Rattle.core_loop.specs.Beginning.{IsFitting}
+use Rattle.core_loop.specs.Beginning.{CanBeginNext, IsFitting}
 use Rattle.core_loop.specs.Receipts.{Receives}
 use Rattle.core_loop.specs.Taking.{CannotTake}
+use Rattle.core_loop.specs.Choosing.{IsLeastShowing}
+use Rattle.core_loop.specs.Turning.{HasRequest, HasWork, MayReceive}
+use Rattle.world_histories.proofs.Lists.{prefix_then}
 use Rattle.core_loop.proofs.Standings.{stands0_more, stands_other_more}
 use Rattle.core_loop.proofs.Carrying.{start_carries, submit_carries}
 use Rattle.core_loop.proofs.Handing.{hands_none, hands_nothing}
@@ -119,8 +125,6 @@ receives_act number cores clock (part.Other core) s v f r = (
   },
 )
 
--- What can begin still can after a look
-
 -- What comes after a look
 
 pub on_none_map : {E : Type 0} {P Q : Type 0} (r : Result (Option Stamped) E) → (P → Q) → OnNone r P → OnNone r Q
@@ -132,3 +136,46 @@ pub on_idle_both : {E : Type 0} {P Q R : Type 0} (r : Result (Option Stamped) E)
 on_idle_both (Ok (Some s)) f h k = tt
 on_idle_both (Ok None) f h k = f h k
 on_idle_both (Err x) f h k = tt
+
+pub on_none_both : {E : Type 0} {P Q R : Type 0} (r : Result (Option Stamped) E) → (P → Q → R) → OnNone r P → OnNone r Q → OnNone r R
+on_none_both (Ok (Some s)) f h k = tt
+on_none_both (Ok None) f h k = f h k
+on_none_both (Err x) f h k = f h k
+
+pub on_err_both : {E : Type 0} {P : Type 0} {Q R : E → Type 0} (r : Result (Option Stamped) E) → ((e : E) → P → Q e → R e) → OnNone r P → IfErr r Q → IfErr r R
+on_err_both (Ok o) f h k = tt
+on_err_both (Err x) f h k = f x h k
+
+pub on_err_of : {E : Type 0} {P Q : Type 0} {R : E → Type 0} (r : Result (Option Stamped) E) → ((e : E) → P → Q → R e) → OnNone r P → OnNone r Q → IfErr r R
+on_err_of (Ok o) f h k = tt
+on_err_of (Err x) f h k = f x h k
+
+pub on_event_any : {E : Type 0} {P : Type 0} (r : Result (Option Stamped) E) → P → OnEvent r (λ s. P)
+on_event_any (Ok (Some s)) h = h
+on_event_any (Ok None) h = tt
+on_event_any (Err x) h = tt
+
+pub either_way : {E : Type 0} {P Q R : Type 0} (r : Result (Option Stamped) E) → (P → R) → (Q → R) → OnEvent r (λ s. P) → OnNone r Q → R
+either_way (Ok (Some s)) f g h k = f h
+either_way (Ok None) f g h k = g k
+either_way (Err x) f g h k = g k
+
+-- what can begin is a request
+pub can_begin_has : (cores : ℕ) (x : Part) (requests : List Op) (view : ℕ → LinkView) → CanBeginNext cores x requests view → HasRequest cores x requests
+can_begin_has cores (part.First core) requests view can = can.some
+can_begin_has cores (part.Other core) requests view can = can.some
+
+-- what there is to do is there still when more jobs are seen
+pub work_stays : (cores : ℕ) (x : Part) (requests : List Op) (seen : ℕ → LinkView) (rx : Bool) (i j : Intake) (shown : Option ℕ)
+    → IfSome shown (IsLeastShowing cores seen) → IsPrefix (jobs_seen i) (jobs_seen j) → (IsSome shown ⊎ (HasRequest cores x requests ⊎ MayReceive x rx i)) → HasWork cores x requests seen rx j
+work_stays cores x requests seen rx i j (Some peer) least p (inl s) = inl (peer, least)
+work_stays cores x requests seen rx i j None least p (inl s) = absurd cc
+work_stays cores x requests seen rx i j shown least p (inr (inl h)) = inr (inl h)
+work_stays cores x requests seen rx i j shown least p (inr (inr m)) = inr (inr (m.0, m.1, record { first = prefix_then (m.1 ∷ []) (jobs_seen i) (jobs_seen j) m.2.first p; floor = m.2.floor }))
+
+-- an event keeps the budget
+pub acts_budget : (number cores clock : ℕ) (v w : ℕ → LinkView) (x y : Part) (s : Stamped) → Acts number cores clock v w x y s → (replica_of y).budget ≡ (replica_of x).budget
+acts_budget number cores clock v w (part.First x) (part.First y) s a = a.same_budget
+acts_budget number cores clock v w (part.First x) (part.Other y) s a = absurd a
+acts_budget number cores clock v w (part.Other x) (part.First y) s a = absurd a
+acts_budget number cores clock v w (part.Other x) (part.Other y) s a = a.2.same_budget

@@ -64,6 +64,16 @@ not_ready_waits cores clock peer (part.Other core) m seen f c = (c.0, λ n g. su
 
 -- What comes next
 
+-- the next request, where no message can be taken
+pub request_next : (cores : ℕ) (x : Part) (requests : List Op) (seen : ℕ → LinkView) (e : Event) → NoMessageNow cores x seen → IsNextRequest cores x e → IsNext cores x requests seen e
+request_next cores x requests seen (Start op) n r = (n, r)
+request_next cores x requests seen (StartFor core) n r = (n, r)
+request_next cores x requests seen (Submit core op) n r = (n, r)
+request_next cores (part.First core) requests seen (Take to from short) n r = absurd r
+request_next cores (part.Other core) requests seen (Take to from short) n r = absurd r
+request_next cores (part.First core) requests seen (Rx number job packet floor) n r = absurd r
+request_next cores (part.Other core) requests seen (Rx number job packet floor) n r = absurd r
+
 -- What is seen of the links
 
 -- a peer that shows nothing, after those before it

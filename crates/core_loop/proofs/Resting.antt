@@ -1,22 +1,23 @@
 -- A core whose turn did one event, or none.
-use Rattle.std.proofs.Common.{◌≡◌, ◌⊎◌, inl, inr, ◌∙◌, ℕ, zero, suc, All, List, [], ◌∷◌, ◌++◌, sym, ap, subst, arith, append_assoc}
+use Rattle.std.proofs.Common.{◌≡◌, ◌⊎◌, inl, inr, ◌∙◌, ℕ, zero, suc, All, List, [], ◌∷◌, ◌++◌, refl, sym, ap, subst, arith, append_assoc}
 use Rattle.std.proofs.lemmas.List.{append-nil}
 use Rattle.filter_table.specs.declared.operation.Op.{Op}
 use Rattle.filter_table.specs.Tables.{HasShortProgram}
 use Rattle.world_histories.specs.declared.history.Stamped.{Stamped}
 use Rattle.world_histories.specs.Histories.{Stamping}
-use Rattle.std.specs.Prelude.{Result, Ok, Err, OnOk, IfErr}
+use Rattle.std.specs.Prelude.{Some, None, Result, Ok, Err, OnOk, IfErr}
 use Rattle.ump_ring.specs.declared.sender.Busy.{Busy}
 use Rattle.world_model.proofs.Lists.{same_or_not}
 use Rattle.core_links.specs.Views.{LinkView, AtPeer}
 use Rattle.core_links.specs.declared.list_links.ListLinks.{ListLinks}
 use Rattle.core_links.specs.ListSlots.{list_view, SameLists, GivesMessage}
 use Rattle.core_loop.specs.declared.part.Part.{Part}
+use Rattle.core_loop.specs.declared.cause.Cause.{Cause}
 use Rattle.core_loop.specs.declared.part.Part.TheVariants as part
 use Rattle.core_loop.specs.Coded.{AreCoded}
 use Rattle.core_loop.specs.Standing.{IsSilent}
 use Rattle.core_loop.specs.Carrying.{Quiet}
-use Rattle.core_loop.specs.Cores.{AreShort, begins, begun}
+use Rattle.core_loop.specs.Cores.{CoreState, SameCore, NothingDone, DidOne, AreShort, begins, begun}
 use Rattle.core_loop.specs.Keeping.{IsStanding}
 use Rattle.core_loop.specs.Beginning.{IsFitting}
 
@@ -64,6 +65,10 @@ stands_same (part.Other core) number cores clock h v w st q = (
 pub stands_quiet : (x : Part) (number cores clock : ℕ) (h : List Stamped) (v w : ℕ → LinkView) → IsStanding x number cores clock h v → ((p : ℕ) → Quiet (v p) (w p)) → IsStanding x number cores clock h w
 stands_quiet x number cores clock h v w st q = stands_same x number cores clock h v w st (λ p. ((q p).sent_same, (q p).taken_same))
 
+-- also where its part and its history are only known to be the same
+pub rest_stands : (x y : Part) (number cores clock : ℕ) (h k : List Stamped) (v w : ℕ → LinkView) → IsStanding x number cores clock h v → y ≡ x → k ≡ h → ((p : ℕ) → Quiet (v p) (w p)) → IsStanding y number cores clock k w
+rest_stands x y number cores clock h k v w st e f q = rw (e, f) (stands_quiet x number cores clock h v w st q)
+
 -- Lists that the caller carries
 
 pub given_traffic : (old new : ListLinks) (peer : ℕ) (message : List ℕ) (r : Result (Unit {0}) Busy)
@@ -92,3 +97,20 @@ short_rest (suc entry) all front rest e s = all_rest HasShortProgram front rest 
 flat_map_more : (h : List Stamped) (s : Stamped) → begun (h ++ s ∷ []) ≡ begun h ++ begins s.done.event
 flat_map_more [] s = append-nil (begins s.done.event)
 flat_map_more (x ∷ h) s = ap (λ (l : List Op). begins x.done.event ++ l) (flat_map_more h s) ∙ sym (append_assoc (begins x.done.event) (begun h) (begins s.done.event))
+
+pub begun_more : (h k : List Stamped) (s : Stamped) (p q : List Op) → k ≡ h ++ s ∷ [] → p ≡ begins s.done.event ++ q → begun k ++ q ≡ begun h ++ p
+begun_more h k s p q e f = rw (e, flat_map_more h s, append_assoc, f) refl
+
+-- what is said of a core's fields is said of what a contract sees of them
+pub seen_same : {L : Type 0} (same : L → L → Type 0) (i old new : CoreState L) → i ≡ old → SameCore same i new → SameCore same old new
+seen_same same i old new e h = rw (← e) h
+
+pub seen_idle : {L : Type 0} (view : L → ℕ → LinkView) (i old new : CoreState L) → i ≡ old → NothingDone view i new → NothingDone view old new
+seen_idle view i old new e h = rw (← e) h
+
+pub seen_done : {L : Type 0} (view : L → ℕ → LinkView) (i old new : CoreState L) → i ≡ old → DidOne view i new → DidOne view old new
+seen_done view i old new e h = rw (← e) h
+
+-- a core that was running was not stopped
+pub was_running : {L : Type 0} {A : Type 0} (i old : CoreState L) (cause : Cause) → i ≡ old → i.stopped ≡ None → old.stopped ≡ Some cause → A
+was_running i old cause e none is = absurd (let running = rw e at none in cc)

@@ -178,9 +178,13 @@ pub not_empty : (rest : List ℕ) → rest ≢ [] → 0 < length rest
 not_empty [] some = absurd (some refl)
 not_empty (x ∷ rest) some = omega arith
 
+-- a slice from a place to its end
+pub to_end : (count : ℕ) (bytes : List ℕ) → take (length bytes - count) (drop count bytes) ≡ drop count bytes
+to_end count bytes = take_all (length bytes - count) (drop count bytes) (omega (arith, length-drop count bytes))
+
 -- a slice in two parts
 pub two_parts : (count : ℕ) (rest : List ℕ) → rest ≡ take count rest ++ take (length rest - count) (drop count rest)
-two_parts count rest = sym (take-append-drop count rest) ∙ ap (λ t. take count rest ++ t) (sym (take_all (length rest - count) (drop count rest) (omega (arith, length-drop count rest))))
+two_parts count rest = sym (take-append-drop count rest) ∙ ap (λ t. take count rest ++ t) (sym (to_end count rest))
 
 -- what was fed so far, in front of all
 within_all : (fed bytes done rest : List ℕ) → bytes ≡ done ++ rest → length (fed ++ bytes) ≡ length (fed ++ done) + length rest
@@ -265,7 +269,7 @@ split_front big bytes n p whole body original =
     let cut : take n (drop 16 bytes) ≡ drop 16 front = ap (take n) after ∙ ap (λ m. take m (drop 16 front ++ tail)) count ∙ take-append_seam (drop 16 front) tail in
     let small : 16 + n - 16 ≡ n = omega arith in
     let is_body : drop 16 front ≡ p.bytes = sym cut ∙ ap (λ m. take m (drop 16 bytes)) (sym small) ∙ sym body in
-    let place : take (length bytes - 12) (drop 12 bytes) ≡ drop 12 bytes = take_all (length bytes - 12) (drop 12 bytes) (omega (arith, length-drop 12 bytes)) in
+    let place : take (length bytes - 12) (drop 12 bytes) ≡ drop 12 bytes = to_end 12 bytes in
     record {
       header = omega (arith, size);
       length_is = sym same ∙ sym whole.0 ∙ count ∙ ap length is_body;

@@ -14,3 +14,10 @@ loop-packet-preserved-then-len-ge-BLOCK g c = let first = c.in-Some.ensures.case
 pub returns-clause-part : goal.returns-clause-part
 returns-clause-part g c = λ memory.
     rw (c.write_ending.ensures.part memory) (printing_part _ _ [] _ _ (printing_written _ _ _ _ _ _ _ c.loop-packet.invariant.printing (rw c.as_slice-2.ensures.value at c.in_ok-write_bytes-2.ensures.written) refl))
+
+pub loop-packet-preserved : goal.loop-packet-preserved
+loop-packet-preserved g c = let first = c.in-Some.ensures.cases in record {
+  room = omega (arith, ap length first.0, first.1, c.loop-packet.invariant.room);
+  good = c.loop-packet.invariant.good;
+  printing = printing_next _ _ _ _ _ _ _ _ c.loop-packet.invariant.printing (left_first c.loop-packet.number _ _ _ c.args.fault first.0) c.in_ok-push_packet.ensures;
+}

@@ -1,5 +1,6 @@
 use Rattle.std.proofs.Common.{[], arith, true, inl, inr, refl}
 use Rattle.console.specs.Streaming.{SourceEnded}
+use Rattle.console.proofs.DeviceLemmas.{ends_refused, ends_writing, ends_written}
 use Rattle.console.proofs.StreamingLemmas.{no_bytes, ended_front}
 use Rattle.console.proofs.StreamLemmas.{RanOrStopped, left_read, left_kept, keeps_itself, streamed_kept, took, either_run, either_front, left_took, streamed_next, end_shown, end_left, taken_bytes}
 use Rattle.console.proofs.streaming.stream.Goals.{in-Bytes+in_ok-stopped-in-Bytes+in_ok-write_outcomes-in-Bytes+else-stopped, in-Again}
@@ -88,3 +89,26 @@ loop-turn-preserved g c = elim c.match-read.branch [
 
 pub returns-clause-left : goal.returns-clause-left
 returns-clause-left g c = left_kept _ _ _ _ _ _ _ _ _ c.loop-turn.invariant.so (keeps_itself _)
+
+pub returns-in_err-stopped-in-End-clause-cause : goal.returns-in_err-stopped-in-End-clause-cause
+returns-in_err-stopped-in-End-clause-cause g c = ends_refused c.from_residual.result c.read.new.self c.loop-turn.writer c.in-End.ensures.0.3 c.loop-turn.invariant.good c.from_residual.ensures.1
+
+pub returns-in_err-write_outcomes-in-End-clause-cause : goal.returns-in_err-write_outcomes-in-End-clause-cause
+returns-in_err-write_outcomes-in-End-clause-cause g c =
+    ends_written c.from_residual-in_err-write_outcomes-in-End.result c.in_err-write_outcomes-in-End.field-0.0 c.read.new.self c.write_outcomes.new.writer c.in-End.ensures.0.3
+    c.from_residual-in_err-write_outcomes-in-End.ensures.1 c.in_err-write_outcomes-in-End.ensures.cause
+
+pub returns-in-End-clause-cause : goal.returns-in-End-clause-cause
+returns-in-End-clause-cause g c = ends_writing c.write_end.result c.read.new.self c.write_end.new.writer c.in-End.ensures.0.3 c.write_end.ensures.cause
+
+pub returns-in_err-stopped-in-Bytes-clause-cause : goal.returns-in_err-stopped-in-Bytes-clause-cause
+returns-in_err-stopped-in-Bytes-clause-cause g c =
+    ends_refused c.from_residual-in_err-stopped-in-Bytes.result c.read.new.self c.loop-turn.writer c.in-Bytes.ensures.0.3 c.loop-turn.invariant.good c.from_residual-in_err-stopped-in-Bytes.ensures.1
+
+pub returns-in_err-write_outcomes-in-Bytes-clause-cause : goal.returns-in_err-write_outcomes-in-Bytes-clause-cause
+returns-in_err-write_outcomes-in-Bytes-clause-cause g c =
+    ends_written c.from_residual-in_err-write_outcomes-in-Bytes.result c.in_err-write_outcomes-in-Bytes.field-0.0 c.read.new.self c.write_outcomes-in-Bytes.new.writer c.in-Bytes.ensures.0.3
+    c.from_residual-in_err-write_outcomes-in-Bytes.ensures.1 c.in_err-write_outcomes-in-Bytes.ensures.cause
+
+pub returns-then-stopped-clause-cause : goal.returns-then-stopped-clause-cause
+returns-then-stopped-clause-cause g c = ends_writing c.write_end-then-stopped.result c.read.new.self c.write_end-then-stopped.new.writer c.in-Bytes.ensures.0.3 c.write_end-then-stopped.ensures.cause

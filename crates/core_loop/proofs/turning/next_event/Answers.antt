@@ -1,7 +1,14 @@
-use Rattle.std.proofs.Common.{sym, ap, subst}
+use Rattle.std.proofs.Common.{◌≡◌, ◌++◌, ◌∙◌, inl, List, sym, ap, subst, rules}
+use Rattle.rx_queue.specs.declared.job.Job.{Job}
+use Rattle.rx_queue.specs.Queue.{jobs_seen, jobs_taken}
+use Rattle.world_histories.proofs.Lists.{prefix_self, prefix_then}
 use Rattle.core_loop.proofs.Carrying.{quiet_along, same_quiet, pumped_quiet}
+use Rattle.core_loop.specs.Beginning.{CanBeginNext}
 use Rattle.core_loop.specs.Choosing.{NoMessageNow}
-use Rattle.core_loop.proofs.Acting.{on_none_map, on_idle_both}
+use Rattle.core_loop.specs.Outcomes.{OnEvent}
+use Rattle.core_loop.specs.Receipts.{receives}
+use Rattle.core_loop.specs.Turning.{HasWork, HaltsFor}
+use Rattle.core_loop.proofs.Acting.{on_none_map, on_none_both, on_idle_both, on_err_both, on_err_of, on_event_any, either_way, can_begin_has, work_stays}
 use Rattle.core_loop.proofs.Order.{acts_first}
 use Rattle.core_loop.proofs.turning.next_event.Goals as goal
 
@@ -30,3 +37,78 @@ pub returns-clause-idle_message : goal.returns-clause-idle_message
 returns-clause-idle_message g c =
     let view = g.L.Links.view in
     on_idle_both c.first_event.result (λ n e. subst (λ (l : g.row.L.Denot). NoMessageNow c.args.context.cores c.args.part.now (view l)) (sym e.1) n) c.first_event.ensures.idle_message c.first_event.ensures.same
+
+pub returns-clause-idle : goal.returns-clause-idle
+returns-clause-idle g c =
+    let view = g.L.Links.view in
+    on_idle_both c.first_event.result (λ n e. subst (λ (l : g.row.L.Denot). CanBeginNext c.args.context.cores c.args.part.now c.args.requests.now.items (view l) → ⊥) (sym e.1) n) c.first_event.ensures.idle c.first_event.ensures.same
+
+pub returns-clause-same : goal.returns-clause-same
+returns-clause-same g c = on_none_both c.first_event.result (λ e f. (e.0, f)) c.first_event.ensures.same c.first_event.ensures.same_requests
+
+pub returns-clause-seen : goal.returns-clause-seen
+returns-clause-seen g c =
+    on_none_map c.first_event.result (prefix_then (jobs_seen c.args.intake.now) (jobs_seen c.has_work.new.intake) (jobs_seen c.first_event.new.intake) c.has_work.ensures.seen) c.first_event.ensures.seen
+
+pub returns-clause-jobs : goal.returns-clause-jobs
+returns-clause-jobs g c =
+    subst (λ (l : List Job). OnEvent c.first_event.result (λ s. jobs_taken c.first_event.new.intake ≡ l ++ receives s.done.event)) c.has_work.ensures.taken c.first_event.ensures.jobs
+
+pub returns-clause-links : goal.returns-clause-links
+returns-clause-links g c =
+    let looked = g.met.L.Links.same_along _ _ _ c.pump.ensures.links c.least_showing.ensures.links in
+    either_way c.first_event.result (λ h. g.met.L.Links.same_along _ _ _ looked h) (λ e. subst (λ (l : g.row.L.Denot). g.L.Links.same c.args.links.now l) (sym e.1) looked) c.first_event.ensures.links c.first_event.ensures.same
+
+pub returns-clause-why : goal.returns-clause-why
+returns-clause-why g c =
+    let view = g.L.Links.view in
+    on_err_both c.first_event.result
+    (λ halt e h. subst (λ (l : g.row.L.Denot). HaltsFor c.args.context.cores c.args.context.clock c.args.part.now c.args.requests.now.items (view l) c.args.rx c.first_event.new.intake halt) (sym e.1) h) c.first_event.ensures.same c.first_event.ensures.why
+
+pub returns-clause-memory : goal.returns-clause-memory
+returns-clause-memory g c =
+    let view = g.L.Links.view in
+    let work = c.has_work.ensures.some c.if-not-has_work.false in
+    on_err_of c.first_event.result
+    (λ halt e p no. subst (λ (l : g.row.L.Denot). HasWork c.args.context.cores c.args.part.now c.args.requests.now.items (view l) c.args.rx c.first_event.new.intake) (sym e.1)
+    (work_stays c.args.context.cores c.args.part.now c.args.requests.now.items (view c.least_showing.new.links) c.args.rx c.has_work.new.intake c.first_event.new.intake c.in-Ok.shown c.in-Ok.ensures.least p work)) c.first_event.ensures.same c.first_event.ensures.seen
+
+pub returns-then-is_err-clause-memory : goal.returns-then-is_err-clause-memory
+returns-then-is_err-clause-memory g c = λ no.
+    work_stays c.args.context.cores c.args.part.now c.args.requests.now.items (g.L.Links.view c.least_showing.new.links) c.args.rx c.has_work.new.intake c.has_work.new.intake c.in-Ok.shown c.in-Ok.ensures.least (prefix_self (jobs_seen c.has_work.new.intake)) (c.has_work.ensures.some c.if-not-has_work.false)
+
+pub returns-clause-room : goal.returns-clause-room
+returns-clause-room g c = on_event_any c.first_event.result (search rules)
+
+pub returns-then-not-has_work-clause-idle : goal.returns-then-not-has_work-clause-idle
+returns-then-not-has_work-clause-idle g c = λ can.
+    c.has_work.ensures.no_request c.if-not-has_work.true (can_begin_has c.args.context.cores c.args.part.now c.args.requests.now.items (g.L.Links.view c.least_showing.new.links) can)
+
+pub returns-then-not-has_work-clause-idle_message : goal.returns-then-not-has_work-clause-idle_message
+returns-then-not-has_work-clause-idle_message g c = inl (rw (c.has_work.ensures.no_message c.if-not-has_work.true) at c.in-Ok.ensures.none)
+
+pub returns-then-not-has_work-clause-idle_job : goal.returns-then-not-has_work-clause-idle_job
+returns-then-not-has_work-clause-idle_job g c = c.has_work.ensures.no_job c.if-not-has_work.true
+
+pub returns-clause-requests : goal.returns-clause-requests
+returns-clause-requests g c = c.first_event.ensures.requests
+
+pub returns-clause-whole : goal.returns-clause-whole
+returns-clause-whole g c = c.first_event.ensures.whole
+
+pub returns-clause-idle_job : goal.returns-clause-idle_job
+returns-clause-idle_job g c = c.first_event.ensures.idle_job
+
+pub returns-clause-same_jobs : goal.returns-clause-same_jobs
+returns-clause-same_jobs g c = on_none_map c.first_event.result (λ e. e ∙ c.has_work.ensures.taken) c.first_event.ensures.same_jobs
+
+pub returns-in-Err-clause-why : goal.returns-in-Err-clause-why
+returns-in-Err-clause-why g c =
+    let f = c.in-Err.ensures.fault in
+    record { peer = f.0; inside = f.1; before = f.2; stops = f.3 }
+
+pub first_event-requires-clause-least : goal.first_event-requires-clause-least
+first_event-requires-clause-least g c = c.in-Ok.ensures.least
+
+pub first_event-requires-clause-none : goal.first_event-requires-clause-none
+first_event-requires-clause-none g c = c.in-Ok.ensures.none

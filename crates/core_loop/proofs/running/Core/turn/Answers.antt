@@ -1,12 +1,13 @@
-use Rattle.std.proofs.Common.{◌≡◌, ◌++◌, ◌∷◌, [], List, refl, sym, subst, rules}
+use Rattle.std.proofs.Common.{List, refl, sym, subst}
 use Rattle.world_histories.specs.declared.history.Stamped.{Stamped}
 use Rattle.core_loop.specs.declared.part.Part.{Part}
-use Rattle.core_loop.specs.Keeping.{IsStanding}
+use Rattle.core_loop.specs.Keeping.{IsStanding, replica_of}
 use Rattle.core_loop.specs.Cores.{CoreState, begins}
 use Rattle.core_loop.specs.Choosing.{NoMessageNow}
-use Rattle.core_loop.specs.Turning.{IsSpent}
-use Rattle.core_loop.proofs.Acting.{acts_stand}
-use Rattle.core_loop.proofs.Resting.{stands_quiet, short_rest}
+use Rattle.core_loop.specs.Receipts.{IsReceivable}
+use Rattle.core_loop.specs.Turning.{HasWork, IsSpent}
+use Rattle.core_loop.proofs.Acting.{acts_stand, acts_budget}
+use Rattle.core_loop.proofs.Resting.{stands_quiet, rest_stands, short_rest, begun_more, was_running, seen_same, seen_idle, seen_done}
 use Rattle.core_loop.proofs.running.Core.turn.Goals as goal
 
 pub returns-in-Some-clause-running : goal.returns-in-Some-clause-running
@@ -17,17 +18,36 @@ returns-in-Err-Stopped-clause-running g c = λ f. absurd (f c.in-Err-Stopped.cau
 
 pub invariant_of-self : goal.invariant_of-self
 invariant_of-self g c =
-    let view = g.L.Links.view in
     let i = c.self.inside in
     let v = c.self.invariant in
+    let view = g.L.Links.view in
     let same = rw c.in-Ok-None.field-0-is at c.in-Ok-None.ensures.same in
-    let quiet = rw c.in-Ok-None.field-0-is at c.in-Ok-None.ensures.quiet in (
-      v.0,
-      v.1,
-      subst (λ (l : List Stamped). IsStanding c.next_event.new.part i.number i.cores i.clock l (view c.next_event.new.links)) (sym c.next_event.ensures.history)
-          (subst (λ (x : Part). IsStanding x i.number i.cores i.clock i.history.items (view c.next_event.new.links)) (sym same.0) (stands_quiet i.part i.number i.cores i.clock i.history.items (view i.links) (view c.next_event.new.links) v.2 quiet)),
-      rw same.1 v.3,
-    )
+    let quiet = rw c.in-Ok-None.field-0-is at c.in-Ok-None.ensures.quiet in
+    (v.0, v.1, rest_stands i.part c.next_event.new.part i.number i.cores i.clock i.history.items c.next_event.new.history.items (view i.links) (view c.next_event.new.links) v.2 same.0 c.next_event.ensures.history quiet, rw same.1 v.3)
+
+pub invariant_of-self-in-Err-Spent : goal.invariant_of-self-in-Err-Spent
+invariant_of-self-in-Err-Spent g c =
+    let i = c.self.inside in
+    let v = c.self.invariant in
+    let view = g.L.Links.view in
+    let h = c.in-Err-Spent.ensures in
+    (v.0, v.1, rest_stands i.part c.next_event.new.part i.number i.cores i.clock i.history.items c.next_event.new.history.items (view i.links) (view c.next_event.new.links) v.2 h.same.0 c.next_event.ensures.history h.quiet, rw h.same.1 v.3)
+
+pub invariant_of-self-in-Err-NoMemory : goal.invariant_of-self-in-Err-NoMemory
+invariant_of-self-in-Err-NoMemory g c =
+    let i = c.self.inside in
+    let v = c.self.invariant in
+    let view = g.L.Links.view in
+    let h = c.in-Err-NoMemory.ensures in
+    (v.0, v.1, rest_stands i.part c.next_event.new.part i.number i.cores i.clock i.history.items c.next_event.new.history.items (view i.links) (view c.next_event.new.links) v.2 h.same.0 c.next_event.ensures.history h.quiet, rw h.same.1 v.3)
+
+pub invariant_of-self-in-Err-Stopped : goal.invariant_of-self-in-Err-Stopped
+invariant_of-self-in-Err-Stopped g c =
+    let i = c.self.inside in
+    let v = c.self.invariant in
+    let view = g.L.Links.view in
+    let h = c.in-Err-Stopped.ensures in
+    (v.0, v.1, rest_stands i.part c.next_event.new.part i.number i.cores i.clock i.history.items c.next_event.new.history.items (view i.links) (view c.next_event.new.links) v.2 h.same.0 c.next_event.ensures.history h.quiet, rw h.same.1 v.3)
 
 pub invariant_of-self-in-Ok-Some : goal.invariant_of-self-in-Ok-Some
 invariant_of-self-in-Ok-Some g c =
@@ -37,7 +57,7 @@ invariant_of-self-in-Ok-Some g c =
     let s = c.in-Ok-Some.stamped in
     let a = rw c.in-Ok-Some.field-0-is at c.in-Ok-Some.ensures.acts in
     let requests = rw c.in-Ok-Some.field-0-is at c.in-Ok-Some.ensures.requests in
-    let kept : c.push_reserved.new.self.items ≡ i.history.items ++ s ∷ [] = search rules in (
+    let kept = rw c.next_event.ensures.history at c.push_reserved.ensures.items in (
       v.0,
       v.1,
       subst (λ (l : List Stamped). IsStanding c.next_event.new.part i.number i.cores s.stamp l (view c.next_event.new.links)) (sym kept)
@@ -55,3 +75,115 @@ pub returns-in-Err-Spent-clause-spent : goal.returns-in-Err-Spent-clause-spent
 returns-in-Err-Spent-clause-spent g c = λ _.
     let why = rw c.in-Err-Spent.field-0-is at c.in-Err-Spent.ensures.why in
     subst (λ (s : CoreState g.row.L.Denot). IsSpent s.cores s.clock s.part s.pending (g.L.Links.view c.next_event.new.links) c.args.rx c.next_event.new.intake) c.self.view_is why
+
+pub returns-in-Ok-Some-clause-core : goal.returns-in-Ok-Some-clause-core
+returns-in-Ok-Some-clause-core g c =
+    let i = c.self.inside in
+    let acts = rw c.in-Ok-Some.field-0-is at c.in-Ok-Some.ensures.acts in
+    let budget = acts_budget i.number i.cores i.clock acts.seen (g.L.Links.view c.next_event.new.links) i.part c.next_event.new.part c.in-Ok-Some.stamped acts.acts in
+    seen_same g.L.Links.same _ _ _ c.self.view_is (record { number = refl; cores = refl; budget = budget; links = c.next_event.ensures.links; intake = c.next_event.ensures.queue })
+
+pub returns-in-Ok-Some-clause-did : goal.returns-in-Ok-Some-clause-did
+returns-in-Ok-Some-clause-did g c = λ _.
+    let s = c.in-Ok-Some.stamped in
+    let acts = rw c.in-Ok-Some.field-0-is at c.in-Ok-Some.ensures.acts in
+    let requests = rw c.in-Ok-Some.field-0-is at c.in-Ok-Some.ensures.requests in
+    let jobs = rw c.in-Ok-Some.field-0-is at c.in-Ok-Some.ensures.jobs in
+    let whole = rw c.in-Ok-Some.field-0-is at c.in-Ok-Some.ensures.whole in
+    let kept = rw c.next_event.ensures.history at c.push_reserved.ensures.items in
+    seen_done g.L.Links.view _ _ _ c.self.view_is (record { s = s; history = kept; clock = refl; acts = acts; pending = requests; jobs = jobs; unshortened = whole })
+
+pub returns-in-Ok-None-clause-core : goal.returns-in-Ok-None-clause-core
+returns-in-Ok-None-clause-core g c =
+    let same = rw c.in-Ok-None.field-0-is at c.in-Ok-None.ensures.same in
+    seen_same g.L.Links.same _ _ _ c.self.view_is (record { number = refl; cores = refl; budget = rw same.0 refl; links = c.next_event.ensures.links; intake = c.next_event.ensures.queue })
+
+pub returns-in-Ok-None-clause-other : goal.returns-in-Ok-None-clause-other
+returns-in-Ok-None-clause-other g c = λ _.
+    let same = rw c.in-Ok-None.field-0-is at c.in-Ok-None.ensures.same in
+    let quiet = rw c.in-Ok-None.field-0-is at c.in-Ok-None.ensures.quiet in
+    let jobs = rw c.in-Ok-None.field-0-is at c.in-Ok-None.ensures.same_jobs in
+    let seen = rw c.in-Ok-None.field-0-is at c.in-Ok-None.ensures.seen in
+    seen_idle g.L.Links.view _ _ _ c.self.view_is (record { history = c.next_event.ensures.history; part = same.0; clock = refl; pending = rw same.1 refl; links = quiet; jobs = jobs; seen = seen })
+
+pub returns-in-Ok-None-clause-idle : goal.returns-in-Ok-None-clause-idle
+returns-in-Ok-None-clause-idle g c = λ _.
+    let same = rw c.in-Ok-None.field-0-is at c.in-Ok-None.ensures.same in
+    rw (same.0, same.1) (rw c.in-Ok-None.field-0-is at c.in-Ok-None.ensures.idle)
+
+pub returns-in-Ok-None-clause-idle_job : goal.returns-in-Ok-None-clause-idle_job
+returns-in-Ok-None-clause-idle_job g c = λ _ rx job can.
+    let same = rw c.in-Ok-None.field-0-is at c.in-Ok-None.ensures.same in
+    let idle = rw c.in-Ok-None.field-0-is at c.in-Ok-None.ensures.idle_job in
+    idle (rx, job, subst (λ (x : Part). IsReceivable (replica_of x).shown.version c.next_event.new.intake job) same.0 can)
+
+pub returns-in-Err-Spent-clause-core : goal.returns-in-Err-Spent-clause-core
+returns-in-Err-Spent-clause-core g c =
+    let same = c.in-Err-Spent.ensures.same in
+    seen_same g.L.Links.same _ _ _ c.self.view_is (record { number = refl; cores = refl; budget = rw same.0 refl; links = c.next_event.ensures.links; intake = c.next_event.ensures.queue })
+
+pub returns-in-Err-Spent-clause-other : goal.returns-in-Err-Spent-clause-other
+returns-in-Err-Spent-clause-other g c = λ _.
+    let h = c.in-Err-Spent.ensures in
+    seen_idle g.L.Links.view _ _ _ c.self.view_is (record { history = c.next_event.ensures.history; part = h.same.0; clock = refl; pending = rw h.same.1 refl; links = h.quiet; jobs = h.same_jobs; seen = h.seen })
+
+pub returns-in-Err-NoMemory-clause-core : goal.returns-in-Err-NoMemory-clause-core
+returns-in-Err-NoMemory-clause-core g c =
+    let same = c.in-Err-NoMemory.ensures.same in
+    seen_same g.L.Links.same _ _ _ c.self.view_is (record { number = refl; cores = refl; budget = rw same.0 refl; links = c.next_event.ensures.links; intake = c.next_event.ensures.queue })
+
+pub returns-in-Err-NoMemory-clause-other : goal.returns-in-Err-NoMemory-clause-other
+returns-in-Err-NoMemory-clause-other g c = λ _.
+    let h = c.in-Err-NoMemory.ensures in
+    seen_idle g.L.Links.view _ _ _ c.self.view_is (record { history = c.next_event.ensures.history; part = h.same.0; clock = refl; pending = rw h.same.1 refl; links = h.quiet; jobs = h.same_jobs; seen = h.seen })
+
+pub returns-in-Err-Stopped-clause-core : goal.returns-in-Err-Stopped-clause-core
+returns-in-Err-Stopped-clause-core g c =
+    let same = c.in-Err-Stopped.ensures.same in
+    seen_same g.L.Links.same _ _ _ c.self.view_is (record { number = refl; cores = refl; budget = rw same.0 refl; links = c.next_event.ensures.links; intake = c.next_event.ensures.queue })
+
+pub returns-in-Err-Stopped-clause-other : goal.returns-in-Err-Stopped-clause-other
+returns-in-Err-Stopped-clause-other g c = λ _.
+    let h = c.in-Err-Stopped.ensures in
+    seen_idle g.L.Links.view _ _ _ c.self.view_is (record { history = c.next_event.ensures.history; part = h.same.0; clock = refl; pending = rw h.same.1 refl; links = h.quiet; jobs = h.same_jobs; seen = h.seen })
+
+pub returns-in-Err-NoMemory-clause-no_memory : goal.returns-in-Err-NoMemory-clause-no_memory
+returns-in-Err-NoMemory-clause-no_memory g c = λ _.
+    subst (λ (s : CoreState g.row.L.Denot). HasWork s.cores s.part s.pending (g.L.Links.view c.next_event.new.links) c.args.rx c.next_event.new.intake) c.self.view_is (c.in-Err-NoMemory.ensures.memory c.in-Err-NoMemory.field-0-is)
+
+pub returns-in-Ok-None-clause-requests : goal.returns-in-Ok-None-clause-requests
+returns-in-Ok-None-clause-requests g c =
+    let same = rw c.in-Ok-None.field-0-is at c.in-Ok-None.ensures.same in
+    rw (← c.self.view_is) (rw (c.next_event.ensures.history, same.1) refl)
+
+pub returns-in-Err-Spent-clause-requests : goal.returns-in-Err-Spent-clause-requests
+returns-in-Err-Spent-clause-requests g c = rw (← c.self.view_is) (rw (c.next_event.ensures.history, c.in-Err-Spent.ensures.same.1) refl)
+
+pub returns-in-Err-NoMemory-clause-requests : goal.returns-in-Err-NoMemory-clause-requests
+returns-in-Err-NoMemory-clause-requests g c = rw (← c.self.view_is) (rw (c.next_event.ensures.history, c.in-Err-NoMemory.ensures.same.1) refl)
+
+pub returns-in-Err-Stopped-clause-requests : goal.returns-in-Err-Stopped-clause-requests
+returns-in-Err-Stopped-clause-requests g c = rw (← c.self.view_is) (rw (c.next_event.ensures.history, c.in-Err-Stopped.ensures.same.1) refl)
+
+pub returns-in-Ok-Some-clause-requests : goal.returns-in-Ok-Some-clause-requests
+returns-in-Ok-Some-clause-requests g c =
+    let i = c.self.inside in
+    let s = c.in-Ok-Some.stamped in
+    let requests = rw c.in-Ok-Some.field-0-is at c.in-Ok-Some.ensures.requests in
+    let kept = rw c.next_event.ensures.history at c.push_reserved.ensures.items in
+    rw (← c.self.view_is) (begun_more i.history.items c.push_reserved.new.self.items s i.requests.items c.next_event.new.requests.items kept requests)
+
+pub returns-in-Err-Spent-clause-stays : goal.returns-in-Err-Spent-clause-stays
+returns-in-Err-Spent-clause-stays g c = λ cause is. was_running _ _ cause c.self.view_is c.in_default.is is
+
+pub returns-in-Ok-Some-clause-stays : goal.returns-in-Ok-Some-clause-stays
+returns-in-Ok-Some-clause-stays g c = λ cause is. was_running _ _ cause c.self.view_is c.in_default.is is
+
+pub returns-in-Err-NoMemory-clause-stays : goal.returns-in-Err-NoMemory-clause-stays
+returns-in-Err-NoMemory-clause-stays g c = λ cause is. was_running _ _ cause c.self.view_is c.in_default.is is
+
+pub returns-in-Ok-None-clause-stays : goal.returns-in-Ok-None-clause-stays
+returns-in-Ok-None-clause-stays g c = λ cause is. was_running _ _ cause c.self.view_is c.in_default.is is
+
+pub returns-in-Err-Stopped-clause-stays : goal.returns-in-Err-Stopped-clause-stays
+returns-in-Err-Stopped-clause-stays g c = λ cause is. was_running _ _ cause c.self.view_is c.in_default.is is
