@@ -5,7 +5,7 @@ ghost use Rattle.filter_asm.specs.Number as spec;
 ghost use Rattle.filter_asm.specs.ShortNumber.{below_2_32};
 
 /// A number as it is written: its digit token, after a `-` or not.
-#[derive(Clone, Copy, Debug)]
+#[derive(Clone, Copy)]
 pub(crate) struct Numeral<'a> {
     pub negative: bool,
     pub digits: &'a [u8],

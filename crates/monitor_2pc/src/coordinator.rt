@@ -20,7 +20,7 @@ use std::marker::Model;
 use table_replica::Replica;
 
 /// What core 0 waits for.
-#[derive(Clone, Copy, PartialEq, Eq, Debug)]
+#[derive(Clone, Copy, PartialEq, Eq)]
 enum Wait {
     Nothing,
     Votes,

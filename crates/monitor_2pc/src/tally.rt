@@ -9,7 +9,7 @@ use crate::step::Say;
 use filter_table::Vote;
 
 /// What votes come to.
-#[derive(Clone, Copy, PartialEq, Eq, Debug)]
+#[derive(Clone, Copy)]
 pub(crate) enum Tally {
     /// One is missing.
     Open,
