@@ -1,13 +1,15 @@
 #!/usr/bin/env python3
 """Tries the edits of crates/*/must-fail: with each, the prover must refuse the function that the edit names, by the clause that it names.
 
-    edits/try.py BUILT [CRATE..]
+    edits/try.py BUILT PROVED [CRATE..]
 
-BUILT is a copy of the repository that `rt ci` has just proved; the libraries that the crates use are taken from there.
+BUILT is a copy of the repository that `rt ci` has just proved; the libraries that the crates use are taken from there. PROVED is
+what `rt ci` said, which names the functions that it proved.
 
-`rt ci` would prove the whole crate for its edits once more, and again with each. This proves just the functions that edits name and
-what they call, and all edits of a crate at once: a function's proof rests on the contracts of what it calls and not on the bodies,
-so no edit changes what another comes to. Of two edits in one function, the second is tried after the first.
+`rt ci` would prove the whole crate for its edits once more, and again with each. This proves just the functions that edits name, and
+all edits of a crate at once: a function's proof rests on the contracts of what it calls and not on the bodies, so no edit changes
+what another comes to. What a function calls is proved already: it gets a hole for a proof, by which the prover takes its contract.
+Of two edits in one function, the second is tried after the first.
 
 The last line is `N passed, M failed`."""
 import collections
@@ -38,12 +40,42 @@ def below(built):
     return {words.split()[0]: (names.split(), words.split()[1:]) for words, _, names in split}
 
 
+def proved(said):
+    """The functions that `rt ci` said are proved, by their crates. Closures, which are proved with their functions, are left out."""
+    functions = collections.defaultdict(list)
+    for crate, function in re.findall(r"^fn (\w+)::(\S+): proved$", said, re.MULTILINE):
+        if not re.search(r"\bfn::|\+", function):
+            functions[crate].append(function)
+    return functions
+
+
+def is_recursive(place):
+    """Whether a function whose proof would be at this place is proved with others of a cycle of calls, in a folder beside it."""
+    return any(place.name in cycle.name.split("+") for cycle in place.parent.glob("+*"))
+
+
+def suppose(crate, folder, functions):
+    """Has the contracts of these functions taken without a proof."""
+    for function in functions:
+        place = folder / "proofs" / function.replace("::", "/")
+        if is_recursive(place):
+            continue
+        place.mkdir(parents=True, exist_ok=True)
+        for file in ("Invariants.antt", "Answers.antt"):
+            (place / file).unlink(missing_ok=True)
+        statement = f"Rattle.{crate}.proofs.{function.replace('::', '.')}.Statement"
+        theorem = f"{place.name}_spec"
+        hole = f"use {statement} as stated\n\npub {theorem} : {{M : Type 1}} → stated.statement M\n{theorem} = ?\n"
+        (place / "Proof.antt").write_text(hole, encoding="utf-8")
+
+
 class Prover:
-    def __init__(self, built):
+    def __init__(self, built, said):
         doc = subprocess.run(["rt", "doc"], check=True, capture_output=True, text=True).stdout
         self.kit = pathlib.Path(doc.strip()).parent
         self.built = built.resolve()
         self.below = below(built)
+        self.proved = proved(said)
 
     def words(self, crate):
         """What the prover is told of the crate: its libraries and the program logic, as `rt` tells it."""
@@ -59,9 +91,10 @@ class Prover:
         return words + ["--crate-type", "staticlib"] * ("staticlib" in kind)
 
     def prove(self, crate, folder, functions, kept):
-        """What the prover says of these functions of the crate in this folder. It keeps there what it proved, for the next call."""
+        """What the prover says of these functions of the crate in this folder. It keeps what it proved, for the next call."""
+        suppose(crate, folder, (function for function in self.proved[crate] if function not in functions))
         only = [word for function in sorted(functions) for word in ("--only", function)]
-        words = [self.kit / "bin/rattle", "check", *self.words(crate), "--jobs", "1", "--incremental", kept, *only]
+        words = [self.kit / "bin/rattle", "check", *self.words(crate), "--jobs", "1", "--incremental", kept, "--allow-holes", *only]
         return subprocess.run(words, cwd=folder, stdin=subprocess.DEVNULL, stdout=subprocess.PIPE, stderr=subprocess.STDOUT, text=True, errors="replace")
 
 
@@ -159,8 +192,8 @@ def size(crate):
     return sum(file.stat().st_size for part in PARTS for file in (CRATES / crate / part).rglob("*") if file.is_file())
 
 
-def main(built, *names):
-    prover = Prover(pathlib.Path(built))
+def main(built, said, *names):
+    prover = Prover(pathlib.Path(built), pathlib.Path(said).read_text(encoding="utf-8", errors="replace"))
     # The longest first, so that none is left alone at the end.
     crates = sorted(names or prover.below, key=size, reverse=True)
     edits = {crate: found for crate in crates if (found := edits_of(crate))}
