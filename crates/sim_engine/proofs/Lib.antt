@@ -9,3 +9,4 @@ pub mod First
 pub mod Drained
 pub mod Items
 pub mod Shown
+pub mod Ending

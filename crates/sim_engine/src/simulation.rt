@@ -164,11 +164,18 @@ fn push_taken(alloc: Global, taken: Vec<Done>, text: &mut Vec<u8>) -> Result<(),
     ensures { OnOk result (text.new.items ≡ text.old.items ++ flat_map done_line taken.items) }
 {
     for done in taken {
-        let Done { event, answer } = done;
-        let line = line_of(alloc, &event, &Ok(answer))?;
+        let line = line_of_done(alloc, done)?;
         text.extend_from_slice(line.as_slice())?;
     }
     Ok(())
+}
+
+/// The line of an event that was done.
+fn line_of_done(alloc: Global, done: Done) -> Result<Vec<u8>, AllocError>
+    ensures { IfOk result (λ line. line.items ≡ done_line done) }
+{
+    let Done { event, answer } = done;
+    line_of(alloc, &event, &Ok(answer))
 }
 
 /// Shows a core's table.

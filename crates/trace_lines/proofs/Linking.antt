@@ -1,8 +1,8 @@
 -- The events of a picture, one after the other.
-use Rattle.std.proofs.Common.{◌≡◌, ℕ, suc, ◌+◌, ◌-◌, ◌<◌, ◌≤◌, ◌==◌, ◌&&◌, Bool, true, false, cond, if◌then◌else◌, List, [], ◌∷◌, ◌++◌, length, take, refl, ap, sym, ◌∙◌, subst, arith, append_assoc, length-append, inl, inr, Some, None}
-use Rattle.std.specs.Prelude.{filter, min, not, nat_le, slice_set}
+use Rattle.std.proofs.Common.{◌≡◌, ℕ, suc, ◌+◌, ◌-◌, ◌<◌, ◌≤◌, ◌==◌, ◌&&◌, Bool, true, false, cond, if◌then◌else◌, List, [], ◌∷◌, ◌++◌, length, take, drop, drop-cons, add-one, get_or, Option, refl, ap, sym, ◌∙◌, subst, arith, append_assoc, length-append, inl, inr}
+use Rattle.std.specs.Prelude.{filter, map, not, nat_le, slice_set}
 use Rattle.std.specs.List.{enumerate_from, flat_map, position_or_len}
-use Rattle.std.proofs.lemmas.List.{take-append-le}
+use Rattle.std.proofs.lemmas.List.{append-nil, drop_all, map-append, take-append-le}
 use Rattle.std.proofs.Math.Seq.{take-append-add, take-append_seam}
 use Rattle.std.proofs.lemmas.List.Elements.{filter-append}
 use Rattle.std.proofs.lemmas.Bool.{cases_lt, le-leb, lt-leb, eqb-true, and_parts}
@@ -12,9 +12,12 @@ use Rattle.trace_lines.specs.declared.messages.Effect.{Effect}
 use Rattle.trace_lines.specs.declared.messages.Front.{Front}
 use Rattle.trace_lines.specs.declared.messages.Message.{Message}
 use Rattle.trace_lines.specs.declared.messages.State.{State}
+use Rattle.trace_lines.specs.declared.lines.Line.{Line}
+use Rattle.trace_lines.specs.declared.picture.Row.{Row}
 use Rattle.trace_lines.specs.Lines.{Shown}
-use Rattle.trace_lines.specs.Links.{Drawn, acks, acks_after, asker, asker_after, drawn_from, effect_at, ends_at, is_between, is_under_way, kept, past_after, sends, sent, sent_between, taken, under_way}
+use Rattle.trace_lines.specs.Links.{Drawn, acks, acks_after, asker, asker_after, drawn_from, drawn_of, effect_at, ends_at, highest_of, is_between, is_under_way, kept, left_of, past_after, sender, sends, sent, taken, under_way}
 use Rattle.trace_lines.specs.Following.{Follows, HasTaken, front, is_front}
+use Rattle.trace_lines.specs.Views.{drawn, shown}
 use Rattle.trace_lines.proofs.Fronts.{parts_to}
 
 -- A front that is set
@@ -154,3 +157,33 @@ pub record Linked (highest row : ℕ) (all : List Shown) (rows : List Drawn) (re
   pub drawn : rows ++ drawn_from highest past rest ≡ drawn_from highest [] all
   pub ends : past_after past rest ≡ past_after [] all
   pub follows : Follows highest past state
+
+-- one more event is drawn
+pub linked_next : (highest row : ℕ) (lines : List Line) (rows rows' : List Row) (state state' : State) (d : Line) {from : Option ℕ} → row < length lines
+    → rows' ≡ rows ++ record { row = row; sender = from; line = get_or lines row d } ∷ []
+    → (so : Linked highest row (map shown lines) (map drawn rows) (map shown (drop row lines)) state)
+    → from ≡ sender highest so.past (ends_at (get_or lines row d).event.act (get_or lines row d).event.told)
+    → Follows highest ((get_or lines row d).event ∷ so.past) state'
+    → Linked highest (row + 1) (map shown lines) (map drawn rows') (map shown (drop (row + 1) lines)) state'
+linked_next highest row lines rows rows' state state' d within pushed so sent_by follows =
+    let next : drop row lines ≡ get_or lines row d ∷ drop (row + 1) lines = rw add-one (drop-cons lines row d within) in
+    let before = rw (next, ← so.counted) at so.drawn in
+    record {
+      past = (get_or lines row d).event ∷ so.past;
+      counted = omega arith;
+      drawn = rw (pushed, map-append, append_assoc, sent_by) before;
+      ends = rw next at so.ends;
+      follows = follows;
+    }
+
+-- all are drawn
+pub linked_all : (highest row : ℕ) (lines : List Line) (rows : List Drawn) (state : State) → highest ≡ highest_of (map shown lines) → length lines ≤ row
+    → (so : Linked highest row (map shown lines) rows (map shown (drop row lines)) state)
+    → (rows ≡ drawn_of (map shown lines)) × (under_way highest so.past ≡ left_of (map shown lines))
+linked_all highest row lines rows state is past so =
+    let none = drop_all row lines past in
+    let drawn = rw (none, append-nil) at so.drawn in
+    let ends = rw none at so.ends in (
+      drawn ∙ ap (λ h. drawn_from h [] (map shown lines)) is,
+      ap (under_way highest) ends ∙ ap (λ h. under_way h (past_after [] (map shown lines))) is,
+    )
