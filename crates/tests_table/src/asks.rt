@@ -7,6 +7,7 @@ use bpf_insn::{TextFault, read_ddd};
 use endpoint_caps::Rights;
 use monitor_messages::{Decision, Message, Vote};
 use std::alloc::Global;
+use std::process::Abort;
 use table_replica::{Op, Program};
 
 /// An operation. Programs are decimal texts.
@@ -59,6 +60,11 @@ pub(crate) fn op(alloc: Global, ask: Ask) -> Result<Op, TextFault>
     })
 }
 
+/// The operation, for which there is memory.
+pub(crate) fn asked(rt: &impl Abort, alloc: Global, ask: Ask) -> Op {
+    op(alloc, ask).expect(rt, "there is memory")
+}
+
 /// A message in plain values.
 #[derive(Clone, Copy)]
 pub(crate) enum Sent {
@@ -88,4 +94,11 @@ pub(crate) fn message(alloc: Global, sent: Sent) -> Result<Message, TextFault>
         },
         Sent::Reply(decision) => Message::Reply { decision },
     })
+}
+
+/// The message, for which there is memory.
+pub(crate) fn said(rt: &impl Abort, alloc: Global, sent: Sent) -> Message
+    ensures { IsShort result }
+{
+    message(alloc, sent).expect(rt, "there is memory")
 }

@@ -2,6 +2,7 @@
 use crate::facts::{equal, equal_at};
 use endpoint_caps::{Cap, CapFault, Caps, Right, Rights};
 use std::alloc::Global;
+use std::fmt::Debug;
 use std::process::Abort;
 
 /// A call on a table.
@@ -21,19 +22,20 @@ enum Call {
 type Answer = Result<u32, CapFault>;
 
 fn make(caps: &mut Caps, call: Call) -> Answer {
-    match call {
+    let done = match call {
         Call::Create(domain, endpoint) => return caps.create(domain, endpoint),
         Call::Mint(domain, cap, to, rights) => return caps.mint(domain, cap, to, rights),
         Call::CheckMint(domain, cap, rights) => {
             return Ok(caps.check_mint(domain, cap, rights)?.id);
         }
-        Call::Revoke(domain, cap) => caps.revoke(domain, cap)?,
-        Call::DropCap(domain, cap) => caps.drop_cap(domain, cap)?,
-        Call::May(cap, domain, right) => caps.may(cap, domain, right)?,
-        Call::CheckCreate(endpoint) => caps.check_create(endpoint)?,
-        Call::CheckHolder(domain, cap) => caps.check_holder(domain, cap)?,
-    }
-    Ok(0)
+        Call::Revoke(domain, cap) => caps.revoke(domain, cap),
+        Call::DropCap(domain, cap) => caps.drop_cap(domain, cap),
+        Call::May(cap, domain, right) => caps.may(cap, domain, right),
+        Call::CheckCreate(endpoint) => caps.check_create(endpoint),
+        Call::CheckHolder(domain, cap) => caps.check_holder(domain, cap),
+    };
+    done?;
+    DONE
 }
 
 const DONE: Answer = Ok(0);
@@ -55,13 +57,17 @@ fn cap(row: &Row) -> Cap {
     }
 }
 
-/// The calls answer so, one after the other, and leave these capabilities.
-fn answers(rt: &impl Abort, caps: &mut Caps, run: &Run) {
-    for (number, (call, wanted)) in run.0.iter().enumerate() {
-        equal_at(rt, make(caps, *call), *wanted, &(number, run.1));
+/// The calls answer so, one after the other.
+fn answer<Place: Debug>(rt: &impl Abort, caps: &mut Caps, calls: &[(Call, Answer)], place: &Place) {
+    for (number, (call, wanted)) in calls.iter().enumerate() {
+        equal_at(rt, make(caps, *call), *wanted, &(number, place));
     }
-    equal_at(rt, caps.list().len(), run.1.len(), &run.1);
-    for (held, row) in caps.list().iter().zip(run.1.iter()) {
+}
+
+/// These capabilities are held.
+fn holds_rows(rt: &impl Abort, caps: &Caps, rows: &[Row]) {
+    equal_at(rt, caps.list().len(), rows.len(), &rows);
+    for (held, row) in caps.list().iter().zip(rows.iter()) {
         equal_at(rt, *held, cap(row), row);
         equal_at(rt, caps.get(row.0).copied(), Some(cap(row)), row);
     }
@@ -145,19 +151,21 @@ fn has_same_copy(rt: &impl Abort, alloc: Global, caps: &Caps) {
     equal(rt, copy.next(), caps.next());
 }
 
-fn all_answer(rt: &impl Abort, alloc: Global, caps: &mut Caps, runs: &[Run]) {
-    for run in runs {
-        answers(rt, caps, run);
+/// The calls of each run answer so, and leave the capabilities that it names.
+fn all_answer(rt: &impl Abort, alloc: Global, mut caps: Caps, runs: &[Run]) {
+    for (calls, rows) in runs {
+        answer(rt, &mut caps, calls, rows);
+        holds_rows(rt, &caps, rows);
         equal(rt, caps.get(1000), None);
-        has_same_copy(rt, alloc, caps);
+        has_same_copy(rt, alloc, &caps);
     }
 }
 
 #[test]
 fn derives_and_revokes(rt: HostRuntime) {
     for runs in &TABLES {
-        let mut caps = Caps::new(rt.alloc()).expect(&rt, "there is memory");
-        all_answer(&rt, rt.alloc(), &mut caps, runs);
+        let caps = Caps::new(rt.alloc()).expect(&rt, "there is memory");
+        all_answer(&rt, rt.alloc(), caps, runs);
     }
 }
 
@@ -182,17 +190,11 @@ static LAST_IDS: [(u32, &[(Call, Answer)]); 3] = [
     ),
 ];
 
-fn each_answers(rt: &impl Abort, caps: &mut Caps, calls: &[(Call, Answer)]) {
-    for (number, (call, wanted)) in calls.iter().enumerate() {
-        equal_at(rt, make(caps, *call), *wanted, &number);
-    }
-}
-
 #[test]
 fn ids_are_spent(rt: HostRuntime) {
     for (next, calls) in &LAST_IDS {
         let mut caps = Caps::resume(rt.alloc(), *next).expect(&rt, "there is memory");
-        each_answers(&rt, &mut caps, calls);
+        answer(&rt, &mut caps, calls, next);
     }
 }
 
@@ -213,7 +215,7 @@ fn fills(rt: &impl Abort, caps: &mut Caps) {
     for endpoint in 0..1023u16 {
         equal(rt, caps.create(1, endpoint), Ok(u32::from(endpoint) + 1));
     }
-    each_answers(rt, caps, &FULL);
+    answer(rt, caps, &FULL, &"full");
 }
 
 #[test]
@@ -250,11 +252,14 @@ fn copied_again(rt: &impl Abort, alloc: Global, caps: &Caps) -> Caps {
     }
 }
 
+fn has_same_list_again(rt: &impl Abort, alloc: Global, caps: &Caps) {
+    equal(rt, copied_again(rt, alloc, caps).list(), caps.list());
+}
+
 /// A growth that is refused changes nothing, and the same call again answers as ever.
 #[test]
 fn refused_growth_changes_nothing(rt: HostRuntime) {
     let mut caps = Caps::new(rt.alloc()).expect(&rt, "there is memory");
     fills_again(&rt, &mut caps);
-    let copy = copied_again(&rt, rt.alloc(), &caps);
-    equal(&rt, copy.list(), caps.list());
+    has_same_list_again(&rt, rt.alloc(), &caps);
 }

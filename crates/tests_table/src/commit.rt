@@ -1,8 +1,8 @@
 //! Worked calls of the protocol: what each role answers to messages that fit and to strangers.
-use crate::asks::{Ask, Sent};
-use crate::cores::{Heard, Home, Peer, asked};
+use crate::asks::{Ask, Sent, asked};
+use crate::cores::{Heard, Home, Peer};
 use crate::facts::equal_at;
-use monitor_2pc::{Decision, Message, Say, StartFault, Step, Veto, Vote};
+use monitor_2pc::{Decision, Say, StartFault, Step, Veto, Vote};
 use std::alloc::Global;
 use std::process::Abort;
 use table_replica::{Made, Op, OpFault};
@@ -54,10 +54,7 @@ fn waits(waiting: Option<&Op>) -> Said {
 fn core_0_says(rt: &impl Abort, alloc: Global, home: &mut Home, call: Call) -> Said {
     match call {
         Call::Start(ask) => of_start(home.starts(rt, alloc, ask)),
-        Call::Submit(from, ask) => {
-            let kept = home.core.submit(from, asked(rt, alloc, ask)).is_ok();
-            word(kept, "kept", "stranger")
-        }
+        Call::Submit(from, ask) => word(home.keeps(rt, alloc, from, ask), "kept", "stranger"),
         Call::StartFor(from) => of_start(home.starts_for(alloc, from)),
         Call::Vote(from, txn, vote) => home.hears(from, txn, vote).ok_or("stranger"),
         Call::Ack(from, txn) => home.hears_end(from, txn).ok_or("stranger"),
@@ -248,14 +245,19 @@ static OF_CORE_0: [Run; 7] = [
     ),
 ];
 
+/// Core 0 says this to the calls, one after the other.
+fn says(rt: &impl Abort, alloc: Global, home: &mut Home, (cores, _, calls): Run) {
+    for (number, (call, wanted)) in calls.iter().enumerate() {
+        let found = core_0_says(rt, alloc, home, *call);
+        equal_at(rt, found, *wanted, &(cores, number));
+    }
+}
+
 #[test]
 fn what_core_0_says(rt: HostRuntime) {
-    for (cores, last, calls) in &OF_CORE_0 {
-        let mut home = Home::new(&rt, rt.alloc(), 9, *cores, *last);
-        for (number, (call, wanted)) in calls.iter().enumerate() {
-            let found = core_0_says(&rt, rt.alloc(), &mut home, *call);
-            equal_at(&rt, found, *wanted, &(cores, number));
-        }
+    for run in &OF_CORE_0 {
+        let mut home = Home::new(&rt, rt.alloc(), 9, run.0, run.1);
+        says(&rt, rt.alloc(), &mut home, *run);
         drop(home);
     }
 }
@@ -269,14 +271,10 @@ enum Asks {
     IsOutstanding,
 }
 
-fn submits(peer: &mut Peer, op: Op) -> bool {
-    matches!(peer.core.submit(op), Ok(Message::Submit { .. }))
-}
-
 fn answers(rt: &impl Abort, alloc: Global, peer: &mut Peer, call: Asks) -> Heard {
     let is_done = match call {
         Asks::Answer(sent) => return peer.answers(rt, alloc, sent, false),
-        Asks::Submit(ask) => submits(peer, asked(rt, alloc, ask)),
+        Asks::Submit(ask) => peer.submits(asked(rt, alloc, ask)).is_some(),
         Asks::Reply(decision) => peer.core.reply(&decision).is_ok(),
         Asks::IsOutstanding => peer.core.outstanding(),
     };

@@ -1,16 +1,12 @@
 //! Core 0 and another core, each with its replica.
 
-use crate::asks::{Ask, Sent, message, op};
+use crate::asks::{Ask, Sent, asked, said};
 use crate::facts::equal;
-use monitor_2pc::{Coordinator, Message, Participant, StartFault, Step, Vote};
+use monitor_2pc::{Coordinator, Message, Participant, StartFault, Step, Stranger, Vote};
 use std::alloc::Global;
 use std::marker::Model;
 use std::process::Abort;
 use table_replica::{Op, Replica};
-
-pub(crate) fn asked(rt: &impl Abort, alloc: Global, ask: Ask) -> Op {
-    op(alloc, ask).expect(rt, "there is memory")
-}
 
 /// Core 0 with its replica.
 #[derive(Drop)]
@@ -41,6 +37,11 @@ impl Home {
     pub fn starts(&mut self, rt: &impl Abort, alloc: Global, ask: Ask) -> Result<Step, StartFault> {
         let op = asked(rt, alloc, ask);
         self.core.start(alloc, &mut self.table, &op)
+    }
+
+    /// Whether it keeps the request of the other core.
+    pub fn keeps(&mut self, rt: &impl Abort, alloc: Global, from: u16, ask: Ask) -> bool {
+        self.core.submit(from, asked(rt, alloc, ask)).is_ok()
     }
 
     pub fn starts_for(&mut self, alloc: Global, from: u16) -> Result<Step, StartFault> {
@@ -77,11 +78,12 @@ impl Model for Peer {
 /// What another core answers to a message: its vote or its acknowledgement of a number, or nothing.
 pub(crate) type Heard = (&'static str, u64, Vote);
 
-fn heard_of(answer: &Message) -> Heard {
+fn heard_of(answer: &Result<Message, Stranger>) -> Heard {
     match answer {
-        Message::Vote { txn, vote } => ("vote", *txn, *vote),
-        Message::Ack { txn } => ("ack", *txn, Vote::Yes),
-        _ => ("another message", 0, Vote::Yes),
+        Ok(Message::Vote { txn, vote }) => ("vote", *txn, *vote),
+        Ok(Message::Ack { txn }) => ("ack", *txn, Vote::Yes),
+        Ok(_) => ("another message", 0, Vote::Yes),
+        Err(_) => ("stranger", 0, Vote::Yes),
     }
 }
 
@@ -95,11 +97,21 @@ impl Peer {
 
     /// What it answers, being short of memory or not.
     pub fn answers(&mut self, rt: &impl Abort, alloc: Global, sent: Sent, short: bool) -> Heard {
-        let message = message(alloc, sent).expect(rt, "there is memory");
-        match self.core.answer(alloc, &mut self.table, &message, short) {
-            Ok(answer) => heard_of(&answer),
-            Err(_) => ("stranger", 0, Vote::Yes),
+        let message = said(rt, alloc, sent);
+        heard_of(&self.core.answer(alloc, &mut self.table, &message, short))
+    }
+
+    /// The operation that it sends to core 0; none where it has sent one.
+    pub fn submits(&mut self, op: Op) -> Option<Op> {
+        match self.core.submit(op) {
+            Ok(Message::Submit { op }) => Some(op),
+            _ => None,
         }
+    }
+
+    /// Whether it hands an operation back.
+    pub fn refuses(&mut self, op: Op) -> bool {
+        self.core.submit(op).is_err()
     }
 
     /// Its vote on this number.

@@ -2,20 +2,19 @@
 ghost use Rattle.std.specs.Prelude.{◌≤◌, length};
 ghost use Rattle.monitor_messages.specs.Coding.{IsShort};
 
-use crate::asks::{Ask, Sent, message};
+use crate::asks::{Ask, Sent, message, said};
 use crate::facts::{equal, holds};
 use bpf_insn::Insn;
 use endpoint_caps::Rights;
 use monitor_messages::{Decision, DecodeFault, Message, Veto, Vote, decode, encode};
 use std::alloc::{AllocError, Global};
 use std::process::Abort;
-use std::test::Fail;
 use table_replica::{Made, Op, OpFault, Program};
 
 /// The bytes of the message under stamp 1 are these; they are read back, and so is a copy's. With a byte more, or with one
 /// less, they are no message.
-fn spelled(rt: &impl Abort, alloc: Global, message: &Message, body: &[u8])
-    requires { IsShort message.now }
+fn spelled(rt: &impl Abort, alloc: Global, message: Message, body: &[u8])
+    requires { IsShort message }
 {
     let wanted = stamped(alloc, body).expect(rt, "there is memory");
     copied(rt, alloc, message, &wanted);
@@ -34,21 +33,26 @@ fn stamped(alloc: Global, body: &[u8]) -> Result<Vec<u8>, AllocError> {
     Ok(bytes)
 }
 
+/// The bytes of the message under stamp 1.
+fn bytes_of(rt: &impl Abort, alloc: Global, message: Message) -> Vec<u8>
+    requires { IsShort message }
+{
+    encode(alloc, 1, &message).expect(rt, "there is memory")
+}
+
 /// A copy of the message has these bytes.
-fn copied(rt: &impl Abort, alloc: Global, message: &Message, wanted: &[u8])
-    requires { IsShort message.now }
+fn copied(rt: &impl Abort, alloc: Global, message: Message, wanted: &[u8])
+    requires { IsShort message }
 {
     let copy = message.clone().expect(rt, "there is memory");
-    let bytes = encode(alloc, 1, &copy).expect(rt, "there is memory");
-    equal(rt, bytes.as_slice(), wanted);
+    equal(rt, bytes_of(rt, alloc, copy).as_slice(), wanted);
 }
 
 /// The bytes are read as a message that has them.
 fn read_back(rt: &impl Abort, alloc: Global, wanted: &[u8]) {
     let (stamp, read) = decode(alloc, wanted).expect(rt, "a message");
     equal(rt, stamp, 1);
-    let bytes = encode(alloc, 1, &read).expect(rt, "there is memory");
-    equal(rt, bytes.as_slice(), wanted);
+    equal(rt, bytes_of(rt, alloc, read).as_slice(), wanted);
 }
 
 /// With a byte more they are no message.
@@ -59,10 +63,8 @@ fn one_more(rt: &impl Abort, alloc: Global, mut bytes: Vec<u8>) {
 
 /// The bytes are no message.
 fn bad(rt: &impl Abort, alloc: Global, bytes: &[u8]) {
-    holds(
-        rt,
-        matches!(decode(alloc, bytes), Err(DecodeFault::BadMessage)),
-    );
+    let fault = decode(alloc, bytes).err();
+    equal(rt, fault, Some(DecodeFault::BadMessage));
 }
 
 /// Two instructions.
@@ -200,25 +202,25 @@ fn refusal(alloc: Global, rule: &[u8]) -> Result<Vec<u8>, AllocError> {
     Ok(bytes)
 }
 
+/// A refusal of core 0 by this rule is spelled so.
+fn refusal_spelled(rt: &impl Abort, alloc: Global, fault: OpFault, rule: &[u8]) {
+    let decision = Decision::Refused {
+        core: 0,
+        why: Veto::Rule(fault),
+    };
+    let body = refusal(alloc, rule).expect(rt, "there is memory");
+    spelled(rt, alloc, Message::Reply { decision }, &body);
+}
+
 #[test]
-fn messages_are_spelled(rt: HostRuntime) -> Result<(), Fail> {
+fn messages_are_spelled(rt: HostRuntime) {
     let alloc = rt.alloc();
     for (sent, body) in &SPELLED {
-        spelled(&rt, alloc, &message(alloc, *sent)?, body);
+        spelled(&rt, alloc, said(&rt, alloc, *sent), body);
     }
     for (fault, rule) in &RULES {
-        let decision = Decision::Refused {
-            core: 0,
-            why: Veto::Rule(*fault),
-        };
-        spelled(
-            &rt,
-            alloc,
-            &Message::Reply { decision },
-            &refusal(alloc, rule)?,
-        );
+        refusal_spelled(&rt, alloc, *fault, rule);
     }
-    Ok(())
 }
 
 /// A program of 4,096 instructions is sent in 32,794 bytes, and one of 4,097 is not read.
@@ -260,7 +262,7 @@ fn longest_sent(rt: &impl Abort, alloc: Global) -> Program
         cap: 1,
         program: longest(rt, alloc),
     };
-    let bytes = encode(alloc, 1, &Message::Prepare { txn: 1, op }).expect(rt, "there is memory");
+    let bytes = bytes_of(rt, alloc, Message::Prepare { txn: 1, op });
     equal(rt, bytes.len(), 32_794);
     let program = installed(rt, alloc, &bytes);
     let code = program.as_slice();
@@ -294,7 +296,7 @@ fn longest_replaces(rt: &impl Abort, alloc: Global, program: Program)
     };
     let message = Message::Submit { op };
     let copy = message.clone().expect(rt, "there is memory");
-    let bytes = encode(alloc, 1, &copy).expect(rt, "there is memory");
+    let bytes = bytes_of(rt, alloc, copy);
     equal(rt, bytes.len(), 32_786);
     read_back(rt, alloc, &bytes);
 }
@@ -331,27 +333,41 @@ static BAD: [&[u8]; 21] = [
 /// The head of an Install of 4,097 instructions.
 const TOO_LONG: [u8; 18] = [6, 1, 0, 0, 0, 0, 0, 0, 0, 5, 1, 0, 1, 0, 0, 0, 1, 16];
 
-#[test]
-fn no_messages(rt: HostRuntime) -> Result<(), Fail> {
-    let alloc = rt.alloc();
-    for bytes in &BAD {
-        bad(&rt, alloc, bytes);
-    }
-    let mut long = Vec::from_slice(alloc, &TOO_LONG)?;
+/// An Install of 4,097 instructions.
+fn too_long(alloc: Global) -> Result<Vec<u8>, AllocError> {
+    let mut bytes = Vec::from_slice(alloc, &TOO_LONG)?;
     for _ in 0..4097 {
-        long.extend_from_slice(&[6, 0, 0, 0, 0, 0, 0, 0])?;
+        bytes.extend_from_slice(&[6, 0, 0, 0, 0, 0, 0, 0])?;
     }
-    bad(&rt, alloc, &long);
-    Ok(())
+    Ok(bytes)
+}
+
+#[test]
+fn no_messages(rt: HostRuntime) {
+    for bytes in &BAD {
+        bad(&rt, rt.alloc(), bytes);
+    }
+    let long = too_long(rt.alloc()).expect(&rt, "there is memory");
+    bad(&rt, rt.alloc(), &long);
+}
+
+/// The message, asked for once more where a growth is refused.
+fn said_again(rt: &impl Abort, alloc: Global, sent: Sent) -> Message
+    ensures { IsShort result }
+{
+    match message(alloc, sent) {
+        Ok(message) => message,
+        Err(_) => said(rt, alloc, sent),
+    }
 }
 
 /// The bytes of the message under stamp 1, asked for once more where a growth is refused.
-fn encoded(rt: &impl Abort, alloc: Global, message: &Message) -> Vec<u8>
-    requires { IsShort message.now }
+fn encoded(rt: &impl Abort, alloc: Global, message: Message) -> Vec<u8>
+    requires { IsShort message }
 {
-    match encode(alloc, 1, message) {
+    match encode(alloc, 1, &message) {
         Ok(bytes) => bytes,
-        Err(_) => encode(alloc, 1, message).expect(rt, "there is memory"),
+        Err(_) => bytes_of(rt, alloc, message),
     }
 }
 
@@ -369,13 +385,13 @@ fn decoded(rt: &impl Abort, alloc: Global, bytes: &[u8]) -> (u64, Message)
 }
 
 /// These are the message's bytes, and they are read as a message that has them.
-fn spelled_again(rt: &impl Abort, alloc: Global, message: &Message, wanted: &[u8])
-    requires { IsShort message.now }
+fn spelled_again(rt: &impl Abort, alloc: Global, message: Message, wanted: &[u8])
+    requires { IsShort message }
 {
     equal(rt, encoded(rt, alloc, message).as_slice(), wanted);
     let (stamp, read) = decoded(rt, alloc, wanted);
     equal(rt, stamp, 1);
-    equal(rt, encoded(rt, alloc, &read).as_slice(), wanted);
+    equal(rt, encoded(rt, alloc, read).as_slice(), wanted);
 }
 
 /// Messages with all of their bytes.
@@ -397,14 +413,9 @@ static AGAIN: [(Sent, &[u8]); 2] = [
 
 /// One growth may be refused, whichever it is: the call says so, and the same call again answers as with ample memory.
 #[test]
-fn refused_growths_change_nothing(rt: HostRuntime) -> Result<(), Fail> {
-    let alloc = rt.alloc();
+fn refused_growths_change_nothing(rt: HostRuntime) {
     for (sent, bytes) in &AGAIN {
-        let message = match message(alloc, *sent) {
-            Ok(message) => message,
-            Err(_) => message(alloc, *sent)?,
-        };
-        spelled_again(&rt, alloc, &message, bytes);
+        let message = said_again(&rt, rt.alloc(), *sent);
+        spelled_again(&rt, rt.alloc(), message, bytes);
     }
-    Ok(())
 }

@@ -1,11 +1,10 @@
 //! The worked calls on a replica.
-use crate::asks::{Ask, op, program};
+use crate::asks::{Ask, asked, program};
 use crate::facts::{equal, equal_at, holds};
 use bpf_insn::Insn;
 use endpoint_caps::{Cap, Rights};
 use std::alloc::{AllocError, Global};
 use std::process::Abort;
-use std::test::Fail;
 use table_replica::{Kept, Made, NothingStaged, Op, OpFault, Program, Replica, StageFault};
 
 type Outcome = Result<Made, StageFault>;
@@ -72,6 +71,19 @@ enum Step {
     Filters(&'static [Listed]),
 }
 
+/// A packet of so many bytes of 1.
+fn packet(rt: &impl Abort, alloc: Global, captured: usize) -> Vec<u8> {
+    vec![in alloc; 1u8; captured].expect(rt, "there is memory")
+}
+
+/// Each endpoint keeps so many bytes.
+fn are_kept(rt: &impl Abort, found: &[Kept], wanted: &[(u16, u32)]) {
+    equal_at(rt, found.len(), wanted.len(), &wanted);
+    for (kept, pair) in found.iter().zip(wanted.iter()) {
+        equal_at(rt, (kept.endpoint, kept.kept), *pair, &wanted);
+    }
+}
+
 fn hands(
     rt: &impl Abort,
     alloc: Global,
@@ -79,19 +91,11 @@ fn hands(
     captured: usize,
     wanted: &[(u16, u32)],
 ) {
-    let packet = vec![in alloc; 1u8; captured].expect(rt, "there is memory");
+    let packet = packet(rt, alloc, captured);
     let kept = replica
         .accepting(alloc, packet.as_slice(), 1514)
         .expect(rt, "there is memory");
-    equal_at(rt, kept.len(), wanted.len(), &wanted);
-    for (found, (endpoint, kept)) in kept.iter().zip(wanted.iter()) {
-        equal_at(
-            rt,
-            (found.endpoint, found.kept),
-            (*endpoint, *kept),
-            &wanted,
-        );
-    }
+    are_kept(rt, kept.as_slice(), wanted);
 }
 
 fn lists(rt: &impl Abort, replica: &Replica, wanted: &[Listed]) {
@@ -119,10 +123,6 @@ fn holds_caps(rt: &impl Abort, replica: &Replica, wanted: &[(u32, u16, u16)]) {
     }
 }
 
-fn asked(rt: &impl Abort, alloc: Global, ask: Ask) -> Op {
-    op(alloc, ask).expect(rt, "there is memory")
-}
-
 /// An Install under capability 1, or a Replace of filter 1, by so many instructions.
 fn by_long(rt: &impl Abort, alloc: Global, is_install: bool, count: usize) -> Op {
     let (domain, cap, filter) = (1, 1, 1);
@@ -142,9 +142,42 @@ fn by_long(rt: &impl Abort, alloc: Global, is_install: bool, count: usize) -> Op
     }
 }
 
-fn repeats(rt: &impl Abort, alloc: Global, replica: &mut Replica, op: &Op, times: u32) {
+/// The name of a run, and the number of a step.
+type Place<'a> = (&'a str, usize);
+
+fn does(
+    rt: &impl Abort,
+    alloc: Global,
+    replica: &mut Replica,
+    op: Op,
+    wanted: Outcome,
+    place: &Place<'_>,
+) {
+    equal_at(rt, outcome(rt, alloc, replica, &op), wanted, place);
+}
+
+fn stages(
+    rt: &impl Abort,
+    alloc: Global,
+    replica: &mut Replica,
+    ask: Ask,
+    wanted: Result<(), StageFault>,
+    place: &Place<'_>,
+) {
+    let op = asked(rt, alloc, ask);
+    equal_at(rt, replica.check(alloc, &op), wanted, place);
+    equal_at(rt, replica.stage(alloc, &op), wanted, place);
+}
+
+fn is_at(rt: &impl Abort, replica: &Replica, wanted: (u64, u32), place: &Place<'_>) {
+    let found = (replica.version(), replica.total_instructions());
+    equal_at(rt, found, wanted, place);
+}
+
+fn repeats(rt: &impl Abort, alloc: Global, replica: &mut Replica, ask: Ask, times: u32) {
+    let op = asked(rt, alloc, ask);
     for _ in 0..times {
-        equal(rt, replica.stage(alloc, op), Ok(()));
+        equal(rt, replica.stage(alloc, &op), Ok(()));
         holds(rt, replica.commit().is_ok());
     }
 }
@@ -160,40 +193,27 @@ fn creates(rt: &impl Abort, alloc: Global, replica: &mut Replica, count: u16) {
     }
 }
 
-fn take_step(
-    rt: &impl Abort,
-    alloc: Global,
-    replica: &mut Replica,
-    step: Step,
-    place: &(&str, usize),
-) {
+fn take_step(rt: &impl Abort, alloc: Global, replica: &mut Replica, step: Step, place: &Place<'_>) {
     match step {
         Step::Does(ask, wanted) => {
             let op = asked(rt, alloc, ask);
-            equal_at(rt, outcome(rt, alloc, replica, &op), wanted, place);
+            does(rt, alloc, replica, op, wanted, place);
         }
         Step::InstallsLong(count, wanted) => {
             let op = by_long(rt, alloc, true, count);
-            equal_at(rt, outcome(rt, alloc, replica, &op), wanted, place);
+            does(rt, alloc, replica, op, wanted, place);
         }
         Step::ReplacesLong(count, wanted) => {
             let op = by_long(rt, alloc, false, count);
-            equal_at(rt, outcome(rt, alloc, replica, &op), wanted, place);
+            does(rt, alloc, replica, op, wanted, place);
         }
-        Step::Repeats(ask, times) => repeats(rt, alloc, replica, &asked(rt, alloc, ask), times),
+        Step::Repeats(ask, times) => repeats(rt, alloc, replica, ask, times),
         Step::Creates(count) => creates(rt, alloc, replica, count),
-        Step::Stages(ask, wanted) => {
-            let op = asked(rt, alloc, ask);
-            equal_at(rt, replica.check(alloc, &op), wanted, place);
-            equal_at(rt, replica.stage(alloc, &op), wanted, place);
-        }
+        Step::Stages(ask, wanted) => stages(rt, alloc, replica, ask, wanted, place),
         Step::Commits(wanted) => equal_at(rt, replica.commit(), wanted, place),
         Step::Aborts(wanted) => equal_at(rt, replica.abort(), wanted, place),
         Step::Hands(captured, wanted) => hands(rt, alloc, replica, captured, wanted),
-        Step::Is(version, instructions) => {
-            let found = (replica.version(), replica.total_instructions());
-            equal_at(rt, found, (version, instructions), place);
-        }
+        Step::Is(version, instructions) => is_at(rt, replica, (version, instructions), place),
         Step::Programs(count) => equal_at(rt, replica.distinct_programs(), count, place),
         Step::Caps(wanted) => holds_caps(rt, replica, wanted),
         Step::Filters(wanted) => lists(rt, replica, wanted),
@@ -448,13 +468,17 @@ fn take_steps(rt: &impl Abort, alloc: Global, replica: &mut Replica, name: &str,
     }
 }
 
+fn works(rt: &impl Abort, alloc: Global, (name, budget, steps): Run) {
+    let mut replica = Replica::new(alloc, budget).expect(rt, "there is memory");
+    take_steps(rt, alloc, &mut replica, name, steps);
+    equal_at(rt, replica.budget(), budget, &name);
+    drop(replica);
+}
+
 #[test]
 fn worked_runs(rt: HostRuntime) {
-    for (name, budget, steps) in &RUNS {
-        let mut replica = Replica::new(rt.alloc(), *budget).expect(&rt, "there is memory");
-        take_steps(&rt, rt.alloc(), &mut replica, name, steps);
-        equal_at(&rt, replica.budget(), *budget, name);
-        drop(replica);
+    for run in &RUNS {
+        works(&rt, rt.alloc(), *run);
     }
 }
 
@@ -515,22 +539,31 @@ fn the_last_ids(rt: HostRuntime) {
 
 /// A copy of an operation is the same.
 #[test]
-fn operations_are_copied(rt: HostRuntime) -> Result<(), Fail> {
-    let alloc = rt.alloc();
-    let install = op(alloc, Ask::Install(3, 4, THREE_LONG))?;
+fn operations_are_copied(rt: HostRuntime) {
+    let install = asked(&rt, rt.alloc(), Ask::Install(3, 4, THREE_LONG));
+    let copy = install.clone().expect(&rt, "there is memory");
+    installs_three(&rt, rt.alloc(), &copy);
+}
+
+/// The operation is the Install by domain 3 under capability 4 of three instructions.
+fn installs_three(rt: &impl Abort, alloc: Global, op: &Op) {
     if let Op::Install {
         domain,
         cap,
-        program: copy,
-    } = install.clone()?
+        program,
+    } = op
     {
-        equal(&rt, (domain, cap), (3, 4));
-        equal(&rt, copy.as_slice(), program(alloc, THREE_LONG)?.as_slice());
-        equal(&rt, copy.as_slice().len(), 3);
+        equal(rt, (*domain, *cap), (3, 4));
+        are_three(rt, alloc, program.as_slice());
     } else {
-        holds(&rt, false);
+        holds(rt, false);
     }
-    Ok(())
+}
+
+fn are_three(rt: &impl Abort, alloc: Global, code: &[Insn]) {
+    let three = program(alloc, THREE_LONG).expect(rt, "there is memory");
+    equal(rt, code, three.as_slice());
+    equal(rt, code.len(), 3);
 }
 
 /// A copy of a listed program is the same.

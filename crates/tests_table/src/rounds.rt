@@ -1,10 +1,10 @@
 //! Worked runs of two, three, four and eight cores as calls, a message at a time.
 
-use crate::asks::{Ask, Sent};
-use crate::cores::{Home, Peer, asked};
+use crate::asks::{Ask, Sent, asked};
+use crate::cores::{Home, Peer};
 use crate::facts::{equal, equal_at, holds};
 use endpoint_caps::Rights;
-use monitor_2pc::{Decision, Message, Say, StartFault, Step, Veto, Vote};
+use monitor_2pc::{Decision, Say, StartFault, Step, Veto, Vote};
 use std::alloc::Global;
 use std::process::Abort;
 use table_replica::{Kept, Made, OpFault, Replica};
@@ -49,6 +49,14 @@ fn votes(
     told
 }
 
+/// The outcome that core 0 sends when it has decided.
+fn outcome_of(decided: Step) -> Sent {
+    match decided.say {
+        Some(Say::Commit) => Sent::Commit(decided.txn),
+        _ => Sent::Abort(decided.txn),
+    }
+}
+
 /// Each other core ends the operation, in order; core 0 is idle after the last one, and not before. What core 0 then replies.
 fn ends(
     rt: &impl Abort,
@@ -57,10 +65,7 @@ fn ends(
     peers: &mut [Peer],
     decided: Step,
 ) -> Option<(u16, Decision)> {
-    let outcome = match decided.say {
-        Some(Say::Commit) => Sent::Commit(decided.txn),
-        _ => Sent::Abort(decided.txn),
-    };
+    let outcome = outcome_of(decided);
     let mut told = decided;
     for (from, peer) in (1..8).zip(peers.iter_mut()) {
         holds(rt, !home.core.idle());
@@ -237,16 +242,19 @@ fn agree(rt: &impl Abort, alloc: Global, home: &mut Home, peers: &mut [Peer], ro
     }
 }
 
+fn all_agree(rt: &impl Abort, alloc: Global, (budget, budgets, rows, instructions): Run) {
+    let mut peers = peers(rt, alloc, budgets);
+    let others = budgets.len().min(7) as u16;
+    let mut home = Home::new(rt, alloc, budget, others + 1, 0);
+    agree(rt, alloc, &mut home, &mut peers, rows);
+    are_at(rt, &peers, home.table.version(), instructions);
+    drop((home, peers));
+}
+
 #[test]
 fn rounds_of_requests(rt: HostRuntime) {
-    let alloc = rt.alloc();
-    for (budget, budgets, rows, instructions) in &RUNS {
-        let mut peers = peers(&rt, alloc, budgets);
-        let others = budgets.len().min(7) as u16;
-        let mut home = Home::new(&rt, alloc, *budget, others + 1, 0);
-        agree(&rt, alloc, &mut home, &mut peers, rows);
-        are_at(&rt, &peers, home.table.version(), *instructions);
-        drop((home, peers));
+    for run in &RUNS {
+        all_agree(&rt, rt.alloc(), *run);
     }
 }
 
@@ -294,13 +302,33 @@ fn deliver(rt: &impl Abort, alloc: Global, peers: &[Peer], wanted: Option<Kept>)
 
 /// Sends the creation that core 1 asks for to core 0, which keeps it as waiting.
 fn submits(rt: &impl Abort, alloc: Global, home: &mut Home, peer: &mut Peer) {
-    match peer.core.submit(asked(rt, alloc, CREATE)) {
-        Ok(Message::Submit { op }) => holds(rt, home.core.submit(1, op).is_ok()),
-        _ => rt.abort(),
-    }
+    let sent = peer.submits(asked(rt, alloc, CREATE));
+    let op = sent.expect(rt, "core 1 asks for nothing else");
+    holds(rt, home.core.submit(1, op).is_ok());
     holds(rt, peer.core.outstanding());
-    holds(rt, peer.core.submit(asked(rt, alloc, CREATE)).is_err());
+    holds(rt, peer.refuses(asked(rt, alloc, CREATE)));
 }
+
+const BEGUN: Step = Step {
+    txn: 1,
+    say: Some(Say::Prepare),
+    decided: None,
+    reply: None,
+};
+
+const DECIDED: Step = Step {
+    txn: 1,
+    say: Some(Say::Commit),
+    decided: Some(CAP),
+    reply: None,
+};
+
+const ENDED: Step = Step {
+    txn: 1,
+    say: None,
+    decided: None,
+    reply: Some((1, CAP)),
+};
 
 const TAKEN: Decision = Decision::Refused {
     core: 0,
@@ -327,23 +355,12 @@ fn are_answered(rt: &impl Abort, alloc: Global, home: &mut Home, peer: &mut Peer
 }
 
 fn is_committed_for(rt: &impl Abort, alloc: Global, home: &mut Home, peer: &mut Peer) {
-    let begun = home.starts_for(alloc, 1).expect(rt, "core 0 is idle");
-    equal(rt, (begun.say, begun.reply), (Some(Say::Prepare), None));
+    equal(rt, home.starts_for(alloc, 1), Ok(BEGUN));
     let vote = peer.votes(rt, alloc, 1, CREATE, false);
-    let decided = home.hears(1, 1, vote).expect(rt, "a vote");
-    equal(
-        rt,
-        (decided.say, decided.decided),
-        (Some(Say::Commit), Some(CAP)),
-    );
-    equal(rt, decided.reply, None);
-    equal(
-        rt,
-        peer.answers(rt, alloc, Sent::Commit(1), false),
-        ("ack", 1, Vote::Yes),
-    );
-    let ended = home.hears_end(1, 1).expect(rt, "an acknowledgement");
-    equal(rt, ended.reply, Some((1, CAP)));
+    equal(rt, home.hears(1, 1, vote), Some(DECIDED));
+    let ended = peer.answers(rt, alloc, Sent::Commit(1), false);
+    equal(rt, ended, ("ack", 1, Vote::Yes));
+    equal(rt, home.hears_end(1, 1), Some(ENDED));
     is_replied(rt, peer, &CAP);
 }
 
