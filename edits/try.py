@@ -41,7 +41,7 @@ def below(built):
 
 
 def proved(said):
-    """The functions that `rt ci` said are proved, by their crates. Closures, which are proved with their functions, are left out."""
+    """The functions that `rt ci` said are proved, by their crates. Closures and drops are left out: no file has a proof of one."""
     functions = collections.defaultdict(list)
     for crate, function in re.findall(r"^fn (\w+)::(\S+): proved$", said, re.MULTILINE):
         if not re.search(r"\bfn::|\+", function):
