@@ -1,10 +1,10 @@
 //! Messages through channels of both kinds.
 
-ghost use Rattle.std.specs.Prelude.{IsTrue};
+ghost use Rattle.std.specs.Prelude.{IsTrue, ◌≤◌};
 ghost use Rattle.filter_table.specs.Tables.{HasShortProgram};
 ghost use Rattle.monitor_messages.specs.Coding.{IsShort};
 
-use crate::facts::{equal, holds};
+use crate::facts::equal;
 use monitor_messages::{Message, decode, encode};
 use std::alloc::{AllocError, Global};
 use std::process::Abort;
@@ -33,41 +33,58 @@ fn is_short(message: &Message) -> bool
     }
 }
 
-/// The bytes of the oldest message under stamp 1; of none no byte.
-fn first<C: Channel>(rt: &impl Abort, alloc: Global, channel: &C) -> Vec<u8> {
-    let oldest = channel.first().expect(rt, "there is memory");
-    match oldest {
+/// The bytes of this message under stamp 1; of none no byte.
+fn bytes_of(rt: &impl Abort, alloc: Global, message: &Option<Message>) -> Vec<u8> {
+    match message {
         None => Vec::new(alloc),
         Some(message) => {
-            if !is_short(&message) {
+            if !is_short(message) {
                 rt.abort()
             }
-            encode(alloc, 1, &message).expect(rt, "there is memory")
+            encode(alloc, 1, message).expect(rt, "there is memory")
         }
     }
 }
 
-/// Puts the message of these bytes.
-fn put<C: Channel>(rt: &impl Abort, alloc: Global, channel: &mut C, bytes: &[u8]) {
+/// The oldest message has these bytes under stamp 1; none is there where they are none.
+fn is_first<C: Channel>(rt: &impl Abort, alloc: Global, channel: &C, wanted: &[u8]) {
+    let oldest = channel.first().expect(rt, "there is memory");
+    equal(rt, bytes_of(rt, alloc, &oldest).as_slice(), wanted);
+}
+
+/// A piece of the message of these bytes.
+fn piece_of<C: Channel>(rt: &impl Abort, alloc: Global, channel: &mut C, bytes: &[u8]) -> C::Piece
+    ensures { 1 ≤ C.spare channel.new }
+{
     let (_, message) = decode(alloc, bytes).expect(rt, "a message");
-    let piece = channel.prepare(&message).expect(rt, "there is memory");
-    channel.put(piece);
+    channel.prepare(&message).expect(rt, "there is memory")
+}
+
+/// Puts the messages of these bytes.
+fn put_all<C: Channel>(rt: &impl Abort, alloc: Global, channel: &mut C, messages: &[&[u8]]) {
+    for bytes in messages {
+        let piece = piece_of(rt, alloc, channel, bytes);
+        channel.put(piece);
+    }
+}
+
+/// The messages have these bytes.
+fn are_taken<C: Channel>(rt: &impl Abort, alloc: Global, channel: &mut C, messages: &[&[u8]]) {
+    for bytes in messages {
+        is_first(rt, alloc, channel, bytes);
+        channel.drop_first();
+    }
+    is_first(rt, alloc, channel, &[]);
 }
 
 /// What is put is taken in the same order.
 fn in_order<C: Channel>(rt: &impl Abort, alloc: Global, messages: &[&[u8]]) {
     let mut channel = C::new(alloc).expect(rt, "there is memory");
-    holds(rt, first(rt, alloc, &channel).is_empty());
+    is_first(rt, alloc, &channel, &[]);
     channel.drop_first();
-    holds(rt, first(rt, alloc, &channel).is_empty());
-    for bytes in messages {
-        put(rt, alloc, &mut channel, bytes);
-    }
-    for bytes in messages {
-        equal(rt, first(rt, alloc, &channel).as_slice(), *bytes);
-        channel.drop_first();
-    }
-    holds(rt, first(rt, alloc, &channel).is_empty());
+    is_first(rt, alloc, &channel, &[]);
+    put_all(rt, alloc, &mut channel, messages);
+    are_taken(rt, alloc, &mut channel, messages);
 }
 
 /// A Prepare of a Create, a Reply, a Commit, and a Reply that a program was refused.
@@ -96,18 +113,17 @@ static VOTES: [&[u8]; 3] = [
 ];
 
 /// Of the pieces of these votes only the second is put.
+fn put_one_of_three<C: Channel>(rt: &impl Abort, alloc: Global, channel: &mut C) {
+    let _yes = piece_of(rt, alloc, channel, VOTES[0]);
+    let budget = piece_of(rt, alloc, channel, VOTES[1]);
+    let _memory = piece_of(rt, alloc, channel, VOTES[2]);
+    channel.put(budget);
+}
+
 fn one_of_three<C: Channel>(rt: &impl Abort, alloc: Global) {
     let mut channel = C::new(alloc).expect(rt, "there is memory");
-    let (_, yes) = decode(alloc, VOTES[0]).expect(rt, "a message");
-    let (_, budget) = decode(alloc, VOTES[1]).expect(rt, "a message");
-    let (_, memory) = decode(alloc, VOTES[2]).expect(rt, "a message");
-    let _yes = channel.prepare(&yes).expect(rt, "there is memory");
-    let piece = channel.prepare(&budget).expect(rt, "there is memory");
-    let _memory = channel.prepare(&memory).expect(rt, "there is memory");
-    channel.put(piece);
-    equal(rt, first(rt, alloc, &channel).as_slice(), VOTES[1]);
-    channel.drop_first();
-    holds(rt, first(rt, alloc, &channel).is_empty());
+    put_one_of_three(rt, alloc, &mut channel);
+    are_taken(rt, alloc, &mut channel, &[VOTES[1]]);
 }
 
 #[test]

@@ -82,30 +82,47 @@ fn joined(rt: &impl Abort, alloc: Global, capacity: usize) -> (RingLinks, RingLi
     (first, second)
 }
 
+// The link to core 1 hands this message back.
+fn hands_back(rt: &impl Abort, links: &mut RingLinks, message: Vec<u8>)
+    requires { (1 ≤ vec_len message) × (vec_len message ≤ 32832) }
+{
+    let size = message.len();
+    match links.send(1, message) {
+        Ok(()) => rt.abort(),
+        Err(busy) => equal(rt, busy.0.len(), size),
+    }
+}
+
+// Core 0 is ready for one message, which is to go to core 1.
+fn sent_once(rt: &impl Abort, alloc: Global, first: &mut RingLinks) {
+    holds(rt, first.ready(1));
+    holds(rt, sends(first, 1, message(rt, alloc, 7, 57)));
+    holds(rt, !first.ready(1));
+    hands_back(rt, first, message(rt, alloc, 8, 3));
+}
+
+// The message of core 0 is shown in steps, and taken.
+fn shown_in_steps(rt: &impl Abort, second: &mut RingLinks, wanted: &[u8]) {
+    holds(rt, second.shown(0).is_none());
+    holds(rt, second.pull(0).is_ok());
+    holds(rt, second.shown(0).is_some());
+    holds(rt, shows(second, 0, wanted));
+    holds(rt, takes(second, 0, wanted));
+    holds(rt, shows_none(second, 0));
+}
+
 #[test]
 fn a_message_of_two_lines_through_rings_of_one(rt: HostRuntime) {
     let alloc = rt.alloc();
     let (mut first, mut second) = joined(&rt, alloc, 1);
-    holds(&rt, first.ready(1));
-    holds(&rt, sends(&mut first, 1, message(&rt, alloc, 7, 57)));
-    holds(&rt, !first.ready(1));
-    match first.send(1, message(&rt, alloc, 8, 3)) {
-        Ok(()) => rt.abort(),
-        Err(busy) => equal(&rt, busy.0.len(), 3),
-    }
+    sent_once(&rt, alloc, &mut first);
     first.pump();
     first.pump();
     holds(&rt, shows_none(&mut second, 0));
     holds(&rt, !second.give_up(0));
     first.pump();
     holds(&rt, first.ready(1));
-    holds(&rt, second.shown(0).is_none());
-    holds(&rt, second.pull(0).is_ok());
-    holds(&rt, second.shown(0).is_some());
-    let wanted = message(&rt, alloc, 7, 57);
-    holds(&rt, shows(&mut second, 0, &wanted));
-    holds(&rt, takes(&mut second, 0, &wanted));
-    holds(&rt, shows_none(&mut second, 0));
+    shown_in_steps(&rt, &mut second, &message(&rt, alloc, 7, 57));
 }
 
 #[test]
@@ -123,36 +140,44 @@ fn what_is_taken_begins_what_was_sent(rt: HostRuntime) {
     holds(&rt, shows_none(&mut first, 1));
 }
 
+// There is no link to the peer: none is ready, shows anything or takes a message.
+fn has_no_link<L: Links>(rt: &impl Abort, alloc: Global, links: &mut L, peer: u16) {
+    holds(rt, !links.ready(peer));
+    holds(rt, shows_none(links, peer));
+    holds(rt, !sends(links, peer, message(rt, alloc, 1, 1)));
+}
+
 #[test]
 fn no_link_to_a_core_that_was_not_joined(rt: HostRuntime) {
     let alloc = rt.alloc();
     let mut rings = RingLinks::new(alloc, 1, 3).expect(&rt, "there is memory");
     let mut lists = ListLinks::new(alloc, 1, 3, 2).expect(&rt, "there is memory");
     for peer in [0, 1, 2, 3] {
-        holds(&rt, !rings.ready(peer));
-        holds(&rt, shows_none(&mut rings, peer));
-        holds(&rt, !sends(&mut rings, peer, message(&rt, alloc, 1, 1)));
+        has_no_link(&rt, alloc, &mut rings, peer);
     }
     for peer in [1, 3] {
-        holds(&rt, !lists.ready(peer));
-        holds(&rt, shows_none(&mut lists, peer));
-        holds(&rt, !sends(&mut lists, peer, message(&rt, alloc, 1, 1)));
+        has_no_link(&rt, alloc, &mut lists, peer);
         holds(&rt, lists.give(peer, message(&rt, alloc, 1, 1)).is_err());
         holds(&rt, lists.collect(peer).is_none());
     }
 }
 
-// A link to core 0 whose ring holds lines that were written by hand, by their words 0 and 1.
-fn given_lines(rt: &impl Abort, alloc: Global, heads: &[(u64, u64)]) -> RingLinks {
+// The end of a ring that holds lines that were written by hand, by their words 0 and 1.
+fn received(rt: &impl Abort, alloc: Global, heads: &[(u64, u64)]) -> Receiver {
     let slots = RingBuffer::<Line>::new(alloc, 8);
     let (mut producer, consumer) = slots.expect(rt, "there is memory");
     let joiner = Joiner::new(alloc).expect(rt, "there is memory");
     for (head, word) in heads {
         let _ = producer.push([*head, *word, 0, 0, 0, 0, 0, 0]);
     }
+    Receiver::new(consumer, joiner)
+}
+
+// A link to core 0 from which these lines come.
+fn given_lines(rt: &impl Abort, alloc: Global, heads: &[(u64, u64)]) -> RingLinks {
     let (sender, _) = ring(alloc, 1).expect(rt, "there is memory");
     let mut links = RingLinks::new(alloc, 1, 2).expect(rt, "there is memory");
-    links.join(0, sender, Receiver::new(consumer, joiner));
+    links.join(0, sender, received(rt, alloc, heads));
     links
 }
 
@@ -184,6 +209,17 @@ fn a_faulty_line_after_a_message(rt: HostRuntime) {
     holds(&rt, stopped_at(&mut links, 0, LineFault::OutOfSequence));
 }
 
+// The list of core 1 hands this message back.
+fn is_given_back(rt: &impl Abort, links: &mut ListLinks, message: Vec<u8>)
+    requires { (1 ≤ vec_len message) × (vec_len message ≤ 32832) }
+{
+    let size = message.len();
+    match links.give(1, message) {
+        Ok(()) => rt.abort(),
+        Err(busy) => equal(rt, busy.0.len(), size),
+    }
+}
+
 #[test]
 fn lists_of_two_messages(rt: HostRuntime) {
     let alloc = rt.alloc();
@@ -197,20 +233,22 @@ fn lists_of_two_messages(rt: HostRuntime) {
     holds(&rt, links.ready(1));
     holds(&rt, !links.ready(2));
     holds(&rt, !sends(&mut links, 2, message(&rt, alloc, 3, 1)));
-    match links.give(1, message(&rt, alloc, 3, 2)) {
-        Ok(()) => rt.abort(),
-        Err(busy) => equal(&rt, busy.0.len(), 2),
-    }
+    is_given_back(&rt, &mut links, message(&rt, alloc, 3, 2));
     collected_in_order(&rt, &mut links);
     taken_in_order(&rt, &mut links);
 }
 
+// Whether these bytes are there.
+fn are(got: Option<&[u8]>, wanted: &[u8]) -> bool {
+    got == Some(wanted)
+}
+
 // Collects what was sent to core 2.
 fn collected_in_order(rt: &impl Abort, links: &mut ListLinks) {
-    holds(rt, links.collect(2) == Some(&[1]));
-    holds(rt, links.last_collected(2) == Some(&[1]));
+    holds(rt, are(links.collect(2), &[1]));
+    holds(rt, are(links.last_collected(2), &[1]));
     holds(rt, links.mark_collected(2));
-    holds(rt, links.last_collected(2) == Some(&[2]));
+    holds(rt, are(links.last_collected(2), &[2]));
     holds(rt, !links.mark_collected(2));
     holds(rt, links.collect(2).is_none());
     holds(rt, !links.ready(2));
@@ -221,7 +259,7 @@ fn taken_in_order(rt: &impl Abort, links: &mut ListLinks) {
     holds(rt, shows(links, 1, &[1, 1, 1]));
     holds(rt, takes(links, 1, &[1, 1, 1]));
     holds(rt, links.pull(1).is_ok());
-    holds(rt, links.shown(1) == Some(&[2, 2, 2]));
+    holds(rt, are(links.shown(1), &[2, 2, 2]));
     holds(rt, links.give_up(1));
     holds(rt, !links.give_up(1));
     holds(rt, shows_none(links, 1));

@@ -123,37 +123,65 @@ fn the_line_of_a_message(rt: HostRuntime) {
     equal(&rt, line_at(&message, 0, 0), words);
 }
 
+// A line of these words 0 and 1, which has nothing else.
+fn line(head: u64, word: u64) -> Line {
+    [head, word, 0, 0, 0, 0, 0, 0]
+}
+
+// The first line has this fault, and so has each line after it.
+fn stops_at(rt: &impl Abort, alloc: Global, first: &Line, fault: LineFault) {
+    let mut joiner = Joiner::new(alloc).expect(rt, "there is memory");
+    equal(rt, joiner.line(first), Err(fault));
+    equal(rt, joiner.line(&line(4294967296, 5)), Err(fault));
+    equal(rt, joiner.fault(), Some(fault));
+    holds(rt, joiner.message().is_none());
+}
+
+// A first line that is a whole message of one byte.
+fn one_byte(rt: &impl Abort, alloc: Global) {
+    let mut joiner = Joiner::new(alloc).expect(rt, "there is memory");
+    equal(rt, joiner.line(&line(4294967296, 5)), Ok(true));
+    holds(rt, joiner.message() == Some(&[5]));
+    equal(rt, joiner.fault(), None);
+}
+
 #[test]
 fn faults_of_a_first_line(rt: HostRuntime) {
     let alloc = rt.alloc();
-    let mut first = Joiner::new(alloc).expect(&rt, "there is memory");
-    equal(
-        &rt,
-        first.line(&[4294967296, 5, 0, 0, 0, 0, 0, 0]),
-        Ok(true),
-    );
-    holds(&rt, first.message() == Some(&[5]));
-    equal(&rt, first.fault(), None);
+    one_byte(&rt, alloc);
     for (head, word, fault) in [
         (4294967296, 261, LineFault::BadLength),
         (0, 0, LineFault::BadLength),
         (141016661229568, 0, LineFault::BadLength),
         (4294967297, 261, LineFault::OutOfSequence),
     ] {
-        let mut joiner = Joiner::new(alloc).expect(&rt, "there is memory");
-        equal(
-            &rt,
-            joiner.line(&[head, word, 0, 0, 0, 0, 0, 0]),
-            Err(fault),
-        );
-        equal(
-            &rt,
-            joiner.line(&[4294967296, 5, 0, 0, 0, 0, 0, 0]),
-            Err(fault),
-        );
-        equal(&rt, joiner.fault(), Some(fault));
-        holds(&rt, joiner.message().is_none());
+        stops_at(&rt, alloc, &line(head, word), fault);
     }
+}
+
+// Nothing is there.
+fn is_empty(rt: &impl Abort, receiver: &mut Receiver) {
+    holds(rt, receiver.pull().is_ok());
+    holds(rt, receiver.shown().is_none());
+    holds(rt, !receiver.give_up());
+}
+
+// The first message is shown until it is given up.
+fn given_up_once(rt: &impl Abort, receiver: &mut Receiver) {
+    holds(rt, receiver.pull().is_ok());
+    holds(rt, receiver.pull().is_ok());
+    holds(rt, receiver.shown() == Some(&[5]));
+    holds(rt, receiver.give_up());
+    holds(rt, receiver.shown().is_none());
+    holds(rt, receiver.last() == Some(&[5]));
+}
+
+// A line is out of sequence, and nothing is there.
+fn is_stopped(rt: &impl Abort, receiver: &mut Receiver) {
+    equal(rt, receiver.pull(), Err(LineFault::OutOfSequence));
+    equal(rt, receiver.pull(), Err(LineFault::OutOfSequence));
+    holds(rt, receiver.shown().is_none());
+    holds(rt, !receiver.give_up());
 }
 
 #[test]
@@ -161,23 +189,31 @@ fn a_look_and_a_take_in_steps(rt: HostRuntime) {
     let alloc = rt.alloc();
     let (mut producer, consumer) = RingBuffer::<Line>::new(alloc, 8).expect(&rt, "there is memory");
     let mut receiver = Receiver::new(consumer, Joiner::new(alloc).expect(&rt, "there is memory"));
-    holds(&rt, receiver.pull().is_ok());
-    holds(&rt, receiver.shown().is_none());
-    holds(&rt, !receiver.give_up());
+    is_empty(&rt, &mut receiver);
     for (head, word) in [(4294967296, 5), (4294967297, 6), (4294967297, 7)] {
-        holds(&rt, producer.push([head, word, 0, 0, 0, 0, 0, 0]).is_ok());
+        holds(&rt, producer.push(line(head, word)).is_ok());
     }
-    holds(&rt, receiver.pull().is_ok());
-    holds(&rt, receiver.pull().is_ok());
-    holds(&rt, receiver.shown() == Some(&[5]));
-    holds(&rt, receiver.give_up());
-    holds(&rt, receiver.shown().is_none());
-    holds(&rt, receiver.last() == Some(&[5]));
+    given_up_once(&rt, &mut receiver);
     holds(&rt, takes(&mut receiver, &[6]));
-    equal(&rt, receiver.pull(), Err(LineFault::OutOfSequence));
-    equal(&rt, receiver.pull(), Err(LineFault::OutOfSequence));
-    holds(&rt, receiver.shown().is_none());
-    holds(&rt, !receiver.give_up());
+    is_stopped(&rt, &mut receiver);
+}
+
+// The sender pushes so many lines, and says whether the message has gone out whole.
+fn pushes(rt: &impl Abort, sender: &mut Sender, lines: u32, whole: bool)
+    ensures { SameSender sender.old sender.new }
+{
+    equal(rt, sender.push_some(), Pushed { lines, whole });
+}
+
+// The sender hands this message back.
+fn hands_back(rt: &impl Abort, sender: &mut Sender, message: Vec<u8>)
+    requires { (1 ≤ vec_len message) × (vec_len message ≤ 32832) }
+{
+    let size = message.len();
+    match sender.offer(message) {
+        Ok(()) => rt.abort(),
+        Err(busy) => equal(rt, busy.0.len(), size),
+    }
 }
 
 #[test]
@@ -186,35 +222,11 @@ fn a_ring_of_one(rt: HostRuntime) {
     let (mut sender, mut receiver) = ring(alloc, 1).expect(&rt, "there is memory");
     let wanted = message(&rt, alloc, 57);
     holds(&rt, sender.offer(message(&rt, alloc, 57)).is_ok());
-    equal(
-        &rt,
-        sender.push_some(),
-        Pushed {
-            lines: 1,
-            whole: false,
-        },
-    );
-    equal(
-        &rt,
-        sender.push_some(),
-        Pushed {
-            lines: 0,
-            whole: false,
-        },
-    );
-    match sender.offer(message(&rt, alloc, 3)) {
-        Ok(()) => rt.abort(),
-        Err(busy) => equal(&rt, busy.0.len(), 3),
-    }
+    pushes(&rt, &mut sender, 1, false);
+    pushes(&rt, &mut sender, 0, false);
+    hands_back(&rt, &mut sender, message(&rt, alloc, 3));
     holds(&rt, shows_none(&mut receiver));
-    equal(
-        &rt,
-        sender.push_some(),
-        Pushed {
-            lines: 1,
-            whole: true,
-        },
-    );
+    pushes(&rt, &mut sender, 1, true);
     holds(&rt, shows(&mut receiver, &wanted));
 }
 
@@ -230,7 +242,17 @@ fn size_of(number: u64) -> usize
     }
 }
 
-// Sends messages with the numbers from 0 on, each of bytes that are its number modulo 251, and says how many went out.
+// Whether the sender takes message number `number`, of bytes that are its number modulo 251.
+fn offers(alloc: Global, sender: &mut Sender, number: u64) -> bool
+    ensures { SameSender sender.old sender.new }
+{
+    match vec![in alloc; (number % 251) as u8; size_of(number)] {
+        Ok(message) => sender.offer(message).is_ok(),
+        Err(_) => false,
+    }
+}
+
+// Sends messages with the numbers from 0 on, and says how many went out.
 // It ends where the other thread has.
 fn send_all(
     rt: &impl Wait,
@@ -254,10 +276,7 @@ fn send_all(
         if number >= count {
             return (sender, number);
         }
-        let Ok(message) = vec![in alloc; (number % 251) as u8; size_of(number)] else {
-            break;
-        };
-        if sender.offer(message).is_err() {
+        if !offers(alloc, &mut sender, number) {
             break;
         }
         number += 1;
