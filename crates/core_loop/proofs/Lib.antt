@@ -7,3 +7,5 @@ pub mod Acting
 pub mod Resting
 pub mod Order
 pub mod Silent
+pub mod Answering
+pub mod Receipting

@@ -13,6 +13,8 @@ use Rattle.core_links.specs.declared.list_links.ListLinks.{ListLinks}
 use Rattle.core_links.specs.ListSlots.{list_view, SameLists, GivesMessage}
 use Rattle.core_loop.specs.declared.part.Part.{Part}
 use Rattle.core_loop.specs.declared.cause.Cause.{Cause}
+use Rattle.core_loop.specs.declared.cause.Turn.{Turn}
+use Rattle.core_loop.specs.declared.cause.Turn.TheVariants.{Did}
 use Rattle.core_loop.specs.declared.part.Part.TheVariants as part
 use Rattle.core_loop.specs.Coded.{AreCoded}
 use Rattle.core_loop.specs.Standing.{IsSilent}
@@ -108,8 +110,16 @@ seen_same same i old new e h = rw (← e) h
 pub seen_idle : {L : Type 0} (view : L → ℕ → LinkView) (i old new : CoreState L) → i ≡ old → NothingDone view i new → NothingDone view old new
 seen_idle view i old new e h = rw (← e) h
 
-pub seen_done : {L : Type 0} (view : L → ℕ → LinkView) (i old new : CoreState L) → i ≡ old → DidOne view i new → DidOne view old new
-seen_done view i old new e h = rw (← e) h
+pub seen_done : {L : Type 0} (view : L → ℕ → LinkView) (i old new : CoreState L) (s t : Stamped) → s ≡ t → i ≡ old → DidOne view i new s → DidOne view old new t
+seen_done view i old new s t same e h = subst (λ (x : Stamped). DidOne view old new x) same (subst (λ c. DidOne view c new s) e h)
+
+-- a turn that did the one event did the other
+abbrev event_of : Stamped → Turn → Stamped
+event_of other (Did s) = s
+event_of other t = other
+
+pub did_is : (s t : Stamped) → Did s ≡ Did t → s ≡ t
+did_is s t e = ap (event_of s) e
 
 -- a core that was running was not stopped
 pub was_running : {L : Type 0} {A : Type 0} (i old : CoreState L) (cause : Cause) → i ≡ old → i.stopped ≡ None → old.stopped ≡ Some cause → A

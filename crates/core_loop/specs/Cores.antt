@@ -71,10 +71,9 @@ pub record NothingDone {L : Type 0} (view : L → ℕ → LinkView) (old new : C
   pub jobs : jobs_taken new.intake ≡ jobs_taken old.intake
   pub seen : IsPrefix (jobs_seen old.intake) (jobs_seen new.intake)
 
--- the turn did one event, which is the last of the history: the first that could be done, by Event's case for this core, on its replica and the
+-- the turn did this event, which is the last of the history: the first that could be done, by Event's case for this core, on its replica and the
 -- next message, request or job
-pub record DidOne {L : Type 0} (view : L → ℕ → LinkView) (old new : CoreState L) : Type 0 where
-  pub s : Stamped
+pub record DidOne {L : Type 0} (view : L → ℕ → LinkView) (old new : CoreState L) (s : Stamped) : Type 0 where
   pub history : new.history ≡ old.history ++ s ∷ []
   pub clock : new.clock ≡ s.stamp
   pub acts : ActsFirst old.number old.cores old.clock old.pending (view old.links) (view new.links) old.part new.part s

@@ -11,3 +11,5 @@ pub mod Choosing
 pub mod Turning
 pub mod Receipts
 pub mod Cores
+pub mod Receiving
+pub mod Answering

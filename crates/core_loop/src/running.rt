@@ -1,15 +1,17 @@
-//! One core: its links, its jobs, its part in the protocol and its history.
+//! One core: its links, its jobs, its part in the protocol, and its history, which only proofs read.
 
 ghost use Rattle.std.specs.Prelude.{◌≡◌, ◌<◌, ◌≤◌, ℕ};
 
 use crate::cause::{Cause, Turn};
 use crate::context::Context;
+use crate::noting::noted;
 use crate::part::Part;
 use crate::refusal::Halt;
 use crate::sending::all_ready;
 use crate::turning::next_event;
 use core_links::Links;
 use filter_table::Op;
+use ghost_log::Log;
 use rx_queue::{Intake, Job, Port};
 use std::alloc::{AllocError, Global};
 use std::collections::VecDeque;
@@ -17,7 +19,7 @@ use std::marker::Model;
 use table_replica::Replica;
 use world_histories::Stamped;
 
-/// A core with its history.
+/// A core. Its history is a list that only proofs read, so its memory doesn't grow with what it does.
 #[derive(Drop)]
 pub struct Core<L: Links> {
     pub(crate) alloc: Global,
@@ -28,7 +30,7 @@ pub struct Core<L: Links> {
     pub(crate) clock: u64,
     pub(crate) requests: VecDeque<Op>,
     pub(crate) intake: Intake,
-    pub(crate) history: Vec<Stamped>,
+    pub(crate) history: Log<Stamped>,
     pub(crate) stopped: Option<Cause>,
 }
 
@@ -49,6 +51,7 @@ impl<L: Links> Core<L> {
     ghost use mathlib.Core.List.{IsPrefix};
     ghost use Rattle.rx_queue.specs.Queue.{jobs_put, jobs_seen, jobs_taken, AreEnds, SamePort, SameIntake};
     ghost use Rattle.rx_queue.specs.declared.job.Job.{Job as GhostJob};
+    ghost use Rattle.world_histories.specs.declared.history.Stamped.{Stamped as GhostStamped};
     ghost use Rattle.core_loop.specs.declared.cause.Cause.{Cause as GhostCause};
     ghost use Rattle.core_loop.specs.declared.cause.Turn.TheVariants.{Did, Idle, Stopped, Spent, NoMemory};
     ghost use Rattle.core_loop.specs.Cores.{Stands, AreShort, SameCore, NothingDone, DidOne, CanReceive, begun};
@@ -90,38 +93,16 @@ impl<L: Links> Core<L> {
             clock: 0,
             requests,
             intake,
-            history: Vec::new(alloc),
+            history: Log::new(),
             stopped: None,
         })
     }
 
-    /// What the core did, in order.
-    pub fn history(&self) -> &[Stamped]
-        ensures history { result.now ≡ self.now.history }
-        ensures stands { Stands L.view self.now }
+    /// The core's history leads to where it stands. A law: nothing is done.
+    pub fn stands(&self)
+        ensures { Stands L.view self.now }
     {
-        self.history.as_slice()
-    }
-
-    /// What the core did, in order.
-    pub fn into_history(self) -> Vec<Stamped>
-        ensures history { result.items ≡ self.history }
-        ensures stands { Stands L.view self }
-    {
-        let Core {
-            alloc: _,
-            number: _,
-            cores: _,
-            links,
-            part,
-            clock: _,
-            requests,
-            intake,
-            history,
-            stopped: _,
-        } = self;
-        drop((links, part, requests, intake));
-        history
+        let _ = &self.part;
     }
 
     /// Does one event at most, without waiting: it takes the next message of the least peer that has one, where the links that
@@ -131,8 +112,8 @@ impl<L: Links> Core<L> {
     pub fn turn(&mut self, rx: bool) -> Turn
         ensures core { SameCore L.same self.old self.new }
         ensures requests { begun self.new.history ++ self.new.pending ≡ begun self.old.history ++ self.old.pending }
-        ensures did { result ≡ Did → DidOne L.view self.old self.new }
-        ensures other { result ≢ Did → NothingDone L.view self.old self.new }
+        ensures did { (s : GhostStamped) → result ≡ Did s → DidOne L.view self.old self.new s }
+        ensures other { ((s : GhostStamped) → result ≢ Did s) → NothingDone L.view self.old self.new }
         ensures stays { (cause : GhostCause) → self.old.stopped ≡ Some cause → (result ≡ Stopped cause) × (self.new ≡ self.old) }
         ensures stopped { (cause : GhostCause) → result ≡ Stopped cause → self.new.stopped ≡ Some cause }
         ensures running { ((cause : GhostCause) → result ≢ Stopped cause) → (self.old.stopped ≡ None) × (self.new.stopped ≡ None) }
@@ -157,15 +138,14 @@ impl<L: Links> Core<L> {
             &mut self.links,
             &mut self.requests,
             &mut self.intake,
-            &mut self.history,
             context,
             rx,
         ) {
             Ok(None) => Turn::Idle,
             Ok(Some(stamped)) => {
                 self.clock = stamped.stamp;
-                self.history.push_reserved(stamped);
-                Turn::Did
+                self.history = noted(&self.history, &stamped);
+                Turn::Did(stamped)
             }
             Err(Halt::Spent) => Turn::Spent,
             Err(Halt::NoMemory) => Turn::NoMemory,

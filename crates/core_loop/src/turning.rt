@@ -1,6 +1,6 @@
 //! The next event of a core.
 
-ghost use Rattle.std.specs.Prelude.{◌≡◌, ◌≤◌, ◌<◌, ◌⊎◌, ◌++◌, ℕ, None, IfErr, IsSome, IsTrue, IsFalse, vec_len, vec_capacity};
+ghost use Rattle.std.specs.Prelude.{◌≡◌, ◌≤◌, ◌⊎◌, ◌++◌, ℕ, None, IfErr, IsSome, IsTrue, IsFalse};
 ghost use mathlib.Core.List.{IsPrefix};
 ghost use Rattle.rx_queue.specs.Queue.{jobs_seen, jobs_taken, SameIntake};
 ghost use Rattle.core_loop.specs.declared.refusal.Halt.TheVariants.{NoMemory};
@@ -24,14 +24,13 @@ use rx_queue::Intake;
 use std::collections::VecDeque;
 use world_histories::Stamped;
 
-/// Does the next event of a core, if there is one, and leaves room for it in the history. It takes no memory where there is
-/// no message, no request and no job that it can receive.
+/// Does the next event of a core, if there is one. It takes no memory where there is no message, no request and no job that it
+/// can receive.
 pub(crate) fn next_event<L: Links>(
     part: &mut Part,
     links: &mut L,
     requests: &mut VecDeque<Op>,
     intake: &mut Intake,
-    history: &mut Vec<Stamped>,
     context: Context,
     rx: bool,
 ) -> Result<Option<Stamped>, Halt>
@@ -42,8 +41,6 @@ pub(crate) fn next_event<L: Links>(
     ensures requests { OnEvent result (λ s. requests.old.items ≡ begins s.done.event ++ requests.new.items) }
     ensures jobs { OnEvent result (λ s. jobs_taken intake.new ≡ jobs_taken intake.old ++ receives s.done.event) }
     ensures whole { OnEvent result (λ s. IsUnshortened s.done.event) }
-    ensures room { OnEvent result (λ _. vec_len history.new < vec_capacity history.new) }
-    ensures history { history.new.items ≡ history.old.items }
     ensures links { L.same links.old links.new }
     ensures queue { SameIntake intake.old intake.new }
     ensures quiet { OnNone result ((p : ℕ) → Quiet (L.view links.old p) (L.view links.new p)) }
@@ -63,9 +60,6 @@ pub(crate) fn next_event<L: Links>(
     };
     if !has_work(part, requests, intake, shown, context.cores, rx) {
         return Ok(None);
-    }
-    if history.reserve(1).is_err() {
-        return Err(Halt::NoMemory);
     }
     first_event(part, links, requests, intake, shown, context, rx)
 }

@@ -4,6 +4,7 @@ use seq::Seq;
 
 /// An endpoint that gets a packet.
 #[derive(Clone, Copy, PartialEq, Eq, Debug)]
+#[repr(C)]
 pub struct Kept {
     pub endpoint: u16,
     /// How many of the packet's bytes it keeps.

@@ -32,4 +32,14 @@ impl<T> Log<T> {
     {
         Log { of: PhantomData }
     }
+
+    /// The list with one item more at its end, which a proof names.
+    pub fn with(&self) -> Log<T>
+        ghost item: { T }
+        ensures { result.items ≡ self.now.items ++ item ∷ [] }
+    {
+        Log { of: PhantomData }
+    }
 }
+
+unsafe impl<T: Send> Send for Log<T> {}

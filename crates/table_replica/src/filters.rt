@@ -8,7 +8,7 @@ ghost use Rattle.bpf_insn.specs.declared.insn.Insn.{Insn as GhostInsn};
 ghost use Rattle.table_replica.specs.declared.filters.Row.{Row as GhostRow};
 ghost use Rattle.table_replica.specs.Lent.{shown_filter, IsIn, AreDifferent};
 ghost use Rattle.filter_table.specs.Tables.{instructions_of, replaced, filter_at};
-ghost use Rattle.std.specs.Prelude.{leb};
+ghost use Rattle.std.specs.Prelude.{leb, OnOk};
 ghost use Rattle.std.specs.Iterator.{YieldsFirstBy, item_count};
 ghost use Rattle.std.specs.Prelude.{map};
 ghost use Rattle.std.specs.Option.{option_map};
@@ -19,6 +19,7 @@ use crate::Kept;
 use crate::programs::{Programs, Shared};
 use crate::reaches::{
     Reach, add_reach, all_reaches, moved_reaches, reaches_and, reaches_without, receivers,
+    receivers_with,
 };
 use bpf_insn::Insn;
 use endpoint_caps::Caps;
@@ -40,6 +41,24 @@ pub struct Filter<'a> {
     pub endpoint: u16,
     /// Which packets it accepts, and how much of them.
     pub program: &'a Verified,
+}
+
+/// Lists that are used again from packet to packet, so that a receipt takes no memory once they are long enough.
+#[derive(Drop)]
+pub struct Scratch {
+    verdicts: Vec<Option<u32>>,
+    /// The endpoints that get the packet, once it is received.
+    pub kept: Vec<Kept>,
+}
+
+impl Scratch {
+    /// Empty lists.
+    pub fn new(alloc: Global) -> Scratch {
+        Scratch {
+            verdicts: Vec::new(alloc),
+            kept: Vec::new(alloc),
+        }
+    }
 }
 
 /// A filter with the place of its program.
@@ -205,6 +224,25 @@ impl Filters {
         ensures { IfOk result (λ kept. AreReceivers self.now.under.held self.now.listed (record { bytes = bytes.now; original = original }) kept.items) }
     {
         receivers(alloc, &self.reaches, &self.programs, bytes, original)
+    }
+
+    /// The same in place of what the scratch kept.
+    pub(crate) fn accepting_with(
+        &self,
+        scratch: &mut Scratch,
+        bytes: &[u8],
+        original: u32,
+    ) -> Result<(), AllocError>
+        ensures { OnOk result (AreReceivers self.now.under.held self.now.listed (record { bytes = bytes.now; original = original }) scratch.new.kept.items) }
+    {
+        receivers_with(
+            &self.reaches,
+            &self.programs,
+            bytes,
+            original,
+            &mut scratch.verdicts,
+            &mut scratch.kept,
+        )
     }
 
     /// How many different programs the filters have.

@@ -13,7 +13,7 @@ mod replica;
 use contents::Contents;
 pub use filter_table::{Kept, Made, Op, OpFault, Program, StageFault};
 use filters::Filters;
-pub use filters::{Filter, FilterIter};
+pub use filters::{Filter, FilterIter, Scratch};
 pub use replica::Replica;
 
 /// Nothing is staged.

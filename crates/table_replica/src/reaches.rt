@@ -1,5 +1,5 @@
 //! Which endpoints get what which programs accept.
-ghost use Rattle.std.specs.Prelude.{◌≡◌, ◌==◌, ◌+◌, ◌<◌, ◌≤◌, ◌++◌, [], ◌∷◌, List, length, map, filter, min, not, IsTrue, ◌↔◌, IfOk, OnOk, slice_index_or};
+ghost use Rattle.std.specs.Prelude.{◌≡◌, ◌==◌, ◌+◌, ◌<◌, ◌≤◌, ◌++◌, [], ◌∷◌, List, length, map, filter, min, not, IsTrue, ◌↔◌, IfOk, OnOk, None, replicate, slice_index_or};
 ghost use Rattle.std.specs.List.{All, Contains};
 ghost use Rattle.std.specs.List.Sorted.{IsNonDecreasingBy};
 ghost use Rattle.table_replica.specs.declared.filters.Row.{Row as GhostRow};
@@ -144,6 +144,45 @@ pub(crate) fn moved_reaches(
     Ok(after)
 }
 
+/// No verdict yet for so many programs. Takes memory only where there were never so many.
+fn forget(verdicts: &mut Vec<Option<u32>>, count: usize) -> Result<(), AllocError>
+    ensures { OnOk result (verdicts.new.items ≡ replicate count None) }
+{
+    verdicts.clear();
+    verdicts.resize(count, None)?;
+    Ok(())
+}
+
+/// The endpoints that get a packet, in increasing order, in place of what `kept` had. Each program that has a reach runs once, and its verdict
+/// is noted. Takes memory only where the lists are too short for the packet.
+pub(crate) fn receivers_with(
+    reaches: &[Reach],
+    programs: &Programs,
+    bytes: &[u8],
+    original: u32,
+    verdicts: &mut Vec<Option<u32>>,
+    kept: &mut Vec<Kept>,
+) -> Result<(), AllocError>
+    requires placed { All (λ reach. reach.program < length programs.now) reaches.now }
+    requires ordered { IsNonDecreasingBy (λ reach. reach.endpoint) reaches.now }
+    ensures { OnOk result (AreReached programs.now reaches.now (record { bytes = bytes.now; original = original }) kept.new.items) }
+{
+    forget(verdicts, programs.len())?;
+    kept.clear();
+    for reach in reaches {
+        let verdict = match verdicts[reach.program] {
+            Some(verdict) => verdict,
+            None => run(programs.at(reach.program).verified(), bytes, original).verdict,
+        };
+        verdicts[reach.program] = Some(verdict);
+        if verdict > 0 {
+            let most = (verdict as usize).min(bytes.len()) as u32;
+            raise(kept, reach.endpoint, most)?;
+        }
+    }
+    Ok(())
+}
+
 /// The endpoints that get a packet, in increasing order. Each program that has a reach runs once.
 pub(crate) fn receivers(
     alloc: Global,
@@ -156,19 +195,9 @@ pub(crate) fn receivers(
     requires ordered { IsNonDecreasingBy (λ reach. reach.endpoint) reaches.now }
     ensures { IfOk result (λ kept. AreReached programs.now reaches.now (record { bytes = bytes.now; original = original }) kept.items) }
 {
-    let mut verdicts = vec![in alloc; None; programs.len()]?;
+    let mut verdicts = Vec::new(alloc);
     let mut kept = Vec::new(alloc);
-    for reach in reaches {
-        let verdict = match verdicts[reach.program] {
-            Some(verdict) => verdict,
-            None => run(programs.at(reach.program).verified(), bytes, original).verdict,
-        };
-        verdicts[reach.program] = Some(verdict);
-        if verdict > 0 {
-            let most = (verdict as usize).min(bytes.len()) as u32;
-            raise(&mut kept, reach.endpoint, most)?;
-        }
-    }
+    receivers_with(reaches, programs, bytes, original, &mut verdicts, &mut kept)?;
     Ok(kept)
 }
 

@@ -6,7 +6,7 @@ ghost use Rattle.filter_table.specs.Staging.{CannotStage, VerifierAsks};
 ghost use Rattle.filter_table.specs.Soundness.{IsSoundTable, IdsGrow};
 ghost use Rattle.filter_table.specs.declared.operation.Op.{Op as GhostOp};
 
-use crate::{Contents, FilterIter, Kept, Made, NothingStaged, Op, StageFault};
+use crate::{Contents, FilterIter, Kept, Made, NothingStaged, Op, Scratch, StageFault};
 use endpoint_caps::Caps;
 use std::alloc::{AllocError, Global};
 use std::marker::Model;
@@ -140,6 +140,18 @@ impl Replica {
         ensures { IfOk result (λ kept. Accepting self.now.shown (record { bytes = bytes.now; original = original }) kept.items) }
     {
         self.shown.filters().accepting(alloc, bytes, original)
+    }
+
+    /// The same, in place of what the scratch kept. Takes memory only where the scratch was never as long as the packet needs.
+    pub fn accepting_with(
+        &self,
+        scratch: &mut Scratch,
+        bytes: &[u8],
+        original: u32,
+    ) -> Result<(), AllocError>
+        ensures { OnOk result (Accepting self.now.shown (record { bytes = bytes.now; original = original }) scratch.new.kept.items) }
+    {
+        self.shown.filters().accepting_with(scratch, bytes, original)
     }
 
     /// What `stage` would answer, memory aside. Nothing changes. Memory is taken only to verify a program whose size,

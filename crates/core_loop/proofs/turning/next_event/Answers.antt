@@ -18,9 +18,6 @@ returns-in-Err-clause-quiet g c = λ p. quiet_along _ _ _ (pumped_quiet _ _ (c.p
 pub returns-then-not-has_work-clause-quiet : goal.returns-then-not-has_work-clause-quiet
 returns-then-not-has_work-clause-quiet g c = λ p. quiet_along _ _ _ (pumped_quiet _ _ (c.pump.ensures.pumped p)) (c.least_showing.ensures.quiet p)
 
-pub returns-then-is_err-clause-quiet : goal.returns-then-is_err-clause-quiet
-returns-then-is_err-clause-quiet g c = λ p. quiet_along _ _ _ (pumped_quiet _ _ (c.pump.ensures.pumped p)) (c.least_showing.ensures.quiet p)
-
 pub returns-clause-acts : goal.returns-clause-acts
 returns-clause-acts g c =
     let view = g.L.Links.view in
@@ -72,13 +69,6 @@ returns-clause-memory g c =
     on_err_of c.first_event.result
     (λ halt e p no. subst (λ (l : g.row.L.Denot). HasWork c.args.context.cores c.args.part.now c.args.requests.now.items (view l) c.args.rx c.first_event.new.intake) (sym e.1)
     (work_stays c.args.context.cores c.args.part.now c.args.requests.now.items (view c.least_showing.new.links) c.args.rx c.has_work.new.intake c.first_event.new.intake c.in-Ok.shown c.in-Ok.ensures.least p work)) c.first_event.ensures.same c.first_event.ensures.seen
-
-pub returns-then-is_err-clause-memory : goal.returns-then-is_err-clause-memory
-returns-then-is_err-clause-memory g c = λ no.
-    work_stays c.args.context.cores c.args.part.now c.args.requests.now.items (g.L.Links.view c.least_showing.new.links) c.args.rx c.has_work.new.intake c.has_work.new.intake c.in-Ok.shown c.in-Ok.ensures.least (prefix_self (jobs_seen c.has_work.new.intake)) (c.has_work.ensures.some c.if-not-has_work.false)
-
-pub returns-clause-room : goal.returns-clause-room
-returns-clause-room g c = on_event_any c.first_event.result (search rules)
 
 pub returns-then-not-has_work-clause-idle : goal.returns-then-not-has_work-clause-idle
 returns-then-not-has_work-clause-idle g c = λ can.

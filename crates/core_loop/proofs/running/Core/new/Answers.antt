@@ -7,6 +7,6 @@ pub invariant_of-result : goal.invariant_of-result
 invariant_of-result g c = (
   c.requires.number,
   c.requires.cores,
-  subst (λ (h : List Stamped). IsStanding c.in_ok-part.part c.args.number c.args.cores 0 h (g.L.Links.view c.args.links)) (sym c.new-2.ensures.items) (c.in_ok-part.ensures.stands (g.L.Links.view c.args.links) c.requires.silent),
+  subst (λ (h : List Stamped). IsStanding c.in_ok-part.part c.args.number c.args.cores 0 h (g.L.Links.view c.args.links)) (sym c.new-2.ensures) (c.in_ok-part.ensures.stands (g.L.Links.view c.args.links) c.requires.silent),
   c.requires.short,
 )

@@ -7,7 +7,7 @@ use Rattle.core_loop.specs.Choosing.{NoMessageNow}
 use Rattle.core_loop.specs.Receipts.{IsReceivable}
 use Rattle.core_loop.specs.Turning.{HasWork, IsSpent}
 use Rattle.core_loop.proofs.Acting.{acts_stand, acts_budget}
-use Rattle.core_loop.proofs.Resting.{stands_quiet, rest_stands, short_rest, begun_more, was_running, seen_same, seen_idle, seen_done}
+use Rattle.core_loop.proofs.Resting.{did_is, stands_quiet, rest_stands, short_rest, begun_more, was_running, seen_same, seen_idle, seen_done}
 use Rattle.core_loop.proofs.running.Core.turn.Goals as goal
 
 pub returns-in-Some-clause-running : goal.returns-in-Some-clause-running
@@ -23,7 +23,7 @@ invariant_of-self g c =
     let view = g.L.Links.view in
     let same = rw c.in-Ok-None.field-0-is at c.in-Ok-None.ensures.same in
     let quiet = rw c.in-Ok-None.field-0-is at c.in-Ok-None.ensures.quiet in
-    (v.0, v.1, rest_stands i.part c.next_event.new.part i.number i.cores i.clock i.history.items c.next_event.new.history.items (view i.links) (view c.next_event.new.links) v.2 same.0 c.next_event.ensures.history quiet, rw same.1 v.3)
+    (v.0, v.1, rest_stands i.part c.next_event.new.part i.number i.cores i.clock i.history.items i.history.items (view i.links) (view c.next_event.new.links) v.2 same.0 refl quiet, rw same.1 v.3)
 
 pub invariant_of-self-in-Err-Spent : goal.invariant_of-self-in-Err-Spent
 invariant_of-self-in-Err-Spent g c =
@@ -31,7 +31,7 @@ invariant_of-self-in-Err-Spent g c =
     let v = c.self.invariant in
     let view = g.L.Links.view in
     let h = c.in-Err-Spent.ensures in
-    (v.0, v.1, rest_stands i.part c.next_event.new.part i.number i.cores i.clock i.history.items c.next_event.new.history.items (view i.links) (view c.next_event.new.links) v.2 h.same.0 c.next_event.ensures.history h.quiet, rw h.same.1 v.3)
+    (v.0, v.1, rest_stands i.part c.next_event.new.part i.number i.cores i.clock i.history.items i.history.items (view i.links) (view c.next_event.new.links) v.2 h.same.0 refl h.quiet, rw h.same.1 v.3)
 
 pub invariant_of-self-in-Err-NoMemory : goal.invariant_of-self-in-Err-NoMemory
 invariant_of-self-in-Err-NoMemory g c =
@@ -39,7 +39,7 @@ invariant_of-self-in-Err-NoMemory g c =
     let v = c.self.invariant in
     let view = g.L.Links.view in
     let h = c.in-Err-NoMemory.ensures in
-    (v.0, v.1, rest_stands i.part c.next_event.new.part i.number i.cores i.clock i.history.items c.next_event.new.history.items (view i.links) (view c.next_event.new.links) v.2 h.same.0 c.next_event.ensures.history h.quiet, rw h.same.1 v.3)
+    (v.0, v.1, rest_stands i.part c.next_event.new.part i.number i.cores i.clock i.history.items i.history.items (view i.links) (view c.next_event.new.links) v.2 h.same.0 refl h.quiet, rw h.same.1 v.3)
 
 pub invariant_of-self-in-Err-Stopped : goal.invariant_of-self-in-Err-Stopped
 invariant_of-self-in-Err-Stopped g c =
@@ -47,7 +47,7 @@ invariant_of-self-in-Err-Stopped g c =
     let v = c.self.invariant in
     let view = g.L.Links.view in
     let h = c.in-Err-Stopped.ensures in
-    (v.0, v.1, rest_stands i.part c.next_event.new.part i.number i.cores i.clock i.history.items c.next_event.new.history.items (view i.links) (view c.next_event.new.links) v.2 h.same.0 c.next_event.ensures.history h.quiet, rw h.same.1 v.3)
+    (v.0, v.1, rest_stands i.part c.next_event.new.part i.number i.cores i.clock i.history.items i.history.items (view i.links) (view c.next_event.new.links) v.2 h.same.0 refl h.quiet, rw h.same.1 v.3)
 
 pub invariant_of-self-in-Ok-Some : goal.invariant_of-self-in-Ok-Some
 invariant_of-self-in-Ok-Some g c =
@@ -57,7 +57,7 @@ invariant_of-self-in-Ok-Some g c =
     let s = c.in-Ok-Some.stamped in
     let a = rw c.in-Ok-Some.field-0-is at c.in-Ok-Some.ensures.acts in
     let requests = rw c.in-Ok-Some.field-0-is at c.in-Ok-Some.ensures.requests in
-    let kept = rw c.next_event.ensures.history at c.push_reserved.ensures.items in (
+    let kept = c.noted-self-inside.ensures in (
       v.0,
       v.1,
       subst (λ (l : List Stamped). IsStanding c.next_event.new.part i.number i.cores s.stamp l (view c.next_event.new.links)) (sym kept)
@@ -84,14 +84,14 @@ returns-in-Ok-Some-clause-core g c =
     seen_same g.L.Links.same _ _ _ c.self.view_is (record { number = refl; cores = refl; budget = budget; links = c.next_event.ensures.links; intake = c.next_event.ensures.queue })
 
 pub returns-in-Ok-Some-clause-did : goal.returns-in-Ok-Some-clause-did
-returns-in-Ok-Some-clause-did g c = λ _.
+returns-in-Ok-Some-clause-did g c = λ t is.
     let s = c.in-Ok-Some.stamped in
     let acts = rw c.in-Ok-Some.field-0-is at c.in-Ok-Some.ensures.acts in
     let requests = rw c.in-Ok-Some.field-0-is at c.in-Ok-Some.ensures.requests in
     let jobs = rw c.in-Ok-Some.field-0-is at c.in-Ok-Some.ensures.jobs in
     let whole = rw c.in-Ok-Some.field-0-is at c.in-Ok-Some.ensures.whole in
-    let kept = rw c.next_event.ensures.history at c.push_reserved.ensures.items in
-    seen_done g.L.Links.view _ _ _ c.self.view_is (record { s = s; history = kept; clock = refl; acts = acts; pending = requests; jobs = jobs; unshortened = whole })
+    let kept = c.noted-self-inside.ensures in
+    seen_done g.L.Links.view _ _ _ s t (did_is s t is) c.self.view_is (record { history = kept; clock = refl; acts = acts; pending = requests; jobs = jobs; unshortened = whole })
 
 pub returns-in-Ok-None-clause-core : goal.returns-in-Ok-None-clause-core
 returns-in-Ok-None-clause-core g c =
@@ -104,7 +104,7 @@ returns-in-Ok-None-clause-other g c = λ _.
     let quiet = rw c.in-Ok-None.field-0-is at c.in-Ok-None.ensures.quiet in
     let jobs = rw c.in-Ok-None.field-0-is at c.in-Ok-None.ensures.same_jobs in
     let seen = rw c.in-Ok-None.field-0-is at c.in-Ok-None.ensures.seen in
-    seen_idle g.L.Links.view _ _ _ c.self.view_is (record { history = c.next_event.ensures.history; part = same.0; clock = refl; pending = rw same.1 refl; links = quiet; jobs = jobs; seen = seen })
+    seen_idle g.L.Links.view _ _ _ c.self.view_is (record { history = refl; part = same.0; clock = refl; pending = rw same.1 refl; links = quiet; jobs = jobs; seen = seen })
 
 pub returns-in-Ok-None-clause-idle : goal.returns-in-Ok-None-clause-idle
 returns-in-Ok-None-clause-idle g c = λ _.
@@ -125,7 +125,7 @@ returns-in-Err-Spent-clause-core g c =
 pub returns-in-Err-Spent-clause-other : goal.returns-in-Err-Spent-clause-other
 returns-in-Err-Spent-clause-other g c = λ _.
     let h = c.in-Err-Spent.ensures in
-    seen_idle g.L.Links.view _ _ _ c.self.view_is (record { history = c.next_event.ensures.history; part = h.same.0; clock = refl; pending = rw h.same.1 refl; links = h.quiet; jobs = h.same_jobs; seen = h.seen })
+    seen_idle g.L.Links.view _ _ _ c.self.view_is (record { history = refl; part = h.same.0; clock = refl; pending = rw h.same.1 refl; links = h.quiet; jobs = h.same_jobs; seen = h.seen })
 
 pub returns-in-Err-NoMemory-clause-core : goal.returns-in-Err-NoMemory-clause-core
 returns-in-Err-NoMemory-clause-core g c =
@@ -135,7 +135,7 @@ returns-in-Err-NoMemory-clause-core g c =
 pub returns-in-Err-NoMemory-clause-other : goal.returns-in-Err-NoMemory-clause-other
 returns-in-Err-NoMemory-clause-other g c = λ _.
     let h = c.in-Err-NoMemory.ensures in
-    seen_idle g.L.Links.view _ _ _ c.self.view_is (record { history = c.next_event.ensures.history; part = h.same.0; clock = refl; pending = rw h.same.1 refl; links = h.quiet; jobs = h.same_jobs; seen = h.seen })
+    seen_idle g.L.Links.view _ _ _ c.self.view_is (record { history = refl; part = h.same.0; clock = refl; pending = rw h.same.1 refl; links = h.quiet; jobs = h.same_jobs; seen = h.seen })
 
 pub returns-in-Err-Stopped-clause-core : goal.returns-in-Err-Stopped-clause-core
 returns-in-Err-Stopped-clause-core g c =
@@ -145,7 +145,7 @@ returns-in-Err-Stopped-clause-core g c =
 pub returns-in-Err-Stopped-clause-other : goal.returns-in-Err-Stopped-clause-other
 returns-in-Err-Stopped-clause-other g c = λ _.
     let h = c.in-Err-Stopped.ensures in
-    seen_idle g.L.Links.view _ _ _ c.self.view_is (record { history = c.next_event.ensures.history; part = h.same.0; clock = refl; pending = rw h.same.1 refl; links = h.quiet; jobs = h.same_jobs; seen = h.seen })
+    seen_idle g.L.Links.view _ _ _ c.self.view_is (record { history = refl; part = h.same.0; clock = refl; pending = rw h.same.1 refl; links = h.quiet; jobs = h.same_jobs; seen = h.seen })
 
 pub returns-in-Err-NoMemory-clause-no_memory : goal.returns-in-Err-NoMemory-clause-no_memory
 returns-in-Err-NoMemory-clause-no_memory g c = λ _.
@@ -154,24 +154,24 @@ returns-in-Err-NoMemory-clause-no_memory g c = λ _.
 pub returns-in-Ok-None-clause-requests : goal.returns-in-Ok-None-clause-requests
 returns-in-Ok-None-clause-requests g c =
     let same = rw c.in-Ok-None.field-0-is at c.in-Ok-None.ensures.same in
-    rw (← c.self.view_is) (rw (c.next_event.ensures.history, same.1) refl)
+    rw (← c.self.view_is) (rw same.1 refl)
 
 pub returns-in-Err-Spent-clause-requests : goal.returns-in-Err-Spent-clause-requests
-returns-in-Err-Spent-clause-requests g c = rw (← c.self.view_is) (rw (c.next_event.ensures.history, c.in-Err-Spent.ensures.same.1) refl)
+returns-in-Err-Spent-clause-requests g c = rw (← c.self.view_is) (rw c.in-Err-Spent.ensures.same.1 refl)
 
 pub returns-in-Err-NoMemory-clause-requests : goal.returns-in-Err-NoMemory-clause-requests
-returns-in-Err-NoMemory-clause-requests g c = rw (← c.self.view_is) (rw (c.next_event.ensures.history, c.in-Err-NoMemory.ensures.same.1) refl)
+returns-in-Err-NoMemory-clause-requests g c = rw (← c.self.view_is) (rw c.in-Err-NoMemory.ensures.same.1 refl)
 
 pub returns-in-Err-Stopped-clause-requests : goal.returns-in-Err-Stopped-clause-requests
-returns-in-Err-Stopped-clause-requests g c = rw (← c.self.view_is) (rw (c.next_event.ensures.history, c.in-Err-Stopped.ensures.same.1) refl)
+returns-in-Err-Stopped-clause-requests g c = rw (← c.self.view_is) (rw c.in-Err-Stopped.ensures.same.1 refl)
 
 pub returns-in-Ok-Some-clause-requests : goal.returns-in-Ok-Some-clause-requests
 returns-in-Ok-Some-clause-requests g c =
     let i = c.self.inside in
     let s = c.in-Ok-Some.stamped in
     let requests = rw c.in-Ok-Some.field-0-is at c.in-Ok-Some.ensures.requests in
-    let kept = rw c.next_event.ensures.history at c.push_reserved.ensures.items in
-    rw (← c.self.view_is) (begun_more i.history.items c.push_reserved.new.self.items s i.requests.items c.next_event.new.requests.items kept requests)
+    let kept = c.noted-self-inside.ensures in
+    rw (← c.self.view_is) (begun_more i.history.items c.noted-self-inside.result.items s i.requests.items c.next_event.new.requests.items kept requests)
 
 pub returns-in-Err-Spent-clause-stays : goal.returns-in-Err-Spent-clause-stays
 returns-in-Err-Spent-clause-stays g c = λ cause is. was_running _ _ cause c.self.view_is c.in_default.is is
@@ -187,3 +187,6 @@ returns-in-Ok-None-clause-stays g c = λ cause is. was_running _ _ cause c.self.
 
 pub returns-in-Err-Stopped-clause-stays : goal.returns-in-Err-Stopped-clause-stays
 returns-in-Err-Stopped-clause-stays g c = λ cause is. was_running _ _ cause c.self.view_is c.in_default.is is
+
+pub returns-in-Ok-Some-clause-other : goal.returns-in-Ok-Some-clause-other
+returns-in-Ok-Some-clause-other g c = λ none. absurd (none c.in-Ok-Some.stamped refl)

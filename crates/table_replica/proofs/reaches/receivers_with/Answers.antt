@@ -5,8 +5,8 @@ use Rattle.table_replica.specs.Receiving.{VerdictAt}
 use Rattle.table_replica.specs.declared.reaches.Reach.{Reach}
 use Rattle.filter_table.proofs.Lists.{get_some}
 use Rattle.table_replica.proofs.Receivers.{none_later, reach_silent, reach_raised, run_verdict, verdict_known}
-use Rattle.table_replica.proofs.reaches.receivers.Goals as goal
-use Rattle.table_replica.proofs.reaches.receivers.Goals.{then-verdict-gt0+in_ok-raise, else-verdict-gt0, in-Some, in-None}
+use Rattle.table_replica.proofs.reaches.receivers_with.Goals as goal
+use Rattle.table_replica.proofs.reaches.receivers_with.Goals.{then-verdict-gt0+in_ok-raise, else-verdict-gt0, in-Some, in-None}
 
 abbrev no_reach : Reach
 no_reach = record { endpoint = 0; program = 0 }

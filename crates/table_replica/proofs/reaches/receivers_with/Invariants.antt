@@ -1,6 +1,6 @@
 use Rattle.std.proofs.Common.{map, take}
 use Rattle.table_replica.specs.Receiving.{ReceiversSoFar, AreVerdicts, one_cap, filter_of}
-use Rattle.table_replica.proofs.reaches.receivers.Given as goal
+use Rattle.table_replica.proofs.reaches.receivers_with.Given as goal
 
 abbrev pub invariant-loop-reach : goal.invariant-loop-reach
 invariant-loop-reach l = record {
