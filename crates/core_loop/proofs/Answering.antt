@@ -210,9 +210,9 @@ decided (part.Other core) number cores clock history view st =
     omega (arith, h, ap count_if st.3.outstanding_is)
 
 -- the decisions of a longer history
-more : (own : Bool) (history : List Stamped) (s : Stamped) → decisions_from own (history ++ s ∷ []) ≡ decisions_from own history ++ own_decision (own_after own history) s.done.event s.done.answer
-more own [] s = append-nil (own_decision own s.done.event s.done.answer)
-more own (x ∷ later) s = ap (λ (l : List Decision). own_decision own x.done.event x.done.answer ++ l) (more (is_own own x.done.event) later s) ∙ sym (append_assoc (own_decision own x.done.event x.done.answer) _ _)
+pub more_from : (own : Bool) (history : List Stamped) (s : Stamped) → decisions_from own (history ++ s ∷ []) ≡ decisions_from own history ++ own_decision (own_after own history) s.done.event s.done.answer
+more_from own [] s = append-nil (own_decision own s.done.event s.done.answer)
+more_from own (x ∷ later) s = ap (λ (l : List Decision). own_decision own x.done.event x.done.answer ++ l) (more_from (is_own own x.done.event) later s) ∙ sym (append_assoc (own_decision own x.done.event x.done.answer) _ _)
 
 told : (x y : Part) (number cores clock : ℕ) (history : List Stamped) (s : Stamped) (v seen w : ℕ → LinkView) → IsStanding x number cores clock history v → Acts number cores clock seen w x y s
     → own_decision (own_after false history) s.done.event s.done.answer ≡ own_decision (asks_itself y) s.done.event s.done.answer
@@ -231,4 +231,4 @@ told (part.Other core) (part.Other core') number cores clock history s v seen w 
 -- the event that a core does has the decision that who asked tells of
 pub decides_next : (x y : Part) (number cores clock : ℕ) (history : List Stamped) (s : Stamped) (v seen w : ℕ → LinkView) → IsStanding x number cores clock history v → Acts number cores clock seen w x y s
     → decisions (history ++ s ∷ []) ≡ decisions history ++ own_decision (asks_itself y) s.done.event s.done.answer
-decides_next x y number cores clock history s v seen w st a = more false history s ∙ ap (λ (l : List Decision). decisions history ++ l) (told x y number cores clock history s v seen w st a)
+decides_next x y number cores clock history s v seen w st a = more_from false history s ∙ ap (λ (l : List Decision). decisions history ++ l) (told x y number cores clock history s v seen w st a)

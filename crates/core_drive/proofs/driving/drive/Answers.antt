@@ -1,0 +1,44 @@
+use Rattle.std.proofs.Common.{◌≡◌, ◌∙◌, ◌++◌, ◌∷◌, [], List, length, ap, sym, subst, arith, append_assoc}
+use Rattle.std.proofs.lemmas.List.{append-nil, nil_from_length}
+use Rattle.std.specs.Vec.Iter.{into_iter_items}
+use Rattle.core_drive.specs.declared.step.Step.{Step}
+use Rattle.core_drive.specs.declared.step.Outcome.{Outcome}
+use Rattle.core_drive.specs.Driving.{AreDriven}
+use Rattle.core_join.proofs.Machines.{machine_ran}
+use Rattle.core_drive.proofs.Steps.{driven_none, driven_more, driven_same, placed}
+use Rattle.core_drive.proofs.Looking.{driven_looked}
+use Rattle.core_drive.proofs.driving.drive.Goals as goal
+
+pub do_step-requires-clause-place : goal.do_step-requires-clause-place
+do_step-requires-clause-place c =
+    let m = c.requires.machine in
+    placed m.0 m.1 c.args.cores.now c.loop-step.cores m.2 (driven_same c.loop-step.yielded c.loop-step.outcomes.items c.args.cores.now c.loop-step.cores c.loop-step.invariant.0)
+
+pub loop-step-preserved : goal.loop-step-preserved
+loop-step-preserved c = (
+  rw c.push_reserved.ensures.items
+      (driven_more c.loop-step.yielded c.loop-step.outcomes.items c.in-Some.step c.do_step.result c.args.cores.now c.loop-step.cores c.do_step.new.cores c.loop-step.invariant.0 c.do_step.ensures),
+  omega (arith, c.loop-step.invariant.1, c.push_reserved.ensures.len, c.push_reserved.ensures.capacity, ap length c.in-Some.ensures.steps.0),
+  c.loop-step.invariant.2 ∙ ap (λ (l : List Step). c.loop-step.yielded ++ l) c.in-Some.ensures.steps.0 ∙ sym (append_assoc c.loop-step.yielded (c.in-Some.step ∷ []) (into_iter_items c.next.new.self)),
+)
+
+pub look_at-requires : goal.look_at-requires
+look_at-requires c =
+    let m = c.requires.machine in
+    (m.0, m.1, machine_ran m.0 m.1 c.args.cores.now c.loop-step.cores m.2 (driven_same c.loop-step.yielded c.loop-step.outcomes.items c.args.cores.now c.loop-step.cores c.loop-step.invariant.0))
+
+pub returns-clause-driven : goal.returns-clause-driven
+returns-clause-driven c =
+    let none : into_iter_items c.loop-step.step-iterator ≡ [] = nil_from_length _ (sym c.loop-step.step-iterator.rest.ok.0 ∙ c.in-None.ensures.steps.0) in
+    let all : c.args.steps.items ≡ c.loop-step.yielded = c.loop-step.invariant.2 ∙ ap (λ (l : List Step). c.loop-step.yielded ++ l) none ∙ append-nil c.loop-step.yielded in
+    rw all (driven_looked c.loop-step.yielded c.loop-step.outcomes.items c.args.cores.now c.loop-step.cores c.look_at.new.cores c.loop-step.invariant.0 c.look_at.ensures.looked)
+
+pub returns-clause-machine : goal.returns-clause-machine
+returns-clause-machine c =
+    driven_same c.loop-step.yielded c.loop-step.outcomes.items c.args.cores.now c.look_at.new.cores
+    (driven_looked c.loop-step.yielded c.loop-step.outcomes.items c.args.cores.now c.loop-step.cores c.look_at.new.cores c.loop-step.invariant.0 c.look_at.ensures.looked)
+
+pub returns-clause-concludes : goal.returns-clause-concludes
+returns-clause-concludes c = λ budget budgets machine.
+    c.look_at.ensures.concludes budget budgets
+    (machine_ran budget budgets c.args.cores.now c.loop-step.cores machine (driven_same c.loop-step.yielded c.loop-step.outcomes.items c.args.cores.now c.loop-step.cores c.loop-step.invariant.0))

@@ -1,0 +1,104 @@
+//! Steps that are done.
+
+ghost use Rattle.std.specs.Prelude.{◌≡◌, ◌<◌, ◌∷◌, [], ℕ, List, Some, length, slice_get, IfOk, OnOk, OnErr};
+ghost use Rattle.std.specs.List.{All};
+ghost use Rattle.core_join.specs.Machines.{RingCore, IsMachine, AreSameCores};
+ghost use Rattle.core_join.specs.Looking.{AreLookedAt};
+ghost use Rattle.core_drive.specs.declared.step.Task.TheVariants as GhostTask;
+ghost use Rattle.core_drive.specs.Steps.{IsOf, did, asked, decided};
+ghost use Rattle.core_drive.specs.Driving.{IsStep, IsGivable, CoreDrives, AreDriven, Conclude};
+
+use crate::step::{Outcome, Step, Task};
+use core_join::agree;
+use core_loop::{Core, RingLinks};
+use filter_table::Kept;
+use pcap_reader::SharedPacket;
+use std::alloc::{AllocError, Global};
+
+/// How many endpoints can get a packet.
+const MOST_KEPT: usize = 1024;
+
+/// Does these steps on the cores of a machine, in this order, and gives what came of each. At the end no core is in a call, so all
+/// that holds of a machine's histories holds of these. The one error is that there is no memory for the list of the outcomes;
+/// nothing is done then.
+pub fn drive(
+    alloc: Global,
+    cores: &mut [Core<RingLinks>],
+    steps: Vec<Step>,
+) -> Result<Vec<Outcome>, AllocError>
+    requires machine { (budget : ℕ) × (budgets : List ℕ) × IsMachine budget budgets cores.old }
+    requires steps { All (IsStep (length cores.old)) steps.items }
+    ensures driven { IfOk result (λ outcomes. AreDriven steps.items outcomes.items cores.old cores.new) }
+    ensures machine { AreSameCores cores.old cores.new }
+    ensures concludes { (budget : ℕ) (budgets : List ℕ) → IsMachine budget budgets cores.old → OnOk result (Conclude budget budgets cores.new) }
+    ensures err { OnErr result (cores.new ≡ cores.old) }
+{
+    let mut outcomes = Vec::with_capacity(alloc, steps.len())?;
+    for step in steps {
+        outcomes.push_reserved(do_step(alloc, cores, step));
+    }
+    look_at(cores);
+    Ok(outcomes)
+}
+
+// Does one step.
+fn do_step(alloc: Global, cores: &mut [Core<RingLinks>], step: Step) -> Outcome
+    requires step { IsStep (length cores.old) step }
+    requires place { (i : ℕ) (c : RingCore) → slice_get cores.old i ≡ Some c → c.number ≡ i }
+    ensures { AreDriven (step ∷ []) (result ∷ []) cores.old cores.new }
+{
+    let Step { core, task } = step;
+    do_task(alloc, &mut cores[usize::from(core)], task)
+}
+
+// Does one task of a core.
+fn do_task(alloc: Global, core: &mut Core<RingLinks>, task: Task) -> Outcome
+    requires { IsGivable core.old.number task }
+    ensures answered { IsOf task result }
+    ensures drives { CoreDrives (did core.old.number task result) (asked task result) (decided result) core.old core.new }
+{
+    match task {
+        Task::Turn { rx } => Outcome::Turned(core.turn(rx)),
+        Task::Ask { op } => match core.ask(op) {
+            Ok(()) => Outcome::Asked,
+            Err(AllocError) => Outcome::NoMemory,
+        },
+        Task::Receive { packet } => receive(alloc, core, packet),
+    }
+}
+
+// Has a core receive a packet, in a room that is always enough.
+fn receive(alloc: Global, core: &mut Core<RingLinks>, packet: SharedPacket) -> Outcome
+    ensures answered { IsOf (GhostTask.Receive packet) result }
+    ensures drives { CoreDrives (did core.old.number (GhostTask.Receive packet) result) [] [] core.old core.new }
+{
+    let none = Kept {
+        endpoint: 0,
+        kept: 0,
+    };
+    let Ok(mut room) = vec![in alloc; none; MOST_KEPT] else {
+        return Outcome::NoMemory;
+    };
+    let version = core.version();
+    match core.receive(packet.bytes(), packet.original(), &mut room) {
+        Ok(count) => {
+            room.truncate(count);
+            Outcome::Received {
+                version,
+                kept: room,
+            }
+        }
+        Err(why) => Outcome::NotReceived(why),
+    }
+}
+
+// Looks at all cores, of which none is in a call.
+fn look_at(cores: &mut [Core<RingLinks>])
+    requires { (budget : ℕ) × (budgets : List ℕ) × IsMachine budget budgets cores.old }
+    ensures looked { AreLookedAt cores.old cores.new }
+    ensures concludes { (budget : ℕ) (budgets : List ℕ) → IsMachine budget budgets cores.old → Conclude budget budgets cores.new }
+{
+    if let Some((first, others)) = cores.split_first_mut() {
+        agree(first, others);
+    }
+}
