@@ -1,3 +1,4 @@
 pub mod Machines
 pub mod Conclusions
 pub mod Merges
+pub mod Looking

@@ -4,6 +4,8 @@ ghost use Rattle.std.specs.Prelude.{◌≡◌, ◌∷◌, ℕ, List, IfOk};
 ghost use Rattle.core_join.specs.Machines.{IsMachine};
 ghost use Rattle.core_join.specs.Conclusions.{Concludes, OfMachine, histories_of, listed_histories};
 
+use crate::agreement::agree;
+use crate::recorded::Recorded;
 use core_loop::{Core, RingLinks, Stamped};
 use std::alloc::{AllocError, Global};
 
@@ -13,24 +15,52 @@ pub struct Histories {
     pub cores: Vec<Vec<Stamped>>,
 }
 
+// Cores, each without its list, and the lists.
+#[derive(Drop)]
+struct Parted {
+    cores: Vec<Core<RingLinks>>,
+    histories: Vec<Vec<Stamped>>,
+}
+
+// Takes each core from its list.
+fn part(alloc: Global, recorded: Vec<Recorded<RingLinks>>) -> Result<Parted, AllocError>
+    ensures cores { IfOk result (λ r. r.cores.items ≡ recorded.items) }
+    ensures histories { IfOk result (λ r. listed_histories r.histories.items ≡ histories_of recorded.items) }
+{
+    // With the room taken first, no way out of the loop has cores to drop, which would be most of the proof.
+    let mut cores = Vec::with_capacity(alloc, recorded.len())?;
+    let mut histories = Vec::with_capacity(alloc, recorded.len())?;
+    for one in recorded {
+        let (core, events) = one.into_parts();
+        cores.push_reserved(core);
+        histories.push_reserved(events);
+    }
+    Ok(Parted { cores, histories })
+}
+
+// The first of the cores and the others agree.
+fn agree_all(cores: &mut [Core<RingLinks>])
+    requires { (budget : ℕ) × (budgets : List ℕ) × IsMachine budget budgets cores.old }
+    ensures { OfMachine cores.old Concludes }
+{
+    match cores.split_first_mut() {
+        None => {}
+        Some((first, others)) => agree(first, others),
+    }
+}
+
 /// The histories of all cores of one machine, in the order of the cores, which is that of their numbers. Whatever the order in
 /// time was, they are one computation: each core took the messages of each other in the order in which they were sent, and
 /// stands where its history ends. The one error is that there is no memory; the cores are gone then.
-pub fn conclude(alloc: Global, cores: Vec<Core<RingLinks>>) -> Result<Histories, AllocError>
+pub fn conclude(alloc: Global, cores: Vec<Recorded<RingLinks>>) -> Result<Histories, AllocError>
     requires { (budget : ℕ) × (budgets : List ℕ) × IsMachine budget budgets cores.items }
     ensures histories { IfOk result (λ h. listed_histories h.cores.items ≡ histories_of cores.items) }
     ensures computation { IfOk result (λ _. OfMachine cores.items Concludes) }
 {
-    // With the room taken first, no way out of the loop has cores to drop, which would be most of the proof.
-    let mut histories = Vec::with_capacity(alloc, cores.len())?;
-    let mut cores = cores.into_iter();
-    let Some(mut first) = cores.next() else {
-        unreachable!()
-    };
-    for mut other in cores {
-        first.beside(&mut other);
-        histories.push_reserved(other.into_history());
-    }
-    histories.insert(0, first.into_history())?;
+    let Parted {
+        mut cores,
+        histories,
+    } = part(alloc, cores)?;
+    agree_all(cores.as_mut_slice());
     Ok(Histories { cores: histories })
 }

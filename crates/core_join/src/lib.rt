@@ -1,10 +1,14 @@
-//! What the joined cores of one machine did.
+//! What the cores of one machine did: while they stand still, and once they are joined.
 #![tactic(auto)]
 
+mod agreement;
 mod conclusion;
 mod laws;
 mod merging;
+mod recorded;
 
+pub use agreement::agree;
 pub use conclusion::{Histories, conclude};
 pub use laws::cores_stay_a_machine;
 pub use merging::{in_order, merge};
+pub use recorded::{Recorded, RecordedTurn};

@@ -2,10 +2,11 @@
 use Rattle.std.proofs.Common.{◌≡◌, ◌⊎◌, inl, inr, ◌∙◌, ℕ, zero, suc, All, List, [], ◌∷◌, ◌++◌, refl, sym, ap, subst, arith, append_assoc}
 use Rattle.std.proofs.lemmas.List.{append-nil}
 use Rattle.filter_table.specs.declared.operation.Op.{Op}
+use Rattle.filter_table.specs.declared.decision.Decision.{Decision}
 use Rattle.filter_table.specs.Tables.{HasShortProgram}
 use Rattle.world_histories.specs.declared.history.Stamped.{Stamped}
 use Rattle.world_histories.specs.Histories.{Stamping}
-use Rattle.std.specs.Prelude.{Some, None, Result, Ok, Err, OnOk, IfErr}
+use Rattle.std.specs.Prelude.{Option, Some, None, Result, Ok, Err, OnOk, IfErr}
 use Rattle.ump_ring.specs.declared.sender.Busy.{Busy}
 use Rattle.world_model.proofs.Lists.{same_or_not}
 use Rattle.core_links.specs.Views.{LinkView, AtPeer}
@@ -114,12 +115,8 @@ pub seen_done : {L : Type 0} (view : L → ℕ → LinkView) (i old new : CoreSt
 seen_done view i old new s t same e h = subst (λ (x : Stamped). DidOne view old new x) same (subst (λ c. DidOne view c new s) e h)
 
 -- a turn that did the one event did the other
-abbrev event_of : Stamped → Turn → Stamped
-event_of other (Did s) = s
-event_of other t = other
-
-pub did_is : (s t : Stamped) → Did s ≡ Did t → s ≡ t
-did_is s t e = ap (event_of s) e
+pub did_is : (s t : Stamped) (d e : Option Decision) → Did s d ≡ Did t e → (s ≡ t) × (d ≡ e)
+did_is s t d e is = (cc, cc)
 
 -- a core that was running was not stopped
 pub was_running : {L : Type 0} {A : Type 0} (i old : CoreState L) (cause : Cause) → i ≡ old → i.stopped ≡ None → old.stopped ≡ Some cause → A

@@ -47,7 +47,7 @@ impl<L: Links> Model for Core<L> {
 }
 
 impl<L: Links> Core<L> {
-    ghost use Rattle.std.specs.Prelude.{◌≡◌, ◌≢◌, ◌<◌, ◌≤◌, ◌↔◌, ◌++◌, ◌∷◌, ℕ, [], length, true, Some, None, IfOk, IfSome, IfNone, IsTrue, MatchOption};
+    ghost use Rattle.std.specs.Prelude.{◌≡◌, ◌≢◌, ◌<◌, ◌≤◌, ◌↔◌, ◌++◌, ◌∷◌, ℕ, Option, [], length, true, Some, None, IfOk, IfSome, IfNone, IsTrue, MatchOption};
     ghost use mathlib.Core.List.{IsPrefix};
     ghost use Rattle.rx_queue.specs.Queue.{jobs_put, jobs_seen, jobs_taken, AreEnds, SamePort, SameIntake};
     ghost use Rattle.rx_queue.specs.declared.job.Job.{Job as GhostJob};
@@ -59,6 +59,7 @@ impl<L: Links> Core<L> {
     ghost use Rattle.core_loop.specs.Choosing.{NoMessageNow};
     ghost use Rattle.core_loop.specs.Turning.{StopsFirst, IsSpent, HasWork};
     ghost use Rattle.core_loop.specs.Keeping.{replica_of};
+    ghost use Rattle.filter_table.specs.declared.decision.Decision.{Decision as GhostDecision};
     ghost use Rattle.core_loop.specs.Standing.{IsSilent};
 
     /// A core that has done nothing yet. Nothing was sent or taken over its links, and no job was taken. Requests of a core
@@ -112,8 +113,8 @@ impl<L: Links> Core<L> {
     pub fn turn(&mut self, rx: bool) -> Turn
         ensures core { SameCore L.same self.old self.new }
         ensures requests { begun self.new.history ++ self.new.pending ≡ begun self.old.history ++ self.old.pending }
-        ensures did { (s : GhostStamped) → result ≡ Did s → DidOne L.view self.old self.new s }
-        ensures other { ((s : GhostStamped) → result ≢ Did s) → NothingDone L.view self.old self.new }
+        ensures did { (s : GhostStamped) (d : Option GhostDecision) → result ≡ Did s d → DidOne L.view self.old self.new s }
+        ensures other { ((s : GhostStamped) (d : Option GhostDecision) → result ≢ Did s d) → NothingDone L.view self.old self.new }
         ensures stays { (cause : GhostCause) → self.old.stopped ≡ Some cause → (result ≡ Stopped cause) × (self.new ≡ self.old) }
         ensures stopped { (cause : GhostCause) → result ≡ Stopped cause → self.new.stopped ≡ Some cause }
         ensures running { ((cause : GhostCause) → result ≢ Stopped cause) → (self.old.stopped ≡ None) × (self.new.stopped ≡ None) }
@@ -145,7 +146,10 @@ impl<L: Links> Core<L> {
             Ok(Some(stamped)) => {
                 self.clock = stamped.stamp;
                 self.history = noted(&self.history, &stamped);
-                Turn::Did(stamped)
+                Turn::Did {
+                    event: stamped,
+                    decision: None,
+                }
             }
             Err(Halt::Spent) => Turn::Spent,
             Err(Halt::NoMemory) => Turn::NoMemory,

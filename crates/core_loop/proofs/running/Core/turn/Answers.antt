@@ -1,4 +1,4 @@
-use Rattle.std.proofs.Common.{List, refl, sym, subst}
+use Rattle.std.proofs.Common.{List, None, refl, sym, subst}
 use Rattle.world_histories.specs.declared.history.Stamped.{Stamped}
 use Rattle.core_loop.specs.declared.part.Part.{Part}
 use Rattle.core_loop.specs.Keeping.{IsStanding, replica_of}
@@ -84,14 +84,14 @@ returns-in-Ok-Some-clause-core g c =
     seen_same g.L.Links.same _ _ _ c.self.view_is (record { number = refl; cores = refl; budget = budget; links = c.next_event.ensures.links; intake = c.next_event.ensures.queue })
 
 pub returns-in-Ok-Some-clause-did : goal.returns-in-Ok-Some-clause-did
-returns-in-Ok-Some-clause-did g c = λ t is.
+returns-in-Ok-Some-clause-did g c = λ t d is.
     let s = c.in-Ok-Some.stamped in
     let acts = rw c.in-Ok-Some.field-0-is at c.in-Ok-Some.ensures.acts in
     let requests = rw c.in-Ok-Some.field-0-is at c.in-Ok-Some.ensures.requests in
     let jobs = rw c.in-Ok-Some.field-0-is at c.in-Ok-Some.ensures.jobs in
     let whole = rw c.in-Ok-Some.field-0-is at c.in-Ok-Some.ensures.whole in
     let kept = c.noted-self-inside.ensures in
-    seen_done g.L.Links.view _ _ _ s t (did_is s t is) c.self.view_is (record { history = kept; clock = refl; acts = acts; pending = requests; jobs = jobs; unshortened = whole })
+    seen_done g.L.Links.view _ _ _ s t (did_is s t _ d is).0 c.self.view_is (record { history = kept; clock = refl; acts = acts; pending = requests; jobs = jobs; unshortened = whole })
 
 pub returns-in-Ok-None-clause-core : goal.returns-in-Ok-None-clause-core
 returns-in-Ok-None-clause-core g c =
@@ -189,4 +189,4 @@ pub returns-in-Err-Stopped-clause-stays : goal.returns-in-Err-Stopped-clause-sta
 returns-in-Err-Stopped-clause-stays g c = λ cause is. was_running _ _ cause c.self.view_is c.in_default.is is
 
 pub returns-in-Ok-Some-clause-other : goal.returns-in-Ok-Some-clause-other
-returns-in-Ok-Some-clause-other g c = λ none. absurd (none c.in-Ok-Some.stamped refl)
+returns-in-Ok-Some-clause-other g c = λ none. absurd (none c.in-Ok-Some.stamped None refl)

@@ -1,0 +1,88 @@
+-- Cores that are looked at one after another.
+use Rattle.std.proofs.Common.{◌≡◌, ℕ, zero, suc, List, [], ◌∷◌, length, Some, slice_get, refl, sym, ap, ◌∙◌, subst, arith}
+use mathlib.Core.List.{IsPrefix}
+use Rattle.core_links.specs.RingSlots.{own_of, ring_view, SameLinks, AreJoinedLinks}
+use Rattle.core_links.specs.RingLaws.{SameLinks-itself}
+use Rattle.std.proofs.lemmas.Option.{slice_get_within}
+use Rattle.table_replica.proofs.Shared.{get_at}
+use Rattle.core_loop.specs.Cores.{Stands}
+use Rattle.core_loop.specs.Standing.{AreBeside}
+use Rattle.core_join.specs.Machines.{RingCore, IsPeer, AreMachine}
+use Rattle.core_join.specs.Conclusions.{Concludes, OfMachine}
+use Rattle.core_join.specs.Looking.{IsLookedAt, AreLookedAt, TookInOrder, EachTookInOrder}
+use Rattle.core_join.proofs.Lists.{first_same, rest_same}
+use Rattle.core_join.proofs.Machines.{joined_links}
+use Rattle.core_join.proofs.Joined.{looked_itself, looked_along, beside_at, stood}
+use Rattle.core_join.proofs.Ends.{concludes}
+
+-- what two cores took once they were looked at, they took
+pub took_before : (first first' other other' : RingCore) → IsLookedAt first first' → IsLookedAt other other' → TookInOrder first' other' → TookInOrder first other
+took_before first first' other other' l m t = record {
+  up = before (own_of other.links) (own_of first.links) (own_of other'.links) (own_of first'.links) (sym m.links.own) (sym l.links.own) t.up;
+  down = after (own_of other.links) (own_of first.links) (own_of other'.links) (own_of first'.links) (sym m.links.own) (sym l.links.own) t.down;
+  stands = stood other other' m t.stands;
+}
+  where
+    before : (i j i' j' : ℕ) → i ≡ i' → j ≡ j' → IsPrefix (ring_view first'.links i').taken (ring_view other'.links j').sent → IsPrefix (ring_view first.links i).taken (ring_view other.links j).sent
+    before i j i' j' e f h = rw (e, f, sym (l.views i').taken, sym (m.views j').sent) h
+
+    after : (i j i' j' : ℕ) → i ≡ i' → j ≡ j' → IsPrefix (ring_view other'.links j').taken (ring_view first'.links i').sent → IsPrefix (ring_view other.links j).taken (ring_view first.links i).sent
+    after i j i' j' e f h = rw (e, f, sym (m.views j').taken, sym (l.views i').sent) h
+
+pub none_looked : AreLookedAt [] []
+none_looked = record { all = refl; each = λ i c d at. absurd (cc) }
+
+pub more_looked : (c d : RingCore) (cs ds : List RingCore) → IsLookedAt c d → AreLookedAt cs ds → AreLookedAt (c ∷ cs) (d ∷ ds)
+more_looked c d cs ds first rest = record { all = ap suc rest.all; each = at_each }
+  where
+    at_each : (i : ℕ) (x y : RingCore) → slice_get (c ∷ cs) i ≡ Some x → slice_get (d ∷ ds) i ≡ Some y → IsLookedAt x y
+    at_each zero x y e f = let is_x : c ≡ x = cc in let is_y : d ≡ y = cc in subst (λ (z : RingCore). IsLookedAt z y) is_x (subst (λ (z : RingCore). IsLookedAt c z) is_y first)
+    at_each (suc i) x y e f = rest.each i x y e f
+
+pub more_took : (first first' c : RingCore) (cs : List RingCore) → IsLookedAt first first' → TookInOrder first c → EachTookInOrder first' cs → EachTookInOrder first (c ∷ cs)
+more_took first first' c cs l t rest zero x e = let is_x : c ≡ x = cc in subst (λ (z : RingCore). TookInOrder first z) is_x t
+more_took first first' c cs l t rest (suc k) x e = took_before first first' x x l (looked_itself x) (rest k x e)
+
+-- the links of core 0 are joined to those of the others still
+pub rest_joined : (first first' c : RingCore) (cs : List RingCore) → IsLookedAt first first' → ((k : ℕ) (x : RingCore) → slice_get (c ∷ cs) k ≡ Some x → AreJoinedLinks first.links x.links)
+    → (k : ℕ) (x : RingCore) → slice_get cs k ≡ Some x → AreJoinedLinks first'.links x.links
+rest_joined first first' c cs l joined k x at = joined_links first.links first'.links x.links x.links l.links (SameLinks-itself x.links) (joined (suc k) x at)
+
+pub first_joined : (first : RingCore) (others : List RingCore) (c : RingCore) (cs : List RingCore) → others ≡ c ∷ cs → ((k : ℕ) (x : RingCore) → slice_get others k ≡ Some x → AreJoinedLinks first.links x.links)
+    → AreJoinedLinks first.links c.links
+first_joined first others c cs e joined = joined 0 c (ap (λ (l : List RingCore). slice_get l 0) e)
+
+pub rest_joined_of : (first first' : RingCore) (others : List RingCore) (c : RingCore) (cs : List RingCore) → others ≡ c ∷ cs → IsLookedAt first first'
+    → ((k : ℕ) (x : RingCore) → slice_get others k ≡ Some x → AreJoinedLinks first.links x.links) → (k : ℕ) (x : RingCore) → slice_get cs k ≡ Some x → AreJoinedLinks first'.links x.links
+rest_joined_of first first' others c cs e l joined = rest_joined first first' c cs l (λ k x at. joined k x (ap (λ (m : List RingCore). slice_get m k) e ∙ at))
+
+peer : (budget : ℕ) (budgets : List ℕ) (first : RingCore) (others : List RingCore) (k : ℕ) (c : RingCore) → AreMachine budget budgets first others → slice_get others k ≡ Some c → (b : ℕ) × IsPeer (length budgets) k b first c
+peer budget budgets first others k c machine at =
+    let b = get_at budgets k (omega (arith, slice_get_within others k c at, machine.all)) in
+    (b.0, machine.peers k b.0 c b.1 at)
+
+pub all_joined : (budget : ℕ) (budgets : List ℕ) (first : RingCore) (others : List RingCore) → AreMachine budget budgets first others
+    → (k : ℕ) (c : RingCore) → slice_get others k ≡ Some c → AreJoinedLinks first.links c.links
+all_joined budget budgets first others machine k c at = (peer budget budgets first others k c machine at).1.joined
+
+pub agrees : (budget : ℕ) (budgets : List ℕ) (first first' : RingCore) (others : List RingCore) → AreMachine budget budgets first others → IsLookedAt first first' → Stands ring_view first'
+    → EachTookInOrder first others → Concludes budget budgets first others
+agrees budget budgets first first' others machine looked stands took =
+    concludes budget budgets first others machine (stood first first' looked stands) (λ k c at. (took k c at).stands) (λ k c at. beside k c at)
+  where
+    beside : (k : ℕ) (c : RingCore) → slice_get others k ≡ Some c → AreBeside k (ring_view first.links) (ring_view c.links)
+    beside k c at =
+        let p = (peer budget budgets first others k c machine at).1 in
+        let t = took k c at in
+        beside_at k (own_of c.links) (own_of first.links) first first c c p.place.links_are machine.place.links_are (looked_itself first) (looked_itself c) t.up t.down
+
+-- what holds of the first core and the others holds of them as one list
+pub of_machine : (cores : List RingCore) (first : RingCore) (others : List RingCore) → cores ≡ first ∷ others
+    → ((budget : ℕ) (budgets : List ℕ) → AreMachine budget budgets first others → Concludes budget budgets first others) → OfMachine cores Concludes
+of_machine cores first others whole agree budget budgets a rest e machine =
+    let same : first ∷ others ≡ a ∷ rest = sym whole ∙ e in
+    let is_first = first_same first a others rest same in
+    let is_rest = rest_same first a others rest same in
+    subst (λ (x : RingCore). Concludes budget budgets x rest) is_first
+    (subst (λ (l : List RingCore). Concludes budget budgets first l) is_rest
+    (agree budget budgets (subst (λ (x : RingCore). AreMachine budget budgets x others) (sym is_first) (subst (λ (l : List RingCore). AreMachine budget budgets a l) (sym is_rest) machine))))

@@ -1,0 +1,32 @@
+use Rattle.std.proofs.Common.{◌≡◌, ℕ, List, Some, [], ◌∷◌, length, slice_get, refl, sym, ap, ◌∙◌, subst, arith, rules}
+use Rattle.core_links.specs.RingSlots.{AreJoinedLinks}
+use Rattle.core_join.specs.Machines.{RingCore}
+use Rattle.core_join.specs.Looking.{IsLookedAt, AreLookedAt, TookInOrder, EachTookInOrder}
+use Rattle.core_join.proofs.Joined.{looked_along}
+use Rattle.core_join.proofs.Agreeing.{first_joined, rest_joined_of, more_looked, more_took}
+use Rattle.core_join.proofs.agreement.+look_at_all.Goals as goal
+
+pub look_at-requires : goal.look_at-requires
+look_at-requires t c =
+    let whole : c.args.others.now ≡ c.in-Some.other.now ∷ c.in-Some.rest.now = search rules in
+    first_joined c.args.first.now c.args.others.now c.in-Some.other.now c.in-Some.rest.now whole c.requires
+
+pub look_at_all-requires : goal.look_at_all-requires
+look_at_all-requires t c =
+    let whole : c.args.others.now ≡ c.in-Some.other.now ∷ c.in-Some.rest.now = search rules in
+    (omega (arith, c.decreases, ap (λ (l : List RingCore). length l) whole), rest_joined_of c.args.first.now c.look_at.new.first c.args.others.now c.in-Some.other.now c.in-Some.rest.now whole c.look_at.ensures.first c.requires)
+
+pub returns-in-Some-clause-first : goal.returns-in-Some-clause-first
+returns-in-Some-clause-first t c = looked_along c.args.first.now c.look_at.new.first c.look_at_all.new.first c.look_at.ensures.first c.look_at_all.ensures.first
+
+pub returns-in-Some-clause-others : goal.returns-in-Some-clause-others
+returns-in-Some-clause-others t c =
+    let whole : c.args.others.now ≡ c.in-Some.other.now ∷ c.in-Some.rest.now = search rules in
+    subst (λ (l : List RingCore). AreLookedAt l (c.look_at.new.other ∷ c.look_at_all.new.others)) (sym whole)
+    (more_looked c.in-Some.other.now c.look_at.new.other c.in-Some.rest.now c.look_at_all.new.others c.look_at.ensures.other c.look_at_all.ensures.others)
+
+pub returns-in-Some-clause-each : goal.returns-in-Some-clause-each
+returns-in-Some-clause-each t c =
+    let whole : c.args.others.now ≡ c.in-Some.other.now ∷ c.in-Some.rest.now = search rules in
+    subst (λ (l : List RingCore). EachTookInOrder c.args.first.now l) (sym whole)
+    (more_took c.args.first.now c.look_at.new.first c.in-Some.other.now c.in-Some.rest.now c.look_at.ensures.first c.look_at.ensures.took c.look_at_all.ensures.each)

@@ -1,0 +1,14 @@
+use Rattle.core_join.proofs.Agreeing.{took_before}
+use Rattle.core_join.proofs.agreement.look_at.Goals as goal
+
+pub returns-clause-took : goal.returns-clause-took
+returns-clause-took c =
+    let e = c.beside.ensures in
+    took_before c.args.first.now c.beside.new.self c.args.other.now c.beside.new.other (record { core = e.core; links = e.links.0; views = e.here }) (record { core = e.other; links = e.links.1; views = e.there })
+    (record { up = e.took; down = e.gave; stands = c.stands.ensures })
+
+pub returns-clause-first : goal.returns-clause-first
+returns-clause-first c = let e = c.beside.ensures in record { core = e.core; links = e.links.0; views = e.here }
+
+pub returns-clause-other : goal.returns-clause-other
+returns-clause-other c = let e = c.beside.ensures in record { core = e.other; links = e.links.1; views = e.there }

@@ -1,0 +1,26 @@
+-- Cores of which only the links were looked at.
+use Rattle.std.specs.Prelude.{◌≡◌, ℕ, List, length, Some, slice_get}
+use mathlib.Core.List.{IsPrefix}
+use Rattle.core_links.specs.RingSlots.{own_of, ring_view, SameLinks}
+use Rattle.core_links.specs.Views.{IsSameView}
+use Rattle.core_loop.specs.Cores.{Stands}
+use Rattle.core_join.specs.Machines.{RingCore}
+
+-- only the links were looked at, and show what they showed
+pub record IsLookedAt (old new : RingCore) : Type 0 where
+  pub core : new ≡ record old { links = new.links }
+  pub links : SameLinks old.links new.links
+  pub views : (p : ℕ) → IsSameView (ring_view old.links p) (ring_view new.links p)
+
+pub record AreLookedAt (old new : List RingCore) : Type 0 where
+  pub all : length new ≡ length old
+  pub each : (i : ℕ) (c d : RingCore) → slice_get old i ≡ Some c → slice_get new i ≡ Some d → IsLookedAt c d
+
+-- the other core stands where its history leads, and what it and core 0 took from each other begins what the other sent
+pub record TookInOrder (first other : RingCore) : Type 0 where
+  pub up : IsPrefix (ring_view first.links (own_of other.links)).taken (ring_view other.links (own_of first.links)).sent
+  pub down : IsPrefix (ring_view other.links (own_of first.links)).taken (ring_view first.links (own_of other.links)).sent
+  pub stands : Stands ring_view other
+
+abbrev pub EachTookInOrder : RingCore → List RingCore → Type 0
+EachTookInOrder first others = (k : ℕ) (c : RingCore) → slice_get others k ≡ Some c → TookInOrder first c

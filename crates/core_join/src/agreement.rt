@@ -1,0 +1,50 @@
+//! What holds of the cores of one machine at a moment when none of them is in a call.
+
+ghost use Rattle.std.specs.Prelude.{◌≡◌, ◌<◌, ℕ, List, Some, length, slice_get};
+ghost use mathlib.Core.List.{IsPrefix};
+ghost use Rattle.core_links.specs.RingSlots.{AreJoinedLinks, ring_view};
+ghost use Rattle.core_loop.specs.Cores.{Stands};
+ghost use Rattle.core_join.specs.Machines.{RingCore, AreMachine};
+ghost use Rattle.core_join.specs.Conclusions.{Concludes};
+ghost use Rattle.core_join.specs.Looking.{IsLookedAt, AreLookedAt, TookInOrder, EachTookInOrder};
+
+use core_loop::{Core, RingLinks};
+
+/// The cores of one machine, as they stand: their histories are one computation, whatever the order in time was, and each core has the table
+/// of the log at its version. Nothing is joined or ended, no event is done, and what is read of each core stays as it was.
+pub fn agree(first: &mut Core<RingLinks>, others: &mut [Core<RingLinks>])
+    requires { (budget : ℕ) × (budgets : List ℕ) × AreMachine budget budgets first.old others.old }
+    ensures first { IsLookedAt first.old first.new }
+    ensures others { AreLookedAt others.old others.new }
+    ensures agree { (budget : ℕ) (budgets : List ℕ) → AreMachine budget budgets first.old others.old → Concludes budget budgets first.old others.old }
+{
+    look_at_all(first, others);
+    first.stands();
+}
+
+// Looks at each of these cores beside core 0.
+fn look_at_all(first: &mut Core<RingLinks>, others: &mut [Core<RingLinks>])
+    requires { (k : ℕ) (c : RingCore) → slice_get others.old k ≡ Some c → AreJoinedLinks first.old.links c.links }
+    ensures first { IsLookedAt first.old first.new }
+    ensures others { AreLookedAt others.old others.new }
+    ensures each { EachTookInOrder first.old others.old }
+{
+    match others.split_first_mut() {
+        None => {}
+        Some((other, rest)) => {
+            look_at(first, other);
+            look_at_all(first, rest);
+        }
+    }
+}
+
+// Looks at one core beside core 0.
+fn look_at(first: &mut Core<RingLinks>, other: &mut Core<RingLinks>)
+    requires { AreJoinedLinks first.old.links other.old.links }
+    ensures first { IsLookedAt first.old first.new }
+    ensures other { IsLookedAt other.old other.new }
+    ensures took { TookInOrder first.old other.old }
+{
+    first.beside(other);
+    other.stands();
+}
