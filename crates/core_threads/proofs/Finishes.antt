@@ -9,7 +9,7 @@ use Rattle.core_threads.specs.declared.halt.Halt.{Halt}
 use Rattle.core_threads.specs.declared.halt.Halt.TheVariants as halt
 use Rattle.core_threads.specs.declared.threads.Ran.{Ran}
 use Rattle.core_threads.specs.Ending.{IsAtEnd, HaltsFor, HaltsRightly, AreUnstopped, unstopped, IsLeast}
-use Rattle.core_threads.specs.Lanes.{items_for}
+use Rattle.core_boot.specs.Lanes.{items_for}
 use Rattle.core_threads.specs.Leaving.{SameRan, SameButTaken, AreSameRan, AllLeft}
 use Rattle.core_threads.specs.Searching.{AreInPlace, HaltedAt, NoneHalted, UnfinishedAt, IsHalt, IsWhole}
 use Rattle.core_threads.specs.Finishing.{CanFinish, Finishes}

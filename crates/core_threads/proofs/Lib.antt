@@ -1,5 +1,4 @@
 pub mod Crossing
-pub mod Dealing
 pub mod Pairs
 pub mod Outlets
 pub mod Lefts
@@ -7,7 +6,6 @@ pub mod Emptying
 pub mod Searches
 pub mod Finishes
 pub mod Loads
-pub mod Wires
-pub mod ComingUp
-pub mod Machines
+pub mod Recording
+pub mod Turns
 pub mod Runs

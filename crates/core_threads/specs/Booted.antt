@@ -1,23 +1,9 @@
 -- A machine that was booted and has not run.
-use Rattle.std.specs.Prelude.{◌≡◌, ℕ, List, [], length, Some, None, slice_get}
+use Rattle.std.specs.Prelude.{List}
 use Rattle.rx_queue.specs.declared.port.Port.{Port}
-use Rattle.rx_queue.specs.Queue.{jobs_put, jobs_taken, AreEnds}
 use Rattle.core_join.specs.Machines.{RingCore}
 
 -- its cores, and the port of each one's queue
 pub record MachineState : Type 0 where
   pub cores : List RingCore
   pub ports : List Port
-
--- a core in its place that has done nothing, and the port of its queue, in which nothing was put
-pub record IsBooted (place : ℕ) (core : RingCore) (port : Port) : Type 0 where
-  pub number : core.number ≡ place
-  pub history : core.history ≡ []
-  pub running : core.stopped ≡ None
-  pub taken : jobs_taken core.intake ≡ []
-  pub put : jobs_put port ≡ []
-  pub queue : AreEnds port core.intake
-
-pub record AreBooted (cores : List RingCore) (ports : List Port) : Type 0 where
-  pub all : length ports ≡ length cores
-  pub each : (i : ℕ) (c : RingCore) (p : Port) → slice_get cores i ≡ Some c → slice_get ports i ≡ Some p → IsBooted i c p

@@ -9,7 +9,7 @@ use Rattle.core_loop.specs.Keeping.{replica_of}
 use Rattle.core_join.specs.Machines.{RingCore}
 use Rattle.core_threads.specs.declared.halt.Halt.{Halt}
 use Rattle.core_threads.specs.declared.halt.Halt.TheVariants as halt
-use Rattle.core_threads.specs.Lanes.{items_for}
+use Rattle.core_boot.specs.Lanes.{items_for}
 
 -- a core, of whose jobs these are left, has nothing to do: each request is begun, nothing is under way, and the first job waits for a
 -- later version

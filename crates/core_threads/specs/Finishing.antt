@@ -8,7 +8,7 @@ use Rattle.core_threads.specs.declared.halt.Halt.{Halt}
 use Rattle.core_threads.specs.declared.threads.Ran.{Ran}
 use Rattle.core_threads.specs.Ending.{HaltsRightly, IsLeast}
 use Rattle.core_threads.specs.Feeding.{jobs_through}
-use Rattle.core_threads.specs.Lanes.{items_for}
+use Rattle.core_boot.specs.Lanes.{items_for}
 use Rattle.core_threads.specs.Leaving.{AreFedBy, SameButTaken}
 use Rattle.core_threads.specs.Runs.{StandsSo}
 

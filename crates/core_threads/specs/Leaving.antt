@@ -6,7 +6,7 @@ use Rattle.core_join.specs.Machines.{RingCore}
 use Rattle.core_threads.specs.declared.feeding.Outlet.{Outlet}
 use Rattle.core_threads.specs.declared.threads.Ran.{Ran}
 use Rattle.core_threads.specs.Feeding.{jobs_through}
-use Rattle.core_threads.specs.Lanes.{items_for}
+use Rattle.core_boot.specs.Lanes.{items_for}
 
 -- items of one core
 abbrev pub tagged : {T : Type 0} → ℕ → List T → List (ℕ × T)

@@ -1,5 +1,4 @@
 pub mod Runs
-pub mod Lanes
 pub mod Feeding
 pub mod Joining
 pub mod Leaving
@@ -8,5 +7,4 @@ pub mod Booted
 pub mod Searching
 pub mod Finishing
 pub mod Loading
-pub mod Wiring
-pub mod Booting
+pub mod Recording

@@ -2,9 +2,9 @@
 use Rattle.std.specs.Prelude.{◌≡◌, ◌++◌, Option, Some, None}
 use Rattle.rx_queue.specs.Queue.{jobs_taken}
 use Rattle.core_links.specs.RingSlots.{SameLinks}
-use Rattle.core_loop.specs.declared.cause.Turn.{Turn}
-use Rattle.core_loop.specs.declared.cause.Turn.TheVariants.{Stopped}
 use Rattle.core_loop.specs.Cores.{CoreState, SameCore, begun, receipts}
+use Rattle.core_join.specs.declared.recorded.RecordedTurn.{RecordedTurn}
+use Rattle.core_join.specs.declared.recorded.RecordedTurn.TheVariants.{Stopped}
 use Rattle.core_join.specs.Machines.{RingCore}
 use Rattle.core_threads.specs.declared.halt.Halt.{Halt}
 use Rattle.core_threads.specs.declared.halt.Halt.TheVariants as halt
@@ -22,7 +22,7 @@ pub record CoreRan {L : Type 0} (same : L → L → Type 0) (old new : CoreState
   pub received : HasReceived old → HasReceived new
 
 -- after a turn that answers this, the core is stopped with the cause that it gives, and else not stopped
-abbrev pub AfterTurn : {L : Type 0} → Turn → CoreState L → Type 0
+abbrev pub AfterTurn : {L : Type 0} → RecordedTurn → CoreState L → Type 0
 AfterTurn (Stopped cause) c = c.stopped ≡ Some cause
 AfterTurn turn c = c.stopped ≡ None
 

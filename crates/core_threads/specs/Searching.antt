@@ -5,7 +5,7 @@ use Rattle.core_threads.specs.declared.halt.Halt.{Halt}
 use Rattle.core_threads.specs.declared.halt.Halt.TheVariants as halt
 use Rattle.core_threads.specs.declared.threads.Ran.{Ran}
 use Rattle.core_threads.specs.Ending.{IsAtEnd}
-use Rattle.core_threads.specs.Lanes.{items_for}
+use Rattle.core_boot.specs.Lanes.{items_for}
 
 -- each core is in its place
 abbrev pub AreInPlace : List Ran → Type 0

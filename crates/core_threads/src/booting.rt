@@ -1,123 +1,31 @@
 //! How a machine comes up.
 
-ghost use Rattle.std.specs.Prelude.{◌≡◌, ◌<◌, ◌≤◌, ◌⊎◌, ◌↔◌, All, length, Err, IfOk, OnOk};
-ghost use Rattle.core_loop.specs.Cores.{AreShort};
-ghost use Rattle.core_threads.specs.declared.booting.BootFault.TheVariants.{CoreCount};
-ghost use Rattle.core_threads.specs.Booted.{AreBooted};
-ghost use Rattle.core_threads.specs.Booting.{ComesUp, AddsCore, HaveComeUp, HaveRequests, AreGivable, AreShortLanes, IsMachineOf};
-ghost use Rattle.core_threads.specs.Wiring.{AreSilent};
+ghost use Rattle.std.specs.Prelude.{◌≡◌, ◌<◌, ◌⊎◌, ◌↔◌, All, length, Err, IfOk};
+ghost use Rattle.core_boot.specs.declared.booting.BootFault.TheVariants.{CoreCount};
+ghost use Rattle.core_boot.specs.Booted.{AreBooted};
+ghost use Rattle.core_boot.specs.Booting.{HaveRequests, AreGivable, IsMachineOf};
+ghost use Rattle.core_threads.specs.Recording.{HaveNoHistories};
 
-use crate::lanes::by_core;
 use crate::machine::Machine;
-use crate::wiring::wire;
+use core_boot::{BootFault, boot_with_ports};
+use core_join::Recorded;
 use core_loop::{Core, RingLinks};
 use filter_table::Op;
-use rx_queue::{Port, queue};
 use std::alloc::{AllocError, Global};
-use std::collections::VecDeque;
-use std::mem;
 
-/// Why there is no machine.
-#[derive(Clone, Copy, PartialEq, Eq, Debug)]
-pub enum BootFault {
-    /// A machine has 1 to 8 cores.
-    CoreCount,
-    /// There was no memory.
-    NoMemory,
-}
-
-// The jobs that a core's queue holds.
-const QUEUE_JOBS: usize = 16;
-
-// A core that has done nothing, and the port of its queue.
-fn start_core(
+// Each core with an empty list.
+fn record_all(
     alloc: Global,
-    links: RingLinks,
-    budget: u32,
-    number: u16,
-    cores: u16,
-    requests: VecDeque<Op>,
-) -> Result<(Core<RingLinks>, Port), AllocError>
-    requires number { number < cores }
-    requires cores { cores ≤ 8 }
-    requires short { AreShort number requests.items }
-    requires silent { AreSilent links }
-    ensures { IfOk result (λ r. ComesUp number cores budget links requests.items r.0 r.1) }
+    cores: Vec<Core<RingLinks>>,
+) -> Result<Vec<Recorded<RingLinks>>, AllocError>
+    requires { HaveNoHistories cores.items }
+    ensures { IfOk result (λ recorded. recorded.items ≡ cores.items) }
 {
-    let (port, intake) = queue(alloc, QUEUE_JOBS)?;
-    let core = Core::new(alloc, links, budget, number, cores, requests, intake)?;
-    Ok((core, port))
-}
-
-// One more core comes up.
-fn add_core(
-    alloc: Global,
-    links: RingLinks,
-    budget: u32,
-    count: u16,
-    requests: VecDeque<Op>,
-    cores: &mut Vec<Core<RingLinks>>,
-    ports: &mut Vec<Port>,
-) -> Result<(), AllocError>
-    requires number { length cores.old.items < count }
-    requires count { count ≤ 8 }
-    requires short { AreShort (length cores.old.items) requests.items }
-    requires silent { AreSilent links }
-    ensures { OnOk result (AddsCore count budget links requests.items cores.old.items cores.new.items ports.old.items ports.new.items) }
-{
-    let number = cores.len() as u16;
-    let (core, port) = start_core(alloc, links, budget, number, count, requests)?;
-    cores.push(core)?;
-    ports.push(port)?;
-    Ok(())
-}
-
-// The cores over these links come up, each with its budget and its requests.
-fn start_cores(
-    alloc: Global,
-    budgets: &[u32],
-    links: Vec<RingLinks>,
-    lanes: Vec<VecDeque<Op>>,
-) -> Result<(Vec<Core<RingLinks>>, Vec<Port>), AllocError>
-    requires count { (length budgets.now ≤ 8) × (length links.items ≡ length budgets.now) × (length lanes.items ≡ length budgets.now) }
-    requires short { AreShortLanes lanes.items }
-    requires silent { All AreSilent links.items }
-    ensures { IfOk result (λ r. HaveComeUp (length budgets.now) budgets.now lanes.items links.items r.0.items r.1.items) }
-{
-    let count = budgets.len() as u16;
-    let mut cores = Vec::with_capacity(alloc, budgets.len())?;
-    let mut ports = Vec::with_capacity(alloc, budgets.len())?;
-    let mut lanes = lanes;
-    for links in links {
-        let place = cores.len();
-        let requests = mem::replace(&mut lanes[place], VecDeque::new(alloc));
-        add_core(
-            alloc,
-            links,
-            budgets[place],
-            count,
-            requests,
-            &mut cores,
-            &mut ports,
-        )?;
+    let mut recorded = Vec::with_capacity(alloc, cores.len())?;
+    for core in cores {
+        recorded.push_reserved(Recorded::new(alloc, core));
     }
-    Ok((cores, ports))
-}
-
-// The machine of so many cores.
-fn assemble(alloc: Global, budgets: &[u32], requests: Vec<(u16, Op)>) -> Result<Machine, AllocError>
-    requires count { (0 < length budgets.now) × (length budgets.now ≤ 8) }
-    requires inside { All (λ r. r.0 < length budgets.now) requests.items }
-    requires short { AreGivable requests.items }
-    ensures cores { IfOk result (λ m. length m.cores ≡ length budgets.now) }
-    ensures machine { IfOk result (λ m. IsMachineOf budgets.now m.cores) }
-    ensures requests { IfOk result (λ m. HaveRequests requests.items m.cores) }
-    ensures booted { IfOk result (λ m. AreBooted m.cores m.ports) }
-{
-    let lanes = by_core(alloc, budgets.len(), requests)?;
-    let links = wire(alloc, budgets.len() as u16)?;
-    let (cores, ports) = start_cores(alloc, budgets, links, lanes)?;
-    Ok(Machine { cores, ports })
+    Ok(recorded)
 }
 
 /// A machine with a core for each budget, 1 to 8 of them: core 0 and each other core are joined by two rings, and each core has
@@ -132,11 +40,15 @@ pub fn boot(alloc: Global, budgets: &[u32], requests: Vec<(u16, Op)>) -> Result<
     ensures requests { IfOk result (λ m. HaveRequests requests.items m.cores) }
     ensures booted { IfOk result (λ m. AreBooted m.cores m.ports) }
 {
-    if budgets.is_empty() || budgets.len() > 8 {
-        return Err(BootFault::CoreCount);
-    }
-    match assemble(alloc, budgets, requests) {
-        Ok(machine) => Ok(machine),
-        Err(_) => Err(BootFault::NoMemory),
+    let (cores, ports) = match boot_with_ports(alloc, budgets, requests) {
+        Ok(booted) => booted,
+        Err(fault) => return Err(fault),
+    };
+    match record_all(alloc, cores) {
+        Ok(cores) => Ok(Machine { cores, ports }),
+        Err(_) => {
+            drop(ports);
+            Err(BootFault::NoMemory)
+        }
     }
 }

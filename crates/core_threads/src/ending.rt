@@ -2,11 +2,12 @@
 
 ghost use Rattle.std.specs.Prelude.{◌≡◌, ◌↔◌, [], map, IsTrue, IfOk, MatchOption};
 ghost use Rattle.core_threads.specs.Ending.{IsAtEnd};
-ghost use Rattle.core_threads.specs.Lanes.{items_for};
+ghost use Rattle.core_boot.specs.Lanes.{items_for};
 ghost use Rattle.core_threads.specs.Searching.{AreInPlace, HaltedAt, NoneHalted, IsFirstFloor, AreAtEnd, UnfinishedAt, IsHalt, IsWhole};
 
 use crate::halt::Halt;
 use crate::threads::Ran;
+use core_join::Recorded;
 use core_loop::{Core, RingLinks};
 use rx_queue::Job;
 use std::alloc::{AllocError, Global};
@@ -18,7 +19,7 @@ fn first_halt(ran: &[Ran]) -> Option<(u16, Halt)>
 {
     for ran in ran {
         match ran.halted {
-            Some(why) => return Some((ran.core.number(), why)),
+            Some(why) => return Some((ran.core.core().number(), why)),
             None => {}
         }
     }
@@ -56,8 +57,9 @@ fn first_unfinished(ran: &[Ran], left: &[(u16, Job)]) -> Option<u16>
     ensures { MatchOption result (AreAtEnd ran.now left.now) (UnfinishedAt ran.now left.now) }
 {
     for ran in ran {
-        if !is_at_end(&ran.core, left) {
-            return Some(ran.core.number());
+        let core = ran.core.core();
+        if !is_at_end(core, left) {
+            return Some(core.number());
         }
     }
     None
@@ -79,7 +81,7 @@ pub(crate) fn why_halted(ran: &[Ran], left: &[(u16, Job)]) -> Option<(u16, Halt)
 }
 
 /// The cores alone.
-pub(crate) fn cores_of(alloc: Global, ran: Vec<Ran>) -> Result<Vec<Core<RingLinks>>, AllocError>
+pub(crate) fn cores_of(alloc: Global, ran: Vec<Ran>) -> Result<Vec<Recorded<RingLinks>>, AllocError>
     ensures { IfOk result (λ cores. cores.items ≡ map (λ r. r.core) ran.items) }
 {
     ran.into_iter().map(|ran| ran.core).collect(alloc)

@@ -7,7 +7,8 @@ ghost use Rattle.core_threads.specs.Leaving.{Leaves, SameButTaken, AreFedBy, Are
 
 use crate::feeding::Outlet;
 use crate::threads::Ran;
-use core_loop::{Core, RingLinks};
+use core_join::Recorded;
+use core_loop::RingLinks;
 use rx_queue::{Job, Port};
 use std::alloc::{AllocError, Global};
 use std::collections::VecDeque;
@@ -15,7 +16,7 @@ use std::collections::VecDeque;
 // Leaves what was put for a core and not received.
 fn leave_put(
     number: u16,
-    core: &mut Core<RingLinks>,
+    core: &mut Recorded<RingLinks>,
     port: &mut Port,
     left: &mut Vec<(u16, Job)>,
 ) -> Result<(), AllocError>
@@ -59,7 +60,7 @@ fn leave_later(
 
 // Leaves the jobs of a core that it has not received, in order.
 fn leave_jobs(
-    core: &mut Core<RingLinks>,
+    core: &mut Recorded<RingLinks>,
     outlet: &mut Outlet,
     left: &mut Vec<(u16, Job)>,
 ) -> Result<(), AllocError>
@@ -67,7 +68,7 @@ fn leave_jobs(
     ensures core { SameButTaken core.old core.new }
     ensures left { OnOk result (Leaves core.old.number (jobs_taken core.old.intake) (jobs_through outlet.old) left.old.items left.new.items) }
 {
-    let number = core.number();
+    let number = core.core().number();
     leave_put(number, core, &mut outlet.port, left)?;
     leave_held(number, &mut outlet.held, left)?;
     leave_later(number, &mut outlet.later, left)?;

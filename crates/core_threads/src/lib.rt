@@ -8,14 +8,13 @@ mod feeding;
 mod flags;
 mod gate;
 mod halt;
-mod lanes;
 mod leaving;
 mod machine;
 mod threads;
 mod turning;
-mod wiring;
 
-pub use booting::{BootFault, boot};
+pub use booting::boot;
+pub use core_boot::BootFault;
 pub use gate::{Free, Gate};
 pub use halt::{Halt, RunFault};
 pub use machine::{Ended, Machine, run_machine};

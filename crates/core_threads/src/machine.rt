@@ -2,7 +2,7 @@
 
 ghost use Rattle.std.specs.Prelude.{◌≡◌, ◌<◌, ℕ, All, List, length, IfOk};
 ghost use Rattle.core_join.specs.Machines.{IsMachine};
-ghost use Rattle.core_threads.specs.Booted.{AreBooted};
+ghost use Rattle.core_boot.specs.Booted.{AreBooted};
 ghost use Rattle.core_threads.specs.Ending.{EndsRightly};
 ghost use Rattle.core_threads.specs.Finishing.{CanFinish, Finishes};
 ghost use Rattle.core_threads.specs.Loading.{AreLoaded};
@@ -12,11 +12,12 @@ use crate::feeding::{Outlet, outlets_of};
 use crate::flags::Flags;
 use crate::gate::Gate;
 use crate::halt::{Halt, RunFault};
-use crate::lanes::by_core;
 use crate::leaving::leave_all;
 use crate::threads::{Joined, run_cores};
 use crate::turning::Bounds;
-use core_loop::{Core, RingLinks};
+use core_boot::by_core;
+use core_join::Recorded;
+use core_loop::RingLinks;
 use rx_queue::{Job, Port};
 use std::alloc::{AllocError, Global};
 use std::marker::Model;
@@ -27,12 +28,13 @@ use std::time::Clock;
 /// The cores of one machine that has not run, and where their jobs go in.
 #[derive(Drop)]
 pub struct Machine {
-    pub(crate) cores: Vec<Core<RingLinks>>,
+    pub(crate) cores: Vec<Recorded<RingLinks>>,
     pub(crate) ports: Vec<Port>,
 }
 
 impl Model for Machine {
-    ghost use Rattle.core_threads.specs.Booted.{MachineState, AreBooted};
+    ghost use Rattle.core_boot.specs.Booted.{AreBooted};
+    ghost use Rattle.core_threads.specs.Booted.{MachineState};
 
     ghost Value = { MachineState };
 
@@ -45,7 +47,7 @@ impl Model for Machine {
 #[derive(Drop)]
 pub struct Ended {
     /// Its cores, in the order of their numbers.
-    pub cores: Vec<Core<RingLinks>>,
+    pub cores: Vec<Recorded<RingLinks>>,
     /// The jobs that were not received, each with the number of its core, and each core's in order.
     pub left: Vec<(u16, Job)>,
     /// The least core that halted, and why. No lesser core is stopped; nor is this one, but for a `Halt::Cause`. Where no core halted, and where
@@ -77,7 +79,7 @@ fn load(
     alloc: Global,
     machine: Machine,
     jobs: Vec<(u16, Job)>,
-) -> Result<(Vec<Core<RingLinks>>, Vec<Outlet>), AllocError>
+) -> Result<(Vec<Recorded<RingLinks>>, Vec<Outlet>), AllocError>
     requires { All (λ j. j.0 < length machine.cores) jobs.items }
     ensures booted { AreBooted machine.cores machine.ports }
     ensures cores { IfOk result (λ r. r.0.items ≡ machine.cores) }
@@ -90,9 +92,10 @@ fn load(
 }
 
 // How many requests the cores other than core 0 have.
-fn submitted(cores: &[Core<RingLinks>]) -> u64 {
+fn submitted(cores: &[Recorded<RingLinks>]) -> u64 {
     let mut count = 0u64;
     for core in cores {
+        let core = core.core();
         if core.number() != 0 {
             count = count.saturating_add(core.pending() as u64);
         }

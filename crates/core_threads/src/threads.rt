@@ -12,7 +12,8 @@ use crate::flags::Flags;
 use crate::gate::Gate;
 use crate::halt::{Halt, RunFault};
 use crate::turning::{Bounds, run_core};
-use core_loop::{Core, RingLinks};
+use core_join::Recorded;
+use core_loop::RingLinks;
 use std::alloc::Global;
 use std::snapshot::Snapshot;
 use std::sync::Wait;
@@ -23,13 +24,13 @@ use std::time::Clock;
 /// What a core's thread gives back.
 #[derive(Drop)]
 pub(crate) struct Ran {
-    pub(crate) core: Core<RingLinks>,
+    pub(crate) core: Recorded<RingLinks>,
     pub(crate) halted: Option<Halt>,
 }
 
 // The promise of a core's thread: it ran this core.
 #[derive(Drop)]
-struct Runs(Snapshot<Core<RingLinks>>);
+struct Runs(Snapshot<Recorded<RingLinks>>);
 
 impl Promise<Ran> for Runs {
     ghost kept_by = { λ p r. ThreadRan p.0.value r.core r.halted };
@@ -45,7 +46,7 @@ pub(crate) struct Joined {
 // A core's thread.
 fn run_thread<R: Wait + Clock, G: Gate>(
     rt: &R,
-    core: Core<RingLinks>,
+    core: Recorded<RingLinks>,
     flags: &Flags,
     gate: &G,
     bounds: Bounds,
@@ -57,7 +58,7 @@ fn run_thread<R: Wait + Clock, G: Gate>(
     if halted.is_some() {
         flags.halt();
     }
-    flags.end(core.number());
+    flags.end(core.core().number());
     Ran { core, halted }
 }
 
@@ -103,7 +104,7 @@ fn join_last(rest: Result<Joined, RunFault>, ran: Ran) -> Result<Joined, RunFaul
 pub(crate) fn run_cores<R: Threads + Wait + Clock + Sync, G: Gate + Sync>(
     rt: &R,
     alloc: Global,
-    cores: Vec<Core<RingLinks>>,
+    cores: Vec<Recorded<RingLinks>>,
     outlets: Vec<Outlet>,
     flags: &Flags,
     gate: &G,

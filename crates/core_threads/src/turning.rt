@@ -7,7 +7,8 @@ use crate::backoff::Backoff;
 use crate::flags::Flags;
 use crate::gate::Gate;
 use crate::halt::Halt;
-use core_loop::{Core, Links, Turn};
+use core_join::{Recorded, RecordedTurn};
+use core_loop::Links;
 use std::sync::Wait;
 use std::time::Clock;
 use world_events::Event;
@@ -22,29 +23,30 @@ pub(crate) struct Bounds {
 }
 
 // Whether the core has a job in front that the gate lets through.
-fn may_receive<L: Links, G: Gate>(core: &mut Core<L>, gate: &G) -> bool
-    ensures { CoreRan L.same core.old core.new }
+fn may_receive<L: Links, G: Gate>(core: &mut Recorded<L>, gate: &G) -> bool
+    ensures ran { CoreRan L.same core.old core.new }
+    ensures core { core.new ≡ record core.old { intake = core.new.intake } }
 {
-    let number = core.number();
     core.look();
+    let core = core.core();
     match core.seen() {
-        Some(job) => gate.may(number, job.number),
+        Some(job) => gate.may(core.number(), job.number),
         None => false,
     }
 }
 
 // Takes one turn. It may receive the job in front where the gate says so.
-fn take_turn<L: Links, G: Gate>(core: &mut Core<L>, gate: &G) -> Turn
+fn take_turn<L: Links, G: Gate>(core: &mut Recorded<L>, gate: &G) -> RecordedTurn
     ensures ran { CoreRan L.same core.old core.new }
-    ensures stopped { AfterTurn result core.new }
+    ensures stopped { core.old.stopped ≡ None → AfterTurn result core.new }
 {
     let rx = may_receive(core, gate);
     core.turn(rx)
 }
 
 // Tells the gate of a receipt that was the core's last event, and says whether that event began a request of another core.
-fn note_last<L: Links, G: Gate>(core: &Core<L>, gate: &G) -> bool {
-    match core.history().last() {
+fn note_last<L: Links, G: Gate>(core: &Recorded<L>, gate: &G) -> bool {
+    match core.events().last() {
         Some(last) => match &last.done.event {
             Event::Rx {
                 core,
@@ -64,20 +66,22 @@ fn note_last<L: Links, G: Gate>(core: &Core<L>, gate: &G) -> bool {
 
 // Whether every request is decided: core 0 has nothing under way, no request of its own left, and began this many of the others.
 // What an idle core 0 began is decided.
-fn is_settled<L: Links>(core: &Core<L>, began: u64, bounds: Bounds) -> bool {
+fn is_settled<L: Links>(core: &Recorded<L>, began: u64, bounds: Bounds) -> bool {
+    let core = core.core();
     core.number() == 0 && began == bounds.submitted && core.pending() == 0 && core.idle()
 }
 
 // Whether nothing is left for the core to do. The flags are read before the queue is looked at.
-fn is_done<L: Links>(core: &mut Core<L>, flags: &Flags) -> bool
+fn is_done<L: Links>(core: &mut Recorded<L>, flags: &Flags) -> bool
     ensures ran { CoreRan L.same core.old core.new }
     ensures stopped { core.new.stopped ≡ core.old.stopped }
 {
-    if !flags.is_settled() || !core.idle() {
+    if !flags.is_settled() || !core.core().idle() {
         return false;
     }
     let fed = flags.is_fed();
     core.look();
+    let core = core.core();
     match core.seen() {
         Some(job) => job.floor > core.version(),
         None => fed,
@@ -87,7 +91,7 @@ fn is_done<L: Links>(core: &mut Core<L>, flags: &Flags) -> bool
 /// Takes turns until the core ends, and says why it halted, if it did.
 pub(crate) fn run_core<L: Links, R: Wait + Clock, G: Gate>(
     rt: &R,
-    core: &mut Core<L>,
+    core: &mut Recorded<L>,
     flags: &Flags,
     gate: &G,
     bounds: Bounds,
@@ -102,13 +106,13 @@ pub(crate) fn run_core<L: Links, R: Wait + Clock, G: Gate>(
             break;
         }
         match take_turn(core, gate) {
-            Turn::Did => {
+            RecordedTurn::Did => {
                 backoff.reset();
                 if note_last(core, gate) {
                     began = began.saturating_add(1);
                 }
             }
-            Turn::Idle => {
+            RecordedTurn::Idle => {
                 if is_done(core, flags) {
                     break;
                 }
@@ -117,9 +121,9 @@ pub(crate) fn run_core<L: Links, R: Wait + Clock, G: Gate>(
                     return Some(Halt::Limit);
                 }
             }
-            Turn::Stopped(cause) => return Some(Halt::Cause(cause)),
-            Turn::Spent => return Some(Halt::Spent),
-            Turn::NoMemory => return Some(Halt::NoMemory),
+            RecordedTurn::Stopped(cause) => return Some(Halt::Cause(cause)),
+            RecordedTurn::Spent => return Some(Halt::Spent),
+            RecordedTurn::NoMemory | RecordedTurn::NoRoom => return Some(Halt::NoMemory),
         }
         if is_settled(core, began, bounds) {
             flags.settle();

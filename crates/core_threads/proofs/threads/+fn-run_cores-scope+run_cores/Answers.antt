@@ -1,7 +1,8 @@
 use Rattle.std.proofs.Common.{◌≡◌, ap, ◌∙◌, subst}
 use denote.Param.Send.{sendable}
 use Rattle.core_threads.specs.Runs.{ThreadRan}
-use Rattle.core_threads.proofs.Crossing.{core_send, ran_send}
+use Rattle.core_join.proofs.Crossing.{with_list_send}
+use Rattle.core_threads.proofs.Crossing.{ran_send}
 use Rattle.core_threads.proofs.flags.Flags.TheSendSync as flags
 use Rattle.core_threads.proofs.turning.Bounds.TheSendSync as bounds
 use Rattle.core_threads.proofs.threads.+fn-run_cores-scope+run_cores.Goals as goal
@@ -9,7 +10,7 @@ use Rattle.core_threads.proofs.threads.+fn-run_cores-scope+run_cores.Goals as go
 pub scope-spawn_with-requires-send-F : goal.scope-spawn_with-requires-send-F
 scope-spawn_with-requires-send-F g t c κs within =
     let shared = c.requires in
-    search (sendable, core_send, flags.the_sync, bounds.the_send) depth 10
+    search (sendable, with_list_send, flags.the_sync, bounds.the_send) depth 10
 
 pub scope-spawn_with-requires-send-T : goal.scope-spawn_with-requires-send-T
 scope-spawn_with-requires-send-T g t c κs within = search (sendable, ran_send) depth 10

@@ -1,0 +1,4 @@
+pub mod Dealing
+pub mod Wires
+pub mod ComingUp
+pub mod Machines

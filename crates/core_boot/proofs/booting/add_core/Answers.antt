@@ -1,0 +1,15 @@
+use Rattle.std.proofs.Common.{ℕ, ◌∙◌, subst}
+use Rattle.core_boot.specs.Booting.{ComesUp}
+use Rattle.core_boot.proofs.booting.add_core.Goals as goal
+
+pub returns : goal.returns
+returns c =
+    let core = c.in_ok-core.core in
+    let port = c.in_ok-core.port in
+    record {
+      core = core;
+      port = port;
+      comes_up = subst (λ (n : ℕ). ComesUp n c.args.count c.args.budget c.args.links c.args.requests.items core port) (c.len-number.ensures ∙ c.args.cores.now.ok.0) c.in_ok-core.ensures;
+      pushed = c.in_ok-push.ensures.items;
+      pushed_port = c.in_ok-push-2.ensures.items;
+    }

@@ -1,0 +1,9 @@
+use Rattle.std.proofs.Common.{ℕ, List, subst}
+use Rattle.filter_table.specs.declared.operation.Op.{Op}
+use Rattle.core_boot.specs.Booting.{HaveRequests}
+use Rattle.core_boot.proofs.Machines.{none_done}
+use Rattle.core_boot.proofs.booting.boot_cores.Goals as goal
+
+pub returns-in-Ok-clause-nothing : goal.returns-in-Ok-clause-nothing
+returns-in-Ok-clause-nothing c =
+    none_done c.in-Ok.cores.items c.in-Ok.ports.items c.in-Ok.ensures.booted (subst (λ (rs : List (ℕ × Op)). HaveRequests rs c.in-Ok.cores.items) c.new.ensures.items c.in-Ok.ensures.requests)

@@ -1,0 +1,13 @@
+use Rattle.core_boot.proofs.Wires.{silent_link, silent_alone}
+use Rattle.core_boot.proofs.wiring.join_peer.Goals as goal
+
+pub returns-clause-silent : goal.returns-clause-silent
+returns-clause-silent c =
+    let up = c.in_ok-to_first in
+    let down = c.in_ok-to_peer in
+    let first = c.join.new.self in
+    let links = c.join-2.new.self in (
+      silent_link first c.args.peer (record { sender = down.to_peer; receiver = up.from_peer }) c.join.ensures.joined down.ensures.sender.0 up.ensures.receiver.0,
+      silent_alone c.in_ok-links.links links 0 c.in_ok-links.ensures.empty c.join-2.ensures.others
+          (silent_link links 0 (record { sender = up.to_first; receiver = down.from_first }) c.join-2.ensures.joined up.ensures.sender.0 down.ensures.receiver.0),
+    )

@@ -1,0 +1,4 @@
+pub mod Lanes
+pub mod Booted
+pub mod Wiring
+pub mod Booting

@@ -1,0 +1,166 @@
+//! How a machine comes up.
+
+ghost use Rattle.std.specs.Prelude.{◌≡◌, ◌<◌, ◌≤◌, ◌⊎◌, ◌↔◌, All, length, Err, IfOk, OnOk};
+ghost use Rattle.core_loop.specs.Cores.{AreShort};
+ghost use Rattle.core_boot.specs.declared.booting.BootFault.TheVariants.{CoreCount};
+ghost use Rattle.core_boot.specs.Booted.{AreBooted, HasDoneNothing};
+ghost use Rattle.core_boot.specs.Booting.{ComesUp, AddsCore, HaveComeUp, HaveRequests, AreGivable, AreShortLanes, IsMachineOf};
+ghost use Rattle.core_boot.specs.Wiring.{AreSilent};
+
+use crate::lanes::by_core;
+use crate::wiring::wire;
+use core_loop::{Core, RingLinks};
+use filter_table::Op;
+use rx_queue::{Port, queue};
+use std::alloc::{AllocError, Global};
+use std::collections::VecDeque;
+use std::mem;
+
+/// Why there is no machine.
+#[derive(Clone, Copy, PartialEq, Eq, Debug)]
+pub enum BootFault {
+    /// A machine has 1 to 8 cores.
+    CoreCount,
+    /// There was no memory.
+    NoMemory,
+}
+
+// The jobs that a core's queue holds.
+const QUEUE_JOBS: usize = 16;
+
+// A core that has done nothing, and the port of its queue.
+fn start_core(
+    alloc: Global,
+    links: RingLinks,
+    budget: u32,
+    number: u16,
+    cores: u16,
+    requests: VecDeque<Op>,
+) -> Result<(Core<RingLinks>, Port), AllocError>
+    requires number { number < cores }
+    requires cores { cores ≤ 8 }
+    requires short { AreShort number requests.items }
+    requires silent { AreSilent links }
+    ensures { IfOk result (λ r. ComesUp number cores budget links requests.items r.0 r.1) }
+{
+    let (port, intake) = queue(alloc, QUEUE_JOBS)?;
+    let core = Core::new(alloc, links, budget, number, cores, requests, intake)?;
+    Ok((core, port))
+}
+
+// One more core comes up.
+fn add_core(
+    alloc: Global,
+    links: RingLinks,
+    budget: u32,
+    count: u16,
+    requests: VecDeque<Op>,
+    cores: &mut Vec<Core<RingLinks>>,
+    ports: &mut Vec<Port>,
+) -> Result<(), AllocError>
+    requires number { length cores.old.items < count }
+    requires count { count ≤ 8 }
+    requires short { AreShort (length cores.old.items) requests.items }
+    requires silent { AreSilent links }
+    ensures { OnOk result (AddsCore count budget links requests.items cores.old.items cores.new.items ports.old.items ports.new.items) }
+{
+    let number = cores.len() as u16;
+    let (core, port) = start_core(alloc, links, budget, number, count, requests)?;
+    cores.push(core)?;
+    ports.push(port)?;
+    Ok(())
+}
+
+// The cores over these links come up, each with its budget and its requests.
+fn start_cores(
+    alloc: Global,
+    budgets: &[u32],
+    links: Vec<RingLinks>,
+    lanes: Vec<VecDeque<Op>>,
+) -> Result<(Vec<Core<RingLinks>>, Vec<Port>), AllocError>
+    requires count { (length budgets.now ≤ 8) × (length links.items ≡ length budgets.now) × (length lanes.items ≡ length budgets.now) }
+    requires short { AreShortLanes lanes.items }
+    requires silent { All AreSilent links.items }
+    ensures { IfOk result (λ r. HaveComeUp (length budgets.now) budgets.now lanes.items links.items r.0.items r.1.items) }
+{
+    let count = budgets.len() as u16;
+    let mut cores = Vec::with_capacity(alloc, budgets.len())?;
+    let mut ports = Vec::with_capacity(alloc, budgets.len())?;
+    let mut lanes = lanes;
+    for links in links {
+        let place = cores.len();
+        let requests = mem::replace(&mut lanes[place], VecDeque::new(alloc));
+        add_core(
+            alloc,
+            links,
+            budgets[place],
+            count,
+            requests,
+            &mut cores,
+            &mut ports,
+        )?;
+    }
+    Ok((cores, ports))
+}
+
+// The cores of a machine of so many, and the ports of their queues.
+fn assemble(
+    alloc: Global,
+    budgets: &[u32],
+    requests: Vec<(u16, Op)>,
+) -> Result<(Vec<Core<RingLinks>>, Vec<Port>), AllocError>
+    requires count { (0 < length budgets.now) × (length budgets.now ≤ 8) }
+    requires inside { All (λ r. r.0 < length budgets.now) requests.items }
+    requires short { AreGivable requests.items }
+    ensures cores { IfOk result (λ r. length r.0.items ≡ length budgets.now) }
+    ensures machine { IfOk result (λ r. IsMachineOf budgets.now r.0.items) }
+    ensures requests { IfOk result (λ r. HaveRequests requests.items r.0.items) }
+    ensures booted { IfOk result (λ r. AreBooted r.0.items r.1.items) }
+{
+    let lanes = by_core(alloc, budgets.len(), requests)?;
+    let links = wire(alloc, budgets.len() as u16)?;
+    let (cores, ports) = start_cores(alloc, budgets, links, lanes)?;
+    Ok((cores, ports))
+}
+
+/// The cores of a machine, one for each budget, 1 to 8 of them, and the port of each one's queue: core 0 and each other core are
+/// joined by two rings, and each core has the requests given for it, in order. A request of a core other than 0 has a program of
+/// at most 4,096 instructions.
+pub fn boot_with_ports(
+    alloc: Global,
+    budgets: &[u32],
+    requests: Vec<(u16, Op)>,
+) -> Result<(Vec<Core<RingLinks>>, Vec<Port>), BootFault>
+    requires inside { All (λ r. r.0 < length budgets.now) requests.items }
+    requires short { AreGivable requests.items }
+    ensures count { result ≡ Err CoreCount ↔ ((length budgets.now ≡ 0) ⊎ (8 < length budgets.now)) }
+    ensures cores { IfOk result (λ r. length r.0.items ≡ length budgets.now) }
+    ensures machine { IfOk result (λ r. IsMachineOf budgets.now r.0.items) }
+    ensures requests { IfOk result (λ r. HaveRequests requests.items r.0.items) }
+    ensures booted { IfOk result (λ r. AreBooted r.0.items r.1.items) }
+{
+    if budgets.is_empty() || budgets.len() > 8 {
+        return Err(BootFault::CoreCount);
+    }
+    match assemble(alloc, budgets, requests) {
+        Ok(booted) => Ok(booted),
+        Err(_) => Err(BootFault::NoMemory),
+    }
+}
+
+/// The cores of a machine, one for each budget, 1 to 8 of them, which have done nothing. They have no requests, and their queues
+/// no jobs: who owns a core asks of it what it is to do.
+pub fn boot_cores(alloc: Global, budgets: &[u32]) -> Result<Vec<Core<RingLinks>>, BootFault>
+    ensures count { result ≡ Err CoreCount ↔ ((length budgets.now ≡ 0) ⊎ (8 < length budgets.now)) }
+    ensures cores { IfOk result (λ cores. length cores.items ≡ length budgets.now) }
+    ensures machine { IfOk result (λ cores. IsMachineOf budgets.now cores.items) }
+    ensures nothing { IfOk result (λ cores. All HasDoneNothing cores.items) }
+{
+    match boot_with_ports(alloc, budgets, Vec::new(alloc)) {
+        Ok((cores, ports)) => {
+            drop(ports);
+            Ok(cores)
+        }
+        Err(fault) => Err(fault),
+    }
+}

@@ -1,0 +1,24 @@
+-- Cores get their lists, one after another.
+use Rattle.std.proofs.Common.{◌≡◌, ℕ, List, [], ◌∷◌, ◌++◌, Some, slice_get, length, refl, ap, ◌∙◌, arith}
+use Rattle.std.proofs.lemmas.Option.{slice_get_within}
+use Rattle.table_replica.proofs.Shared.{get_at}
+use Rattle.rx_queue.specs.declared.port.Port.{Port}
+use Rattle.core_join.specs.Machines.{RingCore}
+use Rattle.core_boot.specs.Booted.{AreBooted}
+use Rattle.core_threads.specs.Recording.{HaveNoHistories}
+
+get_next : (seen : List RingCore) (core : RingCore) (rest : List RingCore) → slice_get (seen ++ core ∷ rest) (length seen) ≡ Some core
+get_next [] core rest = refl
+get_next (c ∷ seen) core rest = get_next seen core rest
+
+-- the next core has done nothing
+pub next_none : (cores seen items rest : List RingCore) (core : RingCore) → HaveNoHistories cores → cores ≡ seen ++ items → items ≡ core ∷ rest → core.history ≡ []
+next_none cores seen items rest core none whole next =
+    let is : cores ≡ seen ++ (core ∷ rest) = whole ∙ ap (λ (l : List RingCore). seen ++ l) next in
+    none (length seen) core (ap (λ (l : List RingCore). slice_get l (length seen)) is ∙ get_next seen core rest)
+
+-- nor have cores that were booted
+pub booted_none : (cores : List RingCore) (ports : List Port) → AreBooted cores ports → HaveNoHistories cores
+booted_none cores ports booted i c at =
+    let p = get_at ports i (omega (arith, slice_get_within cores i c at, booted.all)) in
+    (booted.each i c p.0 at p.1).history
