@@ -1,23 +1,20 @@
 -- Cores that were looked at.
-use Rattle.std.proofs.Common.{◌≡◌, ◌+◌, ◌++◌, ◌∙◌, ℕ, zero, suc, Some, List, [], ◌∷◌, length, map, slice_get, refl, sym, ap, subst, arith}
+use Rattle.std.proofs.Common.{◌≡◌, ◌++◌, ◌∙◌, ℕ, zero, suc, Some, List, [], ◌∷◌, length, slice_get, refl, sym, ap, subst, arith}
 use Rattle.std.proofs.lemmas.Option.{slice_get_within}
 use Rattle.table_replica.proofs.Shared.{get_at}
-use Rattle.filter_table.specs.declared.operation.Op.{Op}
-use Rattle.filter_table.specs.Tables.{table}
-use Rattle.world_histories.specs.declared.history.Stamped.{Stamped}
-use Rattle.world_histories.specs.Histories.{unstamped, Computation, Other}
+use Rattle.world_histories.specs.Histories.{unstamped, Other}
 use Rattle.core_links.specs.RingSlots.{SameLinks}
 use Rattle.rx_queue.specs.Queue.{SameIntake}
 use Rattle.core_loop.specs.declared.part.Part.{Part}
 use Rattle.core_loop.specs.Keeping.{replica_of}
 use Rattle.core_loop.specs.Cores.{SameCore, begun}
 use Rattle.core_loop.specs.Answering.{decisions}
-use Rattle.core_join.specs.Machines.{RingCore, IsMachine, AreSameCores}
+use Rattle.core_join.specs.Machines.{RingCore}
 use Rattle.core_join.specs.Looking.{IsLookedAt, AreLookedAt}
-use Rattle.core_join.specs.Conclusions.{histories_of, StandsAt0, StandsAtOther, IsIdle0, version_of_core, ShowsTable, IsRight, Concludes}
+use Rattle.core_join.specs.Conclusions.{histories_of, StandsAtOther, IsIdle0, version_of_core, ShowsTable, Concludes}
 use Rattle.core_drive.specs.declared.step.Step.{Step}
 use Rattle.core_drive.specs.declared.step.Outcome.{Outcome}
-use Rattle.core_drive.specs.Driving.{CoreDrives, DrivesAt, AreDriven, Conclude}
+use Rattle.core_drive.specs.Driving.{DrivesAt, AreDriven, Conclude}
 use Rattle.core_drive.proofs.Tasks.{same_itself, same_along}
 
 looked_same : (c d : RingCore) → IsLookedAt c d → SameCore SameLinks c d
@@ -59,14 +56,19 @@ concludes_along budget budgets c d cs ds first rest h = record {
   where
     history : {x y : RingCore} → IsLookedAt x y → y.history ≡ x.history
     history {x} {y} l = ap (λ (z : RingCore). z.history) l.core
+
     part : {x y : RingCore} → IsLookedAt x y → y.part ≡ x.part
     part {x} {y} l = ap (λ (z : RingCore). z.part) l.core
+
     clock : {x y : RingCore} → IsLookedAt x y → y.clock ≡ x.clock
     clock {x} {y} l = ap (λ (z : RingCore). z.clock) l.core
+
     version : {x y : RingCore} → IsLookedAt x y → version_of_core y ≡ version_of_core x
     version {x} {y} l = ap version_of_core l.core
+
     shows : {x y : RingCore} → IsLookedAt x y → ShowsTable h.end.log x → ShowsTable h.end.log y
     shows {x} {y} l s = rw (part l) s
+
     look_of : (i : ℕ) (x y : RingCore) → slice_get (c ∷ cs) i ≡ Some x → slice_get (d ∷ ds) i ≡ Some y → IsLookedAt x y
     look_of zero x y at at' = let e : c ≡ x = cc in let f : d ≡ y = cc in subst (λ (z : RingCore). IsLookedAt z y) e (subst (λ (z : RingCore). IsLookedAt c z) f first)
     look_of (suc i) x y at at' = rest.each i x y at at'

@@ -1,18 +1,13 @@
 -- Steps one after another.
-use Rattle.std.proofs.Common.{◌≡◌, ◌+◌, ◌==◌, ◌++◌, ◌∙◌, ◌<◌, ◌⊎◌, inl, inr, ℕ, zero, suc, true, false, Bool, Some, List, [], ◌∷◌, length, slice_get, slice_set, refl, sym, ap, subst, arith, append_assoc}
+use Rattle.std.proofs.Common.{◌≡◌, ◌==◌, ◌++◌, ◌∙◌, ◌⊎◌, inl, inr, ℕ, zero, suc, true, false, Some, List, [], ◌∷◌, slice_get, slice_set, refl, sym, ap, subst, arith, append_assoc}
 use Rattle.std.specs.Prelude.{if◌then◌else◌}
 use Rattle.std.specs.List.{AllZip}
 use Rattle.std.proofs.lemmas.List.{append-nil}
 use Rattle.std.proofs.lemmas.Option.{slice_get_within}
 use Rattle.table_replica.proofs.Shared.{get_at}
-use Rattle.filter_table.specs.declared.operation.Op.{Op}
-use Rattle.filter_table.specs.declared.decision.Decision.{Decision}
-use Rattle.world_events.specs.declared.event.Done.{Done}
 use Rattle.world_model.proofs.Lists.{same_or_not, get-set_same, get-set_other, length-slice_set}
 use Rattle.world_model.proofs.Submissions.{eq_self, eq_other}
-use Rattle.core_links.specs.RingSlots.{SameLinks}
-use Rattle.core_loop.specs.Cores.{SameCore}
-use Rattle.core_join.specs.Machines.{RingCore, IsMachine, AreMachine, AreSameCores}
+use Rattle.core_join.specs.Machines.{RingCore, IsMachine, AreSameCores}
 use Rattle.core_join.proofs.Machines.{machine_ran}
 use Rattle.core_drive.specs.declared.step.Step.{Step}
 use Rattle.core_drive.specs.declared.step.Task.{Task}
@@ -52,7 +47,7 @@ driven_more steps outcomes s o a b c h k = record { answered = zip_more steps ou
     each i x z at at' =
         let y = get_at b i (omega (arith, slice_get_within a i x at, h.all)) in
         rw (more_steps (did i) i steps outcomes s o h.answered, more_steps asked i steps outcomes s o h.answered, more_steps (λ task. decided) i steps outcomes s o h.answered)
-            (drives_along _ _ _ _ _ _ x y.0 z (h.each i x y.0 at y.1) (k.each i y.0 z y.1 at'))
+        (drives_along _ _ _ _ _ _ x y.0 z (h.each i x y.0 at y.1) (k.each i y.0 z y.1 at'))
 
 -- One step
 
@@ -69,8 +64,8 @@ driven_one s o cores core new there number is h = record { answered = (is, tt); 
         let new_is : new ≡ d = let a = set in let b = there' in cc in
         let test : (s.core == i) ≡ true = ap (λ (n : ℕ). s.core == n) e ∙ eq_self s.core in
         rw (test, e, append-nil (did s.core s.task o), append-nil (asked s.task o), append-nil (decided o))
-            (subst (λ (x : RingCore). CoreDrives (did s.core s.task o) (asked s.task o) (decided o) x d) old_is (subst (λ (x : RingCore). CoreDrives (did s.core s.task o) (asked s.task o) (decided o) core x) new_is
-            (subst (λ (n : ℕ). CoreDrives (did n s.task o) (asked s.task o) (decided o) core new) number h)))
+        (subst (λ (x : RingCore). CoreDrives (did s.core s.task o) (asked s.task o) (decided o) x d) old_is (subst (λ (x : RingCore). CoreDrives (did s.core s.task o) (asked s.task o) (decided o) core x) new_is
+        (subst (λ (n : ℕ). CoreDrives (did n s.task o) (asked s.task o) (decided o) core new) number h)))
     by_place i c d at at' (inr ne) =
         let other = get-set_other cores s.core i new (λ (e : s.core ≡ i). ne (sym e)) in
         let same : c ≡ d = let a = at in let b = at' in let e = other in cc in

@@ -1,6 +1,6 @@
 -- What one task does at its core.
-use Rattle.std.proofs.Common.{◌≡◌, ◌+◌, ◌++◌, ◌∙◌, ℕ, Bool, false, Option, Some, None, List, [], ◌∷◌, refl, sym, ap, subst, append_assoc, rules}
-use Rattle.std.specs.Prelude.{option_to_list, map}
+use Rattle.std.proofs.Common.{◌≡◌, ◌+◌, ◌++◌, ◌∙◌, ℕ, Bool, false, Option, List, [], ◌∷◌, refl, sym, ap, subst, append_assoc, rules}
+use Rattle.std.specs.Prelude.{option_to_list}
 use Rattle.std.proofs.lemmas.List.{append-nil, map-append}
 use Rattle.pcap_reader.specs.declared.capture.Packet.{Packet}
 use Rattle.filter_table.specs.declared.operation.Op.{Op}
@@ -17,7 +17,7 @@ use Rattle.core_links.specs.RingSlots.{SameLinks, ring_view}
 use Rattle.core_links.specs.RingLaws.{SameLinks-itself, SameLinks-along}
 use Rattle.core_loop.specs.declared.cause.Turn.{Turn}
 use Rattle.core_loop.specs.declared.cause.Turn.TheVariants as turn
-use Rattle.core_loop.specs.Cores.{SameCore, NothingDone, DidOne, begins, begun}
+use Rattle.core_loop.specs.Cores.{SameCore, NothingDone, DidOne, begun}
 use Rattle.core_loop.specs.Answering.{decisions}
 use Rattle.core_loop.specs.Receiving.{HasReceived, receipt, version_now}
 use Rattle.core_loop.proofs.Resting.{begun_more}

@@ -12,7 +12,7 @@ use Rattle.core_join.specs.Machines.{RingCore}
 use Rattle.core_join.specs.Conclusions.{Concludes}
 use Rattle.core_drive.specs.declared.step.Step.{Step}
 use Rattle.core_drive.specs.declared.step.Task.{Task}
-use Rattle.core_drive.specs.declared.step.Task.TheVariants.{Turn, Ask, Receive}
+use Rattle.core_drive.specs.declared.step.Task.TheVariants.{Ask}
 use Rattle.core_drive.specs.declared.step.Outcome.{Outcome}
 use Rattle.core_drive.specs.Steps.{IsOf, did, asked, decided, of_core}
 

@@ -1,6 +1,5 @@
 -- What a list of steps does at each core of a machine.
 use Rattle.std.specs.Prelude.{◌==◌, ◌++◌, ℕ, List, [], ◌∷◌, option_to_list, if◌then◌else◌}
-use Rattle.pcap_reader.specs.declared.capture.Packet.{Packet}
 use Rattle.filter_table.specs.declared.operation.Op.{Op}
 use Rattle.filter_table.specs.declared.decision.Decision.{Decision}
 use Rattle.world_events.specs.declared.event.Event.TheVariants.{Rx}

@@ -1,4 +1,4 @@
-use Rattle.std.proofs.Common.{◌≡◌, ◌<◌, ◌∷◌, [], ℕ, List, Some, slice_get, slice_set, slice_index_or, length, sym, ap, ◌∙◌, subst}
+use Rattle.std.proofs.Common.{◌≡◌, ◌∷◌, [], ℕ, Some, slice_get, slice_set, slice_index_or, sym, ap, ◌∙◌, subst}
 use Rattle.core_join.specs.Machines.{RingCore}
 use Rattle.core_join.proofs.Lists.{get_indexed}
 use Rattle.core_drive.specs.Driving.{AreDriven}

@@ -1,11 +1,9 @@
-use Rattle.std.proofs.Common.{◌≡◌, ◌∙◌, ◌++◌, ◌∷◌, [], List, length, ap, sym, subst, arith, append_assoc}
+use Rattle.std.proofs.Common.{◌≡◌, ◌∙◌, ◌++◌, ◌∷◌, [], List, length, ap, sym, arith, append_assoc}
 use Rattle.std.proofs.lemmas.List.{append-nil, nil_from_length}
 use Rattle.std.specs.Vec.Iter.{into_iter_items}
 use Rattle.core_drive.specs.declared.step.Step.{Step}
-use Rattle.core_drive.specs.declared.step.Outcome.{Outcome}
-use Rattle.core_drive.specs.Driving.{AreDriven}
 use Rattle.core_join.proofs.Machines.{machine_ran}
-use Rattle.core_drive.proofs.Steps.{driven_none, driven_more, driven_same, placed}
+use Rattle.core_drive.proofs.Steps.{driven_more, driven_same, placed}
 use Rattle.core_drive.proofs.Looking.{driven_looked}
 use Rattle.core_drive.proofs.driving.drive.Goals as goal
 
