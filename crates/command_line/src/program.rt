@@ -7,8 +7,9 @@ ghost use Rattle.command_line.specs.Program.{IsCommand, code, command, files, fl
 use crate::texts::{
     ABOUT, ASM_HELP, CHECK_ABOUT, CHECK_DETAILS, CHECK_EXAMPLE, CODE_HELP, COUNT_HELP, DRAW_ABOUT,
     DRAW_DETAILS, DRAW_EXAMPLE, DUMP_ABOUT, DUMP_DETAILS, DUMP_EXAMPLE, EXIT_STATUS, EXPLAIN_HELP,
-    FILES_HELP, GRAPH_HELP, MATCH_ABOUT, MATCH_DETAILS, MATCH_EXAMPLE, NUMBER_HELP, PCAP_HELP, QUIET_HELP, RUN_ABOUT,
-    RUN_DETAILS, RUN_EXAMPLE, SIM_ABOUT, SIM_DETAILS, SIM_EXAMPLE, STREAM_HELP, TEXT_HELP, VERSION,
+    FILES_HELP, GRAPH_HELP, MATCH_ABOUT, MATCH_DETAILS, MATCH_EXAMPLE, NUMBER_HELP, PCAP_HELP,
+    QUIET_HELP, RUN_ABOUT, RUN_DETAILS, RUN_EXAMPLE, SIM_ABOUT, SIM_DETAILS, SIM_EXAMPLE,
+    STREAM_HELP, TEXT_HELP, VERSION,
 };
 use clap::{Arg, ArgAction, Command};
 use std::alloc::{AllocError, Global};
@@ -178,10 +179,7 @@ fn explain<'a>(alloc: Global) -> Result<Arg<'a>, AllocError>
 }
 
 // A flag that is refused beside one more, where it could be made.
-fn also_lone<'a>(
-    made: Result<Arg<'a>, AllocError>,
-    other: &'a str,
-) -> Result<Arg<'a>, AllocError>
+fn also_lone<'a>(made: Result<Arg<'a>, AllocError>, other: &'a str) -> Result<Arg<'a>, AllocError>
     ensures rule { (name : Text) → IfOk made.entry (λ a. rule_of a ≡ lone_flag name) → IfOk result (λ a. rule_of a ≡ lone_flag name) }
     ensures local { IfOk made.entry (λ a. a.global ≡ false) → IfOk result (λ a. a.global ≡ false) }
 {

@@ -126,7 +126,10 @@ impl Tally {
 fn accepted(outcomes: &[Outcome]) -> u64
     ensures { result ≡ accepted outcomes.now }
 {
-    outcomes.iter().filter(|outcome| outcome.verdict > 0).count() as u64
+    outcomes
+        .iter()
+        .filter(|outcome| outcome.verdict > 0)
+        .count() as u64
 }
 
 /// The status under `View::Quiet`.
