@@ -18,8 +18,8 @@ use Rattle.console.specs.Code.{IsGoodCode, ShowsBadCode}
 use Rattle.console.specs.Streaming.{SourceEnded, SourceRan, StreamLeaves, StreamShows, is_capture}
 use Rattle.console.specs.Views.{HasCounted, IsFound, RanAll, RanFirst, ShowsEnd, ShowsView, ShowsViewCode, ShowsViewPart, ViewLeaves, ViewShows, accepted, ending_status, ending_text, shown_at_once}
 use Rattle.console.proofs.WholeLemmas.{some_front}
-use Rattle.console.proofs.KnownBytesLemmas.{appends-then, appends-nothing, consumes-then}
-use Rattle.console.proofs.FeedingLemmas.{consumes-kept, consumes-nothing}
+use Rattle.console.proofs.KnownBytesLemmas.{appends-then, consumes-then}
+use Rattle.console.proofs.FeedingLemmas.{consumes-kept}
 use Rattle.console.proofs.StreamingLemmas.{Streamed, begins_itself, ended_first, no_bytes, ran_first}
 use Rattle.console.proofs.ViewLemmas.{lines_part, lines_shows, shown-append}
 

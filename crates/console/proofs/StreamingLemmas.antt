@@ -1,6 +1,5 @@
 -- What a stream has shown.
-use Rattle.std.proofs.Common.{◌≡◌, ℕ, ◌+◌, ◌*◌, ◌<◌, ◌≤◌, inl, inr, List, [], ◌∷◌, ◌++◌, length, flat_map, All, Bool, true, false, Option, None, Some, Result, Ok, Err, IfOk, arith, refl, sym, ap, ◌∙◌, append_assoc}
-use Rattle.std.specs.Prelude.{IsTrue, IsSome, OnErr}
+use Rattle.std.proofs.Common.{◌≡◌, ℕ, ◌*◌, ◌<◌, ◌≤◌, inl, inr, List, [], ◌∷◌, ◌++◌, length, All, Bool, true, false, Option, None, Some, arith, refl, sym, ap, ◌∙◌, append_assoc}
 use Rattle.std.specs.Str.Lines.{lines}
 use Rattle.std.specs.Io.KnownBytes.{Appends, Consumes}
 use Rattle.std.proofs.lemmas.List.{append-nil}
@@ -17,15 +16,12 @@ use Rattle.pcap_reader.proofs.FeedLemmas.{open_front}
 use Rattle.pcap_reader.proofs.Fronts.{front-lasts, reads-lasts}
 use Rattle.pcap_reader.proofs.LawLemmas.{has_fronts, one_reading}
 use Rattle.pcap_reader.proofs.ReadingLemmas.{has_reading}
-use Rattle.console.specs.declared.line_feed.LineFeed.{LineFeed}
 use Rattle.console.specs.declared.packet_source.PacketSource.{PacketSource}
 use Rattle.console.specs.declared.packet_source.PacketSource.TheVariants.{Lines, Capture}
-use Rattle.console.specs.declared.fault.EngineFault.{EngineFault}
-use Rattle.console.specs.Reading.{BeginsWith, HasStopped}
+use Rattle.console.specs.Reading.{BeginsWith}
 use Rattle.console.specs.Faults.{fault_status, fault_text}
-use Rattle.console.specs.Matching.{bad_line}
 use Rattle.console.specs.Running.{EndsRun, HasRun}
-use Rattle.console.specs.Streaming.{LinesEnded, LinesStopped, SourceEnded, SourceRan, is_capture}
+use Rattle.console.specs.Streaming.{SourceEnded, SourceRan, is_capture}
 use Rattle.console.specs.declared.tally.Tally.{Tally}
 use Rattle.console.specs.declared.view.View.{View}
 use Rattle.console.specs.Views.{HasCounted, RanAll, RanFirst, shown_at_once}

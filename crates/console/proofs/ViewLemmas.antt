@@ -1,5 +1,5 @@
 -- What a view shows of some outcomes and of more.
-use Rattle.std.proofs.Common.{◌≡◌, ℕ, zero, suc, ◌+◌, inl, inr, List, [], ◌∷◌, ◌++◌, length, flat_map, Bool, true, false, Option, None, Some, refl, sym, ap, ◌∙◌, append_assoc, add-zero, arith}
+use Rattle.std.proofs.Common.{◌≡◌, ℕ, zero, suc, ◌+◌, inl, inr, List, [], ◌∷◌, ◌++◌, length, flat_map, Bool, true, false, Option, refl, sym, ap, ◌∙◌, append_assoc, add-zero, arith}
 use Rattle.std.specs.Prelude.{Result, Ok, Err, OnErr}
 use Rattle.std.specs.Io.KnownBytes.{Appends}
 use Rattle.console.proofs.KnownBytesLemmas.{appends-nothing}
