@@ -53,10 +53,7 @@ fn matching<'a>(alloc: Global) -> Result<Command<'a>, AllocError>
     ensures { IfOk result (IsCommand (codes "match") (code ∷ flag (codes "pcap") ∷ flag (codes "stream") ∷ flag (codes "number")
         ∷ lone_flag (codes "count") ∷ lone_flag (codes "quiet") ∷ lone_flag (codes "explain") ∷ [])) }
 {
-    let command = Command::new(alloc, "match")
-        .about(MATCH_ABOUT)
-        .long_about(MATCH_DETAILS)
-        .after_help(MATCH_EXAMPLE)
+    let command = described(alloc, "match", MATCH_ABOUT, MATCH_DETAILS, MATCH_EXAMPLE)
         .arg(code(alloc))?
         .arg(flag(alloc, "pcap", PCAP_HELP))?
         .arg(flag(alloc, "stream", STREAM_HELP))?
@@ -70,12 +67,26 @@ fn matching<'a>(alloc: Global) -> Result<Command<'a>, AllocError>
 fn checking<'a>(alloc: Global) -> Result<Command<'a>, AllocError>
     ensures { IfOk result (IsCommand (codes "check") (flag (codes "asm") ∷ lone_flag (codes "graph") ∷ [])) }
 {
-    let command = Command::new(alloc, "check")
-        .about(CHECK_ABOUT)
-        .long_about(CHECK_DETAILS)
-        .after_help(CHECK_EXAMPLE)
-        .arg(flag(alloc, "asm", ASM_HELP))?;
+    let command = described(alloc, "check", CHECK_ABOUT, CHECK_DETAILS, CHECK_EXAMPLE).arg(flag(
+        alloc, "asm", ASM_HELP,
+    ))?;
     with_argument(command, lone_flag(alloc, "graph", GRAPH_HELP, "asm"))
+}
+
+// A command with the texts of its help, and no argument yet.
+fn described<'a>(
+    alloc: Global,
+    name: &'a str,
+    about: &'a str,
+    details: &'a str,
+    example: &'a str,
+) -> Command<'a>
+    ensures { IsCommand name.entry.now [] result }
+{
+    Command::new(alloc, name)
+        .about(about)
+        .long_about(details)
+        .after_help(example)
 }
 
 // A command with one more argument, where that could be made.
@@ -99,43 +110,30 @@ fn with_argument<'a>(
 fn dumping<'a>(alloc: Global) -> Command<'a>
     ensures { IsCommand (codes "dump") [] result }
 {
-    Command::new(alloc, "dump")
-        .about(DUMP_ABOUT)
-        .long_about(DUMP_DETAILS)
-        .after_help(DUMP_EXAMPLE)
+    described(alloc, "dump", DUMP_ABOUT, DUMP_DETAILS, DUMP_EXAMPLE)
 }
 
 // `sim [FILE]...`
 fn simulating<'a>(alloc: Global) -> Result<Command<'a>, AllocError>
     ensures { IfOk result (IsCommand (codes "sim") (files ∷ [])) }
 {
-    Command::new(alloc, "sim")
-        .about(SIM_ABOUT)
-        .long_about(SIM_DETAILS)
-        .after_help(SIM_EXAMPLE)
-        .arg(files(alloc))
+    described(alloc, "sim", SIM_ABOUT, SIM_DETAILS, SIM_EXAMPLE).arg(files(alloc))
 }
 
 // `run [FILE]...`
 fn running<'a>(alloc: Global) -> Result<Command<'a>, AllocError>
     ensures { IfOk result (IsCommand (codes "run") (files ∷ [])) }
 {
-    Command::new(alloc, "run")
-        .about(RUN_ABOUT)
-        .long_about(RUN_DETAILS)
-        .after_help(RUN_EXAMPLE)
-        .arg(files(alloc))
+    described(alloc, "run", RUN_ABOUT, RUN_DETAILS, RUN_EXAMPLE).arg(files(alloc))
 }
 
 // `draw [--text]`
 fn drawing<'a>(alloc: Global) -> Result<Command<'a>, AllocError>
     ensures { IfOk result (IsCommand (codes "draw") (flag (codes "text") ∷ [])) }
 {
-    Command::new(alloc, "draw")
-        .about(DRAW_ABOUT)
-        .long_about(DRAW_DETAILS)
-        .after_help(DRAW_EXAMPLE)
-        .arg(flag(alloc, "text", TEXT_HELP))
+    described(alloc, "draw", DRAW_ABOUT, DRAW_DETAILS, DRAW_EXAMPLE).arg(flag(
+        alloc, "text", TEXT_HELP,
+    ))
 }
 
 // `CODE`, which must be given.
