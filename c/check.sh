@@ -1,8 +1,9 @@
 #!/bin/sh
 # Builds the programs beside it over the C library and runs them. A line for each check, then `N passed, M failed`; status 1 where
 # one failed. What can't be tried here is said: `skipped: ..`.
-# Usage: c/check.sh [--built]. It proves and builds the library first where it isn't built from these sources (./libmkdemux). With
-# --built it skips everything then, and proves nothing.
+# Usage: c/check.sh                    proves and builds the library first where it isn't built from these sources (./libmkdemux)
+#        c/check.sh --built            proves nothing: skips everything where it isn't built from these sources
+#        c/check.sh --built FOLDER     takes the library of a folder, as ./libmkdemux FOLDER makes it, or skips everything
 # It needs a C compiler (CC, by default cc); libpcap's header and library for three of the programs; a C++ compiler (CXX) and
 # valgrind are used where they are there.
 cd "$(dirname "$0")" || exit 2
@@ -62,10 +63,16 @@ accepts() {
         fi
         echo 'int main(void) { return mkdemux_open(NULL, 0, NULL, NULL) != NULL; }'
     } > "$made/header.$1"
-    "$2" $3 -D_DEFAULT_SOURCE -Wall -Wextra -pedantic -Werror -I. -o "$made/header" "$made/header.$1" "$archive" && "$made/header"
+    "$2" $3 -D_DEFAULT_SOURCE -Wall -Wextra -pedantic -Werror "$headers" -o "$made/header" "$made/header.$1" "$archive" && "$made/header"
 }
 
-if [ "$1" = --built ]; then
+folder=${2-out}
+if [ "${1-}" = --built ] && [ $# -eq 2 ]; then
+    [ -f "$folder/lib/libmkdemux.a" ] || {
+        echo "skipped: the C library isn't in $2; ./libmkdemux builds it, c/check.sh tries it"
+        end
+    }
+elif [ "${1-}" = --built ]; then
     ../libmkdemux --built || {
         echo "skipped: the C library isn't built from these sources; ./libmkdemux builds it, c/check.sh tries it"
         end
@@ -73,7 +80,9 @@ if [ "$1" = --built ]; then
 else
     ../libmkdemux || exit 2
 fi
-archive=$PWD/out/lib/libmkdemux.a
+folder=$(cd "$folder" && pwd)
+archive=$folder/lib/libmkdemux.a
+headers=-I$folder/include
 if ! links ''; then
     echo "skipped: all of it: no C compiler"
     end
@@ -94,12 +103,12 @@ fi
 build() {
     program=$1
     shift
-    $cc $strict -D_DEFAULT_SOURCE -I. -o "$made/$program" "$program.c" "$archive" "$@"
+    $cc $strict -D_DEFAULT_SOURCE "$headers" -o "$made/$program" "$program.c" "$archive" "$@"
 }
 # The page's program, on a capture of which it has to show two packets.
 shows_page() {
     sed -n '/^```c$/,/^```$/p' ../docs/c-library.md | sed '1d;$d' > "$made/page.c" &&
-        $cc $strict -D_DEFAULT_SOURCE -I. -o "$made/page" "$made/page.c" "$archive" $pcap &&
+        $cc $strict -D_DEFAULT_SOURCE "$headers" -o "$made/page" "$made/page.c" "$archive" $pcap &&
         "$made/page" $frames arp > "$made/shown" && [ "$(wc -l < "$made/shown")" -eq 2 ]
 }
 try "calls.c without a warning" build calls -Wl,--wrap=malloc,--wrap=realloc

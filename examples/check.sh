@@ -27,13 +27,39 @@ prints() {
     count "$out" $?
 }
 
+# SCRIPT: its names, requests and packets, without an order of events.
+unordered() {
+    grep -v -E '^(settle|start|submit|startfor|take|show)( |$)' "$1.script"
+}
+
 # SCRIPT FILE..: with its requests and packets alone, and with its output after `trace`, the script prints this output again.
 repeats() {
     script=$1
     shift
-    { grep -v -E '^(settle|start|submit|startfor|take)( |$)' "$script.script"; echo trace; cat "$script.out"; } |
+    { unordered "$script"; echo trace; cat "$script.out"; } |
         ../mkdemux sim "$@" > "$made/printed" && cmp -s "$made/printed" "$script.out"
     count "$script-traced" $?
+}
+
+# TIMES FILE..: runs the script $made/unordered on threads, so many times. `sim` must print each run again, but for what was left.
+runs_again() {
+    times=$1
+    shift
+    while [ "$times" -gt 0 ]; do
+        times=$((times - 1))
+        ../mkdemux run "$@" < "$made/unordered" > "$made/run" || return 1
+        { cat "$made/unordered"; echo trace; cat "$made/run"; } | ../mkdemux sim "$@" > "$made/printed" || return 1
+        grep -v '^left ' "$made/run" | cmp -s - "$made/printed" || return 1
+    done
+}
+
+# SCRIPT FILE..: each of 25 runs of its requests and packets on threads is what `sim` prints again.
+goes_round() {
+    script=$1
+    shift
+    unordered "$script" > "$made/unordered"
+    runs_again 25 "$@"
+    count "$script-run-again" $?
 }
 
 # OUT: this is drawn as its picture, which is well-formed where xmllint is there to say so.
@@ -75,6 +101,14 @@ prints files files frames.pcap two.pcap
 prints files-swapped files two.pcap frames.pcap
 repeats replay frames.pcap
 repeats homes
+goes_round two-phase
+goes_round revoked
+goes_round replay frames.pcap
+goes_round veto
+goes_round home
+goes_round homes
+goes_round files frames.pcap two.pcap
+goes_round run frames.pcap
 draws two-phase
 draws revoked
 draws replay
@@ -102,7 +136,8 @@ not_utf8() {
 
 # Flags that can't stand beside each other are a fault of the command line.
 conflicts() {
-    for flags in 'match --explain --pcap 1,6_0_0_5' 'match --explain --stream 1,6_0_0_5' 'check --asm --graph'; do
+    for flags in 'match --explain --pcap 1,6_0_0_5' 'match --explain --stream 1,6_0_0_5' 'check --asm --graph' \
+        'match --number --count 1,6_0_0_5' 'match --quiet --count 1,6_0_0_5' 'match --quiet --explain 1,6_0_0_5'; do
         ../mkdemux $flags < /dev/null > "$made/printed" 2> "$made/said"
         [ $? -eq 2 ] && [ ! -s "$made/printed" ] && grep -q '^Usage: ' "$made/said" || return 1
     done

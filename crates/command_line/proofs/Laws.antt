@@ -7,9 +7,11 @@ use Rattle.clap.specs.Words.{Row, Text, first_of, one_of, subcommand_of}
 use Rattle.clap.proofs.OnLiterals.{clap_on_literals}
 use Rattle.command_line.specs.declared.request.Request.{Request}
 use Rattle.command_line.specs.declared.request.Request.TheVariants.{Check, Graph, Dump, Draw}
+use Rattle.command_line.specs.declared.request.View.{View}
+use Rattle.command_line.specs.declared.request.View.TheVariants.{Numbers, Count, Quiet}
 use Rattle.command_line.specs.Program.{program}
-use Rattle.command_line.specs.Requests.{AsksBy, BeginsWithDigit, IsExplain, IsMatch, Spells, check_words, draw_words, explain_words, match_words}
-use Rattle.command_line.proofs.OneRequest.{only_check, only_draw, only_dump, only_explain, only_graph, only_match, truth}
+use Rattle.command_line.specs.Requests.{AsksBy, BeginsWithDigit, IsExplain, IsMatch, IsViewed, Spells, check_words, draw_words, explain_words, match_words, view_words}
+use Rattle.command_line.proofs.OneRequest.{HasView, only_check, only_draw, only_dump, only_explain, only_graph, only_match, only_view, truth}
 
 -- a command was found, with this name, and of its rows this holds
 abbrev Finds : Option (Text × List Row) → Text → (List Row → Type 0) → Type 0
@@ -18,7 +20,7 @@ Finds (Some found) name P = (found.0 ≡ name) × P found.1
 
 abbrev HasMatch : Text → Bool → Bool → List Row → Type 0
 HasMatch code pcap stream rows =
-    (unwrap_or (first_of (codes "code") rows) [] ≡ code) × (one_of (codes "explain") rows ≡ Some (truth false)) × (one_of (codes "pcap") rows ≡ Some (truth pcap)) × (one_of (codes "stream") rows ≡ Some (truth stream))
+    (unwrap_or (first_of (codes "code") rows) [] ≡ code) × (one_of (codes "explain") rows ≡ Some (truth false)) × (one_of (codes "pcap") rows ≡ Some (truth pcap)) × (one_of (codes "stream") rows ≡ Some (truth stream)) × HasView rows None
 
 abbrev FindsMatch : Bool → Bool → ℕ → Type 0
 FindsMatch pcap stream digit =
@@ -27,64 +29,163 @@ FindsMatch pcap stream digit =
 finds_match_false_false : All (FindsMatch false false) (codes "0123456789")
 unfolding clap_on_literals
 finds_match_false_false =
-    All-cons (FindsMatch false false) 48 (49 ∷ 50 ∷ 51 ∷ 52 ∷ 53 ∷ 54 ∷ 55 ∷ 56 ∷ 57 ∷ []) (λ name rest. (refl, (refl, refl, refl, refl))) (
-    All-cons (FindsMatch false false) 49 (50 ∷ 51 ∷ 52 ∷ 53 ∷ 54 ∷ 55 ∷ 56 ∷ 57 ∷ []) (λ name rest. (refl, (refl, refl, refl, refl))) (
-    All-cons (FindsMatch false false) 50 (51 ∷ 52 ∷ 53 ∷ 54 ∷ 55 ∷ 56 ∷ 57 ∷ []) (λ name rest. (refl, (refl, refl, refl, refl))) (
-    All-cons (FindsMatch false false) 51 (52 ∷ 53 ∷ 54 ∷ 55 ∷ 56 ∷ 57 ∷ []) (λ name rest. (refl, (refl, refl, refl, refl))) (
-    All-cons (FindsMatch false false) 52 (53 ∷ 54 ∷ 55 ∷ 56 ∷ 57 ∷ []) (λ name rest. (refl, (refl, refl, refl, refl))) (
-    All-cons (FindsMatch false false) 53 (54 ∷ 55 ∷ 56 ∷ 57 ∷ []) (λ name rest. (refl, (refl, refl, refl, refl))) (
-    All-cons (FindsMatch false false) 54 (55 ∷ 56 ∷ 57 ∷ []) (λ name rest. (refl, (refl, refl, refl, refl))) (
-    All-cons (FindsMatch false false) 55 (56 ∷ 57 ∷ []) (λ name rest. (refl, (refl, refl, refl, refl))) (
-    All-cons (FindsMatch false false) 56 (57 ∷ []) (λ name rest. (refl, (refl, refl, refl, refl))) (
-    All-cons (FindsMatch false false) 57 [] (λ name rest. (refl, (refl, refl, refl, refl))) (All-nil (FindsMatch false false)))))))))))
+    All-cons (FindsMatch false false) 48 (49 ∷ 50 ∷ 51 ∷ 52 ∷ 53 ∷ 54 ∷ 55 ∷ 56 ∷ 57 ∷ []) (λ name rest. (refl, (refl, refl, refl, refl, (refl, refl, refl)))) (
+    All-cons (FindsMatch false false) 49 (50 ∷ 51 ∷ 52 ∷ 53 ∷ 54 ∷ 55 ∷ 56 ∷ 57 ∷ []) (λ name rest. (refl, (refl, refl, refl, refl, (refl, refl, refl)))) (
+    All-cons (FindsMatch false false) 50 (51 ∷ 52 ∷ 53 ∷ 54 ∷ 55 ∷ 56 ∷ 57 ∷ []) (λ name rest. (refl, (refl, refl, refl, refl, (refl, refl, refl)))) (
+    All-cons (FindsMatch false false) 51 (52 ∷ 53 ∷ 54 ∷ 55 ∷ 56 ∷ 57 ∷ []) (λ name rest. (refl, (refl, refl, refl, refl, (refl, refl, refl)))) (
+    All-cons (FindsMatch false false) 52 (53 ∷ 54 ∷ 55 ∷ 56 ∷ 57 ∷ []) (λ name rest. (refl, (refl, refl, refl, refl, (refl, refl, refl)))) (
+    All-cons (FindsMatch false false) 53 (54 ∷ 55 ∷ 56 ∷ 57 ∷ []) (λ name rest. (refl, (refl, refl, refl, refl, (refl, refl, refl)))) (
+    All-cons (FindsMatch false false) 54 (55 ∷ 56 ∷ 57 ∷ []) (λ name rest. (refl, (refl, refl, refl, refl, (refl, refl, refl)))) (
+    All-cons (FindsMatch false false) 55 (56 ∷ 57 ∷ []) (λ name rest. (refl, (refl, refl, refl, refl, (refl, refl, refl)))) (
+    All-cons (FindsMatch false false) 56 (57 ∷ []) (λ name rest. (refl, (refl, refl, refl, refl, (refl, refl, refl)))) (
+    All-cons (FindsMatch false false) 57 [] (λ name rest. (refl, (refl, refl, refl, refl, (refl, refl, refl)))) (All-nil (FindsMatch false false)))))))))))
 
 finds_match_false_true : All (FindsMatch false true) (codes "0123456789")
 unfolding clap_on_literals
 finds_match_false_true =
-    All-cons (FindsMatch false true) 48 (49 ∷ 50 ∷ 51 ∷ 52 ∷ 53 ∷ 54 ∷ 55 ∷ 56 ∷ 57 ∷ []) (λ name rest. (refl, (refl, refl, refl, refl))) (
-    All-cons (FindsMatch false true) 49 (50 ∷ 51 ∷ 52 ∷ 53 ∷ 54 ∷ 55 ∷ 56 ∷ 57 ∷ []) (λ name rest. (refl, (refl, refl, refl, refl))) (
-    All-cons (FindsMatch false true) 50 (51 ∷ 52 ∷ 53 ∷ 54 ∷ 55 ∷ 56 ∷ 57 ∷ []) (λ name rest. (refl, (refl, refl, refl, refl))) (
-    All-cons (FindsMatch false true) 51 (52 ∷ 53 ∷ 54 ∷ 55 ∷ 56 ∷ 57 ∷ []) (λ name rest. (refl, (refl, refl, refl, refl))) (
-    All-cons (FindsMatch false true) 52 (53 ∷ 54 ∷ 55 ∷ 56 ∷ 57 ∷ []) (λ name rest. (refl, (refl, refl, refl, refl))) (
-    All-cons (FindsMatch false true) 53 (54 ∷ 55 ∷ 56 ∷ 57 ∷ []) (λ name rest. (refl, (refl, refl, refl, refl))) (
-    All-cons (FindsMatch false true) 54 (55 ∷ 56 ∷ 57 ∷ []) (λ name rest. (refl, (refl, refl, refl, refl))) (
-    All-cons (FindsMatch false true) 55 (56 ∷ 57 ∷ []) (λ name rest. (refl, (refl, refl, refl, refl))) (
-    All-cons (FindsMatch false true) 56 (57 ∷ []) (λ name rest. (refl, (refl, refl, refl, refl))) (
-    All-cons (FindsMatch false true) 57 [] (λ name rest. (refl, (refl, refl, refl, refl))) (All-nil (FindsMatch false true)))))))))))
+    All-cons (FindsMatch false true) 48 (49 ∷ 50 ∷ 51 ∷ 52 ∷ 53 ∷ 54 ∷ 55 ∷ 56 ∷ 57 ∷ []) (λ name rest. (refl, (refl, refl, refl, refl, (refl, refl, refl)))) (
+    All-cons (FindsMatch false true) 49 (50 ∷ 51 ∷ 52 ∷ 53 ∷ 54 ∷ 55 ∷ 56 ∷ 57 ∷ []) (λ name rest. (refl, (refl, refl, refl, refl, (refl, refl, refl)))) (
+    All-cons (FindsMatch false true) 50 (51 ∷ 52 ∷ 53 ∷ 54 ∷ 55 ∷ 56 ∷ 57 ∷ []) (λ name rest. (refl, (refl, refl, refl, refl, (refl, refl, refl)))) (
+    All-cons (FindsMatch false true) 51 (52 ∷ 53 ∷ 54 ∷ 55 ∷ 56 ∷ 57 ∷ []) (λ name rest. (refl, (refl, refl, refl, refl, (refl, refl, refl)))) (
+    All-cons (FindsMatch false true) 52 (53 ∷ 54 ∷ 55 ∷ 56 ∷ 57 ∷ []) (λ name rest. (refl, (refl, refl, refl, refl, (refl, refl, refl)))) (
+    All-cons (FindsMatch false true) 53 (54 ∷ 55 ∷ 56 ∷ 57 ∷ []) (λ name rest. (refl, (refl, refl, refl, refl, (refl, refl, refl)))) (
+    All-cons (FindsMatch false true) 54 (55 ∷ 56 ∷ 57 ∷ []) (λ name rest. (refl, (refl, refl, refl, refl, (refl, refl, refl)))) (
+    All-cons (FindsMatch false true) 55 (56 ∷ 57 ∷ []) (λ name rest. (refl, (refl, refl, refl, refl, (refl, refl, refl)))) (
+    All-cons (FindsMatch false true) 56 (57 ∷ []) (λ name rest. (refl, (refl, refl, refl, refl, (refl, refl, refl)))) (
+    All-cons (FindsMatch false true) 57 [] (λ name rest. (refl, (refl, refl, refl, refl, (refl, refl, refl)))) (All-nil (FindsMatch false true)))))))))))
 
 finds_match_true_false : All (FindsMatch true false) (codes "0123456789")
 unfolding clap_on_literals
 finds_match_true_false =
-    All-cons (FindsMatch true false) 48 (49 ∷ 50 ∷ 51 ∷ 52 ∷ 53 ∷ 54 ∷ 55 ∷ 56 ∷ 57 ∷ []) (λ name rest. (refl, (refl, refl, refl, refl))) (
-    All-cons (FindsMatch true false) 49 (50 ∷ 51 ∷ 52 ∷ 53 ∷ 54 ∷ 55 ∷ 56 ∷ 57 ∷ []) (λ name rest. (refl, (refl, refl, refl, refl))) (
-    All-cons (FindsMatch true false) 50 (51 ∷ 52 ∷ 53 ∷ 54 ∷ 55 ∷ 56 ∷ 57 ∷ []) (λ name rest. (refl, (refl, refl, refl, refl))) (
-    All-cons (FindsMatch true false) 51 (52 ∷ 53 ∷ 54 ∷ 55 ∷ 56 ∷ 57 ∷ []) (λ name rest. (refl, (refl, refl, refl, refl))) (
-    All-cons (FindsMatch true false) 52 (53 ∷ 54 ∷ 55 ∷ 56 ∷ 57 ∷ []) (λ name rest. (refl, (refl, refl, refl, refl))) (
-    All-cons (FindsMatch true false) 53 (54 ∷ 55 ∷ 56 ∷ 57 ∷ []) (λ name rest. (refl, (refl, refl, refl, refl))) (
-    All-cons (FindsMatch true false) 54 (55 ∷ 56 ∷ 57 ∷ []) (λ name rest. (refl, (refl, refl, refl, refl))) (
-    All-cons (FindsMatch true false) 55 (56 ∷ 57 ∷ []) (λ name rest. (refl, (refl, refl, refl, refl))) (
-    All-cons (FindsMatch true false) 56 (57 ∷ []) (λ name rest. (refl, (refl, refl, refl, refl))) (
-    All-cons (FindsMatch true false) 57 [] (λ name rest. (refl, (refl, refl, refl, refl))) (All-nil (FindsMatch true false)))))))))))
+    All-cons (FindsMatch true false) 48 (49 ∷ 50 ∷ 51 ∷ 52 ∷ 53 ∷ 54 ∷ 55 ∷ 56 ∷ 57 ∷ []) (λ name rest. (refl, (refl, refl, refl, refl, (refl, refl, refl)))) (
+    All-cons (FindsMatch true false) 49 (50 ∷ 51 ∷ 52 ∷ 53 ∷ 54 ∷ 55 ∷ 56 ∷ 57 ∷ []) (λ name rest. (refl, (refl, refl, refl, refl, (refl, refl, refl)))) (
+    All-cons (FindsMatch true false) 50 (51 ∷ 52 ∷ 53 ∷ 54 ∷ 55 ∷ 56 ∷ 57 ∷ []) (λ name rest. (refl, (refl, refl, refl, refl, (refl, refl, refl)))) (
+    All-cons (FindsMatch true false) 51 (52 ∷ 53 ∷ 54 ∷ 55 ∷ 56 ∷ 57 ∷ []) (λ name rest. (refl, (refl, refl, refl, refl, (refl, refl, refl)))) (
+    All-cons (FindsMatch true false) 52 (53 ∷ 54 ∷ 55 ∷ 56 ∷ 57 ∷ []) (λ name rest. (refl, (refl, refl, refl, refl, (refl, refl, refl)))) (
+    All-cons (FindsMatch true false) 53 (54 ∷ 55 ∷ 56 ∷ 57 ∷ []) (λ name rest. (refl, (refl, refl, refl, refl, (refl, refl, refl)))) (
+    All-cons (FindsMatch true false) 54 (55 ∷ 56 ∷ 57 ∷ []) (λ name rest. (refl, (refl, refl, refl, refl, (refl, refl, refl)))) (
+    All-cons (FindsMatch true false) 55 (56 ∷ 57 ∷ []) (λ name rest. (refl, (refl, refl, refl, refl, (refl, refl, refl)))) (
+    All-cons (FindsMatch true false) 56 (57 ∷ []) (λ name rest. (refl, (refl, refl, refl, refl, (refl, refl, refl)))) (
+    All-cons (FindsMatch true false) 57 [] (λ name rest. (refl, (refl, refl, refl, refl, (refl, refl, refl)))) (All-nil (FindsMatch true false)))))))))))
 
 finds_match_true_true : All (FindsMatch true true) (codes "0123456789")
 unfolding clap_on_literals
 finds_match_true_true =
-    All-cons (FindsMatch true true) 48 (49 ∷ 50 ∷ 51 ∷ 52 ∷ 53 ∷ 54 ∷ 55 ∷ 56 ∷ 57 ∷ []) (λ name rest. (refl, (refl, refl, refl, refl))) (
-    All-cons (FindsMatch true true) 49 (50 ∷ 51 ∷ 52 ∷ 53 ∷ 54 ∷ 55 ∷ 56 ∷ 57 ∷ []) (λ name rest. (refl, (refl, refl, refl, refl))) (
-    All-cons (FindsMatch true true) 50 (51 ∷ 52 ∷ 53 ∷ 54 ∷ 55 ∷ 56 ∷ 57 ∷ []) (λ name rest. (refl, (refl, refl, refl, refl))) (
-    All-cons (FindsMatch true true) 51 (52 ∷ 53 ∷ 54 ∷ 55 ∷ 56 ∷ 57 ∷ []) (λ name rest. (refl, (refl, refl, refl, refl))) (
-    All-cons (FindsMatch true true) 52 (53 ∷ 54 ∷ 55 ∷ 56 ∷ 57 ∷ []) (λ name rest. (refl, (refl, refl, refl, refl))) (
-    All-cons (FindsMatch true true) 53 (54 ∷ 55 ∷ 56 ∷ 57 ∷ []) (λ name rest. (refl, (refl, refl, refl, refl))) (
-    All-cons (FindsMatch true true) 54 (55 ∷ 56 ∷ 57 ∷ []) (λ name rest. (refl, (refl, refl, refl, refl))) (
-    All-cons (FindsMatch true true) 55 (56 ∷ 57 ∷ []) (λ name rest. (refl, (refl, refl, refl, refl))) (
-    All-cons (FindsMatch true true) 56 (57 ∷ []) (λ name rest. (refl, (refl, refl, refl, refl))) (
-    All-cons (FindsMatch true true) 57 [] (λ name rest. (refl, (refl, refl, refl, refl))) (All-nil (FindsMatch true true)))))))))))
+    All-cons (FindsMatch true true) 48 (49 ∷ 50 ∷ 51 ∷ 52 ∷ 53 ∷ 54 ∷ 55 ∷ 56 ∷ 57 ∷ []) (λ name rest. (refl, (refl, refl, refl, refl, (refl, refl, refl)))) (
+    All-cons (FindsMatch true true) 49 (50 ∷ 51 ∷ 52 ∷ 53 ∷ 54 ∷ 55 ∷ 56 ∷ 57 ∷ []) (λ name rest. (refl, (refl, refl, refl, refl, (refl, refl, refl)))) (
+    All-cons (FindsMatch true true) 50 (51 ∷ 52 ∷ 53 ∷ 54 ∷ 55 ∷ 56 ∷ 57 ∷ []) (λ name rest. (refl, (refl, refl, refl, refl, (refl, refl, refl)))) (
+    All-cons (FindsMatch true true) 51 (52 ∷ 53 ∷ 54 ∷ 55 ∷ 56 ∷ 57 ∷ []) (λ name rest. (refl, (refl, refl, refl, refl, (refl, refl, refl)))) (
+    All-cons (FindsMatch true true) 52 (53 ∷ 54 ∷ 55 ∷ 56 ∷ 57 ∷ []) (λ name rest. (refl, (refl, refl, refl, refl, (refl, refl, refl)))) (
+    All-cons (FindsMatch true true) 53 (54 ∷ 55 ∷ 56 ∷ 57 ∷ []) (λ name rest. (refl, (refl, refl, refl, refl, (refl, refl, refl)))) (
+    All-cons (FindsMatch true true) 54 (55 ∷ 56 ∷ 57 ∷ []) (λ name rest. (refl, (refl, refl, refl, refl, (refl, refl, refl)))) (
+    All-cons (FindsMatch true true) 55 (56 ∷ 57 ∷ []) (λ name rest. (refl, (refl, refl, refl, refl, (refl, refl, refl)))) (
+    All-cons (FindsMatch true true) 56 (57 ∷ []) (λ name rest. (refl, (refl, refl, refl, refl, (refl, refl, refl)))) (
+    All-cons (FindsMatch true true) 57 [] (λ name rest. (refl, (refl, refl, refl, refl, (refl, refl, refl)))) (All-nil (FindsMatch true true)))))))))))
 
 finds_match : (pcap stream : Bool) → All (FindsMatch pcap stream) (codes "0123456789")
 finds_match false false = finds_match_false_false
 finds_match false true = finds_match_false_true
 finds_match true false = finds_match_true_false
 finds_match true true = finds_match_true_true
+
+abbrev HasViewed : Text → Bool → View → List Row → Type 0
+HasViewed code pcap view rows =
+    (unwrap_or (first_of (codes "code") rows) [] ≡ code) × (one_of (codes "explain") rows ≡ Some (truth false)) × (one_of (codes "pcap") rows ≡ Some (truth pcap)) × HasView rows (Some view)
+
+abbrev FindsView : Bool → View → ℕ → Type 0
+FindsView pcap view digit = (name rest : Text) → Finds (subcommand_of program (name ∷ view_words (digit ∷ rest) pcap view)) (codes "match") (HasViewed (digit ∷ rest) pcap view)
+
+finds_view_false_numbers : All (FindsView false Numbers) (codes "0123456789")
+unfolding clap_on_literals
+finds_view_false_numbers =
+    All-cons (FindsView false Numbers) 48 (49 ∷ 50 ∷ 51 ∷ 52 ∷ 53 ∷ 54 ∷ 55 ∷ 56 ∷ 57 ∷ []) (λ name rest. (refl, (refl, refl, refl, (refl, refl, refl)))) (
+    All-cons (FindsView false Numbers) 49 (50 ∷ 51 ∷ 52 ∷ 53 ∷ 54 ∷ 55 ∷ 56 ∷ 57 ∷ []) (λ name rest. (refl, (refl, refl, refl, (refl, refl, refl)))) (
+    All-cons (FindsView false Numbers) 50 (51 ∷ 52 ∷ 53 ∷ 54 ∷ 55 ∷ 56 ∷ 57 ∷ []) (λ name rest. (refl, (refl, refl, refl, (refl, refl, refl)))) (
+    All-cons (FindsView false Numbers) 51 (52 ∷ 53 ∷ 54 ∷ 55 ∷ 56 ∷ 57 ∷ []) (λ name rest. (refl, (refl, refl, refl, (refl, refl, refl)))) (
+    All-cons (FindsView false Numbers) 52 (53 ∷ 54 ∷ 55 ∷ 56 ∷ 57 ∷ []) (λ name rest. (refl, (refl, refl, refl, (refl, refl, refl)))) (
+    All-cons (FindsView false Numbers) 53 (54 ∷ 55 ∷ 56 ∷ 57 ∷ []) (λ name rest. (refl, (refl, refl, refl, (refl, refl, refl)))) (
+    All-cons (FindsView false Numbers) 54 (55 ∷ 56 ∷ 57 ∷ []) (λ name rest. (refl, (refl, refl, refl, (refl, refl, refl)))) (
+    All-cons (FindsView false Numbers) 55 (56 ∷ 57 ∷ []) (λ name rest. (refl, (refl, refl, refl, (refl, refl, refl)))) (
+    All-cons (FindsView false Numbers) 56 (57 ∷ []) (λ name rest. (refl, (refl, refl, refl, (refl, refl, refl)))) (
+    All-cons (FindsView false Numbers) 57 [] (λ name rest. (refl, (refl, refl, refl, (refl, refl, refl)))) (All-nil (FindsView false Numbers)))))))))))
+
+finds_view_false_count : All (FindsView false Count) (codes "0123456789")
+unfolding clap_on_literals
+finds_view_false_count =
+    All-cons (FindsView false Count) 48 (49 ∷ 50 ∷ 51 ∷ 52 ∷ 53 ∷ 54 ∷ 55 ∷ 56 ∷ 57 ∷ []) (λ name rest. (refl, (refl, refl, refl, (refl, refl)))) (
+    All-cons (FindsView false Count) 49 (50 ∷ 51 ∷ 52 ∷ 53 ∷ 54 ∷ 55 ∷ 56 ∷ 57 ∷ []) (λ name rest. (refl, (refl, refl, refl, (refl, refl)))) (
+    All-cons (FindsView false Count) 50 (51 ∷ 52 ∷ 53 ∷ 54 ∷ 55 ∷ 56 ∷ 57 ∷ []) (λ name rest. (refl, (refl, refl, refl, (refl, refl)))) (
+    All-cons (FindsView false Count) 51 (52 ∷ 53 ∷ 54 ∷ 55 ∷ 56 ∷ 57 ∷ []) (λ name rest. (refl, (refl, refl, refl, (refl, refl)))) (
+    All-cons (FindsView false Count) 52 (53 ∷ 54 ∷ 55 ∷ 56 ∷ 57 ∷ []) (λ name rest. (refl, (refl, refl, refl, (refl, refl)))) (
+    All-cons (FindsView false Count) 53 (54 ∷ 55 ∷ 56 ∷ 57 ∷ []) (λ name rest. (refl, (refl, refl, refl, (refl, refl)))) (
+    All-cons (FindsView false Count) 54 (55 ∷ 56 ∷ 57 ∷ []) (λ name rest. (refl, (refl, refl, refl, (refl, refl)))) (
+    All-cons (FindsView false Count) 55 (56 ∷ 57 ∷ []) (λ name rest. (refl, (refl, refl, refl, (refl, refl)))) (
+    All-cons (FindsView false Count) 56 (57 ∷ []) (λ name rest. (refl, (refl, refl, refl, (refl, refl)))) (
+    All-cons (FindsView false Count) 57 [] (λ name rest. (refl, (refl, refl, refl, (refl, refl)))) (All-nil (FindsView false Count)))))))))))
+
+finds_view_false_quiet : All (FindsView false Quiet) (codes "0123456789")
+unfolding clap_on_literals
+finds_view_false_quiet =
+    All-cons (FindsView false Quiet) 48 (49 ∷ 50 ∷ 51 ∷ 52 ∷ 53 ∷ 54 ∷ 55 ∷ 56 ∷ 57 ∷ []) (λ name rest. (refl, (refl, refl, refl, refl))) (
+    All-cons (FindsView false Quiet) 49 (50 ∷ 51 ∷ 52 ∷ 53 ∷ 54 ∷ 55 ∷ 56 ∷ 57 ∷ []) (λ name rest. (refl, (refl, refl, refl, refl))) (
+    All-cons (FindsView false Quiet) 50 (51 ∷ 52 ∷ 53 ∷ 54 ∷ 55 ∷ 56 ∷ 57 ∷ []) (λ name rest. (refl, (refl, refl, refl, refl))) (
+    All-cons (FindsView false Quiet) 51 (52 ∷ 53 ∷ 54 ∷ 55 ∷ 56 ∷ 57 ∷ []) (λ name rest. (refl, (refl, refl, refl, refl))) (
+    All-cons (FindsView false Quiet) 52 (53 ∷ 54 ∷ 55 ∷ 56 ∷ 57 ∷ []) (λ name rest. (refl, (refl, refl, refl, refl))) (
+    All-cons (FindsView false Quiet) 53 (54 ∷ 55 ∷ 56 ∷ 57 ∷ []) (λ name rest. (refl, (refl, refl, refl, refl))) (
+    All-cons (FindsView false Quiet) 54 (55 ∷ 56 ∷ 57 ∷ []) (λ name rest. (refl, (refl, refl, refl, refl))) (
+    All-cons (FindsView false Quiet) 55 (56 ∷ 57 ∷ []) (λ name rest. (refl, (refl, refl, refl, refl))) (
+    All-cons (FindsView false Quiet) 56 (57 ∷ []) (λ name rest. (refl, (refl, refl, refl, refl))) (
+    All-cons (FindsView false Quiet) 57 [] (λ name rest. (refl, (refl, refl, refl, refl))) (All-nil (FindsView false Quiet)))))))))))
+
+finds_view_true_numbers : All (FindsView true Numbers) (codes "0123456789")
+unfolding clap_on_literals
+finds_view_true_numbers =
+    All-cons (FindsView true Numbers) 48 (49 ∷ 50 ∷ 51 ∷ 52 ∷ 53 ∷ 54 ∷ 55 ∷ 56 ∷ 57 ∷ []) (λ name rest. (refl, (refl, refl, refl, (refl, refl, refl)))) (
+    All-cons (FindsView true Numbers) 49 (50 ∷ 51 ∷ 52 ∷ 53 ∷ 54 ∷ 55 ∷ 56 ∷ 57 ∷ []) (λ name rest. (refl, (refl, refl, refl, (refl, refl, refl)))) (
+    All-cons (FindsView true Numbers) 50 (51 ∷ 52 ∷ 53 ∷ 54 ∷ 55 ∷ 56 ∷ 57 ∷ []) (λ name rest. (refl, (refl, refl, refl, (refl, refl, refl)))) (
+    All-cons (FindsView true Numbers) 51 (52 ∷ 53 ∷ 54 ∷ 55 ∷ 56 ∷ 57 ∷ []) (λ name rest. (refl, (refl, refl, refl, (refl, refl, refl)))) (
+    All-cons (FindsView true Numbers) 52 (53 ∷ 54 ∷ 55 ∷ 56 ∷ 57 ∷ []) (λ name rest. (refl, (refl, refl, refl, (refl, refl, refl)))) (
+    All-cons (FindsView true Numbers) 53 (54 ∷ 55 ∷ 56 ∷ 57 ∷ []) (λ name rest. (refl, (refl, refl, refl, (refl, refl, refl)))) (
+    All-cons (FindsView true Numbers) 54 (55 ∷ 56 ∷ 57 ∷ []) (λ name rest. (refl, (refl, refl, refl, (refl, refl, refl)))) (
+    All-cons (FindsView true Numbers) 55 (56 ∷ 57 ∷ []) (λ name rest. (refl, (refl, refl, refl, (refl, refl, refl)))) (
+    All-cons (FindsView true Numbers) 56 (57 ∷ []) (λ name rest. (refl, (refl, refl, refl, (refl, refl, refl)))) (
+    All-cons (FindsView true Numbers) 57 [] (λ name rest. (refl, (refl, refl, refl, (refl, refl, refl)))) (All-nil (FindsView true Numbers)))))))))))
+
+finds_view_true_count : All (FindsView true Count) (codes "0123456789")
+unfolding clap_on_literals
+finds_view_true_count =
+    All-cons (FindsView true Count) 48 (49 ∷ 50 ∷ 51 ∷ 52 ∷ 53 ∷ 54 ∷ 55 ∷ 56 ∷ 57 ∷ []) (λ name rest. (refl, (refl, refl, refl, (refl, refl)))) (
+    All-cons (FindsView true Count) 49 (50 ∷ 51 ∷ 52 ∷ 53 ∷ 54 ∷ 55 ∷ 56 ∷ 57 ∷ []) (λ name rest. (refl, (refl, refl, refl, (refl, refl)))) (
+    All-cons (FindsView true Count) 50 (51 ∷ 52 ∷ 53 ∷ 54 ∷ 55 ∷ 56 ∷ 57 ∷ []) (λ name rest. (refl, (refl, refl, refl, (refl, refl)))) (
+    All-cons (FindsView true Count) 51 (52 ∷ 53 ∷ 54 ∷ 55 ∷ 56 ∷ 57 ∷ []) (λ name rest. (refl, (refl, refl, refl, (refl, refl)))) (
+    All-cons (FindsView true Count) 52 (53 ∷ 54 ∷ 55 ∷ 56 ∷ 57 ∷ []) (λ name rest. (refl, (refl, refl, refl, (refl, refl)))) (
+    All-cons (FindsView true Count) 53 (54 ∷ 55 ∷ 56 ∷ 57 ∷ []) (λ name rest. (refl, (refl, refl, refl, (refl, refl)))) (
+    All-cons (FindsView true Count) 54 (55 ∷ 56 ∷ 57 ∷ []) (λ name rest. (refl, (refl, refl, refl, (refl, refl)))) (
+    All-cons (FindsView true Count) 55 (56 ∷ 57 ∷ []) (λ name rest. (refl, (refl, refl, refl, (refl, refl)))) (
+    All-cons (FindsView true Count) 56 (57 ∷ []) (λ name rest. (refl, (refl, refl, refl, (refl, refl)))) (
+    All-cons (FindsView true Count) 57 [] (λ name rest. (refl, (refl, refl, refl, (refl, refl)))) (All-nil (FindsView true Count)))))))))))
+
+finds_view_true_quiet : All (FindsView true Quiet) (codes "0123456789")
+unfolding clap_on_literals
+finds_view_true_quiet =
+    All-cons (FindsView true Quiet) 48 (49 ∷ 50 ∷ 51 ∷ 52 ∷ 53 ∷ 54 ∷ 55 ∷ 56 ∷ 57 ∷ []) (λ name rest. (refl, (refl, refl, refl, refl))) (
+    All-cons (FindsView true Quiet) 49 (50 ∷ 51 ∷ 52 ∷ 53 ∷ 54 ∷ 55 ∷ 56 ∷ 57 ∷ []) (λ name rest. (refl, (refl, refl, refl, refl))) (
+    All-cons (FindsView true Quiet) 50 (51 ∷ 52 ∷ 53 ∷ 54 ∷ 55 ∷ 56 ∷ 57 ∷ []) (λ name rest. (refl, (refl, refl, refl, refl))) (
+    All-cons (FindsView true Quiet) 51 (52 ∷ 53 ∷ 54 ∷ 55 ∷ 56 ∷ 57 ∷ []) (λ name rest. (refl, (refl, refl, refl, refl))) (
+    All-cons (FindsView true Quiet) 52 (53 ∷ 54 ∷ 55 ∷ 56 ∷ 57 ∷ []) (λ name rest. (refl, (refl, refl, refl, refl))) (
+    All-cons (FindsView true Quiet) 53 (54 ∷ 55 ∷ 56 ∷ 57 ∷ []) (λ name rest. (refl, (refl, refl, refl, refl))) (
+    All-cons (FindsView true Quiet) 54 (55 ∷ 56 ∷ 57 ∷ []) (λ name rest. (refl, (refl, refl, refl, refl))) (
+    All-cons (FindsView true Quiet) 55 (56 ∷ 57 ∷ []) (λ name rest. (refl, (refl, refl, refl, refl))) (
+    All-cons (FindsView true Quiet) 56 (57 ∷ []) (λ name rest. (refl, (refl, refl, refl, refl))) (
+    All-cons (FindsView true Quiet) 57 [] (λ name rest. (refl, (refl, refl, refl, refl))) (All-nil (FindsView true Quiet)))))))))))
+
+finds_view : (pcap : Bool) (view : View) → All (FindsView pcap view) (codes "0123456789")
+finds_view false Numbers = finds_view_false_numbers
+finds_view false Count = finds_view_false_count
+finds_view false Quiet = finds_view_false_quiet
+finds_view true Numbers = finds_view_true_numbers
+finds_view true Count = finds_view_true_count
+finds_view true Quiet = finds_view_true_quiet
 
 abbrev HasExplain : Text → List Row → Type 0
 HasExplain code rows = (unwrap_or (first_of (codes "code") rows) [] ≡ code) × (one_of (codes "explain") rows ≡ Some (truth true))
@@ -133,7 +234,12 @@ finds_dump name = (refl, tt)
 match_found : (found : Option (Text × List Row)) (r : Option Request) (code : Text) (pcap stream : Bool) → AsksBy found r
     → Finds found (codes "match") (HasMatch code pcap stream) → IsMatch code pcap stream r
 match_found None r code pcap stream asks finds = absurd finds
-match_found (Some found) r code pcap stream asks finds = only_match found.0 found.1 r finds.0 asks code pcap stream finds.1.0 finds.1.1 finds.1.2 finds.1.3
+match_found (Some found) r code pcap stream asks finds = only_match found.0 found.1 r finds.0 asks code pcap stream finds.1.0 finds.1.1 finds.1.2 finds.1.3 finds.1.4
+
+view_found : (found : Option (Text × List Row)) (r : Option Request) (code : Text) (pcap : Bool) (view : View) → AsksBy found r
+    → Finds found (codes "match") (HasViewed code pcap view) → IsViewed code pcap view r
+view_found None r code pcap view asks finds = absurd finds
+view_found (Some found) r code pcap view asks finds = only_view found.0 found.1 r finds.0 asks code pcap view finds.1.0 finds.1.1 finds.1.2 finds.1.3
 
 check_found : (found : Option (Text × List Row)) (r : Option Request) (asm : Bool) → AsksBy found r
     → Finds found (codes "check") (HasCheck asm) → r ≡ Some (Check asm)
@@ -164,6 +270,14 @@ matched words r asks code pcap stream spells (digit, rest, within, is) =
     let words_are : words ≡ spells.0 ∷ match_words (digit ∷ rest) pcap stream = spells.1 ∙ ap (λ c. spells.0 ∷ match_words c pcap stream) is in
     let asked = subst (λ w. AsksBy (subcommand_of program w) r) words_are asks in
     subst (λ c. IsMatch c pcap stream r) (sym is) (match_found (subcommand_of program (spells.0 ∷ match_words (digit ∷ rest) pcap stream)) r (digit ∷ rest) pcap stream asked law)
+
+pub viewed : (words : List Text) (r : Option Request) → AsksBy (subcommand_of program words) r
+    → (code : Text) (pcap : Bool) (view : View) → Spells words (view_words code pcap view) → BeginsWithDigit code → IsViewed code pcap view r
+viewed words r asks code pcap view spells (digit, rest, within, is) =
+    let law = All-contains (FindsView pcap view) (codes "0123456789") digit (finds_view pcap view) within spells.0 rest in
+    let words_are : words ≡ spells.0 ∷ view_words (digit ∷ rest) pcap view = spells.1 ∙ ap (λ c. spells.0 ∷ view_words c pcap view) is in
+    let asked = subst (λ w. AsksBy (subcommand_of program w) r) words_are asks in
+    subst (λ c. IsViewed c pcap view r) (sym is) (view_found (subcommand_of program (spells.0 ∷ view_words (digit ∷ rest) pcap view)) r (digit ∷ rest) pcap view asked law)
 
 pub checked : (words : List Text) (r : Option Request) → AsksBy (subcommand_of program words) r → (asm : Bool) → Spells words (check_words asm) → r ≡ Some (Check asm)
 checked words r asks asm spells = check_found (subcommand_of program (spells.0 ∷ check_words asm)) r asm (subst (λ w. AsksBy (subcommand_of program w) r) spells.1 asks) (finds_check spells.0 asm)

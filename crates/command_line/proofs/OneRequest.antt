@@ -4,8 +4,10 @@ use Rattle.std.specs.Prelude.{codes, unwrap_or}
 use Rattle.std.specs.List.{Contains}
 use Rattle.clap.specs.Words.{Row, Text, first_of, one_of}
 use Rattle.command_line.specs.declared.request.Request.{Request}
-use Rattle.command_line.specs.declared.request.Request.TheVariants.{Match, Explain, Check, Graph, Dump, Sim, Run, Draw}
-use Rattle.command_line.specs.Requests.{Asks, IsExplain, IsFlag, IsMatch, command_names}
+use Rattle.command_line.specs.declared.request.Request.TheVariants.{Match, View as Viewed, Explain, Check, Graph, Dump, Sim, Run, Draw}
+use Rattle.command_line.specs.declared.request.View.{View}
+use Rattle.command_line.specs.declared.request.View.TheVariants.{Numbers, Count, Quiet}
+use Rattle.command_line.specs.Requests.{Asks, IsExplain, IsFlag, IsMatch, IsView, IsViewed, command_names}
 
 abbrev pub truth : Bool → Text
 truth true = codes "true"
@@ -27,25 +29,78 @@ apart name one other is_one is_other differ = absurd (differ (ap key (sym is_one
 not_given : {X : Type 0} (name : Text) (rows : List Row) (given flag : Bool) → IsFlag name rows given → one_of name rows ≡ Some (truth flag) → (given ≡ flag → ⊥) → X
 not_given name rows given flag is found differ = absurd (differ (flag_is name rows given flag is found))
 
+-- the rows of the flags of a view
+abbrev pub HasView : List Row → Option View → Type 0
+HasView rows (Some Quiet) = one_of (codes "quiet") rows ≡ Some (truth true)
+HasView rows (Some Count) = (one_of (codes "quiet") rows ≡ Some (truth false)) × (one_of (codes "count") rows ≡ Some (truth true))
+HasView rows (Some Numbers) =
+    (one_of (codes "quiet") rows ≡ Some (truth false)) × (one_of (codes "count") rows ≡ Some (truth false)) × (one_of (codes "number") rows ≡ Some (truth true))
+HasView rows None =
+    (one_of (codes "quiet") rows ≡ Some (truth false)) × (one_of (codes "count") rows ≡ Some (truth false)) × (one_of (codes "number") rows ≡ Some (truth false))
+
+-- the flags say one view
+same_view : (rows : List Row) (view other : Option View) → IsView rows view → HasView rows other → view ≡ other
+same_view rows (Some Quiet) (Some Quiet) is has = refl
+same_view rows (Some Quiet) (Some Count) is has = not_given (codes "quiet") rows true false is has.0 (λ same. cc)
+same_view rows (Some Quiet) (Some Numbers) is has = not_given (codes "quiet") rows true false is has.0 (λ same. cc)
+same_view rows (Some Quiet) None is has = not_given (codes "quiet") rows true false is has.0 (λ same. cc)
+same_view rows (Some Count) (Some Quiet) is has = not_given (codes "quiet") rows false true is.0 has (λ same. cc)
+same_view rows (Some Count) (Some Count) is has = refl
+same_view rows (Some Count) (Some Numbers) is has = not_given (codes "count") rows true false is.1 has.1 (λ same. cc)
+same_view rows (Some Count) None is has = not_given (codes "count") rows true false is.1 has.1 (λ same. cc)
+same_view rows (Some Numbers) (Some Quiet) is has = not_given (codes "quiet") rows false true is.0 has (λ same. cc)
+same_view rows (Some Numbers) (Some Count) is has = not_given (codes "count") rows false true is.1 has.1 (λ same. cc)
+same_view rows (Some Numbers) (Some Numbers) is has = refl
+same_view rows (Some Numbers) None is has = not_given (codes "number") rows true false is.2 has.2 (λ same. cc)
+same_view rows None (Some Quiet) is has = not_given (codes "quiet") rows false true is.0 has (λ same. cc)
+same_view rows None (Some Count) is has = not_given (codes "count") rows false true is.1 has.1 (λ same. cc)
+same_view rows None (Some Numbers) is has = not_given (codes "number") rows false true is.2 has.2 (λ same. cc)
+same_view rows None None is has = refl
+
+other_view : {X : Type 0} (rows : List Row) (view other : Option View) → IsView rows view → HasView rows other → (view ≡ other → ⊥) → X
+other_view rows view other is has differ = absurd (differ (same_view rows view other is has))
+
+view_in : (view other : View) → Some view ≡ Some other → view ≡ other
+view_in view other is = cc
+
 pub only_match : (name : Text) (rows : List Row) (r : Option Request) → name ≡ codes "match" → Asks name rows r
     → (text : Text) (pcap stream : Bool) → unwrap_or (first_of (codes "code") rows) [] ≡ text → one_of (codes "explain") rows ≡ Some (truth false)
-    → one_of (codes "pcap") rows ≡ Some (truth pcap) → one_of (codes "stream") rows ≡ Some (truth stream) → IsMatch text pcap stream r
-only_match name rows (Some (Match code given_pcap given_stream)) is h text pcap stream is_code is_explain is_pcap is_stream =
+    → one_of (codes "pcap") rows ≡ Some (truth pcap) → one_of (codes "stream") rows ≡ Some (truth stream) → HasView rows None → IsMatch text pcap stream r
+only_match name rows (Some (Match code given_pcap given_stream)) is h text pcap stream is_code is_explain is_pcap is_stream none =
     (code, ap₂ (λ p s. Some (Match code p s)) (flag_is (codes "pcap") rows given_pcap pcap h.3 is_pcap) (flag_is (codes "stream") rows given_stream stream h.4 is_stream), h.1 ∙ is_code)
-only_match name rows (Some (Explain code)) is h text pcap stream is_code is_explain is_pcap is_stream =
+only_match name rows (Some (Explain code)) is h text pcap stream is_code is_explain is_pcap is_stream none =
     not_given (codes "explain") rows true false h.2 is_explain (λ same. cc)
-only_match name rows (Some (Check asm)) is h text pcap stream is_code is_explain is_pcap is_stream = apart name (codes "check") (codes "match") h.0 is (λ (same : 610 ≡ 651). absurd (omega arith))
-only_match name rows (Some Graph) is h text pcap stream is_code is_explain is_pcap is_stream = apart name (codes "check") (codes "match") h.0 is (λ (same : 610 ≡ 651). absurd (omega arith))
-only_match name rows (Some Dump) is h text pcap stream is_code is_explain is_pcap is_stream = apart name (codes "dump") (codes "match") h is (λ (same : 661 ≡ 651). absurd (omega arith))
-only_match name rows (Some (Sim files)) is h text pcap stream is_code is_explain is_pcap is_stream = apart name (codes "sim") (codes "match") h.0 is (λ (same : 652 ≡ 651). absurd (omega arith))
-only_match name rows (Some (Run files)) is h text pcap stream is_code is_explain is_pcap is_stream = apart name (codes "run") (codes "match") h.0 is (λ (same : 678 ≡ 651). absurd (omega arith))
-only_match name rows (Some (Draw words)) is h text pcap stream is_code is_explain is_pcap is_stream = apart name (codes "draw") (codes "match") h.0 is (λ (same : 619 ≡ 651). absurd (omega arith))
-only_match name rows None is h text pcap stream is_code is_explain is_pcap is_stream = absurd (subst (λ t. Contains command_names t → ⊥) is h (0, omega arith, refl))
+only_match name rows (Some (Check asm)) is h text pcap stream is_code is_explain is_pcap is_stream none = apart name (codes "check") (codes "match") h.0 is (λ (same : 610 ≡ 651). absurd (omega arith))
+only_match name rows (Some (Viewed code given view)) is h text pcap stream is_code is_explain is_pcap is_stream none = other_view rows (Some view) None h.4 none (λ same. cc)
+only_match name rows (Some Graph) is h text pcap stream is_code is_explain is_pcap is_stream none = apart name (codes "check") (codes "match") h.0 is (λ (same : 610 ≡ 651). absurd (omega arith))
+only_match name rows (Some Dump) is h text pcap stream is_code is_explain is_pcap is_stream none = apart name (codes "dump") (codes "match") h is (λ (same : 661 ≡ 651). absurd (omega arith))
+only_match name rows (Some (Sim files)) is h text pcap stream is_code is_explain is_pcap is_stream none = apart name (codes "sim") (codes "match") h.0 is (λ (same : 652 ≡ 651). absurd (omega arith))
+only_match name rows (Some (Run files)) is h text pcap stream is_code is_explain is_pcap is_stream none = apart name (codes "run") (codes "match") h.0 is (λ (same : 678 ≡ 651). absurd (omega arith))
+only_match name rows (Some (Draw words)) is h text pcap stream is_code is_explain is_pcap is_stream none = apart name (codes "draw") (codes "match") h.0 is (λ (same : 619 ≡ 651). absurd (omega arith))
+only_match name rows None is h text pcap stream is_code is_explain is_pcap is_stream none = absurd (subst (λ t. Contains command_names t → ⊥) is h (0, omega arith, refl))
+
+pub only_view : (name : Text) (rows : List Row) (r : Option Request) → name ≡ codes "match" → Asks name rows r
+    → (text : Text) (pcap : Bool) (view : View) → unwrap_or (first_of (codes "code") rows) [] ≡ text → one_of (codes "explain") rows ≡ Some (truth false)
+    → one_of (codes "pcap") rows ≡ Some (truth pcap) → HasView rows (Some view) → IsViewed text pcap view r
+only_view name rows (Some (Viewed code given_pcap given_view)) is h text pcap view is_code is_explain is_pcap is_view =
+    (code, ap₂ (λ p v. Some (Viewed code p v)) (flag_is (codes "pcap") rows given_pcap pcap h.3 is_pcap) (view_in given_view view (same_view rows (Some given_view) (Some view) h.4 is_view)), h.1 ∙ is_code)
+only_view name rows (Some (Match code given_pcap given_stream)) is h text pcap view is_code is_explain is_pcap is_view = other_view rows None (Some view) h.5 is_view (λ same. cc)
+only_view name rows (Some (Explain code)) is h text pcap view is_code is_explain is_pcap is_view =
+    not_given (codes "explain") rows true false h.2 is_explain (λ same. cc)
+only_view name rows (Some (Check asm)) is h text pcap view is_code is_explain is_pcap is_view = apart name (codes "check") (codes "match") h.0 is (λ (same : 610 ≡ 651). absurd (omega arith))
+only_view name rows (Some Graph) is h text pcap view is_code is_explain is_pcap is_view = apart name (codes "check") (codes "match") h.0 is (λ (same : 610 ≡ 651). absurd (omega arith))
+only_view name rows (Some Dump) is h text pcap view is_code is_explain is_pcap is_view = apart name (codes "dump") (codes "match") h is (λ (same : 661 ≡ 651). absurd (omega arith))
+only_view name rows (Some (Sim files)) is h text pcap view is_code is_explain is_pcap is_view = apart name (codes "sim") (codes "match") h.0 is (λ (same : 652 ≡ 651). absurd (omega arith))
+only_view name rows (Some (Run files)) is h text pcap view is_code is_explain is_pcap is_view = apart name (codes "run") (codes "match") h.0 is (λ (same : 678 ≡ 651). absurd (omega arith))
+only_view name rows (Some (Draw words)) is h text pcap view is_code is_explain is_pcap is_view = apart name (codes "draw") (codes "match") h.0 is (λ (same : 619 ≡ 651). absurd (omega arith))
+only_view name rows None is h text pcap view is_code is_explain is_pcap is_view = absurd (subst (λ t. Contains command_names t → ⊥) is h (0, omega arith, refl))
 
 pub only_explain : (name : Text) (rows : List Row) (r : Option Request) → name ≡ codes "match" → Asks name rows r
     → (text : Text) → unwrap_or (first_of (codes "code") rows) [] ≡ text → one_of (codes "explain") rows ≡ Some (truth true) → IsExplain text r
 only_explain name rows (Some (Explain code)) is h text is_code is_explain = (code, refl, h.1 ∙ is_code)
 only_explain name rows (Some (Match code given_pcap given_stream)) is h text is_code is_explain =
+    not_given (codes "explain") rows false true h.2 is_explain (λ same. cc)
+only_explain name rows (Some (Viewed code given view)) is h text is_code is_explain =
     not_given (codes "explain") rows false true h.2 is_explain (λ same. cc)
 only_explain name rows (Some (Check asm)) is h text is_code is_explain = apart name (codes "check") (codes "match") h.0 is (λ (same : 610 ≡ 651). absurd (omega arith))
 only_explain name rows (Some Graph) is h text is_code is_explain = apart name (codes "check") (codes "match") h.0 is (λ (same : 610 ≡ 651). absurd (omega arith))
@@ -60,6 +115,7 @@ pub only_check : (name : Text) (rows : List Row) (r : Option Request) → name �
 only_check name rows (Some (Check given)) is h asm is_graph is_asm = ap (λ a. Some (Check a)) (flag_is (codes "asm") rows given asm h.2 is_asm)
 only_check name rows (Some Graph) is h asm is_graph is_asm = not_given (codes "graph") rows true false h.1 is_graph (λ same. cc)
 only_check name rows (Some (Match code pcap stream)) is h asm is_graph is_asm = apart name (codes "match") (codes "check") h.0 is (λ (same : 651 ≡ 610). absurd (omega arith))
+only_check name rows (Some (Viewed code pcap view)) is h asm is_graph is_asm = apart name (codes "match") (codes "check") h.0 is (λ (same : 651 ≡ 610). absurd (omega arith))
 only_check name rows (Some (Explain code)) is h asm is_graph is_asm = apart name (codes "match") (codes "check") h.0 is (λ (same : 651 ≡ 610). absurd (omega arith))
 only_check name rows (Some Dump) is h asm is_graph is_asm = apart name (codes "dump") (codes "check") h is (λ (same : 661 ≡ 610). absurd (omega arith))
 only_check name rows (Some (Sim files)) is h asm is_graph is_asm = apart name (codes "sim") (codes "check") h.0 is (λ (same : 652 ≡ 610). absurd (omega arith))
@@ -72,6 +128,7 @@ pub only_graph : (name : Text) (rows : List Row) (r : Option Request) → name �
 only_graph name rows (Some Graph) is h is_graph = refl
 only_graph name rows (Some (Check given)) is h is_graph = not_given (codes "graph") rows false true h.1 is_graph (λ same. cc)
 only_graph name rows (Some (Match code pcap stream)) is h is_graph = apart name (codes "match") (codes "check") h.0 is (λ (same : 651 ≡ 610). absurd (omega arith))
+only_graph name rows (Some (Viewed code pcap view)) is h is_graph = apart name (codes "match") (codes "check") h.0 is (λ (same : 651 ≡ 610). absurd (omega arith))
 only_graph name rows (Some (Explain code)) is h is_graph = apart name (codes "match") (codes "check") h.0 is (λ (same : 651 ≡ 610). absurd (omega arith))
 only_graph name rows (Some Dump) is h is_graph = apart name (codes "dump") (codes "check") h is (λ (same : 661 ≡ 610). absurd (omega arith))
 only_graph name rows (Some (Sim files)) is h is_graph = apart name (codes "sim") (codes "check") h.0 is (λ (same : 652 ≡ 610). absurd (omega arith))
@@ -82,6 +139,7 @@ only_graph name rows None is h is_graph = absurd (subst (λ t. Contains command_
 pub only_dump : (name : Text) (rows : List Row) (r : Option Request) → name ≡ codes "dump" → Asks name rows r → r ≡ Some Dump
 only_dump name rows (Some Dump) is h = refl
 only_dump name rows (Some (Match code pcap stream)) is h = apart name (codes "match") (codes "dump") h.0 is (λ (same : 651 ≡ 661). absurd (omega arith))
+only_dump name rows (Some (Viewed code pcap view)) is h = apart name (codes "match") (codes "dump") h.0 is (λ (same : 651 ≡ 661). absurd (omega arith))
 only_dump name rows (Some (Explain code)) is h = apart name (codes "match") (codes "dump") h.0 is (λ (same : 651 ≡ 661). absurd (omega arith))
 only_dump name rows (Some (Check asm)) is h = apart name (codes "check") (codes "dump") h.0 is (λ (same : 610 ≡ 661). absurd (omega arith))
 only_dump name rows (Some Graph) is h = apart name (codes "check") (codes "dump") h.0 is (λ (same : 610 ≡ 661). absurd (omega arith))
@@ -94,6 +152,7 @@ pub only_draw : (name : Text) (rows : List Row) (r : Option Request) → name �
     → (plain : Bool) → one_of (codes "text") rows ≡ Some (truth plain) → r ≡ Some (Draw plain)
 only_draw name rows (Some (Draw given)) is h plain is_plain = ap (λ a. Some (Draw a)) (flag_is (codes "text") rows given plain h.1 is_plain)
 only_draw name rows (Some (Match code pcap stream)) is h plain is_plain = apart name (codes "match") (codes "draw") h.0 is (λ (same : 651 ≡ 619). absurd (omega arith))
+only_draw name rows (Some (Viewed code pcap view)) is h plain is_plain = apart name (codes "match") (codes "draw") h.0 is (λ (same : 651 ≡ 619). absurd (omega arith))
 only_draw name rows (Some (Explain code)) is h plain is_plain = apart name (codes "match") (codes "draw") h.0 is (λ (same : 651 ≡ 619). absurd (omega arith))
 only_draw name rows (Some (Check asm)) is h plain is_plain = apart name (codes "check") (codes "draw") h.0 is (λ (same : 610 ≡ 619). absurd (omega arith))
 only_draw name rows (Some Graph) is h plain is_plain = apart name (codes "check") (codes "draw") h.0 is (λ (same : 610 ≡ 619). absurd (omega arith))

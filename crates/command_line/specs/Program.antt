@@ -28,7 +28,8 @@ command name rules = record (new_shape name) { rules = rules }
 abbrev pub program : App
 program = record {
   top = record (new_shape (codes "mkdemux")) { has_version = true; subcommand_required = true; is_leaf = false };
-  subs = command (codes "match") (code ∷ flag (codes "pcap") ∷ flag (codes "stream") ∷ lone_flag (codes "explain") ∷ [])
+  subs = command (codes "match") (code ∷ flag (codes "pcap") ∷ flag (codes "stream") ∷ flag (codes "number")
+      ∷ lone_flag (codes "count") ∷ lone_flag (codes "quiet") ∷ lone_flag (codes "explain") ∷ [])
       ∷ command (codes "check") (flag (codes "asm") ∷ lone_flag (codes "graph") ∷ [])
       ∷ command (codes "dump") []
       ∷ command (codes "sim") (files ∷ [])

@@ -4,11 +4,20 @@ use Rattle.std.specs.Prelude.{◌≡◌, ◌++◌, ℕ, Bool, true, false, List,
 use Rattle.std.specs.List.{Contains}
 use Rattle.clap.specs.Words.{Row, Text, all_of, first_of, one_of}
 use Rattle.command_line.specs.declared.request.Request.{Request}
-use Rattle.command_line.specs.declared.request.Request.TheVariants.{Match, Explain, Check, Graph, Dump, Sim, Run, Draw}
+use Rattle.command_line.specs.declared.request.Request.TheVariants.{Match, View as Viewed, Explain, Check, Graph, Dump, Sim, Run, Draw}
+use Rattle.command_line.specs.declared.request.View.{View}
+use Rattle.command_line.specs.declared.request.View.TheVariants.{Numbers, Count, Quiet}
 
 -- whether a flag was given
 abbrev pub IsFlag : Text → List Row → Bool → Type 0
 IsFlag name rows given = (one_of name rows ≡ Some (codes "true") → given ≡ true) × (one_of name rows ≡ Some (codes "false") → given ≡ false)
+
+-- what `match` shows by its flags: a line for each packet where there is none of the three
+abbrev pub IsView : List Row → Option View → Type 0
+IsView rows (Some Quiet) = IsFlag (codes "quiet") rows true
+IsView rows (Some Count) = IsFlag (codes "quiet") rows false × IsFlag (codes "count") rows true
+IsView rows (Some Numbers) = IsFlag (codes "quiet") rows false × IsFlag (codes "count") rows false × IsFlag (codes "number") rows true
+IsView rows None = IsFlag (codes "quiet") rows false × IsFlag (codes "count") rows false × IsFlag (codes "number") rows false
 
 -- the names of the captures
 abbrev pub IsFiles : List Row → List (Bor Text) → Type 0
@@ -26,7 +35,9 @@ command_names = codes "match" ∷ codes "check" ∷ codes "dump" ∷ codes "sim"
 -- what a command of this name asks for, with the rows of its arguments
 abbrev pub Asks : Text → List Row → Option Request → Type 0
 Asks name rows (Some (Match code pcap stream)) = (name ≡ codes "match") × (code.now ≡ unwrap_or (first_of (codes "code") rows) [])
-    × IsFlag (codes "explain") rows false × IsFlag (codes "pcap") rows pcap × IsFlag (codes "stream") rows stream
+    × IsFlag (codes "explain") rows false × IsFlag (codes "pcap") rows pcap × IsFlag (codes "stream") rows stream × IsView rows None
+Asks name rows (Some (Viewed code pcap view)) = (name ≡ codes "match") × (code.now ≡ unwrap_or (first_of (codes "code") rows) [])
+    × IsFlag (codes "explain") rows false × IsFlag (codes "pcap") rows pcap × IsView rows (Some view)
 Asks name rows (Some (Explain code)) = (name ≡ codes "match") × (code.now ≡ unwrap_or (first_of (codes "code") rows) []) × IsFlag (codes "explain") rows true
 Asks name rows (Some (Check asm)) = (name ≡ codes "check") × IsFlag (codes "graph") rows false × IsFlag (codes "asm") rows asm
 Asks name rows (Some Graph) = (name ≡ codes "check") × IsFlag (codes "graph") rows true
@@ -54,6 +65,15 @@ flag_word word false = []
 abbrev pub match_words : Text → Bool → Bool → List Text
 match_words code pcap stream = codes "match" ∷ code ∷ flag_word (codes "--pcap") pcap ++ flag_word (codes "--stream") stream
 
+-- the word of a view
+abbrev pub view_word : View → Text
+view_word Numbers = codes "--number"
+view_word Count = codes "--count"
+view_word Quiet = codes "--quiet"
+
+abbrev pub view_words : Text → Bool → View → List Text
+view_words code pcap view = codes "match" ∷ code ∷ flag_word (codes "--pcap") pcap ++ view_word view ∷ []
+
 abbrev pub explain_words : Text → List Text
 explain_words code = codes "match" ∷ code ∷ codes "--explain" ∷ []
 
@@ -69,6 +89,10 @@ BeginsWithDigit text = (digit : ℕ) × (rest : Text) × Contains (codes "012345
 -- a `match` of this CODE
 abbrev pub IsMatch : Text → Bool → Bool → Option Request → Type 0
 IsMatch text pcap stream request = (code : Bor Text) × (request ≡ Some (Match code pcap stream)) × (code.now ≡ text)
+
+-- the same, shown in another way
+abbrev pub IsViewed : Text → Bool → View → Option Request → Type 0
+IsViewed text pcap view request = (code : Bor Text) × (request ≡ Some (Viewed code pcap view)) × (code.now ≡ text)
 
 -- a `match --explain` of this CODE
 abbrev pub IsExplain : Text → Option Request → Type 0

@@ -5,10 +5,11 @@ ghost use Rattle.clap.specs.Words.{Rule, Text, app_of, rule_of, with_rule, with_
 ghost use Rattle.command_line.specs.Program.{IsCommand, code, command, files, flag, lone_flag, program};
 
 use crate::texts::{
-    ABOUT, ASM_HELP, CHECK_ABOUT, CHECK_DETAILS, CHECK_EXAMPLE, CODE_HELP, DRAW_ABOUT,
+    ABOUT, ASM_HELP, CHECK_ABOUT, CHECK_DETAILS, CHECK_EXAMPLE, CODE_HELP, COUNT_HELP, DRAW_ABOUT,
     DRAW_DETAILS, DRAW_EXAMPLE, DUMP_ABOUT, DUMP_DETAILS, DUMP_EXAMPLE, EXIT_STATUS, EXPLAIN_HELP,
-    FILES_HELP, GRAPH_HELP, MATCH_ABOUT, MATCH_DETAILS, MATCH_EXAMPLE, PCAP_HELP, RUN_ABOUT,
-    RUN_DETAILS, RUN_EXAMPLE, SIM_ABOUT, SIM_DETAILS, SIM_EXAMPLE, STREAM_HELP, TEXT_HELP, VERSION,
+    FILES_HELP, GRAPH_HELP, MATCH_ABOUT, MATCH_DETAILS, MATCH_EXAMPLE, NUMBER_HELP, PCAP_HELP,
+    QUIET_HELP, RUN_ABOUT, RUN_DETAILS, RUN_EXAMPLE, SIM_ABOUT, SIM_DETAILS, SIM_EXAMPLE,
+    STREAM_HELP, TEXT_HELP, VERSION,
 };
 use clap::{Arg, ArgAction, Command};
 use std::alloc::{AllocError, Global};
@@ -47,17 +48,18 @@ fn with_command<'a>(
     }
 }
 
-// `match CODE [--pcap] [--stream]`, `match CODE --explain`
+// `match CODE [--pcap] [--stream] [--number | --count | --quiet]`, `match CODE --explain`
 fn matching<'a>(alloc: Global) -> Result<Command<'a>, AllocError>
-    ensures { IfOk result (IsCommand (codes "match") (code ∷ flag (codes "pcap") ∷ flag (codes "stream") ∷ lone_flag (codes "explain") ∷ [])) }
+    ensures { IfOk result (IsCommand (codes "match") (code ∷ flag (codes "pcap") ∷ flag (codes "stream") ∷ flag (codes "number")
+        ∷ lone_flag (codes "count") ∷ lone_flag (codes "quiet") ∷ lone_flag (codes "explain") ∷ [])) }
 {
-    let command = Command::new(alloc, "match")
-        .about(MATCH_ABOUT)
-        .long_about(MATCH_DETAILS)
-        .after_help(MATCH_EXAMPLE)
+    let command = described(alloc, "match", MATCH_ABOUT, MATCH_DETAILS, MATCH_EXAMPLE)
         .arg(code(alloc))?
         .arg(flag(alloc, "pcap", PCAP_HELP))?
-        .arg(flag(alloc, "stream", STREAM_HELP))?;
+        .arg(flag(alloc, "stream", STREAM_HELP))?
+        .arg(flag(alloc, "number", NUMBER_HELP))?;
+    let command = with_argument(command, count(alloc))?;
+    let command = with_argument(command, quiet(alloc))?;
     with_argument(command, explain(alloc))
 }
 
@@ -65,12 +67,26 @@ fn matching<'a>(alloc: Global) -> Result<Command<'a>, AllocError>
 fn checking<'a>(alloc: Global) -> Result<Command<'a>, AllocError>
     ensures { IfOk result (IsCommand (codes "check") (flag (codes "asm") ∷ lone_flag (codes "graph") ∷ [])) }
 {
-    let command = Command::new(alloc, "check")
-        .about(CHECK_ABOUT)
-        .long_about(CHECK_DETAILS)
-        .after_help(CHECK_EXAMPLE)
-        .arg(flag(alloc, "asm", ASM_HELP))?;
+    let command = described(alloc, "check", CHECK_ABOUT, CHECK_DETAILS, CHECK_EXAMPLE).arg(flag(
+        alloc, "asm", ASM_HELP,
+    ))?;
     with_argument(command, lone_flag(alloc, "graph", GRAPH_HELP, "asm"))
+}
+
+// A command with the texts of its help, and no argument yet.
+fn described<'a>(
+    alloc: Global,
+    name: &'a str,
+    about: &'a str,
+    details: &'a str,
+    example: &'a str,
+) -> Command<'a>
+    ensures { IsCommand name.entry.now [] result }
+{
+    Command::new(alloc, name)
+        .about(about)
+        .long_about(details)
+        .after_help(example)
 }
 
 // A command with one more argument, where that could be made.
@@ -94,43 +110,30 @@ fn with_argument<'a>(
 fn dumping<'a>(alloc: Global) -> Command<'a>
     ensures { IsCommand (codes "dump") [] result }
 {
-    Command::new(alloc, "dump")
-        .about(DUMP_ABOUT)
-        .long_about(DUMP_DETAILS)
-        .after_help(DUMP_EXAMPLE)
+    described(alloc, "dump", DUMP_ABOUT, DUMP_DETAILS, DUMP_EXAMPLE)
 }
 
 // `sim [FILE]...`
 fn simulating<'a>(alloc: Global) -> Result<Command<'a>, AllocError>
     ensures { IfOk result (IsCommand (codes "sim") (files ∷ [])) }
 {
-    Command::new(alloc, "sim")
-        .about(SIM_ABOUT)
-        .long_about(SIM_DETAILS)
-        .after_help(SIM_EXAMPLE)
-        .arg(files(alloc))
+    described(alloc, "sim", SIM_ABOUT, SIM_DETAILS, SIM_EXAMPLE).arg(files(alloc))
 }
 
 // `run [FILE]...`
 fn running<'a>(alloc: Global) -> Result<Command<'a>, AllocError>
     ensures { IfOk result (IsCommand (codes "run") (files ∷ [])) }
 {
-    Command::new(alloc, "run")
-        .about(RUN_ABOUT)
-        .long_about(RUN_DETAILS)
-        .after_help(RUN_EXAMPLE)
-        .arg(files(alloc))
+    described(alloc, "run", RUN_ABOUT, RUN_DETAILS, RUN_EXAMPLE).arg(files(alloc))
 }
 
 // `draw [--text]`
 fn drawing<'a>(alloc: Global) -> Result<Command<'a>, AllocError>
     ensures { IfOk result (IsCommand (codes "draw") (flag (codes "text") ∷ [])) }
 {
-    Command::new(alloc, "draw")
-        .about(DRAW_ABOUT)
-        .long_about(DRAW_DETAILS)
-        .after_help(DRAW_EXAMPLE)
-        .arg(flag(alloc, "text", TEXT_HELP))
+    described(alloc, "draw", DRAW_ABOUT, DRAW_DETAILS, DRAW_EXAMPLE).arg(flag(
+        alloc, "text", TEXT_HELP,
+    ))
 }
 
 // `CODE`, which must be given.
@@ -144,12 +147,44 @@ fn code<'a>(alloc: Global) -> Arg<'a>
         .required(true)
 }
 
+// `--count`
+fn count<'a>(alloc: Global) -> Result<Arg<'a>, AllocError>
+    ensures rule { IfOk result (λ a. rule_of a ≡ lone_flag (codes "count")) }
+    ensures local { IfOk result (λ a. a.global ≡ false) }
+{
+    lone_flag(alloc, "count", COUNT_HELP, "number")
+}
+
+// `--quiet`
+fn quiet<'a>(alloc: Global) -> Result<Arg<'a>, AllocError>
+    ensures rule { IfOk result (λ a. rule_of a ≡ lone_flag (codes "quiet")) }
+    ensures local { IfOk result (λ a. a.global ≡ false) }
+{
+    let quiet = lone_flag(alloc, "quiet", QUIET_HELP, "number");
+    also_lone(quiet, "count")
+}
+
 // `--explain`
 fn explain<'a>(alloc: Global) -> Result<Arg<'a>, AllocError>
     ensures rule { IfOk result (λ a. rule_of a ≡ lone_flag (codes "explain")) }
     ensures local { IfOk result (λ a. a.global ≡ false) }
 {
-    lone_flag(alloc, "explain", EXPLAIN_HELP, "pcap")?.conflicts_with("stream")
+    let explain = lone_flag(alloc, "explain", EXPLAIN_HELP, "pcap");
+    let explain = also_lone(explain, "stream");
+    let explain = also_lone(explain, "number");
+    let explain = also_lone(explain, "count");
+    also_lone(explain, "quiet")
+}
+
+// A flag that is refused beside one more, where it could be made.
+fn also_lone<'a>(made: Result<Arg<'a>, AllocError>, other: &'a str) -> Result<Arg<'a>, AllocError>
+    ensures rule { (name : Text) → IfOk made.entry (λ a. rule_of a ≡ lone_flag name) → IfOk result (λ a. rule_of a ≡ lone_flag name) }
+    ensures local { IfOk made.entry (λ a. a.global ≡ false) → IfOk result (λ a. a.global ≡ false) }
+{
+    match made {
+        Ok(argument) => argument.conflicts_with(other),
+        Err(refused) => Err(refused),
+    }
 }
 
 // A flag `--NAME`.

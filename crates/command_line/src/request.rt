@@ -4,13 +4,25 @@ ghost use Rattle.std.specs.Prelude.{◌≡◌, ◌∷◌, [], Bool, Some, codes,
 ghost use Rattle.clap.specs.Words.{Text, found_of, kind_of, rows_of, subcommand_of, subcommand_rows_of, takes};
 ghost use Rattle.clap.specs.declared.error.kind.ErrorKind.{ErrorKind};
 ghost use Rattle.command_line.specs.Program.{program};
-ghost use Rattle.command_line.specs.Requests.{Asks, AsksBy, BeginsWithDigit, IsExplain, IsFiles, IsMatch, Spells};
-ghost use Rattle.command_line.specs.Requests.{captures_of, check_words, draw_words, explain_words, match_words};
+ghost use Rattle.command_line.specs.declared.request.View.{View as Shown};
+ghost use Rattle.command_line.specs.Requests.{Asks, AsksBy, BeginsWithDigit, IsExplain, IsFiles, IsMatch, IsView, IsViewed, Spells};
+ghost use Rattle.command_line.specs.Requests.{captures_of, check_words, draw_words, explain_words, match_words, view_words};
 
 use crate::program::command;
 use clap::{ArgMatches, Error};
 use std::alloc::{AllocError, Global};
 use std::convert::AsStr;
+
+/// What `match` shows in place of a line for each packet.
+#[derive(Clone, Copy, PartialEq, Eq, Debug)]
+pub enum View {
+    /// A line for each packet, with its number.
+    Numbers,
+    /// How many packets were accepted, of how many.
+    Count,
+    /// Nothing: the status answers.
+    Quiet,
+}
 
 /// What the program is asked for.
 #[derive(Drop)]
@@ -23,6 +35,15 @@ pub enum Request<'a> {
         pcap: bool,
         /// Whether each outcome is written while the input is read.
         stream: bool,
+    },
+    /// To run a filter on packets, and to show what came of it in another way.
+    View {
+        /// The filter in decimal text.
+        code: &'a str,
+        /// Whether the packets are a capture's; else they are lines of digits.
+        pcap: bool,
+        /// What is shown.
+        view: View,
     },
     /// To run a filter on packets, and to show each instruction that was taken.
     Explain {
@@ -72,6 +93,8 @@ pub fn request_of<'a, S: AsStr>(alloc: Global, words: &'a [S]) -> Result<Option<
     ensures taken { IfErr result (λ e. takes program (map S.text words.entry.now) ≡ true → kind_of e ≡ ErrorKind.OutOfMemory) }
     ensures matched { (code : Text) (pcap stream : Bool) → Spells (map S.text words.entry.now) (match_words code pcap stream) → BeginsWithDigit code
         → IfOk result (IsMatch code pcap stream) }
+    ensures viewed { (code : Text) (pcap : Bool) (view : Shown) → Spells (map S.text words.entry.now) (view_words code pcap view) → BeginsWithDigit code
+        → IfOk result (IsViewed code pcap view) }
     ensures explained { (code : Text) → Spells (map S.text words.entry.now) (explain_words code) → BeginsWithDigit code → IfOk result (IsExplain code) }
     ensures checked { (asm : Bool) → Spells (map S.text words.entry.now) (check_words asm) → IfOk result (λ r. r ≡ Some (Request.Check asm)) }
     ensures graphed { Spells (map S.text words.entry.now) (codes "check" ∷ codes "--graph" ∷ []) → IfOk result (λ r. r ≡ Some Request.Graph) }
@@ -120,10 +143,14 @@ fn asked<'a>(
             if found.get_flag("explain") {
                 return Ok(Some(Request::Explain { code }));
             }
-            Request::Match {
-                code,
-                pcap: found.get_flag("pcap"),
-                stream: found.get_flag("stream"),
+            let pcap = found.get_flag("pcap");
+            match view_of(found) {
+                Some(view) => Request::View { code, pcap, view },
+                None => Request::Match {
+                    code,
+                    pcap,
+                    stream: found.get_flag("stream"),
+                },
             }
         }
         "check" => {
@@ -146,6 +173,21 @@ fn asked<'a>(
         },
         _ => return Ok(None),
     }))
+}
+
+// What `match` shows, by its flags, if not a line for each packet.
+fn view_of(found: &ArgMatches) -> Option<View>
+    ensures { IsView (rows_of (found_of found.now)) result }
+{
+    if found.get_flag("quiet") {
+        Some(View::Quiet)
+    } else if found.get_flag("count") {
+        Some(View::Count)
+    } else if found.get_flag("number") {
+        Some(View::Numbers)
+    } else {
+        None
+    }
 }
 
 // The names of the captures.

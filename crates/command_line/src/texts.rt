@@ -14,6 +14,7 @@ Exit status:
   2  a fault of the command line
   3  out of memory, a FILE that can't be opened, a device that failed, or a run that halted: one line is on standard
      error, unless nobody reads the output any more
+  4  `match --quiet`: no packet was accepted
 
 docs/messages.md has each word that is printed, with its meaning and its cure.";
 
@@ -34,6 +35,10 @@ With --pcap standard input is a capture: a classic pcap savefile, version 2.4, o
 nanoseconds. The packets before a fault of the capture are run, then `fault NAME` is printed, with the fault's place in the
 file where it has one, and the status is 1.
 
+With --number each line begins with its packet's number and a blank; --count prints `N of M` at the end in place of the
+lines: so many packets were accepted, of so many that were run; --quiet prints nothing and ends at the first packet that is
+accepted, with status 0. Where none is, its status is 4, or 1 for a refused CODE or input.
+
 The filter is verified first: each accepted filter ends on each packet, within as many steps as it has instructions. A
 CODE that is no filter, or that the verifier refuses, prints one line that says why, with status 1, and nothing is read.
 
@@ -42,7 +47,8 @@ An input of more than 64 MiB prints `fault InputTooLong` alone, with status 1.
 With --stream the input may be of any length and come over any time. Each packet's line is written as soon as the packet is
 whole and what has been read is handled, and the command ends at the first line that is no packet, or at a fault of the
 capture, without reading on. It takes memory for the longest packet or line only; a line of 4 GiB is out of memory, status 3.
-Without --stream nothing is printed before the input has ended.
+Without --stream nothing is printed before the input has ended. --number, --count and --quiet read as --stream does, which may
+stand beside each of them.
 
 With --explain each packet's line comes after the instructions that ran on it, each as in `check --asm` with the registers
 after it, in decimal:
@@ -70,6 +76,10 @@ Packets of a device, while they come:
 
     # tcpdump -U -w - | mkdemux match --stream --pcap \"$(tcpdump -ddd -y EN10MB arp)\"
 
+Is there an ARP packet in it?
+
+    $ mkdemux match --quiet --pcap \"$(tcpdump -ddd -y EN10MB arp)\" < packets.pcap && echo yes
+
 Why is this packet ARP?
 
     $ echo ffffffffffff0011223344550806 |
@@ -80,7 +90,7 @@ Why is this packet ARP?
     4294967295 3
 
 Exit status: 0 done; 1 a refused CODE or input, whose line is on standard output; 2 a fault of the command line; 3 out of
-memory or a device that failed, with one line on standard error.
+memory or a device that failed, with one line on standard error; 4 with --quiet, where no packet was accepted.
 
 docs/messages.md has the meaning and the cure of each word that is printed:
   after `code`     BadNumber CountMismatch TooLong
@@ -95,6 +105,14 @@ pub(crate) const PCAP_HELP: &str = "Read a capture in place of hexadecimal lines
 
 pub(crate) const STREAM_HELP: &str =
     "Print each outcome while the input is read, which may be of any length";
+
+pub(crate) const NUMBER_HELP: &str = "Print each packet's number before its line";
+
+pub(crate) const COUNT_HELP: &str =
+    "Print how many packets were accepted, of how many, in place of a line for each";
+
+pub(crate) const QUIET_HELP: &str =
+    "Print nothing: status 0 at the first packet that is accepted, 4 where none is";
 
 pub(crate) const EXPLAIN_HELP: &str =
     "Print each instruction that ran, with the registers after it";

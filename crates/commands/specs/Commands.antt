@@ -2,13 +2,18 @@
 use Rattle.std.specs.Prelude.{◌≡◌, ◌⊎◌, ⊤, ℕ, Bool, true, false, List, Option}
 use Rattle.std.specs.Io.KnownBytes.{Consumes, IsAtEnd}
 use Rattle.command_line.specs.declared.request.Request.{Request}
-use Rattle.command_line.specs.declared.request.Request.TheVariants.{Match, Explain, Check, Graph, Dump, Sim, Run, Draw}
+use Rattle.command_line.specs.declared.request.Request.TheVariants.{Match, View as Viewed, Explain, Check, Graph, Dump, Sim, Run, Draw}
+use Rattle.command_line.specs.declared.request.View.{View}
+use Rattle.command_line.specs.declared.request.View.TheVariants as asked
 use Rattle.console.specs.Checking.{ShowsCheck}
 use Rattle.console.specs.Code.{ShowsBadCode}
 use Rattle.console.specs.Dumping.{ShowsDump}
 use Rattle.console.specs.Matching.{ShowsGoodCode}
 use Rattle.console.specs.Reading.{IsInput}
 use Rattle.console.specs.Streaming.{StreamShows}
+use Rattle.console.specs.Views.{IsFound, ShowsViewCode, ViewShows}
+use Rattle.console.specs.declared.view.View.{View as Shown}
+use Rattle.console.specs.declared.view.View.TheVariants as shown
 use Rattle.console.specs.declared.input.TheConstants.{INPUT_READS}
 use Rattle.console.specs.declared.streaming.TheConstants.{STREAM_READS}
 use Rattle.console.specs.declared.fault.EngineFault.{EngineFault}
@@ -29,6 +34,18 @@ ShowsMatch code pcap true had has status text =
     (ShowsBadCode code text × (status ≡ 1))
     ⊎ ((input : List ℕ) × Consumes had has input × StreamShows code pcap input status text × (IsAtEnd has ⊎ (status ≡ 1)))
 
+-- the view of the engine
+abbrev pub shown_as : View → Shown
+shown_as asked.Numbers = shown.Numbers
+shown_as asked.Count = shown.Count
+shown_as asked.Quiet = shown.Quiet
+
+-- `match` under a view, which reads to the end unless it stops at a fault, or at the first packet that is accepted
+abbrev pub ShowsViewed : Shown → List ℕ → Bool → Option (List ℕ) → Option (List ℕ) → ℕ → List ℕ → Type 0
+ShowsViewed view code pcap had has status text =
+    (ShowsViewCode view code text × (status ≡ 1))
+    ⊎ ((input : List ℕ) × Consumes had has input × ViewShows view code pcap input status text × (IsAtEnd has ⊎ (status ≡ 1) ⊎ IsFound view status))
+
 -- `match --explain`
 abbrev pub ShowsExplain : List ℕ → Option (List ℕ) → ℕ → List ℕ → Type 0
 ShowsExplain code had status text =
@@ -37,6 +54,7 @@ ShowsExplain code had status text =
 -- what is shown for a request, by what the captures had, and what the reader had before and has now
 abbrev pub Shows : Request → List (Option (List ℕ)) → Option (List ℕ) → Option (List ℕ) → ℕ → List ℕ → Type 0
 Shows (Match code pcap stream) captures had has status text = ShowsMatch code.now pcap stream had has status text
+Shows (Viewed code pcap view) captures had has status text = ShowsViewed (shown_as view) code.now pcap had has status text
 Shows (Explain code) captures had has status text = ShowsExplain code.now had status text
 Shows (Check asm) captures had has status text = (input : List ℕ) × IsInput had input × ShowsCheck asm input status text
 Shows Graph captures had has status text = (input : List ℕ) × IsInput had input × ShowsGraph input status text
@@ -52,9 +70,10 @@ abbrev pub IsFailure : Request → RunFailure → Type 0
 IsFailure (Run files) failure = ⊤
 IsFailure request failure = (fault : EngineFault) × (failure ≡ Engine fault)
 
--- the request whose outcomes are written while its input is read
+-- the requests whose input is handled while it is read
 abbrev pub is_stream : Request → Bool
 is_stream (Match code pcap stream) = stream
+is_stream (Viewed code pcap view) = true
 is_stream request = false
 
 -- the most reads of the input: of one that is read to its end, and of a stream

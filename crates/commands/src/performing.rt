@@ -5,12 +5,12 @@ ghost use Rattle.std.specs.Io.KnownBytes.{Appends};
 ghost use Rattle.console.specs.Devices.{EndsEarly, IsFresh};
 ghost use Rattle.run_engine.specs.Failing.{RunEndsEarly};
 ghost use Rattle.script_input.specs.Inputs.{AllFresh, AreReadInOrder, had};
-ghost use Rattle.commands.specs.Commands.{IsFailure, Shows, ShowsMatch, is_stream, reads_at, reads_of, takes_captures};
+ghost use Rattle.commands.specs.Commands.{IsFailure, Shows, ShowsMatch, is_stream, reads_at, reads_of, shown_as, takes_captures};
 
-use command_line::Request;
+use command_line::{Request, View};
 use console::{
     EngineFault, INPUT_READS, STREAM_READS, Sink, Source, run_check, run_dump, run_match,
-    run_stream,
+    run_stream, run_view,
 };
 use core_threads::Gate;
 use draw_engine::run_draw;
@@ -28,12 +28,13 @@ pub fn most_reads(request: &Request) -> u64
     ensures { result ≡ reads_of request.now }
 {
     match request {
-        Request::Match { stream: true, .. } => STREAM_READS,
+        Request::Match { stream: true, .. } | Request::View { .. } => STREAM_READS,
         _ => INPUT_READS,
     }
 }
 
-/// Does what was asked for with the input and these captures, and answers the exit status: 0, or 1 where an input was refused. What it
+/// Does what was asked for with the input and these captures, and answers the exit status: 0, 1 where an input was refused, or 4 where
+/// `match --quiet` accepted no packet. What it
 /// writes is the text of the command for what it read.
 ///
 /// Only `sim` and `run` take captures, which they read after the input and in order, and only `run` starts threads, whose receipts
@@ -86,12 +87,26 @@ fn perform_alone<R: Read, W: Write>(
         Request::Match { code, pcap, stream } => {
             perform_match(alloc, code, *pcap, *stream, reader, writer)
         }
+        Request::View { code, pcap, view } => {
+            run_view(alloc, code.as_bytes(), *pcap, shown(*view), reader, writer)
+        }
         Request::Explain { code } => run_explain(alloc, code.as_bytes(), reader, writer),
         Request::Check { asm } => run_check(alloc, *asm, reader, writer),
         Request::Graph => run_graph(alloc, reader, writer),
         Request::Dump => run_dump(alloc, reader, writer),
         Request::Draw { text } => run_draw(alloc, *text, reader, writer),
         Request::Sim { .. } | Request::Run { .. } => Err(EngineFault::NoMemory),
+    }
+}
+
+/// The view of the engine.
+fn shown(view: View) -> console::View
+    ensures { result ≡ shown_as view }
+{
+    match view {
+        View::Numbers => console::View::Numbers,
+        View::Count => console::View::Count,
+        View::Quiet => console::View::Quiet,
     }
 }
 

@@ -1,5 +1,5 @@
 -- Of a code that spells no acceptable program one line is shown, but for the path to an unwritten word.
-use Rattle.std.proofs.Common.{◌≡◌, ◌≢◌, ℕ, ◌==◌, ◌⊎◌, inl, inr, if◌then◌else◌, List, [], ◌++◌, refl, sym, ap, ◌∙◌, arith, subst, codes}
+use Rattle.std.proofs.Common.{◌≡◌, ◌≢◌, ℕ, ◌==◌, ◌⊎◌, inl, inr, if◌then◌else◌, List, ◌++◌, refl, sym, ap, ◌∙◌, arith, subst, codes}
 use Rattle.std.specs.Fmt.{decimal}
 use Rattle.bpf_insn.specs.declared.insn.Insn.{Insn}
 use Rattle.bpf_insn.specs.declared.form.Form.TheVariants.{LdMem, LdxMem}

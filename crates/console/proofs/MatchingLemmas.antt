@@ -2,7 +2,7 @@
 use Rattle.std.proofs.Common.{Result, Ok, Err, IfOk, ◌⊎◌, Bool, ◌≡◌, ℕ, ◌+◌, List, [], ◌∷◌, ◌++◌, ◌<◌, length, Option, Some, None, refl, ap, sym, ◌∙◌, append_assoc, arith, length-append, inl, inr, IsErr, flat_map}
 use Rattle.std.specs.List.{AllZip}
 use Rattle.std.specs.Io.KnownBytes.{Appends, Consumes, IsAtEnd}
-use Rattle.std.proofs.lemmas.List.{append-nil, nil_from_length}
+use Rattle.std.proofs.lemmas.List.{append-nil}
 use Rattle.hex.specs.Hex.{decode_of}
 use Rattle.bpf_insn.specs.declared.insn.Insn.{Insn}
 use Rattle.filter_vm.specs.declared.machine.Outcome.{Outcome}
@@ -12,10 +12,7 @@ use Rattle.console.specs.declared.fault.EngineFault.TheVariants.{NoMemory}
 use Rattle.console.specs.Code.{IsGoodCode, ShowsBadCode}
 use Rattle.console.specs.declared.input.TheConstants.{INPUT_BYTES}
 use Rattle.console.specs.Reading.{IsInput, LostTooMany, too_long_line}
-use Rattle.pcap_reader.specs.declared.capture.Packet.{Packet as Captured}
-use Rattle.pcap_reader.specs.declared.capture.CaptureFault.{CaptureFault}
-use Rattle.console.specs.Faults.{fault_status, fault_text}
-use Rattle.console.specs.Matching.{Answers, AnswersCaptured, ShowsLines, ShowsCapture, ShowsFirst, ShowsGoodCode, ShowsInput, ShowsPart, ShowsRead, outcome_line, bad_line}
+use Rattle.console.specs.Matching.{Answers, ShowsLines, ShowsGoodCode, ShowsInput, ShowsPart, ShowsRead, outcome_line, bad_line}
 use Rattle.console.proofs.WholeLemmas.{packets_front}
 use Rattle.console.proofs.KnownBytesLemmas.{appends-then, appends-nothing}
 use Rattle.pcap_reader.proofs.FeedLemmas.{AllZip-push}

@@ -1,5 +1,5 @@
 -- Of one input one text is shown, with one status.
-use Rattle.std.proofs.Common.{◌≡◌, ℕ, ◌+◌, ◌<◌, ◌⊎◌, inl, inr, List, [], ◌∷◌, ◌++◌, length, flat_map, Bool, true, false, Option, None, Some, Result, Ok, Err, refl, sym, ap, ◌∙◌, arith, append_assoc, IsErr}
+use Rattle.std.proofs.Common.{◌≡◌, ℕ, ◌+◌, ◌⊎◌, inl, inr, List, [], ◌∷◌, ◌++◌, length, flat_map, Bool, true, false, Option, Ok, Err, refl, sym, ap, ◌∙◌, arith, IsErr}
 use Rattle.std.specs.List.{AllZip}
 use Rattle.std.specs.Str.Lines.{lines}
 use Rattle.std.proofs.lemmas.Bool.{cases_order}
@@ -22,7 +22,7 @@ use Rattle.console.specs.Reading.{AreBytes, ShowsOne, ShowsTooLong}
 use Rattle.console.specs.Faults.{fault_status, fault_text}
 use Rattle.console.specs.Dumping.{ShowsDump, dump_text}
 use Rattle.console.specs.Checking.{IsFirstOut, ShowsAsm, ShowsCheck, ShowsProgram, asm_fault_line, jump_out_line}
-use Rattle.console.specs.Matching.{Answers, AnswersCaptured, ShowsBytes, ShowsCapture, ShowsGoodCode, ShowsInput, ShowsLines, Stops, bad_line, outcome_line}
+use Rattle.console.specs.Matching.{Answers, AnswersCaptured, ShowsBytes, ShowsGoodCode, ShowsInput, ShowsLines, Stops, bad_line, outcome_line}
 
 -- An input that is too long
 

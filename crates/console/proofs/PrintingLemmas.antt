@@ -7,7 +7,7 @@ use Rattle.pcap_reader.specs.declared.capture.CaptureFault.{CaptureFault}
 use Rattle.console.specs.Reading.{BeginsWith}
 use Rattle.console.specs.Faults.{fault_text}
 use Rattle.console.specs.Dumping.{packet_line, packet_lines}
-use Rattle.console.proofs.KnownBytesLemmas.{appends-then, appends-nothing}
+use Rattle.console.proofs.KnownBytesLemmas.{appends-then}
 
 pub record Printing (whole left : List ℕ) (old new : Option (List ℕ)) (kept : List ℕ) : Type 0 where
   pub written : List ℕ

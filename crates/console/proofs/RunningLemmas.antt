@@ -19,7 +19,7 @@ use Rattle.console.specs.Matching.{AnswersCaptured}
 use Rattle.console.specs.Reading.{HasStopped}
 use Rattle.console.specs.Running.{HasRun, RunsOn, RunsTo}
 use Rattle.console.proofs.KnownBytesLemmas.{consumes-then}
-use Rattle.console.proofs.FeedingLemmas.{consumes-kept, consumes-nothing}
+use Rattle.console.proofs.FeedingLemmas.{consumes-kept}
 
 -- nothing was taken
 pub runs_none : {S : Type 0} (Ran : List ℕ → S → List Outcome → Type 0) (bytes : List ℕ) (feed : S) (before : List Outcome) → RunsTo Ran Ran bytes bytes feed feed before before

@@ -1,49 +1,53 @@
 -- The steps of a stream.
-use Rattle.std.proofs.Common.{◌≡◌, ℕ, ◌+◌, ◌*◌, ◌<◌, ◌≤◌, ◌⊎◌, inl, inr, List, [], ◌++◌, length, flat_map, All, Bool, true, false, Option, Some, None, Result, Ok, Err, IfOk, arith, refl, sym, ap, ◌∙◌, append_assoc, length-append, take, length-take-le}
+use Rattle.std.proofs.Common.{◌≡◌, ℕ, ◌+◌, ◌*◌, ◌<◌, ◌≤◌, ◌⊎◌, inl, inr, List, [], ◌∷◌, ◌++◌, length, zero-add, All, Bool, true, false, Option, Some, None, Result, Ok, Err, IfOk, arith, refl, sym, ap, ◌∙◌, append_assoc, length-append, take, length-take-le}
 use Rattle.std.specs.Prelude.{IsTrue, OnErr}
 use Rattle.std.specs.Bool.{MatchBool}
 use Rattle.std.specs.Io.KnownBytes.{Appends, Consumes, IsAtEnd, Keeps}
 use Rattle.std.proofs.lemmas.List.{append-nil}
-use Rattle.std.proofs.lemmas.Grind.{flat_map-append}
 use Rattle.bpf_insn.specs.declared.insn.Insn.{Insn}
 use Rattle.filter_vm.specs.declared.machine.Outcome.{Outcome}
+use Rattle.console.specs.declared.ending.Ending.{Ending}
 use Rattle.console.specs.declared.packet_source.PacketSource.{PacketSource}
+use Rattle.console.specs.declared.tally.Tally.{Tally}
+use Rattle.console.specs.declared.view.View.{View}
+use Rattle.console.specs.declared.view.View.TheVariants.{Lines, Numbers, Count, Quiet}
 use Rattle.console.specs.declared.fault.EngineFault.{EngineFault}
 use Rattle.console.specs.Reading.{BeginsWith}
-use Rattle.console.specs.Matching.{ShowsBytes, ShowsPackets, outcome_line}
 use Rattle.console.specs.Running.{RunsTo}
 use Rattle.console.specs.Code.{IsGoodCode, ShowsBadCode}
-use Rattle.console.specs.Streaming.{ShowsSome, SourceEnded, SourceRan, StreamLeaves, StreamShows, is_capture}
+use Rattle.console.specs.Streaming.{SourceEnded, SourceRan, StreamLeaves, StreamShows, is_capture}
+use Rattle.console.specs.Views.{HasCounted, IsFound, RanAll, RanFirst, ShowsEnd, ShowsView, ShowsViewCode, ShowsViewPart, ViewLeaves, ViewShows, accepted, ending_status, ending_text, shown_at_once}
 use Rattle.console.proofs.WholeLemmas.{some_front}
-use Rattle.console.proofs.KnownBytesLemmas.{appends-then, appends-nothing, consumes-then}
-use Rattle.console.proofs.FeedingLemmas.{consumes-kept, consumes-nothing}
-use Rattle.console.proofs.StreamingLemmas.{Streamed, begins_itself, ended_front, no_bytes, ran_front}
+use Rattle.console.proofs.KnownBytesLemmas.{appends-then, consumes-then}
+use Rattle.console.proofs.FeedingLemmas.{consumes-kept}
+use Rattle.console.proofs.StreamingLemmas.{Streamed, begins_itself, ended_first, no_bytes, ran_first}
+use Rattle.console.proofs.ViewLemmas.{lines_part, lines_shows, shown-append}
 
 -- what is left where what was read isn't run
-pub left_read : {T E : Type 0} (r : Result T E) (program : List Insn) (pcap : Bool) (from at at' old new : Option (List ℕ)) (source : PacketSource) (turns : ℕ) (piece : List ℕ)
-    → Streamed program pcap from at old new source turns → Consumes at at' piece → All (λ b. b < 256) piece
-    → OnErr r ((input : List ℕ) × Consumes from at' input × ((text : List ℕ) × Appends old new text × ShowsSome program pcap input text))
-left_read (Ok v) program pcap from at at' old new source turns piece so lost small = tt
-left_read (Err e) program pcap from at at' old new source turns piece so lost small = (
+pub left_read : {T E : Type 0} (r : Result T E) (view : View) (program : List Insn) (pcap : Bool) (from at at' old new : Option (List ℕ)) (source : PacketSource) (tally : Tally) (turns : ℕ) (piece : List ℕ)
+    → Streamed view program pcap from at old new source tally turns → Consumes at at' piece → All (λ b. b < 256) piece
+    → OnErr r ((input : List ℕ) × Consumes from at' input × ((text : List ℕ) × Appends old new text × ShowsViewPart view program pcap input text))
+left_read (Ok v) view program pcap from at at' old new source tally turns piece so lost small = tt
+left_read (Err e) view program pcap from at at' old new source tally turns piece so lost small = (
   so.input ++ piece,
   consumes-then from at at' so.input piece so.lost lost,
   (
-    flat_map outcome_line so.shown,
+    shown_at_once view 0 so.shown,
     so.appended,
-    inl (rw so.kind at (ran_front program so.input piece source so.shown (flat_map outcome_line so.shown) so.ran small (begins_itself (flat_map outcome_line so.shown)))),
+    inl (so.shown, rw so.kind at (ran_first program so.input piece source so.shown so.ran small), begins_itself (shown_at_once view 0 so.shown)),
   ),
 )
 
 -- and where a read failed
-pub left_kept : (program : List Insn) (pcap : Bool) (from at at' old new : Option (List ℕ)) (source : PacketSource) (turns : ℕ) → Streamed program pcap from at old new source turns → Keeps at at'
-    → (input : List ℕ) × Consumes from at' input × ((text : List ℕ) × Appends old new text × ShowsSome program pcap input text)
-left_kept program pcap from at at' old new source turns so kept = (
+pub left_kept : (view : View) (program : List Insn) (pcap : Bool) (from at at' old new : Option (List ℕ)) (source : PacketSource) (tally : Tally) (turns : ℕ) → Streamed view program pcap from at old new source tally turns → Keeps at at'
+    → (input : List ℕ) × Consumes from at' input × ((text : List ℕ) × Appends old new text × ShowsViewPart view program pcap input text)
+left_kept view program pcap from at at' old new source tally turns so kept = (
   so.input,
   consumes-kept from at at' so.input so.lost kept,
   (
-    flat_map outcome_line so.shown,
+    shown_at_once view 0 so.shown,
     so.appended,
-    inl (rw (so.kind, append-nil so.input) at (ran_front program so.input [] source so.shown (flat_map outcome_line so.shown) so.ran no_bytes (begins_itself (flat_map outcome_line so.shown)))),
+    inl (so.shown, rw (so.kind, append-nil so.input) at (ran_first program so.input [] source so.shown so.ran no_bytes), begins_itself (shown_at_once view 0 so.shown)),
   ),
 )
 
@@ -52,33 +56,35 @@ keeps_itself None = tt
 keeps_itself (Some xs) = refl
 
 -- a read that was interrupted
-pub streamed_kept : (program : List Insn) (pcap : Bool) (from at at' old new : Option (List ℕ)) (source : PacketSource) (turns : ℕ) → Streamed program pcap from at old new source turns → Keeps at at'
-    → Streamed program pcap from at' old new source (turns + 1)
-streamed_kept program pcap from at at' old new source turns so kept = record {
+pub streamed_kept : (view : View) (program : List Insn) (pcap : Bool) (from at at' old new : Option (List ℕ)) (source : PacketSource) (tally : Tally) (turns : ℕ) → Streamed view program pcap from at old new source tally turns → Keeps at at'
+    → Streamed view program pcap from at' old new source tally (turns + 1)
+streamed_kept view program pcap from at at' old new source tally turns so kept = record {
   input = so.input;
   shown = so.shown;
   lost = consumes-kept from at at' so.input so.lost kept;
   ran = so.ran;
+  counted = so.counted;
   appended = so.appended;
   kind = so.kind;
   short = omega (arith, so.short);
 }
 
 -- what was read was run, but isn't shown yet
-pub record Took (To : List ℕ → List Outcome → Type 0) (pcap : Bool) (from at old new : Option (List ℕ)) (source : PacketSource) (outcomes : List Outcome) (turns : ℕ) : Type 0 where
+pub record Took (view : View) (To : List ℕ → List Outcome → Type 0) (pcap : Bool) (from at old new : Option (List ℕ)) (source : PacketSource) (tally : Tally) (outcomes : List Outcome) (turns : ℕ) : Type 0 where
   pub input : List ℕ
   pub shown : List Outcome
   pub lost : Consumes from at input
   pub has : To input (shown ++ outcomes)
-  pub appended : Appends old new (flat_map outcome_line shown)
+  pub counted : HasCounted view tally shown
+  pub appended : Appends old new (shown_at_once view 0 shown)
   pub kind : is_capture source ≡ pcap
   pub short : length input ≤ 65536 * turns
 
-pub took : (To : List ℕ → PacketSource → List Outcome → Type 0) (program : List Insn) (pcap : Bool) (from at at' old new : Option (List ℕ)) (source source' : PacketSource) (turns : ℕ) (piece : List ℕ) (before after : List Outcome)
-    → Streamed program pcap from at old new source turns → Consumes at at' piece → length piece ≤ 65536 → turns < 281474976710655 → before ≡ []
+pub took : (view : View) (To : List ℕ → PacketSource → List Outcome → Type 0) (program : List Insn) (pcap : Bool) (from at at' old new : Option (List ℕ)) (source source' : PacketSource) (tally : Tally) (turns : ℕ) (piece : List ℕ) (before after : List Outcome)
+    → Streamed view program pcap from at old new source tally turns → Consumes at at' piece → length piece ≤ 65536 → turns < 281474976710655 → before ≡ []
     → RunsTo (SourceRan program) To piece [] source source' before after → is_capture source' ≡ is_capture source
-    → Took (λ input outcomes. To input source' outcomes) pcap from at' old new source' after (turns + 1)
-took To program pcap from at at' old new source source' turns piece before after so lost few limit none runs kind =
+    → Took view (λ input outcomes. To input source' outcomes) pcap from at' old new source' tally after (turns + 1)
+took view To program pcap from at at' old new source source' tally turns piece before after so lost few limit none runs kind =
     let whole : piece ≡ runs.front = runs.parts ∙ append-nil runs.front in
     let pushed : after ≡ runs.more = runs.pushed ∙ ap (λ t. t ++ runs.more) none in
     let size : length (so.input ++ runs.front) ≡ length so.input + length piece = omega (arith, length-append so.input runs.front, ap length whole) in
@@ -87,6 +93,7 @@ took To program pcap from at at' old new source source' turns piece before after
       shown = so.shown;
       lost = consumes-then from at at' so.input piece so.lost lost;
       has = rw (whole, pushed) (runs.runs so.input so.shown so.ran (omega (arith, size, so.short, few, limit)));
+      counted = so.counted;
       appended = so.appended;
       kind = kind ∙ so.kind;
       short = omega (arith, length-append so.input piece, so.short, few);
@@ -102,41 +109,71 @@ pub either_run : (program : List Insn) (stopped : Bool) (piece : List ℕ) (old 
 either_run program true piece old new before after r = record { front = r.front; parts = r.parts; more = r.more; pushed = r.pushed; runs = λ fed outcomes has short. r.runs fed outcomes has short }
 either_run program false piece old new before after r = record { front = r.front; parts = r.parts; more = r.more; pushed = r.pushed; runs = λ fed outcomes has short. r.runs fed outcomes has short }
 
-pub either_front : (program : List Insn) (stopped : Bool) (taken : List ℕ) (source : PacketSource) (outcomes : List Outcome) (text : List ℕ) → RanOrStopped program stopped taken source outcomes
-    → BeginsWith text (flat_map outcome_line outcomes) → ShowsPackets program (is_capture source) taken text
-either_front program true taken source outcomes text has begins = ended_front program true taken source outcomes text has begins
-either_front program false taken source outcomes text has begins = rw (append-nil taken) at (ran_front program taken [] source outcomes text has no_bytes begins)
+pub either_first : (program : List Insn) (stopped : Bool) (taken : List ℕ) (source : PacketSource) (outcomes : List Outcome) → RanOrStopped program stopped taken source outcomes
+    → RanFirst program (is_capture source) taken outcomes
+either_first program true taken source outcomes has = ended_first program true taken source outcomes has
+either_first program false taken source outcomes has = rw (append-nil taken) at (ran_first program taken [] source outcomes has no_bytes)
+
+-- what is shown of outcomes after others that were counted
+shown_then : (view : View) (tally : Tally) (shown more : List Outcome) → HasCounted view tally shown → shown_at_once view 0 (shown ++ more) ≡ shown_at_once view 0 shown ++ shown_at_once tally.view tally.total more
+shown_then view tally shown more counted = rw (counted.0, counted.1) (rw zero-add at (shown-append view 0 shown more))
 
 -- what is left where the outcomes couldn't be written
-pub left_took : {T E : Type 0} (r : Result T E) (To : List ℕ → List Outcome → Type 0) (program : List Insn) (pcap : Bool) (from at old new last : Option (List ℕ)) (source : PacketSource) (outcomes : List Outcome) (turns : ℕ)
-    → Took To pcap from at old new source outcomes turns
-    → ((input : List ℕ) (outcomes : List Outcome) (text : List ℕ) → To input outcomes → BeginsWith text (flat_map outcome_line outcomes) → ShowsPackets program (is_capture source) input text)
-    → (front : List ℕ) × BeginsWith front (flat_map outcome_line outcomes) × Appends new last front
-    → OnErr r ((input : List ℕ) × Consumes from at input × ((text : List ℕ) × Appends old last text × ShowsSome program pcap input text))
-left_took (Ok v) To program pcap from at old new last source outcomes turns so fronts failed = tt
-left_took (Err e) To program pcap from at old new last source outcomes turns so fronts failed =
-    let lines : List ℕ = flat_map outcome_line so.shown in
-    let all : flat_map outcome_line (so.shown ++ outcomes) ≡ (lines ++ failed.0) ++ failed.1.0 =
-    flat_map-append outcome_line so.shown outcomes ∙ ap (λ t. lines ++ t) failed.1.1 ∙ sym (append_assoc lines failed.0 failed.1.0) in (
+pub left_took : {T E : Type 0} (r : Result T E) (view : View) (To : List ℕ → List Outcome → Type 0) (program : List Insn) (pcap : Bool) (from at old new last : Option (List ℕ)) (source : PacketSource) (tally : Tally) (outcomes : List Outcome) (turns : ℕ)
+    → Took view To pcap from at old new source tally outcomes turns
+    → ((input : List ℕ) (outcomes : List Outcome) → To input outcomes → RanFirst program (is_capture source) input outcomes)
+    → (front : List ℕ) × BeginsWith front (shown_at_once tally.view tally.total outcomes) × Appends new last front
+    → OnErr r ((input : List ℕ) × Consumes from at input × ((text : List ℕ) × Appends old last text × ShowsViewPart view program pcap input text))
+left_took (Ok v) view To program pcap from at old new last source tally outcomes turns so firsts failed = tt
+left_took (Err e) view To program pcap from at old new last source tally outcomes turns so firsts failed =
+    let lines : List ℕ = shown_at_once view 0 so.shown in
+    let all : shown_at_once view 0 (so.shown ++ outcomes) ≡ (lines ++ failed.0) ++ failed.1.0 =
+    shown_then view tally so.shown outcomes so.counted ∙ ap (λ t. lines ++ t) failed.1.1 ∙ sym (append_assoc lines failed.0 failed.1.0) in (
       so.input,
       so.lost,
       (
         lines ++ failed.0,
         appends-then old new last lines failed.0 so.appended failed.2,
-        inl (rw so.kind at (fronts so.input (so.shown ++ outcomes) (lines ++ failed.0) so.has (failed.1.0, all))),
+        inl (so.shown ++ outcomes, rw so.kind at (firsts so.input (so.shown ++ outcomes) so.has), (failed.1.0, all)),
       ),
     )
 
--- the outcomes were written
-pub streamed_next : (program : List Insn) (pcap : Bool) (from at old new last : Option (List ℕ)) (source : PacketSource) (outcomes : List Outcome) (turns : ℕ)
-    → Took (λ input outcomes. RanOrStopped program false input source outcomes) pcap from at old new source outcomes turns → Appends new last (flat_map outcome_line outcomes)
-    → Streamed program pcap from at old last source turns
-streamed_next program pcap from at old new last source outcomes turns so more = record {
+-- the outcomes were shown
+pub record Showed (view : View) (To : List ℕ → List Outcome → Type 0) (pcap : Bool) (from at old new : Option (List ℕ)) (source : PacketSource) (tally : Tally) (turns : ℕ) : Type 0 where
+  pub input : List ℕ
+  pub outcomes : List Outcome
+  pub lost : Consumes from at input
+  pub has : To input outcomes
+  pub counted : HasCounted view tally outcomes
+  pub appended : Appends old new (shown_at_once view 0 outcomes)
+  pub kind : is_capture source ≡ pcap
+  pub short : length input ≤ 65536 * turns
+
+pub showed : (view : View) (To : List ℕ → List Outcome → Type 0) (pcap : Bool) (from at old new last : Option (List ℕ)) (source : PacketSource) (tally tally' : Tally) (outcomes : List Outcome) (turns : ℕ)
+    → Took view To pcap from at old new source tally outcomes turns → Appends new last (shown_at_once tally.view tally.total outcomes)
+    → ((view : View) (before : List Outcome) → HasCounted view tally before → HasCounted view tally' (before ++ outcomes))
+    → Showed view To pcap from at old last source tally' turns
+showed view To pcap from at old new last source tally tally' outcomes turns so more counts = record {
   input = so.input;
-  shown = so.shown ++ outcomes;
+  outcomes = so.shown ++ outcomes;
+  lost = so.lost;
+  has = so.has;
+  counted = counts view so.shown so.counted;
+  appended = rw (shown_then view tally so.shown outcomes so.counted) (appends-then old new last (shown_at_once view 0 so.shown) (shown_at_once tally.view tally.total outcomes) so.appended more);
+  kind = so.kind;
+  short = so.short;
+}
+
+-- and there is more to read
+pub streamed_next : (view : View) (program : List Insn) (pcap : Bool) (from at old new : Option (List ℕ)) (source : PacketSource) (tally : Tally) (turns : ℕ)
+    → Showed view (λ input outcomes. RanOrStopped program false input source outcomes) pcap from at old new source tally turns → Streamed view program pcap from at old new source tally turns
+streamed_next view program pcap from at old new source tally turns so = record {
+  input = so.input;
+  shown = so.outcomes;
   lost = so.lost;
   ran = so.has;
-  appended = rw (flat_map-append outcome_line so.shown outcomes) (appends-then old new last (flat_map outcome_line so.shown) (flat_map outcome_line outcomes) so.appended more);
+  counted = so.counted;
+  appended = so.appended;
   kind = so.kind;
   short = so.short;
 }
@@ -145,50 +182,130 @@ streamed_next program pcap from at old new last source outcomes turns so more = 
 short_input : (input turns : ℕ) → input ≤ 65536 * turns → turns ≤ 281474976710655 → input < 18446744073709551616
 short_input input turns short limit = omega arith
 
-lines_then : (shown outcomes : List Outcome) (ending : List ℕ) → flat_map outcome_line (shown ++ outcomes) ++ ending ≡ (flat_map outcome_line shown ++ flat_map outcome_line outcomes) ++ ending
-lines_then shown outcomes ending = ap (λ t. t ++ ending) (flat_map-append outcome_line shown outcomes)
+-- what is left where nothing came after the outcomes
+pub left_showed : {T E : Type 0} (r : Result T E) (view : View) (To : List ℕ → List Outcome → Type 0) (program : List Insn) (pcap : Bool) (from at old new : Option (List ℕ)) (source : PacketSource) (tally : Tally) (turns : ℕ)
+    → Showed view To pcap from at old new source tally turns
+    → ((input : List ℕ) (outcomes : List Outcome) → To input outcomes → RanFirst program (is_capture source) input outcomes)
+    → OnErr r ((input : List ℕ) × Consumes from at input × ((text : List ℕ) × Appends old new text × ShowsViewPart view program pcap input text))
+left_showed (Ok v) view To program pcap from at old new source tally turns so firsts = tt
+left_showed (Err e) view To program pcap from at old new source tally turns so firsts = (
+  so.input,
+  so.lost,
+  (
+    shown_at_once view 0 so.outcomes,
+    so.appended,
+    inl (so.outcomes, rw so.kind at (firsts so.input so.outcomes so.has), begins_itself (shown_at_once view 0 so.outcomes)),
+  ),
+)
+
+nothing_shown : (n : ℕ) (outcomes : List Outcome) → shown_at_once Quiet n outcomes ≡ []
+nothing_shown n [] = refl
+nothing_shown n (o ∷ outcomes) = nothing_shown (n + 1) outcomes
+
+-- a text and a status of outcomes and of what comes after them
+view_end : (view : View) (program : List Insn) (pcap : Bool) (input : List ℕ) (outcomes : List Outcome) (ending : Ending) (status : ℕ) (text : List ℕ)
+    → RanFirst program pcap input outcomes → RanAll program pcap input outcomes (ending_status ending) (ending_text ending)
+    → ShowsEnd view (accepted outcomes) (length outcomes) ending status text → ShowsView view program pcap input status (shown_at_once view 0 outcomes ++ text)
+view_end Lines program pcap input outcomes ending status text first all shows = (outcomes, ending_status ending, ending_text ending, all, (shows.0, ap (λ t. shown_at_once Lines 0 outcomes ++ t) shows.1))
+view_end Numbers program pcap input outcomes ending status text first all shows = (outcomes, ending_status ending, ending_text ending, all, (shows.0, ap (λ t. shown_at_once Numbers 0 outcomes ++ t) shows.1))
+view_end Count program pcap input outcomes ending status text first all shows = (outcomes, ending_status ending, ending_text ending, all, (shows.0, ap (λ t. shown_at_once Count 0 outcomes ++ t) shows.1))
+view_end Quiet program pcap input outcomes ending status text first all shows = (
+  ap (λ t. shown_at_once Quiet 0 outcomes ++ t) shows.0 ∙ append-nil (shown_at_once Quiet 0 outcomes) ∙ nothing_shown 0 outcomes,
+  elim (shows.1) [
+    | inl some ↦ inl (outcomes, first, some.0, some.1)
+    | inr none ↦ inr (outcomes, ending_status ending, ending_text ending, all, none.0, none.1)
+  ],
+)
+
+-- what a stream ends with
+abbrev pub Ends : PacketSource → List Insn → Bool → Ending → Type 0
+Ends source program stopped ending = (taken : List ℕ) (outcomes : List Outcome) → length taken < 18446744073709551616
+    → SourceEnded program stopped taken source outcomes → RanAll program (is_capture source) taken outcomes (ending_status ending) (ending_text ending)
+
+ended_view : (view : View) (program : List Insn) (stopped pcap : Bool) (from at old new : Option (List ℕ)) (source : PacketSource) (tally : Tally) (turns : ℕ) (ending : Ending) (status : ℕ) (text : List ℕ)
+    → (so : Showed view (λ input outcomes. SourceEnded program stopped input source outcomes) pcap from at old new source tally turns) → turns ≤ 281474976710655
+    → Ends source program stopped ending → ShowsEnd tally.view tally.accepted tally.total ending status text
+    → ShowsView view program pcap so.input status (shown_at_once view 0 so.outcomes ++ text)
+ended_view view program stopped pcap from at old new source tally turns ending status text so limit ends shows =
+    rw so.kind at (view_end view program (is_capture source) so.input so.outcomes ending status text (ended_first program stopped so.input source so.outcomes so.has)
+    (ends so.input so.outcomes (short_input (length so.input) turns so.short limit) so.has)
+    (rw (so.counted.0, so.counted.1, so.counted.2) at shows))
+
+-- the status that comes with a line after the outcomes
+status_of : (view : View) (some all : ℕ) (ending : Ending) (status : ℕ) (text : List ℕ) → ShowsEnd view some all ending status text → ending_status ending ≡ 1 → (status ≡ 1) ⊎ IsFound view status
+status_of Lines some all ending status text shows one = inl (shows.0 ∙ one)
+status_of Numbers some all ending status text shows one = inl (shows.0 ∙ one)
+status_of Count some all ending status text shows one = inl (shows.0 ∙ one)
+status_of Quiet some all ending status text shows one = elim (shows.1) [
+  | inl found ↦ inr (refl, found.1)
+  | inr none ↦ elim (none.1) [ inl whole ↦ absurd (omega (arith, whole.0, one)) | inr bad ↦ inl bad.1 ]
+]
 
 -- what is shown at the end
-pub end_shown : (r : Result ℕ EngineFault) (program : List Insn) (stopped pcap : Bool) (from at old new mid last : Option (List ℕ)) (source : PacketSource) (outcomes : List Outcome) (turns : ℕ)
-    → Took (λ input outcomes. SourceEnded program stopped input source outcomes) pcap from at old new source outcomes turns → turns ≤ 281474976710655 → Appends new mid (flat_map outcome_line outcomes)
+pub end_shown : (r : Result ℕ EngineFault) (view : View) (program : List Insn) (stopped pcap : Bool) (from at old new last : Option (List ℕ)) (source : PacketSource) (tally : Tally) (turns : ℕ) (ending : Ending)
+    → Showed view (λ input outcomes. SourceEnded program stopped input source outcomes) pcap from at old new source tally turns → turns ≤ 281474976710655
     → (IsAtEnd at ⊎ IsTrue stopped)
-    → IfOk r (λ status. (ending : List ℕ) × Appends mid last ending × ((program : List Insn) (taken : List ℕ) (outcomes : List Outcome) → length taken < 18446744073709551616
-    → SourceEnded program stopped taken source outcomes → ShowsBytes program (is_capture source) taken status (flat_map outcome_line outcomes ++ ending)))
-    → IfOk r (λ status. (program : List Insn) (taken : List ℕ) (outcomes : List Outcome) → SourceEnded program stopped taken source outcomes → IsTrue stopped → status ≡ 1)
-    → IfOk r (λ status. (input : List ℕ) × Consumes from at input × ((text : List ℕ) × Appends old last text × ShowsBytes program pcap input status text) × (IsAtEnd at ⊎ (status ≡ 1)))
-end_shown (Err e) program stopped pcap from at old new mid last source outcomes turns so limit lines ends shown is_one = tt
-end_shown (Ok status) program stopped pcap from at old new mid last source outcomes turns so limit lines ends shown is_one =
-    let ending : List ℕ = shown.0 in
-    let text = shown.2 program so.input (so.shown ++ outcomes) (short_input (length so.input) turns so.short limit) so.has in (
-      so.input,
-      so.lost,
-      (
-        (flat_map outcome_line so.shown ++ flat_map outcome_line outcomes) ++ ending,
-        appends-then old mid last (flat_map outcome_line so.shown ++ flat_map outcome_line outcomes) ending
-            (appends-then old new mid (flat_map outcome_line so.shown) (flat_map outcome_line outcomes) so.appended lines) shown.1,
-        rw (so.kind, lines_then so.shown outcomes ending) at text,
-      ),
-      elim ends [ inl end ↦ inl end | inr at_once ↦ inr (is_one program so.input (so.shown ++ outcomes) so.has at_once) ],
-    )
+    → ((program : List Insn) (taken : List ℕ) (outcomes : List Outcome) → length taken < 18446744073709551616
+    → SourceEnded program stopped taken source outcomes → RanAll program (is_capture source) taken outcomes (ending_status ending) (ending_text ending))
+    → ((program : List Insn) (taken : List ℕ) (outcomes : List Outcome) → SourceEnded program stopped taken source outcomes → IsTrue stopped → ending_status ending ≡ 1)
+    → IfOk r (λ status. (text : List ℕ) × Appends new last text × ShowsEnd tally.view tally.accepted tally.total ending status text)
+    → IfOk r (λ status. (input : List ℕ) × Consumes from at input × ((text : List ℕ) × Appends old last text × ShowsView view program pcap input status text)
+    × (IsAtEnd at ⊎ (status ≡ 1) ⊎ IsFound view status))
+end_shown (Err e) view program stopped pcap from at old new last source tally turns ending so limit at_end ends is_one shows = tt
+end_shown (Ok status) view program stopped pcap from at old new last source tally turns ending so limit at_end ends is_one shows = (
+  so.input,
+  so.lost,
+  (
+    shown_at_once view 0 so.outcomes ++ shows.0,
+    appends-then old new last (shown_at_once view 0 so.outcomes) shows.0 so.appended shows.1,
+    ended_view view program stopped pcap from at old new source tally turns ending status shows.0 so limit (ends program) shows.2,
+  ),
+  elim at_end [
+    | inl end ↦ inl end
+    | inr at_once ↦ inr (rw so.counted.0 at (status_of tally.view tally.accepted tally.total ending status shows.0 shows.2 (is_one program so.input so.outcomes so.has at_once)))
+  ],
+)
 
 -- and left, where it couldn't be written
-pub end_left : (r : Result ℕ EngineFault) (program : List Insn) (stopped pcap : Bool) (from at old new mid last : Option (List ℕ)) (source : PacketSource) (outcomes : List Outcome) (turns : ℕ)
-    → Took (λ input outcomes. SourceEnded program stopped input source outcomes) pcap from at old new source outcomes turns → turns ≤ 281474976710655 → Appends new mid (flat_map outcome_line outcomes)
-    → OnErr r ((front : List ℕ) × Appends mid last front × ((program : List Insn) (taken : List ℕ) (outcomes : List Outcome) → length taken < 18446744073709551616
-    → SourceEnded program stopped taken source outcomes → ShowsSome program (is_capture source) taken (flat_map outcome_line outcomes ++ front)))
-    → OnErr r ((input : List ℕ) × Consumes from at input × ((text : List ℕ) × Appends old last text × ShowsSome program pcap input text))
-end_left (Ok v) program stopped pcap from at old new mid last source outcomes turns so limit lines failed = tt
-end_left (Err e) program stopped pcap from at old new mid last source outcomes turns so limit lines failed =
-    let front : List ℕ = failed.0 in
-    let text = failed.2 program so.input (so.shown ++ outcomes) (short_input (length so.input) turns so.short limit) so.has in (
+pub end_left : (r : Result ℕ EngineFault) (view : View) (program : List Insn) (stopped pcap : Bool) (from at old new last : Option (List ℕ)) (source : PacketSource) (tally : Tally) (turns : ℕ) (ending : Ending)
+    → Showed view (λ input outcomes. SourceEnded program stopped input source outcomes) pcap from at old new source tally turns → turns ≤ 281474976710655
+    → ((program : List Insn) (taken : List ℕ) (outcomes : List Outcome) → length taken < 18446744073709551616
+    → SourceEnded program stopped taken source outcomes → RanAll program (is_capture source) taken outcomes (ending_status ending) (ending_text ending))
+    → OnErr r ((text : List ℕ) × Appends new last text × ((status : ℕ) × (whole : List ℕ) × ShowsEnd tally.view tally.accepted tally.total ending status whole × BeginsWith text whole))
+    → OnErr r ((input : List ℕ) × Consumes from at input × ((text : List ℕ) × Appends old last text × ShowsViewPart view program pcap input text))
+end_left (Ok v) view program stopped pcap from at old new last source tally turns ending so limit ends failed = tt
+end_left (Err e) view program stopped pcap from at old new last source tally turns ending so limit ends failed =
+    let lines : List ℕ = shown_at_once view 0 so.outcomes in
+    let text : List ℕ = failed.0 in
+    let part = failed.2 in (
       so.input,
       so.lost,
       (
-        (flat_map outcome_line so.shown ++ flat_map outcome_line outcomes) ++ front,
-        appends-then old mid last (flat_map outcome_line so.shown ++ flat_map outcome_line outcomes) front
-            (appends-then old new mid (flat_map outcome_line so.shown) (flat_map outcome_line outcomes) so.appended lines) failed.1,
-        rw (so.kind, lines_then so.shown outcomes front) at text,
+        lines ++ text,
+        appends-then old new last lines text so.appended failed.1,
+        inr (
+          part.0,
+          lines ++ part.1,
+          ended_view view program stopped pcap from at old new source tally turns ending part.0 part.1 so limit (ends program) part.2,
+          (part.3.0, ap (λ t. lines ++ t) part.3.1 ∙ sym (append_assoc lines text part.3.0)),
+        ),
       ),
+    )
+
+-- a packet was accepted, and nothing else matters
+pub found_shown : (view : View) (program : List Insn) (pcap : Bool) (from at old new : Option (List ℕ)) (source : PacketSource) (tally : Tally) (turns : ℕ) (stopped : Bool)
+    → Showed view (λ input outcomes. RanOrStopped program stopped input source outcomes) pcap from at old new source tally turns → (tally.view ≡ Quiet) × (0 < tally.accepted)
+    → (input : List ℕ) × Consumes from at input × ((text : List ℕ) × Appends old new text × ShowsView view program pcap input 0 text) × (IsAtEnd at ⊎ (◌≡◌ {A = ℕ} 0 1) ⊎ IsFound view 0)
+found_shown view program pcap from at old new source tally turns stopped so found =
+    let quiet : view ≡ Quiet = sym so.counted.0 ∙ found.0 in (
+      so.input,
+      so.lost,
+      (
+        shown_at_once view 0 so.outcomes,
+        so.appended,
+        rw quiet (nothing_shown 0 so.outcomes, inl (so.outcomes, rw so.kind at (either_first program stopped so.input source so.outcomes so.has), rw so.counted.2 at found.1, refl)),
+      ),
+      inr (inr (quiet, refl)),
     )
 
 -- a read gives at most as many bytes as there is room
@@ -196,23 +313,59 @@ pub taken_bytes : (count : ℕ) (block : List ℕ) → count ≤ length block �
 taken_bytes count block within room = omega (arith, length-take-le count block within)
 
 -- what is shown of a good code
-pub shown_of_code : (r : Result ℕ EngineFault) (code : List ℕ) (program : List Insn) (pcap kind : Bool) (from at old new : Option (List ℕ)) → IsGoodCode code program → kind ≡ pcap
-    → IfOk r (λ status. (input : List ℕ) × Consumes from at input × ((text : List ℕ) × Appends old new text × ShowsBytes program kind input status text) × (IsAtEnd at ⊎ (status ≡ 1)))
-    → IfOk r (λ status. (text : List ℕ) × Appends old new text × ((ShowsBadCode code text × (status ≡ 1))
-    ⊎ ((input : List ℕ) × Consumes from at input × StreamShows code pcap input status text × (IsAtEnd at ⊎ (status ≡ 1)))))
-shown_of_code (Err e) code program pcap kind from at old new good same shown = tt
-shown_of_code (Ok status) code program pcap kind from at old new good same shown = (shown.2.0, shown.2.1, inr (shown.0, shown.1, (program, good, rw same at shown.2.2), shown.3))
+pub shown_of_code : (r : Result ℕ EngineFault) (view : View) (code : List ℕ) (program : List Insn) (pcap kind : Bool) (from at old new : Option (List ℕ)) → IsGoodCode code program → kind ≡ pcap
+    → IfOk r (λ status. (input : List ℕ) × Consumes from at input × ((text : List ℕ) × Appends old new text × ShowsView view program kind input status text) × (IsAtEnd at ⊎ (status ≡ 1) ⊎ IsFound view status))
+    → IfOk r (λ status. (text : List ℕ) × Appends old new text × ((ShowsViewCode view code text × (status ≡ 1))
+    ⊎ ((input : List ℕ) × Consumes from at input × ViewShows view code pcap input status text × (IsAtEnd at ⊎ (status ≡ 1) ⊎ IsFound view status))))
+shown_of_code (Err e) view code program pcap kind from at old new good same shown = tt
+shown_of_code (Ok status) view code program pcap kind from at old new good same shown = (shown.2.0, shown.2.1, inr (shown.0, shown.1, (program, good, rw same at shown.2.2), shown.3))
 
-pub left_of_code : (r : Result ℕ EngineFault) (code : List ℕ) (program : List Insn) (pcap kind : Bool) (from at old new : Option (List ℕ)) → IsGoodCode code program → kind ≡ pcap
-    → OnErr r ((input : List ℕ) × Consumes from at input × ((text : List ℕ) × Appends old new text × ShowsSome program kind input text))
+pub left_of_code : (r : Result ℕ EngineFault) (view : View) (code : List ℕ) (program : List Insn) (pcap kind : Bool) (from at old new : Option (List ℕ)) → IsGoodCode code program → kind ≡ pcap
+    → OnErr r ((input : List ℕ) × Consumes from at input × ((text : List ℕ) × Appends old new text × ShowsViewPart view program kind input text))
     → OnErr r ((text : List ℕ) × Appends old new text × ((text ≡ []) ⊎ (((whole : List ℕ) × ShowsBadCode code whole × BeginsWith text whole)
-    ⊎ ((input : List ℕ) × Consumes from at input × StreamLeaves code pcap input text))))
-left_of_code (Ok v) code program pcap kind from at old new good same left = tt
-left_of_code (Err e) code program pcap kind from at old new good same left = (left.2.0, left.2.1, inr (inr (left.0, left.1, (program, good, rw same at (some_front program good.1 kind left.0 left.2.0 left.2.2)))))
+    ⊎ ((input : List ℕ) × Consumes from at input × ViewLeaves view code pcap input text))))
+left_of_code (Ok v) view code program pcap kind from at old new good same left = tt
+left_of_code (Err e) view code program pcap kind from at old new good same left = (left.2.0, left.2.1, inr (inr (left.0, left.1, (program, good, rw same at left.2.2))))
 
 -- where the line of a bad code couldn't be written
-pub bad_code_left : {T E : Type 0} (r : Result T E) (code line : List ℕ) (pcap : Bool) (from at old new : Option (List ℕ)) → ShowsBadCode code line → (front : List ℕ) × BeginsWith front line × Appends old new front
+pub bad_code_left : {T E : Type 0} (r : Result T E) (view : View) (code line : List ℕ) (pcap : Bool) (from at old new : Option (List ℕ)) → ShowsBadCode code line → (front : List ℕ) × BeginsWith front line × Appends old new front
+    → OnErr r ((text : List ℕ) × Appends old new text × ((text ≡ []) ⊎ (((whole : List ℕ) × ShowsBadCode code whole × BeginsWith text whole)
+    ⊎ ((input : List ℕ) × Consumes from at input × ViewLeaves view code pcap input text))))
+bad_code_left (Ok v) view code line pcap from at old new bad failed = tt
+bad_code_left (Err e) view code line pcap from at old new bad failed = (failed.0, failed.2, inr (inl (line, bad, failed.1)))
+
+-- A stream of lines
+
+pub lines_of_view : (r : Result ℕ EngineFault) (code : List ℕ) (pcap : Bool) (from at old new : Option (List ℕ))
+    → IfOk r (λ status. (text : List ℕ) × Appends old new text × ((ShowsViewCode Lines code text × (status ≡ 1))
+    ⊎ ((input : List ℕ) × Consumes from at input × ViewShows Lines code pcap input status text × (IsAtEnd at ⊎ (status ≡ 1) ⊎ IsFound Lines status))))
+    → IfOk r (λ status. (text : List ℕ) × Appends old new text × ((ShowsBadCode code text × (status ≡ 1))
+    ⊎ ((input : List ℕ) × Consumes from at input × StreamShows code pcap input status text × (IsAtEnd at ⊎ (status ≡ 1)))))
+lines_of_view (Err e) code pcap from at old new shown = tt
+lines_of_view (Ok status) code pcap from at old new shown = (
+  shown.0,
+  shown.1,
+  elim (shown.2) [
+    | inl bad ↦ inl (rw bad.0.2 bad.0.1, bad.1)
+    | inr s ↦ inr (s.0, s.1, (s.2.0, s.2.1, lines_shows s.2.0 pcap s.0 status shown.0 s.2.2), no_find (IsAtEnd at) status s.3)
+  ],
+)
+  where
+    no_find : (P : Type 0) (status : ℕ) → P ⊎ (status ≡ 1) ⊎ IsFound Lines status → P ⊎ (status ≡ 1)
+    no_find P status (inl p) = inl p
+    no_find P status (inr (inl one)) = inr one
+    no_find P status (inr (inr found)) = let never = found.0 in absurd (cc)
+
+pub left_of_view : {T E : Type 0} (r : Result T E) (code : List ℕ) (pcap : Bool) (from at old new : Option (List ℕ))
+    → OnErr r ((text : List ℕ) × Appends old new text × ((text ≡ []) ⊎ (((whole : List ℕ) × ShowsBadCode code whole × BeginsWith text whole)
+    ⊎ ((input : List ℕ) × Consumes from at input × ViewLeaves Lines code pcap input text))))
     → OnErr r ((text : List ℕ) × Appends old new text × ((text ≡ []) ⊎ (((whole : List ℕ) × ShowsBadCode code whole × BeginsWith text whole)
     ⊎ ((input : List ℕ) × Consumes from at input × StreamLeaves code pcap input text))))
-bad_code_left (Ok v) code line pcap from at old new bad failed = tt
-bad_code_left (Err e) code line pcap from at old new bad failed = (failed.0, failed.2, inr (inl (line, bad, failed.1)))
+left_of_view (Ok v) code pcap from at old new left = tt
+left_of_view (Err e) code pcap from at old new left = (left.0, left.1, by left.0 left.2)
+  where
+    by : (text : List ℕ) → (text ≡ []) ⊎ (((whole : List ℕ) × ShowsBadCode code whole × BeginsWith text whole) ⊎ ((input : List ℕ) × Consumes from at input × ViewLeaves Lines code pcap input text))
+        → (text ≡ []) ⊎ (((whole : List ℕ) × ShowsBadCode code whole × BeginsWith text whole) ⊎ ((input : List ℕ) × Consumes from at input × StreamLeaves code pcap input text))
+    by text (inl none) = inl none
+    by text (inr (inl bad)) = inr (inl bad)
+    by text (inr (inr s)) = inr (inr (s.0, s.1, (s.2.0, s.2.1, some_front s.2.0 s.2.1.1 pcap s.0 text (lines_part s.2.0 pcap s.0 text s.2.2))))

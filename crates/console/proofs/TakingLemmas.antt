@@ -1,5 +1,5 @@
 -- How many bytes were taken.
-use Rattle.std.proofs.Common.{ℕ, ◌≤◌, List, length, Option, Some, None, Bool, true, false, Result, Ok, Err, IfOk, arith}
+use Rattle.std.proofs.Common.{ℕ, List, Option, Some, None, Bool, true, false, Result, Ok, Err, IfOk, arith}
 use Rattle.bpf_insn.specs.declared.insn.Insn.{Insn}
 use Rattle.filter_vm.specs.declared.machine.Outcome.{Outcome}
 use Rattle.pcap_reader.specs.declared.feed.Feed.{Feed}

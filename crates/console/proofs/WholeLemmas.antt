@@ -1,8 +1,7 @@
 -- Each input has a whole text, since each packet has an outcome.
-use Rattle.std.proofs.Common.{◌≡◌, ℕ, ◌+◌, ◌⊎◌, inl, inr, List, [], ◌∷◌, ◌++◌, length, flat_map, Bool, true, false, Option, Result, Ok, Err, refl, sym, ap, ◌∙◌, append_assoc, IsErr}
+use Rattle.std.proofs.Common.{◌≡◌, ℕ, ◌+◌, ◌⊎◌, inl, inr, List, [], ◌∷◌, ◌++◌, length, flat_map, Bool, true, false, Result, Ok, Err, refl, sym, ap, ◌∙◌, append_assoc, IsErr}
 use Rattle.std.specs.List.{AllZip}
 use Rattle.std.specs.Str.Lines.{lines}
-use Rattle.std.proofs.lemmas.List.{append-nil}
 use Rattle.std.proofs.lemmas.Grind.{flat_map-append}
 use Rattle.hex.specs.Hex.{decode_of}
 use Rattle.bpf_insn.specs.declared.insn.Insn.{Insn}
@@ -11,7 +10,6 @@ use Rattle.filter_vm.specs.declared.machine.Outcome.{Outcome}
 use Rattle.bpf_insn.specs.Machine.{Packet}
 use Rattle.filter_vm.proofs.Totality.{has_end}
 use Rattle.pcap_reader.specs.declared.capture.Packet.{Packet as Captured}
-use Rattle.pcap_reader.specs.declared.capture.CaptureFault.{CaptureFault}
 use Rattle.console.specs.Reading.{BeginsWith}
 use Rattle.console.specs.Faults.{fault_status, fault_text}
 use Rattle.console.specs.Matching.{Answers, AnswersCaptured, ShowsFirst, ShowsFront, ShowsLines, ShowsPackets, bad_line, outcome_line}

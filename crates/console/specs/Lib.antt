@@ -8,3 +8,4 @@ pub mod Running
 pub mod Streaming
 pub mod Dumping
 pub mod Checking
+pub mod Views

@@ -50,7 +50,7 @@ fn push_ending(text: &mut String, fault: Option<CaptureFault>) -> Result<u8, All
 }
 
 /// Prints the line for a fault.
-fn push_fault(text: &mut String, fault: CaptureFault) -> Result<(), AllocError>
+pub fn push_fault(text: &mut String, fault: CaptureFault) -> Result<(), AllocError>
     ensures { OnOk result (string_bytes text.new ≡ string_bytes text.old ++ fault_line fault) }
 {
     text.push_str("fault ")?;

@@ -11,7 +11,7 @@ use crate::capture_fault::write_ending;
 use crate::output::write_outcomes;
 use crate::running::{fault_behind, run_input};
 use crate::too_long::refuse_long;
-use crate::{EngineFault, Sink, Source};
+use crate::{EngineFault, Sink, Source, View};
 use filter_verify::Verified;
 use pcap_reader::Feed;
 use std::alloc::Global;
@@ -46,6 +46,6 @@ pub fn match_input<R: Read, W: Write>(
     }
     let fault = fault_behind(&feed)?;
     let mut text = String::new(alloc);
-    write_outcomes(&mut text, outcomes.as_slice(), writer)?;
+    write_outcomes(&mut text, View::Lines, 0, outcomes.as_slice(), writer)?;
     write_ending(text, fault, writer)
 }

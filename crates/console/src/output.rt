@@ -1,13 +1,14 @@
 //! Writing text in large pieces.
 
-ghost use Rattle.std.specs.Prelude.{◌≡◌, ◌++◌, ℕ, List, OnOk, OnErr, IfErr, flat_map, string_bytes, [], false};
+ghost use Rattle.std.specs.Prelude.{◌≡◌, ◌+◌, ◌<◌, ◌^◌, ◌++◌, ℕ, List, length, OnOk, OnErr, IfErr, string_bytes, [], false};
 ghost use Rattle.std.specs.Io.KnownBytes.{Appends};
 ghost use Rattle.console.specs.Devices.{StopsWriting};
 ghost use Rattle.console.specs.Reading.{BeginsWith};
-ghost use Rattle.console.specs.Matching.{IsPrintFault, outcome_line};
+ghost use Rattle.console.specs.Matching.{IsPrintFault};
+ghost use Rattle.console.specs.Views.{shown_at_once};
 
-use crate::outcome::push_outcome;
-use crate::{EngineFault, Sink};
+use crate::view::push_line;
+use crate::{EngineFault, Sink, View};
 use filter_vm::Outcome;
 use std::io::Write;
 
@@ -45,16 +46,20 @@ pub fn write_bytes<W: Write>(writer: &mut Sink<W>, bytes: &[u8]) -> Result<(), E
     Ok(())
 }
 
-/// Writes a line for each outcome, in large pieces. The text is a buffer that is empty before and after.
+/// Writes what is shown of each outcome under a view, in large pieces. `before` packets came before. The text is a buffer that
+/// is empty before and after.
 pub fn write_outcomes<W: Write>(
     text: &mut String,
+    view: View,
+    before: u64,
     outcomes: &[Outcome],
     writer: &mut Sink<W>,
 ) -> Result<(), EngineFault>
     requires empty { string_bytes text.old ≡ [] }
+    requires few { before + length outcomes.now < 2 ^ 64 }
     requires good { writer.old.failed ≡ false }
-    ensures written { OnOk result (Appends (W.contents writer.old.inner) (W.contents writer.new.inner) (flat_map outcome_line outcomes.now)) }
-    ensures front { OnErr result ((front : List ℕ) × BeginsWith front (flat_map outcome_line outcomes.now)
+    ensures written { OnOk result (Appends (W.contents writer.old.inner) (W.contents writer.new.inner) (shown_at_once view before outcomes.now)) }
+    ensures front { OnErr result ((front : List ℕ) × BeginsWith front (shown_at_once view before outcomes.now)
         × Appends (W.contents writer.old.inner) (W.contents writer.new.inner) front) }
     ensures empty { OnOk result (string_bytes text.new ≡ []) }
     ensures fault { IfErr result IsPrintFault }
@@ -62,9 +67,11 @@ pub fn write_outcomes<W: Write>(
     ensures cause { IfErr result (StopsWriting writer.new) }
 {
     let mut rest = outcomes;
+    let mut number = before;
     while let Some((outcome, more)) = rest.split_first() {
         rest = more;
-        push_outcome(text, *outcome)?;
+        number += 1;
+        push_line(text, view, number, *outcome)?;
         if text.len() >= BLOCK {
             write_text(writer, text.as_str())?;
             text.clear();

@@ -1,27 +1,20 @@
 //! What a stream reads its packets from.
 
-ghost use Rattle.std.specs.Prelude.{◌≡◌, ◌<◌, ◌≤◌, ◌++◌, ◌^◌, ℕ, List, [], length, string_bytes, All, true, false, flat_map, IfOk, IfErr, OnOk, OnErr, IsTrue};
+ghost use Rattle.std.specs.Prelude.{◌≡◌, ◌<◌, ◌≤◌, ◌^◌, ℕ, List, [], length, All, true, false, IfOk, IsTrue};
 ghost use Rattle.std.specs.Bool.{MatchBool};
-ghost use Rattle.std.specs.Io.KnownBytes.{Appends};
 ghost use Rattle.bpf_insn.specs.declared.insn.Insn.{Insn};
 ghost use Rattle.filter_vm.specs.declared.machine.Outcome.{Outcome as Ended};
-ghost use Rattle.console.specs.Devices.{StopsWriting};
-ghost use Rattle.console.specs.Matching.{IsPrintFault, ShowsBytes, bad_line, outcome_line};
-ghost use Rattle.console.specs.Reading.{BeginsWith};
 ghost use Rattle.console.specs.Running.{RunsTo};
-ghost use Rattle.console.specs.Streaming.{ShowsSome, SourceEnded, SourceRan, is_capture};
+ghost use Rattle.console.specs.Streaming.{SourceEnded, SourceRan, is_capture};
+ghost use Rattle.console.specs.Views.{RanAll, ending_status, ending_text};
 
-use crate::capture_fault::write_ending;
+use crate::ending::Ending;
 use crate::line_feed::LineFeed;
-use crate::match_lines::push_bad_line;
-use crate::output::write_text;
 use crate::running::{fault_behind, run_piece};
-use crate::{EngineFault, Sink};
 use filter_verify::Verified;
 use filter_vm::Outcome;
 use pcap_reader::Feed;
 use std::alloc::{AllocError, Global};
-use std::io::Write;
 
 /// An input whose packets are run while it is read.
 #[derive(Drop)]
@@ -83,60 +76,25 @@ impl PacketSource {
         }
     }
 
-    /// Writes what stands after the last outcome, if anything does, and answers the status: a complaint about the line at
-    /// which the run stopped, or the fault of the capture. `text` is an empty buffer.
-    pub fn write_end<W: Write>(
-        &self,
-        stopped: bool,
-        text: String,
-        writer: &mut Sink<W>,
-    ) -> Result<u8, EngineFault>
-        requires empty { string_bytes text ≡ [] }
-        requires good { writer.old.failed ≡ false }
-        ensures shown { IfOk result (λ status. (ending : List ℕ) × Appends (W.contents writer.old.inner) (W.contents writer.new.inner) ending
-            × ((program : List Insn) (taken : List ℕ) (outcomes : List Ended) → length taken < 2 ^ 64
+    /// What comes after the last packet that was run: the line at which the run stopped, or the fault of the capture.
+    pub fn ending(&self, stopped: bool) -> Result<Ending, AllocError>
+        ensures ends { IfOk result (λ ending. (program : List Insn) (taken : List ℕ) (outcomes : List Ended) → length taken < 2 ^ 64
             → SourceEnded program stopped taken self.now outcomes
-            → ShowsBytes program (is_capture self.now) taken status (flat_map outcome_line outcomes ++ ending))) }
-        ensures left { OnErr result ((front : List ℕ) × Appends (W.contents writer.old.inner) (W.contents writer.new.inner) front
-            × ((program : List Insn) (taken : List ℕ) (outcomes : List Ended) → length taken < 2 ^ 64
-            → SourceEnded program stopped taken self.now outcomes
-            → ShowsSome program (is_capture self.now) taken (flat_map outcome_line outcomes ++ front))) }
-        ensures status { IfOk result (λ status. (program : List Insn) (taken : List ℕ) (outcomes : List Ended)
-            → SourceEnded program stopped taken self.now outcomes → IsTrue stopped → status ≡ 1) }
-        ensures fault { IfErr result IsPrintFault }
-        ensures good { OnOk result (writer.new.failed ≡ false) }
-        ensures cause { IfErr result (StopsWriting writer.new) }
+            → RanAll program (is_capture self.now) taken outcomes (ending_status ending) (ending_text ending)) }
+        ensures status { IfOk result (λ ending. (program : List Insn) (taken : List ℕ) (outcomes : List Ended)
+            → SourceEnded program stopped taken self.now outcomes → IsTrue stopped → ending_status ending ≡ 1) }
     {
         match self {
             PacketSource::Lines(lines) => {
                 if !stopped {
-                    return Ok(0);
+                    return Ok(Ending::Done);
                 }
-                write_bad_line(lines.number().saturating_add(1), text, writer)?;
-                Ok(1)
+                Ok(Ending::BadLine(lines.number().saturating_add(1)))
             }
-            PacketSource::Capture(feed) => {
-                let fault = fault_behind(feed)?;
-                write_ending(text, fault, writer)
-            }
+            PacketSource::Capture(feed) => match fault_behind(feed)? {
+                Some(fault) => Ok(Ending::Fault(fault)),
+                None => Ok(Ending::Done),
+            },
         }
     }
-}
-
-/// Writes the complaint about a line.
-fn write_bad_line<W: Write>(
-    number: u64,
-    mut text: String,
-    writer: &mut Sink<W>,
-) -> Result<(), EngineFault>
-    requires empty { string_bytes text ≡ [] }
-    requires good { writer.old.failed ≡ false }
-    ensures written { OnOk result (Appends (W.contents writer.old.inner) (W.contents writer.new.inner) (bad_line number)) }
-    ensures front { OnErr result ((front : List ℕ) × BeginsWith front (bad_line number) × Appends (W.contents writer.old.inner) (W.contents writer.new.inner) front) }
-    ensures fault { IfErr result IsPrintFault }
-    ensures good { OnOk result (writer.new.failed ≡ false) }
-    ensures cause { IfErr result (StopsWriting writer.new) }
-{
-    push_bad_line(&mut text, number)?;
-    write_text(writer, text.as_str())
 }

@@ -1,22 +1,22 @@
 //! `match --stream`: runs a filter on packets of an input of any length, and shows each outcome while it reads.
 
-ghost use Rattle.std.specs.Prelude.{◌≡◌, ◌⊎◌, ℕ, List, [], IfOk, IfErr, OnErr, true, false};
+ghost use Rattle.std.specs.Prelude.{◌≡◌, ◌⊎◌, ℕ, List, [], IfOk, IfErr, OnErr, OnOk, true, false};
 ghost use Rattle.std.specs.Io.KnownBytes.{Appends, Consumes, IsAtEnd};
 ghost use Rattle.bpf_insn.specs.declared.insn.Insn.{Insn};
 ghost use Rattle.console.specs.Code.{IsGoodCode, ShowsBadCode};
 ghost use Rattle.console.specs.Reading.{BeginsWith};
-ghost use Rattle.console.specs.Devices.{EndsEarly, IsFresh};
-ghost use Rattle.console.specs.Matching.{IsEngineFault, ShowsBytes};
-ghost use Rattle.console.specs.Streaming.{ShowsSome, SourceRan, StreamLeaves, StreamShows, is_capture};
+ghost use Rattle.console.specs.Devices.{EndsEarly, IsFresh, StopsWriting};
+ghost use Rattle.console.specs.Matching.{IsEngineFault};
+ghost use Rattle.console.specs.Streaming.{SourceRan, StreamLeaves, StreamShows, is_capture};
+ghost use Rattle.console.specs.Views.{IsFound, ShowsView, ShowsViewCode, ShowsViewPart, ViewLeaves, ViewShows, heard};
 
 use crate::code::read_code;
 use crate::input::BLOCK;
-use crate::line_feed::LineFeed;
-use crate::output::{write_outcomes, write_text};
+use crate::output::write_text;
 use crate::packet_source::PacketSource;
-use crate::{EngineFault, Got, Sink, Source};
+use crate::tally::Tally;
+use crate::{EngineFault, Got, Sink, Source, View};
 use filter_verify::Verified;
-use pcap_reader::Feed;
 use std::alloc::Global;
 use std::io::{Read, Write};
 
@@ -56,22 +56,75 @@ pub fn run_stream<R: Read, W: Write>(
     ensures well { IfOk result (λ status. (writer.new.failed ≡ false) × (reader.new.failed ≡ false) × ((reader.new.ended ≡ true) ⊎ (status ≡ 1))) }
     ensures cause { IfErr result (EndsEarly reader.new writer.new) }
 {
-    let program = match read_code(alloc, code)? {
-        Ok(program) => program,
-        Err(line) => {
-            write_text(writer, line.as_str())?;
-            return Ok(1);
-        }
-    };
-    let mut source = PacketSource::new(alloc, pcap);
-    stream(alloc, &program, &mut source, reader, writer)
+    run_view(alloc, code, pcap, View::Lines, reader, writer)
 }
 
-/// Reads packets to the end of the input and shows their outcomes, and answers the status.
+/// Runs the filter that `code` spells, in decimal text, on packets of an input of any length, shows their outcomes under a
+/// view, and answers the status.
+///
+/// - `View::Lines` is `run_stream`. `View::Numbers` is the same, with the packet's number and a blank before each line.
+/// - `View::Count` writes `N of M` at the end: so many packets were accepted, of so many that were run. The line for what is wrong
+///   with the input, if anything is, comes after it.
+/// - `View::Quiet` writes nothing. It ends at the first packet that is accepted, without reading on, with status 0. The status is
+///   4 where the input ends and no packet was accepted, and 1 at a line that is no packet, or a fault of the capture.
+///
+/// For a code that is no program, or that the verifier refuses, it reads nothing, and answers status 1. It writes one line that
+/// says why, but under `View::Quiet`.
+///
+/// The input is read as by `run_stream`, and it fails as that does. 2^64 packets are refused as memory is.
+pub fn run_view<R: Read, W: Write>(
+    alloc: Global,
+    code: &[u8],
+    pcap: bool,
+    view: View,
+    reader: &mut Source<R>,
+    writer: &mut Sink<W>,
+) -> Result<u8, EngineFault>
+    requires fresh { IsFresh reader.old STREAM_READS }
+    requires good { writer.old.failed ≡ false }
+    ensures shown { IfOk result (λ status. (text : List ℕ) × Appends (W.contents writer.old.inner) (W.contents writer.new.inner) text
+        × ((ShowsViewCode view code.now text × (status ≡ 1))
+        ⊎ ((input : List ℕ) × Consumes (R.remaining reader.old.inner) (R.remaining reader.new.inner) input
+        × ViewShows view code.now pcap input status text × (IsAtEnd (R.remaining reader.new.inner) ⊎ (status ≡ 1) ⊎ IsFound view status)))) }
+    ensures unread { ((program : List Insn) → IsGoodCode code.now program → ⊥) → reader.new ≡ reader.old }
+    ensures left { OnErr result ((text : List ℕ) × Appends (W.contents writer.old.inner) (W.contents writer.new.inner) text
+        × ((text ≡ []) ⊎ (((whole : List ℕ) × ShowsBadCode code.now whole × BeginsWith text whole)
+        ⊎ ((input : List ℕ) × Consumes (R.remaining reader.old.inner) (R.remaining reader.new.inner) input × ViewLeaves view code.now pcap input text)))) }
+    ensures fault { IfErr result IsEngineFault }
+    ensures well { IfOk result (λ status. (writer.new.failed ≡ false) × (reader.new.failed ≡ false)
+        × ((reader.new.ended ≡ true) ⊎ (status ≡ 1) ⊎ IsFound view status)) }
+    ensures cause { IfErr result (EndsEarly reader.new writer.new) }
+{
+    let program = match read_code(alloc, code)? {
+        Ok(program) => program,
+        Err(line) => return refuse_code(view, line.as_str(), writer),
+    };
+    let mut source = PacketSource::new(alloc, pcap);
+    stream(alloc, &program, &mut source, view, reader, writer)
+}
+
+/// Writes the line of a code that is refused, where the view shows any, and answers the status.
+fn refuse_code<W: Write>(view: View, line: &str, writer: &mut Sink<W>) -> Result<u8, EngineFault>
+    requires { writer.old.failed ≡ false }
+    ensures written { IfOk result (λ status. (status ≡ 1) × Appends (W.contents writer.old.inner) (W.contents writer.new.inner) (heard view line.now)) }
+    ensures front { OnErr result ((front : List ℕ) × BeginsWith front line.now × Appends (W.contents writer.old.inner) (W.contents writer.new.inner) front) }
+    ensures fault { IfErr result (λ e. e ≡ EngineFault.WriteFailed) }
+    ensures good { OnOk result (writer.new.failed ≡ false) }
+    ensures cause { IfErr result (StopsWriting writer.new) }
+{
+    match view {
+        View::Lines | View::Numbers | View::Count => write_text(writer, line)?,
+        View::Quiet => {}
+    }
+    Ok(1)
+}
+
+/// Reads packets to the end of the input and shows their outcomes under a view, and answers the status.
 fn stream<R: Read, W: Write>(
     alloc: Global,
     program: &Verified,
     source: &mut PacketSource,
+    view: View,
     reader: &mut Source<R>,
     writer: &mut Sink<W>,
 ) -> Result<u8, EngineFault>
@@ -79,30 +132,36 @@ fn stream<R: Read, W: Write>(
     requires fresh { IsFresh reader.old STREAM_READS }
     requires good { writer.old.failed ≡ false }
     ensures shown { IfOk result (λ status. (input : List ℕ) × Consumes (R.remaining reader.old.inner) (R.remaining reader.new.inner) input
-        × ((text : List ℕ) × Appends (W.contents writer.old.inner) (W.contents writer.new.inner) text × ShowsBytes program.now (is_capture source.old) input status text)
-        × (IsAtEnd (R.remaining reader.new.inner) ⊎ (status ≡ 1))) }
+        × ((text : List ℕ) × Appends (W.contents writer.old.inner) (W.contents writer.new.inner) text × ShowsView view program.now (is_capture source.old) input status text)
+        × (IsAtEnd (R.remaining reader.new.inner) ⊎ (status ≡ 1) ⊎ IsFound view status)) }
     ensures left { OnErr result ((input : List ℕ) × Consumes (R.remaining reader.old.inner) (R.remaining reader.new.inner) input
-        × ((text : List ℕ) × Appends (W.contents writer.old.inner) (W.contents writer.new.inner) text × ShowsSome program.now (is_capture source.old) input text)) }
+        × ((text : List ℕ) × Appends (W.contents writer.old.inner) (W.contents writer.new.inner) text × ShowsViewPart view program.now (is_capture source.old) input text)) }
     ensures fault { IfErr result IsEngineFault }
-    ensures well { IfOk result (λ status. (writer.new.failed ≡ false) × (reader.new.failed ≡ false) × ((reader.new.ended ≡ true) ⊎ (status ≡ 1))) }
+    ensures well { IfOk result (λ status. (writer.new.failed ≡ false) × (reader.new.failed ≡ false)
+        × ((reader.new.ended ≡ true) ⊎ (status ≡ 1) ⊎ IsFound view status)) }
     ensures cause { IfErr result (EndsEarly reader.new writer.new) }
 {
     let mut outcomes = Vec::new(alloc);
-    let mut text = String::new(alloc);
+    let mut tally = Tally::new(alloc, view);
     let mut block = [0u8; BLOCK];
     for _turn in 0..STREAM_READS {
         match reader.read(&mut block) {
             Got::End => {
                 let stopped = source.finish(program, &mut outcomes)?;
-                write_outcomes(&mut text, outcomes.as_slice(), writer)?;
-                return source.write_end(stopped, text, writer);
+                tally.show(outcomes.as_slice(), writer)?;
+                let ending = source.ending(stopped)?;
+                return tally.finish(ending, writer);
             }
             Got::Bytes(count) => {
                 let stopped = source.run(program, &block[..count], &mut outcomes)?;
-                write_outcomes(&mut text, outcomes.as_slice(), writer)?;
+                tally.show(outcomes.as_slice(), writer)?;
                 outcomes.clear();
+                if tally.is_done() {
+                    return Ok(0);
+                }
                 if stopped {
-                    return source.write_end(true, text, writer);
+                    let ending = source.ending(true)?;
+                    return tally.finish(ending, writer);
                 }
             }
             Got::Again => {}

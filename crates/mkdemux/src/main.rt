@@ -1,7 +1,7 @@
 //! `mkdemux`: runs classic BPF filters on packets, and scripts on cores that replicate a table of filters.
 //!
-//! The exit status is 0; 1 for a refused input, whose line is on standard output; 2 for a fault of the command line; and 3
-//! for memory, a file that can't be opened, a device, or a run that halted. Statuses 2 and 3 have a line on standard error, except
+//! The exit status is 0; 1 for a refused input, whose line is on standard output; 2 for a fault of the command line; 3
+//! for memory, a file that can't be opened, a device, or a run that halted; and 4 where `match --quiet` accepted no packet. Statuses 2 and 3 have a line on standard error, except
 //! where nobody reads the output any more.
 #![tactic(auto)]
 
@@ -150,8 +150,10 @@ fn cause_words(cause: Cause) -> &'static str {
 /// Says on standard error what is awaited, where standard input is a terminal.
 fn invite(rt: &HostRuntime, request: &Request) {
     let awaited = match request {
-        Request::Match { pcap: true, .. } | Request::Dump => "a capture",
-        Request::Match { .. } | Request::Explain { .. } => {
+        Request::Match { pcap: true, .. } | Request::View { pcap: true, .. } | Request::Dump => {
+            "a capture"
+        }
+        Request::Match { .. } | Request::View { .. } | Request::Explain { .. } => {
             "packets, a line of hexadecimal digits each"
         }
         Request::Check { .. } | Request::Graph => "a filter in assembler text",

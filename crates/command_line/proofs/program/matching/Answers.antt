@@ -1,15 +1,16 @@
-use Rattle.std.proofs.Common.{ap, ap₂, refl, ◌∙◌}
+use Rattle.std.proofs.Common.{ap₂, refl, ◌∙◌}
 use Rattle.std.proofs.lemmas.Result.{IfOk-weaker}
-use Rattle.clap.specs.Simple.{app_of_fields}
 use Rattle.clap.specs.Words.{with_rule}
 use Rattle.command_line.proofs.Commands.{is_argument}
 use Rattle.command_line.proofs.program.matching.Goals as goal
 
 pub returns : goal.returns
 returns c =
-    let described = ap app_of_fields c.after_help.ensures ∙ ap app_of_fields c.long_about.ensures ∙ ap app_of_fields c.about.ensures ∙ c.new.ensures.app in
-    let with_code = c.in_ok-arg.ensures.shape c.code.ensures.local ∙ ap₂ with_rule described c.code.ensures.rule in
+    let with_code = c.in_ok-arg.ensures.shape c.code.ensures.local ∙ ap₂ with_rule c.described.ensures c.code.ensures.rule in
     let with_pcap = c.in_ok-arg-2.ensures.shape c.flag.ensures.local ∙ ap₂ with_rule with_code c.flag.ensures.rule in
-    let with_stream = c.in_ok-command.ensures.shape c.flag-2.ensures.local ∙ ap₂ with_rule with_pcap c.flag-2.ensures.rule in
-    IfOk-weaker c.with_argument.result _ _ (λ r is. is ∙ ap₂ with_rule with_stream refl)
-    (c.with_argument.ensures _ (is_argument c.explain.result _ c.explain.ensures.rule c.explain.ensures.local))
+    let with_stream = c.in_ok-arg-3.ensures.shape c.flag-2.ensures.local ∙ ap₂ with_rule with_pcap c.flag-2.ensures.rule in
+    let with_number = c.in_ok-command.ensures.shape c.flag-3.ensures.local ∙ ap₂ with_rule with_stream c.flag-3.ensures.rule in
+    let with_count = c.in_ok-command-2.ensures _ (is_argument c.count.result _ c.count.ensures.rule c.count.ensures.local) ∙ ap₂ with_rule with_number refl in
+    let with_quiet = c.in_ok-command-3.ensures _ (is_argument c.quiet.result _ c.quiet.ensures.rule c.quiet.ensures.local) ∙ ap₂ with_rule with_count refl in
+    IfOk-weaker c.with_argument-3.result _ _ (λ r is. is ∙ ap₂ with_rule with_quiet refl)
+    (c.with_argument-3.ensures _ (is_argument c.explain.result _ c.explain.ensures.rule c.explain.ensures.local))

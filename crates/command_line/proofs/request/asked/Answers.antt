@@ -5,7 +5,7 @@ use Rattle.clap.specs.Words.{first_of, found_of, rows_of}
 use Rattle.clap.proofs.WalkLemmas.{first_value-rows}
 use Rattle.command_line.specs.Requests.{IsFlag}
 use Rattle.command_line.proofs.Readings.{is_flag, or_else}
-use Rattle.command_line.proofs.request.asked.Goals.{in-match+else-get_flag, in-check+else-get_flag-2, in-dump, in-sim+in_ok-files-in-sim, in-run+in_ok-files-in-run, in-draw}
+use Rattle.command_line.proofs.request.asked.Goals.{in-match+else-get_flag+in-Some, in-match+else-get_flag+in-None, in-check+else-get_flag-2, in-dump, in-sim+in_ok-files-in-sim, in-run+in_ok-files-in-run, in-draw}
 use Rattle.command_line.proofs.request.asked.Goals as goal
 
 abbrev text : Bor (List ℕ) → List ℕ
@@ -26,7 +26,7 @@ returns-then-get_flag-2 c =
 
 pub returns : goal.returns
 returns c = elim c.match-name.branch [
-  | in-match+else-get_flag w ↦
+  | in-match+else-get_flag+in-Some w ↦
       let code : text w.unwrap_or-code.result ≡ unwrap_or (first_of (codes "code") (rows_of (found_of c.args.found.now))) [] =
       ap text w.unwrap_or-code.ensures ∙ or_else text w.get_str.result _
       ∙ ap (λ found. unwrap_or found []) (w.get_str.ensures ∙ first_value-rows (found_of c.args.found.now) (codes "code")) in
@@ -35,8 +35,21 @@ returns c = elim c.match-name.branch [
         search rules,
         code,
         subst (λ flag. IsFlag (codes "explain") (rows_of (found_of c.args.found.now)) flag) w.if-get_flag.false explain,
-        is_flag c.args.found.now (codes "pcap") w.get_flag-in-match.result w.get_flag-in-match.ensures.value w.get_flag-in-match.ensures.other,
-        is_flag c.args.found.now (codes "stream") w.get_flag-in-match-2.result w.get_flag-in-match-2.ensures.value w.get_flag-in-match-2.ensures.other,
+        is_flag c.args.found.now (codes "pcap") w.get_flag-pcap.result w.get_flag-pcap.ensures.value w.get_flag-pcap.ensures.other,
+        w.in-Some.ensures,
+      )
+  | in-match+else-get_flag+in-None w ↦
+      let code : text w.unwrap_or-code.result ≡ unwrap_or (first_of (codes "code") (rows_of (found_of c.args.found.now))) [] =
+      ap text w.unwrap_or-code.ensures ∙ or_else text w.get_str.result _
+      ∙ ap (λ found. unwrap_or found []) (w.get_str.ensures ∙ first_value-rows (found_of c.args.found.now) (codes "code")) in
+      let explain = is_flag c.args.found.now (codes "explain") w.get_flag.result w.get_flag.ensures.value w.get_flag.ensures.other in
+      rw w.result-is (
+        search rules,
+        code,
+        subst (λ flag. IsFlag (codes "explain") (rows_of (found_of c.args.found.now)) flag) w.if-get_flag.false explain,
+        is_flag c.args.found.now (codes "pcap") w.get_flag-pcap.result w.get_flag-pcap.ensures.value w.get_flag-pcap.ensures.other,
+        is_flag c.args.found.now (codes "stream") w.get_flag-in-None.result w.get_flag-in-None.ensures.value w.get_flag-in-None.ensures.other,
+        w.in-None.ensures,
       )
   | in-check+else-get_flag-2 w ↦
       let graph = is_flag c.args.found.now (codes "graph") w.get_flag-in-check.result w.get_flag-in-check.ensures.value w.get_flag-in-check.ensures.other in

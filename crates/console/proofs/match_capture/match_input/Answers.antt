@@ -1,5 +1,7 @@
-use Rattle.std.proofs.Common.{[], flat_map, refl, sym, append-nil, inr, true}
-use Rattle.console.specs.Matching.{ShowsInput, outcome_line}
+use Rattle.std.proofs.Common.{[], refl, sym, append-nil, inr, true}
+use Rattle.console.specs.declared.view.View.TheVariants.{Lines}
+use Rattle.console.specs.Matching.{ShowsInput}
+use Rattle.console.specs.Views.{shown_at_once}
 use Rattle.console.proofs.DeviceLemmas.{ends_reading, ends_refused, ends_well, ends_writing, ends_written, read_well}
 use Rattle.console.proofs.MatchingLemmas.{shown_long}
 use Rattle.console.proofs.TakingLemmas.{on_ok, run_taken}
@@ -23,7 +25,7 @@ returns-clause-shown g c =
 pub returns-clause-part : goal.returns-clause-part
 returns-clause-part g c = λ memory.
     let written = rw c.as_slice.ensures.value at c.in_ok-write_outcomes.ensures.written in (
-      flat_map outcome_line c.run_input.new.outcomes.items,
+      shown_at_once Lines 0 c.run_input.new.outcomes.items,
       capture_part _ _ _ _ _ _ _ _ c.in_ok-run_input.ensures.run c.if-not-branch.false c.in_ok-fault.ensures.ends ([], sym (append-nil _)),
       rw (c.write_ending.ensures.part memory) written,
     )

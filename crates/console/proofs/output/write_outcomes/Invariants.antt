@@ -1,12 +1,13 @@
-use Rattle.std.proofs.Common.{◌≡◌, flat_map, length, string_bytes, false}
-use Rattle.console.specs.Matching.{outcome_line}
+use Rattle.std.proofs.Common.{◌≡◌, ◌+◌, ◌<◌, ◌^◌, length, string_bytes, false}
+use Rattle.console.specs.Views.{shown_at_once}
 use Rattle.console.proofs.PrintingLemmas.{Printing}
 use Rattle.console.proofs.output.write_outcomes.Given as goal
 
 abbrev pub invariant-loop-outcome : goal.invariant-loop-outcome
 invariant-loop-outcome g l = record {
+  few : l.number + length l.rest < 2 ^ 64;
   good : l.writer.failed ≡ false;
-  printing : Printing (flat_map outcome_line l.outcomes) (flat_map outcome_line l.rest) (g.W.Write.contents l.initial.writer.inner) (g.W.Write.contents l.writer.inner) (string_bytes l.text);
+  printing : Printing (shown_at_once l.fn.view l.fn.before l.outcomes) (shown_at_once l.fn.view l.number l.rest) (g.W.Write.contents l.initial.writer.inner) (g.W.Write.contents l.writer.inner) (string_bytes l.text);
 }
 
 abbrev pub decreases-loop-outcome : goal.decreases-loop-outcome

@@ -1,0 +1,117 @@
+-- What a view shows of some outcomes and of more.
+use Rattle.std.proofs.Common.{◌≡◌, ℕ, zero, suc, ◌+◌, inl, inr, List, [], ◌∷◌, ◌++◌, length, flat_map, Bool, true, false, Option, refl, sym, ap, ◌∙◌, append_assoc, add-zero, arith}
+use Rattle.std.specs.Prelude.{Result, Ok, Err, OnErr}
+use Rattle.std.specs.Io.KnownBytes.{Appends}
+use Rattle.console.proofs.KnownBytesLemmas.{appends-nothing}
+use Rattle.std.proofs.lemmas.List.Sums.{sum_by-append}
+use Rattle.bpf_insn.specs.declared.insn.Insn.{Insn}
+use Rattle.filter_vm.specs.declared.machine.Outcome.{Outcome}
+use Rattle.console.specs.declared.ending.Ending.{Ending}
+use Rattle.console.specs.declared.ending.Ending.TheVariants.{Done, BadLine, Fault}
+use Rattle.console.specs.declared.view.View.{View}
+use Rattle.console.specs.declared.view.View.TheVariants.{Lines, Numbers, Count, Quiet}
+use Rattle.console.specs.Faults.{fault_text}
+use Rattle.console.specs.Matching.{ShowsBytes, ShowsPackets, outcome_line}
+use Rattle.console.specs.Streaming.{ShowsSome}
+use Rattle.console.specs.Views.{RanFirst, ShowsEnd, ShowsView, ShowsViewPart, accepted, ending_status, ending_text, shown_after, shown_at_once, shown_line}
+use Rattle.console.specs.Reading.{BeginsWith}
+
+pub shown-append : (view : View) (n : ℕ) (first more : List Outcome) → shown_at_once view n (first ++ more) ≡ shown_at_once view n first ++ shown_at_once view (n + length first) more
+shown-append view n [] more = ap (λ k. shown_at_once view k more) (sym (add-zero n))
+shown-append view n (o ∷ first) more =
+    let next : n + 1 + length first ≡ n + length (o ∷ first) = omega arith in
+    ap (λ t. shown_line view (n + 1) o ++ t) (shown-append view (n + 1) first more ∙ ap (λ k. shown_at_once view (n + 1) first ++ shown_at_once view k more) next)
+    ∙ sym (append_assoc (shown_line view (n + 1) o) (shown_at_once view (n + 1) first) (shown_at_once view (n + length (o ∷ first)) more))
+
+-- lines without numbers
+pub lines_flat : (n : ℕ) (outcomes : List Outcome) → shown_at_once Lines n outcomes ≡ flat_map outcome_line outcomes
+lines_flat n [] = refl
+lines_flat n (o ∷ outcomes) = ap (λ t. outcome_line o ++ t) (lines_flat (n + 1) outcomes)
+
+pub accepted-append : (first more : List Outcome) → accepted (first ++ more) ≡ accepted first + accepted more
+accepted-append first more = sum_by-append _ first more
+
+-- what is shown under `Lines` is what `match` shows
+pub lines_shows : (program : List Insn) (pcap : Bool) (input : List ℕ) (status : ℕ) (text : List ℕ) → ShowsView Lines program pcap input status text → ShowsBytes program pcap input status text
+lines_shows program false input status text s = record {
+  good = s.3.0;
+  outcomes = s.0;
+  complaint = s.2;
+  ran = s.3.1;
+  stops = rw s.4.0 (s.3.2);
+  printed = s.4.1 ∙ ap (λ t. t ++ s.2) (lines_flat 0 s.0);
+}
+lines_shows program true input status text s = (
+  s.3.0,
+  s.3.1,
+  s.3.2,
+  s.3.3,
+  record {
+    outcomes = s.0;
+    ran = s.3.4;
+    printed = s.4.1 ∙ ap (λ t. shown_at_once Lines 0 s.0 ++ t) s.3.6 ∙ ap (λ t. t ++ fault_text s.3.2) (lines_flat 0 s.0);
+  },
+  s.4.0 ∙ s.3.5,
+)
+
+lines_packets : (program : List Insn) (pcap : Bool) (input text : List ℕ) (outcomes : List Outcome) → RanFirst program pcap input outcomes → BeginsWith text (shown_at_once Lines 0 outcomes)
+    → ShowsPackets program pcap input text
+lines_packets program false input text outcomes ran begins = record {
+  good = ran.0;
+  left = ran.1;
+  outcomes = outcomes;
+  more = begins.0;
+  front = ran.2;
+  ran = ran.3;
+  printed = sym begins.1 ∙ lines_flat 0 outcomes;
+}
+lines_packets program true input text outcomes ran begins = (
+  ran.0,
+  ran.1,
+  ran.2,
+  ran.3,
+  record {
+    good = ran.4;
+    left = ran.5;
+    outcomes = outcomes;
+    more = begins.0;
+    front = ran.6;
+    ran = ran.7;
+    printed = sym begins.1 ∙ lines_flat 0 outcomes;
+  },
+)
+
+pub lines_part : (program : List Insn) (pcap : Bool) (input text : List ℕ) → ShowsViewPart Lines program pcap input text → ShowsSome program pcap input text
+lines_part program pcap input text (inl first) = inl (lines_packets program pcap input text first.0 first.1 first.2)
+lines_part program pcap input text (inr all) = inr (all.0, all.1, lines_shows program pcap input all.0 all.1 all.2, all.3)
+
+-- something is shown at the end
+some_end : (view : View) (some all : ℕ) (ending : Ending) → (status : ℕ) × (whole : List ℕ) × ShowsEnd view some all ending status whole
+some_end Lines some all ending = (ending_status ending, shown_after Lines some all ++ ending_text ending, (refl, refl))
+some_end Numbers some all ending = (ending_status ending, shown_after Numbers some all ++ ending_text ending, (refl, refl))
+some_end Count some all ending = (ending_status ending, shown_after Count some all ++ ending_text ending, (refl, refl))
+some_end Quiet zero all Done = (4, [], (refl, inr (refl, inl (refl, refl))))
+some_end Quiet zero all (BadLine number) = (1, [], (refl, inr (refl, inr (refl, refl))))
+some_end Quiet zero all (Fault fault) = (1, [], (refl, inr (refl, inr (refl, refl))))
+some_end Quiet (suc n) all ending = (0, [], (refl, inl (omega arith, refl)))
+
+-- and nothing of it was written
+pub end_unwritten : {T E : Type 0} (r : Result T E) (view : View) (some all : ℕ) (ending : Ending) (known : Option (List ℕ))
+    → OnErr r ((text : List ℕ) × Appends known known text × ((status : ℕ) × (whole : List ℕ) × ShowsEnd view some all ending status whole × BeginsWith text whole))
+end_unwritten (Ok v) view some all ending known = tt
+end_unwritten (Err e) view some all ending known = let end = some_end view some all ending in ([], appends-nothing known, (end.0, end.1, end.2, (end.1, refl)))
+
+-- all of it, but under `Quiet`
+pub end_written : (view : View) (some all : ℕ) (ending : Ending) (text : List ℕ) → (view ≡ Quiet → ⊥) → text ≡ shown_after view some all ++ ending_text ending
+    → ShowsEnd view some all ending (ending_status ending) text
+end_written Lines some all ending text loud is = (refl, is)
+end_written Numbers some all ending text loud is = (refl, is)
+end_written Count some all ending text loud is = (refl, is)
+end_written Quiet some all ending text loud is = absurd (loud refl)
+
+-- a front of it
+pub end_front : {T E : Type 0} (r : Result T E) (view : View) (some all : ℕ) (ending : Ending) (text : List ℕ) (old new : Option (List ℕ)) → (view ≡ Quiet → ⊥) → text ≡ shown_after view some all ++ ending_text ending
+    → (front : List ℕ) × BeginsWith front text × Appends old new front
+    → OnErr r ((text : List ℕ) × Appends old new text × ((status : ℕ) × (whole : List ℕ) × ShowsEnd view some all ending status whole × BeginsWith text whole))
+end_front (Ok v) view some all ending text old new loud is failed = tt
+end_front (Err e) view some all ending text old new loud is failed = (failed.0, failed.2, (ending_status ending, text, end_written view some all ending text loud is, failed.1))

@@ -1,0 +1,129 @@
+-- What `match` shows under its views: a line for each packet, with or without its number, one line for all, or the status alone.
+use Rattle.std.specs.Prelude.{◌≡◌, ℕ, ◌+◌, ◌<◌, ◌⊎◌, List, [], ◌∷◌, ◌++◌, length, codes, count_by, nat_lt, Option, Bool, true, false}
+use Rattle.std.specs.List.{AllZip}
+use Rattle.std.specs.Fmt.{decimal}
+use Rattle.std.specs.Str.Lines.{lines}
+use Rattle.bpf_insn.specs.declared.insn.Insn.{Insn}
+use Rattle.filter_vm.specs.declared.machine.Outcome.{Outcome}
+use Rattle.pcap_reader.specs.declared.capture.Header.{Header}
+use Rattle.pcap_reader.specs.declared.capture.Packet.{Packet as Captured}
+use Rattle.pcap_reader.specs.declared.capture.CaptureFault.{CaptureFault}
+use Rattle.pcap_reader.specs.Savefile.{Reads}
+use Rattle.console.specs.declared.ending.Ending.{Ending}
+use Rattle.console.specs.declared.ending.Ending.TheVariants.{Done, BadLine, Fault}
+use Rattle.console.specs.declared.tally.Tally.{Tally}
+use Rattle.console.specs.declared.view.View.{View}
+use Rattle.console.specs.declared.view.View.TheVariants.{Lines, Numbers, Count, Quiet}
+use Rattle.console.specs.Code.{IsGoodCode, ShowsBadCode}
+use Rattle.console.specs.Faults.{fault_line, fault_status, fault_text}
+use Rattle.console.specs.Matching.{Answers, AnswersCaptured, Stops, bad_line, outcome_line}
+use Rattle.console.specs.Reading.{BeginsWith}
+
+-- how many packets were accepted: the filter keeps a byte of each, or more
+abbrev pub accepted : List Outcome → ℕ
+accepted outcomes = count_by (λ outcome. nat_lt 0 outcome.verdict) outcomes
+
+-- how many were accepted, of how many
+abbrev pub tally_line : ℕ → ℕ → List ℕ
+tally_line some all = decimal some ++ codes " of " ++ decimal all ++ codes "\n"
+
+-- the line for an outcome: with its packet's number n, from 1, where numbers are shown
+abbrev pub shown_line : View → ℕ → Outcome → List ℕ
+shown_line Lines n outcome = outcome_line outcome
+shown_line Numbers n outcome = decimal n ++ codes " " ++ outcome_line outcome
+shown_line Count n outcome = []
+shown_line Quiet n outcome = []
+
+-- what is shown of outcomes as soon as they are there; there were n packets before
+abbrev pub shown_at_once : View → ℕ → List Outcome → List ℕ
+shown_at_once view n [] = []
+shown_at_once view n (outcome ∷ more) = shown_line view (n + 1) outcome ++ shown_at_once view (n + 1) more
+
+-- what is shown after them, where so many were accepted, of so many
+abbrev pub shown_after : View → ℕ → ℕ → List ℕ
+shown_after Lines some all = []
+shown_after Numbers some all = []
+shown_after Count some all = tally_line some all
+shown_after Quiet some all = []
+
+-- the last line, if there is one: a complaint about an input line, or a capture's fault
+abbrev pub ending_text : Ending → List ℕ
+ending_text Done = []
+ending_text (BadLine number) = bad_line number
+ending_text (Fault fault) = fault_line fault
+
+abbrev pub ending_status : Ending → ℕ
+ending_status Done = 0
+ending_status (BadLine number) = 1
+ending_status (Fault fault) = 1
+
+-- the packets of bytes, in order, ended with these outcomes, and this line and status come after them
+abbrev pub RanAll : List Insn → Bool → List ℕ → List Outcome → ℕ → List ℕ → Type 0
+RanAll program false input outcomes status ending =
+    (good : List (List ℕ)) × AllZip (Answers program) good outcomes × Stops (lines input) good status ending
+RanAll program true input outcomes status ending =
+    (header : Option Header) × (packets : List Captured) × (fault : Option CaptureFault)
+    × Reads input header packets fault × AllZip (AnswersCaptured program) packets outcomes × (status ≡ fault_status fault) × (ending ≡ fault_text fault)
+
+-- the first packets of bytes ended with these outcomes
+abbrev pub RanFirst : List Insn → Bool → List ℕ → List Outcome → Type 0
+RanFirst program false input outcomes =
+    (good : List (List ℕ)) × (left : List (List ℕ)) × (lines input ≡ good ++ left) × AllZip (Answers program) good outcomes
+RanFirst program true input outcomes =
+    (header : Option Header) × (packets : List Captured) × (fault : Option CaptureFault) × Reads input header packets fault
+    × (good : List Captured) × (left : List Captured) × (packets ≡ good ++ left) × AllZip (AnswersCaptured program) good outcomes
+
+-- a text and a status of outcomes and of the line after them
+abbrev pub ShowsOutcomes : View → List Outcome → ℕ → List ℕ → ℕ → List ℕ → Type 0
+ShowsOutcomes view outcomes ended ending status text =
+    (status ≡ ended) × (text ≡ shown_at_once view 0 outcomes ++ (shown_after view (accepted outcomes) (length outcomes) ++ ending))
+
+-- no packet was accepted: the status is 4 where the input is whole, and else 1
+abbrev pub IsNoneStatus : ℕ → ℕ → Type 0
+IsNoneStatus ended status = ((ended ≡ 0) × (status ≡ 4)) ⊎ ((ended ≡ 1) × (status ≡ 1))
+
+-- the line and the status after the last packet, where so many were accepted, of so many. `Quiet` has only a status
+abbrev pub ShowsEnd : View → ℕ → ℕ → Ending → ℕ → List ℕ → Type 0
+ShowsEnd Quiet some all ending status text =
+    (text ≡ []) × (((0 < some) × (status ≡ 0)) ⊎ ((some ≡ 0) × IsNoneStatus (ending_status ending) status))
+ShowsEnd view some all ending status text = (status ≡ ending_status ending) × (text ≡ shown_after view some all ++ ending_text ending)
+
+-- under this view the command ends at the first packet that is accepted, with status 0
+abbrev pub IsFound : View → ℕ → Type 0
+IsFound view status = (view ≡ Quiet) × (status ≡ 0)
+
+-- a tally has counted these outcomes
+abbrev pub HasCounted : View → Tally → List Outcome → Type 0
+HasCounted view tally outcomes = (tally.view ≡ view) × (tally.total ≡ length outcomes) × (tally.accepted ≡ accepted outcomes)
+
+-- what is shown of bytes under a view. `Quiet`: nothing, and status 0 where one of the first packets was accepted, whatever follows
+abbrev pub ShowsView : View → List Insn → Bool → List ℕ → ℕ → List ℕ → Type 0
+ShowsView Quiet program pcap input status text = (text ≡ [])
+    × (((outcomes : List Outcome) × RanFirst program pcap input outcomes × (0 < accepted outcomes) × (status ≡ 0))
+    ⊎ ((outcomes : List Outcome) × (ended : ℕ) × (ending : List ℕ) × RanAll program pcap input outcomes ended ending
+    × (accepted outcomes ≡ 0) × IsNoneStatus ended status))
+ShowsView view program pcap input status text =
+    (outcomes : List Outcome) × (ended : ℕ) × (ending : List ℕ) × RanAll program pcap input outcomes ended ending × ShowsOutcomes view outcomes ended ending status text
+
+-- text is a front of what is shown at once of the first packets of bytes, or of all that is shown
+abbrev pub ShowsViewPart : View → List Insn → Bool → List ℕ → List ℕ → Type 0
+ShowsViewPart view program pcap input text =
+    ((outcomes : List Outcome) × RanFirst program pcap input outcomes × BeginsWith text (shown_at_once view 0 outcomes))
+    ⊎ ((status : ℕ) × (whole : List ℕ) × ShowsView view program pcap input status whole × BeginsWith text whole)
+
+-- a line, where the view shows any
+abbrev pub heard : View → List ℕ → List ℕ
+heard Quiet line = []
+heard view line = line
+
+-- what a view shows of a code that is no program, or that is refused
+abbrev pub ShowsViewCode : View → List ℕ → List ℕ → Type 0
+ShowsViewCode view code text = (line : List ℕ) × ShowsBadCode code line × (text ≡ heard view line)
+
+-- what a view shows of a code and of the bytes that were read
+abbrev pub ViewShows : View → List ℕ → Bool → List ℕ → ℕ → List ℕ → Type 0
+ViewShows view code pcap input status text = (program : List Insn) × IsGoodCode code program × ShowsView view program pcap input status text
+
+-- and what it has shown where it failed
+abbrev pub ViewLeaves : View → List ℕ → Bool → List ℕ → List ℕ → Type 0
+ViewLeaves view code pcap input text = (program : List Insn) × IsGoodCode code program × ShowsViewPart view program pcap input text

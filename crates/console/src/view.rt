@@ -1,0 +1,69 @@
+//! How the outcomes of packets are shown.
+
+ghost use Rattle.std.specs.Prelude.{◌≡◌, ◌++◌, OnOk, string_bytes};
+ghost use Rattle.console.specs.Views.{shown_after, shown_line, tally_line};
+
+use crate::outcome::push_outcome;
+use filter_vm::Outcome;
+use itoa::Buffer;
+use std::alloc::AllocError;
+
+/// How the outcomes of packets are shown.
+#[derive(Clone, Copy, PartialEq, Eq, Debug)]
+pub enum View {
+    /// A line for each packet.
+    Lines,
+    /// A line for each packet, which begins with its number, from 1 on.
+    Numbers,
+    /// One line for all packets: how many were accepted, of how many.
+    Count,
+    /// Nothing: the status says whether a packet was accepted.
+    Quiet,
+}
+
+/// Prints the line for an outcome, where one is shown.
+pub fn push_line(
+    text: &mut String,
+    view: View,
+    number: u64,
+    outcome: Outcome,
+) -> Result<(), AllocError>
+    ensures { OnOk result (string_bytes text.new ≡ string_bytes text.old ++ shown_line view number outcome) }
+{
+    match view {
+        View::Lines => push_outcome(text, outcome),
+        View::Numbers => {
+            let mut digits = Buffer::new();
+            text.push_str(digits.format(number))?;
+            text.push_str(" ")?;
+            push_outcome(text, outcome)
+        }
+        View::Count | View::Quiet => Ok(()),
+    }
+}
+
+/// Prints the line after the last packet, where one is shown: how many packets were accepted, of how many.
+pub fn push_after(
+    text: &mut String,
+    view: View,
+    accepted: u64,
+    total: u64,
+) -> Result<(), AllocError>
+    ensures { OnOk result (string_bytes text.new ≡ string_bytes text.old ++ shown_after view accepted total) }
+{
+    match view {
+        View::Count => push_tally(text, accepted, total),
+        View::Lines | View::Numbers | View::Quiet => Ok(()),
+    }
+}
+
+/// Prints how many packets were accepted, of how many.
+fn push_tally(text: &mut String, accepted: u64, total: u64) -> Result<(), AllocError>
+    ensures { OnOk result (string_bytes text.new ≡ string_bytes text.old ++ tally_line accepted total) }
+{
+    let mut digits = Buffer::new();
+    text.push_str(digits.format(accepted))?;
+    text.push_str(" of ")?;
+    text.push_str(digits.format(total))?;
+    text.push_str("\n")
+}

@@ -1,0 +1,61 @@
+#!/bin/sh
+# Installs dist/ under a folder that is gone afterwards, and looks for what must be there; and runs ./mkdemux through symbolic links.
+# A line for each check; the last line is `N passed, M failed`.
+top=$(cd "$(dirname "$0")/.." && pwd) || exit 2
+made=$(mktemp -d) || exit 2
+trap 'rm -rf "$made"' EXIT
+passed=0
+failed=0
+
+# NAME COMMAND..: counts a check.
+try() {
+    name=$1
+    shift
+    if "$@" > "$made/log" 2>&1; then
+        passed=$((passed + 1))
+        echo "install, $name: as it must be"
+    else
+        failed=$((failed + 1))
+        echo "install, $name: FAILED"
+        cat "$made/log"
+    fi
+}
+
+# The program that is installed runs from any folder, by its name alone.
+runs() {
+    (cd / && PATH=$made/prefix/bin:$PATH mkdemux --version)
+}
+
+# Each file of dist/share is there, as it is here.
+has_pages() {
+    (cd "$top/dist/share" && find . -type f) | while read -r file; do
+        cmp "$top/dist/share/$file" "$made/prefix/share/$file" || return 1
+    done
+}
+
+# man finds the page by the program's folder on PATH.
+finds_page() {
+    page=$(PATH=$made/prefix/bin:$PATH MANPATH='' man -w mkdemux) && [ "$(readlink -f "$page")" = "$(readlink -f "$made/prefix/share/man/man1/mkdemux.1")" ]
+}
+
+# A link to a link to ./mkdemux, from another folder, by a relative path.
+runs_by_link() {
+    mkdir -p "$made/one/two" && ln -s "$top/mkdemux" "$made/one/link" && ln -s ../link "$made/one/two/mkdemux" &&
+        (cd / && PATH=$made/one/two:$PATH mkdemux --version)
+}
+
+try "dist/install.sh" "$top/dist/install.sh" "$made/prefix"
+try "mkdemux from any folder" runs
+try "pages and completions" has_pages
+if command -v man > /dev/null; then
+    try "man mkdemux" finds_page
+else
+    echo "skipped: man mkdemux: man isn't there"
+fi
+if [ "$("$top/dist/digest.sh")" = "$(cat "$top/dist/sources")" ] || [ -x "$top/crates/mkdemux/out/stamped/mkdemux" ]; then
+    try "./mkdemux by links" runs_by_link
+else
+    echo "skipped: ./mkdemux by links: it would build the program first"
+fi
+echo "$passed passed, $failed failed"
+[ "$failed" -eq 0 ]

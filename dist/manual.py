@@ -1,0 +1,325 @@
+#!/usr/bin/env python3
+"""Makes the manual page and the shells' completions from the program's own help.
+
+    dist/manual.py PROGRAM           writes them into dist/share
+    dist/manual.py --check PROGRAM   compares those of dist/share with what the program's help gives, looks for warnings of mandoc
+                                     and groff about the page, and lets bash, zsh and fish complete by them, where these are there
+
+A line for each check; the last line is `N passed, M failed`, and the status is 1 where one failed."""
+import pathlib
+import re
+import shutil
+import subprocess
+import sys
+import tempfile
+import textwrap
+
+TOP = pathlib.Path(__file__).resolve().parent.parent
+SHARE = TOP / "dist" / "share"
+DATE = "2026-11-25"
+PAGE = "man/man1/mkdemux.1"
+BASH = "bash-completion/completions/mkdemux"
+ZSH = "zsh/site-functions/_mkdemux"
+FISH = "fish/vendor_completions.d/mkdemux.fish"
+MADE = "Made by dist/manual.py from the program's help."
+
+
+class Help:
+    """The help of a command, in parts."""
+
+    def __init__(self, program, *words):
+        said = subprocess.run([program, *words, "--help"], capture_output=True, text=True, check=True).stdout
+        details, usage, rest = re.fullmatch(r"(.*?)\n\nUsage: (.*?)\n\n(.*)", said, re.S).groups()
+        self.usage = usage
+        self.details = details.split("\n\n")
+        self.arguments = self.options = self.commands = ()
+        while found := re.match(r"(Arguments|Options|Commands):\n(.*?)(?:\n\n(?=\S)|\n?\Z)", rest, re.S):
+            setattr(self, found[1].lower(), list(terms_of(found[2])))
+            rest = rest[found.end():]
+        before, _, self.words = rest.partition("docs/messages.md has the meaning")
+        self.examples, _, self.status = before.strip("\n").partition("Exit status:")
+
+
+def terms_of(text):
+    """The terms of a list and what is said of each, which is on its line or below it."""
+    for line in text.splitlines():
+        if re.match(r" {2,6}\S", line):
+            term, _, said = line.strip().partition("  ")
+            yield [term, said.strip()]
+            last = [term, said.strip()]
+        elif line.strip():
+            last = [last[0], (last[1] + " " + line.strip()).strip()]
+            yield last
+
+
+def joined(terms):
+    """The terms, each with all that is said of it."""
+    return list({term: said for term, said in terms}.items())
+
+
+# The manual page
+
+
+def roff(text):
+    """A text as roff prints it, character by character."""
+    text = text.replace("\\", "\\e").replace("-", "\\-").replace("^", "\\(ha").replace("~", "\\(ti").replace("'", "\\(aq")
+    return re.sub(r"^([.'])", r"\\&\1", text.replace("`", "\\(ga"), flags=re.M)
+
+
+def plain(text):
+    """A paragraph, whose words between backquotes are bold."""
+    parts = re.split(r"`([^`]*)`", re.sub(r"\s*\n\s*", " ", text.strip()))
+    shown = "".join(f"\\fB{roff(part)}\\fR" if at % 2 else roff(part) for at, part in enumerate(parts))
+    lines = textwrap.wrap(shown, 78, break_long_words=False, break_on_hyphens=False)
+    return re.sub(r"^([.'])", r"\\&\1", "\n".join(lines), flags=re.M)
+
+
+def literal(text):
+    return [".PP", ".RS 4", ".nf", *(roff(line) or "\\&" for line in textwrap.dedent(text).splitlines()), ".fi", ".RE"]
+
+
+def paragraphs(texts):
+    """Paragraphs: those that are indented stay as they are."""
+    lines = []
+    for text in texts:
+        if not text.strip():
+            continue
+        indented = [line.startswith("    ") for line in text.splitlines() if line]
+        if all(indented):
+            lines += literal(text)
+            continue
+        first = [line for line in text.splitlines() if not line.startswith("    ")]
+        lines += [".PP", plain("\n".join(first))]
+        if any(indented):
+            lines += literal("\n".join(line for line in text.splitlines() if line.startswith("    ")))
+    return lines
+
+
+def tagged(terms):
+    lines = []
+    for term, said in terms:
+        lines += [".TP", f"\\fB{roff(term)}\\fR", plain(said)]
+    return lines
+
+
+def section(name, lines, macro=".SH"):
+    """A section, which begins with no paragraph macro of its own."""
+    return [f"{macro} {name}", *(lines[1:] if lines[:1] == [".PP"] else lines)]
+
+
+def page_of(top, helps, version):
+    lines = [f'.\\" {MADE}', f'.TH MKDEMUX 1 {DATE} "mkdemux {version}" "User Commands"']
+    lines += section("NAME", [plain(f"mkdemux - {top.details[0][0].lower()}{top.details[0][1:]}")])
+    usages = ["\\fBmkdemux " + roff(help.usage.removeprefix("mkdemux ")) + "\\fR" for help in helps.values()]
+    lines += section("SYNOPSIS", [line for usage in usages for line in (usage, ".br")][:-1])
+    lines += section("DESCRIPTION", paragraphs([
+        top.details[0] + ".",
+        "Each command reads standard input and writes standard output. It verifies a filter before it runs it, and opens "
+        "no file but a FILE of `sim` and `run`.",
+    ]))
+    lines += [".SH COMMANDS"]
+    for name, help in helps.items():
+        told = paragraphs(help.details)
+        told += tagged(joined(help.arguments)) + tagged(joined(help.options))
+        lines += section(f'"mkdemux {name}"', told, ".SS")
+    lines += section("EXIT STATUS", tagged(text.split("  ", 1) for text in re.split(r"\n  (?=\d)", "\n" + top.status.strip("\n").split("\n\n")[0])[1:]))
+    lines += [".SH DIAGNOSTICS"]
+    lines += [plain("Each word that a command prints where it refuses something, or where something can't be done.")]
+    for name, help in helps.items():
+        words = help.words.partition("\n")[2].strip("\n")
+        if words:
+            lines += [".PP", f"\\fBmkdemux {name}\\fR", *literal(words)[1:]]
+    lines += [".SH EXAMPLES"]
+    examples = []
+    for help in helps.values():
+        examples += paragraphs(re.sub(r"^Example: (.)", lambda found: found[1].upper(), text)
+                               for text in help.examples.strip("\n").split("\n\n"))
+    lines += examples[1:]
+    lines += section("FILES", [
+        *paragraphs(["The program has no configuration and writes no file. With it, under the prefix where it was installed:"]),
+        *tagged([
+            ("share/man/man1/mkdemux.1", "this page"),
+            ("share/" + BASH, "completions for bash"),
+            ("share/" + ZSH, "completions for zsh"),
+            ("share/" + FISH, "completions for fish"),
+            ("include, lib, lib/pkgconfig", "the C libraries, where they were installed"),
+        ]),
+    ])
+    lines += section("SEE ALSO", [".BR dot (1),", ".BR tcpdump (8),", ".BR pcap\\-filter (7),", ".BR pcap\\-savefile (5)"])
+    return "\n".join(lines) + "\n"
+
+
+# Completions
+
+
+def flags_of(help):
+    """Each flag, alone, with what is said of it."""
+    return [(flag, said) for term, said in joined(help.options) for flag in term.split(", ")]
+
+
+def takes_files(help):
+    return any("FILE" in term for term, _ in joined(help.arguments))
+
+
+def bash_of(top, helps):
+    arms = [f"    {name}) words='{' '.join(flag for flag, _ in flags_of(help))}' ;;" for name, help in helps.items()]
+    names = " ".join(term for term, _ in joined(top.commands))
+    files = "|".join(name for name, help in helps.items() if takes_files(help))
+    return f"""# bash completion for mkdemux. {MADE}
+_mkdemux() {{
+    local current=${{COMP_WORDS[COMP_CWORD]}} command= word words=
+    COMPREPLY=()
+    for word in "${{COMP_WORDS[@]:1:COMP_CWORD-1}}"; do
+        [[ $word = -* ]] || {{ command=$word; break; }}
+    done
+    case $command in
+    '') words='{names} {' '.join(flag for flag, _ in flags_of(top))}' ;;
+    help) words='{' '.join(helps)}' ;;
+{chr(10).join(arms)}
+    esac
+    if [[ $current != -* && $command = @({files}) ]]; then
+        compopt -o filenames 2> /dev/null
+        mapfile -t COMPREPLY < <(compgen -f -- "$current")
+    else
+        mapfile -t COMPREPLY < <(compgen -W "$words" -- "$current")
+    fi
+}}
+complete -F _mkdemux mkdemux
+"""
+
+
+def zsh_text(text):
+    return text.replace("'", "'\\''").replace("[", "\\[").replace("]", "\\]").replace(":", "\\:")
+
+
+def zsh_of(top, helps):
+    commands = "\n".join(f"    '{term}:{zsh_text(said)}'" for term, said in joined(top.commands))
+    arms = []
+    for name, help in helps.items():
+        words = [f"'{flag}[{zsh_text(said)}]'" for flag, said in flags_of(help)]
+        if takes_files(help):
+            words.append("'*:FILE:_files'")
+        elif help.arguments:
+            words.append(f"'1:{joined(help.arguments)[0][0].strip('<>')}: '")
+        arms.append(f"        {name}) _arguments {(' ' + chr(92) + chr(10) + '            ').join(words)} ;;")
+    top_flags = [f"'(- *){flag}[{zsh_text(said)}]'" for flag, said in flags_of(top)]
+    return f"""#compdef mkdemux
+# zsh completion for mkdemux. {MADE}
+_mkdemux() {{
+    local curcontext=$curcontext state line
+    local -a commands
+    typeset -A opt_args
+    commands=(
+{commands}
+    )
+    _arguments -C {' '.join(top_flags)} '1:command:->command' '*::argument:->argument'
+    case $state in
+    command) _describe command commands ;;
+    argument)
+        case $words[1] in
+        help) _values command {' '.join(helps)} ;;
+{chr(10).join(arms)}
+        esac
+        ;;
+    esac
+}}
+if [[ $funcstack[1] = _mkdemux ]]; then
+    _mkdemux "$@"
+else
+    compdef _mkdemux mkdemux
+fi
+"""
+
+
+def fish_text(text):
+    return text.replace("\\", "\\\\").replace("'", "\\'")
+
+
+def fish_of(top, helps):
+    lines = [f"# fish completion for mkdemux. {MADE}", "complete -c mkdemux -f"]
+    for term, said in joined(top.commands):
+        lines.append(f"complete -c mkdemux -n __fish_use_subcommand -a {term} -d '{fish_text(said)}'")
+    for name, help in [("", top), *helps.items()]:
+        where = f"'__fish_seen_subcommand_from {name}'" if name else "__fish_use_subcommand"
+        for term, said in joined(help.options):
+            flags = " ".join(("-l " + flag[2:]) if flag.startswith("--") else ("-s " + flag[1:]) for flag in term.split(", "))
+            lines.append(f"complete -c mkdemux -n {where} {flags} -d '{fish_text(said)}'")
+        if takes_files(help):
+            lines.append(f"complete -c mkdemux -n {where} -F")
+    lines.append(f"complete -c mkdemux -n '__fish_seen_subcommand_from help' -a '{' '.join(helps)}'")
+    return "\n".join(lines) + "\n"
+
+
+def texts_of(program):
+    """What dist/share is to have, by the name of the file."""
+    top = Help(program)
+    helps = {term: Help(program, term) for term, _ in joined(top.commands) if term != "help"}
+    version = subprocess.run([program, "--version"], capture_output=True, text=True, check=True).stdout.split()[1]
+    return {PAGE: page_of(top, helps, version), BASH: bash_of(top, helps), ZSH: zsh_of(top, helps), FISH: fish_of(top, helps)}
+
+
+# The checks
+
+
+def said(*command, **more):
+    """What a command prints, on standard error too."""
+    ran = subprocess.run(command, stdout=subprocess.PIPE, stderr=subprocess.STDOUT, text=True, cwd=TOP, **more)
+    return ran.stdout if ran.returncode == 0 else f"status {ran.returncode}\n{ran.stdout}"
+
+
+BASH_ASKS = 'source "$0"; COMP_WORDS=("$@"); COMP_CWORD=$(($# - 1)); _mkdemux; printf "%s\\n" "${COMPREPLY[@]}"'
+ZSH_ASKS = 'fpath=("$0" $fpath); autoload -Uz compinit && compinit -D -u && print $_comps[mkdemux] && autoload +X _mkdemux && functions _mkdemux | grep -c -- --pcap'
+FISH_ASKS = "source $argv[1]; complete -C $argv[2] | string replace -r '\\t.*' ''; or true"
+
+
+def checks():
+    """Each check that can be made here: its name, the command that it needs, what it says and what it must say."""
+    page, bash, zsh, fish = (str(SHARE / name) for name in (PAGE, BASH, ZSH, FISH))
+    words = ["match", "--p"], ["sim", "examples/frames.p"], ["dr"]
+    wanted = "--pcap\n", "examples/frames.pcap\n", "draw\n"
+    yield "the page by mandoc -T lint", "mandoc", ["mandoc", "-T", "lint", page], ""
+    yield "the page by groff -ww", "groff", ["groff", "-ww", "-man", "-Tutf8", "-z", page], ""
+    for asked, answer in zip(words, wanted):
+        yield f"bash, {' '.join(asked)}", "bash", ["bash", "-c", BASH_ASKS, bash, "mkdemux", *asked], answer
+        yield f"fish, {' '.join(asked)}", "fish", ["fish", "-N", "-c", FISH_ASKS, fish, " ".join(["mkdemux", *asked])], answer
+    yield "zsh", "zsh", ["zsh", "-f", "-c", ZSH_ASKS, str(pathlib.Path(zsh).parent)], "_mkdemux\n1\n"
+
+
+def check(program):
+    passed = failed = 0
+
+    def count(name, is_good, shown=""):
+        nonlocal passed, failed
+        passed, failed = passed + is_good, failed + (not is_good)
+        print(f"manual {name}: {'as it must be' if is_good else 'FAILED'}")
+        if not is_good:
+            print(shown)
+
+    for name, text in texts_of(program).items():
+        path = SHARE / name
+        count(name, path.is_file() and path.read_text(encoding="utf-8") == text, "dist/manual.py PROGRAM makes it again")
+    for name, command, words, wanted in checks():
+        if shutil.which(command) is None:
+            print(f"skipped: {name}: {command} isn't there")
+            continue
+        with tempfile.TemporaryDirectory() as home:
+            shown = said(*words, env={"HOME": home, "PATH": "/usr/local/bin:/usr/bin:/bin", "LC_ALL": "C.UTF-8"})
+        count(name, shown == wanted, shown)
+    print(f"{passed} passed, {failed} failed")
+    return 1 if failed else 0
+
+
+def main(words):
+    if words[:1] == ["--check"] and len(words) == 2:
+        return check(pathlib.Path(words[1]).resolve())
+    if len(words) != 1 or words[0].startswith("-"):
+        sys.exit(__doc__)
+    for name, text in texts_of(pathlib.Path(words[0]).resolve()).items():
+        path = SHARE / name
+        path.parent.mkdir(parents=True, exist_ok=True)
+        path.write_text(text, encoding="utf-8")
+        print(path.relative_to(TOP))
+    return 0
+
+
+sys.exit(main(sys.argv[1:]))
