@@ -16,14 +16,36 @@ use std::thread::{self, Threads};
 
 /// Accepts ARP, and keeps 64 bytes (`tcpdump -ddd arp`).
 const ARP: [Insn; 4] = [
-    Insn { code: 40, jt: 0, jf: 0, k: 12 },
-    Insn { code: 21, jt: 0, jf: 1, k: 2054 },
-    Insn { code: 6, jt: 0, jf: 0, k: 64 },
-    Insn { code: 6, jt: 0, jf: 0, k: 0 },
+    Insn {
+        code: 40,
+        jt: 0,
+        jf: 0,
+        k: 12,
+    },
+    Insn {
+        code: 21,
+        jt: 0,
+        jf: 1,
+        k: 2054,
+    },
+    Insn {
+        code: 6,
+        jt: 0,
+        jf: 0,
+        k: 64,
+    },
+    Insn {
+        code: 6,
+        jt: 0,
+        jf: 0,
+        k: 0,
+    },
 ];
 
 /// The first bytes of an ARP request.
-const FRAME: [u8; 16] = [255, 255, 255, 255, 255, 255, 0, 17, 34, 51, 68, 85, 8, 6, 0, 1];
+const FRAME: [u8; 16] = [
+    255, 255, 255, 255, 255, 255, 0, 17, 34, 51, 68, 85, 8, 6, 0, 1,
+];
 
 /// A core that waits for the others gives up after so many turns.
 const MOST_TURNS: u64 = 1_000_000_000;
@@ -62,14 +84,24 @@ fn turn_until(core: &mut Core<RingLinks>, done: &AtomicBool) {
 
 /// Opens endpoint 7 of domain 1 for ARP, and receives a packet.
 fn open<R: Print>(rt: &R, alloc: Global, core: &mut Core<RingLinks>) -> io::Result<()> {
-    let create = Op::Create { domain: 1, endpoint: 7 };
+    let create = Op::Create {
+        domain: 1,
+        endpoint: 7,
+    };
     println!(rt; "{:?}", decided(core, create))?;
     let Ok(program) = arp(alloc) else {
         return println!(rt; "out of memory");
     };
-    let install = Op::Install { domain: 1, cap: 1, program };
+    let install = Op::Install {
+        domain: 1,
+        cap: 1,
+        program,
+    };
     println!(rt; "{:?}", decided(core, install))?;
-    let mut room = [Kept { endpoint: 0, kept: 0 }; 4];
+    let mut room = [Kept {
+        endpoint: 0,
+        kept: 0,
+    }; 4];
     match core.receive(&FRAME, 42, &mut room) {
         Ok(count) => println!(rt; "version {}: {:?}", core.version(), &room[..count]),
         Err(why) => println!(rt; "{why:?}"),
