@@ -6,6 +6,7 @@
 #        c/check.sh --built FOLDER     takes the library of a folder, as ./libmkdemux FOLDER makes it, or skips everything
 # It needs a C compiler (CC, by default cc); libpcap's header and library for three of the programs; a C++ compiler (CXX) and
 # valgrind are used where they are there.
+from=$PWD
 cd "$(dirname "$0")" || exit 2
 made=$(mktemp -d) || exit 2
 trap 'rm -rf "$made"' EXIT
@@ -66,7 +67,11 @@ accepts() {
     "$2" $3 -D_DEFAULT_SOURCE -Wall -Wextra -pedantic -Werror "$headers" -o "$made/header" "$made/header.$1" "$archive" && "$made/header"
 }
 
-folder=${2-out}
+case ${2-} in
+'') folder=out ;;
+/*) folder=$2 ;;
+*) folder=$from/$2 ;;
+esac
 if [ "${1-}" = --built ] && [ $# -eq 2 ]; then
     [ -f "$folder/lib/libmkdemux.a" ] || {
         echo "skipped: the C library isn't in $2; ./libmkdemux builds it, c/check.sh tries it"

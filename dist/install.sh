@@ -64,4 +64,8 @@ case :$PATH: in
 *:"$prefix/bin":*) say "mkdemux is on PATH: try mkdemux --help, man mkdemux" ;;
 *) say "put $prefix/bin on PATH; then try mkdemux --help, man mkdemux" ;;
 esac
+case $prefix in
+/usr | /usr/local) ;;
+*) say "for zsh, before compinit in ~/.zshrc: fpath=($prefix/share/zsh/site-functions \$fpath)" ;;
+esac
 [ -f "$prefix/lib/libmkdemux.a" ] || say "there is no C library in dist/; ./libmkdemux PREFIX builds it, with the Rattle kit"

@@ -4,8 +4,8 @@ ghost use Rattle.std.specs.Prelude.{IfOk};
 ghost use Rattle.script_input.specs.Inputs.{AllFresh};
 
 use console::{
-    EngineFault, INPUT_READS, STREAM_READS, Sink, Source, run_check, run_dump, run_match,
-    run_stream,
+    EngineFault, INPUT_READS, STREAM_READS, Sink, Source, View, run_check, run_dump, run_match,
+    run_stream, run_view,
 };
 use core_threads::Free;
 use draw_engine::run_draw;
@@ -23,6 +23,7 @@ use world_core::Channel;
 pub enum Command<'a> {
     Match(&'a str, bool),
     Stream(&'a str, bool),
+    View(&'a str, bool, View),
     Explain(&'a str),
     Check(bool),
     Graph,
@@ -42,9 +43,13 @@ pub fn run<R: Read, W: Write>(
         let mut source = Source::new(reader, STREAM_READS);
         return run_stream(alloc, code.as_bytes(), pcap, &mut source, &mut sink);
     }
+    if let Command::View(code, pcap, view) = command {
+        let mut source = Source::new(reader, STREAM_READS);
+        return run_view(alloc, code.as_bytes(), pcap, view, &mut source, &mut sink);
+    }
     let mut source = Source::new(reader, INPUT_READS);
     match command {
-        Command::Match(code, pcap) | Command::Stream(code, pcap) => {
+        Command::Match(code, pcap) | Command::Stream(code, pcap) | Command::View(code, pcap, _) => {
             run_match(alloc, code.as_bytes(), pcap, &mut source, &mut sink)
         }
         Command::Explain(code) => run_explain(alloc, code.as_bytes(), &mut source, &mut sink),

@@ -3,7 +3,7 @@
 use crate::devices::{Pieces, Taker};
 use crate::engines::{Command, run};
 use crate::facts::equal_at;
-use console::EngineFault;
+use console::{EngineFault, View};
 use std::alloc::Global;
 
 const ARP_CODE: &str = "4,40 0 0 12,21 0 1 2054,6 0 0 4294967295,6 0 0 0";
@@ -72,7 +72,8 @@ fn with_writer(
 #[test]
 fn a_write_that_fails_is_reported(rt: HostRuntime) {
     // What is shown has so many bytes.
-    let rows: [(Command<'static>, &[u8], u8, usize); 7] = [
+    let rows: [(Command<'static>, &[u8], u8, usize); 8] = [
+        (Command::View(ARP_CODE, false, View::Count), PACKETS, 0, 7),
         (Command::Match(ARP_CODE, false), PACKETS, 0, 17),
         (Command::Check(false), ARP, 0, 49),
         (Command::Check(true), ARP, 0, 66),

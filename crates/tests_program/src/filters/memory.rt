@@ -4,7 +4,7 @@ use crate::devices::Pieces;
 use crate::engines::{Command, run};
 use crate::facts::{equal, holds};
 use crate::page::Page;
-use console::EngineFault;
+use console::{EngineFault, View};
 use std::alloc::Global;
 use std::process::Abort;
 
@@ -31,7 +31,19 @@ fn show_or_end(rt: &impl Abort, alloc: Global, rows: &[Row]) {
     }
 }
 
-static MATCHES: [Row; 4] = [
+static MATCHES: [Row; 6] = [
+    (
+        Command::View("1,6 0 0 5", false, View::Numbers),
+        b"05\n06\n",
+        0,
+        "1 5 1\n2 5 1\n",
+    ),
+    (
+        Command::View("1,6 0 0 5", false, View::Count),
+        b"05\n5\n",
+        1,
+        "1 of 1\nline 2: BadHex\n",
+    ),
     (
         Command::Match("1,6 0 0 5", false),
         b"05\n06\n",

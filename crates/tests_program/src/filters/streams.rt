@@ -4,7 +4,7 @@ use super::captures::bytes_of;
 use crate::devices::Pieces;
 use crate::engines::{Command, run};
 use crate::facts::equal_at;
-use console::EngineFault;
+use console::{EngineFault, View};
 use std::alloc::Global;
 use std::process::Abort;
 
@@ -125,6 +125,76 @@ fn lines_cut_at_every_byte(rt: HostRuntime) {
         (1, 2),
         (REFUSED, "refused Empty\n"),
     );
+}
+
+/// A view of lines, an input, the steps, the reads that fail, the status and what is shown.
+type Viewed = (
+    View,
+    &'static str,
+    (usize, usize),
+    (usize, usize),
+    Answer,
+    &'static str,
+);
+
+const NONE: Answer = Ok(4);
+
+static OF_VIEWS: [Viewed; 10] = [
+    (
+        View::Numbers,
+        "05\n\n0a",
+        (1, 20),
+        (0, 1),
+        DONE,
+        "1 5 2\n2 0 1\n3 10 2\n",
+    ),
+    (
+        View::Numbers,
+        "05\nzz\n",
+        (1, 20),
+        (0, 1),
+        REFUSED,
+        "1 5 2\nline 2: BadHex\n",
+    ),
+    // What was read is shown before a read that fails, but for a count.
+    (
+        View::Numbers,
+        "05\n\n0a\n",
+        (1, 2),
+        (5, 8),
+        FAILED,
+        "1 5 2\n2 0 1\n",
+    ),
+    (View::Count, "05\n\n0a\n", (1, 2), (1, 9), FAILED, ""),
+    (View::Count, "05\n\n0a", (1, 20), (0, 1), DONE, "2 of 3\n"),
+    (
+        View::Count,
+        "05\n\nzz\n",
+        (1, 20),
+        (0, 1),
+        REFUSED,
+        "1 of 2\nline 3: BadHex\n",
+    ),
+    (View::Quiet, "\n00\n", (1, 20), (0, 1), NONE, ""),
+    (View::Quiet, "zz\n05\n", (1, 20), (0, 1), REFUSED, ""),
+    (View::Quiet, "\n05\nzz\n", (1, 20), (0, 1), DONE, ""),
+    // After a packet that is accepted nothing is read.
+    (View::Quiet, "05\n\n", (1, 2), (4, 5), DONE, ""),
+];
+
+#[test]
+fn views_cut_at_every_byte(rt: HostRuntime) {
+    for (view, input, steps, fails, answer, shown) in &OF_VIEWS {
+        ends(
+            &rt,
+            rt.alloc(),
+            Command::View("2,48 0 0 0,22 0 0 0", false, *view),
+            input.as_bytes(),
+            *steps,
+            *fails,
+            (*answer, shown),
+        );
+    }
 }
 
 /// A capture in two parts, the steps, the reads that fail, the status and what is shown.
