@@ -1,5 +1,5 @@
 -- What cores did that were booted with a script's budgets, ran, and were joined.
-use Rattle.std.proofs.Common.{◌≡◌, ◌<◌, ◌++◌, All, ℕ, zero, suc, List, [], ◌∷◌, Option, Some, None, slice_get, length, refl, sym, ap, ◌∙◌, subst}
+use Rattle.std.proofs.Common.{◌≡◌, ◌<◌, ◌++◌, All, ℕ, zero, suc, false, List, [], ◌∷◌, Option, Some, None, slice_get, length, refl, sym, ap, ◌∙◌, subst, arith}
 use Rattle.std.specs.List.{flat_map}
 use Rattle.std.proofs.lemmas.List.{append-nil}
 use Rattle.filter_table.specs.declared.operation.Op.{Op}
@@ -7,7 +7,7 @@ use Rattle.rx_queue.specs.declared.job.Job.{Job}
 use Rattle.monitor_2pc.specs.Coordinators.{Idle}
 use Rattle.world_events.specs.declared.event.Done.{Done}
 use Rattle.world_histories.specs.declared.history.Stamped.{Stamped}
-use Rattle.world_histories.specs.Histories.{Core0}
+use Rattle.world_histories.specs.Histories.{Core0, Other}
 use Rattle.core_links.specs.declared.ring_links.RingLinks.{RingLinks}
 use Rattle.core_links.specs.RingSlots.{ring_view}
 use Rattle.core_loop.specs.declared.part.Part.{Part}
@@ -15,11 +15,12 @@ use Rattle.core_loop.specs.declared.part.Part.TheVariants as part
 use Rattle.core_loop.specs.Beginning.{HasNothingUnderWay}
 use Rattle.core_loop.specs.Cores.{begun}
 use Rattle.core_join.specs.Machines.{RingCore, IsMachine}
-use Rattle.core_join.specs.Conclusions.{Concludes, OfMachine, StandsAt0, histories_of}
+use Rattle.core_join.specs.Conclusions.{Concludes, OfMachine, StandsAt0, StandsAtOther, IsIdle0, histories_of}
 use Rattle.core_join.specs.Merges.{ListsRuns}
 use Rattle.core_threads.specs.declared.halt.Halt.{Halt}
-use Rattle.core_threads.specs.Booting.{HaveRequests, IsMachineOf}
-use Rattle.core_threads.specs.Ending.{EndsRightly}
+use Rattle.core_boot.specs.Booting.{HaveRequests, IsMachineOf}
+use Rattle.core_threads.specs.Ending.{EndsRightly, IsAtEnd}
+use Rattle.core_boot.specs.Lanes.{items_for}
 use Rattle.sim_lines.specs.Events.{done_line}
 use Rattle.mk_script.specs.declared.script.Item.{Item}
 use Rattle.mk_script.specs.declared.script.Script.{Script}
@@ -72,11 +73,35 @@ settled_at : (cores others clock : ℕ) (p : Part) (end : Core0) (links : RingLi
 settled_at cores others clock (part.First core) end links idle stands = ap (λ place. place.phase) stands.place_is ∙ idle.0
 settled_at cores others clock (part.Other core) end links idle stands = absurd stands
 
+-- no request is being decided at core 0
+idle_at : (cores : ℕ) (p : Part) (links : RingLinks) (others clock : ℕ) (end : Core0) → HasNothingUnderWay cores p (ring_view links) → StandsAt0 others p clock end → IsIdle0 p
+idle_at cores (part.First core) links others clock end idle stands = idle.0
+idle_at cores (part.Other core) links others clock end idle stands = absurd stands
+
+-- another core's history ends where it waits for no reply
+answered_at : (cores clock : ℕ) (p : Part) (end : Other) (links : RingLinks) → HasNothingUnderWay cores p (ring_view links) → StandsAtOther p clock end → end.outstanding ≡ false
+answered_at cores clock (part.First core) end links idle stands = absurd stands
+answered_at cores clock (part.Other core) end links idle stands = stands.outstanding_is ∙ idle
+
 -- a history is that of a core
 of_core : (cores : List RingCore) (i : ℕ) (h : List Stamped) → slice_get (histories_of cores) i ≡ Some h → (c : RingCore) × (slice_get cores i ≡ Some c) × (h ≡ c.history)
 of_core [] i h at = absurd cc
 of_core (c ∷ cores) zero h at = (c, refl, cc)
 of_core (c ∷ cores) (suc i) h at = of_core cores i h at
+
+-- each other core's history ends where it waits for no reply, since all cores are done
+module _ (budget : ℕ) (budgets : List ℕ) (first : RingCore) (others : List RingCore) (left : List (ℕ × Job)) (c : Concludes budget budgets first others)
+    (ended : (i : ℕ) (core : RingCore) → slice_get (first ∷ others) i ≡ Some core → IsAtEnd (items_for i left) core) where
+  all_answered : length others ≡ length budgets → (i : ℕ) (end : Other) → slice_get c.ends i ≡ Some end → end.outstanding ≡ false
+  all_answered long i end at =
+      let core = beside others c.ends i end (c.computation.all_end ∙ sym long) at in
+      answered_at core.0.cores core.0.clock core.0.part end core.0.links (ended (suc i) core.0 core.1).idle (c.ends_other i core.0 end core.1 at)
+
+  -- the first job left of a core waits for a version later than that of all
+  all_wait : (i : ℕ) (core : RingCore) (job : Job) (later : List Job) → slice_get (first ∷ others) i ≡ Some core → items_for i left ≡ job ∷ later → length c.end.log < job.floor
+  all_wait i core job later at is =
+      let idle : IsIdle0 first.part = idle_at first.cores first.part first.links (length budgets) first.clock c.end (ended 0 first refl).idle c.ends0 in
+      subst (λ (n : ℕ). n < job.floor) (c.settled idle i core at) ((ended i core at).floor job later is)
 
 pub shows : (script : Script) (cores : List RingCore) (left : List (ℕ × Job)) (events : List Done) (text lines : List ℕ) → HaveDone script.budgets script.items cores left → OfMachine cores Concludes
     → ListsRuns (histories_of cores) events → ShowsLeft left lines → text ≡ flat_map done_line events ++ lines → ShowsRun script text
@@ -97,6 +122,8 @@ shows script (first ∷ others) left events text lines done computes lists shown
         ends = c.ends;
         computation = c.computation;
         settled = settled_at first.cores (length done.others) first.clock first.part c.end first.links (done.ended 0 first refl).idle c.ends0;
+        answered = all_answered done.budget done.others first others left c done.ended done.machine.all;
+        waits = λ core h job later at is. (let own = of_core (first ∷ others) core h at in all_wait done.budget done.others first others left c done.ended core own.0 job later own.1 is);
         work = λ core h at. let own = of_core (first ∷ others) core h at in subst (DidItsWork script.items left core) (sym own.2) (done.work core own.0 own.1);
         at_cores = subst (λ (bs : List ℕ). All (λ l. l.0 < length bs) left) done.are_budgets done.at_cores;
         is_merged = r.is_merged;

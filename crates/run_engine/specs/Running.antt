@@ -3,7 +3,7 @@ use Rattle.std.specs.Prelude.{◌≡◌, ◌<◌, ◌∷◌, ℕ, All, List, Som
 use Rattle.rx_queue.specs.declared.job.Job.{Job}
 use Rattle.core_join.specs.Machines.{RingCore, IsMachine}
 use Rattle.core_threads.specs.Ending.{IsAtEnd}
-use Rattle.core_threads.specs.Lanes.{items_for}
+use Rattle.core_boot.specs.Lanes.{items_for}
 use Rattle.mk_script.specs.declared.script.Item.{Item}
 use Rattle.run_engine.specs.Showing.{DidItsWork}
 

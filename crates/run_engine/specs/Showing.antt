@@ -1,5 +1,5 @@
 -- What `run` shows of a script and its files: the events of one run of its cores, and the jobs that are left.
-use Rattle.std.specs.Prelude.{◌≡◌, ◌⊎◌, ◌++◌, ◌∷◌, ◌<◌, ℕ, All, List, Ok, Err, Some, length, slice_get}
+use Rattle.std.specs.Prelude.{◌≡◌, ◌⊎◌, ◌++◌, ◌∷◌, ◌<◌, ℕ, false, All, List, Ok, Err, Some, length, slice_get}
 use Rattle.std.specs.List.{flat_map}
 use Rattle.std.specs.List.Sorted.{IsNonDecreasingBy, IsPermutation}
 use Rattle.rx_queue.specs.declared.job.Job.{Job}
@@ -8,7 +8,7 @@ use Rattle.world_histories.specs.declared.history.Stamped.{Stamped}
 use Rattle.world_histories.specs.Histories.{Core0, Other, Computation}
 use Rattle.world_histories.specs.Merging.{Merged, as_listed}
 use Rattle.core_loop.specs.Cores.{begun, receipts}
-use Rattle.core_threads.specs.Lanes.{items_for}
+use Rattle.core_boot.specs.Lanes.{items_for}
 use Rattle.sim_lines.specs.Events.{done_line, left_line}
 use Rattle.mk_script.specs.declared.script.Item.{Item}
 use Rattle.mk_script.specs.declared.script.Script.{Script}
@@ -26,7 +26,8 @@ pub record DidItsWork (items : List Item) (left : List (ℕ × Job)) (core : ℕ
   pub jobs : receipts history ++ items_for core left ≡ items_for core (jobs_of items)
 
 -- Cores with these budgets did the script's work, and these jobs are left. Core 0's history and the others' are a computation, at whose end
--- no request is being decided; by stamp and then by core their events make this list.
+-- no request is being decided or waits for its reply, and the first job left of each core waits for a later version; by stamp and then by
+-- core their events make this list.
 pub record DidWork (budget : ℕ) (budgets : List ℕ) (items : List Item) (left : List (ℕ × Job)) (merged : List Stamped) : Type 0 where
   pub core0 : List Stamped
   pub others : List (List Stamped)
@@ -34,6 +35,8 @@ pub record DidWork (budget : ℕ) (budgets : List ℕ) (items : List Item) (left
   pub ends : List Other
   pub computation : Computation budget budgets core0 others end ends
   pub settled : end.place.phase ≡ Idle
+  pub answered : (i : ℕ) (other : Other) → slice_get ends i ≡ Some other → other.outstanding ≡ false
+  pub waits : (core : ℕ) (history : List Stamped) (job : Job) (later : List Job) → slice_get (core0 ∷ others) core ≡ Some history → items_for core left ≡ job ∷ later → length end.log < job.floor
   pub work : (core : ℕ) (history : List Stamped) → slice_get (core0 ∷ others) core ≡ Some history → DidItsWork items left core history
   pub at_cores : All (λ l. l.0 < length (budget ∷ budgets)) left
   pub is_merged : Merged core0 others merged

@@ -4,6 +4,7 @@ ghost use Rattle.std.specs.Prelude.{◌≡◌, ◌<◌, ◌≤◌, ◌^◌, ◌�
 ghost use Rattle.std.specs.Io.KnownBytes.{Appends};
 ghost use Rattle.console.specs.declared.input.TheConstants.{INPUT_READS};
 ghost use Rattle.console.specs.Devices.{IsFresh};
+ghost use Rattle.console.specs.Reading.{most_taken};
 ghost use Rattle.mk_script.specs.Limits.{HasLimits, IsLimited};
 ghost use Rattle.mk_script.specs.Threads.{IsForThreads, IsScriptForThreads};
 ghost use Rattle.script_input.specs.Inputs.{AllFresh, AreReadInOrder, AreScriptInputs, NoneFailed, had};
@@ -98,6 +99,7 @@ pub fn run_run<T: Threads + Wait + Clock + Sync, G: Gate + Sync, R: Read, F: Rea
     ensures order { AreReadInOrder files.old files.new }
     ensures well { OnOk result ((reader.new.failed ≡ false) × NoneFailed files.new × (writer.new.failed ≡ false)) }
     ensures cause { IfErr result (RunEndsEarly reader.new files.new writer.new) }
+    ensures most { reader.new.taken ≤ most_taken }
     ensures silent { IfErr result (λ failure. (failure ≡ RunFailure.Engine EngineFault.WriteFailed) ⊎ (writer.new ≡ writer.old)) }
 {
     let Some(inputs) = read_inputs(alloc, reader, files)? else {
