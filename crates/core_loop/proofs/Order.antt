@@ -1,8 +1,7 @@
 -- In what order a core does its events.
-use Rattle.std.proofs.Common.{◌≡◌, ◌≢◌, ◌<◌, ◌⊎◌, inl, inr, ℕ, Bool, false, Option, Some, None, List, [], ◌∷◌, ◌+◌, refl, sym, ap, subst, arith}
+use Rattle.std.proofs.Common.{◌≡◌, ◌≢◌, ◌<◌, ◌⊎◌, inl, inr, ℕ, Bool, Option, Some, None, List, [], ◌∷◌, ◌+◌, refl, sym, ap, subst, arith}
 use Rattle.std.specs.Prelude.{Result, Ok, Err}
 use Rattle.filter_table.specs.declared.operation.Op.{Op}
-use Rattle.rx_queue.specs.declared.job.Job.{Job}
 use Rattle.monitor_messages.specs.declared.message.Message.{Message}
 use Rattle.monitor_messages.specs.declared.message.Message.TheVariants as message
 use Rattle.monitor_messages.specs.Coding.{Coded}
@@ -17,16 +16,13 @@ use Rattle.core_steps.specs.declared.other_core.OtherCore.{OtherCore}
 use Rattle.core_steps.specs.OtherCoreSteps.{Considers}
 use Rattle.core_loop.specs.declared.part.Part.{Part}
 use Rattle.core_loop.specs.declared.part.Part.TheVariants as part
-use Rattle.core_loop.specs.declared.refusal.Refusal.{Refusal}
 use Rattle.core_loop.specs.declared.refusal.Refusal.TheVariants as refusal
 use Rattle.core_loop.specs.Carrying.{IsFirst, Quiet}
 use Rattle.core_loop.specs.Outcomes.{OnEvent}
 use Rattle.core_loop.specs.Turning.{ActsFirst}
-use Rattle.core_loop.specs.Events.{IsAnswered, CannotTakeOther, Acts}
-use Rattle.core_loop.specs.Sending.{CannotReply}
+use Rattle.core_loop.specs.Events.{IsAnswered, Acts}
 use Rattle.core_loop.specs.Taking.{CannotTake}
-use Rattle.core_loop.specs.Beginning.{CanBeginNext}
-use Rattle.core_loop.specs.Choosing.{ShowsNothing, IsLeastShowing, IsKnownAnswered, MustWait, NoMessageNow, IsNextRequest, IsNext}
+use Rattle.core_loop.specs.Choosing.{ShowsNothing, MustWait, NoMessageNow, IsNextRequest, IsNext}
 
 -- What must wait
 

@@ -14,7 +14,6 @@ use Rattle.core_links.specs.declared.list_links.ListLinks.{ListLinks}
 use Rattle.core_links.specs.ListSlots.{list_view, SameLists, GivesMessage}
 use Rattle.core_loop.specs.declared.part.Part.{Part}
 use Rattle.core_loop.specs.declared.cause.Cause.{Cause}
-use Rattle.core_loop.specs.declared.cause.Turn.{Turn}
 use Rattle.core_loop.specs.declared.cause.Turn.TheVariants.{Did}
 use Rattle.core_loop.specs.declared.part.Part.TheVariants as part
 use Rattle.core_loop.specs.Coded.{AreCoded}

@@ -1,28 +1,52 @@
--- Which of a core's requests have been answered.
-use Rattle.std.specs.Prelude.{◌≡◌, ◌+◌, ℕ, Bool, true, false, List, [], ◌∷◌, length, flat_map}
+-- The decisions on a core's own requests, as its history has them.
+use Rattle.std.specs.Prelude.{◌≡◌, ◌+◌, ◌++◌, ℕ, Bool, true, false, Option, Some, None, List, [], ◌∷◌, length}
 use Rattle.filter_table.specs.declared.decision.Decision.{Decision}
+use Rattle.monitor_2pc.specs.Coordinators.{Phase, Voting}
+use Rattle.world_events.specs.declared.event.Event.{Event}
+use Rattle.world_events.specs.declared.event.Event.TheVariants.{Start, StartFor}
 use Rattle.world_events.specs.declared.event.Answer.{Answer}
-use Rattle.world_events.specs.declared.event.Answer.TheVariants.{TookReply}
+use Rattle.world_events.specs.declared.event.Answer.TheVariants.{Decided, TookVote, TookReply}
 use Rattle.world_histories.specs.declared.history.Stamped.{Stamped}
 use Rattle.core_loop.specs.declared.part.Part.{Part}
 use Rattle.core_loop.specs.declared.part.Part.TheVariants as part
 use Rattle.core_loop.specs.Cores.{begun}
 
--- the decision that a core other than 0 gets on a request of its own, if the answer carries one
-abbrev pub reply_of : Answer → List Decision
-reply_of (TookReply decision) = decision ∷ []
-reply_of answer = []
+-- whether the last request that core 0 began is its own, where `own` says so before the event
+abbrev pub is_own : Bool → Event → Bool
+is_own own (Start op) = true
+is_own own (StartFor core) = false
+is_own own event = own
 
--- the decisions that it got, in order
-abbrev pub replies : List Stamped → List Decision
-replies history = flat_map (λ s. reply_of s.done.answer) history
+-- The decision on a request of the core's own that an event has, if it has one: core 0 decides its own where it begins it or with the last vote
+-- on it, and another core takes that on its own as a Reply.
+abbrev pub own_decision : Bool → Event → Answer → List Decision
+own_decision own event (TookReply decision) = decision ∷ []
+own_decision own (Start op) (Decided decision) = decision ∷ []
+own_decision true event (TookVote txn vote (Some decision)) = decision ∷ []
+own_decision own event answer = []
 
-abbrev pub under_way : Bool → ℕ
-under_way false = 0
-under_way true = 1
+abbrev pub decisions_from : Bool → List Stamped → List Decision
+decisions_from own [] = []
+decisions_from own (s ∷ later) = own_decision own s.done.event s.done.answer ++ decisions_from (is_own own s.done.event) later
 
--- Each request that a core other than 0 has begun has its reply, but for one that is under way. So the reply that comes next is that on the
--- request after those that have theirs: the n-th reply answers the n-th request.
-abbrev pub AreAnswered : Part → List Stamped → Type 0
-AreAnswered (part.First core) history = Unit {0}
-AreAnswered (part.Other core) history = length (begun history) ≡ length (replies history) + under_way core.participant.outstanding
+-- the decisions on the requests that a core began, in order
+abbrev pub decisions : List Stamped → List Decision
+decisions history = decisions_from false history
+
+abbrev pub count_if : Bool → ℕ
+count_if false = 0
+count_if true = 1
+
+-- the requests of core 0's own that wait for votes: one or none
+abbrev pub voted_on : Phase → Option ℕ → ℕ
+voted_on (Voting votes) None = 1
+voted_on phase asker = 0
+
+-- the requests of its own that a core has begun and that have no decision: one or none
+abbrev pub under_way : Part → ℕ
+under_way (part.First core) = voted_on core.coordinator.phase core.coordinator.requests.asker
+under_way (part.Other core) = count_if core.participant.outstanding
+
+-- Each request that a core has begun has its decision, but for one that may be under way. So the n-th decision is that on the n-th request.
+abbrev pub AreDecided : Part → List Stamped → Type 0
+AreDecided x history = length (begun history) ≡ length (decisions history) + under_way x

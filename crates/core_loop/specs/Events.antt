@@ -1,8 +1,8 @@
 -- One event of one core: Event's case from each state of its history that it stands in, and what its links carry with it.
-use Rattle.std.specs.Prelude.{◌≡◌, ◌⊎◌, ◌≤◌, ◌-◌, ℕ, suc, max, false, Option}
+use Rattle.std.specs.Prelude.{◌≡◌, ◌≢◌, ◌⊎◌, ◌<◌, ◌≤◌, ◌+◌, ◌-◌, ℕ, suc, max, false, Option, None}
 use Rattle.monitor_messages.specs.declared.message.Message.{Message}
 use Rattle.monitor_messages.specs.declared.message.Message.TheVariants as message
-use Rattle.world_model.specs.Cases.{Outgoing, outgoing}
+use Rattle.world_model.specs.Cases.{Outgoing, nothing, outgoing}
 use Rattle.world_model.specs.Agreement.{Expects}
 use Rattle.world_histories.specs.declared.history.Stamped.{Stamped}
 use Rattle.world_histories.specs.Histories.{Stamping, Core0, Step0, Other, StepOther}
@@ -10,7 +10,7 @@ use Rattle.core_links.specs.Views.{LinkView}
 use Rattle.core_steps.specs.declared.core0.Core0.{Core0 as First}
 use Rattle.core_steps.specs.declared.core0.Told.{Told}
 use Rattle.core_steps.specs.declared.other_core.OtherCore.{OtherCore}
-use Rattle.core_steps.specs.Core0Steps.{core0_place, TakesUp}
+use Rattle.core_steps.specs.Core0Steps.{core0_place, TakesUp, MayBeAnswered}
 use Rattle.core_steps.specs.OtherCoreSteps.{AwaitsHere}
 use Rattle.core_loop.specs.declared.part.Part.{Part}
 use Rattle.core_loop.specs.declared.part.Part.TheVariants as part
@@ -61,18 +61,25 @@ SendsTaken others core from m view stamp r =
     × CanCarry others out view
     × ((core' : First) (told : Told) → TakesUp core from m core' told → outgoing told.step (core0_place core') ≡ out)
 
+-- the link of core 0 to one of so many others takes no message
+pub record IsBlocked (others : ℕ) (view : ℕ → LinkView) : Type 0 where
+  pub entry : ℕ
+  pub inside : entry < others
+  pub not_ready : (view (suc entry)).ready ≡ false
+
 -- why core 0 doesn't take a message of this core now
 abbrev pub CannotTake0 : ℕ → ℕ → ℕ → First → Stamping → (ℕ → LinkView) → Refusal → Type 0
-CannotTake0 others clock from core m view refusal.NotReady = (core' : First) (told : Told) → TakesUp core from m.message core' told → CanCarry others (outgoing told.step (core0_place core')) view → ⊥
+CannotTake0 others clock from core m view refusal.NotReady = IsBlocked others view × ((core' : First) (told : Told) → TakesUp core from m.message core' told → CanCarry others (outgoing told.step (core0_place core')) view → ⊥)
 CannotTake0 others clock from core m view refusal.Spent = 18446744073709551615 ≤ max clock m.stamp
-CannotTake0 others clock from core m view refusal.NoMemory = Unit {0}
+CannotTake0 others clock from core m view refusal.NoMemory =
+    (max clock m.stamp < 18446744073709551615) × MayBeAnswered m.message × ((core' : First) (told : Told) → TakesUp core from m.message core' told → outgoing told.step (core0_place core') ≢ nothing)
 CannotTake0 others clock from core m view refusal.Stranger = (entry : ℕ) → from ≡ suc entry → Expects (core0_place core) core.coordinator.requests entry m.message → ⊥
 
 -- why core 0, which is idle and whose links take messages, doesn't start a request now
 abbrev pub CannotStart0 : ℕ → First → Refusal → Type 0
 CannotStart0 clock core refusal.NotReady = ⊥
 CannotStart0 clock core refusal.Spent = (core.coordinator.last ≡ 18446744073709551615) ⊎ (18446744073709551615 ≤ clock)
-CannotStart0 clock core refusal.NoMemory = Unit {0}
+CannotStart0 clock core refusal.NoMemory = (core.coordinator.last < 18446744073709551615) × (clock < 18446744073709551615)
 CannotStart0 clock core refusal.Stranger = ⊥
 
 -- a message that another core answers to core 0 at once
@@ -82,16 +89,22 @@ IsAnswered (message.Commit txn) = Unit {0}
 IsAnswered (message.Abort txn) = Unit {0}
 IsAnswered m = ⊥
 
+-- a message that it answers and that is the next one, but for the rules of an operation
+abbrev pub IsConsidered : OtherCore → Message → Type 0
+IsConsidered core (message.Prepare txn op) = (core.participant.voted ≡ None) × (txn ≡ core.participant.last + 1)
+IsConsidered core (message.Reply decision) = ⊥
+IsConsidered core m = AwaitsHere core m
+
 -- why another core doesn't take a message of core 0 now
 abbrev pub CannotTakeOther : ℕ → OtherCore → Stamping → (ℕ → LinkView) → Refusal → Type 0
 CannotTakeOther clock core m view refusal.NotReady = ((view 0).ready ≡ false) × IsAnswered m.message
 CannotTakeOther clock core m view refusal.Spent = 18446744073709551615 ≤ max clock m.stamp
-CannotTakeOther clock core m view refusal.NoMemory = Unit {0}
+CannotTakeOther clock core m view refusal.NoMemory = (max clock m.stamp < 18446744073709551615) × IsConsidered core m.message
 CannotTakeOther clock core m view refusal.Stranger = AwaitsHere core m.message → ⊥
 
 -- why it, with nothing outstanding and a link that takes messages, doesn't submit a request now
 abbrev pub CannotSubmit : ℕ → Refusal → Type 0
 CannotSubmit clock refusal.NotReady = ⊥
 CannotSubmit clock refusal.Spent = 18446744073709551615 ≤ clock
-CannotSubmit clock refusal.NoMemory = Unit {0}
+CannotSubmit clock refusal.NoMemory = clock < 18446744073709551615
 CannotSubmit clock refusal.Stranger = ⊥

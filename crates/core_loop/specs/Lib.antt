@@ -13,3 +13,4 @@ pub mod Receipts
 pub mod Cores
 pub mod Receiving
 pub mod Answering
+pub mod Owning

@@ -1,5 +1,5 @@
 -- The receipt of a packet.
-use Rattle.std.specs.Prelude.{◌≡◌, ◌+◌, ◌≤◌, ℕ, List, [], ◌∷◌}
+use Rattle.std.specs.Prelude.{◌≡◌, ◌+◌, ◌<◌, ◌≤◌, ℕ, List, [], ◌∷◌}
 use Rattle.table_replica.specs.Shown.{ReplicaState}
 use mathlib.Core.List.{IsPrefix}
 use Rattle.rx_queue.specs.declared.job.Job.{Job}
@@ -33,5 +33,5 @@ pub record Receives (number clock : ℕ) (replica : ReplicaState) (s : Stamped) 
 abbrev pub CannotReceive : ℕ → Refusal → Type 0
 CannotReceive clock refusal.NotReady = ⊥
 CannotReceive clock refusal.Spent = 18446744073709551615 ≤ clock
-CannotReceive clock refusal.NoMemory = Unit {0}
+CannotReceive clock refusal.NoMemory = clock < 18446744073709551615
 CannotReceive clock refusal.Stranger = ⊥

@@ -41,5 +41,5 @@ IsReplyReady stamp reply piece v = ⊥
 abbrev pub CannotReply : ℕ → ℕ → Option Message → LinkView → Refusal → Type 0
 CannotReply clock sent reply v refusal.NotReady = (reply ≢ None) × (v.ready ≡ false)
 CannotReply clock sent reply v refusal.Spent = 18446744073709551615 ≤ max clock sent
-CannotReply clock sent reply v refusal.NoMemory = Unit {0}
+CannotReply clock sent reply v refusal.NoMemory = (reply ≢ None) × (max clock sent < 18446744073709551615)
 CannotReply clock sent reply v refusal.Stranger = ⊥

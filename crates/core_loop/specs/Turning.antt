@@ -54,6 +54,13 @@ IsSpent cores clock x requests seen rx intake =
     ⊎ ((NoMessageNow cores x seen × CannotBegin cores clock x requests seen refusal.Spent)
     ⊎ (NoMessageNow cores x seen × (CanBeginNext cores x requests seen → ⊥) × MayReceive x rx intake × (18446744073709551615 ≤ clock)))
 
+-- memory was refused to what comes next: the message of the least peer that shows one, else the next request, else the front job
+abbrev pub LacksMemory : ℕ → ℕ → Part → List Op → (ℕ → LinkView) → Bool → Intake → Type 0
+LacksMemory cores clock x requests seen rx intake =
+    ((peer : ℕ) × IsLeastShowing cores seen peer × TakeHalts cores clock peer x seen halt.NoMemory)
+    ⊎ ((NoMessageNow cores x seen × CannotBegin cores clock x requests seen refusal.NoMemory)
+    ⊎ (NoMessageNow cores x seen × (CanBeginNext cores x requests seen → ⊥) × MayReceive x rx intake × (clock < 18446744073709551615)))
+
 -- the core stops at the first peer that shows more than nothing: its link has stopped so, or its first message is bad
 pub record StopsFirst (cores clock : ℕ) (x : Part) (seen : ℕ → LinkView) (cause : Cause) : Type 0 where
   pub peer : ℕ
@@ -64,5 +71,5 @@ pub record StopsFirst (cores clock : ℕ) (x : Part) (seen : ℕ → LinkView) (
 -- why a turn with something to do ends without an event
 abbrev pub HaltsFor : ℕ → ℕ → Part → List Op → (ℕ → LinkView) → Bool → Intake → Halt → Type 0
 HaltsFor cores clock x requests seen rx intake halt.Spent = IsSpent cores clock x requests seen rx intake
-HaltsFor cores clock x requests seen rx intake halt.NoMemory = Unit {0}
+HaltsFor cores clock x requests seen rx intake halt.NoMemory = LacksMemory cores clock x requests seen rx intake
 HaltsFor cores clock x requests seen rx intake (halt.Stopped cause) = StopsFirst cores clock x seen cause

@@ -164,6 +164,7 @@ pub(crate) fn begin_or_receive<L: Links>(
     ensures requests { OnEvent result (λ s. requests.old.items ≡ begins s.done.event ++ requests.new.items) }
     ensures jobs { OnEvent result (λ s. jobs_taken intake.new ≡ jobs_taken intake.old ++ receives s.done.event) }
     ensures whole { OnEvent result (λ s. IsUnshortened s.done.event) }
+    ensures leave { OnEvent result (λ s. rx ≡ false → receives s.done.event ≡ []) }
     ensures links { OnEvent result (λ _. L.same links.old links.new) }
     ensures queue { SameIntake intake.old intake.new }
     ensures same { OnNone result ((part.new ≡ part.old) × (links.new ≡ links.old)) }
@@ -212,6 +213,7 @@ pub(crate) fn first_event<L: Links>(
     ensures requests { OnEvent result (λ s. requests.old.items ≡ begins s.done.event ++ requests.new.items) }
     ensures jobs { OnEvent result (λ s. jobs_taken intake.new ≡ jobs_taken intake.old ++ receives s.done.event) }
     ensures whole { OnEvent result (λ s. IsUnshortened s.done.event) }
+    ensures leave { OnEvent result (λ s. rx ≡ false → receives s.done.event ≡ []) }
     ensures links { OnEvent result (λ _. L.same links.old links.new) }
     ensures queue { SameIntake intake.old intake.new }
     ensures same { OnNone result ((part.new ≡ part.old) × (links.new ≡ links.old)) }

@@ -3,6 +3,7 @@
 
 mod cause;
 mod context;
+mod deciding;
 mod events;
 mod first;
 mod joined;
@@ -20,9 +21,9 @@ mod sending;
 mod turning;
 
 pub use cause::{Cause, Turn};
-pub use live::NotReceived;
 pub use core_links::{Busy, LineFault, Links, ListLinks, RingLinks};
 pub use filter_table::Kept;
 pub use laws::cores_compute;
+pub use live::NotReceived;
 pub use running::Core;
 pub use world_histories::Stamped;

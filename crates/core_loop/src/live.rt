@@ -1,7 +1,8 @@
-//! What the owner of a running core asks of it between its turns.
+//! What the owner of a core asks of it between its turns.
 
-ghost use Rattle.std.specs.Prelude.{◌≡◌, ◌≤◌, ◌++◌, ℕ, length, take, drop, IfOk};
+ghost use Rattle.std.specs.Prelude.{◌≡◌, ◌≤◌, ◌<◌, ◌++◌, ℕ, length, take, drop, IfOk, OnErr, IfErr};
 ghost use Rattle.filter_table.specs.Tables.{Accepting};
+ghost use Rattle.core_loop.specs.Receiving.{LacksRoom};
 
 use crate::cause::Cause;
 use crate::noting::noted_receipt;
@@ -9,8 +10,8 @@ use crate::refusal::next_stamp;
 use crate::running::Core;
 use core_links::Links;
 use filter_table::{Kept, Op};
-use std::alloc::{AllocError, Global};
-use table_replica::Replica;
+use std::alloc::AllocError;
+use table_replica::{Replica, Scratch};
 
 /// Why a packet isn't received. Nothing has changed.
 #[derive(Clone, Copy, PartialEq, Eq, Debug)]
@@ -26,13 +27,13 @@ pub enum NotReceived {
 }
 
 impl<L: Links> Core<L> {
-    ghost use Rattle.std.specs.Prelude.{◌≡◌, ◌≤◌, ◌++◌, ◌∷◌, [], ℕ, length, take, IfOk, OnOk, OnErr};
-    ghost use Rattle.core_loop.specs.Cores.{AreShort};
-    ghost use Rattle.core_loop.specs.Answering.{AreAnswered};
-    ghost use Rattle.core_loop.specs.Receiving.{HasReceived};
+    ghost use Rattle.std.specs.Prelude.{◌≡◌, ◌≤◌, ◌+◌, ◌++◌, ◌∷◌, [], ℕ, length, take, drop, IfOk, IfErr, OnOk, OnErr};
+    ghost use Rattle.core_loop.specs.Cores.{AreShort, begun};
+    ghost use Rattle.core_loop.specs.Answering.{AreDecided, decisions, under_way};
+    ghost use Rattle.core_loop.specs.Receiving.{HasReceived, IsRefused};
 
     /// One request more, which the core begins after those that it has. Of a core other than 0 a program has at most 4,096
-    /// instructions.
+    /// instructions. A core that has stopped keeps it, and never begins it.
     pub fn ask(&mut self, op: Op) -> Result<(), AllocError>
         requires short { AreShort self.old.number (op ∷ []) }
         ensures ok { OnOk result (self.new ≡ record self.old { pending = self.old.pending ++ op ∷ [] }) }
@@ -44,17 +45,24 @@ impl<L: Links> Core<L> {
         }
     }
 
-    /// Each request that a core other than 0 has begun has its reply, but for one that is under way: so the n-th reply answers the n-th request.
-    /// A law: nothing is done.
-    pub fn are_answered(&self)
-        ensures { AreAnswered self.now.part self.now.history }
+    /// How many of its requests the core has begun that have no decision: one or none.
+    pub fn under_way(&self) -> u64
+        ensures { result ≡ under_way self.now.part }
+    {
+        u64::from(self.part.has_under_way())
+    }
+
+    /// Each request that the core has begun has its decision, but for one that may be under way. So the n-th decision that its
+    /// turns hand out is that on the n-th request that it was given. A law: nothing is done.
+    pub fn are_decided(&self)
+        ensures { AreDecided self.now.part self.now.history }
     {
         let _ = &self.part;
     }
 
     /// The endpoints that get a packet at the core's version now, at the front of the room, with the bytes that each keeps: their
     /// number. The packet, of which these bytes were captured and which had `original` bytes, stays where it is. The receipt is an
-    /// event of the core's history.
+    /// event of the core's history. It takes memory only where a change of the table since made it necessary.
     pub fn receive(
         &mut self,
         bytes: &[u8],
@@ -62,8 +70,11 @@ impl<L: Links> Core<L> {
         room: &mut [Kept],
     ) -> Result<usize, NotReceived>
         ensures ok { IfOk result (λ count. (count ≤ length room.new) × HasReceived self.old self.new bytes.now original (take count room.new)) }
-        ensures err { OnErr result (self.new ≡ self.old) }
+        ensures rest { IfOk result (λ count. drop count room.new ≡ drop count room.old) }
         ensures room { length room.new ≡ length room.old }
+        ensures why { IfErr result (IsRefused self.old bytes.now original (length room.old)) }
+        ensures err { OnErr result (self.new ≡ self.old) }
+        ensures same_room { OnErr result (room.new ≡ room.old) }
     {
         if let Some(cause) = self.stopped {
             return Err(NotReceived::Stopped(cause));
@@ -72,7 +83,7 @@ impl<L: Links> Core<L> {
             return Err(NotReceived::Spent);
         };
         let replica = self.part.replica();
-        let count = accepting_into(replica, self.alloc, bytes, original, room)?;
+        let count = accepting_into(replica, &mut self.scratch, bytes, original, room)?;
         let version = replica.version();
         self.history = noted_receipt(
             &self.history,
@@ -91,21 +102,24 @@ impl<L: Links> Core<L> {
 // The endpoints that get a packet by the shown table, at the front of the room.
 fn accepting_into(
     replica: &Replica,
-    alloc: Global,
+    scratch: &mut Scratch,
     bytes: &[u8],
     original: u32,
     room: &mut [Kept],
 ) -> Result<usize, NotReceived>
     ensures ok { IfOk result (λ count. (count ≤ length room.new) × Accepting replica.now.shown (record { bytes = bytes.now; original = original }) (take count room.new)) }
+    ensures rest { IfOk result (λ count. drop count room.new ≡ drop count room.old) }
     ensures room { length room.new ≡ length room.old }
+    ensures why { IfErr result (LacksRoom replica.now.shown bytes.now original (length room.old)) }
+    ensures same_room { OnErr result (room.new ≡ room.old) }
 {
-    let Ok(kept) = replica.accepting(alloc, bytes, original) else {
+    if replica.accepting_with(scratch, bytes, original).is_err() {
         return Err(NotReceived::NoMemory);
-    };
-    let count = kept.len();
+    }
+    let count = scratch.kept.len();
     if count > room.len() {
         return Err(NotReceived::NoRoom(count));
     }
-    room[..count].copy_from_slice(&kept);
+    room[..count].copy_from_slice(&scratch.kept);
     Ok(count)
 }

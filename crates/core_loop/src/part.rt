@@ -15,6 +15,8 @@ impl Part {
     ghost use Rattle.std.specs.Prelude.{◌≡◌, ◌<◌, ◌≤◌, [], ℕ, IfOk};
     ghost use Rattle.core_links.specs.Views.{LinkView};
     ghost use Rattle.core_loop.specs.Keeping.{IsStanding, replica_of};
+    ghost use Rattle.core_loop.specs.Answering.{count_if, under_way};
+    ghost use Rattle.core_loop.specs.Owning.{asks_itself};
     ghost use Rattle.core_loop.specs.Standing.{IsSilent};
 
     /// The part of a core of this number, which has done nothing yet.
@@ -33,6 +35,26 @@ impl Part {
             Ok(Part::First(Core0::new(alloc, budget, cores)?))
         } else {
             Ok(Part::Other(OtherCore::new(alloc, budget)?))
+        }
+    }
+
+    /// Whether core 0 has no request of another core under way.
+    pub(crate) fn asks_itself(&self) -> bool
+        ensures { result ≡ asks_itself self.now }
+    {
+        match self {
+            Part::First(core) => core.coordinator.asker().is_none(),
+            Part::Other(_) => false,
+        }
+    }
+
+    /// Whether a request of the core's own is begun and not decided.
+    pub(crate) fn has_under_way(&self) -> bool
+        ensures { count_if result ≡ under_way self.now }
+    {
+        match self {
+            Part::First(core) => core.coordinator.voting() && core.coordinator.asker().is_none(),
+            Part::Other(core) => core.participant.outstanding(),
         }
     }
 

@@ -4,6 +4,7 @@ ghost use Rattle.std.specs.Prelude.{◌≡◌, ◌<◌, ◌≤◌, ℕ};
 
 use crate::cause::{Cause, Turn};
 use crate::context::Context;
+use crate::deciding::decision_of;
 use crate::noting::noted;
 use crate::part::Part;
 use crate::refusal::Halt;
@@ -16,7 +17,7 @@ use rx_queue::{Intake, Job, Port};
 use std::alloc::{AllocError, Global};
 use std::collections::VecDeque;
 use std::marker::Model;
-use table_replica::Replica;
+use table_replica::{Replica, Scratch};
 use world_histories::Stamped;
 
 /// A core. Its history is a list that only proofs read, so its memory doesn't grow with what it does.
@@ -31,6 +32,8 @@ pub struct Core<L: Links> {
     pub(crate) requests: VecDeque<Op>,
     pub(crate) intake: Intake,
     pub(crate) history: Log<Stamped>,
+    // What a receipt writes before it is known whether there is room, and its working lists.
+    pub(crate) scratch: Scratch,
     pub(crate) stopped: Option<Cause>,
 }
 
@@ -47,7 +50,7 @@ impl<L: Links> Model for Core<L> {
 }
 
 impl<L: Links> Core<L> {
-    ghost use Rattle.std.specs.Prelude.{◌≡◌, ◌≢◌, ◌<◌, ◌≤◌, ◌↔◌, ◌++◌, ◌∷◌, ℕ, Option, [], length, true, Some, None, IfOk, IfSome, IfNone, IsTrue, MatchOption};
+    ghost use Rattle.std.specs.Prelude.{◌≡◌, ◌≢◌, ◌<◌, ◌≤◌, ◌↔◌, ◌++◌, ◌∷◌, ℕ, Option, option_to_list, [], length, true, false, Some, None, IfOk, IfSome, IfNone, IsTrue, MatchOption};
     ghost use mathlib.Core.List.{IsPrefix};
     ghost use Rattle.rx_queue.specs.Queue.{jobs_put, jobs_seen, jobs_taken, AreEnds, SamePort, SameIntake};
     ghost use Rattle.rx_queue.specs.declared.job.Job.{Job as GhostJob};
@@ -57,9 +60,11 @@ impl<L: Links> Core<L> {
     ghost use Rattle.core_loop.specs.Cores.{Stands, AreShort, SameCore, NothingDone, DidOne, CanReceive, begun};
     ghost use Rattle.core_loop.specs.Beginning.{CanBeginNext, HasNothingUnderWay};
     ghost use Rattle.core_loop.specs.Choosing.{NoMessageNow};
-    ghost use Rattle.core_loop.specs.Turning.{StopsFirst, IsSpent, HasWork};
-    ghost use Rattle.core_loop.specs.Keeping.{replica_of};
+    ghost use Rattle.core_loop.specs.Turning.{StopsFirst, IsSpent, LacksMemory, HasWork};
+    ghost use Rattle.core_loop.specs.Receipts.{receives};
+    ghost use Rattle.core_loop.specs.Answering.{decisions};
     ghost use Rattle.filter_table.specs.declared.decision.Decision.{Decision as GhostDecision};
+    ghost use Rattle.core_loop.specs.Keeping.{replica_of};
     ghost use Rattle.core_loop.specs.Standing.{IsSilent};
 
     /// A core that has done nothing yet. Nothing was sent or taken over its links, and no job was taken. Requests of a core
@@ -95,6 +100,7 @@ impl<L: Links> Core<L> {
             requests,
             intake,
             history: Log::new(),
+            scratch: Scratch::new(alloc),
             stopped: None,
         })
     }
@@ -114,12 +120,15 @@ impl<L: Links> Core<L> {
         ensures core { SameCore L.same self.old self.new }
         ensures requests { begun self.new.history ++ self.new.pending ≡ begun self.old.history ++ self.old.pending }
         ensures did { (s : GhostStamped) (d : Option GhostDecision) → result ≡ Did s d → DidOne L.view self.old self.new s }
+        ensures decision { (s : GhostStamped) (d : Option GhostDecision) → result ≡ Did s d → decisions self.new.history ≡ decisions self.old.history ++ option_to_list d }
+        ensures leave { (s : GhostStamped) (d : Option GhostDecision) → result ≡ Did s d → rx ≡ false → receives s.done.event ≡ [] }
         ensures other { ((s : GhostStamped) (d : Option GhostDecision) → result ≢ Did s d) → NothingDone L.view self.old self.new }
         ensures stays { (cause : GhostCause) → self.old.stopped ≡ Some cause → (result ≡ Stopped cause) × (self.new ≡ self.old) }
         ensures stopped { (cause : GhostCause) → result ≡ Stopped cause → self.new.stopped ≡ Some cause }
         ensures running { ((cause : GhostCause) → result ≢ Stopped cause) → (self.old.stopped ≡ None) × (self.new.stopped ≡ None) }
         ensures cause { (cause : GhostCause) → self.old.stopped ≡ None → result ≡ Stopped cause → StopsFirst self.old.cores self.old.clock self.old.part (L.view self.new.links) cause }
         ensures spent { result ≡ Spent → IsSpent self.old.cores self.old.clock self.old.part self.old.pending (L.view self.new.links) rx self.new.intake }
+        ensures lacks { result ≡ NoMemory → LacksMemory self.old.cores self.old.clock self.old.part self.old.pending (L.view self.new.links) rx self.new.intake }
         ensures no_memory { result ≡ NoMemory → HasWork self.old.cores self.old.part self.old.pending (L.view self.new.links) rx self.new.intake }
         ensures idle_message { result ≡ Idle → NoMessageNow self.new.cores self.new.part (L.view self.new.links) }
         ensures idle { result ≡ Idle → CanBeginNext self.new.cores self.new.part self.new.pending (L.view self.new.links) → ⊥ }
@@ -147,8 +156,8 @@ impl<L: Links> Core<L> {
                 self.clock = stamped.stamp;
                 self.history = noted(&self.history, &stamped);
                 Turn::Did {
+                    decision: decision_of(&self.part, &stamped.done),
                     event: stamped,
-                    decision: None,
                 }
             }
             Err(Halt::Spent) => Turn::Spent,

@@ -1,11 +1,12 @@
 //! What core 0 sends: made ready before a step, and handed to its links after it.
 
-ghost use Rattle.std.specs.Prelude.{◌≡◌, ◌≢◌, ◌<◌, ◌↔◌, ◌∷◌, [], ℕ, suc, true, All, IfOk, IsTrue, length, vec_len};
+ghost use Rattle.std.specs.Prelude.{◌≡◌, ◌≢◌, ◌<◌, ◌↔◌, ◌∷◌, [], ℕ, suc, true, All, IfOk, OnErr, IsTrue, IsFalse, length, vec_len};
 ghost use Rattle.monitor_messages.specs.declared.message.Message.{Message as GhostMessage};
 ghost use Rattle.core_steps.specs.Core0Steps.{sent, CanBeCoded};
-ghost use Rattle.world_model.specs.Cases.{Outgoing as GhostOutgoing, to_all, to_one};
+ghost use Rattle.world_model.specs.Cases.{Outgoing as GhostOutgoing, nothing, to_all, to_one};
 ghost use Rattle.world_histories.specs.Histories.{with_stamp};
 ghost use Rattle.core_loop.specs.Carrying.{CanCarry, Hands, HandsOut};
+ghost use Rattle.core_loop.specs.Events.{IsBlocked};
 ghost use Rattle.core_loop.specs.Sending.{CanBeHanded, CanBeSent, IsMade, IsPiece};
 
 use core_links::Links;
@@ -31,6 +32,7 @@ pub(crate) fn make_ready(
     requires { CanBeCoded outgoing.now }
     ensures made { IfOk result (IsMade others stamp (sent outgoing.now)) }
     ensures lengths { IfOk result CanBeSent }
+    ensures memory { OnErr result (sent outgoing.now ≢ nothing) }
 {
     match outgoing {
         Outgoing::Nothing => Ok(Ready::Nothing),
@@ -64,7 +66,8 @@ fn copies(alloc: Global, bytes: &[u8], count: u16) -> Result<Vec<Vec<u8>>, Alloc
 
 /// Whether the links that this goes over take messages.
 pub(crate) fn can_carry<L: Links>(links: &L, others: u16, outgoing: &Outgoing) -> bool
-    ensures { IsTrue result ↔ CanCarry others (sent outgoing.now) (L.view links.now) }
+    ensures can { IsTrue result ↔ CanCarry others (sent outgoing.now) (L.view links.now) }
+    ensures blocked { IsFalse result → IsBlocked others (L.view links.now) }
 {
     match outgoing {
         Outgoing::Nothing => true,
@@ -80,7 +83,8 @@ pub(crate) fn can_carry<L: Links>(links: &L, others: u16, outgoing: &Outgoing) -
 
 /// Whether the links to all others take messages.
 pub(crate) fn all_ready<L: Links>(links: &L, others: u16) -> bool
-    ensures { IsTrue result ↔ ((entry : ℕ) → entry < others → (L.view links.now (suc entry)).ready ≡ true) }
+    ensures all { IsTrue result ↔ ((entry : ℕ) → entry < others → (L.view links.now (suc entry)).ready ≡ true) }
+    ensures blocked { IsFalse result → IsBlocked others (L.view links.now) }
 {
     for entry in 0..others {
         if !links.ready(entry + 1) {

@@ -1,6 +1,6 @@
 //! The next event of a core.
 
-ghost use Rattle.std.specs.Prelude.{◌≡◌, ◌≤◌, ◌⊎◌, ◌++◌, ℕ, None, IfErr, IsSome, IsTrue, IsFalse};
+ghost use Rattle.std.specs.Prelude.{◌≡◌, ◌≤◌, ◌⊎◌, ◌++◌, ℕ, [], false, None, IfErr, IsSome, IsTrue, IsFalse};
 ghost use mathlib.Core.List.{IsPrefix};
 ghost use Rattle.rx_queue.specs.Queue.{jobs_seen, jobs_taken, SameIntake};
 ghost use Rattle.core_loop.specs.declared.refusal.Halt.TheVariants.{NoMemory};
@@ -41,6 +41,7 @@ pub(crate) fn next_event<L: Links>(
     ensures requests { OnEvent result (λ s. requests.old.items ≡ begins s.done.event ++ requests.new.items) }
     ensures jobs { OnEvent result (λ s. jobs_taken intake.new ≡ jobs_taken intake.old ++ receives s.done.event) }
     ensures whole { OnEvent result (λ s. IsUnshortened s.done.event) }
+    ensures leave { OnEvent result (λ s. rx ≡ false → receives s.done.event ≡ []) }
     ensures links { L.same links.old links.new }
     ensures queue { SameIntake intake.old intake.new }
     ensures quiet { OnNone result ((p : ℕ) → Quiet (L.view links.old p) (L.view links.new p)) }

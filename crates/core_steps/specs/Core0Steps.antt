@@ -78,6 +78,12 @@ sent sends.Nothing = nothing
 sent (sends.ToAll m) = to_all m
 sent (sends.ToOne entry m) = to_one entry m
 
+-- a message with which core 0 may send something
+abbrev pub MayBeAnswered : Message → Type 0
+MayBeAnswered (message.Vote txn vote) = Unit {0}
+MayBeAnswered (message.Ack txn) = Unit {0}
+MayBeAnswered m = ⊥
+
 -- bytes stand for the messages
 abbrev pub CanBeCoded : Sends → Type 0
 CanBeCoded sends.Nothing = Unit {0}

@@ -1,16 +1,16 @@
 //! Core 0.
 
-ghost use Rattle.std.specs.Prelude.{◌≡◌, ◌+◌, ◌-◌, ◌<◌, ◌≤◌, ℕ, suc, None, Some, IsSome, IfOk, IfSome, IfNone, OnSome, OnErr, slice_get};
+ghost use Rattle.std.specs.Prelude.{◌≡◌, ◌≢◌, ◌+◌, ◌-◌, ◌<◌, ◌≤◌, ℕ, suc, None, Some, IsSome, IfOk, IfSome, IfNone, OnSome, OnErr, slice_get};
 ghost use Rattle.filter_table.specs.declared.operation.Op.{Op as GhostOp};
 ghost use Rattle.filter_table.specs.Tables.{opening};
 ghost use Rattle.monitor_messages.specs.declared.message.Message.TheVariants as message;
 ghost use Rattle.monitor_2pc.specs.Coordinators.{Idle, CanStart, coordinator_place, no_requests};
 ghost use Rattle.monitor_2pc.specs.Starting.{WasStaged};
 ghost use Rattle.world_model.specs.Agreement.{Expects};
-ghost use Rattle.world_model.specs.Cases.{outgoing, start_told};
+ghost use Rattle.world_model.specs.Cases.{nothing, outgoing, start_told};
 ghost use Rattle.core_steps.specs.declared.core0.Core0.{Core0 as GhostCore0};
 ghost use Rattle.core_steps.specs.declared.core0.Told.{Told as GhostTold};
-ghost use Rattle.core_steps.specs.Core0Steps.{BetweenSteps, CanBegin, core0_place, sent, CanBeCoded, start_sends, start_for_sends, Starts, StartsForCore, TakesUp, HasWaiting};
+ghost use Rattle.core_steps.specs.Core0Steps.{BetweenSteps, CanBegin, core0_place, sent, CanBeCoded, start_sends, start_for_sends, Starts, StartsForCore, TakesUp, MayBeAnswered, HasWaiting};
 
 use crate::outgoing::Outgoing;
 use filter_table::{Op, StageFault};
@@ -162,6 +162,7 @@ impl Core0 {
         requires { BetweenSteps self.now }
         ensures sends { (after : GhostCore0) (told : GhostTold) → TakesUp self.now from message.now after told → outgoing told.step (core0_place after) ≡ sent result }
         ensures codable { CanBeCoded result }
+        ensures answered { sent result ≢ nothing → MayBeAnswered message.now }
     {
         match message {
             Message::Vote { txn, vote } => self.vote_sends(from, *txn, *vote),

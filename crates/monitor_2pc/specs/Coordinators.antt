@@ -26,6 +26,11 @@ pub data Phase : Type 0 where
   Voting : (votes : List (Option Vote)) → Phase
   Acking : (acks : List Bool) → Phase
 
+-- it waits for votes
+abbrev pub IsVoting : Phase → Type 0
+IsVoting (Voting votes) = Unit {0}
+IsVoting phase = ⊥
+
 -- its last number, and the operation that the votes are on
 pub record CoordinatorPlace : Type 0 where
   pub last : ℕ

@@ -8,7 +8,7 @@ ghost use Rattle.monitor_2pc.specs.declared.step.Step.{Step as GhostStep};
 ghost use Rattle.filter_table.specs.declared.decision.Decision.TheVariants.{Committed, Refused};
 ghost use Rattle.monitor_2pc.specs.declared.step.Say.TheVariants.{Abort};
 ghost use Rattle.monitor_2pc.specs.Places.{after_commit};
-ghost use Rattle.monitor_2pc.specs.Coordinators.{CoordinatorState, CoordinatorPlace, Requests, Idle, Acking, coordinator_place, no_requests, StagedByPhase, CanStart, Starts, StartsFor, CanSubmit, with_waiting, AwaitsVote, Hears, with_decided, AwaitsAck, HearsAck, reply_of, veto_of, veto_by, step};
+ghost use Rattle.monitor_2pc.specs.Coordinators.{CoordinatorState, CoordinatorPlace, Requests, Idle, Acking, IsVoting, coordinator_place, no_requests, StagedByPhase, CanStart, Starts, StartsFor, CanSubmit, with_waiting, AwaitsVote, Hears, with_decided, AwaitsAck, HearsAck, reply_of, veto_of, veto_by, step};
 ghost use Rattle.monitor_2pc.specs.Starting.{CannotStart, CannotStartFor, WasStaged, asked_by};
 
 use crate::step::{Say, StartFault, Step, Stranger};
@@ -86,6 +86,13 @@ impl Coordinator {
         self.wait == Wait::Nothing
     }
 
+    /// Whether the request under way waits for votes.
+    pub fn voting(&self) -> bool
+        ensures { IsTrue result ↔ IsVoting self.now.phase }
+    {
+        self.wait == Wait::Votes
+    }
+
     /// The last number.
     pub fn last(&self) -> u64
         ensures { result ≡ self.now.last }
@@ -98,6 +105,13 @@ impl Coordinator {
         ensures { result ≡ self.now.others }
     {
         self.waiting.len()
+    }
+
+    /// The core whose request is under way, where that is not core 0.
+    pub fn asker(&self) -> Option<u16>
+        ensures { result ≡ self.now.requests.asker }
+    {
+        self.asker
     }
 
     /// The request that the core has waiting.

@@ -245,7 +245,7 @@ fn ends_within<A: Abort>(rt: &A, alloc: Global, ended: Ended)
         halted,
     } = ended;
     if let Some((_, why)) = halted {
-        equal(rt, why, Halt::NoMemory);
+        holds(rt, matches!(why, Halt::NoMemory | Halt::NoRoom));
         drop((cores, left));
         return;
     }

@@ -1,14 +1,14 @@
-use Rattle.std.proofs.Common.{◌≡◌, ◌++◌, ◌∙◌, inl, List, sym, ap, subst, rules}
+use Rattle.std.proofs.Common.{◌≡◌, ◌++◌, ◌∙◌, inl, List, sym, ap, subst}
 use Rattle.rx_queue.specs.declared.job.Job.{Job}
 use Rattle.rx_queue.specs.Queue.{jobs_seen, jobs_taken}
-use Rattle.world_histories.proofs.Lists.{prefix_self, prefix_then}
+use Rattle.world_histories.proofs.Lists.{prefix_then}
 use Rattle.core_loop.proofs.Carrying.{quiet_along, same_quiet, pumped_quiet}
 use Rattle.core_loop.specs.Beginning.{CanBeginNext}
 use Rattle.core_loop.specs.Choosing.{NoMessageNow}
 use Rattle.core_loop.specs.Outcomes.{OnEvent}
 use Rattle.core_loop.specs.Receipts.{receives}
 use Rattle.core_loop.specs.Turning.{HasWork, HaltsFor}
-use Rattle.core_loop.proofs.Acting.{on_none_map, on_none_both, on_idle_both, on_err_both, on_err_of, on_event_any, either_way, can_begin_has, work_stays}
+use Rattle.core_loop.proofs.Acting.{on_none_map, on_none_both, on_idle_both, on_err_both, on_err_of, either_way, can_begin_has, work_stays}
 use Rattle.core_loop.proofs.Order.{acts_first}
 use Rattle.core_loop.proofs.turning.next_event.Goals as goal
 

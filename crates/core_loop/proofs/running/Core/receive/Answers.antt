@@ -2,12 +2,15 @@ use Rattle.std.proofs.Common.{List, take, sym, ap, ◌∙◌, subst, arith}
 use Rattle.world_histories.specs.declared.history.Stamped.{Stamped}
 use Rattle.table_replica.specs.Shown.{ReplicaState}
 use Rattle.filter_table.specs.Tables.{Accepting}
-use Rattle.core_loop.specs.Keeping.{IsStanding, replica_of}
+use Rattle.core_loop.specs.Keeping.{IsStanding}
 use Rattle.core_loop.proofs.Receipting.{receipt_stands}
 use Rattle.core_loop.proofs.running.Core.receive.Goals as goal
 
 pub invariant_of-self : goal.invariant_of-self
-invariant_of-self g c =
+invariant_of-self g c = c.self.invariant
+
+pub invariant_of-self-2 : goal.invariant_of-self-2
+invariant_of-self-2 g c =
     let i = c.self.inside in
     let v = c.self.invariant in
     let view = g.L.Links.view in

@@ -1,12 +1,16 @@
-use Rattle.std.proofs.Common.{List, None, refl, sym, subst}
+use Rattle.std.proofs.Common.{◌≡◌, ◌∙◌, ◌++◌, List, refl, sym, ap, subst}
 use Rattle.world_histories.specs.declared.history.Stamped.{Stamped}
 use Rattle.core_loop.specs.declared.part.Part.{Part}
 use Rattle.core_loop.specs.Keeping.{IsStanding, replica_of}
 use Rattle.core_loop.specs.Cores.{CoreState, begins}
 use Rattle.core_loop.specs.Choosing.{NoMessageNow}
 use Rattle.core_loop.specs.Receipts.{IsReceivable}
-use Rattle.core_loop.specs.Turning.{HasWork, IsSpent}
+use Rattle.std.specs.Prelude.{option_to_list}
+use Rattle.filter_table.specs.declared.decision.Decision.{Decision}
+use Rattle.core_loop.specs.Answering.{decisions}
+use Rattle.core_loop.specs.Turning.{HasWork, IsSpent, LacksMemory}
 use Rattle.core_loop.proofs.Acting.{acts_stand, acts_budget}
+use Rattle.core_loop.proofs.Answering.{decides_next}
 use Rattle.core_loop.proofs.Resting.{did_is, stands_quiet, rest_stands, short_rest, begun_more, was_running, seen_same, seen_idle, seen_done}
 use Rattle.core_loop.proofs.running.Core.turn.Goals as goal
 
@@ -189,4 +193,18 @@ pub returns-in-Err-Stopped-clause-stays : goal.returns-in-Err-Stopped-clause-sta
 returns-in-Err-Stopped-clause-stays g c = λ cause is. was_running _ _ cause c.self.view_is c.in_default.is is
 
 pub returns-in-Ok-Some-clause-other : goal.returns-in-Ok-Some-clause-other
-returns-in-Ok-Some-clause-other g c = λ none. absurd (none c.in-Ok-Some.stamped None refl)
+returns-in-Ok-Some-clause-other g c = λ none. absurd (none c.in-Ok-Some.stamped c.decision_of.result refl)
+
+pub returns-in-Ok-Some-clause-decision : goal.returns-in-Ok-Some-clause-decision
+returns-in-Ok-Some-clause-decision g c = λ t d is.
+    let i = c.self.inside in
+    let s = c.in-Ok-Some.stamped in
+    let acts = rw c.in-Ok-Some.field-0-is at c.in-Ok-Some.ensures.acts in
+    let same : c.decision_of.result ≡ d = (did_is s t _ d is).1 in
+    let next = decides_next i.part c.next_event.new.part i.number i.cores i.clock i.history.items s (g.L.Links.view i.links) acts.seen (g.L.Links.view c.next_event.new.links) c.self.invariant.2 acts.acts in
+    rw (← c.self.view_is) (ap decisions c.noted-self-inside.ensures ∙ next ∙ ap (λ (l : List Decision). decisions i.history.items ++ l) (sym c.decision_of.ensures ∙ ap option_to_list same))
+
+pub returns-in-Err-NoMemory-clause-lacks : goal.returns-in-Err-NoMemory-clause-lacks
+returns-in-Err-NoMemory-clause-lacks g c = λ _.
+    let why = rw c.in-Err-NoMemory.field-0-is at c.in-Err-NoMemory.ensures.why in
+    subst (λ (s : CoreState g.row.L.Denot). LacksMemory s.cores s.clock s.part s.pending (g.L.Links.view c.next_event.new.links) c.args.rx c.next_event.new.intake) c.self.view_is why
