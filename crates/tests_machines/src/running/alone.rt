@@ -68,7 +68,10 @@ static ALONE: [Step; 7] = [
 ];
 
 /// A request is sent to the other core, whose answer doesn't come.
-static SENDS: [Step; 2] = [Step::Turns(true, RecordedTurn::Did), Step::Turns(true, RecordedTurn::Idle)];
+static SENDS: [Step; 2] = [
+    Step::Turns(true, RecordedTurn::Did),
+    Step::Turns(true, RecordedTurn::Idle),
+];
 
 // The one core of a machine commits, receives what it may, and then rests.
 fn commits_and_receives(

@@ -46,7 +46,11 @@ fn two_turns(core: &mut Recorded<RingLinks>) -> (RecordedTurn, RecordedTurn, u64
 }
 
 // What two turns of that core come to.
-fn turns_at(rt: &impl Abort, alloc: Global, heads: &[(u64, u64)]) -> (RecordedTurn, RecordedTurn, u64, usize) {
+fn turns_at(
+    rt: &impl Abort,
+    alloc: Global,
+    heads: &[(u64, u64)],
+) -> (RecordedTurn, RecordedTurn, u64, usize) {
     let (mut core, port) = given_core(rt, alloc, heads);
     let found = two_turns(&mut core);
     drop((core, port));

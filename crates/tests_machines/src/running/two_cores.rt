@@ -157,7 +157,12 @@ fn lacked_memory(history: &[Stamped]) -> bool {
 
 // Both cores come to be done and agree. They did what they do with ample memory, unless one of them voted, or decided, that there was
 // none.
-fn agree(rt: &impl Abort, alloc: Global, first: &mut Recorded<ListLinks>, other: &mut Recorded<ListLinks>) {
+fn agree(
+    rt: &impl Abort,
+    alloc: Global,
+    first: &mut Recorded<ListLinks>,
+    other: &mut Recorded<ListLinks>,
+) {
     run(rt, alloc, first, other).expect(rt, "there is memory");
     holds(rt, first.core().idle() && other.core().idle());
     equal(rt, first.core().pending(), 0);
