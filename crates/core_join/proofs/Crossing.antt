@@ -12,6 +12,7 @@ use Rattle.endpoint_caps.proofs.table.Caps.TheSendSync as caps
 use Rattle.table_replica.proofs.programs.Programs.TheSendSync as programs
 use Rattle.table_replica.proofs.filters.Row.TheSendSync as row
 use Rattle.table_replica.proofs.reaches.Reach.TheSendSync as reach
+use Rattle.table_replica.proofs.filters.Scratch.TheSendSync as scratch
 use Rattle.table_replica.proofs.Op.TheSendSync as op
 use Rattle.table_replica.proofs.filters.Scratch.TheSendSync as scratch
 use Rattle.table_replica.specs.contracts.filters.Filters as filters

@@ -39,16 +39,17 @@ pub enum RecordedTurn {
 }
 
 impl<L: Links> Recorded<L> {
-    ghost use Rattle.std.specs.Prelude.{◌≡◌, ◌≢◌, ◌++◌, ◌∷◌, ℕ, [], true, Some, None, IfSome, IfNone};
+    ghost use Rattle.std.specs.Prelude.{◌≡◌, ◌≢◌, ◌++◌, ◌∷◌, ℕ, [], true, false, Some, None, IfSome, IfNone};
     ghost use mathlib.Core.List.{IsPrefix};
     ghost use Rattle.rx_queue.specs.Queue.{jobs_put, jobs_seen, jobs_taken, AreEnds, SamePort, SameIntake};
     ghost use Rattle.rx_queue.specs.declared.job.Job.{Job as GhostJob};
     ghost use Rattle.world_histories.specs.declared.history.Stamped.{Stamped as GhostStamped};
     ghost use Rattle.core_loop.specs.declared.cause.Cause.{Cause as GhostCause};
     ghost use Rattle.core_loop.specs.Cores.{SameCore, NothingDone, DidOne, CanReceive, begun};
+    ghost use Rattle.core_loop.specs.Receipts.{receives};
     ghost use Rattle.core_loop.specs.Beginning.{CanBeginNext};
     ghost use Rattle.core_loop.specs.Choosing.{NoMessageNow};
-    ghost use Rattle.core_loop.specs.Turning.{StopsFirst, IsSpent, HasWork};
+    ghost use Rattle.core_loop.specs.Turning.{StopsFirst, IsSpent, LacksMemory, HasWork};
     ghost use Rattle.core_join.specs.declared.recorded.RecordedTurn.TheVariants.{Did, Idle, Stopped, Spent, NoMemory, NoRoom};
 
     /// A core that has done nothing yet, with an empty list.
@@ -89,7 +90,7 @@ impl<L: Links> Recorded<L> {
     pub fn turn(&mut self, rx: bool) -> RecordedTurn
         ensures core { SameCore L.same self.old self.new }
         ensures requests { begun self.new.history ++ self.new.pending ≡ begun self.old.history ++ self.old.pending }
-        ensures did { result ≡ Did → (s : GhostStamped) × DidOne L.view self.old self.new s }
+        ensures did { result ≡ Did → (s : GhostStamped) × DidOne L.view self.old self.new s × (rx ≡ false → receives s.done.event ≡ []) }
         ensures other { result ≢ Did → NothingDone L.view self.old self.new }
         ensures no_room { result ≡ NoRoom → self.new ≡ self.old }
         ensures stays { (cause : GhostCause) → self.old.stopped ≡ Some cause → result ≢ NoRoom → (result ≡ Stopped cause) × (self.new ≡ self.old) }
@@ -97,6 +98,7 @@ impl<L: Links> Recorded<L> {
         ensures running { ((cause : GhostCause) → result ≢ Stopped cause) → result ≢ NoRoom → (self.old.stopped ≡ None) × (self.new.stopped ≡ None) }
         ensures cause { (cause : GhostCause) → self.old.stopped ≡ None → result ≡ Stopped cause → StopsFirst self.old.cores self.old.clock self.old.part (L.view self.new.links) cause }
         ensures spent { result ≡ Spent → IsSpent self.old.cores self.old.clock self.old.part self.old.pending (L.view self.new.links) rx self.new.intake }
+        ensures lacks { result ≡ NoMemory → LacksMemory self.old.cores self.old.clock self.old.part self.old.pending (L.view self.new.links) rx self.new.intake }
         ensures no_memory { result ≡ NoMemory → HasWork self.old.cores self.old.part self.old.pending (L.view self.new.links) rx self.new.intake }
         ensures idle_message { result ≡ Idle → NoMessageNow self.new.cores self.new.part (L.view self.new.links) }
         ensures idle { result ≡ Idle → CanBeginNext self.new.cores self.new.part self.new.pending (L.view self.new.links) → ⊥ }

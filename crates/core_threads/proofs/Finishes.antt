@@ -1,8 +1,11 @@
 -- What the joined threads come to.
-use Rattle.std.proofs.Common.{All, ◌≡◌, ◌<◌, ℕ, suc, length, List, inl, inr, Option, Some, None, slice_get, map, sym, ap, ◌∙◌, subst, arith, MatchOption}
+use Rattle.std.proofs.Common.{All, ◌≡◌, ◌<◌, ℕ, suc, length, List, inl, inr, Option, Some, None, slice_get, map, sym, ap, ◌∙◌, subst, arith, rules, MatchOption}
 use Rattle.std.proofs.lemmas.List.{length-map}
 use Rattle.world_model.proofs.Lists.{get_map}
 use Rattle.rx_queue.specs.declared.job.Job.{Job}
+use Rattle.rx_queue.specs.declared.intake.Intake.{Intake}
+use Rattle.rx_queue.specs.Queue.{SameIntake}
+use Rattle.core_links.specs.RingSlots.{ring_view}
 use Rattle.core_join.specs.Machines.{RingCore}
 use Rattle.core_threads.specs.declared.feeding.Outlet.{Outlet}
 use Rattle.core_threads.specs.declared.halt.Halt.{Halt}
@@ -34,24 +37,32 @@ module _ (old new : List Ran) (outlets : List Outlet) (can : CanFinish old outle
       let o = get_at outlets i (omega (arith, slice_get_within new i s at, same.all, can.fed.all)) in
       ap (λ (c : RingCore). c.number) r.2.core.core ∙ (can.fed.each i r.0 o.0 r.1 o.1).number
 
-  stands_still : (why : Halt) (c d : RingCore) → SameButTaken c d → StandsFor why c → StandsFor why d
-  stands_still (halt.Cause cause) c d e stands = ap (λ (c : RingCore). c.stopped) e.core ∙ stands
-  stands_still halt.Spent c d e stands = ap (λ (c : RingCore). c.stopped) e.core ∙ stands
-  stands_still halt.NoMemory c d e stands = ap (λ (c : RingCore). c.stopped) e.core ∙ stands
-  stands_still halt.Limit c d e stands = ap (λ (c : RingCore). c.stopped) e.core ∙ stands
-  stands_still halt.Early c d e stands = stands
+  -- whatever was taken from its queue
+  stands_still : (why : Halt) (c d : RingCore) → SameButTaken c d → StandsFor ring_view why c → StandsFor ring_view why d
+  stands_still why c d e stands = subst (StandsFor ring_view why) (sym e.core) (stands_with why c d.intake e.intake stands)
+    where
+      along : (i j k : Intake) → SameIntake i j → SameIntake j k → SameIntake i k
+      along i j k a b = search rules
 
-  stands_at : (place : ℕ) (why : Halt) (h : HaltedAt new place why) → StandsFor why h.its.core
+      stands_with : (why : Halt) (c : RingCore) (intake : Intake) → SameIntake c.intake intake → StandsFor ring_view why c → StandsFor ring_view why (record c { intake = intake })
+      stands_with (halt.Cause cause) c intake same stands = stands
+      stands_with halt.Spent c intake same stands = record { running = stands.running; rx = stands.rx; intake = stands.intake; queue = along stands.intake c.intake intake stands.queue same; spent = stands.spent }
+      stands_with halt.NoMemory c intake same stands = record { running = stands.running; rx = stands.rx; intake = stands.intake; queue = along stands.intake c.intake intake stands.queue same; lacks = stands.lacks }
+      stands_with halt.NoRoom c intake same stands = stands
+      stands_with halt.Limit c intake same stands = record { running = stands.running; no_message = stands.no_message; no_request = stands.no_request }
+      stands_with halt.Early c intake same stands = stands
+
+  stands_at : (place : ℕ) (why : Halt) (h : HaltedAt new place why) → StandsFor ring_view why h.its.core
   stands_at place why h =
       let r = before place h.its h.there in
-      let P : Option Halt → Type 0 = λ o. StandsSo o r.0.core in
-      let stands : StandsFor why r.0.core = subst P (sym r.2.halted ∙ h.halted) (can.stands place r.0 r.1) in
+      let P : Option Halt → Type 0 = λ o. StandsSo ring_view o r.0.core in
+      let stands : StandsFor ring_view why r.0.core = subst P (sym r.2.halted ∙ h.halted) (can.stands place r.0 r.1) in
       stands_still why r.0.core h.its.core r.2.core stands
 
   unstopped_at : (i : ℕ) (s : Ran) → slice_get new i ≡ Some s → s.halted ≡ None → s.core.stopped ≡ None
   unstopped_at i s at none =
       let r = before i s at in
-      let P : Option Halt → Type 0 = λ o. StandsSo o r.0.core in
+      let P : Option Halt → Type 0 = λ o. StandsSo ring_view o r.0.core in
       let stands : r.0.core.stopped ≡ None = subst P (sym r.2.halted ∙ none) (can.stands i r.0 r.1) in
       ap (λ (c : RingCore). c.stopped) r.2.core.core ∙ stands
 
@@ -72,11 +83,12 @@ module _ (old new : List Ran) (outlets : List Outlet) (can : CanFinish old outle
         subst (λ (x : Ran). x.core.stopped ≡ None) e running)
   ])
 
-  least_so : (place : ℕ) (why : Halt) (h : HaltedAt new place why) → StandsFor why h.its.core → AreUnstopped (cores_of new) (unstopped (cores_of new) place why)
+  least_so : (place : ℕ) (why : Halt) (h : HaltedAt new place why) → StandsFor ring_view why h.its.core → AreUnstopped (cores_of new) (unstopped (cores_of new) place why)
   least_so place (halt.Cause cause) h stands = unstopped_so place (λ i s below at. unstopped_at i s at (h.lesser i s below at))
-  least_so place halt.Spent h stands = unstopped_upto place halt.Spent h stands
-  least_so place halt.NoMemory h stands = unstopped_upto place halt.NoMemory h stands
-  least_so place halt.Limit h stands = unstopped_upto place halt.Limit h stands
+  least_so place halt.Spent h stands = unstopped_upto place halt.Spent h stands.running
+  least_so place halt.NoMemory h stands = unstopped_upto place halt.NoMemory h stands.running
+  least_so place halt.NoRoom h stands = unstopped_upto place halt.NoRoom h stands
+  least_so place halt.Limit h stands = unstopped_upto place halt.Limit h stands.running
   least_so place halt.Early h stands = absurd stands
 
   pub least : (left : List (ℕ × Job)) (halted : Option (ℕ × Halt)) → MatchOption halted (IsWhole new left) (λ h. IsHalt new left h.0 h.1) → IsLeast (cores_of new) halted
@@ -84,11 +96,12 @@ module _ (old new : List Ran) (outlets : List Outlet) (can : CanFinish old outle
   least left (Some h) (inl its) = least_so h.0 h.1 its (stands_at h.0 h.1 its)
   least left (Some h) (inr early) = subst (λ (w : Halt). AreUnstopped (cores_of new) (unstopped (cores_of new) h.0 w)) (sym early.0) (unstopped_all early.1.0)
 
-  halts_so : (left : List (ℕ × Job)) (place : ℕ) (why : Halt) (h : HaltedAt new place why) → StandsFor why h.its.core → HaltsFor (cores_of new) left place why
+  halts_so : (left : List (ℕ × Job)) (place : ℕ) (why : Halt) (h : HaltedAt new place why) → StandsFor ring_view why h.its.core → HaltsFor (cores_of new) left place why
   halts_so left place (halt.Cause cause) h stands = record { core = h.its.core; there = map-get (λ r. r.core) new place h.its h.there; stopped = stands }
-  halts_so left place halt.Spent h stands = omega (arith, slice_get_within new place h.its h.there, length-map new (λ r. r.core))
-  halts_so left place halt.NoMemory h stands = omega (arith, slice_get_within new place h.its h.there, length-map new (λ r. r.core))
-  halts_so left place halt.Limit h stands = omega (arith, slice_get_within new place h.its h.there, length-map new (λ r. r.core))
+  halts_so left place halt.Spent h stands = record { core = h.its.core; there = map-get (λ r. r.core) new place h.its h.there; is = stands }
+  halts_so left place halt.NoMemory h stands = record { core = h.its.core; there = map-get (λ r. r.core) new place h.its h.there; is = stands }
+  halts_so left place halt.NoRoom h stands = omega (arith, slice_get_within new place h.its h.there, length-map new (λ r. r.core))
+  halts_so left place halt.Limit h stands = record { core = h.its.core; there = map-get (λ r. r.core) new place h.its h.there; is = stands }
   halts_so left place halt.Early h stands = absurd stands
 
   at_end : (left : List (ℕ × Job)) (i : ℕ) (c : RingCore) → ((r : Ran) → slice_get new i ≡ Some r → IsAtEnd (items_for i left) r.core) → slice_get (cores_of new) i ≡ Some c → IsAtEnd (items_for i left) c

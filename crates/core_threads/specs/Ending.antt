@@ -7,6 +7,7 @@ use Rattle.core_loop.specs.Beginning.{HasNothingUnderWay}
 use Rattle.core_loop.specs.Cores.{SameCore, begun, receipts}
 use Rattle.core_loop.specs.Keeping.{replica_of}
 use Rattle.core_join.specs.Machines.{RingCore}
+use Rattle.core_threads.specs.Reasons.{IsSpentNow, LacksMemoryNow, RestsNow}
 use Rattle.core_threads.specs.declared.halt.Halt.{Halt}
 use Rattle.core_threads.specs.declared.halt.Halt.TheVariants as halt
 use Rattle.core_boot.specs.Lanes.{items_for}
@@ -31,11 +32,20 @@ pub record IsStoppedAt (cores : List RingCore) (place : ℕ) (cause : Cause) : T
   pub there : slice_get cores place ≡ Some core
   pub stopped : core.stopped ≡ Some cause
 
--- why a core halted is right
+-- the core in this place is so
+pub record IsSoAt (cores : List RingCore) (place : ℕ) (P : RingCore → Type 0) : Type 0 where
+  pub core : RingCore
+  pub there : slice_get cores place ≡ Some core
+  pub is : P core
+
+-- why a core halted is right: the core in this place is one to which that happens
 abbrev pub HaltsFor : List RingCore → List (ℕ × Job) → ℕ → Halt → Type 0
 HaltsFor cores left place (halt.Cause cause) = IsStoppedAt cores place cause
+HaltsFor cores left place halt.Spent = IsSoAt cores place (IsSpentNow ring_view)
+HaltsFor cores left place halt.NoMemory = IsSoAt cores place (LacksMemoryNow ring_view)
+HaltsFor cores left place halt.NoRoom = place < length cores
+HaltsFor cores left place halt.Limit = IsSoAt cores place (RestsNow ring_view)
 HaltsFor cores left place halt.Early = IsLeastUnfinished cores left place
-HaltsFor cores left place why = place < length cores
 
 -- no core halted, and each is at its end; or a core halted for this
 abbrev pub HaltsRightly : List RingCore → List (ℕ × Job) → Option (ℕ × Halt) → Type 0

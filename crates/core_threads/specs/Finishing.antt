@@ -2,6 +2,7 @@
 use Rattle.std.specs.Prelude.{◌≡◌, ◌<◌, ◌++◌, ℕ, All, List, length, Option, Some, slice_get}
 use Rattle.rx_queue.specs.declared.job.Job.{Job}
 use Rattle.rx_queue.specs.Queue.{jobs_taken}
+use Rattle.core_links.specs.RingSlots.{ring_view}
 use Rattle.core_join.specs.Machines.{RingCore}
 use Rattle.core_threads.specs.declared.feeding.Outlet.{Outlet}
 use Rattle.core_threads.specs.declared.halt.Halt.{Halt}
@@ -15,7 +16,7 @@ use Rattle.core_threads.specs.Runs.{StandsSo}
 -- each core is in its place beside the outlet of its queue, and why it halted stands
 pub record CanFinish (ran : List Ran) (outlets : List Outlet) : Type 0 where
   pub fed : AreFedBy ran outlets
-  pub stands : (i : ℕ) (r : Ran) → slice_get ran i ≡ Some r → StandsSo r.halted r.core
+  pub stands : (i : ℕ) (r : Ran) → slice_get ran i ≡ Some r → StandsSo ring_view r.halted r.core
 
 -- the cores are those that ran, and what the queues and the outlets had is left: for each core, the jobs taken and then those left are the
 -- jobs of its outlet

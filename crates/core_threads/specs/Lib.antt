@@ -1,3 +1,4 @@
+pub mod Reasons
 pub mod Runs
 pub mod Feeding
 pub mod Joining

@@ -1,13 +1,15 @@
 -- What a core's thread leaves.
-use Rattle.std.specs.Prelude.{◌≡◌, ◌++◌, Option, Some, None}
+use Rattle.std.specs.Prelude.{◌≡◌, ◌++◌, ℕ, Option, Some, None}
 use Rattle.rx_queue.specs.Queue.{jobs_taken}
-use Rattle.core_links.specs.RingSlots.{SameLinks}
+use Rattle.core_links.specs.RingSlots.{SameLinks, ring_view}
+use Rattle.core_links.specs.Views.{LinkView}
 use Rattle.core_loop.specs.Cores.{CoreState, SameCore, begun, receipts}
 use Rattle.core_join.specs.declared.recorded.RecordedTurn.{RecordedTurn}
-use Rattle.core_join.specs.declared.recorded.RecordedTurn.TheVariants.{Stopped}
+use Rattle.core_join.specs.declared.recorded.RecordedTurn.TheVariants.{Idle, Stopped, Spent, NoMemory}
 use Rattle.core_join.specs.Machines.{RingCore}
 use Rattle.core_threads.specs.declared.halt.Halt.{Halt}
 use Rattle.core_threads.specs.declared.halt.Halt.TheVariants as halt
+use Rattle.core_threads.specs.Reasons.{IsSpentNow, LacksMemoryNow, RestsNow}
 
 -- each job that the core took was received
 abbrev pub HasReceived : {L : Type 0} → CoreState L → Type 0
@@ -21,24 +23,30 @@ pub record CoreRan {L : Type 0} (same : L → L → Type 0) (old new : CoreState
   -- each job that was taken meanwhile was received
   pub received : HasReceived old → HasReceived new
 
--- after a turn that answers this, the core is stopped with the cause that it gives, and else not stopped
-abbrev pub AfterTurn : {L : Type 0} → RecordedTurn → CoreState L → Type 0
-AfterTurn (Stopped cause) c = c.stopped ≡ Some cause
-AfterTurn turn c = c.stopped ≡ None
+-- after a turn that answers this, the core is stopped with the cause that it gives, and else not stopped; and what the answer says stands
+abbrev pub AfterTurn : {L : Type 0} → (L → ℕ → LinkView) → RecordedTurn → CoreState L → Type 0
+AfterTurn view (Stopped cause) c = c.stopped ≡ Some cause
+AfterTurn view Spent c = IsSpentNow view c
+AfterTurn view NoMemory c = LacksMemoryNow view c
+AfterTurn view Idle c = RestsNow view c
+AfterTurn view turn c = c.stopped ≡ None
 
--- why a core halted stands: a cause is the one that it is stopped with, and for all else it is not stopped. That work is left, no core says of
--- itself
-abbrev pub StandsFor : {L : Type 0} → Halt → CoreState L → Type 0
-StandsFor (halt.Cause cause) c = c.stopped ≡ Some cause
-StandsFor halt.Early c = ⊥
-StandsFor why c = c.stopped ≡ None
+-- why a core halted stands: a cause is the one that it is stopped with, and for all else it is not stopped, and what halted it shows. That work
+-- is left, no core says of itself
+abbrev pub StandsFor : {L : Type 0} → (L → ℕ → LinkView) → Halt → CoreState L → Type 0
+StandsFor view (halt.Cause cause) c = c.stopped ≡ Some cause
+StandsFor view halt.Spent c = IsSpentNow view c
+StandsFor view halt.NoMemory c = LacksMemoryNow view c
+StandsFor view halt.NoRoom c = c.stopped ≡ None
+StandsFor view halt.Limit c = RestsNow view c
+StandsFor view halt.Early c = ⊥
 
 -- the core stands so where its thread ends, which halted for this, if it halted
-abbrev pub StandsSo : {L : Type 0} → Option Halt → CoreState L → Type 0
-StandsSo None c = c.stopped ≡ None
-StandsSo (Some why) c = StandsFor why c
+abbrev pub StandsSo : {L : Type 0} → (L → ℕ → LinkView) → Option Halt → CoreState L → Type 0
+StandsSo view None c = c.stopped ≡ None
+StandsSo view (Some why) c = StandsFor view why c
 
 -- the core ran in a thread of its own, and halted for this, if it halted
 pub record ThreadRan (old new : RingCore) (halted : Option Halt) : Type 0 where
   pub ran : CoreRan SameLinks old new
-  pub stands : old.stopped ≡ None → StandsSo halted new
+  pub stands : old.stopped ≡ None → StandsSo ring_view halted new

@@ -15,6 +15,8 @@ pub enum Halt {
     Spent,
     /// Memory was refused in a turn.
     NoMemory,
+    /// Memory was refused for one event more in the list of what the core did.
+    NoRoom,
     /// As many turns in a row as the limit says did nothing.
     Limit,
     /// No core halted, but there is work left: a request that was not begun or not answered, or a job that may be received.

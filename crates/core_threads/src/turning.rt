@@ -38,7 +38,7 @@ fn may_receive<L: Links, G: Gate>(core: &mut Recorded<L>, gate: &G) -> bool
 // Takes one turn. It may receive the job in front where the gate says so.
 fn take_turn<L: Links, G: Gate>(core: &mut Recorded<L>, gate: &G) -> RecordedTurn
     ensures ran { CoreRan L.same core.old core.new }
-    ensures stopped { core.old.stopped ≡ None → AfterTurn result core.new }
+    ensures stopped { core.old.stopped ≡ None → AfterTurn L.view result core.new }
 {
     let rx = may_receive(core, gate);
     core.turn(rx)
@@ -74,7 +74,7 @@ fn is_settled<L: Links>(core: &Recorded<L>, began: u64, bounds: Bounds) -> bool 
 // Whether nothing is left for the core to do. The flags are read before the queue is looked at.
 fn is_done<L: Links>(core: &mut Recorded<L>, flags: &Flags) -> bool
     ensures ran { CoreRan L.same core.old core.new }
-    ensures stopped { core.new.stopped ≡ core.old.stopped }
+    ensures core { core.new ≡ record core.old { intake = core.new.intake } }
 {
     if !flags.is_settled() || !core.core().idle() {
         return false;
@@ -97,7 +97,7 @@ pub(crate) fn run_core<L: Links, R: Wait + Clock, G: Gate>(
     bounds: Bounds,
 ) -> Option<Halt>
     ensures ran { CoreRan L.same core.old core.new }
-    ensures stands { core.old.stopped ≡ None → StandsSo result core.new }
+    ensures stands { core.old.stopped ≡ None → StandsSo L.view result core.new }
 {
     let mut backoff = Backoff::new();
     let mut began = 0u64;
@@ -123,7 +123,8 @@ pub(crate) fn run_core<L: Links, R: Wait + Clock, G: Gate>(
             }
             RecordedTurn::Stopped(cause) => return Some(Halt::Cause(cause)),
             RecordedTurn::Spent => return Some(Halt::Spent),
-            RecordedTurn::NoMemory | RecordedTurn::NoRoom => return Some(Halt::NoMemory),
+            RecordedTurn::NoMemory => return Some(Halt::NoMemory),
+            RecordedTurn::NoRoom => return Some(Halt::NoRoom),
         }
         if is_settled(core, began, bounds) {
             flags.settle();

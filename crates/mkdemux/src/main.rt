@@ -130,7 +130,7 @@ fn halted(rt: &HostRuntime, core: u16, why: Halt) -> u8 {
     let why = match why {
         Halt::Cause(cause) => cause_words(cause),
         Halt::Spent => "the next number or stamp would be too great",
-        Halt::NoMemory => "out of memory",
+        Halt::NoMemory | Halt::NoRoom => "out of memory",
         Halt::Limit => "it did nothing for too long",
         Halt::Early => "there is work left",
     };

@@ -11,7 +11,7 @@ ghost use Rattle.core_join.specs.Machines.{HasPlace, IsMachine};
 use crate::facts::equal;
 use crate::words::{ARP, CAP, FILTER, REQUEST, Told, program, tells};
 use bpf_insn::TextFault;
-use core_join::{Histories, conclude, in_order, merge};
+use core_join::{Histories, Recorded, conclude, in_order, merge};
 use core_loop::{Core, RingLinks, Stamped};
 use monitor_messages::Vote;
 use pcap_reader::SharedPacket;
@@ -118,7 +118,7 @@ fn core(
     cores: u16,
     requests: VecDeque<Op>,
     job: u64,
-) -> Result<Core<RingLinks>, AllocError>
+) -> Result<Recorded<RingLinks>, AllocError>
     requires number { (number < cores) × (cores ≤ 8) }
     requires links { (own_of links ≡ number) × ((p : ℕ) → IsSilent (ring_view links p)) }
     requires short { AreShort number requests.items }
@@ -126,7 +126,8 @@ fn core(
     ensures links { IfOk result (λ core. core.links ≡ links) }
 {
     let jobs = intake(alloc, job)?;
-    Core::new(alloc, links, 100, number, cores, requests, jobs)
+    let core = Core::new(alloc, links, 100, number, cores, requests, jobs)?;
+    Ok(Recorded::new(alloc, core))
 }
 
 // Cores 0 and 1 of a machine.
@@ -134,7 +135,7 @@ fn two_cores(
     alloc: Global,
     first: VecDeque<Op>,
     second: VecDeque<Op>,
-) -> Result<(Core<RingLinks>, Core<RingLinks>), AllocError>
+) -> Result<(Recorded<RingLinks>, Recorded<RingLinks>), AllocError>
     requires { AreShort 1 second.items }
     ensures { IfOk result (λ r. IsMachine 100 (100 ∷ []) (r.0 ∷ r.1 ∷ [])) }
 {
@@ -150,7 +151,7 @@ fn two_cores(
 }
 
 // Lets the two take turns.
-fn take_turns(first: &mut Core<RingLinks>, second: &mut Core<RingLinks>)
+fn take_turns(first: &mut Recorded<RingLinks>, second: &mut Recorded<RingLinks>)
     ensures { (budget : ℕ) (budgets : List ℕ) → IsMachine budget budgets (first.old ∷ second.old ∷ []) → IsMachine budget budgets (first.new ∷ second.new ∷ []) }
 {
     for _ in 0..40 {
@@ -160,7 +161,7 @@ fn take_turns(first: &mut Core<RingLinks>, second: &mut Core<RingLinks>)
 }
 
 // Lets a core that is alone take turns.
-fn take_turns_alone(core: &mut Core<RingLinks>)
+fn take_turns_alone(core: &mut Recorded<RingLinks>)
     ensures { (budget : ℕ) (budgets : List ℕ) → IsMachine budget budgets (core.old ∷ []) → IsMachine budget budgets (core.new ∷ []) }
 {
     for _ in 0..10 {

@@ -7,7 +7,8 @@ mod two_cores;
 ghost use Rattle.std.specs.Prelude.{◌≤◌, ◌<◌};
 ghost use Rattle.filter_table.specs.Tables.{HasShortProgram};
 
-use core_loop::{Core, ListLinks, Turn};
+use core_join::{Recorded, RecordedTurn};
+use core_loop::{Core, ListLinks};
 use rx_queue::{Port, queue};
 use std::alloc::{AllocError, Global};
 use std::collections::VecDeque;
@@ -37,7 +38,7 @@ pub(crate) fn core_of(
     number: u16,
     cores: u16,
     capacity: usize,
-) -> (Core<ListLinks>, Port)
+) -> (Recorded<ListLinks>, Port)
     requires number { 1 ≤ number × number < cores × cores ≤ 8 }
 {
     let (port, intake) = queue(alloc, 4).expect(rt, "there is memory");
@@ -51,31 +52,36 @@ pub(crate) fn core_of(
         VecDeque::new(alloc),
         intake,
     );
-    (core.expect(rt, "there is memory"), port)
+    let core = core.expect(rt, "there is memory");
+    (Recorded::new(alloc, core), port)
 }
 
 /// The events of a core's history, its version, and its requests that are pending.
-pub(crate) fn place(core: &Core<ListLinks>) -> (usize, u64, usize) {
-    (core.history().len(), core.version(), core.pending())
+pub(crate) fn place(recorded: &Recorded<ListLinks>) -> (usize, u64, usize) {
+    let core = recorded.core();
+    (recorded.events().len(), core.version(), core.pending())
 }
 
 /// Whether the core took a turn for which there was memory.
-pub(crate) fn has_turned(core: &mut Core<ListLinks>) -> bool {
-    core.turn(true) != Turn::NoMemory
+pub(crate) fn has_turned(core: &mut Recorded<ListLinks>) -> bool {
+    !matches!(
+        core.turn(true),
+        RecordedTurn::NoMemory | RecordedTurn::NoRoom
+    )
 }
 
 // Gives what a core sent to a peer to that peer. A copy that is refused memory once is tried again, so that no message is lost.
 pub(crate) fn carry(
     alloc: Global,
-    from: &mut Core<ListLinks>,
-    to: &mut Core<ListLinks>,
+    from: &mut Recorded<ListLinks>,
+    to: &mut Recorded<ListLinks>,
 ) -> Result<(), AllocError> {
-    let (sender, peer) = (from.number(), to.number());
+    let (sender, peer) = (from.core().number(), to.core().number());
     for _ in 0..8 {
         if !from.mark_collected(peer) {
             return Ok(());
         }
-        let Some(bytes) = from.last_collected(peer) else {
+        let Some(bytes) = from.core().last_collected(peer) else {
             return Ok(());
         };
         if bytes.is_empty() || bytes.len() > 32832 {

@@ -2,12 +2,12 @@
 
 ghost use Rattle.std.specs.Prelude.{◌≤◌, ◌<◌, ℕ, All, List, length, IfOk};
 ghost use Rattle.core_join.specs.Machines.{IsMachine};
-ghost use Rattle.core_threads.specs.Booting.{AreGivable};
+ghost use Rattle.core_boot.specs.Booting.{AreGivable};
 
 use crate::facts::{equal, holds};
 use crate::words::{ALL, Told, is_for_memory, job, program, tells};
-use core_join::{conclude, merge};
-use core_loop::{Core, RingLinks};
+use core_join::{Recorded, conclude, merge};
+use core_loop::RingLinks;
 use core_threads::{BootFault, Ended, Free, Gate, Halt, Machine, RunFault, boot, run_machine};
 use rx_queue::Job;
 use std::alloc::{AllocError, Global};
@@ -70,7 +70,7 @@ fn worked_run<R: Abort + Threads + Wait + Clock + Sync>(
 
 // The last event of a core where that is a receipt: the job's number, and what is told.
 fn last_receipt(ended: &Ended, place: usize) -> Option<(u64, Told)> {
-    let last = ended.cores.get(place)?.history().last()?;
+    let last = ended.cores.get(place)?.events().last()?;
     match &last.done.event {
         Event::Rx { number, .. } => Some((*number, tells(&last.done.answer))),
         _ => None,
@@ -87,6 +87,7 @@ fn ends_as_worked(rt: &impl Abort, ended: &Ended, cores: usize) {
     equal(rt, ended.halted, None);
     equal(rt, ended.cores.len(), cores);
     for core in &ended.cores {
+        let core = core.core();
         equal(rt, (core.version(), core.pending()), (2, 0));
     }
     let received = Told::Delivered(2, 1, 7, 5);
@@ -228,7 +229,7 @@ fn run_within<R: Threads + Wait + Clock + Sync>(
 }
 
 // The list of what two cores did, or none where there was no memory for it.
-fn list_of(alloc: Global, cores: Vec<Core<RingLinks>>) -> Result<Vec<Done>, AllocError>
+fn list_of(alloc: Global, cores: Vec<Recorded<RingLinks>>) -> Result<Vec<Done>, AllocError>
     requires { (budget : ℕ) × (rest : List ℕ) × IsMachine budget rest cores.items }
 {
     merge(alloc, &conclude(alloc, cores)?)
@@ -244,7 +245,7 @@ fn ends_within<A: Abort>(rt: &A, alloc: Global, ended: Ended)
         halted,
     } = ended;
     if let Some((_, why)) = halted {
-        equal(rt, why, Halt::NoMemory);
+        holds(rt, matches!(why, Halt::NoMemory | Halt::NoRoom));
         drop((cores, left));
         return;
     }

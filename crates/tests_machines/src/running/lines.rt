@@ -5,7 +5,8 @@ ghost use Rattle.core_links.specs.RingSlots.{ring_view};
 ghost use Rattle.core_loop.specs.Standing.{IsSilent};
 
 use crate::facts::equal;
-use core_loop::{Cause, Core, LineFault, RingLinks, Turn};
+use core_join::{Recorded, RecordedTurn};
+use core_loop::{Cause, Core, LineFault, RingLinks};
 use rtrb::RingBuffer;
 use rx_queue::{Port, queue};
 use std::alloc::{AllocError, Global};
@@ -29,22 +30,27 @@ fn given_links(alloc: Global, heads: &[(u64, u64)]) -> Result<RingLinks, AllocEr
 }
 
 // That core, with the port of its queue.
-fn given_core(rt: &impl Abort, alloc: Global, heads: &[(u64, u64)]) -> (Core<RingLinks>, Port) {
+fn given_core(rt: &impl Abort, alloc: Global, heads: &[(u64, u64)]) -> (Recorded<RingLinks>, Port) {
     let (port, intake) = queue(alloc, 1).expect(rt, "there is memory");
     let links = given_links(alloc, heads).expect(rt, "there is memory");
     let core = Core::new(alloc, links, 100, 1, 2, VecDeque::new(alloc), intake);
-    (core.expect(rt, "there is memory"), port)
+    let core = core.expect(rt, "there is memory");
+    (Recorded::new(alloc, core), port)
 }
 
 // What two turns answer, and what the core has done and knows then.
-fn two_turns(core: &mut Core<RingLinks>) -> (Turn, Turn, u64, usize) {
+fn two_turns(core: &mut Recorded<RingLinks>) -> (RecordedTurn, RecordedTurn, u64, usize) {
     let first = core.turn(true);
     let second = core.turn(true);
-    (first, second, core.version(), core.history().len())
+    (first, second, core.core().version(), core.events().len())
 }
 
 // What two turns of that core come to.
-fn turns_at(rt: &impl Abort, alloc: Global, heads: &[(u64, u64)]) -> (Turn, Turn, u64, usize) {
+fn turns_at(
+    rt: &impl Abort,
+    alloc: Global,
+    heads: &[(u64, u64)],
+) -> (RecordedTurn, RecordedTurn, u64, usize) {
     let (mut core, port) = given_core(rt, alloc, heads);
     let found = two_turns(&mut core);
     drop((core, port));
@@ -65,7 +71,7 @@ static STOPS: [(&[(u64, u64)], Cause); 4] = [
 fn lines_that_stop_a_core(rt: HostRuntime) {
     for (heads, cause) in &STOPS {
         let found = turns_at(&rt, rt.alloc(), heads);
-        let stopped = Turn::Stopped(*cause);
+        let stopped = RecordedTurn::Stopped(*cause);
         equal(&rt, found, (stopped, stopped, 0, 0));
     }
 }

@@ -5,7 +5,8 @@ ghost use Rattle.std.specs.Prelude.{◌≤◌, vec_len};
 use super::{carry, core_of, creation, has_turned, place};
 use crate::facts::{equal, holds};
 use crate::words::{ALL, CAP, FILTER, Told, is_for_memory, job, program, tells};
-use core_loop::{Core, ListLinks, Stamped, Turn};
+use core_join::{Recorded, RecordedTurn};
+use core_loop::{Core, ListLinks, Stamped};
 use monitor_messages::{Message, Vote, encode};
 use rx_queue::{Port, queue};
 use std::alloc::{AllocError, Global};
@@ -26,11 +27,12 @@ fn installation(rt: &impl Abort, alloc: Global) -> VecDeque<Op> {
 }
 
 // Core 0 of two, which has both requests.
-fn core_0(rt: &impl Abort, alloc: Global, capacity: usize) -> (Core<ListLinks>, Port) {
+fn core_0(rt: &impl Abort, alloc: Global, capacity: usize) -> (Recorded<ListLinks>, Port) {
     let (port, intake) = queue(alloc, 4).expect(rt, "there is memory");
     let links = ListLinks::new(alloc, 0, 2, capacity).expect(rt, "there is memory");
     let core = Core::new(alloc, links, 100, 0, 2, installation(rt, alloc), intake);
-    (core.expect(rt, "there is memory"), port)
+    let core = core.expect(rt, "there is memory");
+    (Recorded::new(alloc, core), port)
 }
 
 // The history has just these stamps and answers.
@@ -58,7 +60,7 @@ static OTHER: [(u64, Told); 4] = [
 ];
 
 // A turn; one that is refused memory changes nothing, and the next is as the first would have been.
-fn sure_turn(rt: &impl Abort, core: &mut Core<ListLinks>) {
+fn sure_turn(rt: &impl Abort, core: &mut Recorded<ListLinks>) {
     let before = place(core);
     if !has_turned(core) {
         equal(rt, before, place(core));
@@ -70,8 +72,8 @@ fn sure_turn(rt: &impl Abort, core: &mut Core<ListLinks>) {
 fn run(
     rt: &impl Abort,
     alloc: Global,
-    first: &mut Core<ListLinks>,
-    other: &mut Core<ListLinks>,
+    first: &mut Recorded<ListLinks>,
+    other: &mut Recorded<ListLinks>,
 ) -> Result<(), AllocError> {
     for _ in 0..20 {
         sure_turn(rt, first);
@@ -83,29 +85,29 @@ fn run(
 }
 
 // The number of the job in front.
-fn front(core: &mut Core<ListLinks>) -> Option<u64> {
+fn front(core: &mut Recorded<ListLinks>) -> Option<u64> {
     core.look();
-    Some(core.seen()?.number)
+    Some(core.core().seen()?.number)
 }
 
 // The two commit, and core 1 receives the job that it can.
 fn commit_and_receive(
     rt: &impl Abort,
     alloc: Global,
-    first: &mut Core<ListLinks>,
-    other: &mut Core<ListLinks>,
+    first: &mut Recorded<ListLinks>,
+    other: &mut Recorded<ListLinks>,
 ) {
     run(rt, alloc, first, other).expect(rt, "there is memory");
-    has(rt, first.history(), &FIRST);
-    let (agreed, received) = other.history().split_at(other.history().len().min(4));
+    has(rt, first.events(), &FIRST);
+    let (agreed, received) = other.events().split_at(other.events().len().min(4));
     has(rt, agreed, &OTHER);
     has(rt, received, &[(10, Told::Delivered(2, 1, 7, 5))]);
-    holds(rt, first.idle() && other.idle());
+    holds(rt, first.core().idle() && other.core().idle());
     equal(rt, front(other), Some(2));
 }
 
 // Core 1 of two, with a job for version 2 and one for version 9.
-fn busy_core(rt: &impl Abort, alloc: Global) -> (Core<ListLinks>, Port) {
+fn busy_core(rt: &impl Abort, alloc: Global) -> (Recorded<ListLinks>, Port) {
     let (core, mut port) = core_of(rt, alloc, 1, 2, 8);
     for (number, floor) in [(1, 2), (2, 9)] {
         let job = job(alloc, number, floor).expect(rt, "there is memory");
@@ -123,14 +125,14 @@ fn two_cores_commit_and_receive(rt: HostRuntime) {
 }
 
 // Whether core 0 starts its request, is given this as core 1's, and then waits with it.
-fn waits_with(core: &mut Core<ListLinks>, message: Vec<u8>) -> bool
+fn waits_with(core: &mut Recorded<ListLinks>, message: Vec<u8>) -> bool
     requires length { (1 ≤ vec_len message) × (vec_len message ≤ 32832) }
 {
-    core.turn(true) == Turn::Did
-        && core.history().len() == 1
+    core.turn(true) == RecordedTurn::Did
+        && core.events().len() == 1
         && core.give(1, message).is_ok()
-        && core.turn(true) == Turn::Idle
-        && core.history().len() == 1
+        && core.turn(true) == RecordedTurn::Idle
+        && core.events().len() == 1
 }
 
 // A link of one message holds the Prepare, so core 0 could not send the Commit that answers the vote.
@@ -155,13 +157,19 @@ fn lacked_memory(history: &[Stamped]) -> bool {
 
 // Both cores come to be done and agree. They did what they do with ample memory, unless one of them voted, or decided, that there was
 // none.
-fn agree(rt: &impl Abort, alloc: Global, first: &mut Core<ListLinks>, other: &mut Core<ListLinks>) {
+fn agree(
+    rt: &impl Abort,
+    alloc: Global,
+    first: &mut Recorded<ListLinks>,
+    other: &mut Recorded<ListLinks>,
+) {
     run(rt, alloc, first, other).expect(rt, "there is memory");
-    holds(rt, first.idle() && other.idle() && first.pending() == 0);
-    equal(rt, first.version(), other.version());
-    if !lacked_memory(first.history()) && !lacked_memory(other.history()) {
-        has(rt, first.history(), &FIRST);
-        has(rt, other.history(), &OTHER);
+    holds(rt, first.core().idle() && other.core().idle());
+    equal(rt, first.core().pending(), 0);
+    equal(rt, first.core().version(), other.core().version());
+    if !lacked_memory(first.events()) && !lacked_memory(other.events()) {
+        has(rt, first.events(), &FIRST);
+        has(rt, other.events(), &OTHER);
     }
 }
 

@@ -1,7 +1,7 @@
 use Rattle.std.proofs.Common.{ℕ, List, [], ◌∷◌}
 use Rattle.std.proofs.lemmas.Result.{IfOk-at_ok}
 use Rattle.core_join.specs.Machines.{RingCore, IsMachine}
-use Rattle.core_threads.specs.Booting.{IsMachineOf}
+use Rattle.core_boot.specs.Booting.{IsMachineOf}
 use Rattle.tests_machines.proofs.threads.worked_run.Goals as goal
 
 -- cores that came up as a machine are one still, whatever keeps them so
