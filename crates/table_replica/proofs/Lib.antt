@@ -1,6 +1,6 @@
 pub mod Refusals
 pub mod Shared
-pub mod SamePrograms
+pub mod Trimming
 pub mod Moves
 pub mod Places
 pub mod Ordered

@@ -1,18 +1,19 @@
 //! Which endpoints get what which programs accept.
-ghost use Rattle.std.specs.Prelude.{◌≡◌, ◌==◌, ◌+◌, ◌<◌, ◌≤◌, ◌++◌, [], ◌∷◌, List, length, map, filter, min, not, IsTrue, ◌↔◌, IfOk, OnOk, None, replicate, slice_index_or};
+ghost use Rattle.std.specs.Prelude.{◌≡◌, ◌==◌, ◌+◌, ◌<◌, ◌≤◌, ◌++◌, [], ◌∷◌, List, length, map, filter, min, not, IsTrue, ◌↔◌, IfOk, OnOk, replicate, ℕ, Some, slice_get};
 ghost use Rattle.std.specs.List.{All, Contains};
 ghost use Rattle.std.specs.List.Sorted.{IsNonDecreasingBy};
 ghost use Rattle.table_replica.specs.declared.filters.Row.{Row as GhostRow};
 ghost use Rattle.table_replica.specs.declared.reaches.Reach.{Reach as GhostReach};
-ghost use Rattle.table_replica.specs.Keeping.{reach_of, IsLive, AreReaches, AreLost, moved_reach};
+ghost use Rattle.table_replica.specs.Keeping.{reach_of, IsLive, AreReaches, AreLost, lowered_reach, place_after};
 ghost use Rattle.filter_table.specs.Tables.{IsIncreasing};
-ghost use Rattle.table_replica.specs.Receiving.{raised, AreReached};
+ghost use Rattle.bpf_insn.specs.declared.insn.Insn.{Insn};
+ghost use Rattle.filter_group.specs.declared.lockstep.Hit.{Hit as AnyHit};
+ghost use Rattle.table_replica.specs.Receiving.{raised, AreReached, AreVerdicts, AreVerdictsSoFar};
 
 use crate::Kept;
 use crate::filters::Row;
-use crate::programs::Programs;
 use endpoint_caps::Caps;
-use filter_vm::run;
+use filter_group::{Hit, Lists, Programs};
 use std::alloc::{AllocError, Global};
 
 /// An endpoint and the place of a program: a filter for the endpoint has the program, and its capability is held.
@@ -124,57 +125,86 @@ fn is_live_without(reach: Reach, caps: &Caps, rows: &[Row], id: u32) -> bool
     false
 }
 
-/// The reaches, each program at its new place: of each old place the new one, counted from 1.
-pub(crate) fn moved_reaches(
+/// The reaches once the program at a place is taken out, which the last then gets.
+pub(crate) fn lowered_reaches(
     alloc: Global,
     reaches: &[Reach],
-    moved: &[usize],
+    taken: usize,
+    last: usize,
 ) -> Result<Vec<Reach>, AllocError>
-    requires inside { All (λ reach. reach.program < length moved.now) reaches.now }
-    requires placed { All (λ reach. 0 < slice_index_or moved.now reach.program 0) reaches.now }
-    ensures { IfOk result (λ after. after.items ≡ map (moved_reach moved.now) reaches.now) }
+    ensures { IfOk result (λ after. after.items ≡ map (lowered_reach taken last) reaches.now) }
 {
-    let mut after = Vec::with_capacity(alloc, reaches.len())?;
+    let mut after = Vec::with_capacity(alloc, reaches.len() + 1)?;
     for reach in reaches {
         after.push(Reach {
             endpoint: reach.endpoint,
-            program: moved[reach.program] - 1,
+            program: place_after(taken, last, reach.program),
         })?;
     }
     Ok(after)
 }
 
-/// No verdict yet for so many programs. Takes memory only where there were never so many.
-fn forget(verdicts: &mut Vec<Option<u32>>, count: usize) -> Result<(), AllocError>
-    ensures { OnOk result (verdicts.new.items ≡ replicate count None) }
+/// The place of a program once the one at a place is taken out, which the last then gets.
+pub(crate) fn place_after(taken: usize, last: usize, place: usize) -> usize
+    ensures { result ≡ place_after taken last place }
 {
-    verdicts.clear();
-    verdicts.resize(count, None)?;
+    if place == last { taken } else { place }
+}
+
+/// The verdict of each program. Takes memory only where there were never so many programs.
+fn verdicts_of(
+    programs: &Programs,
+    bytes: &[u8],
+    original: u32,
+    lists: &mut Lists,
+    verdicts: &mut Vec<u32>,
+) -> Result<(), AllocError>
+    ensures { OnOk result (AreVerdicts programs.now (record { bytes = bytes.now; original = original }) verdicts.new.items) }
+{
+    programs.run(lists, bytes, original)?;
+    forget(verdicts, programs.len())?;
+    note(&lists.hits, verdicts);
     Ok(())
 }
 
-/// The endpoints that get a packet, in increasing order, in place of what `kept` had. Each program that has a reach runs once, and its verdict
-/// is noted. Takes memory only where the lists are too short for the packet.
+/// Notes the verdicts of hits.
+fn note(hits: &[Hit], verdicts: &mut Vec<u32>)
+    requires { (i : ℕ) (hit : AnyHit) → slice_get hits.now i ≡ Some hit → (hit.member < length verdicts.old.items) × (0 < hit.verdict) }
+    ensures { (programs : List (List Insn)) → AreVerdictsSoFar programs hits.now 0 verdicts.old.items → AreVerdictsSoFar programs hits.now (length hits.now) verdicts.new.items }
+{
+    for hit in hits {
+        verdicts[hit.member] = hit.verdict;
+    }
+}
+
+/// Verdict 0 for so many programs.
+fn forget(verdicts: &mut Vec<u32>, count: usize) -> Result<(), AllocError>
+    ensures { OnOk result (verdicts.new.items ≡ replicate count 0) }
+{
+    verdicts.clear();
+    verdicts.resize(count, 0)?;
+    Ok(())
+}
+
+/// The endpoints that get a packet, in increasing order, in place of what `kept` had. Programs of one shape run together.
+/// Takes memory only where the lists are too short for the packet.
 pub(crate) fn receivers_with(
     reaches: &[Reach],
     programs: &Programs,
     bytes: &[u8],
     original: u32,
-    verdicts: &mut Vec<Option<u32>>,
+    lists: &mut Lists,
+    verdicts: &mut Vec<u32>,
     kept: &mut Vec<Kept>,
 ) -> Result<(), AllocError>
     requires placed { All (λ reach. reach.program < length programs.now) reaches.now }
     requires ordered { IsNonDecreasingBy (λ reach. reach.endpoint) reaches.now }
     ensures { OnOk result (AreReached programs.now reaches.now (record { bytes = bytes.now; original = original }) kept.new.items) }
 {
-    forget(verdicts, programs.len())?;
+    verdicts_of(programs, bytes, original, lists, verdicts)?;
     kept.clear();
     for reach in reaches {
-        let verdict = match verdicts[reach.program] {
-            Some(verdict) => verdict,
-            None => run(programs.at(reach.program).verified(), bytes, original).verdict,
-        };
-        verdicts[reach.program] = Some(verdict);
+        let verdict = verdicts[reach.program];
         if verdict > 0 {
             let most = (verdict as usize).min(bytes.len()) as u32;
             raise(kept, reach.endpoint, most)?;
@@ -183,7 +213,7 @@ pub(crate) fn receivers_with(
     Ok(())
 }
 
-/// The endpoints that get a packet, in increasing order. Each program that has a reach runs once.
+/// The endpoints that get a packet, in increasing order.
 pub(crate) fn receivers(
     alloc: Global,
     reaches: &[Reach],
@@ -195,9 +225,18 @@ pub(crate) fn receivers(
     requires ordered { IsNonDecreasingBy (λ reach. reach.endpoint) reaches.now }
     ensures { IfOk result (λ kept. AreReached programs.now reaches.now (record { bytes = bytes.now; original = original }) kept.items) }
 {
+    let mut lists = Lists::new(alloc);
     let mut verdicts = Vec::new(alloc);
     let mut kept = Vec::new(alloc);
-    receivers_with(reaches, programs, bytes, original, &mut verdicts, &mut kept)?;
+    receivers_with(
+        reaches,
+        programs,
+        bytes,
+        original,
+        &mut lists,
+        &mut verdicts,
+        &mut kept,
+    )?;
     Ok(kept)
 }
 
