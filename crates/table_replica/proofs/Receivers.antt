@@ -45,13 +45,13 @@ same_is e k same = grind (arith, nat_tests)
 not_same : (e : ℕ) (k : Kept) → k.endpoint < e → (k.endpoint == e) ≡ false
 not_same e k lt = grind (arith, nat_tests)
 
-raised-before : (k : Kept) (ks : List Kept) (e b : ℕ) → e < k.endpoint → raised (k ∷ ks) e b ≡ at_endpoint e b ∷ k ∷ ks
+pub raised-before : (k : Kept) (ks : List Kept) (e b : ℕ) → e < k.endpoint → raised (k ∷ ks) e b ≡ at_endpoint e b ∷ k ∷ ks
 raised-before k ks e b lt = rw (below_is e k lt) refl
 
 raised-here : (k : Kept) (ks : List Kept) (e b : ℕ) → k.endpoint ≡ e → raised (k ∷ ks) e b ≡ at_endpoint e (max k.kept b) ∷ ks
 raised-here k ks e b same = rw (not_below e k (omega (arith, same)), same_is e k same) refl
 
-raised-after : (k : Kept) (ks : List Kept) (e b : ℕ) → k.endpoint < e → raised (k ∷ ks) e b ≡ k ∷ raised ks e b
+pub raised-after : (k : Kept) (ks : List Kept) (e b : ℕ) → k.endpoint < e → raised (k ∷ ks) e b ≡ k ∷ raised ks e b
 raised-after k ks e b lt = rw (not_below e k (omega arith), not_same e k lt) refl
 
 -- the order
@@ -366,7 +366,7 @@ rises (k ∷ ks) d h zero (suc j) lt inside = first_rises j (omega arith) (λ i'
         by_list (m ∷ ms) (suc j) inside rest above = let more = rest 0 (suc j) (omega arith) inside in omega (arith, more, above)
 rises (k ∷ ks) d h (suc i) (suc j) lt inside = rises ks d (tail_increases k ks h) i j (omega arith) (omega arith)
 
-raised_found : (ks : List Kept) (d : Kept) (at e b : ℕ) → IsIncreasing ks → at < length ks → (get_or ks at d).endpoint ≡ e
+pub raised_found : (ks : List Kept) (d : Kept) (at e b : ℕ) → IsIncreasing ks → at < length ks → (get_or ks at d).endpoint ≡ e
     → set ks at (at_endpoint e (max (get_or ks at d).kept b)) ≡ raised ks e b
 raised_found [] d at e b h inside is = absurd (omega arith)
 raised_found (k ∷ ks) d zero e b h inside is = sym (raised-here k ks e b is)
@@ -444,7 +444,7 @@ one_noted programs hits index verdicts hit at above h = record {
   ];
 }
 
-verdict_ends : (program : List Insn) (packet : Packet) (verdict : ℕ) → EndsWith program packet verdict → IsVerdict program packet verdict
+pub verdict_ends : (program : List Insn) (packet : Packet) (verdict : ℕ) → EndsWith program packet verdict → IsVerdict program packet verdict
 verdict_ends program packet verdict e = record { steps = e.0; ends = e.1; only = λ other count f. (Ends-same program packet other count verdict e.0 f e.1).0 }
 
 pub all_noted : (programs : List (List Insn)) (packet : Packet) (hits : List Hit) (index : ℕ) (verdicts : List ℕ) → AreHits programs packet (length programs) hits → length hits ≤ index
@@ -471,7 +471,7 @@ all_noted programs packet hits index verdicts are all h = record {
 }
 
 module _ (programs : List (List Insn)) (packet : Packet) where
-  verdict_is : (reach : Reach) (verdict : ℕ) → reach.program < length programs → VerdictAt programs reach.program packet verdict → IsVerdict (filter_of programs reach).program packet verdict
+  pub verdict_is : (reach : Reach) (verdict : ℕ) → reach.program < length programs → VerdictAt programs reach.program packet verdict → IsVerdict (filter_of programs reach).program packet verdict
   verdict_is reach verdict inside known =
       let p = get_at programs reach.program inside in
       subst (λ (q : List Insn). IsVerdict q packet verdict) (sym (ap or_nothing p.1)) (known p.0 p.1)

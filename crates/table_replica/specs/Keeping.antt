@@ -10,7 +10,9 @@ use Rattle.bpf_insn.specs.declared.insn.Insn.{Insn}
 use Rattle.filter_table.specs.Listed.{ListedFilter}
 use Rattle.table_replica.specs.declared.filters.Row.{Row}
 use Rattle.table_replica.specs.declared.reaches.Reach.{Reach}
+use Rattle.table_replica.specs.declared.reaches.Chains.{Chains}
 use Rattle.table_replica.specs.declared.filters.Trimming.{Trimming}
+use Rattle.table_replica.specs.Chains.{AreChained}
 use Rattle.table_replica.specs.Distinct.{AreDistinct}
 use Rattle.table_replica.specs.Lent.{IsIn}
 use Rattle.filter_table.specs.Tables.{instructions_of}
@@ -59,9 +61,10 @@ pub record AreLost (caps : List Cap) (left gone : List Row) (lost : List Reach) 
   pub dead : (reach : Reach) → Contains lost reach → IsLive caps left reach → ⊥
   pub all : (row : Row) → Contains gone row → Contains lost (reach_of row) ⊎ IsLive caps left (reach_of row)
 
-pub record IsKept (caps : List Cap) (rows : List Row) (programs : List (List Insn)) (reaches : List Reach) (instructions : ℕ) : Type 0 where
+pub record IsKept (caps : List Cap) (rows : List Row) (programs : List (List Insn)) (reaches : List Reach) (chains : Chains) (instructions : ℕ) : Type 0 where
   pub shared : IsShared rows programs instructions
   pub reached : AreReaches caps rows reaches
+  pub chained : AreChained 0 reaches chains.first.items chains.next.items
 
 -- the capabilities of these filters are held under the one table just as under the other
 abbrev pub AreHeldAlike : CapTable → CapTable → List ListedFilter → Type 0

@@ -1,5 +1,6 @@
 pub mod Lent
 pub mod Distinct
+pub mod Chains
 pub mod Keeping
 pub mod Shown
 pub mod Replicas

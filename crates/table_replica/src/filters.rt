@@ -1,5 +1,6 @@
 //! The filters of a table.
 ghost use Rattle.std.specs.Prelude.{◌≡◌, ◌==◌, ◌+◌, ◌<◌, ◌≤◌, ◌++◌, [], ◌∷◌, length, filter, not, Some, slice_get, IfOk};
+ghost use Rattle.table_replica.specs.Chains.{AreChained};
 ghost use Rattle.table_replica.specs.Distinct.{AreDistinct};
 ghost use Rattle.table_replica.specs.Keeping.{Keeps, ArePlaced, AreReaches, AreHeldAlike, IsTrimming, IsUnused, lowered_row, sources, placed_row};
 ghost use Rattle.std.specs.Prelude.{List, MatchOption, ℕ};
@@ -18,8 +19,8 @@ ghost use Rattle.filter_table.specs.Tables.{AreReceivers};
 
 use crate::Kept;
 use crate::reaches::{
-    Reach, add_reach, all_reaches, lowered_reaches, place_after, reaches_and, reaches_without,
-    receivers, receivers_with,
+    Chains, Reach, add_reach, all_reaches, chained, lowered_reaches, place_after, reaches_and,
+    reaches_without, receivers, receivers_with,
 };
 use bpf_insn::Insn;
 use endpoint_caps::Caps;
@@ -81,6 +82,7 @@ pub(crate) struct Filters {
     programs: Programs,
     /// Of the filters whose capability is held.
     reaches: Vec<Reach>,
+    chains: Chains,
     instructions: u32,
     under: Snapshot<Caps>,
 }
@@ -94,7 +96,7 @@ impl Model for Filters {
 
     ghost view = { λ a. record { listed = map (listed_row a.programs) a.rows.items; under = a.under.value } };
 
-    ghost invariant = { λ a. IsKept a.under.value.held a.rows.items a.programs a.reaches.items a.instructions };
+    ghost invariant = { λ a. IsKept a.under.value.held a.rows.items a.programs a.reaches.items a.chains a.instructions };
 }
 
 impl Filters {
@@ -106,6 +108,7 @@ impl Filters {
             rows: Vec::new(alloc),
             programs: Programs::new(alloc),
             reaches: Vec::new(alloc),
+            chains: Chains::none(alloc),
             instructions: 0,
             under: Snapshot::of(caps),
         }
@@ -168,10 +171,11 @@ impl Filters {
             program,
         };
         match lists_and(alloc, &self.rows, &self.reaches, caps, row) {
-            Ok((rows, reaches)) => Ok(Filters {
+            Ok((rows, reaches, chains)) => Ok(Filters {
                 rows,
                 programs,
                 reaches,
+                chains,
                 instructions,
                 under: Snapshot::of(caps),
             }),
@@ -191,10 +195,12 @@ impl Filters {
         let rows = Vec::from_slice(alloc, &self.rows)?;
         let programs = self.programs.copy(alloc)?;
         let reaches = Vec::from_slice(alloc, &self.reaches)?;
+        let chains = chained(alloc, &reaches)?;
         Ok(Filters {
             rows,
             programs,
             reaches,
+            chains,
             instructions,
             under: Snapshot::of(caps),
         })
@@ -208,10 +214,12 @@ impl Filters {
         let rows = Vec::from_slice(alloc, &self.rows)?;
         let programs = self.programs.copy(alloc)?;
         let reaches = all_reaches(alloc, &self.rows, caps)?;
+        let chains = chained(alloc, &reaches)?;
         Ok(Filters {
             rows,
             programs,
             reaches,
+            chains,
             instructions,
             under: Snapshot::of(caps),
         })
@@ -226,7 +234,14 @@ impl Filters {
     ) -> Result<Vec<Kept>, AllocError>
         ensures { IfOk result (λ kept. AreReceivers self.now.under.held self.now.listed (record { bytes = bytes.now; original = original }) kept.items) }
     {
-        receivers(alloc, &self.reaches, &self.programs, bytes, original)
+        receivers(
+            alloc,
+            &self.reaches,
+            &self.chains,
+            &self.programs,
+            bytes,
+            original,
+        )
     }
 
     /// The same in place of what the scratch kept.
@@ -240,6 +255,7 @@ impl Filters {
     {
         receivers_with(
             &self.reaches,
+            &self.chains,
             &self.programs,
             bytes,
             original,
@@ -368,15 +384,17 @@ fn lists_and(
     reaches: &[Reach],
     caps: &Caps,
     row: Row,
-) -> Result<(Vec<Row>, Vec<Reach>), AllocError>
+) -> Result<(Vec<Row>, Vec<Reach>, Chains), AllocError>
     ensures rows { IfOk result (λ lists. lists.0.items ≡ rows.now ++ row ∷ []) }
     ensures reaches { IfOk result (λ lists. AreReaches caps.now.held rows.now reaches.now → AreReaches caps.now.held (rows.now ++ row ∷ []) lists.1.items) }
+    ensures chained { IfOk result (λ lists. AreChained 0 lists.1.items lists.2.first.items lists.2.next.items) }
 {
     let reaches = reaches_and(alloc, reaches, caps, &row)?;
+    let chains = chained(alloc, &reaches)?;
     let mut all = Vec::with_capacity(alloc, rows.len() + 1)?;
     all.extend_from_slice(rows)?;
     all.push(row)?;
-    Ok((all, reaches))
+    Ok((all, reaches, chains))
 }
 
 /// The rows but those of one filter.
@@ -457,10 +475,12 @@ fn rebuilt(
             reaches,
         },
     )?;
+    let chains = chained(alloc, &left.reaches)?;
     Ok(Filters {
         rows: left.rows,
         programs: left.programs,
         reaches: left.reaches,
+        chains,
         instructions,
         under: Snapshot::of(caps),
     })
@@ -554,14 +574,14 @@ fn lowered_rows(
 ) -> Result<Vec<Row>, AllocError>
     ensures { IfOk result (λ after. after.items ≡ map (lowered_row taken last) rows.now) }
 {
-    let mut after = Vec::with_capacity(alloc, rows.len() + 1)?;
+    let mut lowered = Vec::with_capacity(alloc, rows.len() + 1)?;
     for row in rows {
-        after.push(Row {
+        lowered.push(Row {
             program: place_after(taken, last, row.program),
             ..*row
         })?;
     }
-    Ok(after)
+    Ok(lowered)
 }
 
 /// The place of a program among those that are kept, where it goes last if it isn't there yet.

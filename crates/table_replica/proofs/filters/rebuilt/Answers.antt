@@ -3,6 +3,8 @@ use Rattle.endpoint_caps.specs.declared.Cap.{Cap}
 use Rattle.endpoint_caps.specs.Capabilities.{CapTable}
 use Rattle.filter_table.specs.Tables.{instructions_of}
 use Rattle.table_replica.specs.declared.filters.Row.{Row}
+use Rattle.table_replica.specs.declared.reaches.Reach.{Reach}
+use Rattle.table_replica.specs.Chains.{AreChained}
 use Rattle.table_replica.specs.Keeping.{AreReaches, listed_row}
 use Rattle.table_replica.proofs.Trimming.{trimmed_shared}
 use Rattle.table_replica.proofs.filters.rebuilt.Goals as goal
@@ -15,4 +17,5 @@ invariant_of-result c =
     record {
       shared = trimmed_shared c.args.caps.now.held listed c.in_ok-left.left c.total_of-instructions.result c.in_ok-left.ensures.trimmed total c.in_ok-left.ensures.used;
       reached = subst (λ (t : CapTable). AreReaches t.held c.in_ok-left.left.rows.items c.in_ok-left.left.reaches.items) (sym c.of.ensures) c.in_ok-left.ensures.trimmed.reached;
+      chained = subst (λ (rs : List Reach). AreChained 0 rs c.in_ok-chains.chains.first.items c.in_ok-chains.chains.next.items) c.deref.ensures.value c.in_ok-chains.ensures;
     }
