@@ -1,7 +1,6 @@
 pub mod Refusals
 pub mod Shared
-pub mod Trimming
-pub mod Chained
+pub mod SamePrograms
 pub mod Moves
 pub mod Places
 pub mod Ordered

@@ -1,6 +1,7 @@
 pub mod Lent
 pub mod Distinct
-pub mod Chains
+pub mod Fingerprints
+pub mod SamePrograms
 pub mod Keeping
 pub mod Shown
 pub mod Replicas

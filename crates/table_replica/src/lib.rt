@@ -6,6 +6,7 @@
 
 mod contents;
 mod filters;
+mod programs;
 mod reaches;
 mod replica;
 
