@@ -151,7 +151,9 @@ impl Replica {
     ) -> Result<(), AllocError>
         ensures { OnOk result (Accepting self.now.shown (record { bytes = bytes.now; original = original }) scratch.new.kept.items) }
     {
-        self.shown.filters().accepting_with(scratch, bytes, original)
+        self.shown
+            .filters()
+            .accepting_with(scratch, bytes, original)
     }
 
     /// What `stage` would answer, memory aside. Nothing changes. Memory is taken only to verify a program whose size,
