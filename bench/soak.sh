@@ -10,7 +10,7 @@ here=$(cd "$(dirname "$0")" && pwd)
 work=${1:-$(mktemp -d)}
 . "$here/crates.sh"
 build_program "$work" soak ' may_wait=3: seq bpf_insn pcap_reader endpoint_caps filter_table monitor_messages rx_queue table_replica world_events world_model world_core core_loop core_join core_boot core_threads' \
-    seq bpf_insn filter_verify filter_vm pcap_reader endpoint_caps filter_table table_replica rx_queue ump_ring monitor_messages \
+    seq bpf_insn filter_verify filter_vm filter_group pcap_reader endpoint_caps filter_table table_replica rx_queue ump_ring monitor_messages \
     monitor_2pc world_events world_model \
     world_histories core_steps ghost_log world_channels world_core core_links core_loop core_join core_boot core_threads
 "$work/crates/soak_bench/out/soak_bench" "${2:-10000}" "${3:-1}" | tee "$work/soak.txt"

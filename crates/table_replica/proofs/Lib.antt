@@ -1,6 +1,7 @@
 pub mod Refusals
 pub mod Shared
-pub mod SamePrograms
+pub mod Trimming
+pub mod Chained
 pub mod Moves
 pub mod Places
 pub mod Ordered

@@ -9,9 +9,8 @@ use Rattle.std.proofs.Math.ListN.{length-set}
 use Rattle.bpf_insn.specs.declared.insn.Insn.{Insn}
 use Rattle.filter_table.specs.Listed.{ListedFilter, FilterTable}
 use Rattle.table_replica.specs.declared.filters.Row.{Row}
-use Rattle.table_replica.specs.declared.filters.Rebuilding.{Rebuilding}
 use Rattle.table_replica.specs.Distinct.{AreDistinct}
-use Rattle.table_replica.specs.Keeping.{sources, listed_row, ArePlaced, Keeps, there, added, placed_row, AreMoved, MovesTo, before, now, IsShared, IsRebuilt}
+use Rattle.table_replica.specs.Keeping.{sources, listed_row, ArePlaced, Keeps, there, added, placed_row, IsShared}
 use Rattle.table_replica.specs.Lent.{IsIn}
 use Rattle.filter_table.specs.Tables.{instructions_of, replaced}
 use Rattle.filter_table.proofs.Lists.{fits_at, take_at, map-append', map-get}
@@ -77,114 +76,6 @@ distinct_push programs program distinct fresh i j p at at' = both (split program
 
 pub placed_more : (rows : List Row) (programs : List (List Insn)) (program : List Insn) → ArePlaced rows (length programs) → ArePlaced rows (length (programs ++ program ∷ []))
 placed_more rows programs program placed k row at = omega (arith, placed k row at, length-append programs (program ∷ []))
-
--- Moved programs
-
-module _ (from programs : List (List Insn)) (moved : List ℕ) (old : ℕ) (program : List Insn) (distinct : AreDistinct from) (h : AreMoved from programs moved) (at : slice_get from old ≡ Some program) where
-  same_some : (a b : List Insn) → Some a ≡ Some b → a ≡ b
-  same_some a b e = cc
-
-  pub not_moved : get_or moved old 0 ≡ 0 → IsIn programs program → ⊥
-  not_moved none has =
-      let source = h.back has.0 program has.1 in
-      let here : source.0 ≡ old = distinct source.0 old program source.2 at in
-      let number = ap (λ (p : ℕ). get_or moved p 0) here in
-      omega (arith, source.1, none, number)
-
-  pub moves_keep : (after : List (List Insn)) (moved' : List ℕ) (place : ℕ) → MovesTo programs moved old program after moved' place → Keeps programs program after place
-  moves_keep after moved' place (before is same same') = there same (h.to old place program is at)
-  moves_keep after moved' place (now none is same same') = added same is (not_moved none)
-
-  pub moves_on : (after : List (List Insn)) (moved' : List ℕ) (place : ℕ) → MovesTo programs moved old program after moved' place → AreMoved from after moved'
-  moves_on after moved' place (before is same same') = subst (λ (ps : List (List Insn)). AreMoved from ps moved') (sym same) (subst (AreMoved from programs) (sym same') h)
-  moves_on after moved' place (now none is same same') = subst (λ (ps : List (List Insn)). AreMoved from ps moved') (sym same) (subst (AreMoved from (programs ++ program ∷ [])) (sym same') (record {
-    to = to;
-    back = back;
-    room = omega (arith, h.room, length-set moved old (place + 1));
-  }))
-    where
-      inside : old < length moved
-      inside = let lt = within from old program at in omega (arith, h.room)
-
-      to : (p q : ℕ) (other : List Insn) → get_or (set moved old (place + 1)) p 0 ≡ q + 1 → slice_get from p ≡ Some other → slice_get (programs ++ program ∷ []) q ≡ Some other
-      to p q other is' at' = by_test (p == old) refl
-        where
-          by_test : (t : Bool) → (p == old) ≡ t → slice_get (programs ++ program ∷ []) q ≡ Some other
-          by_test true t =
-              let same_place : p ≡ old = grind (arith, nat_tests) in
-              let number : get_or (set moved old (place + 1)) p 0 ≡ place + 1 = ap (λ n. get_or (set moved old (place + 1)) n 0) same_place ∙ get_or-set_same moved old (place + 1) 0 inside in
-              let q_is : q ≡ length programs = omega (arith, is', number, is) in
-              let mine : program ≡ other = same_some program other (sym at ∙ (ap (slice_get from) (sym same_place) ∙ at')) in
-              ap (slice_get (programs ++ program ∷ [])) q_is ∙ (last programs program ∙ ap (λ (x : List Insn). Some x) mine)
-          by_test false t =
-              let differs : p ≢ old = grind (arith, nat_tests) in
-              get_front programs (program ∷ []) q other (h.to p q other (sym (get_or-set_other moved old p (place + 1) 0 differs) ∙ is') at')
-
-      back : (q : ℕ) (other : List Insn) → slice_get (programs ++ program ∷ []) q ≡ Some other → (p : ℕ) × (get_or (set moved old (place + 1)) p 0 ≡ q + 1) × (slice_get from p ≡ Some other)
-      back q other here = by_place (split programs program q other here)
-        where
-          by_place : (slice_get programs q ≡ Some other) ⊎ ((q ≡ length programs) × (program ≡ other)) → (p : ℕ) × (get_or (set moved old (place + 1)) p 0 ≡ q + 1) × (slice_get from p ≡ Some other)
-          by_place (inl earlier) =
-              let source = h.back q other earlier in
-              let differs : source.0 ≢ old = (λ same_place. let number = ap (λ (p : ℕ). get_or moved p 0) same_place in absurd (omega (arith, source.1, none, number))) in
-              (source.0, get_or-set_other moved old source.0 (place + 1) 0 differs ∙ source.1, source.2)
-          by_place (inr mine) = (old, get_or-set_same moved old (place + 1) 0 inside ∙ omega (arith, is, mine.0), at ∙ ap (λ (x : List Insn). Some x) mine.1)
-
--- the rows that are built have room for the next
-pub built_fits : (from programs : List (List Insn)) (rows done : List Row) (i total : ℕ) (row : Row) (program : List Insn) → slice_get rows i ≡ Some row → slice_get from row.program ≡ Some program
-    → total ≡ instructions_of (map (listed_row programs) done) → map (listed_row programs) done ≡ map (listed_row from) (take i rows)
-    → total + length program ≤ instructions_of (map (listed_row from) rows)
-built_fits from programs rows done i total row program at source sum same =
-    let fits = fits_at (map (listed_row from) rows) i (listed_row from row) (map-get (listed_row from) rows i row at) in
-    let front_is : instructions_of (take i (map (listed_row from) rows)) ≡ total = ap instructions_of (take_map i rows ∙ sym same) ∙ sym sum in
-    let long : length (listed_row from row).program ≡ length program = rw source refl in
-    omega (arith, fits, front_is, long)
-  where
-    take_map : (i : ℕ) (rs : List Row) → take i (map (listed_row from) rs) ≡ map (listed_row from) (take i rs)
-    take_map zero rs = refl
-    take_map (suc i) [] = refl
-    take_map (suc i) (r ∷ rs) = ap (λ l. listed_row from r ∷ l) (take_map i rs)
-
--- Nothing is built yet
-
-none_moved : (places p : ℕ) → ◌≡◌ {A = ℕ} (get_or (replicate places 0) p 0) 0
-none_moved zero p = refl
-none_moved (suc places) zero = refl
-none_moved (suc places) (suc p) = none_moved places p
-
-pub nothing_built : (from : List (List Insn)) (places : ℕ) (built : Rebuilding) → length from ≤ places → built.rows.items ≡ [] → built.programs ≡ [] → built.instructions ≡ 0 → built.moved.items ≡ replicate places 0
-    → IsRebuilt from [] built
-nothing_built from places built few rows programs instructions moved = record {
-  shared = rw (rows, programs, instructions) (record { total = refl; placed = λ k row at. absurd cc; distinct = λ i j program at at'. absurd cc; used = λ i lt. absurd (omega arith) });
-  moved = rw (programs, moved) (record {
-    to = λ p q program at is. absurd (omega (arith, none_moved places p));
-    back = λ q program at. absurd cc;
-    room = let none : ℕ = 0 in omega (arith, length-replicate places none);
-  });
-  same = rw rows refl;
-}
-
--- A row that is built again
-
-pub one_built : (from : List (List Insn)) (rows : List Row) (i place : ℕ) (row : Row) (program : List Insn) (built built' : Rebuilding)
-    → AreDistinct from → slice_get rows i ≡ Some row → slice_get from row.program ≡ Some program → IsRebuilt from (take i rows) built
-    → MovesTo built.programs built.moved.items row.program program built'.programs built'.moved.items place
-    → built'.rows.items ≡ built.rows.items ++ record row { program = place } ∷ [] → built'.instructions ≡ built.instructions + length program
-    → IsRebuilt from (take (i + 1) rows) built'
-one_built from rows i place row program built built' distinct at source h moves pushed counted = record {
-  shared = shared_after built.rows.items built.programs built.instructions program built'.programs (record row { program = place }) h.shared keeps built'.rows.items pushed built'.instructions counted;
-  moved = moves_on from built.programs built.moved.items row.program program distinct h.moved source built'.programs built'.moved.items place moves;
-  same = view_after built.rows.items built.programs built.instructions program built'.programs (record row { program = place }) h.shared keeps built'.rows.items pushed
-      ∙ (ap (λ (fs : List ListedFilter). fs ++ record { id = row.id; owner = row.owner; cap = row.cap; endpoint = row.endpoint; program = program } ∷ []) h.same
-      ∙ (rw source refl ∙ sym (ap (map (listed_row from)) (take_at rows i row at) ∙ map-append' (listed_row from) (take i rows) (row ∷ []))));
-}
-  where
-    keeps : Keeps built.programs program built'.programs place
-    keeps = moves_keep from built.programs built.moved.items row.program program distinct h.moved source built'.programs built'.moved.items place moves
-
-pub sources_few : (programs : List (List Insn)) (new : Option (List Insn)) → length (sources programs new) ≤ length programs + 1
-sources_few programs None = omega arith
-sources_few programs (Some program) = omega (arith, length-append programs (program ∷ []))
 
 -- The rows that are left, or replaced, as lists of their own
 

@@ -14,15 +14,14 @@ use Rattle.endpoint_caps.specs.declared.Cap.{Cap}
 use Rattle.endpoint_caps.specs.Capabilities.{CapTable, cap_at}
 use Rattle.table_replica.specs.declared.filters.Row.{Row}
 use Rattle.table_replica.specs.declared.reaches.Reach.{Reach}
-use Rattle.table_replica.specs.declared.filters.Rebuilding.{Rebuilding}
 use Rattle.table_replica.specs.contracts.reaches.ReachPartialEq.TheImpl.{eq-value}
 use Rattle.table_replica.specs.contracts.reaches.ReachOrd.TheImpl.{cmp-value}
 use Rattle.table_replica.specs.Distinct.{AreDistinct}
 use Rattle.filter_table.specs.Listed.{ListedFilter}
-use Rattle.table_replica.specs.Keeping.{or_nothing, listed_row, ArePlaced, AreMoved, reach_of, moved_reach, placed_row, IsLive, AreReaches, AreLost, AreHeldAlike, IsRebuilt}
+use Rattle.table_replica.specs.Keeping.{or_nothing, listed_row, ArePlaced, reach_of, placed_row, IsLive, AreReaches, AreLost, AreHeldAlike}
 use Rattle.filter_table.proofs.Lists.{never, in_head, in_tail, first_or_later, in_map, was_mapped, in_filter, from_filter, take_at, get_some}
 use Rattle.table_replica.proofs.Shared.{get_at}
-use Rattle.table_replica.proofs.Ordered.{reach_decides, reach_equivalence, dedup_ordered, moved_ordered, not_before}
+use Rattle.table_replica.proofs.Ordered.{reach_decides, reach_equivalence, dedup_ordered, not_before}
 
 pub any_is : (lost : List Reach) (r : Reach) → Decides (list_any (λ other. eq-value.it other r) lost) (Contains lost r)
 any_is [] r = (λ h. absurd cc, λ h. absurd (never r h))
@@ -248,69 +247,3 @@ module _ (caps : List Cap) where
       let low = placed live.listed.0 live.row (get_some rows live.listed.0 live.row live.listed.1 ∙ ap (λ (x : Row). Some x) live.listed.2) in
       let is = ap (λ (r : Reach). r.program) live.is in
       omega arith
-
-  module _ (from programs : List (List Insn)) (rows rows' : List Row) (moved : List ℕ) (distinct : AreDistinct from) (placed : ArePlaced rows (length from)) (placed' : ArePlaced rows' (length programs))
-      (m : AreMoved from programs moved) (same : map (listed_row programs) rows' ≡ map (listed_row from) rows) where
-    place_of : (ps : List (List Insn)) (rs : List Row) (row : Row) → ArePlaced rs (length ps) → Contains rs row → (p : List Insn) × (slice_get ps row.program ≡ Some p)
-    place_of ps rs row are at = get_at ps row.program (are at.0 row (get_some rs at.0 row at.1 ∙ ap (λ (x : Row). Some x) at.2))
-
-    moves : (row row' : Row) → Contains rows row → Contains rows' row' → listed_row programs row' ≡ listed_row from row → get_or moved row.program 0 ≡ row'.program + 1
-    moves row row' at at' e =
-        let old = place_of from rows row placed at in
-        let new = place_of programs rows' row' placed' at' in
-        let one : new.0 ≡ old.0 = sym (ap or_nothing new.1) ∙ (ap (λ (f : ListedFilter). f.program) e ∙ ap or_nothing old.1) in
-        let back = m.back row'.program new.0 new.1 in
-        ap (λ (n : ℕ). get_or moved n 0) (distinct row.program back.0 old.0 old.1 (back.2 ∙ ap (λ (x : List Insn). Some x) one)) ∙ back.1
-
-    new_row : (row : Row) → Contains rows row → (row' : Row) × Contains rows' row' × (listed_row programs row' ≡ listed_row from row)
-    new_row row at = was_mapped (listed_row programs) rows' (listed_row from row) (subst (λ (fs : List ListedFilter). Contains fs (listed_row from row)) (sym same) (in_map (listed_row from) rows row at))
-
-    old_row : (row' : Row) → Contains rows' row' → (row : Row) × Contains rows row × (listed_row from row ≡ listed_row programs row')
-    old_row row' at = was_mapped (listed_row from) rows (listed_row programs row') (subst (λ (fs : List ListedFilter). Contains fs (listed_row programs row')) same (in_map (listed_row programs) rows' row' at))
-
-    moved_is : (row row' : Row) → get_or moved row.program 0 ≡ row'.program + 1 → listed_row programs row' ≡ listed_row from row → reach_of row' ≡ moved_reach moved (reach_of row)
-    moved_is row row' number e = let endpoint = ap (λ (f : ListedFilter). f.endpoint) e in let program : row'.program ≡ get_or moved row.program 0 - 1 = omega arith in
-        λ j. record { endpoint = endpoint j; program = program j }
-
-    moved_inside : (reaches : List Reach) → AreReaches caps rows reaches → All (λ (r : Reach). r.program < length moved) reaches
-    moved_inside reaches h k d lt = omega (arith, reaches_placed rows reaches (length from) placed h k d lt, m.room)
-
-    moved_placed : (reaches : List Reach) → AreReaches caps rows reaches → All (λ (r : Reach). 0 < get_or moved r.program 0) reaches
-    moved_placed reaches h k d lt =
-        let live = (h.each (get_or reaches k d)).0 (Contains-get_or reaches k d lt) in
-        let new = new_row live.row live.listed in
-        let number = moves live.row new.0 live.listed new.1 new.2 in
-        subst (λ (r : Reach). 0 < get_or moved r.program 0) live.is (omega arith)
-
-    moved_reached : (reaches : List Reach) → AreReaches caps rows reaches → AreReaches caps rows' (map (moved_reach moved) reaches)
-    moved_reached reaches h = record { ordered = moved_ordered moved reaches h.ordered; each = λ r. (to r, back r) }
-      where
-        to : (r : Reach) → Contains (map (moved_reach moved) reaches) r → IsLive caps rows' r
-        to r at =
-            let old = was_mapped (moved_reach moved) reaches r at in
-            let live = (h.each old.0).0 old.1 in
-            let new = new_row live.row live.listed in
-            record {
-              row = new.0;
-              listed = new.1;
-              held = ap (λ (f : ListedFilter). is_none (cap_at caps f.cap)) new.2 ∙ live.held;
-              is = moved_is live.row new.0 (moves live.row new.0 live.listed new.1 new.2) new.2 ∙ (ap (moved_reach moved) live.is ∙ old.2);
-            }
-
-        back : (r : Reach) → IsLive caps rows' r → Contains (map (moved_reach moved) reaches) r
-        back r live =
-            let old = old_row live.row live.listed in
-            subst (Contains (map (moved_reach moved) reaches)) (sym (moved_is old.0 live.row (moves old.0 live.row old.1 live.listed (sym old.2)) (sym old.2)) ∙ live.is)
-            (in_map (moved_reach moved) reaches (reach_of old.0) ((h.each (reach_of old.0)).1 (record { row = old.0; listed = old.1; held = ap (λ (f : ListedFilter). is_none (cap_at caps f.cap)) old.2 ∙ live.held; is = refl })))
-
-  module _ (from : List (List Insn)) (rows : List Row) (built : Rebuilding) (distinct : AreDistinct from) (placed : ArePlaced rows (length from)) (h : IsRebuilt from rows built)
-      (reaches : List Reach) (are : AreReaches caps rows reaches) (moved : List ℕ) (is : moved ≡ built.moved.items) where
-    pub built_inside : All (λ (r : Reach). r.program < length moved) reaches
-    built_inside = subst (λ (ms : List ℕ). All (λ (r : Reach). r.program < length ms) reaches) (sym is) (moved_inside from built.programs rows built.rows.items built.moved.items distinct placed h.shared.placed h.moved h.same reaches are)
-
-    pub built_placed : All (λ (r : Reach). 0 < get_or moved r.program 0) reaches
-    built_placed = subst (λ (ms : List ℕ). All (λ (r : Reach). 0 < get_or ms r.program 0) reaches) (sym is) (moved_placed from built.programs rows built.rows.items built.moved.items distinct placed h.shared.placed h.moved h.same reaches are)
-
-    pub built_reached : (after : List Reach) → after ≡ map (moved_reach moved) reaches → AreReaches caps built.rows.items after
-    built_reached after e = subst (AreReaches caps built.rows.items) (sym (e ∙ ap (λ (ms : List ℕ). map (moved_reach ms) reaches) is))
-        (moved_reached from built.programs rows built.rows.items built.moved.items distinct placed h.shared.placed h.moved h.same reaches are)

@@ -1,5 +1,5 @@
 -- How the list of receivers grows, filter by filter.
-use Rattle.std.proofs.Common.{◌≡◌, ◌≢◌, ◌<◌, ◌≤◌, ◌+◌, ◌-◌, ◌==◌, ◌⊎◌, ◌↔◌, inl, inr, ℕ, zero, suc, true, false, Option, Some, is_none, List, [], ◌∷◌, ◌++◌, length, take, min, max, refl, ap, sym, ◌∙◌, subst, arith, ltb, Contains, get_or, set, map, slice_get}
+use Rattle.std.proofs.Common.{◌≡◌, ◌≢◌, ◌<◌, ◌≤◌, ◌+◌, ◌-◌, ◌==◌, ◌⊎◌, ◌↔◌, inl, inr, ℕ, zero, suc, true, false, Option, Some, is_none, List, [], ◌∷◌, ◌++◌, length, take, min, max, refl, ap, sym, ◌∙◌, subst, arith, ltb, Contains, get_or, set, map, slice_get, replicate}
 use Rattle.std.proofs.lemmas.Bool.Decides.{nat_tests}
 use Rattle.std.proofs.lemmas.List.Elements.{Contains-append_left, Contains-push, Contains-push_cases, Contains-get_or}
 use Rattle.bpf_insn.specs.declared.insn.Insn.{Insn}
@@ -9,7 +9,7 @@ use Rattle.bpf_insn.specs.Machine.{Packet, Ends}
 use Rattle.filter_table.specs.Listed.{ListedFilter}
 use Rattle.filter_table.specs.declared.delivery.Kept.{Kept}
 use Rattle.filter_table.specs.Tables.{Hands, Gets, AreReceivers, IsIncreasing}
-use Rattle.table_replica.specs.Receiving.{at_endpoint, raised, one_cap, filter_of, ReceiversSoFar, IsVerdict, VerdictAt, AreVerdicts, AreReached}
+use Rattle.table_replica.specs.Receiving.{at_endpoint, raised, one_cap, filter_of, ReceiversSoFar, IsVerdict, VerdictAt, AreVerdicts, AreVerdictsSoFar, AreReached}
 use Rattle.table_replica.specs.declared.filters.Row.{Row}
 use Rattle.table_replica.specs.declared.reaches.Reach.{Reach}
 use Rattle.table_replica.specs.Keeping.{listed_row, or_nothing, reach_of, AreReaches}
@@ -17,6 +17,16 @@ use Rattle.filter_table.proofs.Lists.{never, in_head, in_tail, first_or_later, w
 use Rattle.table_replica.proofs.Shared.{get_at}
 use Rattle.table_replica.proofs.Ordered.{below_last}
 use Rattle.std.specs.List.{All}
+use Rattle.std.proofs.lemmas.Bool.{cases_lt}
+use Rattle.std.proofs.lemmas.List.{length-replicate, get_or-replicate}
+use Rattle.std.proofs.lemmas.Option.{slice_get_within, get_or_from_slice_get}
+use Rattle.filter_vm.specs.Standing.{EndsWith}
+use Rattle.filter_vm.proofs.Unique.{Ends-same}
+use Rattle.filter_group.specs.declared.lockstep.Hit.{Hit}
+use Rattle.filter_group.specs.Together.{AreHits}
+use Rattle.filter_group.proofs.Edits.{contains_at, at_contains}
+use Rattle.filter_group.proofs.Indexed.{set_here}
+use Rattle.filter_group.proofs.Sides.{one_thing}
 use Rattle.std.specs.List.Sorted.{IsNonDecreasingBy}
 use Rattle.std.proofs.lemmas.List.Sorted.{IsNonDecreasingBy-take}
 use Rattle.std.proofs.Math.ListN.{length-set}
@@ -35,13 +45,13 @@ same_is e k same = grind (arith, nat_tests)
 not_same : (e : ℕ) (k : Kept) → k.endpoint < e → (k.endpoint == e) ≡ false
 not_same e k lt = grind (arith, nat_tests)
 
-raised-before : (k : Kept) (ks : List Kept) (e b : ℕ) → e < k.endpoint → raised (k ∷ ks) e b ≡ at_endpoint e b ∷ k ∷ ks
+pub raised-before : (k : Kept) (ks : List Kept) (e b : ℕ) → e < k.endpoint → raised (k ∷ ks) e b ≡ at_endpoint e b ∷ k ∷ ks
 raised-before k ks e b lt = rw (below_is e k lt) refl
 
 raised-here : (k : Kept) (ks : List Kept) (e b : ℕ) → k.endpoint ≡ e → raised (k ∷ ks) e b ≡ at_endpoint e (max k.kept b) ∷ ks
 raised-here k ks e b same = rw (not_below e k (omega (arith, same)), same_is e k same) refl
 
-raised-after : (k : Kept) (ks : List Kept) (e b : ℕ) → k.endpoint < e → raised (k ∷ ks) e b ≡ k ∷ raised ks e b
+pub raised-after : (k : Kept) (ks : List Kept) (e b : ℕ) → k.endpoint < e → raised (k ∷ ks) e b ≡ k ∷ raised ks e b
 raised-after k ks e b lt = rw (not_below e k (omega arith), not_same e k lt) refl
 
 -- the order
@@ -356,7 +366,7 @@ rises (k ∷ ks) d h zero (suc j) lt inside = first_rises j (omega arith) (λ i'
         by_list (m ∷ ms) (suc j) inside rest above = let more = rest 0 (suc j) (omega arith) inside in omega (arith, more, above)
 rises (k ∷ ks) d h (suc i) (suc j) lt inside = rises ks d (tail_increases k ks h) i j (omega arith) (omega arith)
 
-raised_found : (ks : List Kept) (d : Kept) (at e b : ℕ) → IsIncreasing ks → at < length ks → (get_or ks at d).endpoint ≡ e
+pub raised_found : (ks : List Kept) (d : Kept) (at e b : ℕ) → IsIncreasing ks → at < length ks → (get_or ks at d).endpoint ≡ e
     → set ks at (at_endpoint e (max (get_or ks at d).kept b)) ≡ raised ks e b
 raised_found [] d at e b h inside is = absurd (omega arith)
 raised_found (k ∷ ks) d zero e b h inside is = sym (raised-here k ks e b is)
@@ -386,16 +396,6 @@ earlier_all ks n e h long last d j lt = by_place (three j (n - 1))
 
 -- Endpoints and programs in place of filters
 
--- the verdict that a run gives is that of the program at its place
-pub run_verdict : (programs : List (List Insn)) (place : ℕ) (program : List Insn) (packet : Packet) (verdict steps : ℕ) → slice_get programs place ≡ Some program
-    → Ends program packet verdict steps → ((v s : ℕ) → Ends program packet v s → (v ≡ verdict) × (s ≡ steps)) → VerdictAt programs place packet verdict
-run_verdict programs place program packet verdict steps is ends only other at =
-    let same : program ≡ other = by_some (sym is ∙ at) in
-    subst (λ (p : List Insn). IsVerdict p packet verdict) same (record { steps = steps; ends = ends; only = λ v s e. (only v s e).0 })
-  where
-    by_some : Some program ≡ Some other → program ≡ other
-    by_some e = cc
-
 pub set_cases : {A : Type 0} (xs : List A) (i : ℕ) (y : A) (k : ℕ) (x : A) → slice_get (set xs i y) k ≡ Some x → ((k ≡ i) × (y ≡ x)) ⊎ (slice_get xs k ≡ Some x)
 set_cases [] i y k x h = inr h
 set_cases (z ∷ xs) zero y zero x h = inl (refl, cc)
@@ -407,20 +407,71 @@ set_cases (z ∷ xs) (suc i) y (suc k) x h = by_rest (set_cases xs i y k x h)
     by_rest (inl set_here) = inl (ap suc set_here.0, set_here.1)
     by_rest (inr kept) = inr kept
 
--- one more program has been run
-pub verdict_known : (programs : List (List Insn)) (packet : Packet) (verdicts : List (Option ℕ)) (place verdict : ℕ) → AreVerdicts programs packet verdicts → VerdictAt programs place packet verdict
-    → AreVerdicts programs packet (set verdicts place (Some verdict))
-verdict_known programs packet verdicts place verdict h known = record {
-  lengths = length-set verdicts place (Some verdict) ∙ h.lengths;
-  each = λ p v at. by_place p v (set_cases verdicts place (Some verdict) p (Some v) at);
+pub nothing_noted : (programs : List (List Insn)) (hits : List Hit) (verdicts : List ℕ) (count : ℕ) → count ≡ length programs → verdicts ≡ replicate count 0 → AreVerdictsSoFar programs hits 0 verdicts
+nothing_noted programs hits verdicts count long is = record {
+  lengths = ap (length {A = ℕ}) is ∙ (length-replicate {A = ℕ} count 0 ∙ long);
+  zero_yet = λ place at i hit below. absurd (omega arith);
+  noted = λ place verdict some at.
+      let low = slice_get_within verdicts place verdict at in
+      let inside : place < count = omega (arith, ap (length {A = ℕ}) is, length-replicate {A = ℕ} count 0) in
+      let found = get_or_from_slice_get (replicate count 0) place verdict 0 (subst (λ (xs : List ℕ). slice_get xs place ≡ Some verdict) is at) in
+      let none = get_or-replicate {A = ℕ} count place 0 0 inside in
+      absurd (omega arith);
 }
-  where
-    by_place : (p v : ℕ) → ((p ≡ place) × (Some verdict ≡ Some v)) ⊎ (slice_get verdicts p ≡ Some (Some v)) → VerdictAt programs p packet v
-    by_place p v (inl run) = let one : verdict ≡ v = cc in subst (λ (n : ℕ). VerdictAt programs n packet v) (sym run.0) (subst (VerdictAt programs place packet) one known)
-    by_place p v (inr before) = h.each p v before
+
+pub one_noted : (programs : List (List Insn)) (hits : List Hit) (index : ℕ) (verdicts : List ℕ) (hit : Hit) → slice_get hits index ≡ Some hit → 0 < hit.verdict → AreVerdictsSoFar programs hits index verdicts
+    → AreVerdictsSoFar programs hits (index + 1) (set verdicts hit.member hit.verdict)
+one_noted programs hits index verdicts hit at above h = record {
+  lengths = length-set verdicts hit.member hit.verdict ∙ h.lengths;
+  zero_yet = λ place at_place i other below at_other some is. elim (set_cases verdicts hit.member hit.verdict place 0 at_place) [
+    | inl mine ↦ let z = mine.1 in omega arith
+    | inr old ↦ elim (cases_lt i index) [
+      | inl early ↦ h.zero_yet place old i other early at_other some is
+      | inr late ↦
+          let here : i ≡ index = omega arith in
+          let same : other ≡ hit = one_thing hits index other hit (subst (λ (k : ℕ). slice_get hits k ≡ Some other) here at_other) at in
+          let member : hit.member ≡ place = sym (ap (λ (x : Hit). x.member) same) ∙ is in
+          let low = slice_get_within verdicts place 0 old in
+          let there = set_here verdicts hit.member hit.verdict (omega arith) in
+          let read = subst (λ (k : ℕ). slice_get (set verdicts hit.member hit.verdict) k ≡ Some 0) (sym member) at_place in
+          let z : hit.verdict ≡ 0 = one_thing (set verdicts hit.member hit.verdict) hit.member hit.verdict 0 there read in
+          omega arith
+    ]
+  ];
+  noted = λ place verdict some at_place. elim (set_cases verdicts hit.member hit.verdict place verdict at_place) [
+    | inl mine ↦ (index, hit, at, sym mine.0, mine.1)
+    | inr old ↦ h.noted place verdict some old
+  ];
+}
+
+pub verdict_ends : (program : List Insn) (packet : Packet) (verdict : ℕ) → EndsWith program packet verdict → IsVerdict program packet verdict
+verdict_ends program packet verdict e = record { steps = e.0; ends = e.1; only = λ other count f. (Ends-same program packet other count verdict e.0 f e.1).0 }
+
+pub all_noted : (programs : List (List Insn)) (packet : Packet) (hits : List Hit) (index : ℕ) (verdicts : List ℕ) → AreHits programs packet (length programs) hits → length hits ≤ index
+    → AreVerdictsSoFar programs hits index verdicts → AreVerdicts programs packet verdicts
+all_noted programs packet hits index verdicts are all h = record {
+  lengths = h.lengths;
+  each = λ place verdict at program at_program. elim (cases_lt 0 verdict) [
+    | inl some ↦
+        let n = h.noted place verdict some at in
+        let e = are.each n.1 (contains_at hits n.0 n.1 n.2) in
+        verdict_ends program packet verdict
+        (subst (EndsWith program packet) n.4 (e.2 program (subst (λ (k : ℕ). slice_get programs k ≡ Some program) (sym n.3) at_program)))
+    | inr none ↦
+        let zero : verdict ≡ 0 = omega arith in
+        elim (are.others place program (slice_get_within programs place program at_program) at_program) [
+          | inl found ↦
+              let was = at_contains hits found.0 found.1 in
+              let low = slice_get_within hits was.0 found.0 was.1 in
+              let above = (are.each found.0 found.1).1 in
+              absurd (h.zero_yet place (at ∙ ap (λ (v : ℕ). Some v) zero) was.0 found.0 (omega arith) was.1 above found.2)
+          | inr silent ↦ verdict_ends program packet verdict (subst (EndsWith program packet) (sym zero) silent)
+        ]
+  ];
+}
 
 module _ (programs : List (List Insn)) (packet : Packet) where
-  verdict_is : (reach : Reach) (verdict : ℕ) → reach.program < length programs → VerdictAt programs reach.program packet verdict → IsVerdict (filter_of programs reach).program packet verdict
+  pub verdict_is : (reach : Reach) (verdict : ℕ) → reach.program < length programs → VerdictAt programs reach.program packet verdict → IsVerdict (filter_of programs reach).program packet verdict
   verdict_is reach verdict inside known =
       let p = get_at programs reach.program inside in
       subst (λ (q : List Insn). IsVerdict q packet verdict) (sym (ap or_nothing p.1)) (known p.0 p.1)

@@ -10,7 +10,9 @@ use Rattle.bpf_insn.specs.declared.insn.Insn.{Insn}
 use Rattle.filter_table.specs.Listed.{ListedFilter}
 use Rattle.table_replica.specs.declared.filters.Row.{Row}
 use Rattle.table_replica.specs.declared.reaches.Reach.{Reach}
-use Rattle.table_replica.specs.declared.filters.Rebuilding.{Rebuilding}
+use Rattle.table_replica.specs.declared.reaches.Chains.{Chains}
+use Rattle.table_replica.specs.declared.filters.Trimming.{Trimming}
+use Rattle.table_replica.specs.Chains.{AreChained}
 use Rattle.table_replica.specs.Distinct.{AreDistinct}
 use Rattle.table_replica.specs.Lent.{IsIn}
 use Rattle.filter_table.specs.Tables.{instructions_of}
@@ -59,9 +61,10 @@ pub record AreLost (caps : List Cap) (left gone : List Row) (lost : List Reach) 
   pub dead : (reach : Reach) → Contains lost reach → IsLive caps left reach → ⊥
   pub all : (row : Row) → Contains gone row → Contains lost (reach_of row) ⊎ IsLive caps left (reach_of row)
 
-pub record IsKept (caps : List Cap) (rows : List Row) (programs : List (List Insn)) (reaches : List Reach) (instructions : ℕ) : Type 0 where
+pub record IsKept (caps : List Cap) (rows : List Row) (programs : List (List Insn)) (reaches : List Reach) (chains : Chains) (instructions : ℕ) : Type 0 where
   pub shared : IsShared rows programs instructions
   pub reached : AreReaches caps rows reaches
+  pub chained : AreChained 0 reaches chains.first.items chains.next.items
 
 -- the capabilities of these filters are held under the one table just as under the other
 abbrev pub AreHeldAlike : CapTable → CapTable → List ListedFilter → Type 0
@@ -78,23 +81,25 @@ sources programs (Some new) = programs ++ new ∷ []
 abbrev pub placed_row : ℕ → ℕ → Row → Row
 placed_row id place row = cond (row.id == id) (record row { program = place }) row
 
--- of each place in one list of programs the place in another, counted from 1; 0 where the program isn't there yet
-pub record AreMoved (from programs : List (List Insn)) (moved : List ℕ) : Type 0 where
-  pub to : (p q : ℕ) (program : List Insn) → slice_index_or moved p 0 ≡ q + 1 → slice_get from p ≡ Some program → slice_get programs q ≡ Some program
-  pub back : (q : ℕ) (program : List Insn) → slice_get programs q ≡ Some program → (p : ℕ) × (slice_index_or moved p 0 ≡ q + 1) × (slice_get from p ≡ Some program)
-  pub room : length from ≤ length moved
+-- Programs that no row has are taken out
 
--- a program was moved before, or it is now and goes last
-pub data MovesTo (programs : List (List Insn)) (moved : List ℕ) (old : ℕ) (program : List Insn) (programs' : List (List Insn)) (moved' : List ℕ) (place : ℕ) : Type 0 where
-  before : slice_index_or moved old 0 ≡ place + 1 → programs' ≡ programs → moved' ≡ moved → MovesTo programs moved old program programs' moved' place
-  now : slice_index_or moved old 0 ≡ 0 → place ≡ length programs → programs' ≡ programs ++ program ∷ [] → moved' ≡ slice_set moved old (place + 1) → MovesTo programs moved old program programs' moved' place
+-- the place of a program once the one at a place is taken out, which the last then gets
+abbrev pub place_after : ℕ → ℕ → ℕ → ℕ
+place_after taken last place = cond (place == last) taken place
 
--- what has been built shows these rows, and is kept as it should be
-pub record IsRebuilt (from : List (List Insn)) (rows : List Row) (built : Rebuilding) : Type 0 where
-  pub shared : IsShared built.rows.items built.programs built.instructions
-  pub moved : AreMoved from built.programs built.moved.items
-  pub same : map (listed_row built.programs) built.rows.items ≡ map (listed_row from) rows
+abbrev pub lowered_row : ℕ → ℕ → Row → Row
+lowered_row taken last row = record row { program = place_after taken last row.program }
 
--- the reach, its program at the new place
-abbrev pub moved_reach : List ℕ → Reach → Reach
-moved_reach moved reach = record reach { program = slice_index_or moved reach.program 0 - 1 }
+abbrev pub lowered_reach : ℕ → ℕ → Reach → Reach
+lowered_reach taken last reach = record reach { program = place_after taken last reach.program }
+
+-- no row has the program at this place
+abbrev pub IsUnused : List Row → ℕ → Type 0
+IsUnused rows place = (k : ℕ) (row : Row) → slice_get rows k ≡ Some row → row.program ≡ place → ⊥
+
+-- what is left shows these filters
+pub record IsTrimming (caps : List Cap) (listed : List ListedFilter) (left : Trimming) : Type 0 where
+  pub distinct : AreDistinct left.programs
+  pub placed : ArePlaced left.rows.items (length left.programs)
+  pub reached : AreReaches caps left.rows.items left.reaches.items
+  pub same : map (listed_row left.programs) left.rows.items ≡ listed

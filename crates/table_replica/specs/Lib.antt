@@ -1,7 +1,6 @@
 pub mod Lent
 pub mod Distinct
-pub mod Fingerprints
-pub mod SamePrograms
+pub mod Chains
 pub mod Keeping
 pub mod Shown
 pub mod Replicas

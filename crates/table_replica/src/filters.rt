@@ -1,10 +1,12 @@
 //! The filters of a table.
 ghost use Rattle.std.specs.Prelude.{◌≡◌, ◌==◌, ◌+◌, ◌<◌, ◌≤◌, ◌++◌, [], ◌∷◌, length, filter, not, Some, slice_get, IfOk};
+ghost use Rattle.table_replica.specs.Chains.{AreChained};
 ghost use Rattle.table_replica.specs.Distinct.{AreDistinct};
-ghost use Rattle.table_replica.specs.Keeping.{Keeps, ArePlaced, AreReaches, AreHeldAlike, MovesTo, IsRebuilt, sources, placed_row};
-ghost use Rattle.std.specs.Prelude.{List, take, slice_set, slice_index_or};
+ghost use Rattle.table_replica.specs.Keeping.{Keeps, ArePlaced, AreReaches, AreHeldAlike, IsTrimming, IsUnused, lowered_row, sources, placed_row};
+ghost use Rattle.std.specs.Prelude.{List, MatchOption, ℕ};
+ghost use Rattle.endpoint_caps.specs.declared.Cap.{Cap};
+ghost use Rattle.filter_table.specs.Listed.{ListedFilter};
 ghost use Rattle.std.specs.Option.{option_copied};
-ghost use Rattle.bpf_insn.specs.declared.insn.Insn.{Insn as GhostInsn};
 ghost use Rattle.table_replica.specs.declared.filters.Row.{Row as GhostRow};
 ghost use Rattle.table_replica.specs.Lent.{shown_filter, IsIn, AreDifferent};
 ghost use Rattle.filter_table.specs.Tables.{instructions_of, replaced, filter_at};
@@ -16,13 +18,13 @@ ghost use Rattle.table_replica.specs.Keeping.{listed_row};
 ghost use Rattle.filter_table.specs.Tables.{AreReceivers};
 
 use crate::Kept;
-use crate::programs::{Programs, Shared};
 use crate::reaches::{
-    Reach, add_reach, all_reaches, moved_reaches, reaches_and, reaches_without, receivers,
-    receivers_with,
+    Chains, Reach, add_reach, all_reaches, chained, lowered_reaches, place_after, reaches_and,
+    reaches_without, receivers, receivers_with,
 };
 use bpf_insn::Insn;
 use endpoint_caps::Caps;
+use filter_group::{Lists, Programs, Shared};
 use filter_verify::Verified;
 use std::alloc::{AllocError, Global};
 use std::marker::Model;
@@ -46,7 +48,8 @@ pub struct Filter<'a> {
 /// Lists that are used again from packet to packet, so that a receipt takes no memory once they are long enough.
 #[derive(Drop)]
 pub struct Scratch {
-    verdicts: Vec<Option<u32>>,
+    lists: Lists,
+    verdicts: Vec<u32>,
     /// The endpoints that get the packet, once it is received.
     pub kept: Vec<Kept>,
 }
@@ -55,6 +58,7 @@ impl Scratch {
     /// Empty lists.
     pub fn new(alloc: Global) -> Scratch {
         Scratch {
+            lists: Lists::new(alloc),
             verdicts: Vec::new(alloc),
             kept: Vec::new(alloc),
         }
@@ -78,6 +82,7 @@ pub(crate) struct Filters {
     programs: Programs,
     /// Of the filters whose capability is held.
     reaches: Vec<Reach>,
+    chains: Chains,
     instructions: u32,
     under: Snapshot<Caps>,
 }
@@ -91,7 +96,7 @@ impl Model for Filters {
 
     ghost view = { λ a. record { listed = map (listed_row a.programs) a.rows.items; under = a.under.value } };
 
-    ghost invariant = { λ a. IsKept a.under.value.held a.rows.items a.programs a.reaches.items a.instructions };
+    ghost invariant = { λ a. IsKept a.under.value.held a.rows.items a.programs a.reaches.items a.chains a.instructions };
 }
 
 impl Filters {
@@ -103,6 +108,7 @@ impl Filters {
             rows: Vec::new(alloc),
             programs: Programs::new(alloc),
             reaches: Vec::new(alloc),
+            chains: Chains::none(alloc),
             instructions: 0,
             under: Snapshot::of(caps),
         }
@@ -165,10 +171,11 @@ impl Filters {
             program,
         };
         match lists_and(alloc, &self.rows, &self.reaches, caps, row) {
-            Ok((rows, reaches)) => Ok(Filters {
+            Ok((rows, reaches, chains)) => Ok(Filters {
                 rows,
                 programs,
                 reaches,
+                chains,
                 instructions,
                 under: Snapshot::of(caps),
             }),
@@ -188,10 +195,12 @@ impl Filters {
         let rows = Vec::from_slice(alloc, &self.rows)?;
         let programs = self.programs.copy(alloc)?;
         let reaches = Vec::from_slice(alloc, &self.reaches)?;
+        let chains = chained(alloc, &reaches)?;
         Ok(Filters {
             rows,
             programs,
             reaches,
+            chains,
             instructions,
             under: Snapshot::of(caps),
         })
@@ -205,10 +214,12 @@ impl Filters {
         let rows = Vec::from_slice(alloc, &self.rows)?;
         let programs = self.programs.copy(alloc)?;
         let reaches = all_reaches(alloc, &self.rows, caps)?;
+        let chains = chained(alloc, &reaches)?;
         Ok(Filters {
             rows,
             programs,
             reaches,
+            chains,
             instructions,
             under: Snapshot::of(caps),
         })
@@ -223,7 +234,14 @@ impl Filters {
     ) -> Result<Vec<Kept>, AllocError>
         ensures { IfOk result (λ kept. AreReceivers self.now.under.held self.now.listed (record { bytes = bytes.now; original = original }) kept.items) }
     {
-        receivers(alloc, &self.reaches, &self.programs, bytes, original)
+        receivers(
+            alloc,
+            &self.reaches,
+            &self.chains,
+            &self.programs,
+            bytes,
+            original,
+        )
     }
 
     /// The same in place of what the scratch kept.
@@ -237,9 +255,11 @@ impl Filters {
     {
         receivers_with(
             &self.reaches,
+            &self.chains,
             &self.programs,
             bytes,
             original,
+            &mut scratch.lists,
             &mut scratch.verdicts,
             &mut scratch.kept,
         )
@@ -364,15 +384,17 @@ fn lists_and(
     reaches: &[Reach],
     caps: &Caps,
     row: Row,
-) -> Result<(Vec<Row>, Vec<Reach>), AllocError>
+) -> Result<(Vec<Row>, Vec<Reach>, Chains), AllocError>
     ensures rows { IfOk result (λ lists. lists.0.items ≡ rows.now ++ row ∷ []) }
     ensures reaches { IfOk result (λ lists. AreReaches caps.now.held rows.now reaches.now → AreReaches caps.now.held (rows.now ++ row ∷ []) lists.1.items) }
+    ensures chained { IfOk result (λ lists. AreChained 0 lists.1.items lists.2.first.items lists.2.next.items) }
 {
     let reaches = reaches_and(alloc, reaches, caps, &row)?;
+    let chains = chained(alloc, &reaches)?;
     let mut all = Vec::with_capacity(alloc, rows.len() + 1)?;
     all.extend_from_slice(rows)?;
     all.push(row)?;
-    Ok((all, reaches))
+    Ok((all, reaches, chains))
 }
 
 /// The rows but those of one filter.
@@ -416,14 +438,12 @@ fn rows_with(
     Ok(after)
 }
 
-/// What has been built of filters whose programs had other places.
+/// What is left of filters while programs that no row has are taken out.
 #[derive(Drop)]
-struct Rebuilding {
+struct Trimming {
     rows: Vec<Row>,
     programs: Programs,
-    instructions: u32,
-    /// Of each old place the new one, counted from 1; 0 where no row so far has the program.
-    moved: Vec<usize>,
+    reaches: Vec<Reach>,
 }
 
 /// The filters of these rows, whose programs have places among `programs` and, after them, `new`. A program that no row has
@@ -442,102 +462,126 @@ fn rebuilt(
     requires reached { AreReaches caps.now.held rows.now reaches.now }
     ensures { IfOk result (λ filters. filters ≡ record { listed = map (listed_row (sources programs.now (option_copied new.entry))) rows.now; under = caps.now }) }
 {
-    let moved = vec![in alloc; 0; programs.len() + 1]?;
-    let mut built = Rebuilding {
-        rows: Vec::with_capacity(alloc, rows.len())?,
-        programs: Programs::new(alloc),
-        instructions: 0,
-        moved,
-    };
-    for index in 0..rows.len() {
-        built = with_moved(built, rows, index, programs, new)?;
-    }
-    let reaches = match moved_reaches(alloc, reaches, &built.moved) {
-        Ok(reaches) => reaches,
-        Err(error) => {
-            drop(built);
-            return Err(error);
-        }
-    };
+    let programs = with_source(alloc, programs, new)?;
+    let instructions = total_of(rows, &programs);
+    let rows = Vec::from_slice(alloc, rows)?;
+    let reaches = Vec::from_slice(alloc, reaches)?;
+    let left = trimmed(
+        alloc,
+        caps,
+        Trimming {
+            rows,
+            programs,
+            reaches,
+        },
+    )?;
+    let chains = chained(alloc, &left.reaches)?;
     Ok(Filters {
-        rows: built.rows,
-        programs: built.programs,
-        reaches,
-        instructions: built.instructions,
+        rows: left.rows,
+        programs: left.programs,
+        reaches: left.reaches,
+        chains,
+        instructions,
         under: Snapshot::of(caps),
     })
 }
 
-/// One more of the rows, with its program.
-fn with_moved(
-    built: Rebuilding,
-    rows: &[Row],
-    index: usize,
-    old: &Programs,
+/// The programs, and one more if there is one.
+fn with_source(
+    alloc: Global,
+    programs: &Programs,
     new: Option<&Shared>,
-) -> Result<Rebuilding, AllocError>
-    requires index { index < length rows.now }
-    requires built { IsRebuilt (sources old.now (option_copied new)) (take index rows.now) built }
-    requires distinct { AreDistinct (sources old.now (option_copied new)) }
-    requires placed { ArePlaced rows.now (length (sources old.now (option_copied new))) }
-    requires fits { instructions_of (map (listed_row (sources old.now (option_copied new))) rows.now) < 4294967296 }
-    ensures { IfOk result (λ after. IsRebuilt (sources old.now (option_copied new.entry)) (take (index + 1) rows.now) after) }
+) -> Result<Programs, AllocError>
+    ensures { IfOk result (λ all. all ≡ sources programs.now (option_copied new.entry)) }
 {
-    let Rebuilding {
-        rows: mut done,
+    match new {
+        None => programs.copy(alloc),
+        Some(program) => programs.with(alloc, program),
+    }
+}
+
+/// The instructions of all rows.
+fn total_of(rows: &[Row], programs: &Programs) -> u32
+    requires placed { ArePlaced rows.now (length programs.now) }
+    requires fits { instructions_of (map (listed_row programs.now) rows.now) < 4294967296 }
+    ensures { result ≡ instructions_of (map (listed_row programs.now) rows.now) }
+{
+    let mut total = 0;
+    for row in rows {
+        let code = programs.at(row.program).verified().code();
+        total += code.len() as u32;
+    }
+    total
+}
+
+/// What is left once each program that no row has is taken out.
+fn trimmed(alloc: Global, caps: &Caps, mut left: Trimming) -> Result<Trimming, AllocError>
+    requires distinct { AreDistinct left.programs }
+    requires placed { ArePlaced left.rows.items (length left.programs) }
+    requires reached { AreReaches caps.now.held left.rows.items left.reaches.items }
+    ensures trimmed { IfOk result (λ after. IsTrimming caps.now.held (map (listed_row left.programs) left.rows.items) after) }
+    ensures used { IfOk result (λ after. (place : ℕ) → place < length after.programs → IsUnused after.rows.items place → ⊥) }
+{
+    'trim: loop {
+        match unused(alloc, &left.rows, left.programs.len())? {
+            None => return Ok(left),
+            Some(place) => left = lowered(alloc, &left, place)?,
+        }
+    }
+}
+
+/// A place below a number at which no row has its program.
+fn unused(alloc: Global, rows: &[Row], count: usize) -> Result<Option<usize>, AllocError>
+    requires { ArePlaced rows.now count }
+    ensures { IfOk result (λ found. MatchOption found ((place : ℕ) → place < count → IsUnused rows.now place → ⊥) (λ place. (place < count) × IsUnused rows.now place)) }
+{
+    let mut used = vec![in alloc; false; count]?;
+    for row in rows {
+        used[row.program] = true;
+    }
+    for place in 0..count {
+        if !used[place] {
+            return Ok(Some(place));
+        }
+    }
+    Ok(None)
+}
+
+/// What is left once one program that no row has is taken out.
+fn lowered(alloc: Global, left: &Trimming, taken: usize) -> Result<Trimming, AllocError>
+    requires inside { taken < length left.now.programs }
+    requires unused { IsUnused left.now.rows.items taken }
+    ensures fewer { IfOk result (λ after. length after.programs + 1 ≡ length left.now.programs) }
+    ensures left { IfOk result (λ after. (caps : List Cap) (listed : List ListedFilter) → IsTrimming caps listed left.now → IsTrimming caps listed after) }
+{
+    let programs = left.programs.without(alloc, taken)?;
+    let last = programs.len();
+    let rows = lowered_rows(alloc, &left.rows, taken, last)?;
+    let reaches = lowered_reaches(alloc, &left.reaches, taken, last)?;
+    Ok(Trimming {
+        rows,
         programs,
-        instructions,
-        moved,
-    } = built;
-    let row = rows[index];
-    let program = source(old, new, row.program);
-    let (programs, moved, place) = move_to(programs, moved, row.program, program)?;
-    let instructions = instructions + program.verified().code().len() as u32;
-    done.push(Row {
-        program: place,
-        ..row
-    })?;
-    Ok(Rebuilding {
-        rows: done,
-        programs,
-        instructions,
-        moved,
+        reaches,
     })
 }
 
-/// The program at a place.
-fn source<'a>(programs: &'a Programs, new: Option<&'a Shared>, place: usize) -> &'a Shared
-    requires { place < length (sources programs.now (option_copied new)) }
-    ensures { slice_get (sources programs.now (option_copied new.entry)) place ≡ Some result.now }
+/// The rows once the program at a place is taken out, which the last then gets.
+fn lowered_rows(
+    alloc: Global,
+    rows: &[Row],
+    taken: usize,
+    last: usize,
+) -> Result<Vec<Row>, AllocError>
+    ensures { IfOk result (λ after. after.items ≡ map (lowered_row taken last) rows.now) }
 {
-    if place < programs.len() {
-        return programs.at(place);
+    let mut lowered = Vec::with_capacity(alloc, rows.len() + 1)?;
+    for row in rows {
+        lowered.push(Row {
+            program: place_after(taken, last, row.program),
+            ..*row
+        })?;
     }
-    match new {
-        Some(program) => program,
-        None => unreachable!(),
-    }
-}
-
-/// The new place of a program, which goes last where it has none yet.
-fn move_to(
-    mut programs: Programs,
-    mut moved: Vec<usize>,
-    old: usize,
-    program: &Shared,
-) -> Result<(Programs, Vec<usize>, usize), AllocError>
-    requires old { old < length moved.items }
-    requires new { slice_index_or moved.items old 0 ≡ 0 → IsIn programs program.now → ⊥ }
-    ensures { IfOk result (λ r. MovesTo programs moved.items old program.now r.0 r.1.items r.2) }
-{
-    if moved[old] > 0 {
-        let place = moved[old] - 1;
-        return Ok((programs, moved, place));
-    }
-    let place = programs.len();
-    programs.push(program.share()?)?;
-    moved[old] = programs.len();
-    Ok((programs, moved, place))
+    Ok(lowered)
 }
 
 /// The place of a program among those that are kept, where it goes last if it isn't there yet.
@@ -550,6 +594,7 @@ fn keep(alloc: Global, programs: &mut Programs, program: &Verified) -> Result<us
         return Ok(place);
     }
     let place = programs.len();
-    programs.push(program)?;
+    let all = programs.with(alloc, &program)?;
+    *programs = all;
     Ok(place)
 }

@@ -6,7 +6,6 @@
 
 mod contents;
 mod filters;
-mod programs;
 mod reaches;
 mod replica;
 

@@ -1,18 +1,23 @@
 //! Which endpoints get what which programs accept.
-ghost use Rattle.std.specs.Prelude.{◌≡◌, ◌==◌, ◌+◌, ◌<◌, ◌≤◌, ◌++◌, [], ◌∷◌, List, length, map, filter, min, not, IsTrue, ◌↔◌, IfOk, OnOk, None, replicate, slice_index_or};
+ghost use Rattle.std.specs.Prelude.{◌≡◌, ◌==◌, ◌+◌, ◌<◌, ◌≤◌, ◌++◌, [], ◌∷◌, List, length, map, filter, min, not, IsTrue, ◌↔◌, IfOk, OnOk, MatchOption, replicate, ℕ, Some, slice_get};
 ghost use Rattle.std.specs.List.{All, Contains};
 ghost use Rattle.std.specs.List.Sorted.{IsNonDecreasingBy};
 ghost use Rattle.table_replica.specs.declared.filters.Row.{Row as GhostRow};
 ghost use Rattle.table_replica.specs.declared.reaches.Reach.{Reach as GhostReach};
-ghost use Rattle.table_replica.specs.Keeping.{reach_of, IsLive, AreReaches, AreLost, moved_reach};
+ghost use Rattle.table_replica.specs.Keeping.{reach_of, IsLive, AreReaches, AreLost, lowered_reach, place_after};
 ghost use Rattle.filter_table.specs.Tables.{IsIncreasing};
-ghost use Rattle.table_replica.specs.Receiving.{raised, AreReached};
+ghost use Rattle.filter_table.specs.declared.delivery.Kept.{Kept as GhostKept};
+ghost use Rattle.table_replica.specs.Chains.{AreChained};
+ghost use Rattle.bpf_insn.specs.declared.insn.Insn.{Insn};
+ghost use Rattle.bpf_insn.specs.Machine.{Packet};
+ghost use Rattle.filter_group.specs.Together.{AreHits};
+ghost use Rattle.filter_group.specs.declared.lockstep.Hit.{Hit as AnyHit};
+ghost use Rattle.table_replica.specs.Receiving.{raised, at_endpoint, Accepts, AreReached, AreReceiversOf, AreVerdictsSoFar, HasHit, HasOr};
 
 use crate::Kept;
 use crate::filters::Row;
-use crate::programs::Programs;
 use endpoint_caps::Caps;
-use filter_vm::run;
+use filter_group::{Hit, Lists, Programs};
 use std::alloc::{AllocError, Global};
 
 /// An endpoint and the place of a program: a filter for the endpoint has the program, and its capability is held.
@@ -124,57 +129,276 @@ fn is_live_without(reach: Reach, caps: &Caps, rows: &[Row], id: u32) -> bool
     false
 }
 
-/// The reaches, each program at its new place: of each old place the new one, counted from 1.
-pub(crate) fn moved_reaches(
+/// The reaches once the program at a place is taken out, which the last then gets.
+pub(crate) fn lowered_reaches(
     alloc: Global,
     reaches: &[Reach],
-    moved: &[usize],
+    taken: usize,
+    last: usize,
 ) -> Result<Vec<Reach>, AllocError>
-    requires inside { All (λ reach. reach.program < length moved.now) reaches.now }
-    requires placed { All (λ reach. 0 < slice_index_or moved.now reach.program 0) reaches.now }
-    ensures { IfOk result (λ after. after.items ≡ map (moved_reach moved.now) reaches.now) }
+    ensures { IfOk result (λ after. after.items ≡ map (lowered_reach taken last) reaches.now) }
 {
-    let mut after = Vec::with_capacity(alloc, reaches.len())?;
+    let mut after = Vec::with_capacity(alloc, reaches.len() + 1)?;
     for reach in reaches {
         after.push(Reach {
             endpoint: reach.endpoint,
-            program: moved[reach.program] - 1,
+            program: place_after(taken, last, reach.program),
         })?;
     }
     Ok(after)
 }
 
-/// No verdict yet for so many programs. Takes memory only where there were never so many.
-fn forget(verdicts: &mut Vec<Option<u32>>, count: usize) -> Result<(), AllocError>
-    ensures { OnOk result (verdicts.new.items ≡ replicate count None) }
+/// The place of a program once the one at a place is taken out, which the last then gets.
+pub(crate) fn place_after(taken: usize, last: usize, place: usize) -> usize
+    ensures { result ≡ place_after taken last place }
 {
-    verdicts.clear();
-    verdicts.resize(count, None)?;
-    Ok(())
+    if place == last { taken } else { place }
 }
 
-/// The endpoints that get a packet, in increasing order, in place of what `kept` had. Each program that has a reach runs once, and its verdict
-/// is noted. Takes memory only where the lists are too short for the packet.
+/// Of each program its reaches, one after the other.
+#[derive(Drop)]
+pub(crate) struct Chains {
+    /// Of each place of a program the first reach with it, counted from 1; 0 where there is none.
+    first: Vec<usize>,
+    /// Of each reach the next one with its program, counted from 1; 0 where it is the last.
+    next: Vec<usize>,
+}
+
+impl Chains {
+    /// The chains of no reach.
+    pub(crate) fn none(alloc: Global) -> Chains
+        ensures { AreChained 0 [] result.first.items result.next.items }
+    {
+        Chains {
+            first: Vec::new(alloc),
+            next: Vec::new(alloc),
+        }
+    }
+}
+
+/// The chains of the reaches.
+pub(crate) fn chained(alloc: Global, reaches: &[Reach]) -> Result<Chains, AllocError>
+    ensures { IfOk result (λ chains. AreChained 0 reaches.now chains.first.items chains.next.items) }
+{
+    let mut first = vec![in alloc; 0; places_of(reaches)?]?;
+    let mut next = vec![in alloc; 0; reaches.len()]?;
+    let mut place = reaches.len();
+    while place > 0 {
+        place -= 1;
+        let program = reaches[place].program;
+        next[place] = first[program];
+        first[program] = place + 1;
+    }
+    Ok(Chains { first, next })
+}
+
+/// A number above the places of all programs that have a reach.
+fn places_of(reaches: &[Reach]) -> Result<usize, AllocError>
+    ensures { IfOk result (λ count. (i : ℕ) (reach : GhostReach) → slice_get reaches.now i ≡ Some reach → reach.program < count) }
+{
+    let mut count = 0;
+    for reach in reaches {
+        count = count_with(count, reach.program)?;
+    }
+    Ok(count)
+}
+
+/// A number that is at least another and above a place.
+fn count_with(count: usize, program: usize) -> Result<usize, AllocError>
+    ensures above { IfOk result (λ more. program < more) }
+    ensures most { IfOk result (λ more. count ≤ more) }
+{
+    if program < count {
+        return Ok(count);
+    }
+    match program.checked_add(1) {
+        Some(more) => Ok(more),
+        // No list is that long.
+        None => Err(AllocError),
+    }
+}
+
+/// Up to so many programs that a packet passes, only their reaches are looked at.
+const FEW_HITS: usize = 16;
+
+/// The endpoints that get a packet, in increasing order, in place of what `kept` had. Programs of one shape run together.
+/// Takes memory only where the lists are too short for the packet.
 pub(crate) fn receivers_with(
     reaches: &[Reach],
+    chains: &Chains,
     programs: &Programs,
     bytes: &[u8],
     original: u32,
-    verdicts: &mut Vec<Option<u32>>,
+    lists: &mut Lists,
+    verdicts: &mut Vec<u32>,
     kept: &mut Vec<Kept>,
 ) -> Result<(), AllocError>
     requires placed { All (λ reach. reach.program < length programs.now) reaches.now }
     requires ordered { IsNonDecreasingBy (λ reach. reach.endpoint) reaches.now }
+    requires chained { AreChained 0 reaches.now chains.now.first.items chains.now.next.items }
+    ensures { OnOk result (AreReached programs.now reaches.now (record { bytes = bytes.now; original = original }) kept.new.items) }
+{
+    programs.run(lists, bytes, original)?;
+    if lists.hits.len() <= FEW_HITS {
+        receivers_of_few(
+            reaches,
+            chains,
+            programs,
+            &lists.hits,
+            bytes,
+            original,
+            kept,
+        )
+    } else {
+        receivers_of_many(
+            reaches,
+            programs,
+            &lists.hits,
+            bytes,
+            original,
+            verdicts,
+            kept,
+        )
+    }
+}
+
+/// The endpoints that get a packet that few programs pass: only the reaches of these are looked at.
+fn receivers_of_few(
+    reaches: &[Reach],
+    chains: &Chains,
+    programs: &Programs,
+    hits: &[Hit],
+    bytes: &[u8],
+    original: u32,
+    kept: &mut Vec<Kept>,
+) -> Result<(), AllocError>
+    requires placed { All (λ reach. reach.program < length programs.now) reaches.now }
+    requires chained { AreChained 0 reaches.now chains.now.first.items chains.now.next.items }
+    requires hits { AreHits programs.now (record { bytes = bytes.now; original = original }) (length programs.now) hits.now }
+    ensures { OnOk result (AreReached programs.now reaches.now (record { bytes = bytes.now; original = original }) kept.new.items) }
+{
+    let _count = programs.len();
+    kept.clear();
+    for hit in hits {
+        let most = (hit.verdict as usize).min(bytes.len()) as u32;
+        add_endpoints(reaches, chains, hit.member, most, kept)?;
+    }
+    Ok(())
+}
+
+/// Sees that each endpoint that a program reaches keeps at least so many bytes.
+fn add_endpoints(
+    reaches: &[Reach],
+    chains: &Chains,
+    program: usize,
+    most: u32,
+    kept: &mut Vec<Kept>,
+) -> Result<(), AllocError>
+    requires chained { AreChained 0 reaches.now chains.now.first.items chains.now.next.items }
+    requires increasing { IsIncreasing kept.old.items }
+    ensures increasing { OnOk result (IsIncreasing kept.new.items) }
+    ensures received { OnOk result ((programs : List (List Insn)) (packet : Packet) (verdict : ℕ) (hits : List AnyHit) (index : ℕ)
+        → Accepts programs packet program verdict most → AreReceiversOf programs reaches.now packet kept.old.items (HasHit hits index)
+        → AreReceiversOf programs reaches.now packet kept.new.items (λ reach. HasOr (HasHit hits index) program reach)) }
+{
+    if program >= chains.first.len() {
+        return Ok(());
+    }
+    let mut from = 0;
+    let mut place = chains.first[program];
+    while place > 0 {
+        raise_within(kept, endpoint_at(reaches, place - 1), most)?;
+        from = place;
+        place = chains.next[place - 1];
+    }
+    let _from = from;
+    Ok(())
+}
+
+/// The endpoint of the reach at a place.
+fn endpoint_at(reaches: &[Reach], place: usize) -> u16
+    requires { place < length reaches.now }
+    ensures { (reach : GhostReach) → slice_get reaches.now place ≡ Some reach → result ≡ reach.endpoint }
+{
+    reaches[place].endpoint
+}
+
+/// Sees that an endpoint keeps at least so many bytes.
+fn raise_within(kept: &mut Vec<Kept>, endpoint: u16, bytes: u32) -> Result<(), AllocError>
+    requires { IsIncreasing kept.old.items }
+    ensures { OnOk result (kept.new.items ≡ raised kept.old.items endpoint bytes) }
+{
+    let place = place_for(kept, endpoint);
+    match kept_there(kept, place, endpoint) {
+        Some(old) => {
+            let most = old.max(bytes);
+            kept[place] = Kept {
+                endpoint,
+                kept: most,
+            };
+            Ok(())
+        }
+        None => {
+            kept.insert(
+                place,
+                Kept {
+                    endpoint,
+                    kept: bytes,
+                },
+            )?;
+            Ok(())
+        }
+    }
+}
+
+/// The place of an endpoint in a list in order of endpoints.
+fn place_for(kept: &[Kept], endpoint: u16) -> usize
+    ensures within { result ≤ length kept.now }
+    ensures below { (i : ℕ) (one : GhostKept) → i < result → slice_get kept.now i ≡ Some one → one.endpoint < endpoint }
+    ensures above { (one : GhostKept) → slice_get kept.now result ≡ Some one → endpoint ≤ one.endpoint }
+{
+    for place in 0..kept.len() {
+        if kept[place].endpoint >= endpoint {
+            return place;
+        }
+    }
+    kept.len()
+}
+
+/// How many bytes are kept at a place, if it is the endpoint's.
+fn kept_there(kept: &[Kept], place: usize, endpoint: u16) -> Option<u32>
+    ensures { MatchOption result ((one : GhostKept) → slice_get kept.now place ≡ Some one → one.endpoint ≡ endpoint → ⊥) (λ old. slice_get kept.now place ≡ Some (at_endpoint endpoint old)) }
+{
+    if place >= kept.len() {
+        return None;
+    }
+    if kept[place].endpoint == endpoint {
+        Some(kept[place].kept)
+    } else {
+        None
+    }
+}
+
+/// The endpoints that get a packet that many programs pass: the verdict of each program is noted, and all reaches are looked at.
+fn receivers_of_many(
+    reaches: &[Reach],
+    programs: &Programs,
+    hits: &[Hit],
+    bytes: &[u8],
+    original: u32,
+    verdicts: &mut Vec<u32>,
+    kept: &mut Vec<Kept>,
+) -> Result<(), AllocError>
+    requires placed { All (λ reach. reach.program < length programs.now) reaches.now }
+    requires ordered { IsNonDecreasingBy (λ reach. reach.endpoint) reaches.now }
+    requires hits { AreHits programs.now (record { bytes = bytes.now; original = original }) (length programs.now) hits.now }
     ensures { OnOk result (AreReached programs.now reaches.now (record { bytes = bytes.now; original = original }) kept.new.items) }
 {
     forget(verdicts, programs.len())?;
+    note(hits, verdicts);
     kept.clear();
     for reach in reaches {
-        let verdict = match verdicts[reach.program] {
-            Some(verdict) => verdict,
-            None => run(programs.at(reach.program).verified(), bytes, original).verdict,
-        };
-        verdicts[reach.program] = Some(verdict);
+        let verdict = verdicts[reach.program];
         if verdict > 0 {
             let most = (verdict as usize).min(bytes.len()) as u32;
             raise(kept, reach.endpoint, most)?;
@@ -183,21 +407,52 @@ pub(crate) fn receivers_with(
     Ok(())
 }
 
-/// The endpoints that get a packet, in increasing order. Each program that has a reach runs once.
+/// Notes the verdicts of hits.
+fn note(hits: &[Hit], verdicts: &mut Vec<u32>)
+    requires { (i : ℕ) (hit : AnyHit) → slice_get hits.now i ≡ Some hit → (hit.member < length verdicts.old.items) × (0 < hit.verdict) }
+    ensures { (programs : List (List Insn)) → AreVerdictsSoFar programs hits.now 0 verdicts.old.items → AreVerdictsSoFar programs hits.now (length hits.now) verdicts.new.items }
+{
+    for hit in hits {
+        verdicts[hit.member] = hit.verdict;
+    }
+}
+
+/// Verdict 0 for so many programs.
+fn forget(verdicts: &mut Vec<u32>, count: usize) -> Result<(), AllocError>
+    ensures { OnOk result (verdicts.new.items ≡ replicate count 0) }
+{
+    verdicts.clear();
+    verdicts.resize(count, 0)?;
+    Ok(())
+}
+
+/// The endpoints that get a packet, in increasing order.
 pub(crate) fn receivers(
     alloc: Global,
     reaches: &[Reach],
+    chains: &Chains,
     programs: &Programs,
     bytes: &[u8],
     original: u32,
 ) -> Result<Vec<Kept>, AllocError>
     requires placed { All (λ reach. reach.program < length programs.now) reaches.now }
     requires ordered { IsNonDecreasingBy (λ reach. reach.endpoint) reaches.now }
+    requires chained { AreChained 0 reaches.now chains.now.first.items chains.now.next.items }
     ensures { IfOk result (λ kept. AreReached programs.now reaches.now (record { bytes = bytes.now; original = original }) kept.items) }
 {
+    let mut lists = Lists::new(alloc);
     let mut verdicts = Vec::new(alloc);
     let mut kept = Vec::new(alloc);
-    receivers_with(reaches, programs, bytes, original, &mut verdicts, &mut kept)?;
+    receivers_with(
+        reaches,
+        chains,
+        programs,
+        bytes,
+        original,
+        &mut lists,
+        &mut verdicts,
+        &mut kept,
+    )?;
     Ok(kept)
 }
 

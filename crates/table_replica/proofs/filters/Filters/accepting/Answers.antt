@@ -20,3 +20,6 @@ returns c =
     (λ kept h. subst (λ (t : FilterTable). AreReceivers t.under.held t.listed packet kept.items) c.self.view_is
     (reached_receive c.self.inside.under.value.held c.self.inside.programs c.self.inside.rows.items c.self.inside.reaches.items packet c.self.invariant.reached kept.items
     (subst (λ (rs : List Reach). AreReached c.self.inside.programs rs packet kept.items) c.deref.ensures.value h))) c.receivers.ensures
+
+pub receivers-requires-clause-chained : goal.receivers-requires-clause-chained
+receivers-requires-clause-chained c = rw c.deref.ensures.value c.self.invariant.chained

@@ -1,5 +1,5 @@
 use Rattle.std.proofs.Common.{List, subst, length}
-use Rattle.indexmap.proofs.MapLemmas.{OnOk-map}
+use Rattle.table_replica.proofs.Trimming.{OnOk-map}
 use Rattle.bpf_insn.specs.Machine.{Packet}
 use Rattle.filter_table.specs.Listed.{FilterTable}
 use Rattle.table_replica.specs.declared.reaches.Reach.{Reach}
@@ -21,3 +21,6 @@ returns c =
     (λ h. subst (λ (t : FilterTable). AreReceivers t.under.held t.listed packet kept) c.self.view_is
     (reached_receive c.self.inside.under.value.held c.self.inside.programs c.self.inside.rows.items c.self.inside.reaches.items packet c.self.invariant.reached kept
     (subst (λ (rs : List Reach). AreReached c.self.inside.programs rs packet kept) c.deref.ensures.value h))) c.receivers_with.ensures
+
+pub receivers_with-requires-clause-chained : goal.receivers_with-requires-clause-chained
+receivers_with-requires-clause-chained c = rw c.deref.ensures.value c.self.invariant.chained

@@ -21,6 +21,7 @@ invariant_of-result c =
           c.in-Ok-lists_and.rows.items pushed _ (ap (λ (n : ℕ). c.self.inside.instructions + n) (ap length c.code.ensures.code));
       reached = rw (c.of.ensures, c.in-Ok-lists_and.ensures.rows) (c.in-Ok-lists_and.ensures.reaches
           (subst (λ (rows : List Row). AreReaches c.args.caps.now.held rows c.deref-2.result.now) (sym c.deref.ensures.value) lent));
+      chained = c.in-Ok-lists_and.ensures.chained;
     }
 
 pub returns-in-Ok-lists_and : goal.returns-in-Ok-lists_and
