@@ -155,14 +155,7 @@ impl Filters {
         ensures { IfOk result (λ filters. filters ≡ record { listed = self.now.listed ++ shown_filter filter.entry ∷ []; under = caps.now }) }
     {
         let instructions = self.instructions + filter.program.code().len() as u32;
-        let mut programs = self.programs.copy(alloc)?;
-        let program = match keep(alloc, &mut programs, filter.program) {
-            Ok(place) => place,
-            Err(error) => {
-                drop(programs);
-                return Err(error);
-            }
-        };
+        let (programs, program) = keeping(alloc, &self.programs, filter.program)?;
         let row = Row {
             id: filter.id,
             owner: filter.owner,
@@ -170,20 +163,15 @@ impl Filters {
             endpoint: filter.endpoint,
             program,
         };
-        match lists_and(alloc, &self.rows, &self.reaches, caps, row) {
-            Ok((rows, reaches, chains)) => Ok(Filters {
-                rows,
-                programs,
-                reaches,
-                chains,
-                instructions,
-                under: Snapshot::of(caps),
-            }),
-            Err(error) => {
-                drop(programs);
-                Err(error)
-            }
-        }
+        let (rows, reaches, chains) = lists_and(alloc, &self.rows, &self.reaches, caps, row)?;
+        Ok(Filters {
+            rows,
+            programs,
+            reaches,
+            chains,
+            instructions,
+            under: Snapshot::of(caps),
+        })
     }
 
     /// The same filters under capabilities that hold those of the filters as before.
@@ -584,17 +572,20 @@ fn lowered_rows(
     Ok(lowered)
 }
 
-/// The place of a program among those that are kept, where it goes last if it isn't there yet.
-fn keep(alloc: Global, programs: &mut Programs, program: &Verified) -> Result<usize, AllocError>
-    ensures { IfOk result (λ place. Keeps programs.old program.now programs.new place) }
+/// The programs with one more, unless it is among them, and its place.
+fn keeping(
+    alloc: Global,
+    programs: &Programs,
+    program: &Verified,
+) -> Result<(Programs, usize), AllocError>
+    ensures { IfOk result (λ kept. Keeps programs.now program.now kept.0 kept.1) }
 {
     let program = Shared::new(alloc, program.clone()?)?;
-    if let Some(place) = programs.place_of(&program) {
-        drop(program);
-        return Ok(place);
+    match programs.place_of(&program) {
+        Some(place) => Ok((programs.copy(alloc)?, place)),
+        None => {
+            let all = programs.with(alloc, &program)?;
+            Ok((all, programs.len()))
+        }
     }
-    let place = programs.len();
-    let all = programs.with(alloc, &program)?;
-    *programs = all;
-    Ok(place)
 }

@@ -12,6 +12,8 @@ mod cores;
 #[cfg(test)]
 mod facts;
 #[cfg(test)]
+mod many;
+#[cfg(test)]
 mod messages;
 #[cfg(test)]
 mod replica;

@@ -1,0 +1,127 @@
+/* Times the table under many filters: a packet by the proved table, by a loop of libpcap's bpf_filter and by the plain C of groups_peer.h,
+   by turns, each answer compared with the loop's; and an install with a removal. Times are the best of the turns.
+   Usage: groups [WORKLOAD-PREFIX] */
+#include "groups_peer.h"
+#include "groups_workloads.h"
+#include <time.h>
+
+uint64_t bench_many(const Insn *code, size_t insns, const uint32_t *lengths, size_t programs, const uint8_t *packet, size_t bytes, uint32_t rounds,
+                    Kept *kept, size_t room);
+uint64_t bench_change(const Insn *code, size_t insns, const uint32_t *lengths, size_t programs, const Insn *more, size_t count, uint32_t rounds);
+
+static double now(void)
+{
+    struct timespec t;
+    clock_gettime(CLOCK_MONOTONIC, &t);
+    return t.tv_sec * 1e9 + t.tv_nsec;
+}
+
+/* All programs in one list, as the proved table's functions take them. */
+typedef struct { Insn *code; size_t insns; uint32_t *lengths; size_t programs; } List;
+
+static List list_of(const Table *t)
+{
+    List l = {0};
+    for (uint32_t i = 0; i < t->n; i++) l.insns += t->program[i]->len;
+    l.code = malloc(l.insns * sizeof *l.code), l.lengths = malloc(t->n * sizeof *l.lengths);
+    size_t at = 0;
+    for (uint32_t i = 0; i < t->n; i++) {
+        memcpy(l.code + at, t->program[i]->code, t->program[i]->len * sizeof(Insn));
+        at += l.lengths[l.programs++] = t->program[i]->len;
+    }
+    return l;
+}
+
+static Kept proved[MOST];
+
+/* Nanoseconds of one packet by the proved table: so many rounds less none, since each call makes the table first. */
+static double by_table(const List *l, const uint8_t *p, uint32_t len, uint32_t rounds, uint64_t *got)
+{
+    double none = 1e18, all = 1e18;
+    for (int turn = 0; turn < 5; turn++) {
+        double start = now();
+        bench_many(l->code, l->insns, l->lengths, l->programs, p, len, 0, proved, MOST);
+        double time = now() - start;
+        none = time < none ? time : none;
+        start = now();
+        *got = bench_many(l->code, l->insns, l->lengths, l->programs, p, len, rounds, proved, MOST);
+        time = now() - start;
+        all = time < all ? time : all;
+    }
+    return (all - none) / rounds;
+}
+
+typedef uint32_t Receivers(const Table *, const uint8_t *, uint32_t, uint32_t);
+
+static double by_peer(Receivers *way, const Table *t, const uint8_t *p, uint32_t len, uint32_t rounds)
+{
+    double best = 1e18;
+    for (int turn = 0; turn < 9; turn++) {
+        double start = now();
+        for (uint32_t r = 0; r < rounds; r++) way(t, p, len, len);
+        double time = (now() - start) / rounds;
+        best = time < best ? time : best;
+    }
+    return best;
+}
+
+static void packets(const Workload *w, const Table *t, const List *l, const char *kind, const uint8_t *p, uint32_t len)
+{
+    uint64_t got;
+    double loop = by_peer(receivers_pcap, t, p, len, 1 + 100000 / (l->insns + 1));
+    double peer = by_peer(receivers_grouped, t, p, len, 1 + 10000000 / (l->insns + 5000));
+    /* enough rounds for half a millisecond of the peer's time and more, that the table's making doesn't drown it */
+    double table = by_table(l, p, len, 200 + (uint32_t)(2e7 / (peer + 200)), &got);
+    uint32_t want = receivers_pcap(t, p, len, len);
+    if (got != want || memcmp(proved, answer, want * sizeof *answer)) printf("%s: DIFFERS: %u, not %u\n", w->name, (uint32_t)got, want), exit(1);
+    printf("%-18s %5u %4u %-5s %4u | %9.0f %9.0f %9.0f | %7.3f %6.2f\n", w->name, t->n, t->groups + t->singles, kind, want, loop, peer, table,
+           table / loop, table / peer);
+    fflush(stdout);
+}
+
+static void change(const Workload *w, const Table *t, const List *l)
+{
+    Program *more = program_of(w, t->n + 7, t->n);
+    double none = 1e18, all = 1e18;
+    uint32_t rounds = 200;
+    for (int turn = 0; turn < 5; turn++) {
+        double start = now();
+        bench_change(l->code, l->insns, l->lengths, l->programs, more->code, more->len, 0);
+        double time = now() - start;
+        none = time < none ? time : none;
+        start = now();
+        bench_change(l->code, l->insns, l->lengths, l->programs, more->code, more->len, rounds);
+        time = now() - start;
+        all = time < all ? time : all;
+    }
+    printf("%-18s %5u      making the table %.1f us a filter; an install and a removal of one more %.1f us\n", w->name, t->n, none / 1e3 / l->programs,
+           (all - none) / 1e3 / rounds);
+    fflush(stdout);
+}
+
+int main(int count, char **words)
+{
+    const char *only = count > 1 ? words[1] : "";
+    printf("ns a packet. loop: bpf_filter over all programs. peer: groups in plain C. table: the proved one.\n");
+    printf("%-18s %5s %4s %-5s %4s | %9s %9s %9s | %7s %6s\n", "workload", "progs", "grps", "pkt", "gets", "loop", "peer", "table", "/loop", "/peer");
+    for (uint32_t w = 0; w < sizeof workloads / sizeof *workloads; w++) {
+        if (strncmp(workloads[w].name, only, strlen(only))) continue;
+        static const uint32_t sizes[] = {1, 16, 64, 256, 1024};
+        for (int z = 0; z < 5; z++) {
+            Table t = {0};
+            seed = 77 + z;
+            make(&t, workloads + w, sizes[z]);
+            build_index(&t);
+            List l = list_of(&t);
+            for (Packet *k = workloads[w].packets; k->kind; k++) {
+                static uint8_t bytes[128];
+                k->fill(bytes, t.n);
+                packets(workloads + w, &t, &l, k->kind, bytes, sizeof bytes);
+            }
+            change(workloads + w, &t, &l);
+            free(l.code), free(l.lengths);
+            free_index(&t);
+        }
+    }
+    return 0;
+}

@@ -1,0 +1,149 @@
+//! The order of programs, by which one is found.
+
+ghost use Rattle.std.specs.Prelude.{◌≡◌, ◌<◌, ◌≤◌, ℕ, IfOk, Some, length, map, slice_get};
+ghost use Rattle.std.specs.List.{insert, remove};
+ghost use Rattle.filter_group.specs.Order.{IsOrder, IsRank, place_once_taken, program_cmp, shape_cmp};
+
+use crate::placements::Placements;
+use crate::places::are_one_shape;
+use bpf_insn::Insn;
+use filter_verify::Verified;
+use std::alloc::{AllocError, Global};
+use std::cmp::Ordering;
+
+/// How two instructions are ordered, but for their constants.
+fn shape_order(a: Insn, b: Insn) -> Ordering
+    ensures { result ≡ shape_cmp a b }
+{
+    a.code
+        .cmp(&b.code)
+        .then(a.jt.cmp(&b.jt).then(a.jf.cmp(&b.jf)))
+}
+
+/// How two programs are ordered: by the first instructions that differ in more than the constant, then by length, then by the
+/// first constants that differ.
+fn program_order(a: &[Insn], b: &[Insn]) -> Ordering
+    ensures { result ≡ program_cmp a.now b.now }
+{
+    let mut constants = Ordering::Equal;
+    for place in 0..a.len().min(b.len()) {
+        let one = a[place];
+        let other = b[place];
+        let shape = shape_order(one, other);
+        if shape.is_ne() {
+            return shape;
+        }
+        constants = constants.then(one.k.cmp(&other.k));
+    }
+    a.len().cmp(&b.len()).then(constants)
+}
+
+/// How many of the ordered programs come before one.
+pub(crate) fn rank_of(placed: &Placements, order: &[usize], program: &[Insn]) -> usize
+    requires { IsOrder placed.now order.now }
+    ensures { IsRank placed.now order.now program.now result }
+{
+    let mut low = 0;
+    let mut high = order.len();
+    while low < high {
+        let middle = low + (high - low) / 2;
+        let place = order[middle];
+        let other = placed.at(place).verified().code();
+        if program_order(other, program).is_lt() {
+            low = middle + 1;
+        } else {
+            high = middle;
+        }
+    }
+    low
+}
+
+/// The place of a program of this one's shape, which is a neighbour of this one's rank if there is any.
+pub(crate) fn near_to(
+    placed: &Placements,
+    order: &[usize],
+    rank: usize,
+    program: &Verified,
+) -> Option<usize>
+    requires { IsOrder placed.now order.now }
+{
+    if rank > 0 {
+        if let Some(place) = alike_at(placed, order, rank - 1, program) {
+            return Some(place);
+        }
+    }
+    alike_at(placed, order, rank, program)
+}
+
+/// The place of the program of this rank, if it has this one's shape.
+fn alike_at(placed: &Placements, order: &[usize], rank: usize, program: &Verified) -> Option<usize>
+    requires { IsOrder placed.now order.now }
+{
+    let place = *order.get(rank)?;
+    if are_one_shape(placed.at(place).verified(), program) {
+        Some(place)
+    } else {
+        None
+    }
+}
+
+/// The order once a place is put into it.
+pub(crate) fn order_with(
+    alloc: Global,
+    order: &[usize],
+    rank: usize,
+    place: usize,
+) -> Result<Vec<usize>, AllocError>
+    requires { rank ≤ length order.now }
+    ensures { IfOk result (λ after. after.items ≡ insert order.now rank place) }
+{
+    let mut after = Vec::with_capacity(alloc, order.len() + 1)?;
+    after.extend_from_slice(order)?;
+    after.insert(rank, place)?;
+    Ok(after)
+}
+
+/// The order once the program at a place is taken out, and the last has its place.
+pub(crate) fn order_without(
+    alloc: Global,
+    order: &[usize],
+    taken: usize,
+    last: usize,
+) -> Result<Vec<usize>, AllocError>
+    requires { (rank : ℕ) × (slice_get order.now rank ≡ Some taken) }
+    ensures { IfOk result (λ after. (rank : ℕ) × (slice_get order.now rank ≡ Some taken) × (after.items ≡ map (place_once_taken taken last) (remove order.now rank))) }
+{
+    let rank = rank_at(order, taken);
+    let mut left = Vec::from_slice(alloc, order)?;
+    left.remove(rank);
+    renamed(alloc, &left, taken, last)
+}
+
+/// Where a place is in the order.
+fn rank_at(order: &[usize], place: usize) -> usize
+    requires { (rank : ℕ) × (slice_get order.now rank ≡ Some place) }
+    ensures { slice_get order.now result ≡ Some place }
+{
+    for rank in 0..order.len() {
+        if order[rank] == place {
+            return rank;
+        }
+    }
+    0
+}
+
+/// The places once the last has the one that was taken.
+fn renamed(
+    alloc: Global,
+    order: &[usize],
+    taken: usize,
+    last: usize,
+) -> Result<Vec<usize>, AllocError>
+    ensures { IfOk result (λ after. after.items ≡ map (place_once_taken taken last) order.now) }
+{
+    let mut after = Vec::with_capacity(alloc, order.len())?;
+    for place in order {
+        after.push(if *place == last { taken } else { *place })?;
+    }
+    Ok(after)
+}
