@@ -5,8 +5,8 @@
 #include "groups_workloads.h"
 #include <time.h>
 
-uint64_t bench_many(const Insn *code, size_t insns, const uint32_t *lengths, size_t programs, const uint8_t *packet, size_t bytes, uint32_t rounds,
-                    Kept *kept, size_t room);
+uint64_t bench_many(const Insn *code, size_t insns, const uint32_t *lengths, size_t programs, const uint8_t *packet, size_t bytes,
+                    uint32_t original, uint32_t rounds, Kept *kept, size_t room);
 uint64_t bench_change(const Insn *code, size_t insns, const uint32_t *lengths, size_t programs, const Insn *more, size_t count, uint32_t rounds);
 
 static double now(void)
@@ -40,11 +40,11 @@ static double by_table(const List *l, const uint8_t *p, uint32_t len, uint32_t r
     double none = 1e18, all = 1e18;
     for (int turn = 0; turn < 5; turn++) {
         double start = now();
-        bench_many(l->code, l->insns, l->lengths, l->programs, p, len, 0, proved, MOST);
+        bench_many(l->code, l->insns, l->lengths, l->programs, p, len, len, 0, proved, MOST);
         double time = now() - start;
         none = time < none ? time : none;
         start = now();
-        *got = bench_many(l->code, l->insns, l->lengths, l->programs, p, len, rounds, proved, MOST);
+        *got = bench_many(l->code, l->insns, l->lengths, l->programs, p, len, len, rounds, proved, MOST);
         time = now() - start;
         all = time < all ? time : all;
     }
@@ -79,22 +79,24 @@ static void packets(const Workload *w, const Table *t, const List *l, const char
     fflush(stdout);
 }
 
+/* (1,024 filters are as many as a table lists, so one more is tried beside 1,000) */
 static void change(const Workload *w, const Table *t, const List *l)
 {
+    size_t programs = l->programs < 1000 ? l->programs : 1000;
     Program *more = program_of(w, t->n + 7, t->n);
     double none = 1e18, all = 1e18;
     uint32_t rounds = 200;
     for (int turn = 0; turn < 5; turn++) {
         double start = now();
-        bench_change(l->code, l->insns, l->lengths, l->programs, more->code, more->len, 0);
+        bench_change(l->code, l->insns, l->lengths, programs, more->code, more->len, 0);
         double time = now() - start;
         none = time < none ? time : none;
         start = now();
-        bench_change(l->code, l->insns, l->lengths, l->programs, more->code, more->len, rounds);
+        bench_change(l->code, l->insns, l->lengths, programs, more->code, more->len, rounds);
         time = now() - start;
         all = time < all ? time : all;
     }
-    printf("%-18s %5u      making the table %.1f us a filter; an install and a removal of one more %.1f us\n", w->name, t->n, none / 1e3 / l->programs,
+    printf("%-18s %5u      making the table %.1f us a filter; an install and a removal of one more %.1f us\n", w->name, (uint32_t)programs, none / 1e3 / programs,
            (all - none) / 1e3 / rounds);
     fflush(stdout);
 }

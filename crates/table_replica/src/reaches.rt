@@ -218,8 +218,8 @@ fn count_with(count: usize, program: usize) -> Result<usize, AllocError>
     }
 }
 
-/// Up to so many programs that a packet passes, only their reaches are looked at.
-const FEW_HITS: usize = 16;
+/// Where the programs that a packet passes have at most so many reaches, only these are looked at.
+const FEW_REACHES: usize = 16;
 
 /// The endpoints that get a packet, in increasing order, in place of what `kept` had. Programs of one shape run together.
 /// Takes memory only where the lists are too short for the packet.
@@ -239,7 +239,7 @@ pub(crate) fn receivers_with(
     ensures { OnOk result (AreReached programs.now reaches.now (record { bytes = bytes.now; original = original }) kept.new.items) }
 {
     programs.run(lists, bytes, original)?;
-    if lists.hits.len() <= FEW_HITS {
+    if have_few(chains, &lists.hits) {
         receivers_of_few(
             reaches,
             chains,
@@ -262,7 +262,37 @@ pub(crate) fn receivers_with(
     }
 }
 
-/// The endpoints that get a packet that few programs pass: only the reaches of these are looked at.
+/// Whether the programs that a packet passes have few reaches.
+fn have_few(chains: &Chains, hits: &[Hit]) -> bool {
+    if hits.len() > FEW_REACHES {
+        return false;
+    }
+    let mut left = FEW_REACHES;
+    for hit in hits {
+        match left_after(chains, hit.member, left) {
+            Some(rest) => left = rest,
+            None => return false,
+        }
+    }
+    true
+}
+
+/// How many reaches are left of so many once those of a program are taken off, if it hasn't more.
+fn left_after(chains: &Chains, program: usize, most: usize) -> Option<usize> {
+    if program >= chains.first.len() {
+        return Some(most);
+    }
+    let mut place = chains.first[program];
+    for seen in 0..most {
+        if place == 0 {
+            return Some(most - seen);
+        }
+        place = *chains.next.get(place - 1)?;
+    }
+    if place == 0 { Some(0) } else { None }
+}
+
+/// The endpoints that get a packet that has few reaches: only these are looked at.
 fn receivers_of_few(
     reaches: &[Reach],
     chains: &Chains,
@@ -379,7 +409,7 @@ fn kept_there(kept: &[Kept], place: usize, endpoint: u16) -> Option<u32>
     }
 }
 
-/// The endpoints that get a packet that many programs pass: the verdict of each program is noted, and all reaches are looked at.
+/// The endpoints that get a packet that has many reaches: the verdict of each program is noted, and all reaches are looked at.
 fn receivers_of_many(
     reaches: &[Reach],
     programs: &Programs,
