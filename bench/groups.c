@@ -1,5 +1,5 @@
-/* Times the table under many filters: a packet by the proved table, by a loop of libpcap's bpf_filter and by the plain C of groups_peer.h,
-   by turns, each answer compared with the loop's; and an install with a removal. Times are the best of the turns.
+/* Times the table under many filters: a packet by the proved table, by the proved machine on each program, by a loop of libpcap's bpf_filter
+   and by the plain C of groups_peer.h, each answer compared with the loop's; and an install with a removal. Times are the best of the turns.
    Usage: groups [WORKLOAD-PREFIX] */
 #include "groups_peer.h"
 #include "groups_workloads.h"
@@ -7,6 +7,8 @@
 
 uint64_t bench_many(const Insn *code, size_t insns, const uint32_t *lengths, size_t programs, const uint8_t *packet, size_t bytes,
                     uint32_t original, uint32_t rounds, Kept *kept, size_t room);
+uint64_t bench_alone(const Insn *code, size_t insns, const uint32_t *lengths, size_t programs, const uint8_t *packet, size_t bytes,
+                     uint32_t original, uint32_t rounds);
 uint64_t bench_change(const Insn *code, size_t insns, const uint32_t *lengths, size_t programs, const Insn *more, size_t count, uint32_t rounds);
 
 static double now(void)
@@ -51,6 +53,23 @@ static double by_table(const List *l, const uint8_t *p, uint32_t len, uint32_t r
     return (all - none) / rounds;
 }
 
+/* Nanoseconds of one run of each program by the proved machine. */
+static double by_runs(const List *l, const uint8_t *p, uint32_t len, uint32_t rounds)
+{
+    double none = 1e18, all = 1e18;
+    for (int turn = 0; turn < 5; turn++) {
+        double start = now();
+        bench_alone(l->code, l->insns, l->lengths, l->programs, p, len, len, 0);
+        double time = now() - start;
+        none = time < none ? time : none;
+        start = now();
+        bench_alone(l->code, l->insns, l->lengths, l->programs, p, len, len, rounds);
+        time = now() - start;
+        all = time < all ? time : all;
+    }
+    return (all - none) / rounds;
+}
+
 typedef uint32_t Receivers(const Table *, const uint8_t *, uint32_t, uint32_t);
 
 static double by_peer(Receivers *way, const Table *t, const uint8_t *p, uint32_t len, uint32_t rounds)
@@ -69,13 +88,14 @@ static void packets(const Workload *w, const Table *t, const List *l, const char
 {
     uint64_t got;
     double loop = by_peer(receivers_pcap, t, p, len, 1 + 100000 / (l->insns + 1));
+    double runs = by_runs(l, p, len, 3 + 1000000 / (l->insns + 1));
     double peer = by_peer(receivers_grouped, t, p, len, 1 + 10000000 / (l->insns + 5000));
-    /* enough rounds for half a millisecond of the peer's time and more, that the table's making doesn't drown it */
-    double table = by_table(l, p, len, 200 + (uint32_t)(2e7 / (peer + 200)), &got);
+    /* so many rounds that making the table, which takes up to 50 ms, doesn't drown them */
+    double table = by_table(l, p, len, 200 + (uint32_t)(4e7 / (peer + 200)), &got);
     uint32_t want = receivers_pcap(t, p, len, len);
     if (got != want || memcmp(proved, answer, want * sizeof *answer)) printf("%s: DIFFERS: %u, not %u\n", w->name, (uint32_t)got, want), exit(1);
-    printf("%-18s %5u %4u %-5s %4u | %9.0f %9.0f %9.0f | %7.3f %6.2f\n", w->name, t->n, t->groups + t->singles, kind, want, loop, peer, table,
-           table / loop, table / peer);
+    printf("%-18s %5u %4u %-5s %4u | %9.0f %9.0f %9.0f %9.0f | %7.3f %7.3f %6.2f\n", w->name, t->n, t->groups + t->singles, kind, want, loop, runs,
+           peer, table, table / loop, table / runs, table / peer);
     fflush(stdout);
 }
 
@@ -104,8 +124,9 @@ static void change(const Workload *w, const Table *t, const List *l)
 int main(int count, char **words)
 {
     const char *only = count > 1 ? words[1] : "";
-    printf("ns a packet. loop: bpf_filter over all programs. peer: groups in plain C. table: the proved one.\n");
-    printf("%-18s %5s %4s %-5s %4s | %9s %9s %9s | %7s %6s\n", "workload", "progs", "grps", "pkt", "gets", "loop", "peer", "table", "/loop", "/peer");
+    printf("ns a packet. loop: bpf_filter over all programs. runs: the proved machine over all. peer: groups in plain C. table: the proved one.\n");
+    printf("%-18s %5s %4s %-5s %4s | %9s %9s %9s %9s | %7s %7s %6s\n", "workload", "progs", "grps", "pkt", "gets", "loop", "runs", "peer", "table", "/loop",
+           "/runs", "/peer");
     for (uint32_t w = 0; w < sizeof workloads / sizeof *workloads; w++) {
         if (strncmp(workloads[w].name, only, strlen(only))) continue;
         static const uint32_t sizes[] = {1, 16, 64, 256, 1024};
