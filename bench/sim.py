@@ -61,6 +61,37 @@ for lines in SIZES:
     wall, cpu, peak = best[lines]
     print(f"| {lines} | {wall * 1e3:.0f} | {cpu * 1e3:.0f} | {wall * 1e9 / lines:.0f} | {peak:.0f} |")
 
+
+
+def to_port(number):
+    """UDP datagrams over IPv4 to a port, as `tcpdump -ddd 'ip and udp dst port N'` has it."""
+    return f"11,40 0 0 12,21 0 8 2048,48 0 0 23,21 0 6 17,40 0 0 20,69 4 0 8191,177 0 0 14,72 0 0 16,21 0 1 {number},6 0 0 262144,6 0 0 0"
+
+
+def filtered(filters, lines):
+    """So many filters, each for a port and an endpoint of its own, and lines with a datagram to the port of the filter in the middle."""
+    port = 1000 + filters // 2
+    packet = "00" * 12 + "0800" + "45" + "00" * 8 + "11" + "00" * 12 + f"{port:04x}" + "00" * 22
+    text = ["cores 100000", "packet p " + packet]
+    for i in range(filters):
+        text += [f"ddd f{i} {to_port(1000 + i)}", f"create 1 {i}", f"install 1 {i + 1} f{i}"]
+    text.append("settle")
+    return "\n".join(text + ["rx 0 p"] * lines) + "\n"
+
+
+print("| Filters | a packet, us |")
+print("|---|---|")
+FILTERS = (1, 10, 100, 1000)
+PACKETS = 50_000
+none = {count: 9e9 for count in FILTERS}
+full = {count: 9e9 for count in FILTERS}
+for _ in range(ROUNDS):
+    for count in FILTERS:
+        none[count] = min(none[count], run(write("none.script", filtered(count, 0).encode()))[0])
+        full[count] = min(full[count], run(write("full.script", filtered(count, PACKETS).encode()))[0])
+for count in FILTERS:
+    print(f"| {count} | {(full[count] - none[count]) * 1e6 / PACKETS:.2f} |")
+
 named = write("named.script", b"cores 100\npacket p " + b"00" * 16384 + b"\n" + b"rx 0 p\n" * 50_000)
 print("| Script | size, MB | wall, ms | peak, MB |")
 print("|---|---|---|---|")
