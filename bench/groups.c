@@ -7,6 +7,8 @@
 
 uint64_t bench_many(const Insn *code, size_t insns, const uint32_t *lengths, size_t programs, const uint8_t *packet, size_t bytes,
                     uint32_t original, uint32_t rounds, Kept *kept, size_t room);
+uint64_t bench_many_in_place(const Insn *code, size_t insns, const uint32_t *lengths, size_t programs, const uint8_t *packet, size_t bytes,
+                             uint32_t original, uint32_t rounds, Kept *kept, size_t room);
 uint64_t bench_alone(const Insn *code, size_t insns, const uint32_t *lengths, size_t programs, const uint8_t *packet, size_t bytes,
                      uint32_t original, uint32_t rounds);
 uint64_t bench_change(const Insn *code, size_t insns, const uint32_t *lengths, size_t programs, const Insn *more, size_t count, uint32_t rounds);
@@ -36,17 +38,19 @@ static List list_of(const Table *t)
 
 static Kept proved[MOST];
 
+typedef uint64_t Many(const Insn *, size_t, const uint32_t *, size_t, const uint8_t *, size_t, uint32_t, uint32_t, Kept *, size_t);
+
 /* Nanoseconds of one packet by the proved table: so many rounds less none, since each call makes the table first. */
-static double by_table(const List *l, const uint8_t *p, uint32_t len, uint32_t rounds, uint64_t *got)
+static double by_table(Many *many, const List *l, const uint8_t *p, uint32_t len, uint32_t rounds, uint64_t *got)
 {
     double none = 1e18, all = 1e18;
     for (int turn = 0; turn < 5; turn++) {
         double start = now();
-        bench_many(l->code, l->insns, l->lengths, l->programs, p, len, len, 0, proved, MOST);
+        many(l->code, l->insns, l->lengths, l->programs, p, len, len, 0, proved, MOST);
         double time = now() - start;
         none = time < none ? time : none;
         start = now();
-        *got = bench_many(l->code, l->insns, l->lengths, l->programs, p, len, len, rounds, proved, MOST);
+        *got = many(l->code, l->insns, l->lengths, l->programs, p, len, len, rounds, proved, MOST);
         time = now() - start;
         all = time < all ? time : all;
     }
@@ -91,11 +95,14 @@ static void packets(const Workload *w, const Table *t, const List *l, const char
     double runs = by_runs(l, p, len, 3 + 1000000 / (l->insns + 1));
     double peer = by_peer(receivers_grouped, t, p, len, 1 + 10000000 / (l->insns + 5000));
     /* so many rounds that making the table, which takes up to 50 ms, doesn't drown them */
-    double table = by_table(l, p, len, 200 + (uint32_t)(4e7 / (peer + 200)), &got);
-    uint32_t want = receivers_pcap(t, p, len, len);
-    if (got != want || memcmp(proved, answer, want * sizeof *answer)) printf("%s: DIFFERS: %u, not %u\n", w->name, (uint32_t)got, want), exit(1);
-    printf("%-18s %5u %4u %-5s %4u | %9.0f %9.0f %9.0f %9.0f | %7.3f %7.3f %6.2f\n", w->name, t->n, t->groups + t->singles, kind, want, loop, runs,
-           peer, table, table / loop, table / runs, table / peer);
+    uint32_t rounds = 200 + (uint32_t)(4e7 / (peer + 200)), want = receivers_pcap(t, p, len, len);
+    double time[2];
+    for (int way = 0; way < 2; way++) {
+        time[way] = by_table(way ? bench_many_in_place : bench_many, l, p, len, rounds, &got);
+        if (got != want || memcmp(proved, answer, want * sizeof *answer)) printf("%s: DIFFERS: %u, not %u\n", w->name, (uint32_t)got, want), exit(1);
+    }
+    printf("%-18s %5u %4u %-5s %4u | %9.0f %9.0f %9.0f %9.0f %9.0f | %7.3f %7.3f %6.2f %6.2f\n", w->name, t->n, t->groups + t->singles, kind, want, loop,
+           runs, peer, time[0], time[1], time[0] / loop, time[0] / runs, time[0] / peer, time[1] / peer);
     fflush(stdout);
 }
 
@@ -124,9 +131,10 @@ static void change(const Workload *w, const Table *t, const List *l)
 int main(int count, char **words)
 {
     const char *only = count > 1 ? words[1] : "";
-    printf("ns a packet. loop: bpf_filter over all programs. runs: the proved machine over all. peer: groups in plain C. table: the proved one.\n");
-    printf("%-18s %5s %4s %-5s %4s | %9s %9s %9s %9s | %7s %7s %6s\n", "workload", "progs", "grps", "pkt", "gets", "loop", "runs", "peer", "table", "/loop",
-           "/runs", "/peer");
+    printf("ns a packet. loop: bpf_filter over all programs. runs: the proved machine over all. peer: groups in plain C. table: the proved one.\n"
+           "in place: the same with lists that are used again. The ratios are the table's, the last that of in place.\n");
+    printf("%-18s %5s %4s %-5s %4s | %9s %9s %9s %9s %9s | %7s %7s %6s %6s\n", "workload", "progs", "grps", "pkt", "gets", "loop", "runs", "peer", "table",
+           "in place", "/loop", "/runs", "/peer", "/peer");
     for (uint32_t w = 0; w < sizeof workloads / sizeof *workloads; w++) {
         if (strncmp(workloads[w].name, only, strlen(only))) continue;
         static const uint32_t sizes[] = {1, 16, 64, 256, 1024};
