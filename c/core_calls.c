@@ -445,8 +445,20 @@ static void says(void)
 struct view {
     uint64_t versions[MOST], unanswered[MOST];
     size_t counts[MOST][PACKETS];
-    struct mkdemux_kept kept[MOST][PACKETS][4];
+    uint32_t endpoints[MOST][PACKETS][4], kept[MOST][PACKETS][4];
 };
+
+static void receive_into(struct view *view, size_t core, size_t packet, mkdemux_core *handle)
+{
+    struct mkdemux_kept room[4];
+    size_t i, count;
+    CHECK(mkdemux_receive(handle, frames[packet], 14, 60, room, 4, &count) == MKDEMUX_CORE_OK);
+    view->counts[core][packet] = count;
+    for (i = 0; i < count; i++) {
+        view->endpoints[core][packet][i] = room[i].endpoint;
+        view->kept[core][packet][i] = room[i].kept;
+    }
+}
 
 static void look(struct machine *machine, struct view *view)
 {
@@ -458,7 +470,7 @@ static void look(struct machine *machine, struct view *view)
         view->versions[i] = mkdemux_version(&machine->cores[i]);
         view->unanswered[i] = mkdemux_unanswered(&machine->cores[i]);
         for (j = 0; j < PACKETS; j++)
-            CHECK(mkdemux_receive(&machine->cores[i], frames[j], 14, 60, view->kept[i][j], 4, &view->counts[i][j]) == MKDEMUX_CORE_OK);
+            receive_into(view, i, j, &machine->cores[i]);
     }
     failing = number;
     asked = before;
