@@ -205,7 +205,7 @@ lives_on_loopback() {
         done
         "$1/flows" -u > "$1/sent"
         sleep 0.3
-        kill -INT $!
+        kill -TERM $!
         wait $!' sh "$made" "$1" "$2" && tail -n 1 "$made/lived" | grep "^[1-9][0-9]* packets received, .* changes; [1-9][0-9]* receipts .* 0 wrong$" &&
         [ "$(grep -c '^  endpoint [0-9]*: [1-9]' "$made/lived")" -ge 2 ] || { cat "$made/sent" "$made/lived"; return 1; }
 }

@@ -332,8 +332,11 @@ static void committed(struct lane *lane, struct asked asked, const mkdemux_turne
 static void refused(struct lane *lane, struct asked asked, const mkdemux_turned *turned)
 {
     struct client *client = &lane->clients.items[asked.client];
-    printf("core %u: endpoint %u: refused %s, place %u, by core %u\n", lane->number, client->endpoint,
-        mkdemux_core_rule_word(turned->rule), turned->place, turned->core);
+    printf("core %u: endpoint %u: %s, says core %u", lane->number, client->endpoint, mkdemux_core_rule_word(turned->rule),
+        turned->core);
+    if (turned->rule > MKDEMUX_RULE_BAD_PROGRAM)
+        printf(": rule %u at instruction %u", turned->rule - MKDEMUX_RULE_BAD_PROGRAM, turned->place);
+    printf("\n");
     if (asked.request == CREATE || asked.request == INSTALL)
         pcap_freecode(&client->code);
     client->state = SHUT;
@@ -700,7 +703,7 @@ static bool apply(struct table *table, const struct change *change)
         if (change->request == DROP && listed->cap == change->cap)
             listed->is_held = false;
         if (change->request == REMOVE && listed->filter == change->filter)
-            *listed-- = table->items[--table->count];
+            *listed = table->items[--table->count];
     }
     return true;
 }
