@@ -229,12 +229,20 @@ static void ask(struct lane *lane, size_t number, enum request request)
         fail(lane, mkdemux_core_word(answer));
 }
 
-static int compile(struct lane *lane, struct bpf_program *code, const char *filter)
+/* Compiles a client's filter. False: it can't be, and this was said. */
+static bool compile(struct lane *lane, struct client *client, const char *filter)
 {
     pthread_mutex_lock(&lane->live->compiling);
-    int status = pcap_compile(lane->compiler, code, filter, 1, PCAP_NETMASK_UNKNOWN);
+    bool good = pcap_compile(lane->compiler, &client->code, filter, 1, PCAP_NETMASK_UNKNOWN) == 0;
     pthread_mutex_unlock(&lane->live->compiling);
-    return status;
+    if (!good) {
+        printf("core %u: endpoint %u: %s\n", lane->number, client->endpoint, pcap_geterr(lane->compiler));
+    } else if (client->code.bf_len > MKDEMUX_CORE_MOST_INSNS) {
+        printf("core %u: endpoint %u: a filter of %u instructions\n", lane->number, client->endpoint, client->code.bf_len);
+        pcap_freecode(&client->code);
+        good = false;
+    }
+    return good;
 }
 
 /* Has a client begin what it is ordered to. */
@@ -243,9 +251,9 @@ static void begin(struct lane *lane, size_t number, const struct order *order)
     struct client *client = &lane->clients.items[number];
     if (order->filter && client->state == OPEN) {
         printf("core %u: endpoint %u is open already\n", lane->number, client->endpoint);
-    } else if (order->filter && compile(lane, &client->code, order->filter)) {
-        printf("core %u: endpoint %u: %s\n", lane->number, client->endpoint, pcap_geterr(lane->compiler));
     } else if (order->filter) {
+        if (!compile(lane, client, order->filter))
+            return;
         client->state = CREATING;
         ask(lane, number, CREATE);
     } else if (client->state == OPEN) {
@@ -337,9 +345,9 @@ static void refused(struct lane *lane, struct asked asked, const mkdemux_turned 
     if (turned->rule > MKDEMUX_RULE_BAD_PROGRAM)
         printf(": rule %u at instruction %u", turned->rule - MKDEMUX_RULE_BAD_PROGRAM, turned->place);
     printf("\n");
+    client->state = asked.request == REMOVE ? OPEN : SHUT;
     if (asked.request == CREATE || asked.request == INSTALL)
         pcap_freecode(&client->code);
-    client->state = SHUT;
     if (asked.request == INSTALL) {
         client->state = DROPPING;
         ask(lane, asked.client, DROP);
