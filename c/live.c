@@ -3,6 +3,8 @@
  *   live [-c CORES] [-f ORDERS] [-n PACKETS] CAPTURE..
  *   live [-c CORES] [-f ORDERS] [-n PACKETS] [-s SECONDS] -i INTERFACE
  *
+ * cc -O2 -o live live.c $(PKG_CONFIG_PATH=../dist/lib/pkgconfig pkg-config --cflags --libs mkdemux_cores) -lpcap -lpthread
+ *
  * Each core is a thread with a poll loop: it receives packets, turns its core of the machine, and speaks for its clients. The packets
  * are those of captures, dealt out by flow, or an Ethernet interface's, by packet sockets in one fanout group (which takes
  * CAP_NET_RAW); then it ends after SECONDS or with Ctrl-C. Clients open and close endpoints while packets come: ORDERS has
@@ -15,6 +17,9 @@
  * At the end each delivery is looked at again, apart from the library: libpcap's bpf_filter must give just these endpoints and bytes
  * by the filters of the version at which the packet was received, as the decisions on the requests told them. On an interface
  * the first PACKETS of each core (1,000,000) are kept for that. Status 0: none is wrong; 1: one is; 2: a fault. */
+#ifndef _GNU_SOURCE
+#define _GNU_SOURCE
+#endif
 #include <arpa/inet.h>
 #include <errno.h>
 #include <linux/if_ether.h>
