@@ -1,11 +1,10 @@
 #!/bin/sh
-# Builds the programs beside it over the C library and runs them. A line for each check, then `N passed, M failed`; status 1 where
+# Builds the programs beside it over the C libraries and runs them. A line for each check, then `N passed, M failed`; status 1 where
 # one failed. What can't be tried here is said: `skipped: ..`.
-# Usage: c/check.sh                    proves and builds the library first where it isn't built from these sources (./libmkdemux)
-#        c/check.sh --built            proves nothing: skips everything where it isn't built from these sources
-#        c/check.sh --built FOLDER     takes the library of a folder, as ./libmkdemux FOLDER makes it, or skips everything
-# It needs a C compiler (CC, by default cc); libpcap's header and library for three of the programs; a C++ compiler (CXX) and
-# valgrind are used where they are there.
+# Usage: c/check.sh                    proves and builds the libraries first where they aren't built from these sources (./libmkdemux)
+#        c/check.sh --built [FOLDER]   takes the libraries of a folder, by default dist/, and proves nothing
+# It needs a C compiler (CC, by default cc); libpcap's header and library for most programs; a C++ compiler (CXX), pkg-config,
+# valgrind, the compiler's sanitizers and `unshare` are used where they are there.
 from=$PWD
 cd "$(dirname "$0")" || exit 2
 made=$(mktemp -d) || exit 2
@@ -14,7 +13,8 @@ passed=0
 failed=0
 cc=${CC:-cc}
 cxx=${CXX:-c++}
-strict="-std=c99 -Wall -Wextra -pedantic -Werror -O2"
+strict="-std=c99 -Wall -Wextra -pedantic -Werror -O2 -D_DEFAULT_SOURCE"
+strict11="-std=c11 -Wall -Wextra -pedantic -Werror -O2 -D_GNU_SOURCE"
 
 end() {
     echo "$passed passed, $failed failed"
@@ -51,97 +51,254 @@ links() {
     $cc -o "$made/try" "$made/try.c" "$@" > /dev/null 2>&1
 }
 
-# LANGUAGE COMPILER WORDS: the header alone, and behind <pcap.h> where it is there.
-accepts() {
-    {
-        echo '#include "mkdemux.h"'
-        if [ -n "$pcap" ]; then
-            echo '#include <pcap.h>'
-            echo '#include "mkdemux.h"'
-            echo 'int filter(const mkdemux_program *p, const struct pcap_pkthdr *h, const u_char *b);'
-            echo 'int filter(const mkdemux_program *p, const struct pcap_pkthdr *h, const u_char *b)'
-            echo '{ return mkdemux_offline_filter(p, h, b); }'
-        fi
-        echo 'int main(void) { return mkdemux_open(NULL, 0, NULL, NULL) != NULL; }'
-    } > "$made/header.$1"
-    "$2" $3 -D_DEFAULT_SOURCE -Wall -Wextra -pedantic -Werror "$headers" -o "$made/header" "$made/header.$1" "$archive" && "$made/header"
+# The library NAME: its archive is there.
+has() {
+    [ -f "$folder/lib/lib$1.a" ]
 }
 
-case ${2-} in
-'') folder=out ;;
-/*) folder=$2 ;;
-*) folder=$from/$2 ;;
+# PROGRAM LIBRARY WORDS..: builds a program under strict warnings.
+build() {
+    program=$1
+    library=$2
+    shift 2
+    $cc $strict "$headers" -o "$made/$program" "$program.c" "$folder/lib/lib$library.a" "$@"
+}
+
+# PROGRAM WORDS..: the same in C11 for Linux, with cores and threads.
+build11() {
+    program=$1
+    shift
+    $cc $strict11 "$headers" -o "$made/$program" "$program.c" "$folder/lib/libmkdemux_cores.a" "$@" -lpthread
+}
+
+# PAGE NUMBER: the block of C of this number on a page.
+block() {
+    awk -v wanted="$2" '/^```c$/ { n++; inside = 1; next } /^```$/ { inside = 0 } inside && n == wanted' "$1"
+}
+
+# ---- The headers ----
+
+# LANGUAGE COMPILER WORDS HEADER..: headers in this order, each twice, and what they have together.
+accepts() {
+    language=$1
+    compiler=$2
+    words=$3
+    shift 3
+    archives=
+    {
+        for header; do
+            echo "#include <$header.h>"
+            archives="$archives $folder/lib/lib$header.a"
+        done
+        for header; do
+            echo "#include <$header.h>"
+        done
+        [ -z "$pcap" ] || printf '#include <pcap.h>\n#include <%s.h>\n' "$1"
+        echo 'int main(void)'
+        echo '{'
+        case $* in *mkdemux) echo '    mkdemux_close(mkdemux_open(NULL, 0, NULL, NULL));' ;; esac
+        case $* in *cores*)
+            echo '    mkdemux_core core = {NULL};'
+            echo '    mkdemux_close(&core);'
+            echo '    if (mkdemux_boot(NULL, 0, &core) != MKDEMUX_CORE_NOT_CORES) return 1;'
+            ;;
+        esac
+        echo '    return 0;'
+        echo '}'
+    } > "$made/header.$language"
+    "$compiler" $words -D_DEFAULT_SOURCE -Wall -Wextra -pedantic -Werror "$headers" -o "$made/header" "$made/header.$language" $archives &&
+        "$made/header"
+}
+
+# HEADER..: in C and C++.
+accepts_both() {
+    try "$* in C99" accepts c "$cc" -std=c99 "$@"
+    if command -v "$cxx" > /dev/null; then
+        try "$* in C++" accepts cpp "$cxx" -std=c++98 "$@"
+    else
+        echo "skipped: $* in C++: no C++ compiler"
+    fi
+}
+
+# NAME: a program that is linked by the words of pkg-config, from where it was cloned, and from a copy of it.
+finds() {
+    cp -R "$folder/include" "$folder/lib" "$made/" && for at in "$folder" "$made"; do
+        words=$(PKG_CONFIG_PATH=$at/lib/pkgconfig pkg-config --cflags --libs "$1") &&
+            $cc -o "$made/found" "$made/header.c" $words && "$made/found" || return 1
+    done
+}
+
+# NAME: the archive shows the names of its header alone.
+shows_names() {
+    nm -g --defined-only "$folder/lib/lib$1.a" | awk 'NF == 3 { print $3 }' | while read -r name; do
+        grep -q "\\b$name(" "$folder/include/$1.h" || { echo "$name isn't in $1.h"; exit 1; }
+    done
+}
+
+# ---- The verifier and the machine ----
+
+# The page's program, on a capture of which it has to show two packets.
+shows_page() {
+    block ../docs/c-library.md 1 > "$made/page.c" && $cc $strict "$headers" -o "$made/page" "$made/page.c" "$folder/lib/libmkdemux.a" $pcap &&
+        "$made/page" $frames arp > "$made/shown" && [ "$(wc -l < "$made/shown")" -eq 2 ]
+}
+
+try_mkdemux() {
+    cmp mkdemux.h "$folder/include/mkdemux.h" > /dev/null || echo "note: $folder/include/mkdemux.h isn't c/mkdemux.h"
+    accepts_both mkdemux
+    [ -z "$pkg_config" ] || try "pkg-config mkdemux" finds mkdemux
+    try "the names of libmkdemux.a" shows_names mkdemux
+    try "calls.c without a warning" build calls mkdemux -Wl,--wrap=malloc,--wrap=realloc
+    try "each call, and each allocation refused" "$made/calls"
+    [ -z "$watch" ] || try "calls under valgrind" $watch "$made/calls"
+    if [ -z "$pcap" ]; then
+        echo "skipped: pcapgrep.c, difference.c, bench.c: no libpcap"
+        return
+    fi
+    for program in pcapgrep difference bench; do
+        try "$program.c without a warning" build $program mkdemux $pcap
+    done
+    try "the first program of docs/c-library.md" shows_page
+    try "pcapgrep, arp" writes pcapgrep-arp.out "$made/pcapgrep" $frames arp
+    try "pcapgrep, tcp dst port 80" writes pcapgrep-port80.out "$made/pcapgrep" $frames 'tcp dst port 80'
+    try "1,000,000 random programs beside libpcap" "$made/difference" 1000000 1
+    try "the verdicts of bench/filters beside libpcap" "$made/bench" -n 1 ../bench/filters/*.ddd
+    if [ -n "$watch" ]; then
+        try "pcapgrep under valgrind" writes pcapgrep-arp.out $watch "$made/pcapgrep" $frames arp
+        try "difference under valgrind" $watch "$made/difference" 5000 2
+        try "bench under valgrind" $watch "$made/bench" -n 1 ../bench/filters/arp.ddd
+    fi
+}
+
+# ---- Cores ----
+
+# The page's program of cores prints what the page says.
+shows_cores() {
+    block ../docs/c-library.md 2 > "$made/cores.c" && $cc $strict "$headers" -o "$made/cores" "$made/cores.c" "$folder/lib/libmkdemux_cores.a" &&
+        sed -n '/^```text$/,/^```$/p' ../docs/c-library.md | sed '1d;$d' > "$made/wanted" && "$made/cores" > "$made/shown" &&
+        cmp "$made/shown" "$made/wanted"
+}
+
+# COMMAND..: an end of `live` in which all 20,000 packets were received and each receipt was right.
+receives_all() {
+    "$@" > "$made/lived" 2>&1 && tail -n 1 "$made/lived" | grep "^20000 packets received, 0 lost; .* 20000 receipts checked by bpf_filter: 0 wrong$" ||
+        { cat "$made/lived"; return 1; }
+}
+
+# CORES: an endpoint that is open before the first packet gets the same on any number of cores.
+counts() {
+    printf '%s\n' '# orders' 'at 0 core 0 open 7 udp dst port 53' "at 0 core $(($1 - 1)) open 9 tcp" 'at 9 core 0 close 7' \
+        'at 90 core 0 open 7 arp' > "$made/orders"
+    receives_all "$made/live" -c "$1" -f "$made/orders" "$made/flows.pcap" && grep '^  endpoint 9: ' "$made/lived" > "$made/nine.$1" &&
+        cmp "$made/nine.$1" "$made/nine.1"
+}
+
+# PROGRAM CORES: on packets that the host sends to itself.
+lives_on_loopback() {
+    unshare -Urn sh -c '
+        "$1/flows" -u 0 > "$1/sent" || exit 1
+        "$1/$2" -c "$3" -s 100 -i lo > "$1/lived" 2>&1 &
+        tries=0
+        until grep -q "^live: " "$1/lived" || [ $tries -ge 200 ]; do
+            tries=$((tries + 1))
+            sleep 0.05
+        done
+        "$1/flows" -u > "$1/sent"
+        sleep 0.3
+        kill -TERM $!
+        wait $!' sh "$made" "$1" "$2" && tail -n 1 "$made/lived" | grep "^[1-9][0-9]* packets received, .* changes; [1-9][0-9]* receipts .* 0 wrong$" &&
+        [ "$(grep -c '^  endpoint [0-9]*: [1-9]' "$made/lived")" -ge 2 ] || { cat "$made/sent" "$made/lived"; return 1; }
+}
+
+# WORDS: `live` as the sanitizers of these words build it, on captures.
+is_clean() {
+    $cc $strict11 -g "-fsanitize=$1" "$headers" -o "$made/live.$1" live.c "$folder/lib/libmkdemux_cores.a" $pcap -lpthread && for cores in 1 2 4; do
+        receives_all "$made/live.$1" -c $cores "$made/flows.pcap" && ! grep -E 'WARNING|ERROR|runtime error' "$made/lived" || return 1
+    done
+}
+
+try_live() {
+    for program in live flows; do
+        try "$program.c without a warning" build11 $program $pcap
+    done
+    try "20,000 packets of 200 flows" "$made/flows" "$made/flows.pcap"
+    for cores in 1 2 4 8; do
+        try "live on $cores cores" receives_all "$made/live" -c $cores "$made/flows.pcap"
+        try "the counts of live on $cores cores" counts $cores
+    done
+    for sanitizer in address,undefined thread; do
+        if links '' "-fsanitize=$sanitizer" && "$made/try"; then
+            try "live with -fsanitize=$sanitizer" is_clean $sanitizer
+        else
+            echo "skipped: live with -fsanitize=$sanitizer: the compiler hasn't it"
+        fi
+    done
+    [ -z "$watch" ] || try "live under valgrind" receives_all $watch "$made/live" -c 2 "$made/flows.pcap"
+    if unshare -Urn true 2> /dev/null; then
+        for cores in 1 2; do
+            try "live on a loopback interface, $cores cores" lives_on_loopback live $cores
+        done
+    else
+        echo "skipped: live on a loopback interface: there are no network namespaces"
+    fi
+}
+
+try_cores() {
+    cmp mkdemux_cores.h "$folder/include/mkdemux_cores.h" > /dev/null || echo "note: $folder/include/mkdemux_cores.h isn't c/mkdemux_cores.h"
+    accepts_both mkdemux_cores
+    [ -z "$pkg_config" ] || try "pkg-config mkdemux_cores" finds mkdemux_cores
+    try "the names of libmkdemux_cores.a" shows_names mkdemux_cores
+    try "core_calls.c without a warning" build core_calls mkdemux_cores -Wl,--wrap=malloc,--wrap=realloc
+    try "each call of cores, and each allocation refused" "$made/core_calls"
+    [ -z "$watch" ] || try "core_calls under valgrind" $watch "$made/core_calls"
+    try "the second program of docs/c-library.md" shows_cores
+    if [ -n "$pcap" ]; then
+        try_live
+    else
+        echo "skipped: live.c, flows.c: no libpcap"
+    fi
+}
+
+# ---- What is there ----
+
+case ${1-} in
+--built)
+    folder=${2:-$PWD/../dist}
+    case $folder in /*) ;; *) folder=$from/$folder ;; esac
+    ;;
+*)
+    folder=$PWD/out
+    ../libmkdemux "$folder" && ../libmkdemux --cores "$folder" || exit 2
+    ;;
 esac
-if [ "${1-}" = --built ] && [ $# -eq 2 ]; then
-    [ -f "$folder/lib/libmkdemux.a" ] || {
-        echo "skipped: the C library isn't in $2; ./libmkdemux builds it, c/check.sh tries it"
-        end
-    }
-elif [ "${1-}" = --built ]; then
-    ../libmkdemux --built || {
-        echo "skipped: the C library isn't built from these sources; ./libmkdemux builds it, c/check.sh tries it"
-        end
-    }
-else
-    ../libmkdemux || exit 2
-fi
-folder=$(cd "$folder" && pwd)
-archive=$folder/lib/libmkdemux.a
 headers=-I$folder/include
+frames=../examples/frames.pcap
 if ! links ''; then
     echo "skipped: all of it: no C compiler"
     end
 fi
 pcap=
 links '#include <pcap.h>' -lpcap && pcap=-lpcap
-
-accepts_c() { accepts c "$cc" -std=c99; }
-accepts_cpp() { accepts cpp "$cxx" -std=c++98; }
-try "the header in C99" accepts_c
-if command -v "$cxx" > /dev/null; then
-    try "the header in C++" accepts_cpp
-else
-    echo "skipped: the header in C++: no C++ compiler"
-fi
-
-# PROGRAM WORDS..: builds a program under strict warnings.
-build() {
-    program=$1
-    shift
-    $cc $strict -D_DEFAULT_SOURCE "$headers" -o "$made/$program" "$program.c" "$archive" "$@"
-}
-# The page's program, on a capture of which it has to show two packets.
-shows_page() {
-    sed -n '/^```c$/,/^```$/p' ../docs/c-library.md | sed '1d;$d' > "$made/page.c" &&
-        $cc $strict -D_DEFAULT_SOURCE "$headers" -o "$made/page" "$made/page.c" "$archive" $pcap &&
-        "$made/page" $frames arp > "$made/shown" && [ "$(wc -l < "$made/shown")" -eq 2 ]
-}
-try "calls.c without a warning" build calls -Wl,--wrap=malloc,--wrap=realloc
-try "each call, and each allocation refused" "$made/calls"
-frames=../examples/frames.pcap
-if [ -n "$pcap" ]; then
-    for program in pcapgrep difference bench; do
-        try "$program.c without a warning" build $program $pcap
-    done
-    try "the program of docs/c-library.md" shows_page
-    try "pcapgrep, arp" writes pcapgrep-arp.out "$made/pcapgrep" $frames arp
-    try "pcapgrep, tcp dst port 80" writes pcapgrep-port80.out "$made/pcapgrep" $frames 'tcp dst port 80'
-    try "1,000,000 random programs beside libpcap" "$made/difference" 1000000 1
-    try "the verdicts of bench/filters beside libpcap" "$made/bench" -n 1 ../bench/filters/*.ddd
-else
-    echo "skipped: pcapgrep.c, difference.c, bench.c: no libpcap"
-fi
-
-# The same under valgrind, on fewer programs.
+pkg_config=$(command -v pkg-config)
+[ -n "$pkg_config" ] || echo "skipped: pkg-config isn't there"
+watch=
 if command -v valgrind > /dev/null; then
     watch="valgrind -q --error-exitcode=9 --leak-check=full --errors-for-leak-kinds=definite,possible,indirect"
-    try "calls under valgrind" $watch "$made/calls"
-    if [ -n "$pcap" ]; then
-        try "pcapgrep under valgrind" writes pcapgrep-arp.out $watch "$made/pcapgrep" $frames arp
-        try "difference under valgrind" $watch "$made/difference" 5000 2
-        try "bench under valgrind" $watch "$made/bench" -n 1 ../bench/filters/arp.ddd
-    fi
 else
     echo "skipped: valgrind isn't there"
+fi
+if has mkdemux; then
+    try_mkdemux
+else
+    echo "skipped: libmkdemux.a isn't in $folder/lib; ./libmkdemux builds it, c/check.sh tries it"
+fi
+if has mkdemux_cores; then
+    try_cores
+else
+    echo "skipped: libmkdemux_cores.a isn't in $folder/lib; ./libmkdemux --cores builds it, c/check.sh tries it"
+fi
+if has mkdemux && has mkdemux_cores; then
+    accepts_both mkdemux mkdemux_cores
+    accepts_both mkdemux_cores mkdemux
 fi
 end

@@ -21,12 +21,15 @@ extern "C" {
 #endif
 
 /* One instruction. `struct bpf_insn` of libpcap and BSD and `struct sock_filter` of Linux have this very layout, so a pointer
- * to either may be cast to a pointer to this. */
+ * to either may be cast to a pointer to this. (mkdemux_cores.h has it too.) */
+#ifndef MKDEMUX_INSN
+#define MKDEMUX_INSN
 struct mkdemux_insn {
     uint16_t code;
     uint8_t jt, jf;
     uint32_t k;
 };
+#endif
 
 enum {
     MKDEMUX_MAX_INSNS = 4096,             /* a program of more is refused */
@@ -191,8 +194,8 @@ static inline const mkdemux_program *mkdemux_open(const void *code, size_t count
     return made;
 }
 
-/* Gives the copy back. NULL is allowed, and nothing then. */
-static inline void mkdemux_close(const mkdemux_program *program)
+/* Gives the copy back. NULL is allowed, and nothing then. Its name is mkdemux_close. */
+static inline void mkdemux_close_program(const mkdemux_program *program)
 {
     free((void *)program);
 }
@@ -214,6 +217,18 @@ static inline const char *mkdemux_rule_name(uint32_t rule)
 
 #ifdef __cplusplus
 }
+#endif
+
+/* mkdemux_close is the name of a call of mkdemux_cores.h too. Where that is included, it closes what it is given. */
+#ifdef __cplusplus
+static inline void mkdemux_close(const mkdemux_program *program)
+{
+    mkdemux_close_program(program);
+}
+#elif defined(MKDEMUX_CORES_H)
+#define mkdemux_close(it) (__extension__ _Generic((it), mkdemux_core *: mkdemux_close, default: mkdemux_close_program)(it))
+#else
+#define mkdemux_close mkdemux_close_program
 #endif
 #endif
 

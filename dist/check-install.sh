@@ -38,6 +38,13 @@ finds_page() {
     page=$(PATH=$made/prefix/bin:$PATH MANPATH='' man -w mkdemux) && [ "$(readlink -f "$page")" = "$(readlink -f "$made/prefix/share/man/man1/mkdemux.1")" ]
 }
 
+# LIBRARY: a C program that includes its header links by the words of pkg-config.
+finds_library() {
+    printf '#include <%s.h>\nint main(void) { return 0; }\n' "$1" > "$made/program.c" &&
+        words=$(PKG_CONFIG_PATH=$made/prefix/lib/pkgconfig pkg-config --cflags --libs "$1") &&
+        ${CC:-cc} -o "$made/program" "$made/program.c" $words && "$made/program"
+}
+
 # A link to a link to ./mkdemux, from another folder, by a relative path.
 runs_by_link() {
     mkdir -p "$made/one/two" && ln -s "$top/mkdemux" "$made/one/link" && ln -s ../link "$made/one/two/mkdemux" &&
@@ -52,6 +59,15 @@ if command -v man > /dev/null; then
 else
     echo "skipped: man mkdemux: man isn't there"
 fi
+for library in mkdemux mkdemux_cores; do
+    if [ ! -f "$top/dist/lib/lib$library.a" ]; then
+        echo "skipped: $library: it isn't in dist/lib"
+    elif command -v "${CC:-cc}" > /dev/null && command -v pkg-config > /dev/null; then
+        try "$library by pkg-config" finds_library "$library"
+    else
+        echo "skipped: $library by pkg-config: no C compiler, or no pkg-config"
+    fi
+done
 if [ "$("$top/dist/digest.sh")" = "$(cat "$top/dist/sources")" ] || [ -x "$top/crates/mkdemux/out/stamped/mkdemux" ]; then
     try "./mkdemux by links" runs_by_link
 else

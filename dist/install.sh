@@ -68,4 +68,6 @@ case $prefix in
 /usr | /usr/local) ;;
 *) say "for zsh, before compinit in ~/.zshrc: fpath=($prefix/share/zsh/site-functions \$fpath)" ;;
 esac
-[ -f "$prefix/lib/libmkdemux.a" ] || say "there is no C library in dist/; ./libmkdemux PREFIX builds it, with the Rattle kit"
+for name in mkdemux mkdemux_cores; do
+    [ -f "lib/lib$name.a" ] || say "there is no lib$name.a in dist/; docs/c-library.md says how to build it, with the Rattle kit"
+done

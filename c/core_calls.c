@@ -1,0 +1,638 @@
+/* Each call of mkdemux_cores.h, with what it answers and writes. It is linked with --wrap=malloc and --wrap=realloc, and lets each
+ * allocation fail in turn. Prints the checks that fail, then how many passed. Status 1 where one failed. */
+#include <stdio.h>
+#include <stdlib.h>
+#include <string.h>
+
+#include "mkdemux_cores.h"
+
+enum { MOST = MKDEMUX_CORE_MOST_CORES, LONGEST = MKDEMUX_CORE_MOST_INSNS, ROOM = MKDEMUX_CORE_MOST_ENDPOINTS, PACKETS = 3 };
+
+static int passed, failed;
+
+#define CHECK(fact) check((fact) != 0, #fact, __LINE__)
+
+static void check(int holds, const char *fact, int line)
+{
+    if (holds) {
+        passed++;
+    } else {
+        failed++;
+        printf("core_calls.c:%d: %s\n", line, fact);
+    }
+}
+
+/* ---- Memory that runs out. The allocation of this number fails, where it isn't 0 ---- */
+
+void *__real_malloc(size_t size);
+void *__real_realloc(void *block, size_t size);
+void *__wrap_malloc(size_t size);
+void *__wrap_realloc(void *block, size_t size);
+
+/* (volatile: a compiler may take it that malloc changes nothing that a program can see) */
+static volatile unsigned long failing, asked;
+
+static int is_refused(void)
+{
+    return ++asked == failing;
+}
+
+void *__wrap_malloc(size_t size)
+{
+    return is_refused() ? NULL : __real_malloc(size);
+}
+
+void *__wrap_realloc(void *block, size_t size)
+{
+    return is_refused() ? NULL : __real_realloc(block, size);
+}
+
+/* ---- Programs and packets ---- */
+
+#define COUNT(array) (sizeof(array) / sizeof *(array))
+
+static const struct mkdemux_insn arp[] = {{40, 0, 0, 12}, {21, 0, 1, 2054}, {6, 0, 0, 262144}, {6, 0, 0, 0}};
+static const struct mkdemux_insn ten[] = {{6, 0, 0, 10}}; /* ten bytes of any packet */
+static const struct mkdemux_insn all[] = {{6, 0, 0, 0xffffffff}};
+static const uint8_t frames[PACKETS][14] = {{255, 255, 255, 255, 255, 255, 0, 0x11, 0x22, 0x33, 0x44, 0x55, 8, 6},
+    {255, 255, 255, 255, 255, 255, 0, 0x11, 0x22, 0x33, 0x44, 0x55, 8, 0}, {1}};
+static struct mkdemux_insn longest[LONGEST + 1];
+
+/* So many times `txa`, the last a return. */
+static const struct mkdemux_insn *txa(size_t count)
+{
+    size_t i;
+    for (i = 0; i < count; i++) {
+        memset(&longest[i], 0, sizeof longest[i]);
+        longest[i].code = i + 1 < count ? 0x87 : 0x16;
+    }
+    return longest;
+}
+
+/* ---- A machine in one thread ---- */
+
+struct machine {
+    mkdemux_core cores[MOST];
+    size_t count;
+};
+
+static void boot(struct machine *machine, size_t count, uint32_t budget)
+{
+    uint32_t budgets[MOST];
+    size_t i;
+    memset(machine, 0, sizeof *machine);
+    machine->count = count;
+    for (i = 0; i < count; i++)
+        budgets[i] = budget;
+    CHECK(mkdemux_boot(budgets, count, machine->cores) == MKDEMUX_CORE_OK);
+}
+
+static void close_all(struct machine *machine)
+{
+    size_t i;
+    for (i = 0; i < machine->count; i++)
+        mkdemux_close(&machine->cores[i]);
+}
+
+/* Turns all cores by turns until this one has a decision, which lands in `turned`. Another core's decision counts as a failure. */
+static void decide(struct machine *machine, size_t number, mkdemux_turned *turned)
+{
+    mkdemux_turned other;
+    size_t i, rounds;
+    for (rounds = 0; rounds < 1000; rounds++) {
+        for (i = 0; i < machine->count; i++) {
+            uint32_t answer = mkdemux_turn(&machine->cores[i], i == number ? turned : &other);
+            CHECK(answer == MKDEMUX_CORE_OK || answer == MKDEMUX_CORE_IDLE);
+            CHECK(i == number || answer || other.what == MKDEMUX_TURN_STEP);
+            if (i == number && !answer && turned->what == MKDEMUX_TURN_DECISION)
+                return;
+        }
+    }
+    CHECK(!"a decision");
+}
+
+/* Turns all until none has anything to do. */
+static void settle(struct machine *machine)
+{
+    mkdemux_turned turned;
+    size_t i, idle = 0;
+    while (idle < 4 * machine->count)
+        for (i = 0; i < machine->count; i++)
+            idle = mkdemux_turn(&machine->cores[i], &turned) == MKDEMUX_CORE_IDLE ? idle + 1 : 0;
+}
+
+/* The decision on the request that was just put, by the core. */
+static mkdemux_turned answer_at(struct machine *machine, size_t number, uint32_t put)
+{
+    mkdemux_turned turned;
+    memset(&turned, 0x5a, sizeof turned);
+    CHECK(put == MKDEMUX_CORE_OK);
+    decide(machine, number, &turned);
+    return turned;
+}
+
+static int is_committed(mkdemux_turned turned, uint64_t version, uint32_t made)
+{
+    return turned.what == MKDEMUX_TURN_DECISION && turned.decision == MKDEMUX_COMMITTED && turned.version == version &&
+        turned.made == made && turned.rule == 0 && turned.place == 0 && turned.core == 0;
+}
+
+static int is_refused_by(mkdemux_turned turned, uint32_t decision, uint32_t rule, uint32_t place, uint32_t core)
+{
+    return turned.what == MKDEMUX_TURN_DECISION && turned.decision == decision && turned.version == 0 &&
+        turned.made == MKDEMUX_MADE_NOTHING && turned.rule == rule && turned.place == place && turned.core == core;
+}
+
+#define RULE(turned, rule) CHECK(is_refused_by(turned, MKDEMUX_REFUSED, MKDEMUX_RULE_##rule, 0, 0))
+
+/* ---- Calls ---- */
+
+static void closed(void)
+{
+    mkdemux_core core = {NULL};
+    mkdemux_turned turned;
+    struct mkdemux_kept room[1] = {{7, 7}};
+    size_t count = 77;
+    memset(&turned, 0x5a, sizeof turned);
+    CHECK(mkdemux_turn(&core, &turned) == MKDEMUX_CORE_CLOSED && turned.what == 0x5a5a5a5a);
+    CHECK(mkdemux_ask_create(&core, 1, 2) == MKDEMUX_CORE_CLOSED);
+    CHECK(mkdemux_ask_mint(&core, 1, 1, 2, MKDEMUX_RIGHT_BOTH) == MKDEMUX_CORE_CLOSED);
+    CHECK(mkdemux_ask_revoke(&core, 1, 1) == MKDEMUX_CORE_CLOSED);
+    CHECK(mkdemux_ask_drop(&core, 1, 1) == MKDEMUX_CORE_CLOSED);
+    CHECK(mkdemux_ask_install(&core, 1, 1, arp, COUNT(arp)) == MKDEMUX_CORE_CLOSED);
+    CHECK(mkdemux_ask_remove(&core, 1, 1) == MKDEMUX_CORE_CLOSED);
+    CHECK(mkdemux_ask_replace(&core, 1, 1, arp, COUNT(arp)) == MKDEMUX_CORE_CLOSED);
+    CHECK(mkdemux_receive(&core, frames[0], 14, 60, room, 1, &count) == MKDEMUX_CORE_CLOSED && count == 0);
+    CHECK(room[0].endpoint == 7 && room[0].kept == 7);
+    CHECK(mkdemux_version(&core) == 0 && mkdemux_unanswered(&core) == 0);
+    mkdemux_close(&core);
+    mkdemux_close(&core);
+    CHECK(core.at == NULL);
+}
+
+static void boots(void)
+{
+    static const uint32_t budgets[MOST + 1] = {9, 9, 9, 9, 9, 9, 9, 9, 9};
+    mkdemux_core cores[MOST + 1] = {{NULL}};
+    size_t count, i;
+    void *at;
+    CHECK(mkdemux_boot(budgets, 0, cores) == MKDEMUX_CORE_NOT_CORES && !cores[0].at);
+    CHECK(mkdemux_boot(NULL, 0, NULL) == MKDEMUX_CORE_NOT_CORES);
+    CHECK(mkdemux_boot(budgets, MOST + 1, cores) == MKDEMUX_CORE_NOT_CORES && !cores[0].at && !cores[MOST].at);
+    CHECK(mkdemux_boot_cores(budgets, 2, cores, 3) == MKDEMUX_CORE_NO_ROOM && !cores[0].at);
+    for (count = 1; count <= MOST; count++) {
+        CHECK(mkdemux_boot(budgets, count, cores) == MKDEMUX_CORE_OK);
+        for (i = 0; i <= MOST; i++)
+            CHECK(!cores[i].at == (i >= count));
+        for (i = 0; i < count; i++)
+            CHECK(mkdemux_version(&cores[i]) == 0 && mkdemux_unanswered(&cores[i]) == 0);
+        at = cores[count - 1].at;
+        CHECK(mkdemux_boot(budgets, count, cores) == MKDEMUX_CORE_OPEN && cores[count - 1].at == at);
+        for (i = 0; i < count; i++)
+            mkdemux_close(&cores[i]);
+        CHECK(!cores[0].at && !cores[count - 1].at);
+    }
+    CHECK(mkdemux_boot(budgets, 1, cores + 3) == MKDEMUX_CORE_OK); /* one open among closed ones */
+    at = cores[3].at;
+    CHECK(mkdemux_boot(budgets, 4, cores) == MKDEMUX_CORE_OPEN && !cores[0].at && cores[3].at == at);
+    mkdemux_close(&cores[3]);
+}
+
+static void idles(void)
+{
+    struct machine machine;
+    mkdemux_turned turned;
+    size_t i;
+    boot(&machine, 3, 100);
+    for (i = 0; i < 3; i++) {
+        memset(&turned, 0x5a, sizeof turned);
+        CHECK(mkdemux_turn(&machine.cores[i], &turned) == MKDEMUX_CORE_IDLE);
+        CHECK(turned.what == MKDEMUX_TURN_NOTHING && turned.decision == 0 && turned.version == 0);
+        CHECK(turned.made == MKDEMUX_MADE_NOTHING && turned.rule == 0 && turned.place == 0 && turned.core == 0);
+    }
+    close_all(&machine);
+}
+
+/* A life of an endpoint, asked for at this core of so many. */
+static void serves(size_t count, size_t at)
+{
+    struct machine machine;
+    mkdemux_core *core = &machine.cores[at];
+    size_t i;
+    boot(&machine, count, 100);
+    CHECK(is_committed(answer_at(&machine, at, mkdemux_ask_create(core, 1, 7)), 1, 1));
+    CHECK(is_committed(answer_at(&machine, at, mkdemux_ask_install(core, 1, 1, arp, COUNT(arp))), 2, 1));
+    CHECK(is_committed(answer_at(&machine, at, mkdemux_ask_mint(core, 1, 1, 2, MKDEMUX_RIGHT_RECEIVE)), 3, 2));
+    CHECK(is_committed(answer_at(&machine, at, mkdemux_ask_install(core, 2, 2, ten, 1)), 4, 2));
+    settle(&machine);
+    for (i = 0; i < count; i++) {
+        struct mkdemux_kept room[3] = {{9, 9}, {9, 9}, {9, 9}};
+        size_t got = 77;
+        CHECK(mkdemux_version(&machine.cores[i]) == 4 && mkdemux_unanswered(&machine.cores[i]) == 0);
+        CHECK(mkdemux_receive(&machine.cores[i], frames[0], 14, 60, room, 3, &got) == MKDEMUX_CORE_OK && got == 1);
+        CHECK(room[0].endpoint == 7 && room[0].kept == 14 && room[1].endpoint == 9); /* the greatest verdict, 14 bytes captured */
+        CHECK(mkdemux_receive(&machine.cores[i], frames[1], 14, 60, room, 1, &got) == MKDEMUX_CORE_OK && got == 1);
+        CHECK(room[0].endpoint == 7 && room[0].kept == 10);
+    }
+    CHECK(is_committed(answer_at(&machine, at, mkdemux_ask_replace(core, 2, 2, all, 1)), 5, MKDEMUX_MADE_NOTHING));
+    CHECK(is_committed(answer_at(&machine, at, mkdemux_ask_remove(core, 1, 1)), 6, MKDEMUX_MADE_NOTHING));
+    CHECK(is_committed(answer_at(&machine, at, mkdemux_ask_revoke(core, 1, 1)), 7, MKDEMUX_MADE_NOTHING));
+    CHECK(is_committed(answer_at(&machine, at, mkdemux_ask_drop(core, 1, 1)), 8, MKDEMUX_MADE_NOTHING));
+    CHECK(is_committed(answer_at(&machine, at, mkdemux_ask_create(core, 1, 7)), 9, 3));
+    close_all(&machine);
+}
+
+static void receives(void)
+{
+    struct machine machine;
+    struct mkdemux_kept room[4] = {{9, 9}, {9, 9}, {9, 9}, {9, 9}};
+    mkdemux_core *core = machine.cores;
+    size_t count = 77;
+    uint32_t i;
+    boot(&machine, 1, 100);
+    CHECK(mkdemux_receive(core, frames[0], 14, 60, NULL, 0, &count) == MKDEMUX_CORE_OK && count == 0);
+    for (i = 0; i < 3; i++) { /* endpoints 30, 20, 10 */
+        answer_at(&machine, 0, mkdemux_ask_create(core, 1, (uint16_t)(30 - 10 * i)));
+        answer_at(&machine, 0, mkdemux_ask_install(core, 1, i + 1, i == 0 ? arp : all, i == 0 ? COUNT(arp) : 1));
+    }
+    CHECK(mkdemux_receive(core, frames[0], 14, 60, room, 2, &count) == MKDEMUX_CORE_NO_ROOM && count == 3);
+    CHECK(mkdemux_receive(core, frames[0], 14, 60, NULL, 0, &count) == MKDEMUX_CORE_NO_ROOM && count == 3);
+    CHECK(room[0].endpoint == 9 && room[1].endpoint == 9 && room[2].endpoint == 9);
+    CHECK(mkdemux_receive(core, frames[0], 14, 60, room, 3, &count) == MKDEMUX_CORE_OK && count == 3);
+    CHECK(room[0].endpoint == 10 && room[1].endpoint == 20 && room[2].endpoint == 30 && room[3].endpoint == 9);
+    CHECK(room[0].kept == 14 && room[2].kept == 14);
+    room[2].endpoint = 9;
+    CHECK(mkdemux_receive(core, frames[1], 14, 0xffffffff, room, 4, &count) == MKDEMUX_CORE_OK && count == 2);
+    CHECK(room[0].endpoint == 10 && room[1].endpoint == 20 && room[2].endpoint == 9);
+    CHECK(mkdemux_receive(core, NULL, 0, 60, room, 4, &count) == MKDEMUX_CORE_OK && count == 2 && room[0].kept == 0);
+    close_all(&machine);
+}
+
+/* Each rule but those that take 2^32 requests; at a core that asks, and at core 0. */
+static void refuses(size_t at)
+{
+    static const struct mkdemux_insn unwritten[] = {{0x60, 0, 0, 3}, {0x16, 0, 0, 0}};
+    static const struct mkdemux_insn by_zero[] = {{0x87, 0, 0, 0}, {0x34, 0, 0, 0}, {6, 0, 0, 0}};
+    struct machine machine;
+    mkdemux_core *core = &machine.cores[at];
+    boot(&machine, 2, 100);
+    answer_at(&machine, at, mkdemux_ask_create(core, 1, 7));
+    answer_at(&machine, at, mkdemux_ask_mint(core, 1, 1, 2, MKDEMUX_RIGHT_MINT));
+    answer_at(&machine, at, mkdemux_ask_mint(core, 1, 1, 3, MKDEMUX_RIGHT_RECEIVE));
+    answer_at(&machine, at, mkdemux_ask_install(core, 1, 1, ten, 1));
+    RULE(answer_at(&machine, at, mkdemux_ask_drop(core, 1, 99)), NO_CAP);
+    RULE(answer_at(&machine, at, mkdemux_ask_revoke(core, 2, 1)), NOT_HOLDER);
+    RULE(answer_at(&machine, at, mkdemux_ask_install(core, 2, 2, ten, 1)), NO_RIGHT);
+    RULE(answer_at(&machine, at, mkdemux_ask_mint(core, 3, 3, 4, MKDEMUX_RIGHT_RECEIVE)), NO_RIGHT);
+    RULE(answer_at(&machine, at, mkdemux_ask_mint(core, 2, 2, 4, MKDEMUX_RIGHT_RECEIVE)), RIGHTS_EXCEED);
+    RULE(answer_at(&machine, at, mkdemux_ask_create(core, 2, 7)), ENDPOINT_TAKEN);
+    RULE(answer_at(&machine, at, mkdemux_ask_remove(core, 1, 99)), NO_FILTER);
+    RULE(answer_at(&machine, at, mkdemux_ask_replace(core, 2, 1, ten, 1)), NOT_OWNER);
+    CHECK(is_refused_by(answer_at(&machine, at, mkdemux_ask_install(core, 1, 1, NULL, 0)), MKDEMUX_REFUSED,
+        MKDEMUX_RULE_BAD_PROGRAM + 1, 0, 0));
+    CHECK(is_refused_by(answer_at(&machine, at, mkdemux_ask_install(core, 1, 1, by_zero, 3)), MKDEMUX_REFUSED,
+        MKDEMUX_RULE_BAD_PROGRAM + 4, 1, 0));
+    CHECK(is_refused_by(answer_at(&machine, at, mkdemux_ask_replace(core, 1, 1, arp, 1)), MKDEMUX_REFUSED,
+        MKDEMUX_RULE_BAD_PROGRAM + 9, 0, 0));
+    CHECK(is_refused_by(answer_at(&machine, at, mkdemux_ask_install(core, 1, 1, unwritten, 2)), MKDEMUX_REFUSED,
+        MKDEMUX_RULE_BAD_PROGRAM + 10, 0, 0));
+    CHECK(mkdemux_version(core) == 4);
+    close_all(&machine);
+}
+
+/* 1,024 capabilities and filters, and no more. */
+static void fills(void)
+{
+    static struct mkdemux_kept room[ROOM + 1];
+    struct machine machine;
+    mkdemux_core *core = machine.cores;
+    size_t count = 77, bad = 0;
+    uint32_t i;
+    boot(&machine, 1, 0xffffffff);
+    for (i = 1; i <= 1024; i++) {
+        bad += !is_committed(answer_at(&machine, 0, mkdemux_ask_create(core, 1, (uint16_t)i)), 2 * i - 1, i);
+        bad += !is_committed(answer_at(&machine, 0, mkdemux_ask_install(core, 1, i, ten, 1)), 2 * i, i);
+    }
+    CHECK(bad == 0);
+    RULE(answer_at(&machine, 0, mkdemux_ask_create(core, 1, 5000)), CAPS_FULL);
+    RULE(answer_at(&machine, 0, mkdemux_ask_install(core, 1, 1, ten, 1)), TABLE_FULL);
+    room[ROOM].endpoint = 9;
+    CHECK(mkdemux_receive(core, frames[0], 14, 60, room, ROOM - 1, &count) == MKDEMUX_CORE_NO_ROOM && count == ROOM);
+    CHECK(mkdemux_receive(core, frames[0], 14, 60, room, ROOM, &count) == MKDEMUX_CORE_OK && count == ROOM);
+    for (i = 0; i < ROOM; i++)
+        bad += room[i].endpoint != i + 1 || room[i].kept != 10;
+    CHECK(bad == 0 && room[ROOM].endpoint == 9);
+    close_all(&machine);
+}
+
+/* The core with the least budget says no, and none has the change. */
+static void vetoes(void)
+{
+    static const uint32_t budgets[3] = {100, 5, 4};
+    mkdemux_turned turned;
+    struct machine machine;
+    size_t i, at;
+    for (at = 0; at < 3; at++) {
+        memset(&machine, 0, sizeof machine);
+        machine.count = 3;
+        CHECK(mkdemux_boot(budgets, 3, machine.cores) == MKDEMUX_CORE_OK);
+        answer_at(&machine, at, mkdemux_ask_create(&machine.cores[at], 1, 7));
+        answer_at(&machine, at, mkdemux_ask_install(&machine.cores[at], 1, 1, arp, COUNT(arp)));
+        turned = answer_at(&machine, at, mkdemux_ask_install(&machine.cores[at], 1, 1, ten, 1));
+        CHECK(is_refused_by(turned, MKDEMUX_VETOED, MKDEMUX_RULE_BUDGET, 0, 2));
+        turned = answer_at(&machine, at, mkdemux_ask_install(&machine.cores[at], 1, 1, txa(97), 97));
+        CHECK(is_refused_by(turned, MKDEMUX_VETOED, MKDEMUX_RULE_BUDGET, 0, 0));
+        settle(&machine);
+        for (i = 0; i < 3; i++)
+            CHECK(mkdemux_version(&machine.cores[i]) == 2);
+        close_all(&machine);
+    }
+}
+
+static void asks_too_much(void)
+{
+    struct machine machine;
+    mkdemux_core *core;
+    size_t at;
+    boot(&machine, 2, 5000);
+    for (at = 0; at < 2; at++) {
+        core = &machine.cores[at];
+        CHECK(mkdemux_ask_install(core, 1, 1, txa(LONGEST + 1), LONGEST + 1) == MKDEMUX_CORE_TOO_LONG);
+        CHECK(mkdemux_ask_replace(core, 1, 1, longest, LONGEST + 1) == MKDEMUX_CORE_TOO_LONG);
+        CHECK(mkdemux_ask_mint(core, 1, 1, 2, 0) == MKDEMUX_CORE_BAD_RIGHTS);
+        CHECK(mkdemux_ask_mint(core, 1, 1, 2, 4) == MKDEMUX_CORE_BAD_RIGHTS);
+        CHECK(mkdemux_unanswered(core) == 0);
+    }
+    core = &machine.cores[1];
+    answer_at(&machine, 1, mkdemux_ask_create(core, 1, 7));
+    CHECK(is_committed(answer_at(&machine, 1, mkdemux_ask_install(core, 1, 1, txa(LONGEST), LONGEST)), 2, 1));
+    close_all(&machine);
+}
+
+/* Many requests at once at each core: the n-th decision of a core is the n-th request's. Every third is one that is refused. */
+static void keeps_order(size_t count)
+{
+    enum { EACH = 30 };
+    struct machine machine;
+    uint32_t decided[MOST] = {0}, granted = 0, bad = 0, i;
+    uint8_t seen[MOST * EACH + 1] = {0};
+    mkdemux_turned turned;
+    size_t at, left = count * EACH;
+    boot(&machine, count, 100);
+    for (at = 0; at < count; at++)
+        for (i = 0; i < EACH; i++)
+            bad += i % 3 == 2 ? mkdemux_ask_remove(&machine.cores[at], (uint16_t)at, 1)
+                              : mkdemux_ask_create(&machine.cores[at], (uint16_t)at, (uint16_t)(100 * at + i));
+    CHECK(bad == 0);
+    while (left > 0 && bad < 1000000)
+        for (at = 0; at < count; at++) {
+            uint32_t answer = mkdemux_turn(&machine.cores[at], &turned);
+            if (answer || turned.what != MKDEMUX_TURN_DECISION) {
+                bad += answer && answer != MKDEMUX_CORE_IDLE;
+                continue;
+            }
+            bad += (decided[at]++ % 3 == 2) != (turned.decision == MKDEMUX_REFUSED && turned.rule == MKDEMUX_RULE_NO_FILTER);
+            if (turned.decision == MKDEMUX_COMMITTED) {
+                granted++;
+                bad += turned.version > sizeof seen || turned.version != turned.made || seen[turned.version]++;
+            }
+            bad += mkdemux_unanswered(&machine.cores[at]) != EACH - decided[at];
+            left--;
+        }
+    CHECK(bad == 0 && granted == count * EACH * 2 / 3);
+    settle(&machine);
+    for (at = 0; at < count; at++)
+        CHECK(mkdemux_version(&machine.cores[at]) == granted);
+    close_all(&machine);
+}
+
+/* Requests that are under way when the cores are closed, in any order; the rest may still be called. */
+static void closes_early(void)
+{
+    struct machine machine;
+    mkdemux_turned turned;
+    struct mkdemux_kept room[1];
+    size_t at, i, turns, count;
+    for (at = 0; at < 3; at++)
+        for (turns = 0; turns < 8; turns++) {
+            boot(&machine, 3, 100);
+            CHECK(!mkdemux_ask_create(&machine.cores[1], 1, 7) && !mkdemux_ask_install(&machine.cores[1], 1, 1, arp, 4));
+            for (i = 0; i < turns; i++)
+                CHECK(mkdemux_turn(&machine.cores[i % 3], &turned) <= MKDEMUX_CORE_IDLE);
+            mkdemux_close(&machine.cores[at]);
+            for (i = 0; i < 30; i++)
+                CHECK((mkdemux_turn(&machine.cores[i % 3], &turned) == MKDEMUX_CORE_CLOSED) == (i % 3 == at));
+            CHECK(!mkdemux_receive(&machine.cores[(at + 1) % 3], frames[0], 14, 60, room, 1, &count));
+            close_all(&machine);
+        }
+}
+
+static void says(void)
+{
+    CHECK(!strcmp(mkdemux_core_word(MKDEMUX_CORE_OK), "Ok") && !strcmp(mkdemux_core_word(MKDEMUX_CORE_IDLE), "Idle"));
+    CHECK(!strcmp(mkdemux_core_word(MKDEMUX_CORE_NOT_CORES), "NoCores"));
+    CHECK(!strcmp(mkdemux_core_word(MKDEMUX_CORE_BAD_RIGHTS), "BadRights") && !strcmp(mkdemux_core_word(11), "?"));
+    CHECK(!strcmp(mkdemux_core_rule_word(MKDEMUX_RULE_NO_CAP), "NoCap"));
+    CHECK(!strcmp(mkdemux_core_rule_word(MKDEMUX_RULE_MEMORY), "NoMemory"));
+    CHECK(!strcmp(mkdemux_core_rule_word(MKDEMUX_RULE_BAD_PROGRAM + 9), "BadProgram"));
+    CHECK(!strcmp(mkdemux_core_rule_word(0), "?") && !strcmp(mkdemux_core_rule_word(15), "?"));
+    CHECK(sizeof(mkdemux_turned) == 32 && sizeof(struct mkdemux_kept) == 8 && sizeof(struct mkdemux_insn) == 8);
+}
+
+/* ---- Memory refused ---- */
+
+/* What can be seen of a machine: of each core its version, its requests, and who gets some packets. */
+struct view {
+    uint64_t versions[MOST], unanswered[MOST];
+    size_t counts[MOST][PACKETS];
+    uint32_t endpoints[MOST][PACKETS][4], kept[MOST][PACKETS][4];
+};
+
+static void receive_into(struct view *view, size_t core, size_t packet, mkdemux_core *handle)
+{
+    struct mkdemux_kept room[4];
+    size_t i, count;
+    CHECK(mkdemux_receive(handle, frames[packet], 14, 60, room, 4, &count) == MKDEMUX_CORE_OK);
+    view->counts[core][packet] = count;
+    for (i = 0; i < count; i++) {
+        view->endpoints[core][packet][i] = room[i].endpoint;
+        view->kept[core][packet][i] = room[i].kept;
+    }
+}
+
+static void look(struct machine *machine, struct view *view)
+{
+    unsigned long number = failing, before = asked;
+    size_t i, j;
+    failing = 0;
+    memset(view, 0, sizeof *view);
+    for (i = 0; i < machine->count; i++) {
+        view->versions[i] = mkdemux_version(&machine->cores[i]);
+        view->unanswered[i] = mkdemux_unanswered(&machine->cores[i]);
+        for (j = 0; j < PACKETS; j++)
+            receive_into(view, i, j, &machine->cores[i]);
+    }
+    failing = number;
+    asked = before;
+}
+
+/* Whether a call that answered this left all as it was, if it was for want of memory. Fills in whether it was. */
+static int leaves(struct machine *machine, const struct view *before, uint32_t answer, int *refused)
+{
+    struct view after;
+    look(machine, &after);
+    *refused = answer == MKDEMUX_CORE_NO_MEMORY;
+    return !*refused || !memcmp(before, &after, sizeof after);
+}
+
+/* The requests of which each allocation is refused in turn: everything that a core can be asked. */
+static uint32_t ask(mkdemux_core *core, size_t request)
+{
+    switch (request) {
+    case 0: return mkdemux_ask_create(core, 1, 9);
+    case 1: return mkdemux_ask_mint(core, 1, 1, 2, MKDEMUX_RIGHT_BOTH);
+    case 2: return mkdemux_ask_install(core, 1, 1, arp, COUNT(arp));
+    case 3: return mkdemux_ask_replace(core, 1, 1, all, 1);
+    case 4: return mkdemux_ask_remove(core, 1, 1);
+    case 5: return mkdemux_ask_revoke(core, 1, 1);
+    default: return mkdemux_ask_drop(core, 1, 1);
+    }
+}
+
+/* One request at a core of two, put and turned until it is decided, with the allocation of this number refused. A call that answers NO_MEMORY
+ * is made again. Whether so many were asked for. */
+static int is_asked_with(size_t at, size_t request, unsigned long number, unsigned long *refusals)
+{
+    struct machine machine;
+    struct view before;
+    mkdemux_turned turned;
+    int refused, reached;
+    uint32_t answer;
+    size_t i = at, rounds;
+    boot(&machine, 2, 100);
+    answer_at(&machine, 0, mkdemux_ask_create(machine.cores, 1, 7));
+    answer_at(&machine, 0, mkdemux_ask_install(machine.cores, 1, 1, ten, 1));
+    settle(&machine);
+    look(&machine, &before);
+    asked = 0;
+    failing = number;
+    do {
+        answer = ask(&machine.cores[at], request);
+        CHECK(leaves(&machine, &before, answer, &refused) && (refused || answer == MKDEMUX_CORE_OK));
+        *refusals += (unsigned)refused;
+    } while (refused);
+    for (rounds = 0; rounds < 1000; rounds++, i = 1 - i) {
+        look(&machine, &before);
+        answer = mkdemux_turn(&machine.cores[i], &turned);
+        CHECK(leaves(&machine, &before, answer, &refused) && (refused || !answer || answer == MKDEMUX_CORE_IDLE));
+        *refusals += (unsigned)refused;
+        if (i == at && !answer && turned.what == MKDEMUX_TURN_DECISION)
+            break;
+    }
+    reached = asked >= number;
+    failing = 0;
+    CHECK(rounds < 1000 && (turned.decision == MKDEMUX_COMMITTED || (reached && turned.decision == MKDEMUX_VETOED &&
+        turned.rule == MKDEMUX_RULE_MEMORY)));
+    *refusals += turned.decision == MKDEMUX_VETOED;
+    settle(&machine);
+    CHECK(mkdemux_version(&machine.cores[0]) == mkdemux_version(&machine.cores[1]));
+    CHECK(mkdemux_version(&machine.cores[0]) == 2u + (turned.decision == MKDEMUX_COMMITTED));
+    close_all(&machine);
+    return reached;
+}
+
+static void boot_runs_out(unsigned long *refusals)
+{
+    static const uint32_t budgets[MOST] = {9, 9, 9, 9, 9, 9, 9, 9};
+    mkdemux_core cores[MOST];
+    unsigned long number;
+    size_t count, i;
+    uint32_t answer;
+    for (count = 1; count <= MOST; count++) {
+        int more = 1;
+        for (number = 1; more; number++) {
+            memset(cores, 0, sizeof cores);
+            asked = 0;
+            failing = number;
+            answer = mkdemux_boot(budgets, count, cores);
+            more = asked >= failing;
+            failing = 0;
+            CHECK(answer == (more ? MKDEMUX_CORE_NO_MEMORY : MKDEMUX_CORE_OK));
+            for (i = 0; i < MOST; i++) {
+                CHECK(!cores[i].at == (more || i >= count));
+                mkdemux_close(&cores[i]);
+            }
+            *refusals += (unsigned)more;
+        }
+    }
+}
+
+/* The first packet after a change. */
+static void receive_runs_out(unsigned long *refusals)
+{
+    struct machine machine;
+    struct mkdemux_kept room[2];
+    unsigned long number;
+    int more = 1;
+    for (number = 1; more; number++) {
+        size_t count = 77;
+        uint32_t answer;
+        boot(&machine, 1, 100);
+        answer_at(&machine, 0, mkdemux_ask_create(machine.cores, 1, 7));
+        answer_at(&machine, 0, mkdemux_ask_install(machine.cores, 1, 1, ten, 1));
+        memset(room, 0x5a, sizeof room);
+        asked = 0;
+        failing = number;
+        answer = mkdemux_receive(machine.cores, frames[0], 14, 60, room, 2, &count);
+        more = asked >= failing;
+        failing = 0;
+        CHECK(more ? answer == MKDEMUX_CORE_NO_MEMORY && count == 0 && room[0].kept == 0x5a5a5a5a : !answer && count == 1);
+        CHECK(mkdemux_version(machine.cores) == 2);
+        CHECK(!mkdemux_receive(machine.cores, frames[0], 14, 60, room, 2, &count) && count == 1 && room[0].kept == 10);
+        asked = 0;
+        CHECK(!mkdemux_receive(machine.cores, frames[1], 14, 60, room, 2, &count) && asked == 0); /* no memory from here on */
+        close_all(&machine);
+        *refusals += (unsigned)more;
+    }
+}
+
+static void runs_out(void)
+{
+    unsigned long number, refusals = 0, of_boot, of_receive;
+    size_t at, request;
+    boot_runs_out(&refusals);
+    of_boot = refusals;
+    receive_runs_out(&refusals);
+    of_receive = refusals - of_boot;
+    for (at = 0; at < 2; at++)
+        for (request = 0; request < 7; request++)
+            for (number = 1; is_asked_with(at, request, number, &refusals); number++)
+                ;
+    printf("%lu allocations refused: %lu of boot, %lu of receive, %lu of requests and their turns\n", refusals, of_boot, of_receive,
+        refusals - of_boot - of_receive);
+    CHECK(of_boot > 0 && refusals > of_boot + of_receive);
+}
+
+int main(void)
+{
+    size_t count, at;
+    closed();
+    boots();
+    idles();
+    for (count = 1; count <= MOST; count++)
+        for (at = 0; at < count; at++)
+            serves(count, at);
+    receives();
+    refuses(0);
+    refuses(1);
+    fills();
+    vetoes();
+    asks_too_much();
+    for (count = 1; count <= MOST; count++)
+        keeps_order(count);
+    closes_early();
+    says();
+    runs_out();
+    printf("%d checks passed, %d failed\n", passed, failed);
+    return failed != 0;
+}
