@@ -352,19 +352,21 @@ static void vetoes(void)
 static void asks_too_much(void)
 {
     struct machine machine;
+    mkdemux_turned turned;
     mkdemux_core *core;
     size_t at;
     boot(&machine, 2, 5000);
     for (at = 0; at < 2; at++) {
         core = &machine.cores[at];
-        CHECK(mkdemux_ask_install(core, 1, 1, txa(LONGEST + 1), LONGEST + 1) == MKDEMUX_CORE_TOO_LONG);
-        CHECK(mkdemux_ask_replace(core, 1, 1, longest, LONGEST + 1) == MKDEMUX_CORE_TOO_LONG);
         CHECK(mkdemux_ask_mint(core, 1, 1, 2, 0) == MKDEMUX_CORE_BAD_RIGHTS);
         CHECK(mkdemux_ask_mint(core, 1, 1, 2, 4) == MKDEMUX_CORE_BAD_RIGHTS);
         CHECK(mkdemux_unanswered(core) == 0);
     }
-    core = &machine.cores[1];
     answer_at(&machine, 1, mkdemux_ask_create(core, 1, 7));
+    CHECK(mkdemux_ask_install(core, 1, 1, txa(LONGEST + 1), LONGEST + 1) == MKDEMUX_CORE_TOO_LONG);
+    CHECK(mkdemux_ask_replace(core, 1, 1, longest, LONGEST + 1) == MKDEMUX_CORE_TOO_LONG && mkdemux_unanswered(core) == 0);
+    turned = answer_at(&machine, 0, mkdemux_ask_install(machine.cores, 1, 1, longest, LONGEST + 1)); /* core 0 takes it */
+    CHECK(is_refused_by(turned, MKDEMUX_REFUSED, MKDEMUX_RULE_BAD_PROGRAM + 2, 0, 0));
     CHECK(is_committed(answer_at(&machine, 1, mkdemux_ask_install(core, 1, 1, txa(LONGEST), LONGEST)), 2, 1));
     close_all(&machine);
 }

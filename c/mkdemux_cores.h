@@ -85,7 +85,8 @@ enum mkdemux_core_answer {
     MKDEMUX_CORE_NOT_CORES = 2,  /* of mkdemux_boot: not 1 to 8 cores */
     MKDEMUX_CORE_NO_MEMORY = 3,  /* malloc or realloc refused */
     MKDEMUX_CORE_NO_ROOM = 4,    /* of mkdemux_receive: the room is too small */
-    MKDEMUX_CORE_TOO_LONG = 5,   /* of requests: a program of more than 4,096 instructions */
+    MKDEMUX_CORE_TOO_LONG = 5,   /* of requests: a program of more than 4,096 instructions, which no message
+                                    holds. Core 0 needs none: it takes it, and refuses it as BAD_PROGRAM + 2 */
     MKDEMUX_CORE_STOPPED = 6,    /* the core took a message that no core sends: something else has written to
                                     its memory. It stays stopped */
     MKDEMUX_CORE_SPENT = 7,      /* a number that only grows is at its end, 2^64 - 1 */
