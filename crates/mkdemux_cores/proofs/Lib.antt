@@ -1,0 +1,4 @@
+pub mod Opening
+pub mod Telling
+pub mod Counting
+pub mod Leading

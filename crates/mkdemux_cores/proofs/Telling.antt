@@ -1,0 +1,124 @@
+-- What a turn's answer says of the turn.
+use Rattle.std.proofs.Common.{◌≡◌, ◌++◌, ℕ, Option, None, Some, refl, arith}
+use Rattle.std.specs.Prelude.{◌≢◌, IsSome, option_to_list, false}
+use Rattle.filter_table.specs.declared.decision.Decision.{Decision}
+use Rattle.core_links.specs.RingSlots.{SameLinks, ring_view}
+use Rattle.world_histories.specs.declared.history.Stamped.{Stamped}
+use Rattle.core_loop.specs.declared.cause.Cause.{Cause}
+use Rattle.core_loop.specs.declared.cause.Turn.{Turn}
+use Rattle.core_loop.specs.declared.cause.Turn.TheVariants.{Did, Idle, Stopped, Spent, NoMemory}
+use Rattle.core_loop.specs.Answering.{AreDecided, decisions}
+use Rattle.core_loop.specs.Beginning.{CanBeginNext}
+use Rattle.core_loop.specs.Choosing.{NoMessageNow}
+use Rattle.core_loop.specs.Cores.{SameCore, DidOne, NothingDone, begun}
+use Rattle.core_loop.specs.Turning.{IsSpent, HasWork}
+use Rattle.core_join.specs.Machines.{RingCore}
+use Rattle.mkdemux_cores.specs.declared.answers.TheConstants.{DONE, NO_MEMORY, STOPPED, SPENT, IDLE}
+use Rattle.mkdemux_cores.specs.declared.turned.Turned.{Turned}
+use Rattle.mkdemux_cores.specs.declared.turned.TheConstants.{NOTHING}
+use Rattle.mkdemux_cores.specs.Reports.{reported}
+use Rattle.mkdemux_cores.specs.Turns.{HasDone, HasTurned}
+
+-- the number of what a turn did, and what is told of it
+abbrev pub turn_answer : Turn → ℕ
+turn_answer (Did s d) = DONE
+turn_answer Idle = IDLE
+turn_answer (Stopped cause) = STOPPED
+turn_answer Spent = SPENT
+turn_answer NoMemory = NO_MEMORY
+
+abbrev pub turn_report : Turn → Turned
+turn_report (Did s d) = reported d
+turn_report turn = NOTHING
+
+-- what a core's turn says, with no job
+pub record Says (turn : Turn) (old new : RingCore) : Type 0 where
+  pub core : SameCore SameLinks old new
+  pub requests : begun new.history ++ new.pending ≡ begun old.history ++ old.pending
+  pub decided : AreDecided new.part new.history
+  pub did : (s : Stamped) (d : Option Decision) → turn ≡ Did s d → DidOne ring_view old new s
+  pub decision : (s : Stamped) (d : Option Decision) → turn ≡ Did s d → decisions new.history ≡ decisions old.history ++ option_to_list d
+  pub other : ((s : Stamped) (d : Option Decision) → turn ≢ Did s d) → NothingDone ring_view old new
+  pub stopped : (cause : Cause) → turn ≡ Stopped cause → new.stopped ≡ Some cause
+  pub running : ((cause : Cause) → turn ≢ Stopped cause) → (old.stopped ≡ None) × (new.stopped ≡ None)
+  pub spent : turn ≡ Spent → IsSpent old.cores old.clock old.part old.pending (ring_view new.links) false new.intake
+  pub no_memory : turn ≡ NoMemory → HasWork old.cores old.part old.pending (ring_view new.links) false new.intake
+  pub idle_message : turn ≡ Idle → NoMessageNow new.cores new.part (ring_view new.links)
+  pub idle : turn ≡ Idle → CanBeginNext new.cores new.part new.pending (ring_view new.links) → ⊥
+
+module _ (old new : RingCore) where
+  done : (turn : Turn) → Says turn old new → turn_answer turn ≡ DONE → HasDone (turn_report turn) old new
+  done (Did s d) says e = record { event = s; decision = d; did = says.did s d refl; decisions_are = says.decision s d refl; told = refl }
+  done Idle says e = absurd (omega (arith, e))
+  done (Stopped cause) says e = absurd (omega (arith, e))
+  done Spent says e = absurd (omega (arith, e))
+  done NoMemory says e = absurd (omega (arith, e))
+
+  not_did : (turn : Turn) → (turn_answer turn ≢ DONE) → (s : Stamped) (d : Option Decision) → turn ≢ Did s d
+  not_did (Did s d) differs s' d' e = differs refl
+  not_did Idle differs s' d' e = absurd (cc)
+  not_did (Stopped cause) differs s' d' e = absurd (cc)
+  not_did Spent differs s' d' e = absurd (cc)
+  not_did NoMemory differs s' d' e = absurd (cc)
+
+  nothing_told : (turn : Turn) → (turn_answer turn ≢ DONE) → turn_report turn ≡ NOTHING
+  nothing_told (Did s d) differs = absurd (differs refl)
+  nothing_told Idle differs = refl
+  nothing_told (Stopped cause) differs = refl
+  nothing_told Spent differs = refl
+  nothing_told NoMemory differs = refl
+
+  stopped : (turn : Turn) → Says turn old new → turn_answer turn ≡ STOPPED → IsSome new.stopped
+  stopped (Stopped cause) says e = some_of new.stopped cause (says.stopped cause refl)
+    where
+      some_of : (o : Option Cause) (x : Cause) → o ≡ Some x → IsSome o
+      some_of (Some y) x e = refl
+      some_of None x e = absurd (cc)
+  stopped (Did s d) says e = absurd (omega (arith, e))
+  stopped Idle says e = absurd (omega (arith, e))
+  stopped Spent says e = absurd (omega (arith, e))
+  stopped NoMemory says e = absurd (omega (arith, e))
+
+  not_stopped : (turn : Turn) → (turn_answer turn ≢ STOPPED) → (cause : Cause) → turn ≢ Stopped cause
+  not_stopped (Stopped cause) differs cause' e = differs refl
+  not_stopped (Did s d) differs cause e = absurd (cc)
+  not_stopped Idle differs cause e = absurd (cc)
+  not_stopped Spent differs cause e = absurd (cc)
+  not_stopped NoMemory differs cause e = absurd (cc)
+
+  is_idle : (turn : Turn) → turn_answer turn ≡ IDLE → turn ≡ Idle
+  is_idle Idle e = refl
+  is_idle (Did s d) e = absurd (omega (arith, e))
+  is_idle (Stopped cause) e = absurd (omega (arith, e))
+  is_idle Spent e = absurd (omega (arith, e))
+  is_idle NoMemory e = absurd (omega (arith, e))
+
+  is_spent : (turn : Turn) → turn_answer turn ≡ SPENT → turn ≡ Spent
+  is_spent Spent e = refl
+  is_spent (Did s d) e = absurd (omega (arith, e))
+  is_spent (Stopped cause) e = absurd (omega (arith, e))
+  is_spent Idle e = absurd (omega (arith, e))
+  is_spent NoMemory e = absurd (omega (arith, e))
+
+  lacks_memory : (turn : Turn) → turn_answer turn ≡ NO_MEMORY → turn ≡ NoMemory
+  lacks_memory NoMemory e = refl
+  lacks_memory (Did s d) e = absurd (omega (arith, e))
+  lacks_memory (Stopped cause) e = absurd (omega (arith, e))
+  lacks_memory Idle e = absurd (omega (arith, e))
+  lacks_memory Spent e = absurd (omega (arith, e))
+
+  pub has_turned : (turn : Turn) → Says turn old new → HasTurned (turn_answer turn) (turn_report turn) old new
+  has_turned turn says = record {
+    same = says.core;
+    requests = says.requests;
+    decided = says.decided;
+    done = done turn says;
+    nothing_done = λ differs. says.other (not_did turn differs);
+    nothing_told = nothing_told turn;
+    stopped = stopped turn says;
+    running = λ differs. says.running (not_stopped turn differs);
+    idle = λ e. says.idle_message (is_idle turn e);
+    asks_nothing = λ e. says.idle (is_idle turn e);
+    spent = λ e. says.spent (is_spent turn e);
+    no_memory = λ e. says.no_memory (lacks_memory turn e);
+  }

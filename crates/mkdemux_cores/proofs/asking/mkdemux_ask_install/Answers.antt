@@ -1,0 +1,13 @@
+use Rattle.std.proofs.Common.{List, Option, subst}
+use Rattle.bpf_insn.specs.declared.insn.Insn.{Insn}
+use Rattle.filter_table.specs.declared.operation.Op.TheVariants.{Install}
+use Rattle.core_join.specs.Machines.{RingCore}
+use Rattle.mkdemux_cores.specs.Asking.{HasAsked}
+use Rattle.mkdemux_cores.specs.Leading.{Leads}
+use Rattle.mkdemux_cores.proofs.asking.mkdemux_ask_install.Goals as goal
+
+pub returns-in-Ok-clause-asked : goal.returns-in-Ok-clause-asked
+returns-in-Ok-clause-asked c = λ done.
+    let after = c.ask.new.core.core in
+    subst (λ (before : Option RingCore). Leads (HasAsked (Install c.args.domain c.args.cap c.args.code.now)) before after) c.in-Ok.ensures.same
+    (subst (λ (program : List Insn). Leads (HasAsked (Install c.args.domain c.args.cap program)) c.program_for.new.core.core after) c.in-Ok.ensures.copy (c.ask.ensures.asked done))

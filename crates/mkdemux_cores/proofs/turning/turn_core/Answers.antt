@@ -1,0 +1,40 @@
+use Rattle.std.proofs.Common.{◌≡◌, ℕ, sym, ap, ◌∙◌, subst}
+use Rattle.core_join.specs.Machines.{RingCore}
+use Rattle.mkdemux_cores.specs.declared.turned.Turned.{Turned}
+use Rattle.mkdemux_cores.specs.Turns.{HasTurned}
+use Rattle.mkdemux_cores.proofs.Telling.{Says, turn_answer, turn_report, has_turned}
+use Rattle.mkdemux_cores.proofs.turning.turn_core.Goals.{in-Did, in-Idle, in-Stopped, in-Spent, in-NoMemory}
+use Rattle.mkdemux_cores.proofs.turning.turn_core.Goals as goal
+
+pub returns-clause-turned : goal.returns-clause-turned
+returns-clause-turned c =
+    let turn = c.turn-turn.result in let old : RingCore = c.args.core.now in let new : RingCore = c.turn-turn.new.self in let e = c.turn-turn.ensures in
+    let says : Says turn old new = record {
+      core = e.core;
+      requests = e.requests;
+      decided = c.are_decided.ensures;
+      did = e.did;
+      decision = e.decision;
+      other = e.other;
+      stopped = e.stopped;
+      running = e.running;
+      spent = e.spent;
+      no_memory = e.no_memory;
+      idle_message = e.idle_message;
+      idle = e.idle;
+    } in
+    let answer : c.match-turn.result ≡ turn_answer turn = elim c.match-turn.branch [
+      | in-Did w ↦ w.result-is ∙ sym (ap turn_answer w.in-Did.is)
+      | in-Idle w ↦ w.result-is ∙ sym (ap turn_answer w.in-Idle.is)
+      | in-Stopped w ↦ w.result-is ∙ sym (ap turn_answer w.in-Stopped.is)
+      | in-Spent w ↦ w.result-is ∙ sym (ap turn_answer w.in-Spent.is)
+      | in-NoMemory w ↦ w.result-is ∙ sym (ap turn_answer w.in-NoMemory.is)
+    ] in
+    let report : c.match-turn.turned ≡ turn_report turn = elim c.match-turn.branch [
+      | in-Did w ↦ w.turned-is ∙ w.report.ensures ∙ sym (ap turn_report w.in-Did.is)
+      | in-Idle w ↦ w.turned-is ∙ sym (ap turn_report w.in-Idle.is)
+      | in-Stopped w ↦ w.turned-is ∙ sym (ap turn_report w.in-Stopped.is)
+      | in-Spent w ↦ w.turned-is ∙ sym (ap turn_report w.in-Spent.is)
+      | in-NoMemory w ↦ w.turned-is ∙ sym (ap turn_report w.in-NoMemory.is)
+    ] in
+    subst (λ (n : ℕ). HasTurned n c.match-turn.turned old new) (sym answer) (subst (λ (t : Turned). HasTurned (turn_answer turn) t old new) (sym report) (has_turned old new turn says))

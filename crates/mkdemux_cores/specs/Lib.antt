@@ -1,0 +1,6 @@
+pub mod Reports
+pub mod Leading
+pub mod Turns
+pub mod Asking
+pub mod Receipts
+pub mod Booting

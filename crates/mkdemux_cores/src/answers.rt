@@ -1,0 +1,34 @@
+//! Numbers of answers.
+
+/// What was asked is done.
+pub const DONE: u32 = 0;
+
+/// The core is closed. Nothing has changed.
+pub const CLOSED: u32 = 1;
+
+/// A machine has 1 to 8 cores.
+pub const NOT_CORES: u32 = 2;
+
+/// Memory was refused. Nothing has changed.
+pub const NO_MEMORY: u32 = 3;
+
+/// There is no room for all that is to be written. Nothing has changed.
+pub const NO_ROOM: u32 = 4;
+
+/// A core other than 0 is asked for a program of more than 4,096 instructions. Nothing has changed.
+pub const TOO_LONG: u32 = 5;
+
+/// The core has stopped for good: what came from another core can't be read, or fits no phase of the protocol.
+pub const STOPPED: u32 = 6;
+
+/// The core can't count on: a number or a stamp would be too great.
+pub const SPENT: u32 = 7;
+
+/// There is nothing to do.
+pub const IDLE: u32 = 8;
+
+/// A core that is to be opened is open. Nothing has changed.
+pub const OPEN: u32 = 9;
+
+/// The number is none of a set of rights. Nothing has changed.
+pub const BAD_RIGHTS: u32 = 10;

@@ -1,0 +1,48 @@
+//! Turns.
+
+ghost use Rattle.std.specs.Prelude.{◌≡◌, ◌≢◌, ◌↔◌, None};
+ghost use Rattle.mkdemux_cores.specs.Leading.{Leads};
+ghost use Rattle.mkdemux_cores.specs.Turns.{HasTurned};
+
+use crate::answers::{CLOSED, DONE, IDLE, NO_MEMORY, SPENT, STOPPED};
+use crate::turned::{NOTHING, Turned, report};
+use core_handle::CoreHandle;
+use core_loop::{Core, RingLinks, Turn};
+use std::alloc::Global;
+
+/// Does one event of the core at most: it takes a message, or begins a request. 0 with what was done, else `IDLE`, `STOPPED`,
+/// `SPENT`, `NO_MEMORY` or `CLOSED`, and nothing is done. The n-th decision that a core's turns tell is that on the n-th request
+/// that it was asked. Takes memory only where there is a message or a request.
+#[unsafe(no_mangle)]
+pub extern "C" fn mkdemux_turn(alloc: Global, core: &mut CoreHandle, turned: &mut Turned) -> u32
+    ensures closed { result ≡ CLOSED ↔ core.old.core ≡ None }
+    ensures unchanged { result ≡ CLOSED → (core.new.core ≡ None) × (turned.new ≡ turned.old) }
+    ensures turned { result ≢ CLOSED → Leads (HasTurned result turned.new) core.old.core core.new.core }
+{
+    let Some(mut open) = core.take(alloc) else {
+        return CLOSED;
+    };
+    let answer = turn_core(&mut open, turned);
+    core.put(open);
+    answer
+}
+
+// One turn of a core. No job is ever put into its queue.
+fn turn_core(core: &mut Core<RingLinks>, turned: &mut Turned) -> u32
+    ensures open { result ≢ CLOSED }
+    ensures turned { HasTurned result turned.new core.old core.new }
+{
+    let turn = core.turn(false);
+    core.are_decided();
+    *turned = NOTHING;
+    match turn {
+        Turn::Did { event: _, decision } => {
+            *turned = report(decision);
+            DONE
+        }
+        Turn::Idle => IDLE,
+        Turn::Stopped(_) => STOPPED,
+        Turn::Spent => SPENT,
+        Turn::NoMemory => NO_MEMORY,
+    }
+}
