@@ -513,7 +513,7 @@ fn trimmed(alloc: Global, caps: &Caps, mut left: Trimming) -> Result<Trimming, A
     'trim: loop {
         match unused(alloc, &left.rows, left.programs.len())? {
             None => return Ok(left),
-            Some(place) => left = lowered(alloc, &left, place)?,
+            Some(place) => left = lowered(alloc, left, place)?,
         }
     }
 }
@@ -536,16 +536,21 @@ fn unused(alloc: Global, rows: &[Row], count: usize) -> Result<Option<usize>, Al
 }
 
 /// What is left once one program that no row has is taken out.
-fn lowered(alloc: Global, left: &Trimming, taken: usize) -> Result<Trimming, AllocError>
-    requires inside { taken < length left.now.programs }
-    requires unused { IsUnused left.now.rows.items taken }
-    ensures fewer { IfOk result (λ after. length after.programs + 1 ≡ length left.now.programs) }
-    ensures left { IfOk result (λ after. (caps : List Cap) (listed : List ListedFilter) → IsTrimming caps listed left.now → IsTrimming caps listed after) }
+fn lowered(alloc: Global, left: Trimming, taken: usize) -> Result<Trimming, AllocError>
+    requires inside { taken < length left.programs }
+    requires unused { IsUnused left.rows.items taken }
+    ensures fewer { IfOk result (λ after. length after.programs + 1 ≡ length left.programs) }
+    ensures left { IfOk result (λ after. (caps : List Cap) (listed : List ListedFilter) → IsTrimming caps listed left → IsTrimming caps listed after) }
 {
-    let programs = left.programs.without(alloc, taken)?;
+    let Trimming {
+        rows,
+        programs,
+        reaches,
+    } = left;
+    let programs = programs.without(alloc, taken)?;
     let last = programs.len();
-    let rows = lowered_rows(alloc, &left.rows, taken, last)?;
-    let reaches = lowered_reaches(alloc, &left.reaches, taken, last)?;
+    let rows = lowered_rows(alloc, &rows, taken, last)?;
+    let reaches = lowered_reaches(alloc, &reaches, taken, last)?;
     Ok(Trimming {
         rows,
         programs,
