@@ -12,7 +12,7 @@ use Rattle.rx_queue.specs.declared.port.Port.{Port}
 use Rattle.core_links.specs.declared.ring_links.RingLinks.{RingLinks}
 use Rattle.core_links.specs.RingSlots.{own_of, AreJoinedLinks}
 use Rattle.core_loop.specs.Cores.{AreShort}
-use Rattle.core_join.specs.Machines.{RingCore, HasPlace}
+use Rattle.core_join.specs.Machines.{RingCore, HasPlace, IsMachine}
 use Rattle.core_boot.specs.Booted.{IsBooted, AreBooted, HasDoneNothing}
 use Rattle.core_boot.specs.Booting.{ComesUp, HaveComeUp, HaveRequests, AreGivable, AreShortLanes, IsMachineOf}
 use Rattle.core_boot.specs.Lanes.{items_for, AreLanes}
@@ -130,3 +130,8 @@ none_done cores ports booted none = λ k d below.
     let p = get_at ports k (omega (arith, below, booted.all)) in
     let b = booted.each k c.0 p.0 c.1 p.1 in
     subst HasDoneNothing (sym (get_or_from_slice_get cores k c.0 d c.1)) (record { history = b.history; pending = none k c.0 c.1; running = b.running; taken = b.taken })
+
+-- cores with these budgets are those of one machine
+pub machine_of : (budgets : List ℕ) (cores : List RingCore) → IsMachineOf budgets cores → (budget : ℕ) × (rest : List ℕ) × IsMachine budget rest cores
+machine_of [] cores is = absurd is
+machine_of (budget ∷ rest) cores is = (budget, rest, is)

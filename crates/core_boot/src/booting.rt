@@ -1,7 +1,8 @@
 //! How a machine comes up.
 
-ghost use Rattle.std.specs.Prelude.{◌≡◌, ◌<◌, ◌≤◌, ◌⊎◌, ◌↔◌, All, length, Err, IfOk, OnOk};
+ghost use Rattle.std.specs.Prelude.{◌≡◌, ◌<◌, ◌≤◌, ◌⊎◌, ◌↔◌, ℕ, All, List, length, Err, IfOk, OnOk};
 ghost use Rattle.core_loop.specs.Cores.{AreShort};
+ghost use Rattle.core_join.specs.Machines.{IsMachine};
 ghost use Rattle.core_boot.specs.declared.booting.BootFault.TheVariants.{CoreCount};
 ghost use Rattle.core_boot.specs.Booted.{AreBooted, HasDoneNothing};
 ghost use Rattle.core_boot.specs.Booting.{ComesUp, AddsCore, HaveComeUp, HaveRequests, AreGivable, AreShortLanes, IsMachineOf};
@@ -154,6 +155,7 @@ pub fn boot_cores(alloc: Global, budgets: &[u32]) -> Result<Vec<Core<RingLinks>>
     ensures count { result ≡ Err CoreCount ↔ ((length budgets.now ≡ 0) ⊎ (8 < length budgets.now)) }
     ensures cores { IfOk result (λ cores. length cores.items ≡ length budgets.now) }
     ensures machine { IfOk result (λ cores. IsMachineOf budgets.now cores.items) }
+    ensures some_machine { IfOk result (λ cores. (budget : ℕ) × (rest : List ℕ) × IsMachine budget rest cores.items) }
     ensures nothing { IfOk result (λ cores. All HasDoneNothing cores.items) }
 {
     match boot_with_ports(alloc, budgets, Vec::new(alloc)) {

@@ -1,3 +1,4 @@
 pub mod Tasks
 pub mod Steps
 pub mod Looking
+pub mod Doing

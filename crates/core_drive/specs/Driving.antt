@@ -1,19 +1,29 @@
 -- The cores of a machine before and after a list of steps.
-use Rattle.std.specs.Prelude.{◌≡◌, ◌++◌, ◌<◌, ℕ, List, [], ◌∷◌, length, Some, slice_get}
+use Rattle.std.specs.Prelude.{◌≡◌, ◌++◌, ◌<◌, ℕ, Bool, true, List, [], ◌∷◌, length, Some, slice_get, slice_set}
 use Rattle.std.specs.List.{AllZip}
 use Rattle.filter_table.specs.declared.operation.Op.{Op}
 use Rattle.filter_table.specs.declared.decision.Decision.{Decision}
 use Rattle.world_events.specs.declared.event.Done.{Done}
 use Rattle.world_histories.specs.Histories.{unstamped}
-use Rattle.core_links.specs.RingSlots.{SameLinks}
-use Rattle.core_loop.specs.Cores.{SameCore, AreShort, begun}
+use Rattle.rx_queue.specs.declared.job.Job.{Job}
+use Rattle.core_links.specs.RingSlots.{SameLinks, ring_view}
+use Rattle.core_loop.specs.declared.cause.Turn.{Turn}
+use Rattle.core_loop.specs.declared.cause.Turn.TheVariants as turn
+use Rattle.core_loop.specs.Beginning.{CanBeginNext}
+use Rattle.core_loop.specs.Choosing.{NoMessageNow}
+use Rattle.core_loop.specs.Cores.{SameCore, DidOne, CanReceive, AreShort, begun}
+use Rattle.core_loop.specs.Turning.{IsSpent, LacksMemory}
+use Rattle.core_loop.specs.Receiving.{HasReceived, IsRefused, version_now}
 use Rattle.core_loop.specs.Answering.{decisions}
 use Rattle.core_join.specs.Machines.{RingCore}
+use Rattle.core_join.specs.Looking.{AreLookedAt}
 use Rattle.core_join.specs.Conclusions.{Concludes}
 use Rattle.core_drive.specs.declared.step.Step.{Step}
 use Rattle.core_drive.specs.declared.step.Task.{Task}
-use Rattle.core_drive.specs.declared.step.Task.TheVariants.{Ask}
+use Rattle.core_drive.specs.declared.step.Task.TheVariants.{Ask, Receive}
+use Rattle.core_drive.specs.declared.step.Task.TheVariants as tasks
 use Rattle.core_drive.specs.declared.step.Outcome.{Outcome}
+use Rattle.core_drive.specs.declared.step.Outcome.TheVariants.{Turned, Asked, Received, NotReceived, NoMemory}
 use Rattle.core_drive.specs.Steps.{IsOf, did, asked, decided, of_core}
 
 -- a request can be given to its core: that of a core other than 0 can be sent
@@ -41,6 +51,49 @@ pub record AreDriven (steps : List Step) (outcomes : List Outcome) (old new : Li
   pub answered : AllZip (λ (s : Step) (o : Outcome). IsOf s.task o) steps outcomes
   pub all : length new ≡ length old
   pub each : (i : ℕ) (c d : RingCore) → slice_get old i ≡ Some c → slice_get new i ≡ Some d → DrivesAt steps outcomes i c d
+
+-- no message can be taken, no request begun, and, where the turn may, no job received
+pub record HasNothingToDo (rx : Bool) (c : RingCore) : Type 0 where
+  pub no_message : NoMessageNow c.cores c.part (ring_view c.links)
+  pub no_request : CanBeginNext c.cores c.part c.pending (ring_view c.links) → ⊥
+  pub no_job : rx ≡ true → (job : Job) → CanReceive c job → ⊥
+
+-- what a turn answers is right of its core before and after it
+abbrev pub TurnsRightly : Bool → Turn → RingCore → RingCore → Type 0
+TurnsRightly rx (turn.Did s decision) old new = DidOne ring_view old new s
+TurnsRightly rx turn.Idle old new = HasNothingToDo rx new
+TurnsRightly rx (turn.Stopped cause) old new = new.stopped ≡ Some cause
+TurnsRightly rx turn.Spent old new = IsSpent old.cores old.clock old.part old.pending (ring_view new.links) rx new.intake
+TurnsRightly rx turn.NoMemory old new = LacksMemory old.cores old.clock old.part old.pending (ring_view new.links) rx new.intake
+
+-- what came of a task is right of its core before and after it; there is room for 1,024 endpoints
+abbrev pub IsRight : Task → Outcome → RingCore → RingCore → Type 0
+IsRight (tasks.Turn rx) (Turned answer) old new = TurnsRightly rx answer old new
+IsRight (Ask op) Asked old new = new ≡ record old { pending = old.pending ++ op ∷ [] }
+IsRight (Receive packet) (Received version kept) old new = (version ≡ version_now old) × HasReceived old new packet.bytes packet.original kept.items
+IsRight (Receive packet) (NotReceived why) old new = IsRefused old packet.bytes packet.original 1024 why × (new ≡ old)
+IsRight task NoMemory old new = new ≡ old
+IsRight task outcome old new = ⊥
+
+-- a step on the core of its number, which alone has changed
+pub record IsDone (s : Step) (o : Outcome) (old new : List RingCore) : Type 0 where
+  pub core : RingCore
+  pub becomes : RingCore
+  pub there : slice_get old s.core ≡ Some core
+  pub new_is : new ≡ slice_set old s.core becomes
+  pub right : IsRight s.task o core becomes
+
+-- the steps were done one after another, each on the cores as those before it left them
+abbrev pub AreDoneInTurn : List Step → List Outcome → List RingCore → List RingCore → Type 0
+AreDoneInTurn [] [] old new = new ≡ old
+AreDoneInTurn (s ∷ steps) (o ∷ outcomes) old new = (next : List RingCore) × IsDone s o old next × AreDoneInTurn steps outcomes next new
+AreDoneInTurn steps outcomes old new = ⊥
+
+-- and then the cores were looked at
+pub record AreDoneAndLookedAt (steps : List Step) (outcomes : List Outcome) (old new : List RingCore) : Type 0 where
+  pub last : List RingCore
+  pub done : AreDoneInTurn steps outcomes old last
+  pub looked : AreLookedAt last new
 
 -- what joined cores come to holds of them as they stand
 abbrev pub Conclude : ℕ → List ℕ → List RingCore → Type 0

@@ -6,7 +6,7 @@ ghost use Rattle.core_join.specs.Machines.{RingCore, IsMachine, AreSameCores};
 ghost use Rattle.core_join.specs.Looking.{AreLookedAt};
 ghost use Rattle.core_drive.specs.declared.step.Task.TheVariants as GhostTask;
 ghost use Rattle.core_drive.specs.Steps.{IsOf, did, asked, decided};
-ghost use Rattle.core_drive.specs.Driving.{IsStep, IsGivable, CoreDrives, AreDriven, Conclude};
+ghost use Rattle.core_drive.specs.Driving.{IsStep, IsGivable, CoreDrives, AreDriven, IsRight, IsDone, AreDoneAndLookedAt, Conclude};
 
 use crate::step::{Outcome, Step, Task};
 use core_join::agree;
@@ -29,6 +29,7 @@ pub fn drive(
     requires machine { (budget : ℕ) × (budgets : List ℕ) × IsMachine budget budgets cores.old }
     requires steps { All (IsStep (length cores.old)) steps.items }
     ensures driven { IfOk result (λ outcomes. AreDriven steps.items outcomes.items cores.old cores.new) }
+    ensures in_turn { IfOk result (λ outcomes. AreDoneAndLookedAt steps.items outcomes.items cores.old cores.new) }
     ensures machine { AreSameCores cores.old cores.new }
     ensures concludes { (budget : ℕ) (budgets : List ℕ) → IsMachine budget budgets cores.old → OnOk result (Conclude budget budgets cores.new) }
     ensures err { OnErr result (cores.new ≡ cores.old) }
@@ -45,7 +46,8 @@ pub fn drive(
 fn do_step(alloc: Global, cores: &mut [Core<RingLinks>], step: Step) -> Outcome
     requires step { IsStep (length cores.old) step }
     requires place { (i : ℕ) (c : RingCore) → slice_get cores.old i ≡ Some c → c.number ≡ i }
-    ensures { AreDriven (step ∷ []) (result ∷ []) cores.old cores.new }
+    ensures driven { AreDriven (step ∷ []) (result ∷ []) cores.old cores.new }
+    ensures done { IsDone step result cores.old cores.new }
 {
     let Step { core, task } = step;
     do_task(alloc, &mut cores[usize::from(core)], task)
@@ -56,6 +58,7 @@ fn do_task(alloc: Global, core: &mut Core<RingLinks>, task: Task) -> Outcome
     requires { IsGivable core.old.number task }
     ensures answered { IsOf task result }
     ensures drives { CoreDrives (did core.old.number task result) (asked task result) (decided result) core.old core.new }
+    ensures right { IsRight task result core.old core.new }
 {
     match task {
         Task::Turn { rx } => Outcome::Turned(core.turn(rx)),
@@ -71,6 +74,7 @@ fn do_task(alloc: Global, core: &mut Core<RingLinks>, task: Task) -> Outcome
 fn receive(alloc: Global, core: &mut Core<RingLinks>, packet: SharedPacket) -> Outcome
     ensures answered { IsOf (GhostTask.Receive packet) result }
     ensures drives { CoreDrives (did core.old.number (GhostTask.Receive packet) result) [] [] core.old core.new }
+    ensures right { IsRight (GhostTask.Receive packet) result core.old core.new }
 {
     let none = Kept {
         endpoint: 0,

@@ -11,7 +11,7 @@ use Rattle.core_threads.specs.declared.feeding.Outlet.{Outlet}
 use Rattle.core_threads.specs.declared.halt.Halt.{Halt}
 use Rattle.core_threads.specs.declared.halt.Halt.TheVariants as halt
 use Rattle.core_threads.specs.declared.threads.Ran.{Ran}
-use Rattle.core_threads.specs.Ending.{IsAtEnd, HaltsFor, HaltsRightly, AreUnstopped, unstopped, IsLeast}
+use Rattle.core_threads.specs.Ending.{IsAtEnd, HaltsFor, HaltsRightly, AreUnstopped, unstopped, IsLeast, NoneHalts, NamesFor, NamesLeast, HaltEach}
 use Rattle.core_boot.specs.Lanes.{items_for}
 use Rattle.core_threads.specs.Leaving.{SameRan, SameButTaken, AreSameRan, AllLeft}
 use Rattle.core_threads.specs.Searching.{AreInPlace, HaltedAt, NoneHalted, UnfinishedAt, IsHalt, IsWhole}
@@ -24,6 +24,9 @@ use Rattle.table_replica.proofs.Shared.{get_at}
 
 abbrev cores_of : List Ran → List RingCore
 cores_of ran = map (λ r. r.core) ran
+
+abbrev halts_of : List Ran → List (Option Halt)
+halts_of ran = map (λ r. r.halted) ran
 
 module _ (old new : List Ran) (outlets : List Outlet) (can : CanFinish old outlets) (same : AreSameRan old new) where
   before : (i : ℕ) (s : Ran) → slice_get new i ≡ Some s → (r : Ran) × (slice_get old i ≡ Some r) × SameRan r s
@@ -103,6 +106,53 @@ module _ (old new : List Ran) (outlets : List Outlet) (can : CanFinish old outle
   halts_so left place halt.NoRoom h stands = omega (arith, slice_get_within new place h.its h.there, length-map new (λ r. r.core))
   halts_so left place halt.Limit h stands = record { core = h.its.core; there = map-get (λ r. r.core) new place h.its h.there; is = stands }
   halts_so left place halt.Early h stands = absurd stands
+
+  none_halts : (count : ℕ) → ((i : ℕ) (s : Ran) → i < count → slice_get new i ≡ Some s → s.halted ≡ None) → NoneHalts (halts_of new) count
+  none_halts count none i h below at =
+      let s = get_map (λ (s : Ran). s.halted) new i h at in
+      s.2 ∙ none i s.0 below s.1
+
+  none_halts_all : NoneHalted new → NoneHalts (halts_of new) (length (halts_of new))
+  none_halts_all none = none_halts (length (halts_of new)) (λ i s below at. none i s at)
+
+  halt_at : (place : ℕ) (why : Halt) (h : HaltedAt new place why) → slice_get (halts_of new) place ≡ Some (Some why)
+  halt_at place why h = map-get (λ r. r.halted) new place h.its h.there ∙ ap (λ (o : Option Halt). Some o) h.halted
+
+  names_for : (place : ℕ) (why : Halt) (h : HaltedAt new place why) → StandsFor ring_view why h.its.core → NamesFor (halts_of new) place why
+  names_for place (halt.Cause cause) h stands = (none_halts place h.lesser, halt_at place (halt.Cause cause) h)
+  names_for place halt.Spent h stands = (none_halts place h.lesser, halt_at place halt.Spent h)
+  names_for place halt.NoMemory h stands = (none_halts place h.lesser, halt_at place halt.NoMemory h)
+  names_for place halt.NoRoom h stands = (none_halts place h.lesser, halt_at place halt.NoRoom h)
+  names_for place halt.Limit h stands = (none_halts place h.lesser, halt_at place halt.Limit h)
+  names_for place halt.Early h stands = absurd stands
+
+  names : (left : List (ℕ × Job)) (halted : Option (ℕ × Halt)) → MatchOption halted (IsWhole new left) (λ h. IsHalt new left h.0 h.1) → NamesLeast (halts_of new) halted
+  names left None ends = none_halts_all ends.0
+  names left (Some h) (inl its) = names_for h.0 h.1 its (stands_at h.0 h.1 its)
+  names left (Some h) (inr early) = subst (λ (w : Halt). NamesFor (halts_of new) h.0 w) (sym early.0) (none_halts_all early.1.0)
+
+  stands_so : (o : Option Halt) (c d : RingCore) → SameButTaken c d → StandsSo ring_view o c → StandsSo ring_view o d
+  stands_so None c d e stands = ap (λ (x : RingCore). x.stopped) e.core ∙ stands
+  stands_so (Some why) c d e stands = stands_still why c d e stands
+
+  each_stands : (i : ℕ) (c : RingCore) (h : Option Halt) → slice_get (cores_of new) i ≡ Some c → slice_get (halts_of new) i ≡ Some h → StandsSo ring_view h c
+  each_stands i c h at_c at_h =
+      let s = get_map (λ (s : Ran). s.core) new i c at_c in
+      let t = get_map (λ (s : Ran). s.halted) new i h at_h in
+      let one : t.0 ≡ s.0 = let a = s.1 in let b = t.1 in cc in
+      let r = before i s.0 s.1 in
+      let is : r.0.halted ≡ h = sym r.2.halted ∙ sym (ap (λ (x : Ran). x.halted) one) ∙ sym t.2 in
+      let old : StandsSo ring_view h r.0.core = subst (λ (o : Option Halt). StandsSo ring_view o r.0.core) is (can.stands i r.0 r.1) in
+      subst (λ (d : RingCore). StandsSo ring_view h d) (sym s.2) (stands_so h r.0.core s.0.core r.2.core old)
+
+  pub halt_each : (cores : List RingCore) (halts : List (Option Halt)) (left : List (ℕ × Job)) (halted : Option (ℕ × Halt)) → MatchOption halted (IsWhole new left) (λ h. IsHalt new left h.0 h.1)
+      → cores ≡ cores_of new → halts ≡ halts_of new → HaltEach cores halts halted
+  halt_each cores halts left halted why is are =
+      subst (λ (l : List RingCore). HaltEach l halts halted) (sym is) (subst (λ (l : List (Option Halt)). HaltEach (cores_of new) l halted) (sym are) (record {
+        all = length-map new (λ r. r.halted) ∙ sym (length-map new (λ r. r.core));
+        stand = each_stands;
+        least = names left halted why;
+      }))
 
   at_end : (left : List (ℕ × Job)) (i : ℕ) (c : RingCore) → ((r : Ran) → slice_get new i ≡ Some r → IsAtEnd (items_for i left) r.core) → slice_get (cores_of new) i ≡ Some c → IsAtEnd (items_for i left) c
   at_end left i c ends at =

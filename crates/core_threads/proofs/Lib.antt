@@ -8,4 +8,5 @@ pub mod Finishes
 pub mod Loads
 pub mod Recording
 pub mod Turns
+pub mod Gates
 pub mod Runs

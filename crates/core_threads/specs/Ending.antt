@@ -8,6 +8,7 @@ use Rattle.core_loop.specs.Cores.{SameCore, begun, receipts}
 use Rattle.core_loop.specs.Keeping.{replica_of}
 use Rattle.core_join.specs.Machines.{RingCore}
 use Rattle.core_threads.specs.Reasons.{IsSpentNow, LacksMemoryNow, RestsNow}
+use Rattle.core_threads.specs.Runs.{StandsSo}
 use Rattle.core_threads.specs.declared.halt.Halt.{Halt}
 use Rattle.core_threads.specs.declared.halt.Halt.TheVariants as halt
 use Rattle.core_boot.specs.Lanes.{items_for}
@@ -67,6 +68,25 @@ AreUnstopped cores count = (i : ℕ) (c : RingCore) → i < count → slice_get 
 abbrev pub IsLeast : List RingCore → Option (ℕ × Halt) → Type 0
 IsLeast cores None = AreUnstopped cores (length cores)
 IsLeast cores (Some halted) = AreUnstopped cores (unstopped cores halted.0 halted.1)
+
+-- none of so many cores, from core 0 on, halted
+abbrev pub NoneHalts : List (Option Halt) → ℕ → Type 0
+NoneHalts halts count = (i : ℕ) (h : Option Halt) → i < count → slice_get halts i ≡ Some h → h ≡ None
+
+-- the core in this place is the least that halted, and halted for this; where there is work left, no core halted
+abbrev pub NamesFor : List (Option Halt) → ℕ → Halt → Type 0
+NamesFor halts place halt.Early = NoneHalts halts (length halts)
+NamesFor halts place why = NoneHalts halts place × (slice_get halts place ≡ Some (Some why))
+
+abbrev pub NamesLeast : List (Option Halt) → Option (ℕ × Halt) → Type 0
+NamesLeast halts None = NoneHalts halts (length halts)
+NamesLeast halts (Some halted) = NamesFor halts halted.0 halted.1
+
+-- why each core halted, if it did, stands of it; and of those that halted the least is named, with its own reason
+pub record HaltEach (cores : List RingCore) (halts : List (Option Halt)) (halted : Option (ℕ × Halt)) : Type 0 where
+  pub all : length halts ≡ length cores
+  pub stand : (i : ℕ) (c : RingCore) (h : Option Halt) → slice_get cores i ≡ Some c → slice_get halts i ≡ Some h → StandsSo ring_view h c
+  pub least : NamesLeast halts halted
 
 -- a core after the run, of whose jobs these are left: it is on its rings and its queue, the requests given to it are those begun and then
 -- those pending, and the jobs given for it are those received and then those left

@@ -1,8 +1,11 @@
 -- What a core's thread leaves.
-use Rattle.std.specs.Prelude.{◌≡◌, ◌++◌, ℕ, Option, Some, None}
-use Rattle.rx_queue.specs.Queue.{jobs_taken}
+use Rattle.std.specs.Prelude.{◌≡◌, ◌<◌, ◌++◌, ℕ, List, [], ◌∷◌, Option, Some, None}
+use Rattle.rx_queue.specs.declared.job.Job.{Job}
+use Rattle.rx_queue.specs.Queue.{jobs_seen, jobs_taken}
 use Rattle.core_links.specs.RingSlots.{SameLinks, ring_view}
 use Rattle.core_links.specs.Views.{LinkView}
+use Rattle.core_loop.specs.Beginning.{HasNothingUnderWay}
+use Rattle.core_loop.specs.Keeping.{replica_of}
 use Rattle.core_loop.specs.Cores.{CoreState, SameCore, begun, receipts}
 use Rattle.core_join.specs.declared.recorded.RecordedTurn.{RecordedTurn}
 use Rattle.core_join.specs.declared.recorded.RecordedTurn.TheVariants.{Idle, Stopped, Spent, NoMemory}
@@ -45,6 +48,21 @@ StandsFor view halt.Early c = ⊥
 abbrev pub StandsSo : {L : Type 0} → (L → ℕ → LinkView) → Option Halt → CoreState L → Type 0
 StandsSo view None c = c.stopped ≡ None
 StandsSo view (Some why) c = StandsFor view why c
+
+-- each request that the core was given is begun, and nothing is under way
+pub record HasSettled {L : Type 0} (view : L → ℕ → LinkView) (c : CoreState L) : Type 0 where
+  pub pending : c.pending ≡ []
+  pub idle : HasNothingUnderWay c.cores c.part (view c.links)
+
+-- the first of these jobs, if there is one, waits for a later version
+abbrev pub FrontWaits : ℕ → List Job → Type 0
+FrontWaits version [] = Unit {0}
+FrontWaits version (job ∷ later) = version < job.floor
+
+-- nothing is under way, and the job that the core saw in front waits for a later version
+pub record HasDone {L : Type 0} (view : L → ℕ → LinkView) (c : CoreState L) : Type 0 where
+  pub idle : HasNothingUnderWay c.cores c.part (view c.links)
+  pub front : FrontWaits (replica_of c.part).shown.version (jobs_seen c.intake)
 
 -- the core ran in a thread of its own, and halted for this, if it halted
 pub record ThreadRan (old new : RingCore) (halted : Option Halt) : Type 0 where

@@ -86,3 +86,21 @@ pub(crate) fn cores_of(alloc: Global, ran: Vec<Ran>) -> Result<Vec<Recorded<Ring
 {
     ran.into_iter().map(|ran| ran.core).collect(alloc)
 }
+
+// Why a core halted, if it did.
+fn halt_of(ran: &Ran) -> Option<Halt>
+    ensures { result ≡ ran.now.halted }
+{
+    ran.halted
+}
+
+/// Why each halted, if it did.
+pub(crate) fn halts_of(alloc: Global, ran: &[Ran]) -> Result<Vec<Option<Halt>>, AllocError>
+    ensures { IfOk result (λ halts. halts.items ≡ map (λ r. r.halted) ran.now) }
+{
+    let mut halts = Vec::with_capacity(alloc, ran.len())?;
+    for one in ran {
+        halts.push(halt_of(one))?;
+    }
+    Ok(halts)
+}

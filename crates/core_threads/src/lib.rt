@@ -15,6 +15,6 @@ mod turning;
 
 pub use booting::boot;
 pub use core_boot::BootFault;
-pub use gate::{Free, Gate};
+pub use gate::{Free, Gate, Notes, Question};
 pub use halt::{Halt, RunFault};
 pub use machine::{Ended, Machine, run_machine};

@@ -3,11 +3,11 @@
 ghost use Rattle.std.specs.Prelude.{◌≡◌, ◌<◌, ℕ, All, List, length, IfOk};
 ghost use Rattle.core_join.specs.Machines.{IsMachine};
 ghost use Rattle.core_boot.specs.Booted.{AreBooted};
-ghost use Rattle.core_threads.specs.Ending.{EndsRightly};
+ghost use Rattle.core_threads.specs.Ending.{EndsRightly, HaltEach};
 ghost use Rattle.core_threads.specs.Finishing.{CanFinish, Finishes};
 ghost use Rattle.core_threads.specs.Loading.{AreLoaded};
 
-use crate::ending::{cores_of, why_halted};
+use crate::ending::{cores_of, halts_of, why_halted};
 use crate::feeding::{Outlet, outlets_of};
 use crate::flags::Flags;
 use crate::gate::Gate;
@@ -48,6 +48,8 @@ impl Model for Machine {
 pub struct Ended {
     /// Its cores, in the order of their numbers.
     pub cores: Vec<Recorded<RingLinks>>,
+    /// Why each of them halted, if it did.
+    pub halts: Vec<Option<Halt>>,
     /// The jobs that were not received, each with the number of its core, and each core's in order.
     pub left: Vec<(u16, Job)>,
     /// The least core that halted, and why. No lesser core is stopped; nor is this one, but for a `Halt::Cause`. Where no core halted, and where
@@ -58,7 +60,8 @@ pub struct Ended {
 // What the joined threads came to.
 fn finish(alloc: Global, joined: Joined) -> Result<Ended, AllocError>
     requires { CanFinish joined.ran.items joined.outlets.items }
-    ensures { IfOk result (λ ended. Finishes joined.ran.items joined.outlets.items ended.cores.items ended.left.items ended.halted) }
+    ensures finishes { IfOk result (λ ended. Finishes joined.ran.items joined.outlets.items ended.cores.items ended.left.items ended.halted) }
+    ensures halts { IfOk result (λ ended. HaltEach ended.cores.items ended.halts.items ended.halted) }
 {
     let Joined {
         mut ran,
@@ -66,9 +69,11 @@ fn finish(alloc: Global, joined: Joined) -> Result<Ended, AllocError>
     } = joined;
     let left = leave_all(alloc, &mut ran, &mut outlets)?;
     let halted = why_halted(&ran, &left);
+    let halts = halts_of(alloc, &ran)?;
     let cores = cores_of(alloc, ran)?;
     Ok(Ended {
         cores,
+        halts,
         left,
         halted,
     })
@@ -116,6 +121,7 @@ pub fn run_machine<R: Threads + Wait + Clock + Sync, G: Gate + Sync>(
 ) -> Result<Ended, RunFault>
     requires { All (λ j. j.0 < length machine.cores) jobs.items }
     ensures ended { IfOk result (λ ended. EndsRightly machine.cores jobs.items ended.cores.items ended.left.items ended.halted) }
+    ensures halts { IfOk result (λ ended. HaltEach ended.cores.items ended.halts.items ended.halted) }
     ensures machine { IfOk result (λ ended. (budget : ℕ) (budgets : List ℕ) → IsMachine budget budgets machine.cores → IsMachine budget budgets ended.cores.items) }
 {
     let (cores, outlets) = load(alloc, machine, jobs)?;

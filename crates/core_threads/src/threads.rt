@@ -9,7 +9,7 @@ ghost use Rattle.core_threads.specs.Runs.{ThreadRan};
 
 use crate::feeding::{Outlet, put_jobs};
 use crate::flags::Flags;
-use crate::gate::Gate;
+use crate::gate::{Gate, Notes};
 use crate::halt::{Halt, RunFault};
 use crate::turning::{Bounds, run_core};
 use core_join::Recorded;
@@ -54,7 +54,8 @@ fn run_thread<R: Wait + Clock, G: Gate>(
     ensures { ThreadRan core result.core result.halted }
 {
     let mut core = core;
-    let halted = run_core(rt, &mut core, flags, gate, bounds);
+    let mut notes = Notes::new();
+    let halted = run_core(rt, &mut core, flags, gate, &mut notes, bounds);
     if halted.is_some() {
         flags.halt();
     }

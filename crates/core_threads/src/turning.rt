@@ -1,11 +1,15 @@
 //! The turns of one core in its thread.
 
-ghost use Rattle.std.specs.Prelude.{◌≡◌, None};
-ghost use Rattle.core_threads.specs.Runs.{CoreRan, AfterTurn, StandsSo};
+ghost use Rattle.std.specs.Prelude.{◌≡◌, ◌≢◌, ◌++◌, ◌∷◌, [], List, None, IsTrue};
+ghost use Rattle.rx_queue.specs.Queue.{jobs_seen};
+ghost use Rattle.world_histories.specs.declared.history.Stamped.{Stamped as GhostStamped};
+ghost use Rattle.core_join.specs.declared.recorded.RecordedTurn.TheVariants.{Did};
+ghost use Rattle.core_threads.specs.Gates.{HasLooked, AsksOfFront, AsksLeave, receipt_of, receipts_of};
+ghost use Rattle.core_threads.specs.Runs.{CoreRan, AfterTurn, StandsSo, HasSettled, HasDone};
 
 use crate::backoff::Backoff;
 use crate::flags::Flags;
-use crate::gate::Gate;
+use crate::gate::{Gate, Notes};
 use crate::halt::Halt;
 use core_join::{Recorded, RecordedTurn};
 use core_loop::Links;
@@ -23,50 +27,88 @@ pub(crate) struct Bounds {
 }
 
 // Whether the core has a job in front that the gate lets through.
-fn may_receive<L: Links, G: Gate>(core: &mut Recorded<L>, gate: &G) -> bool
+fn may_receive<L: Links, G: Gate>(core: &mut Recorded<L>, gate: &G, notes: &mut Notes) -> bool
     ensures ran { CoreRan L.same core.old core.new }
     ensures core { core.new ≡ record core.old { intake = core.new.intake } }
+    ensures looked { HasLooked core.old.intake core.new.intake }
+    ensures asked { AsksOfFront core.new.number (jobs_seen core.new.intake) result notes.old.asked.items notes.new.asked.items }
+    ensures told { notes.new.told.items ≡ notes.old.told.items }
 {
     core.look();
     let core = core.core();
     match core.seen() {
-        Some(job) => gate.may(core.number(), job.number),
+        Some(job) => gate.may(notes, core.number(), job.number),
         None => false,
     }
 }
 
 // Takes one turn. It may receive the job in front where the gate says so.
-fn take_turn<L: Links, G: Gate>(core: &mut Recorded<L>, gate: &G) -> RecordedTurn
+fn take_turn<L: Links, G: Gate>(core: &mut Recorded<L>, gate: &G, notes: &mut Notes) -> RecordedTurn
     ensures ran { CoreRan L.same core.old core.new }
     ensures stopped { core.old.stopped ≡ None → AfterTurn L.view result core.new }
+    ensures did { result ≡ Did → (s : GhostStamped) × (core.new.history ≡ core.old.history ++ s ∷ []) }
+    ensures other { result ≢ Did → core.new.history ≡ core.old.history }
+    ensures leave { AsksLeave core.old core.new notes.old.asked.items notes.new.asked.items }
+    ensures told { notes.new.told.items ≡ notes.old.told.items }
 {
-    let rx = may_receive(core, gate);
+    let rx = may_receive(core, gate, notes);
     core.turn(rx)
 }
 
-// Tells the gate of a receipt that was the core's last event, and says whether that event began a request of another core.
-fn note_last<L: Links, G: Gate>(core: &Recorded<L>, gate: &G) -> bool {
+// Tells the gate of an event that is a receipt, and says whether the event began a request of another core.
+fn note<G: Gate>(event: &Event, gate: &G, notes: &mut Notes) -> bool
+    ensures told { notes.new.told.items ≡ notes.old.told.items ++ receipt_of event.now }
+{
+    match event {
+        Event::Rx {
+            core,
+            number,
+            packet: _,
+            floor: _,
+        } => {
+            gate.did(notes, *core, *number);
+            false
+        }
+        Event::StartFor { core: _ } => true,
+        _ => false,
+    }
+}
+
+// Notes the core's last event.
+fn note_last<L: Links, G: Gate>(core: &Recorded<L>, gate: &G, notes: &mut Notes) -> bool
+    ensures told { (before : List GhostStamped) (s : GhostStamped) → core.now.history ≡ before ++ s ∷ [] → notes.new.told.items ≡ notes.old.told.items ++ receipt_of s.done.event }
+{
     match core.events().last() {
-        Some(last) => match &last.done.event {
-            Event::Rx {
-                core,
-                number,
-                packet: _,
-                floor: _,
-            } => {
-                gate.did(*core, *number);
-                false
-            }
-            Event::StartFor { core: _ } => true,
-            _ => false,
-        },
+        Some(last) => note(&last.done.event, gate, notes),
         None => false,
     }
 }
 
+// Takes one turn, tells the gate of its event, and counts the requests of other cores that were begun.
+fn take_noted_turn<L: Links, G: Gate>(
+    core: &mut Recorded<L>,
+    gate: &G,
+    notes: &mut Notes,
+    began: &mut u64,
+) -> RecordedTurn
+    ensures ran { CoreRan L.same core.old core.new }
+    ensures stopped { core.old.stopped ≡ None → AfterTurn L.view result core.new }
+    ensures told { notes.old.told.items ≡ receipts_of core.old.history → notes.new.told.items ≡ receipts_of core.new.history }
+{
+    let turn = take_turn(core, gate, notes);
+    if let RecordedTurn::Did = turn {
+        if note_last(core, gate, notes) {
+            *began = began.saturating_add(1);
+        }
+    }
+    turn
+}
+
 // Whether every request is decided: core 0 has nothing under way, no request of its own left, and began this many of the others.
 // What an idle core 0 began is decided.
-fn is_settled<L: Links>(core: &Recorded<L>, began: u64, bounds: Bounds) -> bool {
+fn is_settled<L: Links>(core: &Recorded<L>, began: u64, bounds: Bounds) -> bool
+    ensures { IsTrue result → HasSettled L.view core.now }
+{
     let core = core.core();
     core.number() == 0 && began == bounds.submitted && core.pending() == 0 && core.idle()
 }
@@ -75,6 +117,7 @@ fn is_settled<L: Links>(core: &Recorded<L>, began: u64, bounds: Bounds) -> bool 
 fn is_done<L: Links>(core: &mut Recorded<L>, flags: &Flags) -> bool
     ensures ran { CoreRan L.same core.old core.new }
     ensures core { core.new ≡ record core.old { intake = core.new.intake } }
+    ensures done { IsTrue result → HasDone L.view core.new }
 {
     if !flags.is_settled() || !core.core().idle() {
         return false;
@@ -88,16 +131,18 @@ fn is_done<L: Links>(core: &mut Recorded<L>, flags: &Flags) -> bool
     }
 }
 
-/// Takes turns until the core ends, and says why it halted, if it did.
+/// Takes turns until the core ends, and says why it halted, if it did. The gate is told of each receipt once.
 pub(crate) fn run_core<L: Links, R: Wait + Clock, G: Gate>(
     rt: &R,
     core: &mut Recorded<L>,
     flags: &Flags,
     gate: &G,
+    notes: &mut Notes,
     bounds: Bounds,
 ) -> Option<Halt>
     ensures ran { CoreRan L.same core.old core.new }
     ensures stands { core.old.stopped ≡ None → StandsSo L.view result core.new }
+    ensures told { notes.old.told.items ≡ receipts_of core.old.history → notes.new.told.items ≡ receipts_of core.new.history }
 {
     let mut backoff = Backoff::new();
     let mut began = 0u64;
@@ -105,13 +150,8 @@ pub(crate) fn run_core<L: Links, R: Wait + Clock, G: Gate>(
         if flags.is_halted() {
             break;
         }
-        match take_turn(core, gate) {
-            RecordedTurn::Did => {
-                backoff.reset();
-                if note_last(core, gate) {
-                    began = began.saturating_add(1);
-                }
-            }
+        match take_noted_turn(core, gate, notes, &mut began) {
+            RecordedTurn::Did => backoff.reset(),
             RecordedTurn::Idle => {
                 if is_done(core, flags) {
                     break;

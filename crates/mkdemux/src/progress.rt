@@ -1,6 +1,6 @@
 //! How far a run is.
 
-use core_threads::Gate;
+use core_threads::{Gate, Notes};
 use std::sync::atomic::{AtomicU64, Ordering};
 use std::time::Instant;
 
@@ -51,11 +51,13 @@ impl<'a> Progress<'a> {
 }
 
 impl Gate for Progress<'_> {
-    fn may(&self, _core: u16, _number: u64) -> bool {
+    fn may(&self, notes: &mut Notes, core: u16, number: u64) -> bool {
+        notes.ask(core, number, true);
         true
     }
 
-    fn did(&self, _core: u16, _number: u64) {
+    fn did(&self, notes: &mut Notes, core: u16, number: u64) {
+        notes.tell(core, number);
         let before = self.received.fetch_add(1, Ordering::Relaxed);
         if before % STRIDE == STRIDE - 1 {
             self.tell(before.wrapping_add(1));

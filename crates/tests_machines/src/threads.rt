@@ -8,7 +8,9 @@ use crate::facts::{equal, holds};
 use crate::words::{ALL, Told, is_for_memory, job, program, tells};
 use core_join::{Recorded, conclude, merge};
 use core_loop::RingLinks;
-use core_threads::{BootFault, Ended, Free, Gate, Halt, Machine, RunFault, boot, run_machine};
+use core_threads::{
+    BootFault, Ended, Free, Gate, Halt, Machine, Notes, RunFault, boot, run_machine,
+};
 use rx_queue::Job;
 use std::alloc::{AllocError, Global};
 use std::process::Abort;
@@ -117,11 +119,14 @@ fn eight_cores_commit_and_receive(rt: HostRuntime) {
 struct Never;
 
 impl Gate for Never {
-    fn may(&self, _core: u16, _number: u64) -> bool {
+    fn may(&self, notes: &mut Notes, core: u16, number: u64) -> bool {
+        notes.ask(core, number, false);
         false
     }
 
-    fn did(&self, _core: u16, _number: u64) {}
+    fn did(&self, notes: &mut Notes, core: u16, number: u64) {
+        notes.tell(core, number);
+    }
 }
 
 // Runs one core, which has a job that it may never receive.
@@ -148,7 +153,8 @@ struct Meeting {
 }
 
 impl Gate for Meeting {
-    fn may(&self, core: u16, _number: u64) -> bool {
+    fn may(&self, notes: &mut Notes, core: u16, number: u64) -> bool {
+        notes.ask(core, number, true);
         let (own, other) = if core == 0 {
             (&self.here[0], &self.here[1])
         } else {
@@ -166,7 +172,9 @@ impl Gate for Meeting {
         true
     }
 
-    fn did(&self, _core: u16, _number: u64) {}
+    fn did(&self, notes: &mut Notes, core: u16, number: u64) {
+        notes.tell(core, number);
+    }
 }
 
 // Runs two cores with a job each.
@@ -243,6 +251,7 @@ fn ends_within<A: Abort>(rt: &A, alloc: Global, ended: Ended)
         cores,
         left,
         halted,
+        ..
     } = ended;
     if let Some((_, why)) = halted {
         holds(rt, matches!(why, Halt::NoMemory | Halt::NoRoom));

@@ -3,6 +3,7 @@ use Rattle.std.proofs.lemmas.List.{append-nil, nil_from_length}
 use Rattle.std.specs.Vec.Iter.{into_iter_items}
 use Rattle.core_drive.specs.declared.step.Step.{Step}
 use Rattle.core_join.proofs.Machines.{machine_ran}
+use Rattle.core_drive.proofs.Doing.{done_more}
 use Rattle.core_drive.proofs.Steps.{driven_more, driven_same, placed}
 use Rattle.core_drive.proofs.Looking.{driven_looked}
 use Rattle.core_drive.proofs.driving.drive.Goals as goal
@@ -15,9 +16,11 @@ do_step-requires-clause-place c =
 pub loop-step-preserved : goal.loop-step-preserved
 loop-step-preserved c = (
   rw c.push_reserved.ensures.items
-      (driven_more c.loop-step.yielded c.loop-step.outcomes.items c.in-Some.step c.do_step.result c.args.cores.now c.loop-step.cores c.do_step.new.cores c.loop-step.invariant.0 c.do_step.ensures),
+      (driven_more c.loop-step.yielded c.loop-step.outcomes.items c.in-Some.step c.do_step.result c.args.cores.now c.loop-step.cores c.do_step.new.cores c.loop-step.invariant.0 c.do_step.ensures.driven),
   omega (arith, c.loop-step.invariant.1, c.push_reserved.ensures.len, c.push_reserved.ensures.capacity, ap length c.in-Some.ensures.steps.0),
   c.loop-step.invariant.2 ∙ ap (λ (l : List Step). c.loop-step.yielded ++ l) c.in-Some.ensures.steps.0 ∙ sym (append_assoc c.loop-step.yielded (c.in-Some.step ∷ []) (into_iter_items c.next.new.self)),
+  rw c.push_reserved.ensures.items
+      (done_more c.loop-step.yielded c.loop-step.outcomes.items c.in-Some.step c.do_step.result c.args.cores.now c.loop-step.cores c.do_step.new.cores c.loop-step.invariant.3 c.do_step.ensures.done),
 )
 
 pub look_at-requires : goal.look_at-requires
@@ -30,6 +33,12 @@ returns-clause-driven c =
     let none : into_iter_items c.loop-step.step-iterator ≡ [] = nil_from_length _ (sym c.loop-step.step-iterator.rest.ok.0 ∙ c.in-None.ensures.steps.0) in
     let all : c.args.steps.items ≡ c.loop-step.yielded = c.loop-step.invariant.2 ∙ ap (λ (l : List Step). c.loop-step.yielded ++ l) none ∙ append-nil c.loop-step.yielded in
     rw all (driven_looked c.loop-step.yielded c.loop-step.outcomes.items c.args.cores.now c.loop-step.cores c.look_at.new.cores c.loop-step.invariant.0 c.look_at.ensures.looked)
+
+pub returns-clause-in_turn : goal.returns-clause-in_turn
+returns-clause-in_turn c =
+    let none : into_iter_items c.loop-step.step-iterator ≡ [] = nil_from_length _ (sym c.loop-step.step-iterator.rest.ok.0 ∙ c.in-None.ensures.steps.0) in
+    let all : c.args.steps.items ≡ c.loop-step.yielded = c.loop-step.invariant.2 ∙ ap (λ (l : List Step). c.loop-step.yielded ++ l) none ∙ append-nil c.loop-step.yielded in
+    rw all (record { last = c.loop-step.cores; done = c.loop-step.invariant.3; looked = c.look_at.ensures.looked })
 
 pub returns-clause-machine : goal.returns-clause-machine
 returns-clause-machine c =

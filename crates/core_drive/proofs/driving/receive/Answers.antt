@@ -20,3 +20,17 @@ returns-in-Ok-receive-clause-drives c =
 
 pub returns-clause-drives : goal.returns-clause-drives
 returns-clause-drives c = rw c.in-Err.ensures.err (drives_none c.args.core.now)
+
+pub returns-in-Ok-receive-clause-right : goal.returns-in-Ok-receive-clause-right
+returns-in-Ok-receive-clause-right c =
+    let ok = c.in-Ok-receive.ensures.ok.1 in
+    let count = c.in-Ok-receive.count in
+    let room = c.receive.new.room in
+    let within : count ≤ length room = c.in-Ok-receive.ensures.ok.0 in
+    let len : count ≤ c.in-Ok.room.len = omega (arith, within, c.receive.ensures.room, c.deref_mut.ensures.len, ap length c.deref_mut.ensures.value) in
+    let items : c.truncate.new.self.items ≡ take count room = c.truncate.ensures.items ∙ take-take count c.in-Ok.room.len _ len ∙ take-append-le count room _ within in
+    let h = subst (λ (l : List Kept). HasReceived c.args.core.now c.receive.new.self c.bytes.result.now c.original.result l) (sym items) ok in (
+      c.version-version.ensures,
+      subst (λ (n : ℕ). HasReceived c.args.core.now c.receive.new.self c.args.packet.bytes n c.truncate.new.self.items) c.original.ensures
+          (subst (λ (l : List ℕ). HasReceived c.args.core.now c.receive.new.self l c.original.result c.truncate.new.self.items) c.bytes.ensures h),
+    )

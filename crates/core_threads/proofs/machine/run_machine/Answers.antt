@@ -16,7 +16,7 @@ returns-clause-ended g c =
     let loads = c.in_ok-cores.ensures in
     let joined = c.in_ok-joined.ensures in
     let ran = subst (λ (l : List RingCore). HaveRan l c.in_ok-joined.joined.ran.items) loads.cores joined.cores in
-    ends_rightly c.args.machine.cores c.args.machine.ports c.args.jobs.items _ _ _ loads.booted loads.outlets ran joined.outlets _ _ _ c.in_ok-ended.ensures
+    ends_rightly c.args.machine.cores c.args.machine.ports c.args.jobs.items _ _ _ loads.booted loads.outlets ran joined.outlets _ _ _ c.in_ok-ended.ensures.finishes
 
 pub returns-clause-machine : goal.returns-clause-machine
 returns-clause-machine g c =
@@ -24,4 +24,4 @@ returns-clause-machine g c =
     let joined = c.in_ok-joined.ensures in
     let ran = subst (λ (l : List RingCore). HaveRan l c.in_ok-joined.joined.ran.items) loads.cores joined.cores in
     machine_still c.args.machine.cores c.args.jobs.items _ _ _
-    (ends_rightly c.args.machine.cores c.args.machine.ports c.args.jobs.items _ _ _ loads.booted loads.outlets ran joined.outlets _ _ _ c.in_ok-ended.ensures)
+    (ends_rightly c.args.machine.cores c.args.machine.ports c.args.jobs.items _ _ _ loads.booted loads.outlets ran joined.outlets _ _ _ c.in_ok-ended.ensures.finishes)
