@@ -2,6 +2,7 @@
 # Measures cores in threads of a C program (live_peer.c over libmkdemux_cores.a) beside loops of libpcap's bpf_filter over an array of the
 # same filters: alone, under a read-write lock, and over an array that is copied at each change.
 # Usage: bench/live.sh [-r ROUNDS] [-l FOLDER] [PART..]. Parts, by default all, in four minutes with 7 rounds:
+#   alone         processor time of a packet in one thread: 1, 16 and 1,000 filters
 #   packets       packets a second and thread: 16 and 1,000 filters, 0, 100 and 10,000 changes a second, 1 to 4 threads
 #   decide        from ask to decision
 #   memory        the peak after 10^6 packets and 10^4 changes, and after 10^8 and 10^6 more
@@ -20,7 +21,7 @@ while getopts r:l: option; do
     esac
 done
 shift $((OPTIND - 1))
-[ $# -gt 0 ] || set -- packets decide memory allocations
+[ $# -gt 0 ] || set -- alone packets decide memory allocations
 work=$(mktemp -d)
 trap 'rm -rf "$work"' EXIT
 cc=${CC:-cc}
@@ -33,6 +34,13 @@ if [ -f "$archive" ] && ar p "$archive" bpf_filter.o > "$work/bpf_filter.o" 2> /
 fi
 $cc -std=c11 -D_GNU_SOURCE -O2 -I"$folder/include" -o "$work/live_peer" "$here/live_peer.c" $bpf "$folder/lib/libmkdemux_cores.a" \
     -Wl,--wrap=malloc,--wrap=realloc -lpcap -lpthread
+
+alone() {
+    for filters in 1 16 1000; do
+        $WRAP "$work/live_peer" alone $filters one 41
+        $WRAP "$work/live_peer" alone $filters many 41
+    done
+}
 
 packets() {
     for filters in 16 1000; do
@@ -68,7 +76,7 @@ allocations() {
 
 for part; do
     case $part in
-    packets | decide | memory | allocations) "$part" ;;
+    alone | packets | decide | memory | allocations) "$part" ;;
     *) echo "live: there is no part $part" >&2; exit 2 ;;
     esac
 done

@@ -1,6 +1,7 @@
 /* Cores that receive packets in threads of a C program, beside loops of libpcap's bpf_filter over an array of the same filters: alone
    ("loop"), under a read-write lock ("locked"), and over an array that is copied at each change ("copied"). Linked with --wrap=malloc and
    --wrap=realloc, which count.
+   live_peer alone FILTERS SHAPES ROUNDS             nanoseconds of processor time a packet in one thread, beside the loop alone
    live_peer packets FILTERS SHAPES CHANGES THREADS ROUNDS   packets a second and thread, each way by turns in each round, and ratios of
                                                      neighbours; SHAPES: one (ports) or many; CHANGES a second, made by thread 0
    live_peer decide CORES ASKER BATCH ROUNDS         nanoseconds from ask to decision, where each core receives BATCH packets a turn
@@ -416,6 +417,48 @@ static void measure_packets(uint32_t filters, bool many, double changes, size_t 
     shut();
 }
 
+/* ---- One thread ---- */
+
+static double processor_time(void)
+{
+    struct timespec t;
+    clock_gettime(CLOCK_THREAD_CPUTIME_ID, &t);
+    return (double)t.tv_sec + (double)t.tv_nsec / 1e9;
+}
+
+/* Nanoseconds of one packet of so many. */
+static double time_packets(enum way chosen, size_t number)
+{
+    struct mkdemux_kept room[MOST];
+    double begin = processor_time();
+    way = chosen;
+    while (threads[0].received < number)
+        receive(&threads[0], room, &first);
+    threads[0].received = 0;
+    return (processor_time() - begin) / (double)number * 1e9;
+}
+
+static void measure_alone(uint32_t filters, bool many, int rounds)
+{
+    static double ours[MOST_ROUNDS], theirs[MOST_ROUNDS], ratios[MOST_ROUNDS];
+    size_t number = 160 * PACKETS / (filters + 9) * 10;
+    filter_count = filters;
+    batch = 1;
+    make_packets(filters);
+    make_programs(filters, many);
+    boot(1, filters);
+    compare();
+    for (int i = 0; i < rounds; i++) {
+        ours[i] = time_packets(OURS, number);
+        theirs[i] = time_packets(LOOP, number);
+        ratios[i] = theirs[i] / ours[i];
+    }
+    double each = median(ours, rounds), loop = median(theirs, rounds), ratio = median(ratios, rounds);
+    printf("%4u filters of %s: cores %.0f ns a packet, loop %.0f ns; packets of cores to those of the loop %.2f (%.2f to %.2f)\n",
+        filters, many ? "16 shapes" : "one shape", each, loop, ratio, ratios[rounds / 10], ratios[rounds - 1 - rounds / 10]);
+    shut();
+}
+
 /* ---- From ask to decision ---- */
 
 static atomic_bool stop;
@@ -449,8 +492,10 @@ static void measure_decisions(size_t count, size_t asker, size_t packets_a_turn,
         if (i != asker && pthread_create(&threads[i].id, NULL, turn_only, &threads[i]))
             die("no thread");
     }
-    for (int i = 0; i < rounds; i++) {
-        const struct bpf_program *program = &programs[16 + i % 2];
+    double end = now() + 2; /* on a busy machine fewer rounds */
+    int done = 0;
+    while (done < rounds && (done < 100 || now() < end)) {
+        const struct bpf_program *program = &programs[16 + done % 2];
         double begin = now();
         if (mkdemux_ask_replace(&cores[asker], 1, 1, code_of(program), program->bf_len))
             die("not asked");
@@ -458,7 +503,7 @@ static void measure_decisions(size_t count, size_t asker, size_t packets_a_turn,
             for (size_t j = 0; j < batch; j++)
                 mkdemux_receive(&cores[asker], packets[j % PACKETS], SIZE, ORIGINAL, room, MOST, &got);
         } while (mkdemux_turn(&cores[asker], &turned) || turned.what != MKDEMUX_TURN_DECISION);
-        times[i] = now() - begin;
+        times[done++] = now() - begin;
         if (turned.decision != MKDEMUX_COMMITTED)
             die("a change was refused");
     }
@@ -466,9 +511,9 @@ static void measure_decisions(size_t count, size_t asker, size_t packets_a_turn,
     for (size_t i = 0; i < count; i++)
         if (i != asker)
             pthread_join(threads[i].id, NULL);
-    double middle = median(times, rounds);
+    double middle = median(times, done);
     printf("%zu cores, core %zu asks, %2zu packets a turn: from ask to decision %.1f us (90%%: %.1f us, 99%%: %.1f us)\n", count, asker,
-        packets_a_turn, middle * 1e6, times[rounds * 9 / 10] * 1e6, times[rounds * 99 / 100] * 1e6);
+        packets_a_turn, middle * 1e6, times[done * 9 / 10] * 1e6, times[done * 99 / 100] * 1e6);
     shut();
 }
 
@@ -569,8 +614,10 @@ static void measure_allocations(uint32_t filters)
 int main(int argc, char **argv)
 {
     const char *part = argc > 1 ? argv[1] : "";
-    int rounds = argc > 5 ? atoi(argv[argc - 1]) : 0;
-    if (argc == 7 && !strcmp(part, "packets") && rounds >= 1 && rounds <= MOST_ROUNDS)
+    int rounds = argc > 4 ? atoi(argv[argc - 1]) : 0;
+    if (argc == 5 && !strcmp(part, "alone") && rounds >= 1 && rounds <= MOST_ROUNDS)
+        measure_alone((uint32_t)atoi(argv[2]), !strcmp(argv[3], "many"), rounds);
+    else if (argc == 7 && !strcmp(part, "packets") && rounds >= 1 && rounds <= MOST_ROUNDS)
         measure_packets((uint32_t)atoi(argv[2]), !strcmp(argv[3], "many"), atof(argv[4]), (size_t)atoi(argv[5]), rounds);
     else if (argc == 6 && !strcmp(part, "decide") && rounds >= 1 && rounds <= 10000)
         measure_decisions((size_t)atoi(argv[2]), (size_t)atoi(argv[3]), (size_t)atoi(argv[4]), rounds);
