@@ -6,9 +6,9 @@ use mir.Val.{Val, vptr, vstruct, vcons, vnil, of_list}
 use base.Fraction.{full_share}
 use base.Logic.{ent, guard, guard_i, via, snd∗, never, fst∗}
 use types.Logic.{Logic, sem}
-use types.Kit.{Item, Goal, Seq, Step, step, ‵, given, ◌$◌, drop, learn, fsplit, fjoin, fpick, fpack, rewrite, feq_i, feq_l, use1}
+use types.Kit.{Item, Goal, Seq, Step, step, ‵, given, ◌$◌, drop, learn, fsplit, fjoin, fpick, fpack, feq_i, feq_l, use1}
 use contract.Monad.{fact_use, fact_mono}
-use denote.RattleType.{RattleType, Valss}
+use denote.RattleType.{Valss}
 use denote.Builtin.{RawPtr}
 use denote.Memory.{lone}
 use denote.RawPtr.{Ptr, block_ptr, null_ptr, ptr_val, count_of, in_a_block, lies_at, Testable}

@@ -1,5 +1,5 @@
 -- How many requests have no decision.
-use Rattle.std.proofs.Common.{◌≡◌, ◌+◌, ◌-◌, ◌^◌, ◌++◌, ℕ, length, min, ap, ◌∙◌, arith, length-append}
+use Rattle.std.proofs.Common.{◌≡◌, ◌+◌, ◌-◌, ◌^◌, ℕ, length, min, arith, length-append}
 use Rattle.core_loop.specs.Answering.{AreDecided, under_way}
 use Rattle.core_loop.specs.Cores.{begun}
 use Rattle.core_join.specs.Machines.{RingCore}

@@ -1,7 +1,6 @@
-use Rattle.std.proofs.Common.{◌≡◌, ◌<◌, None, length, slice_index_or, refl, sym, ap, ◌∙◌, arith, below_more}
+use Rattle.std.proofs.Common.{◌<◌, length, slice_index_or, refl, sym, ap, ◌∙◌, arith, below_more}
 use Rattle.std.proofs.lemmas.List.{get_or_default}
 use Rattle.std.proofs.Math.Seq.{map-set_same}
-use Rattle.mkdemux_cores.specs.Booting.{cores_of}
 use Rattle.mkdemux_cores.proofs.Opening.{same_at, some_or_none, none_from}
 use Rattle.mkdemux_cores.proofs.booting.is_any_open.Goals as goal
 

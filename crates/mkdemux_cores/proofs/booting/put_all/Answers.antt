@@ -1,4 +1,4 @@
-use Rattle.std.proofs.Common.{◌<◌, ◌++◌, ◌∷◌, [], ◌+◌, None, Some, length, sym, ap, ◌∙◌, subst, arith, Option}
+use Rattle.std.proofs.Common.{◌<◌, ◌++◌, ◌∷◌, [], ◌+◌, Some, length, sym, ◌∙◌, subst, arith}
 use Rattle.std.specs.Vec.Iter.{into_iter_items}
 use Rattle.std.proofs.lemmas.List.{length-map, get_or-map, map-set, nil_from_length}
 use Rattle.mkdemux_cores.specs.Booting.{cores_of}

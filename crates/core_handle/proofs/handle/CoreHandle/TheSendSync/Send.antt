@@ -1,5 +1,5 @@
 -- A handle may go to another thread.
-use Rattle.std.proofs.Common.{Option, Some, None, List, ℕ}
+use Rattle.std.proofs.Common.{Option, Some, None}
 use mir.Raw.{raw}
 use base.Shift.{Keyless}
 use denote.Memory.{lone}
