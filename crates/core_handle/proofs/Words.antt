@@ -15,9 +15,9 @@ use denote.RawPtr.{Ptr, block_ptr, null_ptr, ptr_val, count_of, in_a_block, lies
 use denote.Steps.{nothing}
 use denote.Struct.Struct.{within}
 use denote.Struct.Owning.{shape}
-use Rattle.libc.specs.Heap.{chunk, chunk_start}
+use Rattle.std.proofs.GlobalToken.{dealloc_token_start}
 use Rattle.std_alloc.specs.Box.Ownership.{box_owns}
-use Rattle.core_handle.specs.Owning.{owns_some, core_row}
+use Rattle.core_handle.specs.Owning.{owns_some, core_row, frees, heap}
 use Rattle.core_handle.specs.contracts.handle.CoreHandle as handle
 
 abbrev pub one : Val → Val
@@ -25,10 +25,10 @@ one v = vstruct (vcons v vnil)
 
 -- who owns a block of the heap may compare the pointer to it with null
 testable : {M : Type 1} {𝓤 : Ura M} (𝓛 : Logic 𝓤) (p : Ptr) (x : core_row.Denot)
-    → ent 𝓤 (sem 𝓛 (box_owns chunk core_row p x)) (guard 𝓤 (Testable p) (sem 𝓛 (box_owns chunk core_row p x)))
+    → ent 𝓤 (sem 𝓛 (box_owns frees core_row p x)) (guard 𝓤 (Testable p) (sem 𝓛 (box_owns frees core_row p x)))
 testable {𝓤 = 𝓤} 𝓛 p x = let τ = bare (lone core_row.mir) in
-    fact_use 𝓤 (Testable p) (via 𝓤 _ (snd∗ 𝓤 (sem 𝓛 (lies_at core_row full_share p x)) (sem 𝓛 (chunk τ p))) (via 𝓤 _ (chunk_start 𝓛 τ p)
-    (fact_mono 𝓤 (count_of p ≡ zero) (Testable p) (λ e. subst (λ (k : ℕ). k < 2 ^ 63) (sym e) (lit< tt))))) (guard_i 𝓤 (Testable p) (sem 𝓛 (box_owns chunk core_row p x)))
+    fact_use 𝓤 (Testable p) (via 𝓤 _ (snd∗ 𝓤 (sem 𝓛 (lies_at core_row full_share p x)) (sem 𝓛 (frees τ p))) (via 𝓤 _ (dealloc_token_start 𝓛 heap τ p)
+    (fact_mono 𝓤 (count_of p ≡ zero) (Testable p) (λ e. subst (λ (k : ℕ). k < 2 ^ 63) (sym e) (lit< tt))))) (guard_i 𝓤 (Testable p) (sem 𝓛 (box_owns frees core_row p x)))
 
 module _ {M : Type 1} {𝓤 : Ura M} {𝓛 : Logic 𝓤} {K : Type 0} {Γ : List (Item 𝓤)} {G : Goal 𝓤 𝓛.H} where
   pub handle_in : K → (p : Ptr) (w : Val) (x : Option core_row.Denot) → ptr_val p ≡ w
@@ -39,15 +39,15 @@ module _ {M : Type 1} {𝓤 : Ura M} {𝓛 : Logic 𝓤} {K : Type 0} {Γ : List
 
   -- a handle that is taken apart is null and has no value, or has one in a block
   by_value : K → (p : Ptr) (x : Option core_row.Denot) → (x ≡ None → p ≡ null_ptr → Seq K 𝓛 Γ G)
-      → ((b o : ℕ) (y : core_row.Denot) → x ≡ Some y → p ≡ block_ptr b o → Testable (block_ptr b o) → Seq K 𝓛 (‵ (box_owns chunk core_row (block_ptr b o) y) ∷ Γ) G)
+      → ((b o : ℕ) (y : core_row.Denot) → x ≡ Some y → p ≡ block_ptr b o → Testable (block_ptr b o) → Seq K 𝓛 (‵ (box_owns frees core_row (block_ptr b o) y) ∷ Γ) G)
       → Seq K 𝓛 (‵ (owns_some core_row p x) ∷ Γ) G
   by_value t p None without within = feq_l t (λ e. without refl e)
   by_value t p (Some y) without within =
-      in_a_block t p (λ p. box_owns chunk core_row p y) (fst∗ 𝓤 (never 𝓤) (sem 𝓛 (chunk (bare (lone core_row.mir)) null_ptr))) (λ b o e.
-      use1 𝓛 (given (Testable (block_ptr b o)) (‵ (box_owns chunk core_row (block_ptr b o) y))) (testable 𝓛 (block_ptr b o) y) $ learn t (λ may. within b o y refl e may))
+      in_a_block t p (λ p. box_owns frees core_row p y) (fst∗ 𝓤 (never 𝓤) (sem 𝓛 (frees (bare (lone core_row.mir)) null_ptr))) (λ b o e.
+      use1 𝓛 (given (Testable (block_ptr b o)) (‵ (box_owns frees core_row (block_ptr b o) y))) (testable 𝓛 (block_ptr b o) y) $ learn t (λ may. within b o y refl e may))
 
   pub handle_out : K → (d : handle.the_row.Denot) (vs : List Val) → (d.core ≡ None → d.at ≡ null_ptr → vs ≡ one (ptr_val null_ptr) ∷ [] → Seq K 𝓛 Γ G)
-      → ((b o : ℕ) (y : core_row.Denot) → d.core ≡ Some y → Testable (block_ptr b o) → vs ≡ one (vptr b o) ∷ [] → Seq K 𝓛 (‵ (box_owns chunk core_row (block_ptr b o) y) ∷ Γ) G)
+      → ((b o : ℕ) (y : core_row.Denot) → d.core ≡ Some y → Testable (block_ptr b o) → vs ≡ one (vptr b o) ∷ [] → Seq K 𝓛 (‵ (box_owns frees core_row (block_ptr b o) y) ∷ Γ) G)
       → Seq K 𝓛 (‵ (handle.the_row.own_val d vs) ∷ Γ) G
   handle_out t d vs without within =
       fsplit t $ fpick t (λ vss. fsplit t $ feq_l t (λ ev. fsplit t $ feq_l t (λ ep. drop t $

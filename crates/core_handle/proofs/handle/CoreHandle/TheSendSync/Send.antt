@@ -8,15 +8,15 @@ use denote.Param.Send.{IsSend, owning_send, struct_send, sendable}
 use denote.Builtin.{RawPtr}
 use denote.Struct.Struct.{exits_of}
 use denote.Struct.Owning.{shape, fields, to}
-use Rattle.libc.specs.Heap.{chunk-Keyless}
+use Rattle.std.below.std_heap.proofs.GlobalAllocator.TheSendSync as blocks
 use Rattle.std_alloc.proofs.SendSync.{quiet, lies}
 use Rattle.core_join.proofs.Crossing.{core_send}
-use Rattle.core_handle.specs.Owning.{owns_some, core_row}
+use Rattle.core_handle.specs.Owning.{owns_some, core_row, heap}
 use Rattle.core_handle.specs.contracts.handle.CoreHandle.{the_row, the_type}
 
 owned : (p : Ptr) (x : Option core_row.Denot) → Keyless (owns_some core_row p x)
 owned p None = tt
-owned p (Some x) = (lies core_row core_send p x, chunk-Keyless (raw (lone core_row.mir)) p)
+owned p (Some x) = (lies core_row core_send p x, blocks.the_frees.frees heap (raw (lone core_row.mir)) p)
 
 pub send : IsSend the_row
 send = let ps : IsSend RawPtr = search sendable in
