@@ -129,7 +129,7 @@ hundred lines for both halves. Until calls say it in those words alone, the numb
 NOTATION = """\
 ## The kit's words
 
-What stands in definitions beside each other's names. `A → B` is a function, or that B follows from A; `(x : A) → B`
+These stand in definitions beside the names of others. `A → B` is a function, or that B follows from A; `(x : A) → B`
 says so of each x, and `(x : A) × B` that there is an x; `A × B` is both. `λ x. e` is a function. `Type 0` is a
 statement, or a type; `⊥` never holds, and `Unit {0}` always. A `record` holds its fields together, and `data` is one of
 its cases. `abbrev` and `unfoldable` say how the prover treats a name, not what it means. In clauses, `x.now` is what a
@@ -179,8 +179,8 @@ class Page:
         self.rows = list(self.rows_of_readme())
         self.meanings = dict(re.split(r"\s{2,}", line, maxsplit=1) for line in WORDS.read_text().splitlines() if line and line[0] != "#")
         self.counted = {}  # the title of a part -> what it rests on
-        self.told = set()  # the definitions that stand on the page
-        self.headed = set()  # the files whose first comment stands on the page
+        self.told = set()  # the definitions that stand on the page so far
+        self.headed = set()  # the files whose first comment stands on the page so far
 
     def rows_of_readme(self):
         """What the rows of README's table rest on."""
@@ -196,7 +196,7 @@ class Page:
         owner = ""
         for call in calls:
             owner = call.split("::")[0] if "::" in call else owner
-            names = [f"{crate}::{name}" for name in (call, f"{owner}::{call}", owner) for crate in crates]
+            names = [f"{crate}::{name}" for name in (f"{owner}::{call}", call, owner) for crate in crates]
             yield next(filter(self.is_root, names), names[0])
 
     def is_root(self, root):
@@ -219,7 +219,8 @@ class Page:
 
     def text(self):
         """The whole page."""
-        pieces = [INTRODUCTION, *self.tables(), *map(self.section, HEADLINE), *self.words(), *self.lists(), self.trusted()]
+        self.told, self.headed = set(), set()
+        pieces = [INTRODUCTION, *self.tables(), *self.shared_names(), *map(self.section, HEADLINE), *self.words(), *self.lists(), self.trusted()]
         return "\n\n".join(pieces) + "\n"
 
     def tables(self):
@@ -236,6 +237,16 @@ class Page:
         for part in parts:
             cited = self.cited(part)
             yield f"| {part.title} | {len(cited.keys):,} | {cited.lines:,} | {part.most:,} |"
+
+    def shared_names(self):
+        """The names that two of the headline's definitions have."""
+        files = {}
+        for key in self.cited(WHOLE).keys:
+            files.setdefault(key[-1], []).append(self.sources.definitions[key].file)
+        yield "## Names that several things have"
+        yield "Where a definition uses one of these, it means the one that its file has or imports."
+        shared = {name: found for name, found in sorted(files.items()) if len(found) > 1}
+        yield "\n".join(wrapped(f"- `{name}`: {', '.join(map(linked, found))}", "  ") for name, found in shared.items())
 
     def section(self, part):
         """The clauses of a part of the headline, and the definitions that they cite and no part before does."""
@@ -254,7 +265,25 @@ class Page:
         """The signature of a root and its clauses."""
         function, clauses = self.sources.contract(root)
         code = textwrap.dedent("\n".join([function.signature, *clauses]))
-        return f"`{root.partition('[')[0]}` ({linked(function.file)}):\n\n```rust\n{code}\n```"
+        said = self.said_of_names([("\n".join(clauses), function.scope)])
+        return wrapped(f"`{root.partition('[')[0]}`, {linked(function.file)}. {said}") + f"\n```rust\n{code}\n```"
+
+    def said_of_names(self, texts):
+        """What the names in these texts stand for that are others elsewhere."""
+        renamed = {}
+        for text, scope in texts:
+            renamed.update(Cited(self.sources).renamed(text, scope))
+        listed = ", ".join(f"`{name}` is {self.named(path)}" for name, path in sorted(renamed.items()))
+        return f"Here {listed}." if listed else ""
+
+    def named(self, path):
+        """The thing at a path, by its own name and its crate's."""
+        crate, names = path[1], path[3:]
+        if names[-1] == "TheVariants":
+            return f"`{names[-2]}` of `{crate}`"
+        if (crate, names) in self.sources.modules:
+            return f"`{crate}/specs/{'/'.join(names)}.antt`"
+        return f"`{names[-1]}` of `{crate}`"
 
     def in_files(self, cited, keys):
         """The definitions in runs of one file, so that each stands after those that it cites. A file comes next whose definitions
@@ -284,17 +313,19 @@ class Page:
 
     def of_file(self, file, keys):
         """Definitions of one file, after what is said of the file where it comes first."""
-        said = "" if file in self.headed else self.head_of(file)
+        definitions = [self.sources.definitions[key] for key in keys]
+        said = "." if file in self.headed else ": " + self.head_of(file)
+        said += " " + self.said_of_names(map(self.sources.meaning, definitions))
         self.headed.add(file)
         language = "antt" if file.endswith(".antt") else "rust"
-        code = "".join(self.shown(self.sources.definitions[key]) for key in keys).strip("\n")
+        code = "".join(map(self.shown, definitions)).strip("\n")
         return f"{wrapped(f'{linked(file)}{said}')}\n```{language}\n{code}\n```"
 
     def head_of(self, file):
         """What the first comment of a file says: what it has, and its source."""
         mark = "--" if file.endswith(".antt") else "//!"
         lines = itertools.takewhile(lambda line: line.startswith(mark), (TOP / file).read_text().splitlines())
-        return ": " + " ".join(" ".join(line.removeprefix(mark) for line in lines).split())
+        return " ".join(" ".join(line.removeprefix(mark) for line in lines).split())
 
     def shown(self, definition):
         """A definition under its comment, or under a blank line where it has none."""

@@ -260,13 +260,15 @@ class Sources:
             self.definitions[key] = Definition(key, file, [], [head, *ghosts, "}"], inside, "impl")
         for at, line in enumerate(bare):
             method = FUNCTION_HEAD.match(line)
-            hidden = method and found[1] and (scope.crate, f"{found[2]}::{method[2]}") in self.functions
-            if method and method[1] == "    " and not hidden:
+            if method and method[1] == "    ":
                 self.add_function(file, lines, bare, at, inside, found[2], head)
 
     def add_function(self, file, lines, bare, at, scope, owner="", bounds=""):
-        """Adds the contract of a function."""
+        """Adds the contract of a function, but for a private one of the same name as another."""
         head = FUNCTION_HEAD.match(bare[at])
+        name = f"{owner}::{head[2]}" if owner else head[2]
+        if (scope.crate, name) in self.functions and not bare[at].lstrip().startswith("pub "):
+            return
         signature, clauses = [], []
         for line in filter(str.strip, bare[at:contract_end(bare, at, head[1])]):
             if found := CLAUSE_HEAD.match(line):
@@ -275,7 +277,6 @@ class Sources:
                 clauses[-1][2] += "\n" + line
             else:
                 signature.append(line)
-        name = f"{owner}::{head[2]}" if owner else head[2]
         comment = comment_above(lines, at, ("//", "#["))
         self.functions[scope.crate, name] = Function(file, comment, "\n".join(signature), clauses, scope, owner, bounds)
 
@@ -301,12 +302,17 @@ class Sources:
         value = self.value_at(definition)
         if value is None:
             return definition.text
-        return [definition.text[0].rstrip(), *value[0]]
+        return [definition.text[0].rstrip(" {(;"), *value[0]]
 
     def value_at(self, definition):
         """The value that the model of a struct names, with its scope, or None."""
         text, scope = self.models.get((definition.key[0], definition.name), (None, None))
         return (text, scope) if text and definition.kind == "struct" else None
+
+    def meaning(self, definition):
+        """The text that says what a definition means, with its scope."""
+        text, scope = self.value_at(definition) or (definition.bare(), definition.scope)
+        return "\n".join(text), scope
 
     def size(self, definition):
         """How many lines count: neither blank nor comment nor import."""
@@ -382,9 +388,7 @@ class Cited:
 
     def needs(self, key):
         """The definitions that a definition cites itself."""
-        definition = self.sources.definitions[key]
-        text, scope = self.sources.value_at(definition) or (definition.bare(), definition.scope)
-        return [other for other in self.cited_by("\n".join(text), scope) if other not in (None, key)]
+        return [other for other in self.cited_by(*self.sources.meaning(self.sources.definitions[key])) if other not in (None, key)]
 
     def cited_by(self, text, scope):
         """The keys of the definitions that stand in a text, in their order."""
@@ -398,6 +402,11 @@ class Cited:
                 continue
             keys.append(self.cited_name(token[0].split("."), scope, bound))
         return [key for key in keys if key]
+
+    def renamed(self, text, scope):
+        """The names in a text that its file gives to things which have another name elsewhere, each with the path."""
+        words = {token[0].split(".")[0] for token in TOKEN.finditer(STRING.sub("", text))} - bound_names(text)
+        return {word: path for word, (path, _) in scope.imports.items() if word in words and path[-1] != word}
 
     def cited_name(self, parts, scope, bound):
         """The key of the definition that a word stands for, or None."""
