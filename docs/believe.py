@@ -136,6 +136,10 @@ its cases. `abbrev` and `unfoldable` say how the prover treats a name, not what 
 borrow shows, `x.old` and `x.new` are that before and after the call, and `result` is what is returned. The numbers of
 Rust are those of ℕ, and a slice or a vector is the list of its items."""
 
+OTHERS = """\
+The names of the definitions that each rests on, file by file. Those of the headline and of what stands before are left
+out, and so is what has no others."""
+
 TRUSTED = """\
 ## What else is trusted
 
@@ -165,6 +169,11 @@ def linked(file):
     return f"[{file.removeprefix('crates/')}](../{file})"
 
 
+def lines_of(path):
+    """The lines of a file that are neither blank nor comment."""
+    return [line for line in path.read_text().splitlines() if line and not line.startswith("#")]
+
+
 def wrapped(text, indent=""):
     """A paragraph in lines of at most 120 characters."""
     return textwrap.fill(text, 120, subsequent_indent=indent, break_long_words=False, break_on_hyphens=False)
@@ -175,9 +184,9 @@ class Page:
 
     def __init__(self, sources):
         self.sources = sources
-        self.crates = [line.split(":")[0].split()[0] for line in (TOP / "crates.txt").read_text().splitlines() if line and line[0] != "#"]
+        self.crates = {line.split()[0].rstrip(":"): line.partition(":")[2].split() for line in lines_of(TOP / "crates.txt")}
         self.rows = list(self.rows_of_readme())
-        self.meanings = dict(re.split(r"\s{2,}", line, maxsplit=1) for line in WORDS.read_text().splitlines() if line and line[0] != "#")
+        self.meanings = dict(re.split(r"\s{2,}", line, maxsplit=1) for line in lines_of(WORDS))
         self.counted = {}  # the title of a part -> what it rests on
         self.told = set()  # the definitions that stand on the page so far
         self.headed = set()  # the files whose first comment stands on the page so far
@@ -220,7 +229,8 @@ class Page:
     def text(self):
         """The whole page."""
         self.told, self.headed = set(), set()
-        pieces = [INTRODUCTION, *self.tables(), *self.shared_names(), *map(self.section, HEADLINE), *self.words(), *self.lists(), self.trusted()]
+        headline = [*self.shared_names(), *map(self.section, HEADLINE), *self.words()]
+        pieces = [INTRODUCTION, *self.tables(), *headline, *self.lists(), self.trusted()]
         return "\n\n".join(pieces) + "\n"
 
     def tables(self):
@@ -289,27 +299,17 @@ class Page:
         """The definitions in runs of one file, so that each stands after those that it cites. A file comes next whose definitions
         can all stand there, if there is one."""
         needs = {key: set(cited.needs(key)) & set(keys[:at]) for at, key in enumerate(keys)}
-        left = list(keys)
-        while left:
-            files = {self.sources.definitions[key].file: self.place(key) for key in left}
-            runs = {file: self.run_of(file, left, needs) for file in files}
-            remain = {file: sum(self.sources.definitions[key].file == file for key in left) - len(run) for file, run in runs.items()}
-            file = min(filter(runs.get, files), key=lambda file: (remain[file] > 0, files[file]))
+        files = {}
+        for key in sorted(keys, key=lambda key: list(self.crates).index(key[0])):
+            files.setdefault(self.sources.definitions[key].file, [])
+        for key in keys:
+            files[self.sources.definitions[key].file].append(key)
+        while any(files.values()):
+            left = {key for keys in files.values() for key in keys}
+            runs = {file: run_of(keys, left, needs) for file, keys in files.items()}
+            file = min(filter(runs.get, files), key=lambda file: len(runs[file]) < len(files[file]))
             yield file, runs[file]
-            left = [key for key in left if key not in runs[file]]
-
-    def run_of(self, file, left, needs):
-        """The definitions of a file that can stand next, where those that are left don't stand yet."""
-        run, missing = [], set(left)
-        for key in left:
-            if self.sources.definitions[key].file == file and not needs[key] & missing:
-                run.append(key)
-                missing.remove(key)
-        return run
-
-    def place(self, key):
-        """The place of a definition's crate, from the base up, and its file."""
-        return self.crates.index(key[0]), self.sources.definitions[key].file
+            files[file] = [key for key in files[file] if key not in runs[file]]
 
     def of_file(self, file, keys):
         """Definitions of one file, after what is said of the file where it comes first."""
@@ -345,8 +345,7 @@ class Page:
     def lists(self):
         """The names of what the commands and the rows rest on beside the headline."""
         yield "## The commands and the other rows"
-        yield wrapped("The names of the definitions that each rests on, file by file. Those of the headline and of what stands before are left "
-                      "out, and so is what has no others.")
+        yield OTHERS
         for part in [*COMMANDS, *self.rows]:
             cited = self.cited(part)
             new = [key for key in cited.keys if key not in self.told]
@@ -365,9 +364,18 @@ class Page:
 
     def trusted(self):
         """What else is trusted."""
-        libraries = {name for line in (TOP / "crates.txt").read_text().splitlines() if line[:1] != "#" for name in line.partition(":")[2].split()}
-        listed = ", ".join(f"`{name}`" for name in ["std", *sorted(libraries - set(self.crates) - {"core", "std_alloc"})])
+        libraries = {name for used in self.crates.values() for name in used} - set(self.crates) - {"core", "std_alloc"}
+        listed = ", ".join(f"`{name}`" for name in ["std", *sorted(libraries)])
         return "\n".join(refilled(TRUSTED.format(libraries=listed)))
+
+
+def run_of(keys, left, needs):
+    """Those of a file's definitions that can stand next, where those that are left don't stand yet."""
+    run = []
+    for key in keys:
+        if not needs[key] & left - set(run):
+            run.append(key)
+    return run
 
 
 def refilled(text):

@@ -1,7 +1,7 @@
 """The definitions that contracts cite, read off the sources: those of specs/, and the types and models of src/.
 
-A definition is cited by a clause where it stands in it, or in a definition that the clause cites. A type with a model is seen as the
-value that its model names, and as nothing else: its fields, its view and its invariant are the prover's affair."""
+A clause cites a definition where it names it, or cites another one that does. A type with a model is seen as the value that its
+model names, and as nothing else: its fields, its view and its invariant are the prover's affair."""
 import collections
 import pathlib
 import re
@@ -62,10 +62,9 @@ class Definition:
 
 @dataclass
 class Function:
-    """The signature and the clauses of a function, with the comment above it."""
+    """The signature and the clauses of a function."""
 
     file: str
-    comment: list
     signature: str
     clauses: list  # of kind, name and text
     scope: Scope
@@ -219,9 +218,9 @@ class Sources:
                 self.add_type(file, lines, at, end, head, scope)
             elif re.match(r"(unsafe )?impl\b", bare[at]):
                 end = block_end(bare, at)
-                self.read_impl(file, lines[at:end + 1], bare[at:end + 1], scope)
-            elif head := FUNCTION_HEAD.match(bare[at]):
-                self.add_function(file, lines, bare, at, scope)
+                self.read_impl(file, bare[at:end + 1], scope)
+            elif FUNCTION_HEAD.match(bare[at]):
+                self.add_function(file, bare, at, scope)
             at = end + 1
 
     def note_passed_on(self, crate, lines):
@@ -245,40 +244,39 @@ class Sources:
         key = (scope.crate, "src", head[2])
         self.definitions[key] = Definition(key, file, comment_above(lines, at, ("//", "#[")), text, inside, head[1])
 
-    def read_impl(self, file, lines, bare, scope):
-        """Reads the value of a model, or the contracts of methods."""
-        head, _ = joined_statement(bare, 0, lambda text: "{" in text)
+    def read_impl(self, file, lines, scope):
+        """Reads the value of a model, or what a trait is at a type, and the contracts of methods."""
+        head, _ = joined_statement(lines, 0, lambda text: "{" in text)
         found = IMPL_HEAD.match(head)
         if not found:
             return
-        inside = scope.within(ghost_imports(bare))
+        inside = scope.within(ghost_imports(lines))
         if found[1] == "Model":
-            self.models[scope.crate, found[2]] = (ghosts_of(bare, "Value"), inside)
+            self.models[scope.crate, found[2]] = (ghosts_of(lines, "Value"), inside)
             return
-        if found[1] and (ghosts := ghosts_of(bare, r"\w+")):
+        if found[1] and (ghosts := ghosts_of(lines, r"\w+")):
             key = (scope.crate, "src", found[2] + found[1])
             self.definitions[key] = Definition(key, file, [], [head, *ghosts, "}"], inside, "impl")
-        for at, line in enumerate(bare):
+        for at, line in enumerate(lines):
             method = FUNCTION_HEAD.match(line)
             if method and method[1] == "    ":
-                self.add_function(file, lines, bare, at, inside, found[2], head)
+                self.add_function(file, lines, at, inside, found[2], head)
 
-    def add_function(self, file, lines, bare, at, scope, owner="", bounds=""):
+    def add_function(self, file, lines, at, scope, owner="", bounds=""):
         """Adds the contract of a function, but for a private one of the same name as another."""
-        head = FUNCTION_HEAD.match(bare[at])
+        head = FUNCTION_HEAD.match(lines[at])
         name = f"{owner}::{head[2]}" if owner else head[2]
-        if (scope.crate, name) in self.functions and not bare[at].lstrip().startswith("pub "):
+        if (scope.crate, name) in self.functions and not lines[at].lstrip().startswith("pub "):
             return
         signature, clauses = [], []
-        for line in filter(str.strip, bare[at:contract_end(bare, at, head[1])]):
+        for line in filter(str.strip, lines[at:contract_end(lines, at, head[1])]):
             if found := CLAUSE_HEAD.match(line):
                 clauses.append([found[1], found[2], line])
             elif clauses:
                 clauses[-1][2] += "\n" + line
             else:
                 signature.append(line)
-        comment = comment_above(lines, at, ("//", "#["))
-        self.functions[scope.crate, name] = Function(file, comment, "\n".join(signature), clauses, scope, owner, bounds)
+        self.functions[scope.crate, name] = Function(file, "\n".join(signature), clauses, scope, owner, bounds)
 
     def type_key(self, crate, name):
         """The key of a crate's type, or of that which it passes on, or None."""
