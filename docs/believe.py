@@ -119,7 +119,8 @@ that they cite, directly or by other definitions, and what else is trusted. Made
 
 Lines count where they are neither blank nor comment nor import. A definition that more than one part cites counts in
 each, and stands once below. A type with a model is seen as the value that its model names; its fields are the prover's
-affair. In plain words the definitions are in [definitions.md](definitions.md), with more on their sources.
+affair. What a file is about and its source stand before its definitions, or in [definitions.md](definitions.md), which
+has all of them in plain words.
 
 **The second half is larger than it could be.** Its clauses say more than the headline does: each case of the protocol,
 which message is under way, and for threads also what rings and their ends show. The headline speaks only of events with
@@ -314,12 +315,22 @@ class Page:
     def of_file(self, file, keys):
         """Definitions of one file, after what is said of the file where it comes first."""
         definitions = [self.sources.definitions[key] for key in keys]
-        said = "." if file in self.headed else ": " + self.head_of(file)
-        said += " " + self.said_of_names(map(self.sources.meaning, definitions))
-        self.headed.add(file)
+        said = linked(file) + ("." if file in self.headed else ": " + self.head_of(file))
+        names = self.said_of_names(map(self.sources.meaning, definitions))
         language = "antt" if file.endswith(".antt") else "rust"
         code = "".join(map(self.shown, definitions)).strip("\n")
-        return f"{wrapped(f'{linked(file)}{said}')}\n```{language}\n{code}\n```"
+        text = wrapped(" ".join(filter(None, [said, names, self.plain_words(file)]))) + f"\n```{language}\n{code}\n```"
+        self.headed.add(file)
+        return text
+
+    def plain_words(self, file):
+        """Where docs/definitions.md says what a crate's definitions mean and what their source is, at the first of its files."""
+        folder = file.rpartition("/")[0]
+        if not folder.endswith("/specs") or any(other.startswith(folder) for other in self.headed):
+            return ""
+        headings = re.findall(r"(?m)^## (.+)$", (TOP / "docs" / "definitions.md").read_text())
+        sections = [section_link(heading) for heading in headings if f"`{folder}" in heading]
+        return f"In plain words: {', '.join(sections)}." if sections else ""
 
     def head_of(self, file):
         """What the first comment of a file says: what it has, and its source."""
@@ -367,6 +378,12 @@ class Page:
         libraries = {name for used in self.crates.values() for name in used} - set(self.crates) - {"core", "std_alloc"}
         listed = ", ".join(f"`{name}`" for name in ["std", *sorted(libraries)])
         return "\n".join(refilled(TRUSTED.format(libraries=listed)))
+
+
+def section_link(heading):
+    """A link to the section of docs/definitions.md with this heading."""
+    anchor = re.sub(r"[^\w\- ]", "", heading.lower()).replace(" ", "-")
+    return f"[{heading.partition(' (`')[0]}](definitions.md#{anchor})"
 
 
 def run_of(keys, left, needs):
