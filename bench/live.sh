@@ -1,7 +1,7 @@
 #!/bin/sh
 # Measures cores in threads of a C program (live_peer.c over libmkdemux_cores.a) beside loops of libpcap's bpf_filter over an array of the
 # same filters: alone, under a read-write lock, and over an array that is copied at each change.
-# Usage: bench/live.sh [-r ROUNDS] [-l FOLDER] [PART..]. Parts, by default all, in four minutes with 7 rounds:
+# Usage: bench/live.sh [-r ROUNDS] [-l FOLDER] [PART..]. Parts, by default all, in two minutes with 7 rounds:
 #   alone         processor time of a packet in one thread: 1, 16 and 1,000 filters
 #   packets       packets a second and thread: 16 and 1,000 filters, 0, 100 and 10,000 changes a second, 1 to 4 threads
 #   decide        from ask to decision
