@@ -1,0 +1,474 @@
+#!/usr/bin/env python3
+"""Makes the page of what has to be believed: the definitions that the contracts of the headline cite, and what else is trusted.
+
+    docs/believe.py           writes docs/believed.md
+    docs/believe.py --check   makes the page again and compares, counts the definitions of each root, which must have no more lines
+                              than is stated here, and those of the roots that were counted by hand
+
+A line for each check that failed; the last line is `N passed, M failed`, and the status is 1 where one failed."""
+import itertools
+import pathlib
+import re
+import sys
+import textwrap
+from dataclasses import dataclass
+
+sys.dont_write_bytecode = True
+
+from cited import Cited, Sources, Unknown
+
+TOP = pathlib.Path(__file__).resolve().parent.parent
+PAGE = TOP / "docs" / "believed.md"
+WORDS = TOP / "docs" / "kit-words.txt"
+
+
+@dataclass
+class Part:
+    """What rests on some roots, and how many lines of definitions that may be at most."""
+
+    title: str
+    roots: list
+    most: int
+
+
+HEADLINE = [
+    Part("Filters", ["filter_verify::verify[sound,code,accepts]", "filter_vm::run[ends,within]"], 260),
+    Part("Every interleaving, one event after another", [
+        "world_core::WorldOver::boot",
+        "world_core::WorldOver::apply[happens,extends,one_log,versions_counted,delivers]",
+        "world_core::WorldOver::replica",
+    ], 1150),
+    Part("Every interleaving, cores as threads", [
+        "core_threads::boot[machine]",
+        "core_threads::run_machine[machine]",
+        "core_boot::boot_cores[machine]",
+        "core_drive::drive[machine,concludes]",
+        "core_join::agree[agree]",
+        "core_join::conclude",
+        "core_join::merge",
+    ], 1870),
+]
+WHOLE = Part("The whole headline", [root for part in HEADLINE for root in part.roots], 1970)
+COMMANDS = [
+    Part("`match`", ["console::run_match"], 590),
+    Part("`match --stream`", ["console::run_stream"], 540),
+    Part("`match --number`, `--count`, `--quiet`", ["console::run_view"], 580),
+    Part("`match --explain`", ["graph_engine::run_explain"], 520),
+    Part("`check`", ["console::run_check"], 530),
+    Part("`check --graph`", ["graph_engine::run_graph"], 700),
+    Part("`dump`", ["console::run_dump"], 170),
+    Part("`sim`", ["sim_engine::run_sim"], 2400),
+    Part("`run`", ["run_engine::run_run"], 2350),
+    Part("`draw`", ["draw_engine::run_draw"], 440),
+    Part("the words of the command line", ["command_line::request_of"], 120),
+    Part("all of them", ["commands::perform"], 3450),
+]
+# The most lines for each row of README's table, by the first of its crates.
+ROWS = {
+    "seq": 10,
+    "bpf_insn": 90,
+    "filter_verify": 210,
+    "filter_vm": 260,
+    "filter_group": 220,
+    "filter_asm": 530,
+    "mkdemux_c": 260,
+    "pcap_reader": 110,
+    "endpoint_caps": 60,
+    "filter_table": 280,
+    "monitor_messages": 220,
+    "monitor_2pc": 250,
+    "rx_queue": 30,
+    "ump_ring": 150,
+    "world_channels": 140,
+    "core_links": 110,
+    "world_events": 1100,
+    "world_histories": 1130,
+    "core_steps": 380,
+    "world_core": 1330,
+    "core_loop": 1660,
+    "core_join": 1820,
+    "core_boot": 430,
+    "core_drive": 2320,
+    "core_threads": 1420,
+    "core_handle": 1960,
+    "mk_script": 1120,
+    "sim_lines": 240,
+    "console": 660,
+    "script_input": 70,
+    "sim_engine": 2430,
+    "run_engine": 2380,
+    "trace_text": 2590,
+    "trace_lines": 450,
+    "graph_engine": 710,
+    "command_line": 3490,
+}
+# The roots that were counted by reading, with the definitions and the lines that were found.
+BY_HAND = {
+    "rx_queue::Port::put": (10, 24),
+    "filter_verify::verify[sound,code,accepts]": (32, 157),
+    "filter_vm::run[ends,within]": (30, 177),
+}
+
+INTRODUCTION = """\
+# What has to be believed
+
+A proof says that the code does what its contract says. That the contract says what you want, only you can say. This
+page has what you must read for that: the clauses that carry the headline of the [README](../README.md), each definition
+that they cite, directly or by other definitions, and what else is trusted. Made by `docs/believe.py` from the sources;
+`./test` makes it again, compares, and fails where a part has more lines than the number beside it.
+
+Lines count where they are neither blank nor comment nor import. A definition that more than one part cites counts in
+each, and stands once below. A type with a model is seen as the value that its model names; its fields are the prover's
+affair. What a file is about and its source stand before its definitions, or in [definitions.md](definitions.md), which
+has all of them in plain words.
+
+**The second half is larger than it could be.** Its clauses say more than the headline does: each case of the protocol,
+which message is under way, and for threads also what rings and their ends show. The headline speaks only of events with
+their answers and of replicas, and it could be stated by these, the table and the machine of filters: in some six
+hundred lines for both halves. Until calls say it in those words alone, the numbers below are what it rests on."""
+
+NOTATION = """\
+## The kit's words
+
+These stand in definitions beside the names of others. `A → B` is a function, or that B follows from A; `(x : A) → B`
+says so of each x, and `(x : A) × B` that there is an x; `A × B` is both. `λ x. e` is a function. `Type 0` is a
+statement, or a type; `⊥` never holds, and `Unit {0}` always. A `record` holds its fields together, and `data` is one of
+its cases. `abbrev` and `unfoldable` say how the prover treats a name, not what it means. In clauses, `x.now` is what a
+borrow shows, `x.old` and `x.new` are that before and after the call, and `result` is what is returned. The numbers of
+Rust are those of ℕ, and a slice or a vector is the list of its items."""
+
+OTHERS = """\
+The names of the definitions that each rests on, file by file. Those of the headline and of what stands before are left
+out, and so is what has no others."""
+
+TRUSTED = """\
+## What else is trusted
+
+- **The toolchain**: Rattle's prover, which accepts a proof, its compiler and LLVM, which must compile what was proved,
+  and the linker. The README names the kit that it was proved with.
+- **The kit's libraries as built**: {libraries}. Their statements are taken as they stand, and their own proofs aren't
+  made again here. Their words above have the meaning that the kit's definitions give them.
+- **The contracts that the kit assumes** of functions that aren't written in Rattle, as the system's calls and atomic
+  loads and stores: `rt check --list-axioms` lists them for a crate, and marks those that are `reached`.
+- **The kit's C that is linked into the program**: `libos_c.a`, 19 functions for arguments, files, processes and
+  threads, and `liblibc_c.a`, three that call `malloc`, `realloc` and `free`; and the C library that they call. The C
+  libraries of `dist/lib` have the latter three, and for C also the declarations and the plain C of `c/mkdemux.h` and
+  `c/mkdemux_cores.h`, the C compiler and binutils.
+- **`dist/` and the launcher `./mkdemux`**, until `./test` builds the program again and compares each byte: before that
+  nothing but a digest of the sources says that `dist/mkdemux` is theirs, and the digest leaves the kit's version out.
+- **The scripts of the gate**: `./test`, and what it calls: `edits/check.py` and `edits/try.py`, the scripts of `dist/`,
+  `examples/check.sh`, `rows/check.py`, `c/check.sh`, and `docs/believe.py`, which makes this page: a definition that it
+  misses is missing here. Three of its counts are compared with counts by hand.
+- **What `crates/mkdemux` does around its one call of `perform`**, and that its devices record what they did:
+  [proved.md](proved.md) has what is only tested, and what is neither.
+- **The system and the processor**: that files, pipes, threads and atomic instructions do what the C library and LLVM
+  assume of them."""
+
+
+def linked(file):
+    """A link to a file of the repository."""
+    return f"[{file.removeprefix('crates/')}](../{file})"
+
+
+def lines_of(path):
+    """The lines of a file that are neither blank nor comment."""
+    return [line for line in path.read_text().splitlines() if line and not line.startswith("#")]
+
+
+def wrapped(text, indent=""):
+    """A paragraph in lines of at most 120 characters."""
+    return textwrap.fill(text, 120, subsequent_indent=indent, break_long_words=False, break_on_hyphens=False)
+
+
+class Page:
+    """The page, made from the sources."""
+
+    def __init__(self, sources):
+        self.sources = sources
+        self.crates = {line.split()[0].rstrip(":"): line.partition(":")[2].split() for line in lines_of(TOP / "crates.txt")}
+        self.rows = list(self.rows_of_readme())
+        self.meanings = dict(re.split(r"\s{2,}", line, maxsplit=1) for line in lines_of(WORDS))
+        self.counted = {}  # the title of a part -> what it rests on
+        self.told = set()  # the definitions that stand on the page so far
+        self.headed = set()  # the files whose first comment stands on the page so far
+
+    def rows_of_readme(self):
+        """What the rows of README's table rest on."""
+        table = (TOP / "README.md").read_text().partition("\n| Crate |")[2].partition("\n\n")[0]
+        for row in table.splitlines()[2:]:
+            crates, _, calls = (re.findall(r"`([^`]+)`", cell) for cell in row.split("|")[1:4])
+            if calls:
+                yield Part(", ".join(f"`{crate}`" for crate in crates), list(self.roots_of(crates, calls)), ROWS.get(crates[0], 0))
+
+    def roots_of(self, crates, calls):
+        """The roots that the calls of a row name. A name alone may be a method of the type that was named last, and a method of a
+        trait is a part of the trait."""
+        owner = ""
+        for call in calls:
+            owner = call.split("::")[0] if "::" in call else owner
+            names = [f"{crate}::{name}" for name in (f"{owner}::{call}", call, owner) for crate in crates]
+            yield next(filter(self.is_root, names), names[0])
+
+    def is_root(self, root):
+        """Whether the sources have such a function or trait."""
+        crate, _, name = root.partition("::")
+        key = self.sources.type_key(crate, name)
+        return (crate, name) in self.sources.functions or (key is not None and self.sources.definitions[key].kind == "trait")
+
+    def parts(self):
+        """All that is counted."""
+        return [*HEADLINE, WHOLE, *COMMANDS, *self.rows]
+
+    def cited(self, part):
+        """What a part rests on."""
+        if part.title not in self.counted:
+            cited = self.counted[part.title] = Cited(self.sources)
+            for root in part.roots:
+                cited.add_root(root)
+        return self.counted[part.title]
+
+    def text(self):
+        """The whole page."""
+        self.told, self.headed = set(), set()
+        headline = [*self.shared_names(), *map(self.section, HEADLINE), *self.words()]
+        pieces = [INTRODUCTION, *self.tables(), *headline, *self.lists(), self.trusted()]
+        return "\n\n".join(pieces) + "\n"
+
+    def tables(self):
+        """How many definitions and lines each part has."""
+        yield "## How much it is"
+        yield "\n".join(self.table("The headline", [*HEADLINE, WHOLE]))
+        yield "\n".join(self.table("A command of the program", COMMANDS))
+        yield "\n".join(self.table("A row of README's table", self.rows))
+
+    def table(self, title, parts):
+        """A table of parts with what was counted."""
+        yield f"| {title} | Definitions | Lines | At most |"
+        yield "|---|---|---|---|"
+        for part in parts:
+            cited = self.cited(part)
+            yield f"| {part.title} | {len(cited.keys):,} | {cited.lines:,} | {part.most:,} |"
+
+    def shared_names(self):
+        """The names that two of the headline's definitions have."""
+        files = {}
+        for key in self.cited(WHOLE).keys:
+            files.setdefault(key[-1], []).append(self.sources.definitions[key].file)
+        yield "## Names that several things have"
+        yield "Where a definition uses one of these, it means the one that its file has or imports."
+        shared = {name: found for name, found in sorted(files.items()) if len(found) > 1}
+        yield "\n".join(wrapped(f"- `{name}`: {', '.join(map(linked, found))}", "  ") for name, found in shared.items())
+
+    def section(self, part):
+        """The clauses of a part of the headline, and the definitions that they cite and no part before does."""
+        cited = self.cited(part)
+        new = [key for key in cited.keys if key not in self.told]
+        known = len(cited.keys) - len(new)
+        self.told.update(new)
+        lines = sum(self.sources.size(self.sources.definitions[key]) for key in new)
+        said = f"The clauses, with what the calls require. They cite {len(cited.keys)} definitions in {cited.lines:,} lines."
+        if known:
+            said += f" {known} of these stand above; here are the other {len(new)}, in {lines:,} lines."
+        pieces = [f"## {part.title}", wrapped(said), *map(self.clauses, part.roots)]
+        return "\n\n".join([*pieces, *(self.of_file(file, keys) for file, keys in self.in_files(cited, new))])
+
+    def clauses(self, root):
+        """The signature of a root and its clauses."""
+        function, clauses = self.sources.contract(root)
+        code = textwrap.dedent("\n".join([function.signature, *clauses]))
+        said = self.said_of_names([("\n".join(clauses), function.scope)])
+        return wrapped(f"`{root.partition('[')[0]}`, {linked(function.file)}. {said}") + f"\n```rust\n{code}\n```"
+
+    def said_of_names(self, texts):
+        """What the names in these texts stand for that are others elsewhere."""
+        renamed = {}
+        for text, scope in texts:
+            renamed.update(Cited(self.sources).renamed(text, scope))
+        listed = ", ".join(f"`{name}` is {self.named(path)}" for name, path in sorted(renamed.items()))
+        return f"Here {listed}." if listed else ""
+
+    def named(self, path):
+        """The thing at a path, by its own name and its crate's."""
+        crate, names = path[1], path[3:]
+        if names[-1] == "TheVariants":
+            return f"`{names[-2]}` of `{crate}`"
+        if (crate, names) in self.sources.modules:
+            return f"`{crate}/specs/{'/'.join(names)}.antt`"
+        return f"`{names[-1]}` of `{crate}`"
+
+    def in_files(self, cited, keys):
+        """The definitions in runs of one file, so that each stands after those that it cites. A file comes next whose definitions
+        can all stand there, if there is one."""
+        needs = {key: set(cited.needs(key)) & set(keys[:at]) for at, key in enumerate(keys)}
+        files = {}
+        for key in sorted(keys, key=lambda key: list(self.crates).index(key[0])):
+            files.setdefault(self.sources.definitions[key].file, [])
+        for key in keys:
+            files[self.sources.definitions[key].file].append(key)
+        while any(files.values()):
+            left = {key for keys in files.values() for key in keys}
+            runs = {file: run_of(keys, left, needs) for file, keys in files.items()}
+            file = min(filter(runs.get, files), key=lambda file: len(runs[file]) < len(files[file]))
+            yield file, runs[file]
+            files[file] = [key for key in files[file] if key not in runs[file]]
+
+    def of_file(self, file, keys):
+        """Definitions of one file, after what is said of the file where it comes first."""
+        definitions = [self.sources.definitions[key] for key in keys]
+        said = linked(file) + ("." if file in self.headed else ": " + self.head_of(file))
+        names = self.said_of_names(map(self.sources.meaning, definitions))
+        language = "antt" if file.endswith(".antt") else "rust"
+        code = "".join(map(self.shown, definitions)).strip("\n")
+        text = wrapped(" ".join(filter(None, [said, names, self.plain_words(file)]))) + f"\n```{language}\n{code}\n```"
+        self.headed.add(file)
+        return text
+
+    def plain_words(self, file):
+        """Where docs/definitions.md says what a crate's definitions mean and what their source is, at the first of its files."""
+        folder = file.rpartition("/")[0]
+        if not folder.endswith("/specs") or any(other.startswith(folder) for other in self.headed):
+            return ""
+        headings = re.findall(r"(?m)^## (.+)$", (TOP / "docs" / "definitions.md").read_text())
+        sections = [section_link(heading) for heading in headings if f"`{folder}" in heading]
+        return f"In plain words: {', '.join(sections)}." if sections else ""
+
+    def head_of(self, file):
+        """What the first comment of a file says: what it has, and its source."""
+        mark = "--" if file.endswith(".antt") else "//!"
+        lines = itertools.takewhile(lambda line: line.startswith(mark), (TOP / file).read_text().splitlines())
+        return " ".join(" ".join(line.removeprefix(mark) for line in lines).split())
+
+    def shown(self, definition):
+        """A definition under its comment, or under a blank line where it has none."""
+        text = [line.rstrip() for line in self.sources.shown_text(definition) if line.strip()]
+        return "\n".join([*(definition.comment or [""]), *text, ""])
+
+    def words(self):
+        """The kit's words that the headline's definitions use."""
+        used = self.words_used()
+        yield NOTATION
+        yield "\n".join(wrapped(f"- `{word}`: {meaning}", "  ") for word, meaning in self.meanings.items() if word in used)
+
+    def words_used(self):
+        """The names of the kit that the headline's definitions use."""
+        return {name_of_word(path) for path in self.cited(WHOLE).words}
+
+    def lists(self):
+        """The names of what the commands and the rows rest on beside the headline."""
+        yield "## The commands and the other rows"
+        yield OTHERS
+        for part in [*COMMANDS, *self.rows]:
+            cited = self.cited(part)
+            new = [key for key in cited.keys if key not in self.told]
+            self.told.update(new)
+            calls = ", ".join(f"`{root}`" for root in part.roots)
+            if new:
+                yield wrapped(f"**{part.title}** ({calls}), {len(new)} more of {len(cited.keys)}. {'; '.join(self.names(new))}.")
+
+    def names(self, keys):
+        """The names of definitions, after each file that has some."""
+        files = {}
+        for key in keys:
+            files.setdefault(self.sources.definitions[key].file, []).append(f"`{key[-1]}`")
+        for file, names in sorted(files.items()):
+            yield f"{linked(file)}: {', '.join(names)}"
+
+    def trusted(self):
+        """What else is trusted."""
+        libraries = {name for used in self.crates.values() for name in used} - set(self.crates) - {"core", "std_alloc"}
+        listed = ", ".join(f"`{name}`" for name in ["std", *sorted(libraries)])
+        return "\n".join(refilled(TRUSTED.format(libraries=listed)))
+
+
+def section_link(heading):
+    """A link to the section of docs/definitions.md with this heading."""
+    anchor = re.sub(r"[^\w\- ]", "", heading.lower()).replace(" ", "-")
+    return f"[{heading.partition(' (`')[0]}](definitions.md#{anchor})"
+
+
+def run_of(keys, left, needs):
+    """Those of a file's definitions that can stand next, where those that are left don't stand yet."""
+    run = []
+    for key in keys:
+        if not needs[key] & left - set(run):
+            run.append(key)
+    return run
+
+
+def refilled(text):
+    """The items of a list in lines of at most 120 characters; what stands before it stays."""
+    before, *items = re.split(r"\n(?=- )", text)
+    yield before
+    for item in items:
+        yield wrapped(" ".join(item.split()), "  ")
+
+
+def name_of_word(path):
+    """The name of one of the kit's words, as it is written between its arguments."""
+    name = path.rpartition(".")[2]
+    return name if name.startswith("if") else name.strip("◌")
+
+
+class Checks:
+    """How many checks passed, and how many failed."""
+
+    def __init__(self):
+        self.passed = self.failed = 0
+
+    def count(self, holds, complaint):
+        """Counts a check, and prints why it failed."""
+        if holds:
+            self.passed += 1
+        else:
+            self.failed += 1
+            print(f"docs/believe.py: {complaint}")
+
+
+def check_parts(page, checks):
+    """Counts what each part rests on."""
+    for part in page.parts():
+        lines = page.cited(part).lines
+        checks.count(lines <= part.most, f"{part.title}: rests on {lines} lines of definitions, and at most {part.most} are stated")
+
+
+def check_by_hand(page, checks):
+    """Compares the counts with those that were made by reading."""
+    for root, (definitions, lines) in BY_HAND.items():
+        cited = page.cited(Part(root, [root], 0))
+        found = (len(cited.keys), cited.lines)
+        checks.count(found == (definitions, lines), f"{root}: {found} definitions and lines, and by hand {(definitions, lines)}")
+
+
+def check_words(page, checks):
+    """Each of the kit's words that is used has its meaning, and no other."""
+    for word in sorted(page.words_used() ^ set(page.meanings)):
+        checks.count(False, f"docs/kit-words.txt: {word}: it has no meaning there, or isn't used")
+    checks.count(True, "")
+
+
+def check_page(page, checks):
+    """The page that is stored is the one that the sources make."""
+    stored = PAGE.read_text() if PAGE.exists() else ""
+    checks.count(stored == page.text(), "docs/believed.md isn't what the sources make; docs/believe.py writes it")
+
+
+def main(words):
+    """Writes the page, or checks it."""
+    if words not in ([], ["--check"]):
+        sys.exit("usage: docs/believe.py [--check]")
+    checks = Checks()
+    try:
+        page = Page(Sources(TOP))
+        if not words:
+            PAGE.write_text(page.text())
+            return 0
+        for check in (check_parts, check_by_hand, check_words, check_page):
+            check(page, checks)
+    except Unknown as why:
+        checks.count(False, str(why))
+    print(f"{checks.passed} passed, {checks.failed} failed")
+    return 1 if checks.failed else 0
+
+
+if __name__ == "__main__":
+    sys.exit(main(sys.argv[1:]))
