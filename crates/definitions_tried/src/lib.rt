@@ -1,0 +1,10 @@
+//! The definitions, tried. A definition can be wrong in its own words, and no proof shows it: so examples from outside, each
+//! of which must hold of them, and some that must not.
+//!
+//! Here are examples alone, as the contracts of functions that do nothing. What is expected comes from the papers, manuals
+//! and programs that each file names, and never from the code.
+#![tactic(auto)]
+
+mod filters;
+
+pub use filters::runs_of_filters;
