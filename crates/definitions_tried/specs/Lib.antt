@@ -1,1 +1,3 @@
+pub mod Codes
 pub mod Filters
+pub mod Kernel

@@ -6,5 +6,7 @@
 #![tactic(auto)]
 
 mod filters;
+mod kernel;
 
-pub use filters::runs_of_filters;
+pub use filters::{arithmetic, jumps, loads, runs_of_filters, words};
+pub use kernel::kernel_programs;
