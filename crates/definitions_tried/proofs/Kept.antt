@@ -6,7 +6,7 @@ use Rattle.bpf_insn.specs.declared.insn.Insn.{Insn}
 use Rattle.bpf_insn.specs.declared.form.Form.{Form}
 use Rattle.bpf_insn.specs.declared.form.Form.TheVariants.{LdAbs, LdMem, LdxMem, St, Stx, AluK, Ja, JmpK, JmpX}
 use Rattle.bpf_insn.specs.declared.form.AluOp.TheVariants.{Div, Lsh, Rsh, Mod}
-use Rattle.bpf_insn.specs.Machine.{Memory, IsOperand}
+use Rattle.bpf_insn.specs.Machine.{IsOperand}
 use Rattle.bpf_insn.specs.Program.{FormAt, JumpsTo}
 use Rattle.bpf_insn.proofs.Places.{FormAt-same}
 use Rattle.filter_verify.specs.declared.rules.Refusal.TheVariants.{Empty, TooLong, BadCode, ZeroDivisor, BadShift, BadWord, JumpOut, Ancillary, NoReturn, Unwritten, NoMemory}
@@ -61,6 +61,10 @@ fine program pc form at keeps refusal = by refusal
     by NoReturn b = b
     by (Unwritten q word path) b = b
     by NoMemory b = b
+
+-- a number isn't a greater one
+pub apart : (m n : ℕ) → m < n → m ≡ n → ⊥
+apart m n below e = omega arith
 
 -- no word is written in an empty memory
 pub empty-lacks : (k v : ℕ) → get (empty {K = ℕ} {X = ℕ} {R = nat_cmp}) k ≡ Some v → ⊥

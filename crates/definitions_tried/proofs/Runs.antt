@@ -1,5 +1,5 @@
 -- Runs of the filter for ARP, written out.
-use Rattle.std.proofs.Common.{◌≡◌, ℕ, zero, suc, refl, lit<, lit≤, arith}
+use Rattle.std.proofs.Common.{ℕ, refl, lit<, lit≤, arith}
 use Rattle.std.specs.FinMap.{empty}
 use Rattle.bpf_insn.specs.declared.form.Form.TheVariants.{LdAbs, JmpK, RetK}
 use Rattle.bpf_insn.specs.declared.form.Size.TheVariants.{Half}

@@ -5,8 +5,14 @@
 //! and programs that each file names, and never from the code.
 #![tactic(auto)]
 
+mod captures;
 mod filters;
 mod kernel;
+mod tables;
+mod verifier;
 
+pub use captures::{read_captures, refused_captures};
 pub use filters::{arithmetic, jumps, loads, runs_of_filters, words};
 pub use kernel::kernel_programs;
+pub use tables::{budgets, capabilities, logs, receivers};
+pub use verifier::{refused_programs, sound_programs};

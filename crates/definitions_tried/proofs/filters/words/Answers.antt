@@ -1,6 +1,6 @@
 use Rattle.filter_vm.proofs.Memory.{get-insert_same}
-use Rattle.std.proofs.Common.{refl, lit<, lit≤, arith, subst, [], ◌∷◌, ◌+◌}
-use Rattle.std.specs.FinMap.{empty, insert}
+use Rattle.std.proofs.Common.{refl, lit<, arith, subst, [], ◌∷◌, ◌+◌}
+use Rattle.std.specs.FinMap.{empty}
 use Rattle.bpf_insn.specs.declared.form.Form.TheVariants.{LdMem, LdxMem, St, Stx, Tax, Txa}
 use Rattle.bpf_insn.specs.Machine.{Does}
 use Rattle.bpf_insn.specs.Program.{form_at}
