@@ -1,0 +1,7 @@
+mod Runs
+mod Kept
+mod Verdicts
+mod Refused
+mod Derived
+mod Received
+mod Savefiles

@@ -1,0 +1,6 @@
+pub mod Captures
+pub mod Codes
+pub mod Filters
+pub mod Kernel
+pub mod Tables
+pub mod Verdicts

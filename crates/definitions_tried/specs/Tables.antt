@@ -1,0 +1,28 @@
+-- Logs of operations.
+use Rattle.std.specs.Prelude.{ℕ, List, [], ◌∷◌, map}
+use Rattle.endpoint_caps.specs.declared.Cap.{Cap}
+use Rattle.endpoint_caps.specs.declared.Rights.TheVariants.{R, M}
+use Rattle.endpoint_caps.specs.Capabilities.{CapTable, no_caps, created, minted_from}
+use Rattle.filter_table.specs.declared.operation.Op.{Op}
+use Rattle.filter_table.specs.declared.operation.Op.TheVariants.{Create, Install, DropCap}
+use Rattle.filter_table.specs.declared.delivery.Kept.{Kept}
+use Rattle.definitions_tried.specs.Filters.{arp}
+
+-- domain 1 creates endpoint 7 and installs the filter for ARP there; then it drops its capability
+abbrev pub log : List Op
+log = Create 1 7 ∷ Install 1 1 arp ∷ DropCap 1 1 ∷ []
+
+-- this endpoint keeps so many bytes
+abbrev pub keeps : ℕ → ℕ → Kept
+keeps endpoint bytes = record { endpoint = endpoint; kept = bytes }
+
+-- Capabilities: domain 1 has 1, from which 2 and 3 were minted for domain 2, and 4 from 3
+
+abbrev pub minted_once : CapTable
+minted_once = minted_from (created no_caps 1 7) 1 2 R
+
+abbrev pub minted_twice : CapTable
+minted_twice = minted_from (minted_from minted_once 1 2 M) 3 4 M
+
+abbrev pub ids : CapTable → List ℕ
+ids table = map (λ (c : Cap). c.id) table.held

@@ -1,0 +1,18 @@
+//! The definitions, tried. A definition can be wrong in its own words, and no proof shows it: so examples from outside, each
+//! of which must hold of them, and some that must not.
+//!
+//! Here are examples alone, as the contracts of functions that do nothing. What is expected comes from the papers, manuals
+//! and programs that each file names, and never from the code.
+#![tactic(auto)]
+
+mod captures;
+mod filters;
+mod kernel;
+mod tables;
+mod verifier;
+
+pub use captures::{read_captures, refused_captures};
+pub use filters::{arithmetic, jumps, loads, runs_of_filters, words};
+pub use kernel::kernel_programs;
+pub use tables::{budgets, capabilities, logs, receivers};
+pub use verifier::{refused_programs, sound_programs};

@@ -1,0 +1,69 @@
+//! Capabilities, logs of operations, and the endpoints that a packet goes to.
+
+ghost use Rattle.std.specs.Prelude.{◌≡◌, [], ◌∷◌, Some, None, length};
+ghost use Rattle.endpoint_caps.specs.declared.CapFault.TheVariants.{NoCap, NotHolder, NoRight, RightsExceed, EndpointTaken};
+ghost use Rattle.endpoint_caps.specs.declared.Right.TheVariants.{Receive, Mint};
+ghost use Rattle.endpoint_caps.specs.declared.Rights.TheVariants.{R, M, Rm};
+ghost use Rattle.endpoint_caps.specs.Capabilities.{Under, created, create_tests, dropped, first, is_within, mint_tests, no_caps, revoked, right_tests};
+ghost use Rattle.filter_table.specs.declared.operation.Made.TheVariants.{Cap, Filter};
+ghost use Rattle.filter_table.specs.declared.operation.Op.TheVariants.{Create, Install, Replace};
+ghost use Rattle.filter_table.specs.declared.operation.StageFault.TheVariants.{Budget};
+ghost use Rattle.filter_table.specs.Tables.{Accepting, Allowed, made, table};
+ghost use Rattle.definitions_tried.specs.Filters.{arp, arp_request, ip_datagram};
+ghost use Rattle.definitions_tried.specs.Tables.{ids, keeps, log, minted_once, minted_twice};
+
+/// Derivation and revocation as in seL4's Reference Manual, "Capability derivation": to revoke a capability removes all that were
+/// derived from it, whatever the number of mints, and leaves it; a right can be handed on by its holder alone, and no right is
+/// won by a mint.
+pub fn capabilities()
+    ensures all_are_held { ids minted_twice ≡ 1 ∷ 2 ∷ 3 ∷ 4 ∷ [] }
+    ensures minted_from_a_minted_one { Under minted_twice.held 1 4 }
+    ensures not_the_other_way { Under minted_twice.held 4 1 → ⊥ }
+    ensures not_a_sibling { Under minted_twice.held 2 4 → ⊥ }
+    ensures not_itself { Under minted_twice.held 1 1 → ⊥ }
+    ensures revoked_with_all_mints { ids (revoked minted_twice 1) ≡ 1 ∷ [] }
+    ensures revoked_below_a_minted_one { ids (revoked minted_twice 3) ≡ 1 ∷ 2 ∷ 3 ∷ [] }
+    ensures dropped_with_all_mints { ids (dropped minted_twice 3) ≡ 1 ∷ 2 ∷ [] }
+    ensures no_id_again { ids (created (dropped minted_twice 1) 2 7) ≡ 5 ∷ [] }
+    ensures endpoint_once { first (create_tests minted_twice 7) ≡ Some EndpointTaken }
+    ensures another_endpoint { first (create_tests minted_twice 8) ≡ None }
+    ensures by_its_holder_alone { first (mint_tests minted_once 2 1 R) ≡ Some NotHolder }
+    ensures none_of_that_id { first (mint_tests minted_once 1 9 R) ≡ Some NoCap }
+    ensures not_without_the_right_to_mint { first (mint_tests minted_once 2 2 R) ≡ Some NoRight }
+    ensures no_more_rights { first (mint_tests minted_twice 2 3 R) ≡ Some RightsExceed }
+    ensures the_same_rights { first (mint_tests minted_twice 2 3 M) ≡ None }
+    ensures no_receiving_by_a_right_to_mint { first (right_tests minted_twice.held 2 3 Receive) ≡ Some NoRight }
+{}
+
+/// The table is a function of its log (Schneider 1990, "Implementing fault-tolerant services using the state machine approach"): the
+/// versions count the operations, and ids begin with 1.
+pub fn logs()
+    ensures versions { ((table log 0).version ≡ 0) × ((table log 2).version ≡ 2) × ((table log 3).version ≡ 3) }
+    ensures first_cap { made (table log 0) (Create 1 7) ≡ Cap 1 }
+    ensures first_filter { made (table log 1) (Install 1 1 arp) ≡ Filter 1 }
+    ensures held { ids (table log 2).caps ≡ 1 ∷ [] }
+    ensures none_is_held { ids (table log 3).caps ≡ [] }
+    ensures filter_stays { length (table log 3).filters ≡ 1 }
+    ensures next_cap { made (table log 3) (Create 1 8) ≡ Cap 2 }
+{}
+
+/// A budget bounds the instructions of all filters, the new one included, and a replaced one not.
+pub fn budgets()
+    ensures within { Allowed (table log 1) 4 (Install 1 1 arp) None }
+    ensures one_too_few { Allowed (table log 1) 3 (Install 1 1 arp) (Some Budget) }
+    ensures second_within { Allowed (table log 2) 8 (Install 1 1 arp) None }
+    ensures second_one_too_few { Allowed (table log 2) 7 (Install 1 1 arp) (Some Budget) }
+    ensures in_place_of_the_old { Allowed (table log 2) 4 (Replace 1 1 arp) None }
+    ensures in_place_one_too_few { Allowed (table log 2) 3 (Replace 1 1 arp) (Some Budget) }
+{}
+
+/// The frame of ARP goes to endpoint 7, with the 16 bytes that it has, although the filter would keep 64; another frame goes to
+/// nobody; and once the capability is gone, so does the frame of ARP.
+pub fn receivers()
+    ensures arp { Accepting (table log 2) arp_request (keeps 7 16 ∷ []) }
+    ensures another_frame { Accepting (table log 2) ip_datagram [] }
+    ensures before_the_install { Accepting (table log 1) arp_request [] }
+    ensures capability_gone { Accepting (table log 3) arp_request [] }
+    ensures not_the_verdict { Accepting (table log 2) arp_request (keeps 7 64 ∷ []) → ⊥ }
+    ensures not_nobody { Accepting (table log 2) arp_request [] → ⊥ }
+{}
