@@ -75,7 +75,7 @@ ROWS = {
     "pcap_reader": 110,
     "endpoint_caps": 60,
     "filter_table": 280,
-    "definitions_tried": 320,
+    "definitions_tried": 340,
     "monitor_messages": 220,
     "monitor_2pc": 250,
     "rx_queue": 30,
