@@ -1,5 +1,5 @@
 -- When an instruction of a form breaks no rule, and an empty memory.
-use Rattle.std.proofs.Common.{◌≡◌, ℕ, ◌+◌, ◌<◌, List, length, Some, inl, inr, arith, refl, subst}
+use Rattle.std.proofs.Common.{◌≡◌, ℕ, ◌+◌, ◌<◌, ◌≤◌, List, length, Some, inl, inr, arith, refl, subst}
 use Rattle.std.specs.FinMap.{get, empty, get-empty}
 use Rattle.std.specs.Ordering.{nat_cmp}
 use Rattle.bpf_insn.specs.declared.insn.Insn.{Insn}
@@ -65,6 +65,9 @@ fine program pc form at keeps refusal = by refusal
 -- a number isn't a greater one
 pub apart : (m n : ℕ) → m < n → m ≡ n → ⊥
 apart m n below e = omega arith
+
+pub not_below : (m n : ℕ) → n ≤ m → m < n → ⊥
+not_below m n from below = omega arith
 
 -- no word is written in an empty memory
 pub empty-lacks : (k v : ℕ) → get (empty {K = ℕ} {X = ℕ} {R = nat_cmp}) k ≡ Some v → ⊥

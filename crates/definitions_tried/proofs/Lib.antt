@@ -5,3 +5,5 @@ mod Refused
 mod Derived
 mod Received
 mod Savefiles
+mod Spelled
+mod Assembled

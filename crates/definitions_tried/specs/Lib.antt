@@ -3,4 +3,5 @@ pub mod Codes
 pub mod Filters
 pub mod Kernel
 pub mod Tables
+pub mod Texts
 pub mod Verdicts

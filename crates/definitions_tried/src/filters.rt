@@ -29,6 +29,7 @@ pub fn loads()
     ensures ld_half_at_the_last_bytes { Turns (BPF_STMT (BPF_LD + BPF_H + BPF_ABS) 3) cut 7 9 837 9 }
     ensures ld_half_one_past { Stops (BPF_STMT (BPF_LD + BPF_H + BPF_ABS) 4) cut 7 9 0 }
     ensures ld_byte_at_the_last_byte { Turns (BPF_STMT (BPF_LD + BPF_B + BPF_ABS) 4) cut 7 9 69 9 }
+    ensures ld_byte_at_the_last_byte_goes_on { Stops (BPF_STMT (BPF_LD + BPF_B + BPF_ABS) 4) cut 7 9 0 → ⊥ }
     ensures ld_byte_one_past { Stops (BPF_STMT (BPF_LD + BPF_B + BPF_ABS) 5) cut 7 9 0 }
     ensures ld_word_from_the_first_byte { Turns (BPF_STMT (BPF_LD + BPF_W + BPF_ABS) 0) cut 7 9 0xff010203 9 }
     ensures ld_ancillary { (t : State) → Step (BPF_STMT (BPF_LD + BPF_W + BPF_ABS) 0xfffff000 ∷ []) cut (at 0 7 9) t → ⊥ }

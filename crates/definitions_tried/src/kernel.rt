@@ -5,8 +5,8 @@ ghost use Rattle.bpf_insn.specs.Machine.{Ends};
 ghost use Rattle.definitions_tried.specs.Filters.{whole};
 ghost use Rattle.definitions_tried.specs.Kernel.{add_sub_mul, div_mod, and_or_lsh, tax, txa, ret_a, ld_abs, ld_ind, jeq, jgt, jge, jset};
 
-/// Whole programs with the verdicts that Linux expects of them: cases of its lib/test_bpf.c, which are named in
-/// `specs/Kernel.antt`.
+/// Whole programs with the verdicts that Linux expects of them, after cases of its lib/test_bpf.c, which `specs/Kernel.antt`
+/// names.
 pub fn kernel_programs()
     ensures add_sub_mul { Ends add_sub_mul (whole ([])) 0xfffffffd 7 }
     ensures div_mod { Ends div_mod (whole ([])) 0x20000000 16 }

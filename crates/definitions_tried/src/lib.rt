@@ -9,10 +9,12 @@ mod captures;
 mod filters;
 mod kernel;
 mod tables;
+mod texts;
 mod verifier;
 
 pub use captures::{read_captures, refused_captures};
 pub use filters::{arithmetic, jumps, loads, runs_of_filters, words};
 pub use kernel::kernel_programs;
 pub use tables::{budgets, capabilities, logs, receivers};
+pub use texts::{assembler_texts, decimal_texts};
 pub use verifier::{refused_programs, sound_programs};

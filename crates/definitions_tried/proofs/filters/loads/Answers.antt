@@ -1,11 +1,12 @@
 use Rattle.std.proofs.Common.{refl, lit<, lit≤, arith, subst, [], ◌∷◌, ◌+◌}
 use Rattle.bpf_insn.specs.declared.form.Form.TheVariants.{LdImm, LdAbs, LdInd, LdLen, LdxImm, LdxLen, LdxMsh}
 use Rattle.bpf_insn.specs.declared.form.Size.TheVariants.{Word, Half, Byte}
-use Rattle.bpf_insn.specs.Machine.{Does}
+use Rattle.bpf_insn.specs.Machine.{Does, Halts}
 use Rattle.bpf_insn.specs.Program.{form_at}
 use Rattle.bpf_insn.specs.Table.{form_of}
 use Rattle.bpf_insn.proofs.Places.{FormAt-same}
-use Rattle.definitions_tried.specs.Codes.{BPF_LD, BPF_W, BPF_ABS, BPF_STMT}
+use Rattle.definitions_tried.proofs.Kept.{not_below}
+use Rattle.definitions_tried.specs.Codes.{BPF_LD, BPF_W, BPF_B, BPF_ABS, BPF_STMT}
 use Rattle.definitions_tried.specs.Filters.{cut, at}
 use Rattle.definitions_tried.proofs.filters.loads.Goals as goal
 
@@ -96,3 +97,7 @@ returns-clause-ldx_msh_is_60_at_most c = (LdxMsh 0, refl, (255, (lit≤ tt, refl
 pub returns-clause-ldx_msh_one_past : goal.returns-clause-ldx_msh_one_past
 unfolding form_at form_of
 returns-clause-ldx_msh_one_past c = (LdxMsh 5, refl, (lit< tt, refl))
+
+pub returns-clause-ld_byte_at_the_last_byte_goes_on : goal.returns-clause-ld_byte_at_the_last_byte_goes_on
+unfolding form_at form_of
+returns-clause-ld_byte_at_the_last_byte_goes_on c = λ s. let d = subst (λ f. Halts cut f (at 0 7 9) 0) (FormAt-same (BPF_STMT (BPF_LD + BPF_B + BPF_ABS) 4 ∷ []) 0 s.0 (LdAbs Byte 4) s.1 refl) s.2 in not_below 5 5 (lit≤ tt) d.0

@@ -1,0 +1,12 @@
+use Rattle.std.proofs.Common.{refl}
+use Rattle.std.specs.Fmt.{digits}
+use Rattle.bpf_insn.specs.Table.{form_of}
+use Rattle.definitions_tried.proofs.Assembled.{assembled_arp}
+use Rattle.definitions_tried.proofs.texts.assembler_texts.Goals as goal
+
+pub returns-clause-of_linux : goal.returns-clause-of_linux
+returns-clause-of_linux c = assembled_arp
+
+pub returns-clause-written : goal.returns-clause-written
+unfolding digits form_of
+returns-clause-written c = refl
