@@ -35,9 +35,10 @@ With --pcap standard input is a capture: a classic pcap savefile, version 2.4, o
 nanoseconds. The packets before a fault of the capture are run, then `fault NAME` is printed, with the fault's place in the
 file where it has one, and the status is 1.
 
-With --number each line begins with its packet's number and a blank; --count prints `N of M` at the end in place of the
-lines: so many packets were accepted, of so many that were run; --quiet prints nothing and ends at the first packet that is
-accepted, with status 0. Where none is, its status is 4, or 1 for a refused CODE or input.
+With --number each line begins with its packet's number and a blank, and with --pcap the packet's time stamp and a blank come
+next: the seconds since 1970, and micro- or nanoseconds after a point, as the file has them. --count prints `N of M` at the end
+in place of the lines: so many packets were accepted, of so many that were run; --quiet prints nothing and ends at the first
+packet that is accepted, with status 0. Where none is, its status is 4, or 1 for a refused CODE or input.
 
 The filter is verified first: each accepted filter ends on each packet, within as many steps as it has instructions. A
 CODE that is no filter, or that the verifier refuses, prints one line that says why, with status 1, and nothing is read.
@@ -106,7 +107,8 @@ pub(crate) const PCAP_HELP: &str = "Read a capture in place of hexadecimal lines
 pub(crate) const STREAM_HELP: &str =
     "Print each outcome while the input is read, which may be of any length";
 
-pub(crate) const NUMBER_HELP: &str = "Print each packet's number before its line";
+pub(crate) const NUMBER_HELP: &str =
+    "Print each packet's number before its line, and with --pcap its time stamp";
 
 pub(crate) const COUNT_HELP: &str =
     "Print how many packets were accepted, of how many, in place of a line for each";

@@ -39,11 +39,11 @@ capture_shown old new program feed outcomes true fault status gave e ends done =
 pub capture_ended : (r : Result ℕ EngineFault) (known lost : Option (List ℕ)) (program : List Insn) (feed : Feed) (outcomes : List Outcome) (whole : Bool) (fault : Option CaptureFault) (kept : List ℕ) (old new last : Option (List ℕ))
     → RunsInput known lost program feed outcomes whole → whole ≡ true
     → ((program : List Insn) (fed : List ℕ) (outcomes : List Outcome) → HasRun program fed feed outcomes → EndsRun program fed outcomes fault)
-    → Appends old new (shown_at_once Lines 0 outcomes) → kept ≡ [] → IfOk r (λ status. (status ≡ fault_status fault) × Appends new last (kept ++ fault_text fault))
+    → Appends old new (shown_at_once Lines 0 [] outcomes) → kept ≡ [] → IfOk r (λ status. (status ≡ fault_status fault) × Appends new last (kept ++ fault_text fault))
     → IfOk r (λ status. (text : List ℕ) × Appends old last text × ((input : List ℕ) × IsInput known input × ShowsInput program true input status text))
 capture_ended (Ok status) known lost program feed outcomes whole fault kept old new last gave e ends lines empty ended = (
   flat_map outcome_line outcomes ++ fault_text fault,
-  appends-then old new last (flat_map outcome_line outcomes) (fault_text fault) (rw (lines_flat 0 outcomes) at lines) (rw empty at ended.1),
+  appends-then old new last (flat_map outcome_line outcomes) (fault_text fault) (rw (lines_flat 0 [] outcomes) at lines) (rw empty at ended.1),
   capture_shown known lost program feed outcomes whole fault status gave e ends ended.0,
 )
 capture_ended (Err e) known lost program feed outcomes whole fault kept old new last gave is ends lines empty ended = tt
@@ -52,7 +52,7 @@ capture_ended (Err e) known lost program feed outcomes whole fault kept old new 
 pub capture_part : (old new : Option (List ℕ)) (program : List Insn) (feed : Feed) (outcomes : List Outcome) (whole : Bool) (fault : Option CaptureFault) (text : List ℕ)
     → RunsInput old new program feed outcomes whole → whole ≡ true
     → ((program : List Insn) (fed : List ℕ) (outcomes : List Outcome) → HasRun program fed feed outcomes → EndsRun program fed outcomes fault)
-    → BeginsWith text (shown_at_once Lines 0 outcomes) → ShowsRead program true old new text
+    → BeginsWith text (shown_at_once Lines 0 [] outcomes) → ShowsRead program true old new text
 capture_part old new program feed outcomes false fault text gave e ends begins = absurd (cc)
 capture_part old new program feed outcomes true fault text gave e ends begins =
     let run = ends program gave.0 outcomes gave.4 in
@@ -73,7 +73,7 @@ capture_part old new program feed outcomes true fault text gave e ends begins =
           more = begins.0;
           front = sym (append-nil run.1);
           ran = run.3;
-          printed = sym begins.1 ∙ lines_flat 0 outcomes;
+          printed = sym begins.1 ∙ lines_flat 0 [] outcomes;
         },
       ),
     )

@@ -1,6 +1,6 @@
 -- The steps of a stream.
 use Rattle.std.proofs.Common.{◌≡◌, ℕ, ◌+◌, ◌*◌, ◌<◌, ◌≤◌, ◌⊎◌, inl, inr, List, [], ◌∷◌, ◌++◌, length, zero-add, All, Bool, true, false, Option, Some, None, Result, Ok, Err, IfOk, arith, refl, sym, ap, ◌∙◌, append_assoc, length-append, take, length-take-le}
-use Rattle.std.specs.Prelude.{IsTrue, OnErr}
+use Rattle.std.specs.Prelude.{IsTrue, OnErr, OnOk}
 use Rattle.std.specs.Bool.{MatchBool}
 use Rattle.std.specs.Io.KnownBytes.{Appends, Consumes, IsAtEnd, Keeps}
 use Rattle.std.proofs.lemmas.List.{append-nil}
@@ -8,19 +8,19 @@ use Rattle.bpf_insn.specs.declared.insn.Insn.{Insn}
 use Rattle.filter_vm.specs.declared.machine.Outcome.{Outcome}
 use Rattle.console.specs.declared.ending.Ending.{Ending}
 use Rattle.console.specs.declared.packet_source.PacketSource.{PacketSource}
+use Rattle.console.specs.declared.stamp.Stamp.{Stamp}
 use Rattle.console.specs.declared.tally.Tally.{Tally}
 use Rattle.console.specs.declared.view.View.{View}
 use Rattle.console.specs.declared.view.View.TheVariants.{Lines, Numbers, Count, Quiet}
 use Rattle.console.specs.declared.fault.EngineFault.{EngineFault}
 use Rattle.console.specs.Reading.{BeginsWith}
-use Rattle.console.specs.Running.{RunsTo}
 use Rattle.console.specs.Code.{IsGoodCode, ShowsBadCode}
-use Rattle.console.specs.Streaming.{SourceEnded, SourceRan, StreamLeaves, StreamShows, is_capture}
-use Rattle.console.specs.Views.{HasCounted, IsFound, RanAll, RanFirst, ShowsEnd, ShowsView, ShowsViewCode, ShowsViewPart, ViewLeaves, ViewShows, accepted, ending_status, ending_text, shown_at_once}
+use Rattle.console.specs.Streaming.{SourceEnded, SourceRan, StampTo, StreamLeaves, StreamShows, is_capture, is_stamped}
+use Rattle.console.specs.Views.{AreShown, HasCounted, IsFound, RanAll, RanFirst, ShowsEnd, ShowsView, ShowsViewCode, ShowsViewPart, ViewLeaves, ViewShows, accepted, ending_status, ending_text, other_stamps, shown_at_once, shows_stamps}
 use Rattle.console.proofs.WholeLemmas.{some_front}
 use Rattle.console.proofs.KnownBytesLemmas.{appends-then, consumes-then}
 use Rattle.console.proofs.FeedingLemmas.{consumes-kept}
-use Rattle.console.proofs.StreamingLemmas.{Streamed, begins_itself, ended_first, no_bytes, ran_first}
+use Rattle.console.proofs.StreamingLemmas.{Ends, EndsAtOne, Streamed, begins_itself, ended_first, ended_stamps, no_bytes, ran_aligned, ran_first, ran_stamps}
 use Rattle.console.proofs.ViewLemmas.{lines_part, lines_shows, shown-append}
 
 -- what is left where what was read isn't run
@@ -32,9 +32,9 @@ left_read (Err e) view program pcap from at at' old new source tally turns piece
   so.input ++ piece,
   consumes-then from at at' so.input piece so.lost lost,
   (
-    shown_at_once view 0 so.shown,
+    shown_at_once view 0 so.stamps so.shown,
     so.appended,
-    inl (so.shown, rw so.kind at (ran_first program so.input piece source so.shown so.ran small), begins_itself (shown_at_once view 0 so.shown)),
+    inl (so.shown, rw so.kind at (ran_first program so.input piece source so.shown so.stamps so.ran small), so.stamps, rw so.stamped at (ran_stamps program so.input piece source so.shown so.stamps so.ran), begins_itself (shown_at_once view 0 so.stamps so.shown)),
   ),
 )
 
@@ -45,9 +45,9 @@ left_kept view program pcap from at at' old new source tally turns so kept = (
   so.input,
   consumes-kept from at at' so.input so.lost kept,
   (
-    shown_at_once view 0 so.shown,
+    shown_at_once view 0 so.stamps so.shown,
     so.appended,
-    inl (so.shown, rw (so.kind, append-nil so.input) at (ran_first program so.input [] source so.shown so.ran no_bytes), begins_itself (shown_at_once view 0 so.shown)),
+    inl (so.shown, rw (so.kind, append-nil so.input) at (ran_first program so.input [] source so.shown so.stamps so.ran no_bytes), so.stamps, rw (so.stamped, append-nil so.input) at (ran_stamps program so.input [] source so.shown so.stamps so.ran), begins_itself (shown_at_once view 0 so.stamps so.shown)),
   ),
 )
 
@@ -61,6 +61,8 @@ pub streamed_kept : (view : View) (program : List Insn) (pcap : Bool) (from at a
 streamed_kept view program pcap from at at' old new source tally turns so kept = record {
   input = so.input;
   shown = so.shown;
+  stamps = so.stamps;
+  stamped = so.stamped;
   lost = consumes-kept from at at' so.input so.lost kept;
   ran = so.ran;
   counted = so.counted;
@@ -70,106 +72,134 @@ streamed_kept view program pcap from at at' old new source tally turns so kept =
 }
 
 -- what was read was run, but isn't shown yet
-pub record Took (view : View) (To : List ℕ → List Outcome → Type 0) (pcap : Bool) (from at old new : Option (List ℕ)) (source : PacketSource) (tally : Tally) (outcomes : List Outcome) (turns : ℕ) : Type 0 where
+pub record Took (view : View) (To : List ℕ → List Outcome → List Stamp → Type 0) (pcap : Bool) (from at old new : Option (List ℕ)) (source : PacketSource) (tally : Tally) (outcomes : List Outcome) (times : List Stamp) (turns : ℕ) : Type 0 where
   pub input : List ℕ
   pub shown : List Outcome
+  pub stamps : List Stamp
   pub lost : Consumes from at input
-  pub has : To input (shown ++ outcomes)
+  pub has : To input (shown ++ outcomes) (stamps ++ times)
+  pub aligned : (length stamps ≡ length shown) ⊎ ((stamps ≡ []) × (times ≡ []))
   pub counted : HasCounted view tally shown
-  pub appended : Appends old new (shown_at_once view 0 shown)
+  pub appended : Appends old new (shown_at_once view 0 stamps shown)
   pub kind : is_capture source ≡ pcap
+  pub stamped : is_stamped source ≡ shows_stamps view pcap
   pub short : length input ≤ 65536 * turns
 
-pub took : (view : View) (To : List ℕ → PacketSource → List Outcome → Type 0) (program : List Insn) (pcap : Bool) (from at at' old new : Option (List ℕ)) (source source' : PacketSource) (tally : Tally) (turns : ℕ) (piece : List ℕ) (before after : List Outcome)
-    → Streamed view program pcap from at old new source tally turns → Consumes at at' piece → length piece ≤ 65536 → turns < 281474976710655 → before ≡ []
-    → RunsTo (SourceRan program) To piece [] source source' before after → is_capture source' ≡ is_capture source
-    → Took view (λ input outcomes. To input source' outcomes) pcap from at' old new source' tally after (turns + 1)
-took view To program pcap from at at' old new source source' tally turns piece before after so lost few limit none runs kind =
-    let whole : piece ≡ runs.front = runs.parts ∙ append-nil runs.front in
+align : (program : List Insn) (fed : List ℕ) (source : PacketSource) (outcomes : List Outcome) (stamps since upto : List Stamp) → SourceRan program fed source outcomes stamps → since ≡ [] → (is_stamped source ≡ false → upto ≡ since)
+    → (length stamps ≡ length outcomes) ⊎ ((stamps ≡ []) × (upto ≡ []))
+align program fed source outcomes stamps since upto ran none plain = elim (ran_aligned program fed source outcomes stamps ran) [
+  | inl same ↦ inl same
+  | inr apart ↦ inr (apart.1, plain apart.0 ∙ none)
+]
+
+pub took : (view : View) (To : List ℕ → PacketSource → List Outcome → List Stamp → Type 0) (program : List Insn) (pcap : Bool) (from at at' old new : Option (List ℕ)) (source source' : PacketSource) (tally : Tally) (turns : ℕ) (piece : List ℕ) (before after : List Outcome) (since upto : List Stamp)
+    → Streamed view program pcap from at old new source tally turns → Consumes at at' piece → length piece ≤ 65536 → turns < 281474976710655 → before ≡ [] → since ≡ [] → (is_stamped source ≡ false → upto ≡ since)
+    → StampTo (SourceRan program) To piece source source' before after since upto → is_capture source' ≡ is_capture source → is_stamped source' ≡ is_stamped source
+    → Took view (λ input outcomes stamps. To input source' outcomes stamps) pcap from at' old new source' tally after upto (turns + 1)
+took view To program pcap from at at' old new source source' tally turns piece before after since upto so lost few limit none no_times plain runs kind stamped =
     let pushed : after ≡ runs.more = runs.pushed ∙ ap (λ t. t ++ runs.more) none in
-    let size : length (so.input ++ runs.front) ≡ length so.input + length piece = omega (arith, length-append so.input runs.front, ap length whole) in
+    let timed : upto ≡ runs.times = runs.pushed_times ∙ ap (λ t. t ++ runs.times) no_times in
     record {
       input = so.input ++ piece;
       shown = so.shown;
+      stamps = so.stamps;
       lost = consumes-then from at at' so.input piece so.lost lost;
-      has = rw (whole, pushed) (runs.runs so.input so.shown so.ran (omega (arith, size, so.short, few, limit)));
+      has = rw (pushed, timed) (runs.runs so.input so.shown so.stamps so.ran (omega (arith, length-append so.input piece, so.short, few, limit)));
+      aligned = align program so.input source so.shown so.stamps since upto so.ran no_times plain;
       counted = so.counted;
       appended = so.appended;
       kind = kind ∙ so.kind;
+      stamped = stamped ∙ so.stamped;
       short = omega (arith, length-append so.input piece, so.short, few);
     }
 
 -- a run of what was read, whether it stopped or not
-abbrev pub RanOrStopped : List Insn → Bool → List ℕ → PacketSource → List Outcome → Type 0
-RanOrStopped program stopped taken source outcomes = MatchBool stopped (SourceEnded program true taken source outcomes) (SourceRan program taken source outcomes)
+abbrev pub RanOrStopped : List Insn → Bool → List ℕ → PacketSource → List Outcome → List Stamp → Type 0
+RanOrStopped program stopped taken source outcomes stamps = MatchBool stopped (SourceEnded program true taken source outcomes stamps) (SourceRan program taken source outcomes stamps)
 
-pub either_run : (program : List Insn) (stopped : Bool) (piece : List ℕ) (old new : PacketSource) (before after : List Outcome)
-    → MatchBool stopped (RunsTo (SourceRan program) (SourceEnded program true) piece [] old new before after) (RunsTo (SourceRan program) (SourceRan program) piece [] old new before after)
-    → RunsTo (SourceRan program) (RanOrStopped program stopped) piece [] old new before after
-either_run program true piece old new before after r = record { front = r.front; parts = r.parts; more = r.more; pushed = r.pushed; runs = λ fed outcomes has short. r.runs fed outcomes has short }
-either_run program false piece old new before after r = record { front = r.front; parts = r.parts; more = r.more; pushed = r.pushed; runs = λ fed outcomes has short. r.runs fed outcomes has short }
+pub either_run : (program : List Insn) (stopped : Bool) (piece : List ℕ) (old new : PacketSource) (before after : List Outcome) (since upto : List Stamp)
+    → MatchBool stopped (StampTo (SourceRan program) (SourceEnded program true) piece old new before after since upto) (StampTo (SourceRan program) (SourceRan program) piece old new before after since upto)
+    → StampTo (SourceRan program) (RanOrStopped program stopped) piece old new before after since upto
+either_run program true piece old new before after since upto r = record { more = r.more; times = r.times; pushed = r.pushed; pushed_times = r.pushed_times; runs = λ fed outcomes stamps has short. r.runs fed outcomes stamps has short }
+either_run program false piece old new before after since upto r = record { more = r.more; times = r.times; pushed = r.pushed; pushed_times = r.pushed_times; runs = λ fed outcomes stamps has short. r.runs fed outcomes stamps has short }
 
-pub either_first : (program : List Insn) (stopped : Bool) (taken : List ℕ) (source : PacketSource) (outcomes : List Outcome) → RanOrStopped program stopped taken source outcomes
-    → RanFirst program (is_capture source) taken outcomes
-either_first program true taken source outcomes has = ended_first program true taken source outcomes has
-either_first program false taken source outcomes has = rw (append-nil taken) at (ran_first program taken [] source outcomes has no_bytes)
+-- the first packets that were run, with their time stamps
+abbrev pub FirstShown : List Insn → PacketSource → List ℕ → List Outcome → List Stamp → Type 0
+FirstShown program source input outcomes stamps = RanFirst program (is_capture source) input outcomes × AreShown (is_stamped source) input (length outcomes) stamps
+
+pub ended_shown : (program : List Insn) (stopped : Bool) (taken : List ℕ) (source : PacketSource) (outcomes : List Outcome) (stamps : List Stamp) → SourceEnded program stopped taken source outcomes stamps → FirstShown program source taken outcomes stamps
+ended_shown program stopped taken source outcomes stamps has = (ended_first program stopped taken source outcomes stamps has, ended_stamps program stopped taken source outcomes stamps has)
+
+pub either_shown : (program : List Insn) (stopped : Bool) (taken : List ℕ) (source : PacketSource) (outcomes : List Outcome) (stamps : List Stamp) → RanOrStopped program stopped taken source outcomes stamps
+    → FirstShown program source taken outcomes stamps
+either_shown program true taken source outcomes stamps has = ended_shown program true taken source outcomes stamps has
+either_shown program false taken source outcomes stamps has =
+    (rw (append-nil taken) at (ran_first program taken [] source outcomes stamps has no_bytes), rw (append-nil taken) at (ran_stamps program taken [] source outcomes stamps has))
 
 -- what is shown of outcomes after others that were counted
-shown_then : (view : View) (tally : Tally) (shown more : List Outcome) → HasCounted view tally shown → shown_at_once view 0 (shown ++ more) ≡ shown_at_once view 0 shown ++ shown_at_once tally.view tally.total more
-shown_then view tally shown more counted = rw (counted.0, counted.1) (rw zero-add at (shown-append view 0 shown more))
+shown_then : (view : View) (tally : Tally) (stamps times : List Stamp) (shown more : List Outcome) → HasCounted view tally shown → (length stamps ≡ length shown) ⊎ ((stamps ≡ []) × (times ≡ []))
+    → shown_at_once view 0 (stamps ++ times) (shown ++ more) ≡ shown_at_once view 0 stamps shown ++ shown_at_once tally.view tally.total times more
+shown_then view tally stamps times shown more counted aligned = rw (counted.0, counted.1) (rw zero-add at (shown-append view 0 stamps times shown more aligned))
 
 -- what is left where the outcomes couldn't be written
-pub left_took : {T E : Type 0} (r : Result T E) (view : View) (To : List ℕ → List Outcome → Type 0) (program : List Insn) (pcap : Bool) (from at old new last : Option (List ℕ)) (source : PacketSource) (tally : Tally) (outcomes : List Outcome) (turns : ℕ)
-    → Took view To pcap from at old new source tally outcomes turns
-    → ((input : List ℕ) (outcomes : List Outcome) → To input outcomes → RanFirst program (is_capture source) input outcomes)
-    → (front : List ℕ) × BeginsWith front (shown_at_once tally.view tally.total outcomes) × Appends new last front
+pub left_took : {T E : Type 0} (r : Result T E) (view : View) (To : List ℕ → List Outcome → List Stamp → Type 0) (program : List Insn) (pcap : Bool) (from at old new last : Option (List ℕ)) (source : PacketSource) (tally : Tally) (outcomes : List Outcome) (times : List Stamp) (turns : ℕ)
+    → Took view To pcap from at old new source tally outcomes times turns
+    → ((input : List ℕ) (outcomes : List Outcome) (stamps : List Stamp) → To input outcomes stamps → FirstShown program source input outcomes stamps)
+    → (front : List ℕ) × BeginsWith front (shown_at_once tally.view tally.total times outcomes) × Appends new last front
     → OnErr r ((input : List ℕ) × Consumes from at input × ((text : List ℕ) × Appends old last text × ShowsViewPart view program pcap input text))
-left_took (Ok v) view To program pcap from at old new last source tally outcomes turns so firsts failed = tt
-left_took (Err e) view To program pcap from at old new last source tally outcomes turns so firsts failed =
-    let lines : List ℕ = shown_at_once view 0 so.shown in
-    let all : shown_at_once view 0 (so.shown ++ outcomes) ≡ (lines ++ failed.0) ++ failed.1.0 =
-    shown_then view tally so.shown outcomes so.counted ∙ ap (λ t. lines ++ t) failed.1.1 ∙ sym (append_assoc lines failed.0 failed.1.0) in (
+left_took (Ok v) view To program pcap from at old new last source tally outcomes times turns so firsts failed = tt
+left_took (Err e) view To program pcap from at old new last source tally outcomes times turns so firsts failed =
+    let lines : List ℕ = shown_at_once view 0 so.stamps so.shown in
+    let shown = firsts so.input (so.shown ++ outcomes) (so.stamps ++ times) so.has in
+    let all : shown_at_once view 0 (so.stamps ++ times) (so.shown ++ outcomes) ≡ (lines ++ failed.0) ++ failed.1.0 =
+    shown_then view tally so.stamps times so.shown outcomes so.counted so.aligned ∙ ap (λ t. lines ++ t) failed.1.1 ∙ sym (append_assoc lines failed.0 failed.1.0) in (
       so.input,
       so.lost,
       (
         lines ++ failed.0,
         appends-then old new last lines failed.0 so.appended failed.2,
-        inl (so.shown ++ outcomes, rw so.kind at (firsts so.input (so.shown ++ outcomes) so.has), (failed.1.0, all)),
+        inl (so.shown ++ outcomes, rw so.kind at shown.0, so.stamps ++ times, rw so.stamped at shown.1, (failed.1.0, all)),
       ),
     )
 
 -- the outcomes were shown
-pub record Showed (view : View) (To : List ℕ → List Outcome → Type 0) (pcap : Bool) (from at old new : Option (List ℕ)) (source : PacketSource) (tally : Tally) (turns : ℕ) : Type 0 where
+pub record Showed (view : View) (To : List ℕ → List Outcome → List Stamp → Type 0) (pcap : Bool) (from at old new : Option (List ℕ)) (source : PacketSource) (tally : Tally) (turns : ℕ) : Type 0 where
   pub input : List ℕ
   pub outcomes : List Outcome
+  pub stamps : List Stamp
   pub lost : Consumes from at input
-  pub has : To input outcomes
+  pub has : To input outcomes stamps
+  pub stamped : is_stamped source ≡ shows_stamps view pcap
   pub counted : HasCounted view tally outcomes
-  pub appended : Appends old new (shown_at_once view 0 outcomes)
+  pub appended : Appends old new (shown_at_once view 0 stamps outcomes)
   pub kind : is_capture source ≡ pcap
   pub short : length input ≤ 65536 * turns
 
-pub showed : (view : View) (To : List ℕ → List Outcome → Type 0) (pcap : Bool) (from at old new last : Option (List ℕ)) (source : PacketSource) (tally tally' : Tally) (outcomes : List Outcome) (turns : ℕ)
-    → Took view To pcap from at old new source tally outcomes turns → Appends new last (shown_at_once tally.view tally.total outcomes)
+pub showed : (view : View) (To : List ℕ → List Outcome → List Stamp → Type 0) (pcap : Bool) (from at old new last : Option (List ℕ)) (source : PacketSource) (tally tally' : Tally) (outcomes : List Outcome) (times : List Stamp) (turns : ℕ)
+    → Took view To pcap from at old new source tally outcomes times turns → Appends new last (shown_at_once tally.view tally.total times outcomes)
     → ((view : View) (before : List Outcome) → HasCounted view tally before → HasCounted view tally' (before ++ outcomes))
     → Showed view To pcap from at old last source tally' turns
-showed view To pcap from at old new last source tally tally' outcomes turns so more counts = record {
+showed view To pcap from at old new last source tally tally' outcomes times turns so more counts = record {
   input = so.input;
   outcomes = so.shown ++ outcomes;
+  stamps = so.stamps ++ times;
+  stamped = so.stamped;
   lost = so.lost;
   has = so.has;
   counted = counts view so.shown so.counted;
-  appended = rw (shown_then view tally so.shown outcomes so.counted) (appends-then old new last (shown_at_once view 0 so.shown) (shown_at_once tally.view tally.total outcomes) so.appended more);
+  appended = rw (shown_then view tally so.stamps times so.shown outcomes so.counted so.aligned) (appends-then old new last (shown_at_once view 0 so.stamps so.shown) (shown_at_once tally.view tally.total times outcomes) so.appended more);
   kind = so.kind;
   short = so.short;
 }
 
 -- and there is more to read
 pub streamed_next : (view : View) (program : List Insn) (pcap : Bool) (from at old new : Option (List ℕ)) (source : PacketSource) (tally : Tally) (turns : ℕ)
-    → Showed view (λ input outcomes. RanOrStopped program false input source outcomes) pcap from at old new source tally turns → Streamed view program pcap from at old new source tally turns
+    → Showed view (λ input outcomes stamps. RanOrStopped program false input source outcomes stamps) pcap from at old new source tally turns → Streamed view program pcap from at old new source tally turns
 streamed_next view program pcap from at old new source tally turns so = record {
   input = so.input;
   shown = so.outcomes;
+  stamps = so.stamps;
+  stamped = so.stamped;
   lost = so.lost;
   ran = so.has;
   counted = so.counted;
@@ -183,53 +213,49 @@ short_input : (input turns : ℕ) → input ≤ 65536 * turns → turns ≤ 2814
 short_input input turns short limit = omega arith
 
 -- what is left where nothing came after the outcomes
-pub left_showed : {T E : Type 0} (r : Result T E) (view : View) (To : List ℕ → List Outcome → Type 0) (program : List Insn) (pcap : Bool) (from at old new : Option (List ℕ)) (source : PacketSource) (tally : Tally) (turns : ℕ)
+pub left_showed : {T E : Type 0} (r : Result T E) (view : View) (To : List ℕ → List Outcome → List Stamp → Type 0) (program : List Insn) (pcap : Bool) (from at old new : Option (List ℕ)) (source : PacketSource) (tally : Tally) (turns : ℕ)
     → Showed view To pcap from at old new source tally turns
-    → ((input : List ℕ) (outcomes : List Outcome) → To input outcomes → RanFirst program (is_capture source) input outcomes)
+    → ((input : List ℕ) (outcomes : List Outcome) (stamps : List Stamp) → To input outcomes stamps → FirstShown program source input outcomes stamps)
     → OnErr r ((input : List ℕ) × Consumes from at input × ((text : List ℕ) × Appends old new text × ShowsViewPart view program pcap input text))
 left_showed (Ok v) view To program pcap from at old new source tally turns so firsts = tt
 left_showed (Err e) view To program pcap from at old new source tally turns so firsts = (
   so.input,
   so.lost,
   (
-    shown_at_once view 0 so.outcomes,
+    shown_at_once view 0 so.stamps so.outcomes,
     so.appended,
-    inl (so.outcomes, rw so.kind at (firsts so.input so.outcomes so.has), begins_itself (shown_at_once view 0 so.outcomes)),
+    inl (so.outcomes, rw so.kind at (firsts so.input so.outcomes so.stamps so.has).0, so.stamps, rw so.stamped at (firsts so.input so.outcomes so.stamps so.has).1, begins_itself (shown_at_once view 0 so.stamps so.outcomes)),
   ),
 )
 
-nothing_shown : (n : ℕ) (outcomes : List Outcome) → shown_at_once Quiet n outcomes ≡ []
-nothing_shown n [] = refl
-nothing_shown n (o ∷ outcomes) = nothing_shown (n + 1) outcomes
+nothing_shown : (n : ℕ) (stamps : List Stamp) (outcomes : List Outcome) → shown_at_once Quiet n stamps outcomes ≡ []
+nothing_shown n stamps [] = refl
+nothing_shown n stamps (o ∷ outcomes) = nothing_shown (n + 1) (other_stamps stamps) outcomes
 
 -- a text and a status of outcomes and of what comes after them
-view_end : (view : View) (program : List Insn) (pcap : Bool) (input : List ℕ) (outcomes : List Outcome) (ending : Ending) (status : ℕ) (text : List ℕ)
-    → RanFirst program pcap input outcomes → RanAll program pcap input outcomes (ending_status ending) (ending_text ending)
-    → ShowsEnd view (accepted outcomes) (length outcomes) ending status text → ShowsView view program pcap input status (shown_at_once view 0 outcomes ++ text)
-view_end Lines program pcap input outcomes ending status text first all shows = (outcomes, ending_status ending, ending_text ending, all, (shows.0, ap (λ t. shown_at_once Lines 0 outcomes ++ t) shows.1))
-view_end Numbers program pcap input outcomes ending status text first all shows = (outcomes, ending_status ending, ending_text ending, all, (shows.0, ap (λ t. shown_at_once Numbers 0 outcomes ++ t) shows.1))
-view_end Count program pcap input outcomes ending status text first all shows = (outcomes, ending_status ending, ending_text ending, all, (shows.0, ap (λ t. shown_at_once Count 0 outcomes ++ t) shows.1))
-view_end Quiet program pcap input outcomes ending status text first all shows = (
-  ap (λ t. shown_at_once Quiet 0 outcomes ++ t) shows.0 ∙ append-nil (shown_at_once Quiet 0 outcomes) ∙ nothing_shown 0 outcomes,
+view_end : (view : View) (program : List Insn) (pcap : Bool) (input : List ℕ) (outcomes : List Outcome) (stamps : List Stamp) (ending : Ending) (status : ℕ) (text : List ℕ)
+    → RanFirst program pcap input outcomes → AreShown (shows_stamps view pcap) input (length outcomes) stamps → RanAll program pcap input outcomes (ending_status ending) (ending_text ending)
+    → ShowsEnd view (accepted outcomes) (length outcomes) ending status text → ShowsView view program pcap input status (shown_at_once view 0 stamps outcomes ++ text)
+view_end Lines program pcap input outcomes stamps ending status text first times all shows = (outcomes, ending_status ending, ending_text ending, all, stamps, times, (shows.0, ap (λ t. shown_at_once Lines 0 stamps outcomes ++ t) shows.1))
+view_end Numbers program pcap input outcomes stamps ending status text first times all shows = (outcomes, ending_status ending, ending_text ending, all, stamps, times, (shows.0, ap (λ t. shown_at_once Numbers 0 stamps outcomes ++ t) shows.1))
+view_end Count program pcap input outcomes stamps ending status text first times all shows = (outcomes, ending_status ending, ending_text ending, all, stamps, times, (shows.0, ap (λ t. shown_at_once Count 0 stamps outcomes ++ t) shows.1))
+view_end Quiet program pcap input outcomes stamps ending status text first times all shows = (
+  ap (λ t. shown_at_once Quiet 0 stamps outcomes ++ t) shows.0 ∙ append-nil (shown_at_once Quiet 0 stamps outcomes) ∙ nothing_shown 0 stamps outcomes,
   elim (shows.1) [
     | inl some ↦ inl (outcomes, first, some.0, some.1)
     | inr none ↦ inr (outcomes, ending_status ending, ending_text ending, all, none.0, none.1)
   ],
 )
 
--- what a stream ends with
-abbrev pub Ends : PacketSource → List Insn → Bool → Ending → Type 0
-Ends source program stopped ending = (taken : List ℕ) (outcomes : List Outcome) → length taken < 18446744073709551616
-    → SourceEnded program stopped taken source outcomes → RanAll program (is_capture source) taken outcomes (ending_status ending) (ending_text ending)
-
 ended_view : (view : View) (program : List Insn) (stopped pcap : Bool) (from at old new : Option (List ℕ)) (source : PacketSource) (tally : Tally) (turns : ℕ) (ending : Ending) (status : ℕ) (text : List ℕ)
-    → (so : Showed view (λ input outcomes. SourceEnded program stopped input source outcomes) pcap from at old new source tally turns) → turns ≤ 281474976710655
-    → Ends source program stopped ending → ShowsEnd tally.view tally.accepted tally.total ending status text
-    → ShowsView view program pcap so.input status (shown_at_once view 0 so.outcomes ++ text)
+    → (so : Showed view (λ input outcomes stamps. SourceEnded program stopped input source outcomes stamps) pcap from at old new source tally turns) → turns ≤ 281474976710655
+    → Ends source stopped ending → ShowsEnd tally.view tally.accepted tally.total ending status text
+    → ShowsView view program pcap so.input status (shown_at_once view 0 so.stamps so.outcomes ++ text)
 ended_view view program stopped pcap from at old new source tally turns ending status text so limit ends shows =
-    rw so.kind at (view_end view program (is_capture source) so.input so.outcomes ending status text (ended_first program stopped so.input source so.outcomes so.has)
-    (ends so.input so.outcomes (short_input (length so.input) turns so.short limit) so.has)
-    (rw (so.counted.0, so.counted.1, so.counted.2) at shows))
+    view_end view program pcap so.input so.outcomes so.stamps ending status text (rw so.kind at (ended_first program stopped so.input source so.outcomes so.stamps so.has))
+    (rw so.stamped at (ended_stamps program stopped so.input source so.outcomes so.stamps so.has))
+    (rw so.kind at (ends program so.input so.outcomes so.stamps (short_input (length so.input) turns so.short limit) so.has))
+    (rw (so.counted.0, so.counted.1, so.counted.2) at shows)
 
 -- the status that comes with a line after the outcomes
 status_of : (view : View) (some all : ℕ) (ending : Ending) (status : ℕ) (text : List ℕ) → ShowsEnd view some all ending status text → ending_status ending ≡ 1 → (status ≡ 1) ⊎ IsFound view status
@@ -243,11 +269,10 @@ status_of Quiet some all ending status text shows one = elim (shows.1) [
 
 -- what is shown at the end
 pub end_shown : (r : Result ℕ EngineFault) (view : View) (program : List Insn) (stopped pcap : Bool) (from at old new last : Option (List ℕ)) (source : PacketSource) (tally : Tally) (turns : ℕ) (ending : Ending)
-    → Showed view (λ input outcomes. SourceEnded program stopped input source outcomes) pcap from at old new source tally turns → turns ≤ 281474976710655
+    → Showed view (λ input outcomes stamps. SourceEnded program stopped input source outcomes stamps) pcap from at old new source tally turns → turns ≤ 281474976710655
     → (IsAtEnd at ⊎ IsTrue stopped)
-    → ((program : List Insn) (taken : List ℕ) (outcomes : List Outcome) → length taken < 18446744073709551616
-    → SourceEnded program stopped taken source outcomes → RanAll program (is_capture source) taken outcomes (ending_status ending) (ending_text ending))
-    → ((program : List Insn) (taken : List ℕ) (outcomes : List Outcome) → SourceEnded program stopped taken source outcomes → IsTrue stopped → ending_status ending ≡ 1)
+    → Ends source stopped ending
+    → EndsAtOne source stopped ending
     → IfOk r (λ status. (text : List ℕ) × Appends new last text × ShowsEnd tally.view tally.accepted tally.total ending status text)
     → IfOk r (λ status. (input : List ℕ) × Consumes from at input × ((text : List ℕ) × Appends old last text × ShowsView view program pcap input status text)
     × (IsAtEnd at ⊎ (status ≡ 1) ⊎ IsFound view status))
@@ -256,26 +281,36 @@ end_shown (Ok status) view program stopped pcap from at old new last source tall
   so.input,
   so.lost,
   (
-    shown_at_once view 0 so.outcomes ++ shows.0,
-    appends-then old new last (shown_at_once view 0 so.outcomes) shows.0 so.appended shows.1,
-    ended_view view program stopped pcap from at old new source tally turns ending status shows.0 so limit (ends program) shows.2,
+    shown_at_once view 0 so.stamps so.outcomes ++ shows.0,
+    appends-then old new last (shown_at_once view 0 so.stamps so.outcomes) shows.0 so.appended shows.1,
+    ended_view view program stopped pcap from at old new source tally turns ending status shows.0 so limit ends shows.2,
   ),
   elim at_end [
     | inl end ↦ inl end
-    | inr at_once ↦ inr (rw so.counted.0 at (status_of tally.view tally.accepted tally.total ending status shows.0 shows.2 (is_one program so.input so.outcomes so.has at_once)))
+    | inr at_once ↦ inr (rw so.counted.0 at (status_of tally.view tally.accepted tally.total ending status shows.0 shows.2 (is_one program so.input so.outcomes so.stamps so.has at_once)))
   ],
 )
 
+-- where nothing that follows is looked at, the status says so
+pub end_well : (r : Result ℕ EngineFault) (view : View) (program : List Insn) (pcap : Bool) (from at old new last : Option (List ℕ)) (source : PacketSource) (tally : Tally) (turns : ℕ) (ending : Ending) (written read ended : Bool)
+    → Showed view (λ input outcomes stamps. SourceEnded program true input source outcomes stamps) pcap from at old new source tally turns
+    → EndsAtOne source true ending
+    → IfOk r (λ status. (text : List ℕ) × Appends new last text × ShowsEnd tally.view tally.accepted tally.total ending status text)
+    → OnOk r (written ≡ false) → read ≡ false
+    → IfOk r (λ status. (written ≡ false) × (read ≡ false) × ((ended ≡ true) ⊎ (status ≡ 1) ⊎ IsFound view status))
+end_well (Err e) view program pcap from at old new last source tally turns ending written read ended so is_one shows good well = tt
+end_well (Ok status) view program pcap from at old new last source tally turns ending written read ended so is_one shows good well =
+    (good, well, inr (rw so.counted.0 at (status_of tally.view tally.accepted tally.total ending status shows.0 shows.2 (is_one program so.input so.outcomes so.stamps so.has refl))))
+
 -- and left, where it couldn't be written
 pub end_left : (r : Result ℕ EngineFault) (view : View) (program : List Insn) (stopped pcap : Bool) (from at old new last : Option (List ℕ)) (source : PacketSource) (tally : Tally) (turns : ℕ) (ending : Ending)
-    → Showed view (λ input outcomes. SourceEnded program stopped input source outcomes) pcap from at old new source tally turns → turns ≤ 281474976710655
-    → ((program : List Insn) (taken : List ℕ) (outcomes : List Outcome) → length taken < 18446744073709551616
-    → SourceEnded program stopped taken source outcomes → RanAll program (is_capture source) taken outcomes (ending_status ending) (ending_text ending))
+    → Showed view (λ input outcomes stamps. SourceEnded program stopped input source outcomes stamps) pcap from at old new source tally turns → turns ≤ 281474976710655
+    → Ends source stopped ending
     → OnErr r ((text : List ℕ) × Appends new last text × ((status : ℕ) × (whole : List ℕ) × ShowsEnd tally.view tally.accepted tally.total ending status whole × BeginsWith text whole))
     → OnErr r ((input : List ℕ) × Consumes from at input × ((text : List ℕ) × Appends old last text × ShowsViewPart view program pcap input text))
 end_left (Ok v) view program stopped pcap from at old new last source tally turns ending so limit ends failed = tt
 end_left (Err e) view program stopped pcap from at old new last source tally turns ending so limit ends failed =
-    let lines : List ℕ = shown_at_once view 0 so.outcomes in
+    let lines : List ℕ = shown_at_once view 0 so.stamps so.outcomes in
     let text : List ℕ = failed.0 in
     let part = failed.2 in (
       so.input,
@@ -286,7 +321,7 @@ end_left (Err e) view program stopped pcap from at old new last source tally tur
         inr (
           part.0,
           lines ++ part.1,
-          ended_view view program stopped pcap from at old new source tally turns ending part.0 part.1 so limit (ends program) part.2,
+          ended_view view program stopped pcap from at old new source tally turns ending part.0 part.1 so limit ends part.2,
           (part.3.0, ap (λ t. lines ++ t) part.3.1 ∙ sym (append_assoc lines text part.3.0)),
         ),
       ),
@@ -294,16 +329,16 @@ end_left (Err e) view program stopped pcap from at old new last source tally tur
 
 -- a packet was accepted, and nothing else matters
 pub found_shown : (view : View) (program : List Insn) (pcap : Bool) (from at old new : Option (List ℕ)) (source : PacketSource) (tally : Tally) (turns : ℕ) (stopped : Bool)
-    → Showed view (λ input outcomes. RanOrStopped program stopped input source outcomes) pcap from at old new source tally turns → (tally.view ≡ Quiet) × (0 < tally.accepted)
+    → Showed view (λ input outcomes stamps. RanOrStopped program stopped input source outcomes stamps) pcap from at old new source tally turns → (tally.view ≡ Quiet) × (0 < tally.accepted)
     → (input : List ℕ) × Consumes from at input × ((text : List ℕ) × Appends old new text × ShowsView view program pcap input 0 text) × (IsAtEnd at ⊎ (◌≡◌ {A = ℕ} 0 1) ⊎ IsFound view 0)
 found_shown view program pcap from at old new source tally turns stopped so found =
     let quiet : view ≡ Quiet = sym so.counted.0 ∙ found.0 in (
       so.input,
       so.lost,
       (
-        shown_at_once view 0 so.outcomes,
+        shown_at_once view 0 so.stamps so.outcomes,
         so.appended,
-        rw quiet (nothing_shown 0 so.outcomes, inl (so.outcomes, rw so.kind at (either_first program stopped so.input source so.outcomes so.has), rw so.counted.2 at found.1, refl)),
+        rw quiet (nothing_shown 0 so.stamps so.outcomes, inl (so.outcomes, rw so.kind at (either_shown program stopped so.input source so.outcomes so.stamps so.has).0, rw so.counted.2 at found.1, refl)),
       ),
       inr (inr (quiet, refl)),
     )

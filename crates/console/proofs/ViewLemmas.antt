@@ -1,5 +1,5 @@
 -- What a view shows of some outcomes and of more.
-use Rattle.std.proofs.Common.{◌≡◌, ℕ, zero, suc, ◌+◌, inl, inr, List, [], ◌∷◌, ◌++◌, length, flat_map, Bool, true, false, Option, refl, sym, ap, ◌∙◌, append_assoc, add-zero, arith}
+use Rattle.std.proofs.Common.{◌≡◌, ℕ, zero, suc, ◌+◌, ◌⊎◌, inl, inr, List, [], ◌∷◌, ◌++◌, length, flat_map, Bool, true, false, Option, None, Some, refl, sym, ap, ◌∙◌, append_assoc, add-zero, arith}
 use Rattle.std.specs.Prelude.{Result, Ok, Err, OnErr}
 use Rattle.std.specs.Io.KnownBytes.{Appends}
 use Rattle.console.proofs.KnownBytesLemmas.{appends-nothing}
@@ -8,25 +8,42 @@ use Rattle.bpf_insn.specs.declared.insn.Insn.{Insn}
 use Rattle.filter_vm.specs.declared.machine.Outcome.{Outcome}
 use Rattle.console.specs.declared.ending.Ending.{Ending}
 use Rattle.console.specs.declared.ending.Ending.TheVariants.{Done, BadLine, Fault}
+use Rattle.console.specs.declared.stamp.Stamp.{Stamp}
 use Rattle.console.specs.declared.view.View.{View}
 use Rattle.console.specs.declared.view.View.TheVariants.{Lines, Numbers, Count, Quiet}
 use Rattle.console.specs.Faults.{fault_text}
 use Rattle.console.specs.Matching.{ShowsBytes, ShowsPackets, outcome_line}
 use Rattle.console.specs.Streaming.{ShowsSome}
-use Rattle.console.specs.Views.{RanFirst, ShowsEnd, ShowsView, ShowsViewPart, accepted, ending_status, ending_text, shown_after, shown_at_once, shown_line}
+use Rattle.console.specs.Views.{RanFirst, ShowsEnd, ShowsView, ShowsViewPart, accepted, ending_status, ending_text, shown_after, other_stamps, shown_at_once, shown_line}
 use Rattle.console.specs.Reading.{BeginsWith}
 
-pub shown-append : (view : View) (n : ℕ) (first more : List Outcome) → shown_at_once view n (first ++ more) ≡ shown_at_once view n first ++ shown_at_once view (n + length first) more
-shown-append view n [] more = ap (λ k. shown_at_once view k more) (sym (add-zero n))
-shown-append view n (o ∷ first) more =
+plain-append : (view : View) (n : ℕ) (first more : List Outcome) → shown_at_once view n [] (first ++ more) ≡ shown_at_once view n [] first ++ shown_at_once view (n + length first) [] more
+plain-append view n [] more = ap (λ k. shown_at_once view k [] more) (sym (add-zero n))
+plain-append view n (o ∷ first) more =
     let next : n + 1 + length first ≡ n + length (o ∷ first) = omega arith in
-    ap (λ t. shown_line view (n + 1) o ++ t) (shown-append view (n + 1) first more ∙ ap (λ k. shown_at_once view (n + 1) first ++ shown_at_once view k more) next)
-    ∙ sym (append_assoc (shown_line view (n + 1) o) (shown_at_once view (n + 1) first) (shown_at_once view (n + length (o ∷ first)) more))
+    ap (λ t. shown_line view (n + 1) None o ++ t) (plain-append view (n + 1) first more ∙ ap (λ k. shown_at_once view (n + 1) [] first ++ shown_at_once view k [] more) next)
+    ∙ sym (append_assoc (shown_line view (n + 1) None o) (shown_at_once view (n + 1) [] first) (shown_at_once view (n + length (o ∷ first)) [] more))
+
+stamped-append : (view : View) (n : ℕ) (ss ts : List Stamp) (first more : List Outcome) → length ss ≡ length first
+    → shown_at_once view n (ss ++ ts) (first ++ more) ≡ shown_at_once view n ss first ++ shown_at_once view (n + length first) ts more
+stamped-append view n [] ts [] more same = ap (λ k. shown_at_once view k ts more) (sym (add-zero n))
+stamped-append view n (s ∷ ss) ts [] more same = absurd (omega (arith, same))
+stamped-append view n [] ts (o ∷ first) more same = absurd (omega (arith, same))
+stamped-append view n (s ∷ ss) ts (o ∷ first) more same =
+    let next : n + 1 + length first ≡ n + length (o ∷ first) = omega arith in
+    let shorter : length ss ≡ length first = omega (arith, same) in
+    ap (λ t. shown_line view (n + 1) (Some s) o ++ t) (stamped-append view (n + 1) ss ts first more shorter ∙ ap (λ k. shown_at_once view (n + 1) ss first ++ shown_at_once view k ts more) next)
+    ∙ sym (append_assoc (shown_line view (n + 1) (Some s) o) (shown_at_once view (n + 1) ss first) (shown_at_once view (n + length (o ∷ first)) ts more))
+
+pub shown-append : (view : View) (n : ℕ) (ss ts : List Stamp) (first more : List Outcome) → (length ss ≡ length first) ⊎ ((ss ≡ []) × (ts ≡ []))
+    → shown_at_once view n (ss ++ ts) (first ++ more) ≡ shown_at_once view n ss first ++ shown_at_once view (n + length first) ts more
+shown-append view n ss ts first more (inl same) = stamped-append view n ss ts first more same
+shown-append view n ss ts first more (inr none) = rw (none.0, none.1) (plain-append view n first more)
 
 -- lines without numbers
-pub lines_flat : (n : ℕ) (outcomes : List Outcome) → shown_at_once Lines n outcomes ≡ flat_map outcome_line outcomes
-lines_flat n [] = refl
-lines_flat n (o ∷ outcomes) = ap (λ t. outcome_line o ++ t) (lines_flat (n + 1) outcomes)
+pub lines_flat : (n : ℕ) (stamps : List Stamp) (outcomes : List Outcome) → shown_at_once Lines n stamps outcomes ≡ flat_map outcome_line outcomes
+lines_flat n stamps [] = refl
+lines_flat n stamps (o ∷ outcomes) = ap (λ t. outcome_line o ++ t) (lines_flat (n + 1) (other_stamps stamps) outcomes)
 
 pub accepted-append : (first more : List Outcome) → accepted (first ++ more) ≡ accepted first + accepted more
 accepted-append first more = sum_by-append _ first more
@@ -38,8 +55,8 @@ lines_shows program false input status text s = record {
   outcomes = s.0;
   complaint = s.2;
   ran = s.3.1;
-  stops = rw s.4.0 (s.3.2);
-  printed = s.4.1 ∙ ap (λ t. t ++ s.2) (lines_flat 0 s.0);
+  stops = rw s.6.0 (s.3.2);
+  printed = s.6.1 ∙ ap (λ t. t ++ s.2) (lines_flat 0 s.4 s.0);
 }
 lines_shows program true input status text s = (
   s.3.0,
@@ -49,23 +66,23 @@ lines_shows program true input status text s = (
   record {
     outcomes = s.0;
     ran = s.3.4;
-    printed = s.4.1 ∙ ap (λ t. shown_at_once Lines 0 s.0 ++ t) s.3.6 ∙ ap (λ t. t ++ fault_text s.3.2) (lines_flat 0 s.0);
+    printed = s.6.1 ∙ ap (λ t. shown_at_once Lines 0 s.4 s.0 ++ t) s.3.6 ∙ ap (λ t. t ++ fault_text s.3.2) (lines_flat 0 s.4 s.0);
   },
-  s.4.0 ∙ s.3.5,
+  s.6.0 ∙ s.3.5,
 )
 
-lines_packets : (program : List Insn) (pcap : Bool) (input text : List ℕ) (outcomes : List Outcome) → RanFirst program pcap input outcomes → BeginsWith text (shown_at_once Lines 0 outcomes)
+lines_packets : (program : List Insn) (pcap : Bool) (input text : List ℕ) (outcomes : List Outcome) (stamps : List Stamp) → RanFirst program pcap input outcomes → BeginsWith text (shown_at_once Lines 0 stamps outcomes)
     → ShowsPackets program pcap input text
-lines_packets program false input text outcomes ran begins = record {
+lines_packets program false input text outcomes stamps ran begins = record {
   good = ran.0;
   left = ran.1;
   outcomes = outcomes;
   more = begins.0;
   front = ran.2;
   ran = ran.3;
-  printed = sym begins.1 ∙ lines_flat 0 outcomes;
+  printed = sym begins.1 ∙ lines_flat 0 stamps outcomes;
 }
-lines_packets program true input text outcomes ran begins = (
+lines_packets program true input text outcomes stamps ran begins = (
   ran.0,
   ran.1,
   ran.2,
@@ -77,12 +94,12 @@ lines_packets program true input text outcomes ran begins = (
     more = begins.0;
     front = ran.6;
     ran = ran.7;
-    printed = sym begins.1 ∙ lines_flat 0 outcomes;
+    printed = sym begins.1 ∙ lines_flat 0 stamps outcomes;
   },
 )
 
 pub lines_part : (program : List Insn) (pcap : Bool) (input text : List ℕ) → ShowsViewPart Lines program pcap input text → ShowsSome program pcap input text
-lines_part program pcap input text (inl first) = inl (lines_packets program pcap input text first.0 first.1 first.2)
+lines_part program pcap input text (inl first) = inl (lines_packets program pcap input text first.0 first.2 first.1 first.4)
 lines_part program pcap input text (inr all) = inr (all.0, all.1, lines_shows program pcap input all.0 all.1 all.2, all.3)
 
 -- something is shown at the end

@@ -8,4 +8,5 @@ pub mod Running
 pub mod Streaming
 pub mod Dumping
 pub mod Checking
+pub mod Stamps
 pub mod Views

@@ -1,5 +1,5 @@
 -- What `match` shows of an input of any length while it is read.
-use Rattle.std.specs.Prelude.{◌≡◌, ℕ, ◌<◌, ◌≤◌, ◌⊎◌, List, ◌∷◌, ◌++◌, length, Bool, true, false, IsErr, All, ◌==◌}
+use Rattle.std.specs.Prelude.{◌≡◌, ℕ, ◌<◌, ◌≤◌, ◌^◌, ◌⊎◌, List, [], ◌∷◌, ◌++◌, length, Bool, true, false, IsErr, All, ◌==◌}
 use Rattle.std.specs.List.{AllZip}
 use Rattle.std.specs.Str.Lines.{lines}
 use Rattle.hex.specs.Hex.{decode_of}
@@ -7,7 +7,11 @@ use Rattle.bpf_insn.specs.declared.insn.Insn.{Insn}
 use Rattle.filter_vm.specs.declared.machine.Outcome.{Outcome}
 use Rattle.console.specs.declared.line_feed.LineFeed.{LineFeed}
 use Rattle.console.specs.declared.packet_source.PacketSource.{PacketSource}
-use Rattle.console.specs.declared.packet_source.PacketSource.TheVariants.{Lines, Capture}
+use Rattle.console.specs.declared.packet_source.PacketSource.TheVariants.{Lines, Capture, Stamped}
+use Rattle.console.specs.declared.stamp.Stamp.{Stamp}
+use Rattle.console.specs.declared.stamped_feed.StampedFeed.{StampedFeed}
+use Rattle.console.specs.Stamps.{AreStamps}
+use Rattle.pcap_reader.specs.declared.feed.Feed.{Feed}
 use Rattle.console.specs.Code.{IsGoodCode}
 use Rattle.console.specs.Reading.{HasStopped}
 use Rattle.console.specs.Matching.{Answers, ShowsBytes, ShowsFront, ShowsPackets}
@@ -55,19 +59,69 @@ pub record LinesStopped (program : List Insn) (taken : List ℕ) (feed : LineFee
   pub count : feed.number ≡ length good
   pub few : length good < length taken
 
+-- packets of a front of a capture were run, with their time stamps; rest comes next
+pub record Timed (program : List Insn) (fed rest : List ℕ) (feed : Feed) (outcomes : List Outcome) (stamps : List Stamp) : Type 0 where
+  pub ran : HasRun program fed feed outcomes
+  pub small : All (λ byte. byte < 256) rest
+  pub same : length stamps ≡ length outcomes
+  pub times : (later : List ℕ) → AreStamps (fed ++ (rest ++ later)) (length outcomes) stamps
+
+-- a front of some bytes that come next was fed, its packets were run, and each has its time stamp
+pub record TimedTo (program : List Insn) (bytes rest : List ℕ) (old new : Feed) (before after : List Outcome) (since upto : List Stamp) : Type 0 where
+  pub front : List ℕ
+  pub parts : bytes ≡ front ++ rest
+  pub more : List Outcome
+  pub times : List Stamp
+  pub pushed : after ≡ before ++ more
+  pub pushed_times : upto ≡ since ++ times
+  pub runs : (fed : List ℕ) (outcomes : List Outcome) (stamps : List Stamp) → Timed program fed bytes old outcomes stamps → length (fed ++ front) < 2 ^ 64
+      → Timed program (fed ++ front) rest new (outcomes ++ more) (stamps ++ times)
+
+-- all of some bytes were taken, the packets that were whole then were run, once each and in order, and what was so before is so
+-- after: From and To speak of the bytes that were taken so far, of what takes them, and of the outcomes and time stamps so far
+pub record StampTo {S : Type 0} (From To : List ℕ → S → List Outcome → List Stamp → Type 0) (bytes : List ℕ) (old new : S) (before after : List Outcome) (since upto : List Stamp) : Type 0 where
+  pub more : List Outcome
+  pub times : List Stamp
+  pub pushed : after ≡ before ++ more
+  pub pushed_times : upto ≡ since ++ times
+  pub runs : (fed : List ℕ) (outcomes : List Outcome) (stamps : List Stamp) → From fed old outcomes stamps → length (fed ++ bytes) < 2 ^ 64
+      → To (fed ++ bytes) new (outcomes ++ more) (stamps ++ times)
+
+-- a capture with time stamps took these bytes, and has fed all but its part
+abbrev pub StampedRan : List Insn → List ℕ → StampedFeed → List Outcome → List Stamp → Type 0
+StampedRan program taken s outcomes stamps = (fed : List ℕ) × (taken ≡ fed ++ s.part.items) × Timed program fed s.part.items s.feed outcomes stamps
+
+-- it has fed all
+abbrev pub StampedEnded : List Insn → List ℕ → StampedFeed → List Outcome → List Stamp → Type 0
+StampedEnded program taken s outcomes stamps = Timed program taken [] s.feed outcomes stamps
+
+-- and nothing that follows is looked at
+abbrev pub StampedStopped : List Insn → List ℕ → StampedFeed → List Outcome → List Stamp → Type 0
+StampedStopped program taken s outcomes stamps = Timed program taken [] s.feed outcomes stamps × HasStopped s.feed
+
 -- the source is a capture, and not lines
 abbrev pub is_capture : PacketSource → Bool
 is_capture (Lines feed) = false
 is_capture (Capture feed) = true
+is_capture (Stamped s) = true
 
--- the packets that are whole in the bytes that a source took ended with these outcomes
-abbrev pub SourceRan : List Insn → List ℕ → PacketSource → List Outcome → Type 0
-SourceRan program taken (Lines feed) outcomes = LinesRan program taken feed outcomes
-SourceRan program taken (Capture feed) outcomes = HasRun program taken feed outcomes
+-- the source gives time stamps
+abbrev pub is_stamped : PacketSource → Bool
+is_stamped (Lines feed) = false
+is_stamped (Capture feed) = false
+is_stamped (Stamped s) = true
+
+-- the packets that are whole in the bytes that a source took ended with these outcomes, and have these time stamps
+abbrev pub SourceRan : List Insn → List ℕ → PacketSource → List Outcome → List Stamp → Type 0
+SourceRan program taken (Lines feed) outcomes stamps = LinesRan program taken feed outcomes × (stamps ≡ [])
+SourceRan program taken (Capture feed) outcomes stamps = HasRun program taken feed outcomes × (stamps ≡ [])
+SourceRan program taken (Stamped s) outcomes stamps = StampedRan program taken s outcomes stamps
 
 -- the same where the bytes are all that there are, or where nothing that follows is looked at
-abbrev pub SourceEnded : List Insn → Bool → List ℕ → PacketSource → List Outcome → Type 0
-SourceEnded program false taken (Lines feed) outcomes = LinesEnded program taken feed outcomes
-SourceEnded program true taken (Lines feed) outcomes = LinesStopped program taken feed outcomes
-SourceEnded program false taken (Capture feed) outcomes = HasRun program taken feed outcomes
-SourceEnded program true taken (Capture feed) outcomes = HasRun program taken feed outcomes × HasStopped feed
+abbrev pub SourceEnded : List Insn → Bool → List ℕ → PacketSource → List Outcome → List Stamp → Type 0
+SourceEnded program false taken (Lines feed) outcomes stamps = LinesEnded program taken feed outcomes × (stamps ≡ [])
+SourceEnded program true taken (Lines feed) outcomes stamps = LinesStopped program taken feed outcomes × (stamps ≡ [])
+SourceEnded program false taken (Capture feed) outcomes stamps = HasRun program taken feed outcomes × (stamps ≡ [])
+SourceEnded program true taken (Capture feed) outcomes stamps = HasRun program taken feed outcomes × HasStopped feed × (stamps ≡ [])
+SourceEnded program false taken (Stamped s) outcomes stamps = StampedEnded program taken s outcomes stamps
+SourceEnded program true taken (Stamped s) outcomes stamps = StampedStopped program taken s outcomes stamps

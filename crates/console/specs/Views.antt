@@ -1,5 +1,5 @@
 -- What `match` shows under its views: a line for each packet, with or without its number, one line for all, or the status alone.
-use Rattle.std.specs.Prelude.{◌≡◌, ℕ, ◌+◌, ◌<◌, ◌⊎◌, List, [], ◌∷◌, ◌++◌, length, codes, count_by, nat_lt, Option, Bool, true, false}
+use Rattle.std.specs.Prelude.{◌≡◌, ℕ, ◌+◌, ◌<◌, ◌⊎◌, List, [], ◌∷◌, ◌++◌, length, codes, count_by, nat_lt, Option, Some, None, Bool, true, false}
 use Rattle.std.specs.List.{AllZip}
 use Rattle.std.specs.Fmt.{decimal}
 use Rattle.std.specs.Str.Lines.{lines}
@@ -11,6 +11,7 @@ use Rattle.pcap_reader.specs.declared.capture.CaptureFault.{CaptureFault}
 use Rattle.pcap_reader.specs.Savefile.{Reads}
 use Rattle.console.specs.declared.ending.Ending.{Ending}
 use Rattle.console.specs.declared.ending.Ending.TheVariants.{Done, BadLine, Fault}
+use Rattle.console.specs.declared.stamp.Stamp.{Stamp}
 use Rattle.console.specs.declared.tally.Tally.{Tally}
 use Rattle.console.specs.declared.view.View.{View}
 use Rattle.console.specs.declared.view.View.TheVariants.{Lines, Numbers, Count, Quiet}
@@ -18,6 +19,7 @@ use Rattle.console.specs.Code.{IsGoodCode, ShowsBadCode}
 use Rattle.console.specs.Faults.{fault_line, fault_status, fault_text}
 use Rattle.console.specs.Matching.{Answers, AnswersCaptured, Stops, bad_line, outcome_line}
 use Rattle.console.specs.Reading.{BeginsWith}
+use Rattle.console.specs.Stamps.{AreStamps, stamp_text}
 
 -- how many packets were accepted: the filter keeps a byte of each, or more
 abbrev pub accepted : List Outcome → ℕ
@@ -27,17 +29,31 @@ accepted outcomes = count_by (λ outcome. nat_lt 0 outcome.verdict) outcomes
 abbrev pub tally_line : ℕ → ℕ → List ℕ
 tally_line some all = decimal some ++ codes " of " ++ decimal all ++ codes "\n"
 
--- the line for an outcome: with its packet's number n, from 1, where numbers are shown
-abbrev pub shown_line : View → ℕ → Outcome → List ℕ
-shown_line Lines n outcome = outcome_line outcome
-shown_line Numbers n outcome = decimal n ++ codes " " ++ outcome_line outcome
-shown_line Count n outcome = []
-shown_line Quiet n outcome = []
+-- a time stamp, and a blank after it
+abbrev pub mark : Option Stamp → List ℕ
+mark None = []
+mark (Some stamp) = stamp_text stamp ++ codes " "
 
--- what is shown of outcomes as soon as they are there; there were n packets before
-abbrev pub shown_at_once : View → ℕ → List Outcome → List ℕ
-shown_at_once view n [] = []
-shown_at_once view n (outcome ∷ more) = shown_line view (n + 1) outcome ++ shown_at_once view (n + 1) more
+-- the first of some time stamps, and the others
+abbrev pub first_stamp : List Stamp → Option Stamp
+first_stamp [] = None
+first_stamp (stamp ∷ others) = Some stamp
+
+abbrev pub other_stamps : List Stamp → List Stamp
+other_stamps [] = []
+other_stamps (stamp ∷ others) = others
+
+-- the line for an outcome: with its packet's number n, from 1, and its time stamp if it has one, where numbers are shown
+abbrev pub shown_line : View → ℕ → Option Stamp → Outcome → List ℕ
+shown_line Lines n stamp outcome = outcome_line outcome
+shown_line Numbers n stamp outcome = decimal n ++ codes " " ++ mark stamp ++ outcome_line outcome
+shown_line Count n stamp outcome = []
+shown_line Quiet n stamp outcome = []
+
+-- what is shown of outcomes as soon as they are there, with the time stamps of their packets; there were n packets before
+abbrev pub shown_at_once : View → ℕ → List Stamp → List Outcome → List ℕ
+shown_at_once view n stamps [] = []
+shown_at_once view n stamps (outcome ∷ more) = shown_line view (n + 1) (first_stamp stamps) outcome ++ shown_at_once view (n + 1) (other_stamps stamps) more
 
 -- what is shown after them, where so many were accepted, of so many
 abbrev pub shown_after : View → ℕ → ℕ → List ℕ
@@ -73,10 +89,19 @@ RanFirst program true input outcomes =
     (header : Option Header) × (packets : List Captured) × (fault : Option CaptureFault) × Reads input header packets fault
     × (good : List Captured) × (left : List Captured) × (packets ≡ good ++ left) × AllZip (AnswersCaptured program) good outcomes
 
+-- the time stamps that a view shows of so many packets: those of a capture, where numbers are shown
+abbrev pub AreShown : Bool → List ℕ → ℕ → List Stamp → Type 0
+AreShown true input n stamps = (length stamps ≡ n) × AreStamps input n stamps
+AreShown false input n stamps = stamps ≡ []
+
+abbrev pub shows_stamps : View → Bool → Bool
+shows_stamps Numbers pcap = pcap
+shows_stamps view pcap = false
+
 -- a text and a status of outcomes and of the line after them
-abbrev pub ShowsOutcomes : View → List Outcome → ℕ → List ℕ → ℕ → List ℕ → Type 0
-ShowsOutcomes view outcomes ended ending status text =
-    (status ≡ ended) × (text ≡ shown_at_once view 0 outcomes ++ (shown_after view (accepted outcomes) (length outcomes) ++ ending))
+abbrev pub ShowsOutcomes : View → List Stamp → List Outcome → ℕ → List ℕ → ℕ → List ℕ → Type 0
+ShowsOutcomes view stamps outcomes ended ending status text =
+    (status ≡ ended) × (text ≡ shown_at_once view 0 stamps outcomes ++ (shown_after view (accepted outcomes) (length outcomes) ++ ending))
 
 -- no packet was accepted: the status is 4 where the input is whole, and else 1
 abbrev pub IsNoneStatus : ℕ → ℕ → Type 0
@@ -103,12 +128,14 @@ ShowsView Quiet program pcap input status text = (text ≡ [])
     ⊎ ((outcomes : List Outcome) × (ended : ℕ) × (ending : List ℕ) × RanAll program pcap input outcomes ended ending
     × (accepted outcomes ≡ 0) × IsNoneStatus ended status))
 ShowsView view program pcap input status text =
-    (outcomes : List Outcome) × (ended : ℕ) × (ending : List ℕ) × RanAll program pcap input outcomes ended ending × ShowsOutcomes view outcomes ended ending status text
+    (outcomes : List Outcome) × (ended : ℕ) × (ending : List ℕ) × RanAll program pcap input outcomes ended ending
+    × (stamps : List Stamp) × AreShown (shows_stamps view pcap) input (length outcomes) stamps × ShowsOutcomes view stamps outcomes ended ending status text
 
 -- text is a front of what is shown at once of the first packets of bytes, or of all that is shown
 abbrev pub ShowsViewPart : View → List Insn → Bool → List ℕ → List ℕ → Type 0
 ShowsViewPart view program pcap input text =
-    ((outcomes : List Outcome) × RanFirst program pcap input outcomes × BeginsWith text (shown_at_once view 0 outcomes))
+    ((outcomes : List Outcome) × RanFirst program pcap input outcomes
+    × (stamps : List Stamp) × AreShown (shows_stamps view pcap) input (length outcomes) stamps × BeginsWith text (shown_at_once view 0 stamps outcomes))
     ⊎ ((status : ℕ) × (whole : List ℕ) × ShowsView view program pcap input status whole × BeginsWith text whole)
 
 -- a line, where the view shows any

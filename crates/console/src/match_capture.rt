@@ -46,6 +46,6 @@ pub fn match_input<R: Read, W: Write>(
     }
     let fault = fault_behind(&feed)?;
     let mut text = String::new(alloc);
-    write_outcomes(&mut text, View::Lines, 0, outcomes.as_slice(), writer)?;
+    write_outcomes(&mut text, View::Lines, 0, outcomes.as_slice(), &[], writer)?;
     write_ending(text, fault, writer)
 }

@@ -7,8 +7,8 @@ ghost use Rattle.console.specs.Reading.{BeginsWith};
 ghost use Rattle.console.specs.Matching.{IsPrintFault};
 ghost use Rattle.console.specs.Views.{shown_at_once};
 
-use crate::view::push_line;
-use crate::{EngineFault, Sink, View};
+use crate::view::{next_stamp, push_line};
+use crate::{EngineFault, Sink, Stamp, View};
 use filter_vm::Outcome;
 use std::io::Write;
 
@@ -46,20 +46,21 @@ pub fn write_bytes<W: Write>(writer: &mut Sink<W>, bytes: &[u8]) -> Result<(), E
     Ok(())
 }
 
-/// Writes what is shown of each outcome under a view, in large pieces. `before` packets came before. The text is a buffer that
-/// is empty before and after.
+/// Writes what is shown of each outcome under a view, in large pieces, with the time stamps of the first ones. `before` packets
+/// came before. The text is a buffer that is empty before and after.
 pub fn write_outcomes<W: Write>(
     text: &mut String,
     view: View,
     before: u64,
     outcomes: &[Outcome],
+    stamps: &[Stamp],
     writer: &mut Sink<W>,
 ) -> Result<(), EngineFault>
     requires empty { string_bytes text.old ≡ [] }
     requires few { before + length outcomes.now < 2 ^ 64 }
     requires good { writer.old.failed ≡ false }
-    ensures written { OnOk result (Appends (W.contents writer.old.inner) (W.contents writer.new.inner) (shown_at_once view before outcomes.now)) }
-    ensures front { OnErr result ((front : List ℕ) × BeginsWith front (shown_at_once view before outcomes.now)
+    ensures written { OnOk result (Appends (W.contents writer.old.inner) (W.contents writer.new.inner) (shown_at_once view before stamps.now outcomes.now)) }
+    ensures front { OnErr result ((front : List ℕ) × BeginsWith front (shown_at_once view before stamps.now outcomes.now)
         × Appends (W.contents writer.old.inner) (W.contents writer.new.inner) front) }
     ensures empty { OnOk result (string_bytes text.new ≡ []) }
     ensures fault { IfErr result IsPrintFault }
@@ -67,11 +68,13 @@ pub fn write_outcomes<W: Write>(
     ensures cause { IfErr result (StopsWriting writer.new) }
 {
     let mut rest = outcomes;
+    let mut times = stamps;
     let mut number = before;
     while let Some((outcome, more)) = rest.split_first() {
         rest = more;
         number += 1;
-        push_line(text, view, number, *outcome)?;
+        let stamp = next_stamp(&mut times);
+        push_line(text, view, number, stamp, *outcome)?;
         if text.len() >= BLOCK {
             write_text(writer, text.as_str())?;
             text.clear();

@@ -7,8 +7,8 @@ ghost use Rattle.console.specs.Code.{IsGoodCode, ShowsBadCode};
 ghost use Rattle.console.specs.Reading.{BeginsWith};
 ghost use Rattle.console.specs.Devices.{EndsEarly, IsFresh, StopsWriting};
 ghost use Rattle.console.specs.Matching.{IsEngineFault};
-ghost use Rattle.console.specs.Streaming.{SourceRan, StreamLeaves, StreamShows, is_capture};
-ghost use Rattle.console.specs.Views.{IsFound, ShowsView, ShowsViewCode, ShowsViewPart, ViewLeaves, ViewShows, heard};
+ghost use Rattle.console.specs.Streaming.{SourceRan, StreamLeaves, StreamShows, is_capture, is_stamped};
+ghost use Rattle.console.specs.Views.{IsFound, ShowsView, ShowsViewCode, ShowsViewPart, ViewLeaves, ViewShows, heard, shows_stamps};
 
 use crate::code::read_code;
 use crate::input::BLOCK;
@@ -62,7 +62,8 @@ pub fn run_stream<R: Read, W: Write>(
 /// Runs the filter that `code` spells, in decimal text, on packets of an input of any length, shows their outcomes under a
 /// view, and answers the status.
 ///
-/// - `View::Lines` is `run_stream`. `View::Numbers` is the same, with the packet's number and a blank before each line.
+/// - `View::Lines` is `run_stream`. `View::Numbers` is the same, with the packet's number and a blank before each line, and then,
+///   of a capture, its time stamp and a blank.
 /// - `View::Count` writes `N of M` at the end: so many packets were accepted, of so many that were run. The line for what is wrong
 ///   with the input, if anything is, comes after it.
 /// - `View::Quiet` writes nothing. It ends at the first packet that is accepted, without reading on, with status 0. The status is
@@ -99,8 +100,18 @@ pub fn run_view<R: Read, W: Write>(
         Ok(program) => program,
         Err(line) => return refuse_code(view, line.as_str(), writer),
     };
-    let mut source = PacketSource::new(alloc, pcap);
+    let mut source = PacketSource::new(alloc, pcap, shows_stamps(view, pcap));
     stream(alloc, &program, &mut source, view, reader, writer)
+}
+
+/// Whether a view shows time stamps.
+fn shows_stamps(view: View, pcap: bool) -> bool
+    ensures { result ≡ shows_stamps view pcap }
+{
+    match view {
+        View::Numbers => pcap,
+        View::Lines | View::Count | View::Quiet => false,
+    }
 }
 
 /// Writes the line of a code that is refused, where the view shows any, and answers the status.
@@ -128,7 +139,8 @@ fn stream<R: Read, W: Write>(
     reader: &mut Source<R>,
     writer: &mut Sink<W>,
 ) -> Result<u8, EngineFault>
-    requires nothing { SourceRan program.now [] source.old [] }
+    requires nothing { SourceRan program.now [] source.old [] [] }
+    requires stamped { is_stamped source.old ≡ shows_stamps view (is_capture source.old) }
     requires fresh { IsFresh reader.old STREAM_READS }
     requires good { writer.old.failed ≡ false }
     ensures shown { IfOk result (λ status. (input : List ℕ) × Consumes (R.remaining reader.old.inner) (R.remaining reader.new.inner) input
@@ -142,20 +154,22 @@ fn stream<R: Read, W: Write>(
     ensures cause { IfErr result (EndsEarly reader.new writer.new) }
 {
     let mut outcomes = Vec::new(alloc);
+    let mut stamps = Vec::new(alloc);
     let mut tally = Tally::new(alloc, view);
     let mut block = [0u8; BLOCK];
     for _turn in 0..STREAM_READS {
         match reader.read(&mut block) {
             Got::End => {
                 let stopped = source.finish(program, &mut outcomes)?;
-                tally.show(outcomes.as_slice(), writer)?;
+                tally.show(outcomes.as_slice(), stamps.as_slice(), writer)?;
                 let ending = source.ending(stopped)?;
                 return tally.finish(ending, writer);
             }
             Got::Bytes(count) => {
-                let stopped = source.run(program, &block[..count], &mut outcomes)?;
-                tally.show(outcomes.as_slice(), writer)?;
+                let stopped = source.run(program, &block[..count], &mut outcomes, &mut stamps)?;
+                tally.show(outcomes.as_slice(), stamps.as_slice(), writer)?;
                 outcomes.clear();
+                stamps.clear();
                 if tally.is_done() {
                     return Ok(0);
                 }

@@ -12,7 +12,7 @@ ghost use Rattle.console.specs.Views.{HasCounted, IsNoneStatus, ShowsEnd, accept
 use crate::ending::Ending;
 use crate::output::{write_outcomes, write_text};
 use crate::view::push_after;
-use crate::{EngineFault, Sink, View};
+use crate::{EngineFault, Sink, Stamp, View};
 use filter_vm::Outcome;
 use std::alloc::{AllocError, Global};
 use std::io::Write;
@@ -46,16 +46,17 @@ impl Tally {
         }
     }
 
-    /// Counts outcomes, and writes what is shown of them at once. 2^64 packets are refused as memory is.
+    /// Counts outcomes, and writes what is shown of them at once, with the time stamps of the first ones. 2^64 packets are refused as memory is.
     pub fn show<W: Write>(
         &mut self,
         outcomes: &[Outcome],
+        stamps: &[Stamp],
         writer: &mut Sink<W>,
     ) -> Result<(), EngineFault>
         requires empty { string_bytes self.old.text ≡ [] }
         requires good { writer.old.failed ≡ false }
-        ensures shown { OnOk result (Appends (W.contents writer.old.inner) (W.contents writer.new.inner) (shown_at_once self.old.view self.old.total outcomes.now)) }
-        ensures front { OnErr result ((front : List ℕ) × BeginsWith front (shown_at_once self.old.view self.old.total outcomes.now)
+        ensures shown { OnOk result (Appends (W.contents writer.old.inner) (W.contents writer.new.inner) (shown_at_once self.old.view self.old.total stamps.now outcomes.now)) }
+        ensures front { OnErr result ((front : List ℕ) × BeginsWith front (shown_at_once self.old.view self.old.total stamps.now outcomes.now)
             × Appends (W.contents writer.old.inner) (W.contents writer.new.inner) front) }
         ensures counted { OnOk result ((view : Shown) (before : List Ended) → HasCounted view self.old before → HasCounted view self.new (before ++ outcomes.now)) }
         ensures empty { OnOk result (string_bytes self.new.text ≡ []) }
@@ -65,7 +66,7 @@ impl Tally {
     {
         let before = self.total;
         self.count(outcomes)?;
-        write_outcomes(&mut self.text, self.view, before, outcomes, writer)
+        write_outcomes(&mut self.text, self.view, before, outcomes, stamps, writer)
     }
 
     /// Counts outcomes.

@@ -1,8 +1,9 @@
 //! How the outcomes of packets are shown.
 
 ghost use Rattle.std.specs.Prelude.{◌≡◌, ◌++◌, OnOk, string_bytes};
-ghost use Rattle.console.specs.Views.{shown_after, shown_line, tally_line};
+ghost use Rattle.console.specs.Views.{first_stamp, mark, other_stamps, shown_after, shown_line, tally_line};
 
+use crate::Stamp;
 use crate::outcome::push_outcome;
 use filter_vm::Outcome;
 use itoa::Buffer;
@@ -21,14 +22,15 @@ pub enum View {
     Quiet,
 }
 
-/// Prints the line for an outcome, where one is shown.
+/// Prints the line for an outcome, where one is shown. The time stamp is shown after a number.
 pub fn push_line(
     text: &mut String,
     view: View,
     number: u64,
+    stamp: Option<Stamp>,
     outcome: Outcome,
 ) -> Result<(), AllocError>
-    ensures { OnOk result (string_bytes text.new ≡ string_bytes text.old ++ shown_line view number outcome) }
+    ensures { OnOk result (string_bytes text.new ≡ string_bytes text.old ++ shown_line view number stamp outcome) }
 {
     match view {
         View::Lines => push_outcome(text, outcome),
@@ -36,9 +38,37 @@ pub fn push_line(
             let mut digits = Buffer::new();
             text.push_str(digits.format(number))?;
             text.push_str(" ")?;
+            push_mark(text, stamp)?;
             push_outcome(text, outcome)
         }
         View::Count | View::Quiet => Ok(()),
+    }
+}
+
+/// Prints a time stamp and a blank, if there is one.
+fn push_mark(text: &mut String, stamp: Option<Stamp>) -> Result<(), AllocError>
+    ensures { OnOk result (string_bytes text.new ≡ string_bytes text.old ++ mark stamp) }
+{
+    match stamp {
+        None => Ok(()),
+        Some(stamp) => {
+            stamp.push(text)?;
+            text.push_str(" ")
+        }
+    }
+}
+
+/// Takes the first time stamp, if there is one.
+pub fn next_stamp(stamps: &mut &[Stamp]) -> Option<Stamp>
+    ensures taken { result ≡ first_stamp stamps.old.now }
+    ensures left { stamps.new.now ≡ other_stamps stamps.old.now }
+{
+    match stamps.split_first() {
+        Some((stamp, others)) => {
+            *stamps = others;
+            Some(*stamp)
+        }
+        None => None,
     }
 }
 

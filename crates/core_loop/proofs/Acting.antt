@@ -150,6 +150,11 @@ pub on_err_of : {E : Type 0} {P Q : Type 0} {R : E → Type 0} (r : Result (Opti
 on_err_of (Ok o) f h k = tt
 on_err_of (Err x) f h k = f x h k
 
+pub on_event_map : {E : Type 0} {P Q : Stamped → Type 0} (r : Result (Option Stamped) E) → ((s : Stamped) → P s → Q s) → OnEvent r P → OnEvent r Q
+on_event_map (Ok (Some s)) f h = f s h
+on_event_map (Ok None) f h = tt
+on_event_map (Err x) f h = tt
+
 pub on_event_any : {E : Type 0} {P : Type 0} (r : Result (Option Stamped) E) → P → OnEvent r (λ s. P)
 on_event_any (Ok (Some s)) h = h
 on_event_any (Ok None) h = tt

@@ -79,6 +79,8 @@ pub record DidOne {L : Type 0} (view : L → ℕ → LinkView) (old new : CoreSt
   pub acts : ActsFirst old.number old.cores old.clock old.pending (view old.links) (view new.links) old.part new.part s
   pub pending : old.pending ≡ begins s.done.event ++ new.pending
   pub jobs : jobs_taken new.intake ≡ jobs_taken old.intake ++ receives s.done.event
+  -- a job that was seen before is the one received, or seen still
+  pub seen : IsPrefix (jobs_seen old.intake) (receives s.done.event ++ jobs_seen new.intake)
   pub unshortened : IsUnshortened s.done.event
 
 -- the job that the queue showed can be received

@@ -163,6 +163,7 @@ pub(crate) fn begin_or_receive<L: Links>(
     ensures next { OnEvent result (λ s. IsNext context.cores part.old requests.old.items (L.view links.old) s.done.event) }
     ensures requests { OnEvent result (λ s. requests.old.items ≡ begins s.done.event ++ requests.new.items) }
     ensures jobs { OnEvent result (λ s. jobs_taken intake.new ≡ jobs_taken intake.old ++ receives s.done.event) }
+    ensures front { OnEvent result (λ s. IsPrefix (jobs_seen intake.old) (receives s.done.event ++ jobs_seen intake.new)) }
     ensures whole { OnEvent result (λ s. IsUnshortened s.done.event) }
     ensures leave { OnEvent result (λ s. rx ≡ false → receives s.done.event ≡ []) }
     ensures links { OnEvent result (λ _. L.same links.old links.new) }
@@ -212,6 +213,7 @@ pub(crate) fn first_event<L: Links>(
     ensures next { OnEvent result (λ s. IsNext context.cores part.old requests.old.items (L.view links.old) s.done.event) }
     ensures requests { OnEvent result (λ s. requests.old.items ≡ begins s.done.event ++ requests.new.items) }
     ensures jobs { OnEvent result (λ s. jobs_taken intake.new ≡ jobs_taken intake.old ++ receives s.done.event) }
+    ensures front { OnEvent result (λ s. IsPrefix (jobs_seen intake.old) (receives s.done.event ++ jobs_seen intake.new)) }
     ensures whole { OnEvent result (λ s. IsUnshortened s.done.event) }
     ensures leave { OnEvent result (λ s. rx ≡ false → receives s.done.event ≡ []) }
     ensures links { OnEvent result (λ _. L.same links.old links.new) }

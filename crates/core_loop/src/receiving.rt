@@ -24,6 +24,7 @@ pub(crate) fn receive(
     ensures receives { OnEvent result (Receives context.number context.clock replica.now) }
     ensures queue { SameIntake intake.old intake.new }
     ensures taken { OnEvent result (λ s. jobs_taken intake.new ≡ jobs_taken intake.old ++ receives s.done.event) }
+    ensures front { OnEvent result (λ s. IsPrefix (jobs_seen intake.old) (receives s.done.event ++ jobs_seen intake.new)) }
     ensures kept { OnNone result (jobs_taken intake.new ≡ jobs_taken intake.old) }
     ensures seen { OnNone result (IsPrefix (jobs_seen intake.old) (jobs_seen intake.new)) }
     ensures idle { OnIdle result ((job : GhostJob) → IsReceivable replica.now.shown.version intake.new job → ⊥) }

@@ -40,6 +40,7 @@ pub(crate) fn next_event<L: Links>(
     ensures acts { OnEvent result (ActsFirst context.number context.cores context.clock requests.old.items (L.view links.old) (L.view links.new) part.old part.new) }
     ensures requests { OnEvent result (λ s. requests.old.items ≡ begins s.done.event ++ requests.new.items) }
     ensures jobs { OnEvent result (λ s. jobs_taken intake.new ≡ jobs_taken intake.old ++ receives s.done.event) }
+    ensures front { OnEvent result (λ s. IsPrefix (jobs_seen intake.old) (receives s.done.event ++ jobs_seen intake.new)) }
     ensures whole { OnEvent result (λ s. IsUnshortened s.done.event) }
     ensures leave { OnEvent result (λ s. rx ≡ false → receives s.done.event ≡ []) }
     ensures links { L.same links.old links.new }

@@ -1,7 +1,6 @@
 -- What stands after a turn.
 use Rattle.std.proofs.Common.{◌≡◌, ◌≢◌, ℕ, Bool, List, Some, None, refl, sym, ap, ◌∙◌, subst, rules}
 use Rattle.filter_table.specs.declared.operation.Op.{Op}
-use Rattle.rx_queue.specs.declared.intake.Intake.{Intake}
 use Rattle.core_links.specs.Views.{LinkView}
 use Rattle.core_loop.specs.declared.cause.Cause.{Cause}
 use Rattle.core_loop.specs.declared.part.Part.{Part}
@@ -11,7 +10,7 @@ use Rattle.core_loop.specs.Cores.{CoreState, SameCore, NothingDone}
 use Rattle.core_loop.specs.Turning.{IsSpent, LacksMemory}
 use Rattle.core_join.specs.declared.recorded.RecordedTurn.{RecordedTurn}
 use Rattle.core_join.specs.declared.recorded.RecordedTurn.TheVariants.{Did, Idle, Stopped, Spent, NoMemory, NoRoom}
-use Rattle.core_threads.specs.Reasons.{IsSpentNow, LacksMemoryNow, RestsNow}
+use Rattle.core_threads.specs.Reasons.{RestsNow}
 use Rattle.core_threads.specs.Runs.{AfterTurn}
 
 module _ {L : Type 0} (same : L → L → Type 0) (view : L → ℕ → LinkView) (old new : CoreState L) (rx : Bool) (core : SameCore same old new) where

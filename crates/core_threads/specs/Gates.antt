@@ -1,5 +1,5 @@
 -- What a gate is asked, and what it is told.
-use Rattle.std.specs.Prelude.{◌≡◌, ◌++◌, ℕ, Bool, false, List, [], ◌∷◌, flat_map}
+use Rattle.std.specs.Prelude.{◌≡◌, ◌⊎◌, ◌++◌, ℕ, Bool, false, true, List, [], ◌∷◌, flat_map}
 use mathlib.Core.List.{IsPrefix}
 use Rattle.rx_queue.specs.declared.job.Job.{Job}
 use Rattle.rx_queue.specs.declared.intake.Intake.{Intake}
@@ -30,10 +30,16 @@ abbrev pub AsksOfFront : ℕ → List Job → Bool → List Question → List Qu
 AsksOfFront core [] answer old new = (new ≡ old) × (answer ≡ false)
 AsksOfFront core (job ∷ later) answer old new = new ≡ old ++ (record { core = core; number = job.number; answer = answer }) ∷ []
 
--- before its turn the core looked at its queue, and the gate was asked of the job in front; where the answer was no, the turn received nothing
+-- no job was taken, or just the one in front, where the answer was yes
+abbrev pub TakesAsked : Bool → List Job → List Job → List Job → Type 0
+TakesAsked answer seen before after = (after ≡ before) ⊎ ((job : Job) × (later : List Job) × (answer ≡ true) × (seen ≡ job ∷ later) × (after ≡ before ++ job ∷ []))
+
+-- Before its turn the core looked at its queue, and the gate was asked of the job in front. Where the answer was no, the turn received nothing;
+-- else it received that job, or none.
 pub record AsksLeave {L : Type 0} (old new : CoreState L) (old_asked new_asked : List Question) : Type 0 where
   pub queue : Intake
   pub looked : HasLooked old.intake queue
   pub answer : Bool
   pub asked : AsksOfFront old.number (jobs_seen queue) answer old_asked new_asked
   pub obeys : answer ≡ false → receipts_of new.history ≡ receipts_of old.history
+  pub takes : TakesAsked answer (jobs_seen queue) (jobs_taken old.intake) (jobs_taken new.intake)

@@ -104,19 +104,14 @@ pub(crate) fn order_with(
 }
 
 /// The order once the program at a place is taken out, and the last has its place.
-pub(crate) fn order_without(
-    alloc: Global,
-    order: &[usize],
-    taken: usize,
-    last: usize,
-) -> Result<Vec<usize>, AllocError>
-    requires { (rank : ℕ) × (slice_get order.now rank ≡ Some taken) }
-    ensures { IfOk result (λ after. (rank : ℕ) × (slice_get order.now rank ≡ Some taken) × (after.items ≡ map (place_once_taken taken last) (remove order.now rank))) }
+pub(crate) fn order_without(mut order: Vec<usize>, taken: usize, last: usize) -> Vec<usize>
+    requires { (rank : ℕ) × (slice_get order.items rank ≡ Some taken) }
+    ensures { (rank : ℕ) × (slice_get order.items rank ≡ Some taken) × (result.items ≡ map (place_once_taken taken last) (remove order.items rank)) }
 {
-    let rank = rank_at(order, taken);
-    let mut left = Vec::from_slice(alloc, order)?;
-    left.remove(rank);
-    renamed(alloc, &left, taken, last)
+    let rank = rank_at(&order, taken);
+    order.remove(rank);
+    rename(order.as_mut_slice(), taken, last);
+    order
 }
 
 /// Where a place is in the order.
@@ -132,18 +127,18 @@ fn rank_at(order: &[usize], place: usize) -> usize
     0
 }
 
-/// The places once the last has the one that was taken.
-fn renamed(
-    alloc: Global,
-    order: &[usize],
-    taken: usize,
-    last: usize,
-) -> Result<Vec<usize>, AllocError>
-    ensures { IfOk result (λ after. after.items ≡ map (place_once_taken taken last) order.now) }
+/// Gives the last place the number of the one that was taken.
+fn rename(order: &mut [usize], taken: usize, last: usize)
+    ensures { order.new ≡ map (place_once_taken taken last) order.old }
 {
-    let mut after = Vec::with_capacity(alloc, order.len())?;
-    for place in order {
-        after.push(if *place == last { taken } else { *place })?;
+    for rank in 0..order.len() {
+        order[rank] = once_taken(taken, last, order[rank]);
     }
-    Ok(after)
+}
+
+/// A place once the last has the one that was taken.
+fn once_taken(taken: usize, last: usize, place: usize) -> usize
+    ensures { result ≡ place_once_taken taken last place }
+{
+    if place == last { taken } else { place }
 }

@@ -1,5 +1,5 @@
 -- What cores did that were booted with a script's budgets, ran, and were joined.
-use Rattle.std.proofs.Common.{◌≡◌, ◌<◌, ◌++◌, All, ℕ, zero, suc, false, List, [], ◌∷◌, Option, Some, None, slice_get, length, refl, sym, ap, ◌∙◌, subst, arith}
+use Rattle.std.proofs.Common.{◌≡◌, ◌<◌, ◌++◌, All, ℕ, zero, suc, false, List, [], ◌∷◌, Option, Some, None, slice_get, length, refl, sym, ap, ◌∙◌, subst}
 use Rattle.std.specs.List.{flat_map}
 use Rattle.std.proofs.lemmas.List.{append-nil}
 use Rattle.filter_table.specs.declared.operation.Op.{Op}
@@ -27,6 +27,7 @@ use Rattle.mk_script.specs.declared.script.Script.{Script}
 use Rattle.run_engine.specs.Work.{requests_of, jobs_of}
 use Rattle.run_engine.specs.Showing.{DidItsWork, ShowsLeft, ShowsRun}
 use Rattle.run_engine.specs.Running.{HaveDone}
+use Rattle.run_engine.specs.Failing.{HasHalted}
 
 -- an element of the one list has an element of the other beside it
 beside : {A B : Type 0} (xs : List A) (ys : List B) (i : ℕ) (y : B) → length ys ≡ length xs → slice_get ys i ≡ Some y → (x : A) × (slice_get xs i ≡ Some x)
@@ -67,6 +68,18 @@ pub have_done : (budgets : List ℕ) (items : List Item) (requests : List (ℕ �
 have_done budgets items requests jobs machine cores left halted are_requests are_jobs none is count have ends keeps =
     done_by budgets items machine cores left is count (subst (λ (rs : List (ℕ × Op)). HaveRequests rs machine) are_requests have)
     (subst (λ (js : List (ℕ × Job)). EndsRightly machine js cores left None) are_jobs (subst (EndsRightly machine jobs cores left) none ends)) keeps
+
+-- such a machine ran, and a core halted
+pub has_halted : (budgets : List ℕ) (items : List Item) (requests : List (ℕ × Op)) (jobs : List (ℕ × Job)) (machine cores : List RingCore) (left : List (ℕ × Job)) (halted : Option (ℕ × Halt)) (core : ℕ) (why : Halt)
+    → requests ≡ requests_of items → jobs ≡ jobs_of items → halted ≡ Some (core, why) → IsMachineOf budgets machine → HaveRequests requests machine → EndsRightly machine jobs cores left halted → HasHalted budgets items core why
+has_halted budgets items requests jobs machine cores left halted core why are_requests are_jobs is machine_is have ends = record {
+  machine = machine;
+  cores = cores;
+  left = left;
+  is_machine = machine_is;
+  has_requests = subst (λ (rs : List (ℕ × Op)). HaveRequests rs machine) are_requests have;
+  ended = subst (λ (js : List (ℕ × Job)). EndsRightly machine js cores left (Some (core, why))) are_jobs (subst (EndsRightly machine jobs cores left) is ends);
+}
 
 -- core 0's history ends where no request is being decided
 settled_at : (cores others clock : ℕ) (p : Part) (end : Core0) (links : RingLinks) → HasNothingUnderWay cores p (ring_view links) → StandsAt0 others p clock end → end.place.phase ≡ Idle

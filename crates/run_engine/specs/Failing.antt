@@ -1,18 +1,60 @@
 -- Why a run of threads has no status, and what the records of its readers and its writer say then.
-use Rattle.std.specs.Prelude.{◌≡◌, ⊤, List, false}
+use Rattle.std.specs.Prelude.{◌≡◌, ⊤, ℕ, List, Option, Some, Ok, false}
+use Rattle.rx_queue.specs.declared.job.Job.{Job}
+use Rattle.core_join.specs.Machines.{RingCore}
+use Rattle.core_boot.specs.Booting.{IsMachineOf, HaveRequests}
+use Rattle.core_threads.specs.declared.halt.Halt.{Halt}
+use Rattle.core_threads.specs.declared.halt.RunFault.{RunFault}
+use Rattle.core_threads.specs.declared.halt.RunFault.TheVariants as run_fault
+use Rattle.core_threads.specs.Ending.{EndsRightly}
+use Rattle.mk_script.specs.declared.script.Item.{Item}
+use Rattle.mk_script.specs.declared.script.Script.{Script}
+use Rattle.mk_script.specs.Scripts.{Stands}
+use Rattle.mk_script.specs.Threads.{for_threads}
 use Rattle.console.specs.declared.fault.EngineFault.TheVariants.{NoMemory}
 use Rattle.console.specs.declared.sink.Sink.{Sink}
 use Rattle.console.specs.declared.source.Source.{Source}
 use Rattle.console.specs.Devices.{StopsWriting}
-use Rattle.script_input.specs.Inputs.{NoneFailed, ScriptEndsEarly}
+use Rattle.script_input.specs.Inputs.{AreScriptInputs, NoneFailed, ScriptEndsEarly}
 use Rattle.run_engine.specs.declared.engine.RunFailure.{RunFailure}
-use Rattle.run_engine.specs.declared.engine.RunFailure.TheVariants.{Engine}
+use Rattle.run_engine.specs.declared.engine.RunFailure.TheVariants.{Engine, Spawn, Halted}
+use Rattle.run_engine.specs.Work.{requests_of, jobs_of}
+
+-- the failure that a fault of a run is
+abbrev pub IsFault : RunFault → RunFailure → Type 0
+IsFault run_fault.Spawn failure = failure ≡ Spawn
+IsFault run_fault.NoMemory failure = failure ≡ Engine NoMemory
+
+-- cores that were booted with these budgets and the requests of these items ran with their jobs, and ended so: this core halted, for this
+pub record HasHalted (budgets : List ℕ) (items : List Item) (core : ℕ) (why : Halt) : Type 0 where
+  pub machine : List RingCore
+  pub cores : List RingCore
+  pub left : List (ℕ × Job)
+  pub is_machine : IsMachineOf budgets machine
+  pub has_requests : HaveRequests (requests_of items) machine
+  pub ended : EndsRightly machine (jobs_of items) cores left (Some (core, why))
 
 -- A run of cores reads nothing and writes nothing: of an engine's faults it has NoMemory alone. No public clause cites this,
 -- nor the next.
-abbrev pub IsOfCores : RunFailure → Type 0
-IsOfCores (Engine fault) = fault ≡ NoMemory
-IsOfCores failure = ⊤
+abbrev pub IsOfCores : List ℕ → List Item → RunFailure → Type 0
+IsOfCores budgets items (Engine fault) = fault ≡ NoMemory
+IsOfCores budgets items Spawn = ⊤
+IsOfCores budgets items (Halted core why) = HasHalted budgets items core why
+
+-- where a core halted, it was a core of this script, and did so
+abbrev pub HaltsOf : Script → RunFailure → Type 0
+HaltsOf script (Halted core why) = HasHalted script.budgets script.items core why
+HaltsOf script failure = ⊤
+
+-- the script stands in what was read
+abbrev pub HaltsScript : List (List ℕ) → List ℕ → RunFailure → Type 0
+HaltsScript files input (Halted core why) = (script : Script) × Stands (for_threads files) input (Ok script) × HasHalted script.budgets script.items core why
+HaltsScript files input failure = ⊤
+
+-- and that is what the script and its files had
+abbrev pub HaltsRun : Option (List ℕ) → List (Option (List ℕ)) → RunFailure → Type 0
+HaltsRun remaining had (Halted core why) = (input : List ℕ) × (inputs : List (List ℕ)) × AreScriptInputs remaining had input inputs × HaltsScript inputs input (Halted core why)
+HaltsRun remaining had failure = ⊤
 
 -- why a run isn't written: no write failed, unless that is why
 abbrev pub StopsRun : {W : Type 0} → Sink W → RunFailure → Type 0

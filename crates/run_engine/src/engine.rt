@@ -8,7 +8,7 @@ ghost use Rattle.console.specs.Reading.{most_taken};
 ghost use Rattle.mk_script.specs.Limits.{HasLimits, IsLimited};
 ghost use Rattle.mk_script.specs.Threads.{IsForThreads, IsScriptForThreads};
 ghost use Rattle.script_input.specs.Inputs.{AllFresh, AreReadInOrder, AreScriptInputs, NoneFailed, had};
-ghost use Rattle.run_engine.specs.Failing.{IsOfCores, RunEndsEarly, StopsRun};
+ghost use Rattle.run_engine.specs.Failing.{HaltsOf, HaltsRun, HaltsScript, IsOfCores, RunEndsEarly, StopsRun};
 ghost use Rattle.run_engine.specs.Running.{HaveDone};
 ghost use Rattle.run_engine.specs.Showing.{Shows, ShowsRun, ShowsRunScript};
 
@@ -61,9 +61,9 @@ impl From<AllocError> for RunFailure {
 }
 
 impl From<RunFault> for RunFailure {
-    ghost use Rattle.run_engine.specs.Failing.{IsOfCores};
+    ghost use Rattle.run_engine.specs.Failing.{IsFault};
 
-    ghost from_gives = { λ _ failure. IsOfCores failure };
+    ghost from_gives = { λ fault failure. IsFault fault failure };
 
     fn from(fault: RunFault) -> RunFailure {
         match fault {
@@ -99,6 +99,7 @@ pub fn run_run<T: Threads + Wait + Clock + Sync, G: Gate + Sync, R: Read, F: Rea
     ensures order { AreReadInOrder files.old files.new }
     ensures well { OnOk result ((reader.new.failed ≡ false) × NoneFailed files.new × (writer.new.failed ≡ false)) }
     ensures cause { IfErr result (RunEndsEarly reader.new files.new writer.new) }
+    ensures halted { IfErr result (HaltsRun (R.remaining reader.old.inner) (had F.remaining files.old)) }
     ensures most { reader.new.taken ≤ most_taken }
     ensures silent { IfErr result (λ failure. (failure ≡ RunFailure.Engine EngineFault.WriteFailed) ⊎ (writer.new ≡ writer.old)) }
 {
@@ -122,6 +123,7 @@ fn run_text<T: Threads + Wait + Clock + Sync, G: Gate + Sync, W: Write>(
     ensures shown { IfOk result (λ status. (text : List ℕ) × Appends (W.contents writer.old.inner) (W.contents writer.new.inner) text × ShowsRunScript (files.now) input.now status text) }
     ensures good { OnOk result (writer.new.failed ≡ false) }
     ensures cause { IfErr result (StopsRun writer.new) }
+    ensures halted { IfErr result (HaltsScript files.now input.now) }
     ensures silent { IfErr result (λ failure. (failure ≡ RunFailure.Engine EngineFault.WriteFailed) ⊎ (writer.new ≡ writer.old)) }
 {
     match read_script(alloc, input, files, true) {
@@ -144,6 +146,7 @@ fn run_script<T: Threads + Wait + Clock + Sync, G: Gate + Sync, W: Write>(
     ensures shown { IfOk result (λ status. (status ≡ 0) × ((text : List ℕ) × Appends (W.contents writer.old.inner) (W.contents writer.new.inner) text × ShowsRun script text)) }
     ensures good { OnOk result (writer.new.failed ≡ false) }
     ensures cause { IfErr result (StopsRun writer.new) }
+    ensures halted { IfErr result (HaltsOf script) }
     ensures silent { IfErr result (λ failure. (failure ≡ RunFailure.Engine EngineFault.WriteFailed) ⊎ (writer.new ≡ writer.old)) }
 {
     let text = text_of_run(rt, alloc, gate, script)?;
@@ -161,7 +164,7 @@ fn text_of_run<T: Threads + Wait + Clock + Sync, G: Gate + Sync>(
     requires limits { HasLimits script }
     requires threads { IsScriptForThreads script }
     ensures shown { IfOk result (λ text. ShowsRun script (string_bytes text)) }
-    ensures failure { IfErr result IsOfCores }
+    ensures failure { IfErr result (IsOfCores script.budgets script.items) }
 {
     let Script { budgets, items } = script;
     let ended = run_cores(rt, alloc, gate, budgets.as_slice(), items.into_vec())?;
@@ -186,7 +189,7 @@ fn run_cores<T: Threads + Wait + Clock + Sync, G: Gate + Sync>(
     requires limited { All IsLimited items.items }
     requires at_cores { All (IsForThreads (length budgets.now)) items.items }
     ensures done { IfOk result (λ ended. HaveDone budgets.now items.items ended.cores.items ended.left.items) }
-    ensures failure { IfErr result IsOfCores }
+    ensures failure { IfErr result (IsOfCores budgets.now items.items) }
 {
     let Work { requests, jobs } = work_of(alloc, items, budgets.len())?;
     let machine = match boot(alloc, budgets, requests) {

@@ -1,5 +1,5 @@
 -- Reaches of one program, one after the other, and the endpoints of few programs.
-use Rattle.std.proofs.Common.{◌≡◌, ◌<◌, ◌≤◌, ◌+◌, ◌-◌, ◌⊎◌, ◌↔◌, inl, inr, ℕ, zero, suc, Some, is_none, List, [], ◌∷◌, ◌++◌, length, map, max, min, replicate, set, get_or, take, drop, slice_get, Contains, refl, ap, sym, ◌∙◌, subst, arith}
+use Rattle.std.proofs.Common.{◌≡◌, ◌<◌, ◌≤◌, ◌+◌, ◌⊎◌, inl, inr, ℕ, zero, suc, Some, List, [], ◌∷◌, ◌++◌, length, map, min, replicate, set, get_or, slice_get, Contains, refl, ap, sym, ◌∙◌, subst, arith}
 use Rattle.std.specs.List.{insert}
 use Rattle.std.proofs.Math.ListN.{length-set}
 use Rattle.std.proofs.lemmas.Bool.{cases_eq, cases_lt}
@@ -10,7 +10,7 @@ use Rattle.bpf_insn.specs.declared.insn.Insn.{Insn}
 use Rattle.bpf_insn.specs.Machine.{Ends, Packet}
 use Rattle.filter_table.specs.declared.delivery.Kept.{Kept}
 use Rattle.filter_table.specs.Listed.{ListedFilter}
-use Rattle.filter_table.specs.Tables.{AreReceivers, Gets, Hands, IsIncreasing}
+use Rattle.filter_table.specs.Tables.{Gets, Hands, IsIncreasing}
 use Rattle.filter_table.proofs.Lists.{in_map, map-append', was_mapped}
 use Rattle.filter_group.specs.declared.lockstep.Hit.{Hit}
 use Rattle.filter_group.specs.Together.{AreHits}
@@ -20,7 +20,7 @@ use Rattle.table_replica.specs.Keeping.{or_nothing}
 use Rattle.table_replica.specs.declared.reaches.Reach.{Reach}
 use Rattle.table_replica.specs.Chains.{AreChained, IsNext}
 use Rattle.table_replica.proofs.Receivers.{raised-before, raised-after, receivers_raised, tail_increases, verdict_ends, verdict_is}
-use Rattle.table_replica.specs.Receiving.{Accepts, AreReached, AreReceiversOf, HasHit, HasOr, ReceiversSoFar, at_endpoint, filter_of, one_cap, raised, IsVerdict, VerdictAt}
+use Rattle.table_replica.specs.Receiving.{Accepts, AreReached, AreReceiversOf, HasHit, HasOr, ReceiversSoFar, at_endpoint, filter_of, one_cap, raised, IsVerdict}
 
 -- nothing is past the end
 pub nothing_chained : (reaches : List Reach) (first next : List ℕ) (count long from : ℕ) → ((i : ℕ) (reach : Reach) → slice_get reaches i ≡ Some reach → reach.program < count)

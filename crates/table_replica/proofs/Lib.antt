@@ -7,4 +7,5 @@ pub mod Places
 pub mod Ordered
 pub mod Receivers
 pub mod Reaching
+pub mod Gone
 pub mod Soundness

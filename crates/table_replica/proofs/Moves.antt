@@ -1,21 +1,17 @@
 -- Filters that are built again, with the programs that they have.
-use Rattle.std.proofs.Common.{◌≡◌, ◌≢◌, ◌<◌, ◌≤◌, ◌+◌, ◌==◌, ◌⊎◌, inl, inr, ℕ, zero, suc, Bool, true, false, not, Option, None, Some, List, [], ◌∷◌, ◌++◌, filter, map, take, length, slice_get, get_or, set, replicate, refl, ap, sym, ◌∙◌, subst, arith, length-append}
-use Rattle.std.proofs.lemmas.Bool.Decides.{nat_tests}
-use Rattle.std.proofs.lemmas.List.{get_or-set_same, get_or-set_other, length-replicate}
+use Rattle.std.proofs.Common.{◌≡◌, ◌<◌, ◌≤◌, ◌==◌, ◌⊎◌, inl, inr, ℕ, zero, suc, Bool, true, false, not, Some, List, [], ◌∷◌, ◌++◌, filter, map, length, slice_get, refl, ap, sym, ◌∙◌, subst, arith, length-append}
 use Rattle.std.specs.Prelude.{Result, IfOk}
 use Rattle.std.proofs.lemmas.Result.{IfOk-weaker}
 use Rattle.endpoint_caps.specs.Capabilities.{CapTable}
-use Rattle.std.proofs.Math.ListN.{length-set}
 use Rattle.bpf_insn.specs.declared.insn.Insn.{Insn}
 use Rattle.filter_table.specs.Listed.{ListedFilter, FilterTable}
 use Rattle.table_replica.specs.declared.filters.Row.{Row}
 use Rattle.table_replica.specs.Distinct.{AreDistinct}
-use Rattle.table_replica.specs.Keeping.{sources, listed_row, ArePlaced, Keeps, there, added, placed_row, IsShared}
+use Rattle.table_replica.specs.Keeping.{listed_row, ArePlaced, placed_row, IsShared}
 use Rattle.table_replica.specs.Lent.{IsIn}
 use Rattle.filter_table.specs.Tables.{instructions_of, replaced}
-use Rattle.filter_table.proofs.Lists.{fits_at, take_at, map-append', map-get}
 use Rattle.filter_table.proofs.Tables.{sum_filter}
-use Rattle.table_replica.proofs.Shared.{get_front, last, split, get_at, shared_after, view_after}
+use Rattle.table_replica.proofs.Shared.{get_front, last, split, get_at}
 use Rattle.std.proofs.lemmas.Option.{slice_get_within as within}
 
 -- What is left of rows, or replaced, shows what it should

@@ -1,5 +1,5 @@
 -- The reaches of rows that come, go, and move.
-use Rattle.std.proofs.Common.{◌≡◌, ◌<◌, ◌≤◌, ◌+◌, ◌-◌, ◌==◌, ◌⊎◌, ◌↔◌, inl, inr, ℕ, Bool, true, false, not, Option, None, Some, is_none, is_some, Bor, List, [], ◌∷◌, ◌++◌, map, filter, length, take, insert, slice_get, get_or, Contains, refl, ap, sym, ◌∙◌, subst, arith}
+use Rattle.std.proofs.Common.{◌≡◌, ◌<◌, ◌≤◌, ◌+◌, ◌==◌, ◌⊎◌, ◌↔◌, inl, inr, ℕ, Bool, true, false, not, Option, None, Some, is_none, is_some, Bor, List, [], ◌∷◌, ◌++◌, map, filter, length, take, insert, slice_get, get_or, Contains, refl, ap, sym, ◌∙◌, subst, arith}
 use Rattle.std.specs.Bool.{Decides}
 use Rattle.std.specs.Option.{option_copied}
 use Rattle.std.specs.List.{All, list_any}
@@ -16,11 +16,8 @@ use Rattle.table_replica.specs.declared.filters.Row.{Row}
 use Rattle.table_replica.specs.declared.reaches.Reach.{Reach}
 use Rattle.table_replica.specs.contracts.reaches.ReachPartialEq.TheImpl.{eq-value}
 use Rattle.table_replica.specs.contracts.reaches.ReachOrd.TheImpl.{cmp-value}
-use Rattle.table_replica.specs.Distinct.{AreDistinct}
-use Rattle.filter_table.specs.Listed.{ListedFilter}
-use Rattle.table_replica.specs.Keeping.{or_nothing, listed_row, ArePlaced, reach_of, placed_row, IsLive, AreReaches, AreLost, AreHeldAlike}
+use Rattle.table_replica.specs.Keeping.{listed_row, ArePlaced, reach_of, placed_row, IsLive, AreReaches, AreLost, AreHeldAlike}
 use Rattle.filter_table.proofs.Lists.{never, in_head, in_tail, first_or_later, in_map, was_mapped, in_filter, from_filter, take_at, get_some}
-use Rattle.table_replica.proofs.Shared.{get_at}
 use Rattle.table_replica.proofs.Ordered.{reach_decides, reach_equivalence, dedup_ordered, not_before}
 
 pub any_is : (lost : List Reach) (r : Reach) → Decides (list_any (λ other. eq-value.it other r) lost) (Contains lost r)

@@ -1,5 +1,5 @@
 -- How the list of receivers grows, filter by filter.
-use Rattle.std.proofs.Common.{◌≡◌, ◌≢◌, ◌<◌, ◌≤◌, ◌+◌, ◌-◌, ◌==◌, ◌⊎◌, ◌↔◌, inl, inr, ℕ, zero, suc, true, false, Option, Some, is_none, List, [], ◌∷◌, ◌++◌, length, take, min, max, refl, ap, sym, ◌∙◌, subst, arith, ltb, Contains, get_or, set, map, slice_get, replicate}
+use Rattle.std.proofs.Common.{◌≡◌, ◌≢◌, ◌<◌, ◌≤◌, ◌+◌, ◌-◌, ◌==◌, ◌⊎◌, ◌↔◌, inl, inr, ℕ, zero, suc, true, false, Some, is_none, List, [], ◌∷◌, ◌++◌, length, take, min, max, refl, ap, sym, ◌∙◌, subst, arith, ltb, Contains, get_or, set, map, slice_get, replicate}
 use Rattle.std.proofs.lemmas.Bool.Decides.{nat_tests}
 use Rattle.std.proofs.lemmas.List.Elements.{Contains-append_left, Contains-push, Contains-push_cases, Contains-get_or}
 use Rattle.bpf_insn.specs.declared.insn.Insn.{Insn}

@@ -1,5 +1,5 @@
 -- New capabilities are no filter's, and what is staged gives out ids anew.
-use Rattle.std.proofs.Common.{◌≡◌, ◌<◌, ◌==◌, ℕ, Bool, false, Option, Some, None, List, [], ◌∷◌, ◌++◌, Contains, refl, subst, arith}
+use Rattle.std.proofs.Common.{◌≡◌, ◌<◌, ◌==◌, ℕ, false, Option, Some, None, List, [], ◌∷◌, ◌++◌, Contains, refl, subst, arith}
 use Rattle.std.proofs.lemmas.Bool.Decides.{nat_tests}
 use Rattle.endpoint_caps.specs.declared.Cap.{Cap}
 use Rattle.endpoint_caps.specs.declared.Rights.{Rights}

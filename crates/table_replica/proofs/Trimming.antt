@@ -1,17 +1,16 @@
 -- Filters whose unused programs are taken out.
-use Rattle.std.proofs.Common.{◌≡◌, ◌<◌, ◌≤◌, ◌+◌, ◌==◌, ◌⊎◌, ◌↔◌, inl, inr, ℕ, zero, suc, Bool, true, false, cond, Option, Some, None, is_none, is_ok, Ok, Err, List, [], ◌∷◌, ◌++◌, map, take, length, slice_get, get_or, Contains, replicate, set, refl, ap, sym, ◌∙◌, subst, arith}
+use Rattle.std.proofs.Common.{◌≡◌, ◌<◌, ◌≤◌, ◌+◌, inl, inr, ℕ, zero, suc, Bool, true, false, Some, is_none, Ok, Err, List, [], ◌∷◌, map, take, length, slice_get, get_or, Contains, replicate, set, refl, ap, sym, ◌∙◌, subst, arith}
 use Rattle.std.specs.Prelude.{Result, OnOk}
 use Rattle.std.proofs.lemmas.Bool.{cases_eq}
 use Rattle.std.proofs.lemmas.Bool.Decides.{nat_tests}
 use Rattle.std.proofs.lemmas.Option.{slice_get-get_or, slice_get_within}
 use Rattle.std.proofs.Math.ListN.{length-set}
-use Rattle.std.proofs.lemmas.List.{length-map, length-replicate, get_or-replicate}
+use Rattle.std.proofs.lemmas.List.{length-replicate, get_or-replicate}
 use Rattle.bpf_insn.specs.declared.insn.Insn.{Insn}
 use Rattle.endpoint_caps.specs.declared.Cap.{Cap}
 use Rattle.filter_group.specs.Programs.{AreWithout, place_before}
-use Rattle.filter_group.proofs.Indexed.{IsMapped, mapped, is_mapped, map_alike, map_twice, set_here, set_other}
-use Rattle.filter_group.proofs.Edits.{IsPushed, pushed_before, pushed_it, is_pushed}
-use Rattle.filter_group.proofs.Sides.{one_thing}
+use Rattle.filter_group.proofs.Indexed.{mapped, is_mapped, map_alike, map_twice, set_here, set_other}
+use Rattle.filter_group.proofs.Edits.{pushed_before, pushed_it, is_pushed}
 use Rattle.filter_table.specs.Listed.{ListedFilter}
 use Rattle.filter_table.specs.Tables.{instructions_of}
 use Rattle.filter_table.proofs.Lists.{fits_at, instructions-append, in_map, map-get, map-append', take_at, was_mapped}

@@ -1,7 +1,7 @@
 -- How the filters are kept: each program once, each filter with the place of its program, and which endpoints get what which
 -- programs accept.
 -- No public clause cites these.
-use Rattle.std.specs.Prelude.{◌≡◌, ◌==◌, ◌+◌, ◌-◌, ◌<◌, ◌≤◌, ◌++◌, ◌↔◌, ◌⊎◌, ℕ, false, cond, Option, Some, None, is_none, List, [], ◌∷◌, length, map, slice_get, slice_index_or, slice_set}
+use Rattle.std.specs.Prelude.{◌≡◌, ◌==◌, ◌<◌, ◌++◌, ◌↔◌, ◌⊎◌, ℕ, false, cond, Option, Some, None, is_none, List, [], ◌∷◌, length, map, slice_get}
 use Rattle.std.specs.List.{Contains}
 use Rattle.std.specs.List.Sorted.{IsNonDecreasingBy}
 use Rattle.endpoint_caps.specs.declared.Cap.{Cap}
@@ -69,6 +69,10 @@ pub record IsKept (caps : List Cap) (rows : List Row) (programs : List (List Ins
 -- the capabilities of these filters are held under the one table just as under the other
 abbrev pub AreHeldAlike : CapTable → CapTable → List ListedFilter → Type 0
 AreHeldAlike old new filters = (f : ListedFilter) → Contains filters f → cap_at new.held f.cap ≡ cap_at old.held f.cap
+
+-- capabilities of which some may be gone, and none is new or other
+abbrev pub AreFewer : List Cap → List Cap → Type 0
+AreFewer old new = (id : ℕ) → (cap_at new id ≡ None) ⊎ (cap_at new id ≡ cap_at old id)
 
 -- Rows whose programs get other places
 

@@ -1,6 +1,6 @@
 -- How the list of receivers is made, filter by filter.
 -- No public clause cites these.
-use Rattle.std.specs.Prelude.{◌≡◌, ◌==◌, ◌<◌, ◌⊎◌, ℕ, min, cond, ltb, max, length, Option, Some, None, List, [], ◌∷◌, map, slice_get}
+use Rattle.std.specs.Prelude.{◌≡◌, ◌==◌, ◌<◌, ◌⊎◌, ℕ, min, cond, ltb, max, length, Some, None, List, [], ◌∷◌, map, slice_get}
 use Rattle.std.specs.List.{Contains}
 use Rattle.bpf_insn.specs.declared.insn.Insn.{Insn}
 use Rattle.endpoint_caps.specs.declared.Cap.{Cap}

@@ -336,7 +336,7 @@ impl Contents {
         let mut caps = self.caps.copy(alloc)?;
         match caps.revoke(domain, cap) {
             Ok(()) => {
-                let filters = self.filters.under_others(alloc, &caps)?;
+                let filters = self.filters.under_fewer(alloc, &self.caps, &caps)?;
                 Ok(self.following(caps, filters, self.next_filter))
             }
             Err(_) => Err(AllocError),
@@ -351,7 +351,7 @@ impl Contents {
         let mut caps = self.caps.copy(alloc)?;
         match caps.drop_cap(domain, cap) {
             Ok(()) => {
-                let filters = self.filters.under_others(alloc, &caps)?;
+                let filters = self.filters.under_fewer(alloc, &self.caps, &caps)?;
                 Ok(self.following(caps, filters, self.next_filter))
             }
             Err(_) => Err(AllocError),

@@ -2,7 +2,7 @@
 ghost use Rattle.std.specs.Prelude.{◌≡◌, ◌==◌, ◌+◌, ◌<◌, ◌≤◌, ◌++◌, [], ◌∷◌, length, filter, not, Some, slice_get, IfOk};
 ghost use Rattle.table_replica.specs.Chains.{AreChained};
 ghost use Rattle.table_replica.specs.Distinct.{AreDistinct};
-ghost use Rattle.table_replica.specs.Keeping.{Keeps, ArePlaced, AreReaches, AreHeldAlike, IsTrimming, IsUnused, lowered_row, sources, placed_row};
+ghost use Rattle.table_replica.specs.Keeping.{Keeps, ArePlaced, AreReaches, AreHeldAlike, AreFewer, IsTrimming, IsUnused, lowered_row, sources, placed_row};
 ghost use Rattle.std.specs.Prelude.{List, MatchOption, ℕ};
 ghost use Rattle.endpoint_caps.specs.declared.Cap.{Cap};
 ghost use Rattle.filter_table.specs.Listed.{ListedFilter};
@@ -18,6 +18,7 @@ ghost use Rattle.table_replica.specs.Keeping.{listed_row};
 ghost use Rattle.filter_table.specs.Tables.{AreReceivers};
 
 use crate::Kept;
+use crate::lost::{are_under_none, lost_ids};
 use crate::reaches::{
     Chains, Reach, add_reach, all_reaches, chained, lowered_reaches, place_after, reaches_and,
     reaches_without, receivers, receivers_with,
@@ -183,7 +184,7 @@ impl Filters {
         let rows = Vec::from_slice(alloc, &self.rows)?;
         let programs = self.programs.copy(alloc)?;
         let reaches = Vec::from_slice(alloc, &self.reaches)?;
-        let chains = chained(alloc, &reaches)?;
+        let chains = self.chains.copy(alloc)?;
         Ok(Filters {
             rows,
             programs,
@@ -194,8 +195,27 @@ impl Filters {
         })
     }
 
+    /// The same filters under capabilities of which some may be gone. Where no filter is under one that is gone, nothing is sorted.
+    pub(crate) fn under_fewer(
+        &self,
+        alloc: Global,
+        before: &Caps,
+        caps: &Caps,
+    ) -> Result<Filters, AllocError>
+        requires before { before.now ≡ self.now.under }
+        requires fewer { AreFewer before.now.held caps.now.held }
+        ensures { IfOk result (λ filters. filters ≡ record { listed = self.now.listed; under = caps.now }) }
+    {
+        let lost = lost_ids(alloc, before, caps)?;
+        if are_under_none(&self.rows, &lost) {
+            self.under(alloc, caps)
+        } else {
+            self.under_others(alloc, caps)
+        }
+    }
+
     /// The same filters under any capabilities.
-    pub(crate) fn under_others(&self, alloc: Global, caps: &Caps) -> Result<Filters, AllocError>
+    fn under_others(&self, alloc: Global, caps: &Caps) -> Result<Filters, AllocError>
         ensures { IfOk result (λ filters. filters ≡ record { listed = self.now.listed; under = caps.now }) }
     {
         let instructions = self.instructions;

@@ -6,6 +6,7 @@
 
 mod contents;
 mod filters;
+mod lost;
 mod reaches;
 mod replica;
 

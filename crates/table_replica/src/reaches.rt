@@ -174,6 +174,16 @@ impl Chains {
             next: Vec::new(alloc),
         }
     }
+
+    /// The same chains.
+    pub(crate) fn copy(&self, alloc: Global) -> Result<Chains, AllocError>
+        ensures first { IfOk result (λ chains. chains.first.items ≡ self.now.first.items) }
+        ensures next { IfOk result (λ chains. chains.next.items ≡ self.now.next.items) }
+    {
+        let first = Vec::from_slice(alloc, &self.first)?;
+        let next = Vec::from_slice(alloc, &self.next)?;
+        Ok(Chains { first, next })
+    }
 }
 
 /// The chains of the reaches.

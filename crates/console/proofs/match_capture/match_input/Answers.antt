@@ -25,7 +25,7 @@ returns-clause-shown g c =
 pub returns-clause-part : goal.returns-clause-part
 returns-clause-part g c = λ memory.
     let written = rw c.as_slice.ensures.value at c.in_ok-write_outcomes.ensures.written in (
-      shown_at_once Lines 0 c.run_input.new.outcomes.items,
+      shown_at_once Lines 0 [] c.run_input.new.outcomes.items,
       capture_part _ _ _ _ _ _ _ _ c.in_ok-run_input.ensures.run c.if-not-branch.false c.in_ok-fault.ensures.ends ([], sym (append-nil _)),
       rw (c.write_ending.ensures.part memory) written,
     )

@@ -12,5 +12,6 @@ invariant-loop-turn g l = record {
   open_end : (l.reader.ended ≡ false) × (l.reader.failed ≡ false);
   good : l.writer.failed ≡ false;
   none : l.outcomes.items ≡ [];
+  no_times : l.stamps.items ≡ [];
   empty : string_bytes l.tally.text ≡ [];
 }

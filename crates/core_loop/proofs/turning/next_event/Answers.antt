@@ -8,7 +8,7 @@ use Rattle.core_loop.specs.Choosing.{NoMessageNow}
 use Rattle.core_loop.specs.Outcomes.{OnEvent}
 use Rattle.core_loop.specs.Receipts.{receives}
 use Rattle.core_loop.specs.Turning.{HasWork, HaltsFor}
-use Rattle.core_loop.proofs.Acting.{on_none_map, on_none_both, on_idle_both, on_err_both, on_err_of, either_way, can_begin_has, work_stays}
+use Rattle.core_loop.proofs.Acting.{on_event_map, on_none_map, on_none_both, on_idle_both, on_err_both, on_err_of, either_way, can_begin_has, work_stays}
 use Rattle.core_loop.proofs.Order.{acts_first}
 use Rattle.core_loop.proofs.turning.next_event.Goals as goal
 
@@ -46,6 +46,10 @@ returns-clause-same g c = on_none_both c.first_event.result (λ e f. (e.0, f)) c
 pub returns-clause-seen : goal.returns-clause-seen
 returns-clause-seen g c =
     on_none_map c.first_event.result (prefix_then (jobs_seen c.args.intake.now) (jobs_seen c.has_work.new.intake) (jobs_seen c.first_event.new.intake) c.has_work.ensures.seen) c.first_event.ensures.seen
+
+pub returns-clause-front : goal.returns-clause-front
+returns-clause-front g c =
+    on_event_map c.first_event.result (λ s. prefix_then (jobs_seen c.args.intake.now) (jobs_seen c.has_work.new.intake) (receives s.done.event ++ jobs_seen c.first_event.new.intake) c.has_work.ensures.seen) c.first_event.ensures.front
 
 pub returns-clause-jobs : goal.returns-clause-jobs
 returns-clause-jobs g c =

@@ -3,7 +3,7 @@ use Rattle.rx_queue.specs.Queue.{jobs_seen}
 use Rattle.world_histories.specs.declared.history.Stamped.{Stamped}
 use Rattle.core_loop.specs.Cores.{CoreState}
 use Rattle.core_threads.specs.Gates.{AsksOfFront}
-use Rattle.core_threads.proofs.Gates.{obeyed}
+use Rattle.core_threads.proofs.Gates.{obeyed, takes_asked}
 use Rattle.core_threads.proofs.Turns.{after_turn}
 use Rattle.core_threads.proofs.turning.take_turn.Goals as goal
 
@@ -32,4 +32,6 @@ returns-clause-leave g c =
       asked = subst (λ (n : ℕ). AsksOfFront n (jobs_seen looked.intake) c.may_receive-rx.result c.args.notes.now.asked.items c.may_receive-rx.new.notes.asked.items)
           (ap (λ (x : CoreState g.row.L.Denot). x.number) is) c.may_receive-rx.ensures.asked;
       obeys = obeyed g.L.Links.view c.args.core.now looked c.turn.new.self c.turn.result c.may_receive-rx.result (ap (λ (x : CoreState g.row.L.Denot). x.history) is) c.turn.ensures.did c.turn.ensures.other;
+      takes = takes_asked g.L.Links.view looked.number c.args.notes.now.asked.items c.may_receive-rx.new.notes.asked.items c.args.core.now looked c.turn.new.self c.turn.result c.may_receive-rx.result c.may_receive-rx.ensures.looked.taken
+          c.may_receive-rx.ensures.asked c.turn.ensures.did c.turn.ensures.other;
     }

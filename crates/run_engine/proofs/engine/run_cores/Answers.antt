@@ -1,6 +1,6 @@
 use Rattle.std.proofs.Common.{◌<◌, All, ℕ, length, sym, subst}
 use Rattle.rx_queue.specs.declared.job.Job.{Job}
-use Rattle.run_engine.proofs.Runs.{have_done}
+use Rattle.run_engine.proofs.Runs.{have_done, has_halted}
 use Rattle.run_engine.proofs.Works.{requests_inside, requests_givable, jobs_inside}
 use Rattle.run_engine.proofs.engine.run_cores.Goals as goal
 
@@ -23,4 +23,11 @@ returns-in-None g c = record {
       c.in_ok-ended.ended.halted c.in_ok-requests.ensures.requests c.in_ok-requests.ensures.jobs c.in-None.is c.in-Ok.ensures.machine c.in-Ok.ensures.cores c.in-Ok.ensures.requests c.in_ok-ended.ensures.ended
       c.in_ok-ended.ensures.machine;
   failure = tt;
+}
+
+pub returns-in-Some : goal.returns-in-Some
+returns-in-Some g c = record {
+  done = tt;
+  failure = has_halted c.args.budgets.now c.args.items.items c.in_ok-requests.field-0.requests.items c.in_ok-requests.field-0.jobs.items c.in-Ok.machine.cores c.in_ok-ended.ended.cores.items c.in_ok-ended.ended.left.items
+      c.in_ok-ended.ended.halted c.in-Some.core c.in-Some.why c.in_ok-requests.ensures.requests c.in_ok-requests.ensures.jobs c.in-Some.is c.in-Ok.ensures.machine c.in-Ok.ensures.requests c.in_ok-ended.ensures.ended;
 }

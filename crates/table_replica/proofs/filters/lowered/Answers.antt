@@ -1,7 +1,4 @@
-use Rattle.std.proofs.Common.{◌≡◌, ◌∙◌, ap, arith, length, map, List, ℕ, subst}
-use Rattle.bpf_insn.specs.declared.insn.Insn.{Insn}
-use Rattle.table_replica.specs.declared.filters.Row.{Row}
-use Rattle.table_replica.specs.declared.reaches.Reach.{Reach}
+use Rattle.std.proofs.Common.{◌≡◌, ◌∙◌, ap, length, map, ℕ}
 use Rattle.table_replica.specs.Keeping.{lowered_reach, lowered_row}
 use Rattle.table_replica.proofs.Trimming.{trimming_less}
 use Rattle.table_replica.proofs.filters.lowered.Goals as goal

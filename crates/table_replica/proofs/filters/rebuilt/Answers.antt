@@ -1,5 +1,4 @@
 use Rattle.std.proofs.Common.{◌≡◌, ◌∙◌, ap, sym, subst, map, List}
-use Rattle.endpoint_caps.specs.declared.Cap.{Cap}
 use Rattle.endpoint_caps.specs.Capabilities.{CapTable}
 use Rattle.filter_table.specs.Tables.{instructions_of}
 use Rattle.table_replica.specs.declared.filters.Row.{Row}

@@ -1,4 +1,4 @@
-use Rattle.std.proofs.Common.{◌≡◌, ◌∙◌, arith, ap, get_or, length, Some, slice_get, sym, take_all, map, take, List}
+use Rattle.std.proofs.Common.{◌≡◌, ◌∙◌, arith, ap, get_or, length}
 use Rattle.filter_table.proofs.Lists.{get_some}
 use Rattle.bpf_insn.specs.declared.insn.Insn.{Insn}
 use Rattle.table_replica.specs.declared.filters.Row.{Row}

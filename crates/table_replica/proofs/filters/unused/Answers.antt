@@ -1,10 +1,10 @@
-use Rattle.std.proofs.Common.{◌≡◌, ◌∙◌, ◌<◌, arith, ap, inl, inr, get_or, length, Bool, true, false, Some, slice_get, subst, sym, take, take_all, List, ℕ}
+use Rattle.std.proofs.Common.{◌≡◌, ◌∙◌, arith, ap, inl, inr, get_or, Bool, true, Some, slice_get, subst, sym, take_all, List, ℕ}
 use Rattle.std.proofs.lemmas.Bool.{cases_lt}
 use Rattle.std.proofs.lemmas.Option.{slice_get-get_or}
 use Rattle.filter_table.proofs.Lists.{get_some}
 use Rattle.table_replica.specs.declared.filters.Row.{Row}
 use Rattle.table_replica.specs.Keeping.{IsUnused}
-use Rattle.table_replica.proofs.Trimming.{AreUsed, used_more, used_none}
+use Rattle.table_replica.proofs.Trimming.{used_more, used_none}
 use Rattle.table_replica.proofs.filters.unused.Goals as goal
 
 abbrev no_row : Row

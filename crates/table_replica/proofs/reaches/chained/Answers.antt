@@ -1,4 +1,4 @@
-use Rattle.std.proofs.Common.{◌≡◌, ◌∙◌, ◌<◌, ◌+◌, ◌-◌, arith, ap, get_or, length, List, Some, ℕ, set, sym, subst, refl}
+use Rattle.std.proofs.Common.{◌≡◌, ◌∙◌, ◌+◌, ◌-◌, arith, get_or, length, ℕ, set, sym, subst, refl}
 use Rattle.std.proofs.lemmas.Grind.{get_or_default_zero}
 use Rattle.filter_table.proofs.Lists.{get_some}
 use Rattle.table_replica.specs.declared.reaches.Reach.{Reach}

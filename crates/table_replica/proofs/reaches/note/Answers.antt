@@ -1,6 +1,5 @@
-use Rattle.std.proofs.Common.{◌≡◌, ◌∙◌, ◌<◌, arith, ap, get_or, length, List, ℕ, sym, subst, set}
+use Rattle.std.proofs.Common.{◌∙◌, arith, get_or, ℕ, subst}
 use Rattle.std.proofs.Math.ListN.{length-set}
-use Rattle.bpf_insn.specs.declared.insn.Insn.{Insn}
 use Rattle.filter_group.specs.declared.lockstep.Hit.{Hit}
 use Rattle.filter_table.proofs.Lists.{get_some}
 use Rattle.table_replica.specs.Receiving.{AreVerdictsSoFar}

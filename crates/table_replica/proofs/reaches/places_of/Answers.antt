@@ -1,4 +1,4 @@
-use Rattle.std.proofs.Common.{◌≡◌, ◌<◌, arith, ap, get_or, inl, inr, List, Some, ℕ, slice_get, subst}
+use Rattle.std.proofs.Common.{◌≡◌, arith, ap, get_or, inl, inr, Some, ℕ, slice_get, subst}
 use Rattle.std.proofs.lemmas.Bool.{cases_lt}
 use Rattle.std.proofs.lemmas.Option.{slice_get_within}
 use Rattle.filter_table.proofs.Lists.{get_some}

@@ -2,7 +2,7 @@ use Rattle.std.proofs.Common.{◌≡◌, ◌∙◌, ◌<◌, ◌≤◌, arith, a
 use Rattle.std.proofs.lemmas.Bool.{cases_lt}
 use Rattle.std.proofs.lemmas.Option.{slice_get_within, get_or_from_slice_get}
 use Rattle.filter_table.specs.declared.delivery.Kept.{Kept}
-use Rattle.table_replica.specs.Receiving.{at_endpoint, raised}
+use Rattle.table_replica.specs.Receiving.{at_endpoint}
 use Rattle.table_replica.proofs.Chained.{raised_inserted}
 use Rattle.table_replica.proofs.Receivers.{raised_found}
 use Rattle.table_replica.proofs.reaches.raise_within.Goals as goal

@@ -1,4 +1,4 @@
-use Rattle.std.proofs.Common.{◌≡◌, ◌∙◌, ◌<◌, ◌+◌, arith, ap, get_or, length, List, Some, ℕ, sym, subst, Contains, slice_get}
+use Rattle.std.proofs.Common.{◌<◌, ◌+◌, arith, get_or, length, List, sym, subst}
 use Rattle.bpf_insn.specs.Machine.{Packet}
 use Rattle.filter_table.specs.declared.delivery.Kept.{Kept}
 use Rattle.filter_table.specs.Tables.{IsIncreasing}

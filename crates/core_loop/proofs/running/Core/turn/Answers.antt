@@ -93,9 +93,10 @@ returns-in-Ok-Some-clause-did g c = λ t d is.
     let acts = rw c.in-Ok-Some.field-0-is at c.in-Ok-Some.ensures.acts in
     let requests = rw c.in-Ok-Some.field-0-is at c.in-Ok-Some.ensures.requests in
     let jobs = rw c.in-Ok-Some.field-0-is at c.in-Ok-Some.ensures.jobs in
+    let front = rw c.in-Ok-Some.field-0-is at c.in-Ok-Some.ensures.front in
     let whole = rw c.in-Ok-Some.field-0-is at c.in-Ok-Some.ensures.whole in
     let kept = c.noted-self-inside.ensures in
-    seen_done g.L.Links.view _ _ _ s t (did_is s t _ d is).0 c.self.view_is (record { history = kept; clock = refl; acts = acts; pending = requests; jobs = jobs; unshortened = whole })
+    seen_done g.L.Links.view _ _ _ s t (did_is s t _ d is).0 c.self.view_is (record { history = kept; clock = refl; acts = acts; pending = requests; jobs = jobs; seen = front; unshortened = whole })
 
 pub returns-in-Ok-None-clause-core : goal.returns-in-Ok-None-clause-core
 returns-in-Ok-None-clause-core g c =

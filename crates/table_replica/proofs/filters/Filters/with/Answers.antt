@@ -1,10 +1,9 @@
 use Rattle.std.proofs.Common.{◌+◌, ◌++◌, [], ◌∷◌, ◌∙◌, ℕ, List, ap, sym, subst, length}
-use Rattle.bpf_insn.specs.declared.insn.Insn.{Insn}
 use Rattle.endpoint_caps.specs.Capabilities.{CapTable}
 use Rattle.filter_table.specs.Listed.{FilterTable}
 use Rattle.table_replica.specs.declared.filters.Row.{Row}
 use Rattle.table_replica.specs.declared.reaches.Reach.{Reach}
-use Rattle.table_replica.specs.Keeping.{Keeps, AreReaches}
+use Rattle.table_replica.specs.Keeping.{AreReaches}
 use Rattle.table_replica.specs.Lent.{shown_filter}
 use Rattle.table_replica.proofs.Shared.{shared_after, view_after}
 use Rattle.table_replica.proofs.filters.Filters.with.Goals as goal
