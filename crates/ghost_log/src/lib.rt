@@ -40,6 +40,14 @@ impl<T> Log<T> {
     {
         Log { of: PhantomData }
     }
+
+    /// The list with more items at its end, which a proof names.
+    pub fn with_all(&self) -> Log<T>
+        ghost more: { List T }
+        ensures { result.items ≡ self.now.items ++ more }
+    {
+        Log { of: PhantomData }
+    }
 }
 
 unsafe impl<T: Send> Send for Log<T> {}
