@@ -40,7 +40,8 @@ use Rattle.mk_script.specs.Meanings.{Meaning, Budgets, NamedProgram, NamedPacket
 use Rattle.mk_script.specs.Rows.{before_dot, command_of, event_of}
 use Rattle.mk_script.specs.Scripts.{MeanBehind, Stands, script_of}
 use Rattle.mk_script.specs.Statements.{Statement, Opened, opened, longer, is_skipped, opens_block, is_end, statements_from, statements}
-use Rattle.mk_script.specs.Words.{◌>>=◌, check, word_at, whole_number, below, number_below}
+use Rattle.mk_script.specs.Words.{◌>>=◌, check, whole_number, below, number_below}
+use Rattle.line_words.specs.Words.{word_at}
 use Rattle.mk_script.proofs.RowLemmas.{cores_few}
 use Rattle.mk_script.proofs.WordLemmas.{AllShort, word_short, lines_short}
 

@@ -38,7 +38,8 @@ use Rattle.mk_script.specs.Orders.{rank, Number, Below, AnySize, is_good, number
 use Rattle.mk_script.specs.Rows.{Row, command_by, command_of, event_of, event_rows, is_shaped}
 use Rattle.mk_script.specs.Scripts.{AreFiles}
 use Rattle.mk_script.specs.Statements.{Statement}
-use Rattle.mk_script.specs.Words.{◌>>=◌, check, word_at, below, number_below}
+use Rattle.mk_script.specs.Words.{◌>>=◌, check, below, number_below}
+use Rattle.line_words.specs.Words.{word_at}
 
 -- an outcome's fault is this one; or there is none, and what is there is so
 abbrev Tells : {A : Type 0} → Option ScriptFaultKind → (A → Type 0) → Result A ScriptFaultKind → Type 0

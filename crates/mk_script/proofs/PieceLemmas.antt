@@ -12,7 +12,7 @@ use Rattle.mk_script.specs.declared.lines.Block.{Block}
 use Rattle.mk_script.specs.declared.lines.Piece.{Piece}
 use Rattle.mk_script.specs.Statements.{opened, is_skipped, is_mark, opens_block, plain, statements_from}
 use Rattle.mk_script.specs.Pieces.{BlockIs, PieceIs}
-use Rattle.mk_script.specs.Views.{texts}
+use Rattle.line_words.specs.Words.{texts}
 use Rattle.mk_script.proofs.BlockLemmas.{is_lf, shorter_rest}
 
 -- the line of `asm` isn't skipped

@@ -15,7 +15,7 @@ use Rattle.mk_script.specs.Pieces.{PieceIs, statement_of}
 use Rattle.mk_script.specs.Reading.{Advances}
 use Rattle.mk_script.specs.Scripts.{MeanBehind, fault_at}
 use Rattle.mk_script.specs.Statements.{Statement, is_skipped, statements, statements_from}
-use Rattle.mk_script.specs.Views.{texts}
+use Rattle.line_words.specs.Words.{texts}
 
 pub known_same : (r : Reading) (given : List Meaning) → Knows r given → known_of r ≡ known given
 known_same r given knows = λ i. record {

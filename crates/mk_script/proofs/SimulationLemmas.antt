@@ -23,7 +23,8 @@ use Rattle.mk_script.specs.Rows.{Row, rows, command_of, command_by, is_shaped, r
 use Rattle.mk_script.specs.Scripts.{MeanBehind, Stands, script_of}
 use Rattle.mk_script.specs.Statements.{Statement, statements, Opened, opened, longer, ended, plain, is_skipped, opens_block, is_end, statements_from}
 use Rattle.mk_script.specs.Threads.{for_threads, for_simulation}
-use Rattle.mk_script.specs.Words.{check, word_at, below, number_below}
+use Rattle.mk_script.specs.Words.{check, below, number_below}
+use Rattle.line_words.specs.Words.{word_at}
 use Rattle.mk_script.proofs.LimitLemmas.{bound, same_ok, some_ok, passed}
 use Rattle.mk_script.proofs.ThreadLemmas.{ReadForThreads, nothing_read_yet, statement_suited, jobs_counted}
 

@@ -26,7 +26,8 @@ use Rattle.mk_script.specs.Rows.{Row, rows, command_by, command_of, is_shaped}
 use Rattle.mk_script.specs.Scripts.{MeanBehind, Stands, script_of}
 use Rattle.mk_script.specs.Statements.{Statement, statements}
 use Rattle.mk_script.specs.Threads.{IsForThreads, received_in, received, AreNumbered, IsScriptForThreads}
-use Rattle.mk_script.specs.Words.{check, word_at, whole_number, number_below}
+use Rattle.mk_script.specs.Words.{check, whole_number, number_below}
+use Rattle.line_words.specs.Words.{word_at}
 use Rattle.mk_script.proofs.LimitLemmas.{bound, same_ok, some_ok, passed, each_append, numbers_length, no_budgets, some_budgets, below_is, EntersIn, Kept, kept_meanings}
 use Rattle.mk_script.proofs.RowLemmas.{cores_few}
 

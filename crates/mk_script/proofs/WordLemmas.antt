@@ -6,7 +6,7 @@ use Rattle.std.proofs.lemmas.Bool.{cases_Bool}
 use Rattle.std.proofs.lemmas.List.Splits.{slice_split-cons_yes, slice_split-cons_no}
 use Rattle.bpf_insn.specs.Texts.{is_blank, words_of}
 use Rattle.filter_asm.specs.Program.{ended, text_lines}
-use Rattle.mk_script.specs.Words.{word_at}
+use Rattle.line_words.specs.Words.{word_at}
 
 abbrev pub AllShort : ℕ → List (List ℕ) → Type 0
 AllShort n [] = Unit {0}

@@ -24,7 +24,8 @@ use Rattle.mk_script.specs.declared.rows.Request.TheVariants as request
 use Rattle.mk_script.specs.declared.fault.BodyFault.TheVariants.{Hex}
 use Rattle.mk_script.specs.declared.fault.ScriptFaultKind.{ScriptFaultKind}
 use Rattle.mk_script.specs.declared.fault.ScriptFaultKind.TheVariants.{BadLine, NoCores, Twice, NoName, BadBody}
-use Rattle.mk_script.specs.Words.{◌>>=◌, check, word_at, whole_number, number_below}
+use Rattle.mk_script.specs.Words.{◌>>=◌, check, whole_number, number_below}
+use Rattle.line_words.specs.Words.{word_at}
 use Rattle.mk_script.specs.Rows.{command_of, event_of, before_dot}
 use Rattle.mk_script.specs.Statements.{Statement}
 use Rattle.mk_script.specs.Meanings.{Meaning, Budgets, NamedPacket, Home, Does, Receives, Trace, Nothing, Known, Jobs, Counted, Named}

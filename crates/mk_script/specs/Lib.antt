@@ -5,7 +5,6 @@ pub mod Meanings
 pub mod Drafts
 pub mod Bodies
 pub mod Scripts
-pub mod Views
 pub mod Names
 pub mod RowViews
 pub mod Pieces

@@ -21,7 +21,8 @@ use Rattle.mk_script.specs.declared.rows.Command.{Command}
 use Rattle.mk_script.specs.declared.rows.Command.TheVariants as command
 use Rattle.mk_script.specs.declared.rows.Request.{Request}
 use Rattle.mk_script.specs.declared.rows.Request.TheVariants as request
-use Rattle.mk_script.specs.Words.{word_at, below}
+use Rattle.mk_script.specs.Words.{below}
+use Rattle.line_words.specs.Words.{word_at}
 use Rattle.mk_script.specs.Rows.{command_of, event_of}
 use Rattle.mk_script.specs.Statements.{Statement}
 use Rattle.mk_script.specs.Meanings.{Meaning, Known, Jobs, Counted, Named}

@@ -6,7 +6,7 @@ use Rattle.filter_asm.specs.Program.{text_lines}
 use Rattle.mk_script.specs.declared.lines.Block.{Block}
 use Rattle.mk_script.specs.declared.lines.Piece.{Piece}
 use Rattle.mk_script.specs.Statements.{Statement, Opened, opened, ended, unended, is_skipped, statements_from}
-use Rattle.mk_script.specs.Views.{texts}
+use Rattle.line_words.specs.Words.{texts}
 
 -- an `asm` line with this block so far
 abbrev pub grown : ℕ → List ℕ → List ℕ → Opened

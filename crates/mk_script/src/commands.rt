@@ -4,14 +4,14 @@ ghost use Rattle.std.specs.Prelude.{◌≡◌, ◌<◌, ◌==◌, Result, Ok, Er
 ghost use Rattle.mk_script.specs.declared.rows.Request.TheVariants as asked;
 ghost use Rattle.mk_script.specs.Drafts as spec;
 ghost use Rattle.mk_script.specs.DraftViews.{Answered, known_of, identity};
-ghost use Rattle.mk_script.specs.Views.{texts};
+ghost use Rattle.line_words.specs.Words.{texts};
 ghost use Rattle.mk_script.specs.Words.{check};
 
 use crate::fault::ScriptFaultKind;
 use crate::number::{number16, number32};
 use crate::reading::Reading;
 use crate::rows::Request;
-use crate::words::word_at;
+use line_words::word_at;
 use endpoint_caps::Rights;
 use filter_table::{Op, Program};
 

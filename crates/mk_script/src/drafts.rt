@@ -9,7 +9,7 @@ ghost use Rattle.mk_script.specs.declared.reading.Reading.{Reading};
 ghost use Rattle.mk_script.specs.declared.script.Item.TheVariants as done;
 ghost use Rattle.mk_script.specs.declared.rows.Command.{Command};
 ghost use Rattle.mk_script.specs.DraftViews.{Answered, draft_of, known_of, settings_of};
-ghost use Rattle.mk_script.specs.Views.{texts};
+ghost use Rattle.line_words.specs.Words.{texts};
 ghost use Rattle.mk_script.specs.Words as words_spec;
 ghost use Rattle.mk_script.specs.declared.fault.ScriptFaultKind.TheVariants.{NoMemory};
 
@@ -21,7 +21,8 @@ use crate::reading::Reading;
 use crate::rows::{Command, Request, command_of};
 use crate::script::Item;
 use crate::settings::Settings;
-use crate::words::{behind_word, cut, word_at};
+use crate::words::behind_word;
+use line_words::{cut, word_at};
 use pcap_reader::SharedPacket;
 use seq::Shared;
 use std::alloc::Global;

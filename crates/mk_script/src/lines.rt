@@ -5,9 +5,10 @@ ghost use Rattle.std.specs.List.{before_first, after_first};
 ghost use Rattle.bpf_insn.specs.Texts.{words_of};
 ghost use Rattle.mk_script.specs.Pieces.{BlockIs, PieceIs};
 ghost use Rattle.mk_script.specs.Statements as spec;
-ghost use Rattle.mk_script.specs.Views.{texts};
+ghost use Rattle.line_words.specs.Words.{texts};
 
-use crate::words::{blanks, cut, word_len, words};
+use crate::words::{blanks, word_len};
+use line_words::{cut, words};
 use std::alloc::{AllocError, Global};
 
 /// The first line, and what stands after its LF.

@@ -15,7 +15,7 @@ ghost use Rattle.mk_script.specs.Reading.{Advances, Reads, Refuses};
 ghost use Rattle.mk_script.specs.Scripts.{AreFiles, MeanBehind, OneOutcome, SomeOutcome, Stands, fault_at, settings};
 ghost use Rattle.mk_script.specs.Statements.{statements_from};
 ghost use Rattle.mk_script.specs.Threads.{IsScriptForThreads};
-ghost use Rattle.mk_script.specs.Views.{texts};
+ghost use Rattle.line_words.specs.Words.{texts};
 ghost use Rattle.mk_script.specs.declared.fault.ScriptFault.{ScriptFault};
 ghost use Rattle.mk_script.specs.declared.script.Script.{Script};
 ghost use Rattle.mk_script.specs.declared.fault.ScriptFaultKind.TheVariants.{NoMemory};

@@ -5,9 +5,10 @@ ghost use Rattle.std.specs.List.{find};
 ghost use Rattle.std.specs.Str.{bytes_eq};
 ghost use Rattle.mk_script.specs.Rows as spec;
 ghost use Rattle.mk_script.specs.RowViews.{row_of};
-ghost use Rattle.mk_script.specs.Views.{texts};
+ghost use Rattle.line_words.specs.Words.{texts};
 
-use crate::words::{find, is_name};
+use crate::words::is_name;
+use line_words::find;
 
 /// What stands at a place of a line.
 #[derive(Clone, Copy)]

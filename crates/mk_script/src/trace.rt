@@ -6,7 +6,7 @@ ghost use Rattle.mk_script.specs.Drafts as spec;
 ghost use Rattle.mk_script.specs.Changes.{DraftFollows};
 ghost use Rattle.mk_script.specs.declared.reading.Reading.{Reading};
 ghost use Rattle.mk_script.specs.DraftViews.{Answered, draft_of};
-ghost use Rattle.mk_script.specs.Views.{texts};
+ghost use Rattle.line_words.specs.Words.{texts};
 
 use crate::drafts::{act, counted, start_for, submit, take};
 use crate::fault::ScriptFaultKind;
@@ -14,7 +14,7 @@ use crate::meaning::{Draft, Meaning};
 use crate::number::{number, number16, number64};
 use crate::rows::{Command, event_of};
 use crate::script::Item;
-use crate::words::{cut, word_at, words as words_of};
+use line_words::{cut, word_at, words as words_of};
 use std::alloc::Global;
 use world_events::Event;
 

@@ -1,5 +1,5 @@
 -- What a turn's answer says of the turn.
-use Rattle.std.proofs.Common.{◌≡◌, ◌++◌, ℕ, Option, None, Some, refl, arith}
+use Rattle.std.proofs.Common.{◌≡◌, ◌++◌, ◌∙◌, [], ℕ, Option, None, Some, refl, sym, ap, arith}
 use Rattle.std.specs.Prelude.{◌≢◌, IsSome, option_to_list, false}
 use Rattle.filter_table.specs.declared.decision.Decision.{Decision}
 use Rattle.core_links.specs.RingSlots.{SameLinks, ring_view}
@@ -11,7 +11,8 @@ use Rattle.core_loop.specs.Answering.{AreDecided, decisions}
 use Rattle.core_loop.specs.Beginning.{CanBeginNext}
 use Rattle.core_loop.specs.Choosing.{NoMessageNow}
 use Rattle.core_loop.specs.Cores.{SameCore, DidOne, NothingDone, begun}
-use Rattle.core_loop.specs.Turning.{IsSpent, HasWork}
+use Rattle.core_loop.specs.Receipts.{receives}
+use Rattle.core_loop.specs.Turning.{IsSpent, HasWork, LacksMemory, StopsFirst}
 use Rattle.core_join.specs.Machines.{RingCore}
 use Rattle.mkdemux_cores.specs.declared.answers.TheConstants.{DONE, NO_MEMORY, STOPPED, SPENT, IDLE}
 use Rattle.mkdemux_cores.specs.declared.turned.Turned.{Turned}
@@ -38,17 +39,21 @@ pub record Says (turn : Turn) (old new : RingCore) : Type 0 where
   pub decided : AreDecided new.part new.history
   pub did : (s : Stamped) (d : Option Decision) → turn ≡ Did s d → DidOne ring_view old new s
   pub decision : (s : Stamped) (d : Option Decision) → turn ≡ Did s d → decisions new.history ≡ decisions old.history ++ option_to_list d
+  pub leave : (s : Stamped) (d : Option Decision) → turn ≡ Did s d → receives s.done.event ≡ []
   pub other : ((s : Stamped) (d : Option Decision) → turn ≢ Did s d) → NothingDone ring_view old new
+  pub stays : (cause : Cause) → old.stopped ≡ Some cause → (turn ≡ Stopped cause) × (new ≡ old)
   pub stopped : (cause : Cause) → turn ≡ Stopped cause → new.stopped ≡ Some cause
+  pub cause : (cause : Cause) → old.stopped ≡ None → turn ≡ Stopped cause → StopsFirst old.cores old.clock old.part (ring_view new.links) cause
   pub running : ((cause : Cause) → turn ≢ Stopped cause) → (old.stopped ≡ None) × (new.stopped ≡ None)
   pub spent : turn ≡ Spent → IsSpent old.cores old.clock old.part old.pending (ring_view new.links) false new.intake
+  pub lacks : turn ≡ NoMemory → LacksMemory old.cores old.clock old.part old.pending (ring_view new.links) false new.intake
   pub no_memory : turn ≡ NoMemory → HasWork old.cores old.part old.pending (ring_view new.links) false new.intake
   pub idle_message : turn ≡ Idle → NoMessageNow new.cores new.part (ring_view new.links)
   pub idle : turn ≡ Idle → CanBeginNext new.cores new.part new.pending (ring_view new.links) → ⊥
 
 module _ (old new : RingCore) where
   done : (turn : Turn) → Says turn old new → turn_answer turn ≡ DONE → HasDone (turn_report turn) old new
-  done (Did s d) says e = record { event = s; decision = d; did = says.did s d refl; decisions_are = says.decision s d refl; told = refl }
+  done (Did s d) says e = record { event = s; decision = d; did = says.did s d refl; decisions_are = says.decision s d refl; receives_none = says.leave s d refl; told = refl }
   done Idle says e = absurd (omega (arith, e))
   done (Stopped cause) says e = absurd (omega (arith, e))
   done Spent says e = absurd (omega (arith, e))
@@ -78,6 +83,24 @@ module _ (old new : RingCore) where
   stopped Idle says e = absurd (omega (arith, e))
   stopped Spent says e = absurd (omega (arith, e))
   stopped NoMemory says e = absurd (omega (arith, e))
+
+  stays : (turn : Turn) → Says turn old new → IsSome old.stopped → (turn_answer turn ≡ STOPPED) × (new ≡ old)
+  stays turn says some = of_cause old.stopped refl some
+    where
+      of_cause : (o : Option Cause) → old.stopped ≡ o → IsSome o → (turn_answer turn ≡ STOPPED) × (new ≡ old)
+      of_cause (Some cause) is there = let same = says.stays cause is in (ap turn_answer same.0, same.1)
+      of_cause None is there = absurd cc
+
+  why_stopped : (turn : Turn) → Says turn old new → (cause : Cause) → turn_answer turn ≡ STOPPED → old.stopped ≡ None → new.stopped ≡ Some cause
+      → StopsFirst old.cores old.clock old.part (ring_view new.links) cause
+  why_stopped (Stopped cause') says cause e none is = says.cause cause none (ap Stopped (inj (sym (says.stopped cause' refl) ∙ is)))
+    where
+      inj : {a b : Cause} → Some a ≡ Some b → a ≡ b
+      inj e = cc
+  why_stopped (Did s d) says cause e none is = absurd (omega (arith, e))
+  why_stopped Idle says cause e none is = absurd (omega (arith, e))
+  why_stopped Spent says cause e none is = absurd (omega (arith, e))
+  why_stopped NoMemory says cause e none is = absurd (omega (arith, e))
 
   not_stopped : (turn : Turn) → (turn_answer turn ≢ STOPPED) → (cause : Cause) → turn ≢ Stopped cause
   not_stopped (Stopped cause) differs cause' e = differs refl
@@ -116,9 +139,12 @@ module _ (old new : RingCore) where
     nothing_done = λ differs. says.other (not_did turn differs);
     nothing_told = nothing_told turn;
     stopped = stopped turn says;
+    stays = stays turn says;
+    why_stopped = why_stopped turn says;
     running = λ differs. says.running (not_stopped turn differs);
     idle = λ e. says.idle_message (is_idle turn e);
     asks_nothing = λ e. says.idle (is_idle turn e);
     spent = λ e. says.spent (is_spent turn e);
+    lacks = λ e. says.lacks (lacks_memory turn e);
     no_memory = λ e. says.no_memory (lacks_memory turn e);
   }

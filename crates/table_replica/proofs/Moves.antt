@@ -73,7 +73,7 @@ distinct_push programs program distinct fresh i j p at at' = both (split program
 pub placed_more : (rows : List Row) (programs : List (List Insn)) (program : List Insn) → ArePlaced rows (length programs) → ArePlaced rows (length (programs ++ program ∷ []))
 placed_more rows programs program placed k row at = omega (arith, placed k row at, length-append programs (program ∷ []))
 
--- The rows that are left, or replaced, as lists of their own
+-- The rows that are left, as a list of their own
 
 pub shows_ok : {E : Type 0} (r : Result FilterTable E) (caps : CapTable) (xs ys : List ListedFilter) → xs ≡ ys → IfOk r (λ fs. fs ≡ record { listed = xs; under = caps }) → IfOk r (λ fs. fs ≡ record { listed = ys; under = caps })
 shows_ok r caps xs ys e h = IfOk-weaker r (λ fs. fs ≡ record { listed = xs; under = caps }) (λ fs. fs ≡ record { listed = ys; under = caps }) (λ fs is. is ∙ ap (λ (l : List ListedFilter). record { listed = l; under = caps }) e) h
@@ -90,25 +90,34 @@ module _ (rows : List Row) (programs : List (List Insn)) (total : ℕ) (shared :
     pub without_fits : instructions_of (map (listed_row programs2) rows2) ≤ instructions_of (map (listed_row programs) rows)
     without_fits = let same = ap instructions_of without_shows in let less = sum_filter (λ f. not (f.id == id)) (map (listed_row programs) rows) in omega arith
 
-  module _ (program : List Insn) (place : ℕ) (rows_are : rows2 ≡ map (placed_row id place) rows) where
-    pub known_placed : slice_get programs place ≡ Some program → ArePlaced rows2 (length programs2)
-    known_placed at = subst (λ (ps : List (List Insn)). ArePlaced rows2 (length ps)) (sym programs_are)
-        (subst (λ (rs : List Row). ArePlaced rs (length programs)) (sym rows_are) (replaced_placed rows (length programs) id place (within programs place program at) shared.placed))
+-- The programs with the one that is kept, and the rows of a filter that get it
 
-    pub known_shows : slice_get programs place ≡ Some program → map (listed_row programs2) rows2 ≡ replaced (map (listed_row programs) rows) id program
-    known_shows at = ap (λ (ps : List (List Insn)). map (listed_row ps) rows2) programs_are
-        ∙ (ap (map (listed_row programs)) rows_are ∙ replaced_shows programs programs rows id place program shared.placed (λ k p here. here) at)
+kept_long : (programs after : List (List Insn)) (program : List Insn) (place : ℕ) → Keeps programs program after place → (place < length after) × (length programs ≤ length after)
+kept_long programs after program place (there same at) = let long = ap length same in let low = within programs place program at in (omega (arith, long, low), omega (arith, long))
+kept_long programs after program place (added same is fresh) = let long = ap length same ∙ length-append programs (program ∷ []) in (omega (arith, long, is), omega (arith, long))
 
-    pub new_distinct : (IsIn programs program → ⊥) → AreDistinct (programs2 ++ program ∷ [])
-    new_distinct fresh = subst (λ (ps : List (List Insn)). AreDistinct (ps ++ program ∷ [])) (sym programs_are) (distinct_push programs program shared.distinct fresh)
+kept_front : (programs after : List (List Insn)) (program : List Insn) (place : ℕ) → Keeps programs program after place
+    → (k : ℕ) (p : List Insn) → slice_get programs k ≡ Some p → slice_get after k ≡ Some p
+kept_front programs after program place (there same at) k p here = ap (λ (ps : List (List Insn)). slice_get ps k) same ∙ here
+kept_front programs after program place (added same is fresh) k p here = ap (λ (ps : List (List Insn)). slice_get ps k) same ∙ get_front programs (program ∷ []) k p here
 
-    pub new_placed : place ≡ length programs → ArePlaced rows2 (length (programs2 ++ program ∷ []))
-    new_placed is = subst (λ (ps : List (List Insn)). ArePlaced rows2 (length (ps ++ program ∷ []))) (sym programs_are)
-        (subst (λ (rs : List Row). ArePlaced rs (length (programs ++ program ∷ []))) (sym rows_are)
-        (replaced_placed rows (length (programs ++ program ∷ [])) id place (omega (arith, is, length-append programs (program ∷ []))) (placed_more rows programs program shared.placed)))
+kept_at : (programs after : List (List Insn)) (program : List Insn) (place : ℕ) → Keeps programs program after place → slice_get after place ≡ Some program
+kept_at programs after program place (there same at) = ap (λ (ps : List (List Insn)). slice_get ps place) same ∙ at
+kept_at programs after program place (added same is fresh) = ap (λ (ps : List (List Insn)). slice_get ps place) same ∙ (ap (slice_get (programs ++ program ∷ [])) is ∙ last programs program)
 
-    pub new_shows : place ≡ length programs → map (listed_row (programs2 ++ program ∷ [])) rows2 ≡ replaced (map (listed_row programs) rows) id program
-    new_shows is = ap (λ (ps : List (List Insn)). map (listed_row (ps ++ program ∷ [])) rows2) programs_are
-        ∙ (ap (map (listed_row (programs ++ program ∷ []))) rows_are
-        ∙ replaced_shows programs (programs ++ program ∷ []) rows id place program shared.placed (λ k p here. get_front programs (program ∷ []) k p here)
-        (ap (slice_get (programs ++ program ∷ [])) is ∙ last programs program))
+pub kept_distinct : (programs after : List (List Insn)) (program : List Insn) (place : ℕ) → AreDistinct programs → Keeps programs program after place → AreDistinct after
+kept_distinct programs after program place distinct (there same at) = subst AreDistinct (sym same) distinct
+kept_distinct programs after program place distinct (added same is fresh) = subst AreDistinct (sym same) (distinct_push programs program distinct fresh)
+
+pub kept_placed : (programs after : List (List Insn)) (program : List Insn) (rows after_rows : List Row) (id place : ℕ) → ArePlaced rows (length programs) → Keeps programs program after place
+    → after_rows ≡ map (placed_row id place) rows → ArePlaced after_rows (length after)
+kept_placed programs after program rows after_rows id place placed keeps are =
+    let long = kept_long programs after program place keeps in
+    subst (λ (rs : List Row). ArePlaced rs (length after)) (sym are)
+    (replaced_placed rows (length after) id place long.0 (λ k row at. let low = placed k row at in omega (arith, low, long.1)))
+
+pub kept_shows : (programs after : List (List Insn)) (program : List Insn) (rows after_rows : List Row) (id place : ℕ) → ArePlaced rows (length programs) → Keeps programs program after place
+    → after_rows ≡ map (placed_row id place) rows → map (listed_row after) after_rows ≡ replaced (map (listed_row programs) rows) id program
+kept_shows programs after program rows after_rows id place placed keeps are =
+    ap (map (listed_row after)) are
+    ∙ replaced_shows programs after rows id place program placed (kept_front programs after program place keeps) (kept_at programs after program place keeps)

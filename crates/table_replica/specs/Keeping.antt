@@ -76,11 +76,6 @@ AreFewer old new = (id : ℕ) → (cap_at new id ≡ None) ⊎ (cap_at new id �
 
 -- Rows whose programs get other places
 
--- the programs, and one more if there is one
-abbrev pub sources : List (List Insn) → Option (List Insn) → List (List Insn)
-sources programs None = programs
-sources programs (Some new) = programs ++ new ∷ []
-
 -- the row of this filter gets the program at another place
 abbrev pub placed_row : ℕ → ℕ → Row → Row
 placed_row id place row = cond (row.id == id) (record row { program = place }) row

@@ -2,11 +2,10 @@
 ghost use Rattle.std.specs.Prelude.{◌≡◌, ◌==◌, ◌+◌, ◌<◌, ◌≤◌, ◌++◌, [], ◌∷◌, length, filter, not, Some, slice_get, IfOk};
 ghost use Rattle.table_replica.specs.Chains.{AreChained};
 ghost use Rattle.table_replica.specs.Distinct.{AreDistinct};
-ghost use Rattle.table_replica.specs.Keeping.{Keeps, ArePlaced, AreReaches, AreHeldAlike, AreFewer, IsTrimming, IsUnused, lowered_row, sources, placed_row};
+ghost use Rattle.table_replica.specs.Keeping.{Keeps, ArePlaced, AreReaches, AreHeldAlike, AreFewer, IsTrimming, IsUnused, lowered_row, placed_row};
 ghost use Rattle.std.specs.Prelude.{List, MatchOption, ℕ};
 ghost use Rattle.endpoint_caps.specs.declared.Cap.{Cap};
 ghost use Rattle.filter_table.specs.Listed.{ListedFilter};
-ghost use Rattle.std.specs.Option.{option_copied};
 ghost use Rattle.table_replica.specs.declared.filters.Row.{Row as GhostRow};
 ghost use Rattle.table_replica.specs.Lent.{shown_filter, IsIn, AreDifferent};
 ghost use Rattle.filter_table.specs.Tables.{instructions_of, replaced, filter_at};
@@ -318,10 +317,16 @@ impl Filters {
         requires { caps.now ≡ self.now.under }
         ensures { IfOk result (λ filters. filters ≡ record { listed = filter (λ f. not (f.id == id)) self.now.listed; under = caps.now }) }
     {
-        let _total = self.instructions();
+        let left = self.instructions - instructions_with(&self.rows, &self.programs, id);
         let rows = rows_without(alloc, &self.rows, id)?;
         let reaches = reaches_without(alloc, &self.reaches, caps, &self.rows, id)?;
-        rebuilt(alloc, caps, &rows, &reaches, &self.programs, None)
+        let programs = self.programs.copy(alloc)?;
+        let all = Trimming {
+            rows,
+            programs,
+            reaches,
+        };
+        rebuilt(alloc, caps, all, left)
     }
 
     /// These filters, the program of one replaced.
@@ -336,19 +341,16 @@ impl Filters {
         requires fits { instructions_of (replaced self.now.listed id program.now) < 4294967296 }
         ensures { IfOk result (λ filters. filters ≡ record { listed = replaced self.now.listed id program.now; under = caps.now }) }
     {
-        let program = Shared::new(alloc, program.clone()?)?;
         let mut reaches = reaches_without(alloc, &self.reaches, caps, &self.rows, id)?;
-        match self.programs.place_of(&program) {
-            Some(place) => {
-                let rows = rows_with(alloc, caps, &self.rows, &mut reaches, id, place)?;
-                rebuilt(alloc, caps, &rows, &reaches, &self.programs, None)
-            }
-            None => {
-                let place = self.programs.len();
-                let rows = rows_with(alloc, caps, &self.rows, &mut reaches, id, place)?;
-                rebuilt(alloc, caps, &rows, &reaches, &self.programs, Some(&program))
-            }
-        }
+        let (programs, place) = keeping(alloc, &self.programs, program)?;
+        let rows = rows_with(alloc, caps, &self.rows, &mut reaches, id, place)?;
+        let instructions = total_of(&rows, &programs);
+        let all = Trimming {
+            rows,
+            programs,
+            reaches,
+        };
+        rebuilt(alloc, caps, all, instructions)
     }
 }
 
@@ -446,7 +448,7 @@ fn rows_with(
     Ok(after)
 }
 
-/// What is left of filters while programs that no row has are taken out.
+/// Rows with their programs and reaches, while programs that no row has are taken out.
 #[derive(Drop)]
 struct Trimming {
     rows: Vec<Row>,
@@ -454,35 +456,20 @@ struct Trimming {
     reaches: Vec<Reach>,
 }
 
-/// The filters of these rows, whose programs have places among `programs` and, after them, `new`. A program that no row has
-/// is left out.
+/// The filters that are left once each program that no row has is taken out, of so many instructions.
 fn rebuilt(
     alloc: Global,
     caps: &Caps,
-    rows: &[Row],
-    reaches: &[Reach],
-    programs: &Programs,
-    new: Option<&Shared>,
+    all: Trimming,
+    instructions: u32,
 ) -> Result<Filters, AllocError>
-    requires distinct { AreDistinct (sources programs.now (option_copied new)) }
-    requires placed { ArePlaced rows.now (length (sources programs.now (option_copied new))) }
-    requires fits { instructions_of (map (listed_row (sources programs.now (option_copied new))) rows.now) < 4294967296 }
-    requires reached { AreReaches caps.now.held rows.now reaches.now }
-    ensures { IfOk result (λ filters. filters ≡ record { listed = map (listed_row (sources programs.now (option_copied new.entry))) rows.now; under = caps.now }) }
+    requires distinct { AreDistinct all.programs }
+    requires placed { ArePlaced all.rows.items (length all.programs) }
+    requires reached { AreReaches caps.now.held all.rows.items all.reaches.items }
+    requires total { instructions ≡ instructions_of (map (listed_row all.programs) all.rows.items) }
+    ensures { IfOk result (λ filters. filters ≡ record { listed = map (listed_row all.programs) all.rows.items; under = caps.now }) }
 {
-    let programs = with_source(alloc, programs, new)?;
-    let instructions = total_of(rows, &programs);
-    let rows = Vec::from_slice(alloc, rows)?;
-    let reaches = Vec::from_slice(alloc, reaches)?;
-    let left = trimmed(
-        alloc,
-        caps,
-        Trimming {
-            rows,
-            programs,
-            reaches,
-        },
-    )?;
+    let left = trimmed(alloc, caps, all)?;
     let chains = chained(alloc, &left.reaches)?;
     Ok(Filters {
         rows: left.rows,
@@ -494,18 +481,20 @@ fn rebuilt(
     })
 }
 
-/// The programs, and one more if there is one.
-fn with_source(
-    alloc: Global,
-    programs: &Programs,
-    new: Option<&Shared>,
-) -> Result<Programs, AllocError>
-    ensures { IfOk result (λ all. all ≡ sources programs.now (option_copied new.entry)) }
+/// The instructions of the rows of one filter.
+fn instructions_with(rows: &[Row], programs: &Programs, id: u32) -> u32
+    requires placed { ArePlaced rows.now (length programs.now) }
+    requires fits { instructions_of (map (listed_row programs.now) rows.now) < 4294967296 }
+    ensures { result + instructions_of (filter (λ f. not (f.id == id)) (map (listed_row programs.now) rows.now)) ≡ instructions_of (map (listed_row programs.now) rows.now) }
 {
-    match new {
-        None => programs.copy(alloc),
-        Some(program) => programs.with(alloc, program),
+    let mut total = 0;
+    for row in rows {
+        if row.id == id {
+            let code = programs.at(row.program).verified().code();
+            total += code.len() as u32;
+        }
     }
+    total
 }
 
 /// The instructions of all rows.

@@ -8,7 +8,8 @@ use Rattle.trace_lines.specs.declared.event.Act.TheVariants as act
 use Rattle.trace_lines.specs.declared.event.Told.{Told}
 use Rattle.trace_lines.specs.declared.event.Told.TheVariants as told
 use Rattle.trace_lines.specs.declared.event.Event.{Event}
-use Rattle.trace_lines.specs.Words.{word_at, is_number, says, says_number, is_plain, is_no, is_other}
+use Rattle.trace_lines.specs.Words.{is_number, says, says_number, is_plain, is_no, is_other}
+use Rattle.line_words.specs.Words.{word_at}
 
 -- one of the eight cores that a machine may have
 abbrev pub core_of : List ℕ → Option ℕ

@@ -1,15 +1,10 @@
--- What contracts see of lines and words that are borrowed.
-use denote.Ref.{Bor}
-use Rattle.std.specs.Prelude.{ℕ, List, map}
+-- What contracts see of lines that are borrowed.
 use Rattle.trace_lines.specs.declared.lines.Line.{Line}
 use Rattle.trace_lines.specs.declared.lines.Read.{Read}
 use Rattle.trace_lines.specs.declared.lines.Read.TheVariants as read
 use Rattle.trace_lines.specs.declared.picture.Row.{Row}
 use Rattle.trace_lines.specs.Links.{Drawn}
 use Rattle.trace_lines.specs.Lines.{Shown, Said, Skipped, Bad, Done}
-
-abbrev pub texts : List (Bor (List ℕ)) → List (List ℕ)
-texts words = map (λ w. w.now) words
 
 abbrev pub shown : Line → Shown
 shown l = record { event = l.event; no = l.no; version = l.version.now; text = l.text.now }

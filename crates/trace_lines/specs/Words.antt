@@ -1,12 +1,9 @@
--- The words of a line.
-use Rattle.std.specs.Prelude.{ℕ, ◌==◌, ◌&&◌, ◌||◌, nat_lt, Bool, List, [], length, slice_get, unwrap_or, codes}
+-- What the words of a line say.
+use Rattle.std.specs.Prelude.{ℕ, ◌==◌, ◌&&◌, ◌||◌, nat_lt, Bool, List, [], length, codes}
 use Rattle.std.specs.List.{list_all}
 use Rattle.std.specs.Char.{is_ascii_alphanumeric, is_ascii_digit}
 use Rattle.std.specs.Str.{bytes_eq}
-
--- the word at a place, or no bytes where there is none
-abbrev pub word_at : List (List ℕ) → ℕ → List ℕ
-word_at words place = unwrap_or (slice_get words place) []
+use Rattle.line_words.specs.Words.{word_at}
 
 -- one decimal digit or more
 abbrev pub is_number : List ℕ → Bool

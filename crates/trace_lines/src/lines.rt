@@ -2,10 +2,12 @@
 
 ghost use Rattle.std.specs.Prelude.{◌≡◌, IfOk};
 ghost use Rattle.trace_lines.specs.Lines as spec;
-ghost use Rattle.trace_lines.specs.Views.{said, texts};
+ghost use Rattle.trace_lines.specs.Views.{said};
+ghost use Rattle.line_words.specs.Words.{texts};
 
 use crate::event::{Act, Event, Told};
-use crate::words::{cut, is_number, is_other, is_plain, say_no, says, says_number, word_at, words};
+use crate::words::{is_number, is_other, is_plain, say_no, says, says_number};
+use line_words::{cut, word_at, words};
 use std::alloc::{AllocError, Global};
 
 /// An event that is drawn.

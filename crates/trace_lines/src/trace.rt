@@ -3,7 +3,8 @@
 ghost use Rattle.std.specs.Prelude.{◌≡◌, ◌<◌, ◌^◌, ◌==◌, ℕ, map, length, Ok, Err, IfOk, IfErr, MatchResult};
 ghost use Rattle.std.specs.List.{slice_split};
 ghost use Rattle.trace_lines.specs.Traces.{outcome, said_in, trace_of};
-ghost use Rattle.trace_lines.specs.Views.{shown, texts};
+ghost use Rattle.trace_lines.specs.Views.{shown};
+ghost use Rattle.line_words.specs.Words.{texts};
 ghost use Rattle.trace_lines.specs.declared.trace.TraceFault.TheVariants.{NoMemory, BadLine};
 
 use crate::lines::{Line, Read, read_line};

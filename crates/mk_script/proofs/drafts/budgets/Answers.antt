@@ -4,7 +4,7 @@ use Rattle.std.proofs.lemmas.Result.{err_from_is_err_and}
 use Rattle.std.proofs.lemmas.List.{drop_more, append-nil, drop_all}
 use denote.Ref.{Bor}
 use Rattle.mk_script.specs.Drafts.{numbers_below}
-use Rattle.mk_script.specs.Views.{texts}
+use Rattle.line_words.specs.Words.{texts}
 use Rattle.mk_script.proofs.NumbersLemmas.{behind, numbers-more, numbers-stop}
 use Rattle.mk_script.proofs.drafts.budgets.Goals as goal
 

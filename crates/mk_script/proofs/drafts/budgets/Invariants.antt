@@ -1,6 +1,6 @@
 use Rattle.std.proofs.Common.{◌≡◌, ◌^◌, drop, vec_len}
 use Rattle.mk_script.specs.Drafts.{numbers_below}
-use Rattle.mk_script.specs.Views.{texts}
+use Rattle.line_words.specs.Words.{texts}
 use Rattle.mk_script.proofs.NumbersLemmas.{behind}
 use Rattle.mk_script.proofs.drafts.budgets.Given as goal
 

@@ -1,7 +1,7 @@
 use Rattle.std.proofs.Common.{Some, None, Option, List, ℕ, refl, ap, sym, subst, ◌∙◌}
 use Rattle.mk_script.specs.declared.lines.Block.{Block}
 use Rattle.mk_script.specs.Statements.{opens_block}
-use Rattle.mk_script.specs.Views.{texts}
+use Rattle.line_words.specs.Words.{texts}
 use Rattle.mk_script.specs.Pieces.{BlockIs}
 use Rattle.mk_script.proofs.PieceLemmas.{plain_piece, asm_piece, open_piece}
 use Rattle.mk_script.proofs.lines.first_piece.Goals as goal

@@ -1,7 +1,7 @@
 use Rattle.std.proofs.Common.{◌≡◌, length, ap, arith, ◌∙◌}
 use Rattle.bpf_insn.specs.Texts.{words_of}
-use Rattle.mk_script.specs.Words.{word_at}
-use Rattle.mk_script.specs.Views.{texts}
+use Rattle.line_words.specs.Words.{word_at}
+use Rattle.line_words.specs.Words.{texts}
 use Rattle.mk_script.proofs.WordLemmas.{word_short}
 use Rattle.mk_script.proofs.reader.draft.Goals as goal
 

@@ -2,7 +2,7 @@ use Rattle.std.proofs.Common.{ap, sym, ◌∙◌, inl, inr}
 use Rattle.std.proofs.lemmas.Result.{err_from_is_err_and}
 use Rattle.mk_script.specs.DraftViews.{settings_of}
 use Rattle.mk_script.specs.Statements.{is_skipped}
-use Rattle.mk_script.specs.Views.{texts}
+use Rattle.line_words.specs.Words.{texts}
 use Rattle.mk_script.proofs.ReaderLemmas.{piece_refuses, piece_advances, piece_skipped}
 use Rattle.mk_script.proofs.reader.read_first.Goals as goal
 

@@ -1,6 +1,6 @@
 use Rattle.std.proofs.Common.{sym, ◌∙◌}
 use Rattle.std.proofs.lemmas.List.{length-map}
-use Rattle.mk_script.specs.Views.{texts}
+use Rattle.line_words.specs.Words.{texts}
 use Rattle.mk_script.proofs.RowLemmas.{cores_few}
 use Rattle.mk_script.proofs.rows.command_of.Goals as goal
 

@@ -1,7 +1,8 @@
 use Rattle.std.proofs.Common.{◌≡◌, drop}
 use Rattle.std.specs.Prelude.{map}
 use Rattle.trace_lines.specs.Traces.{outcome, said_in}
-use Rattle.trace_lines.specs.Views.{shown, texts}
+use Rattle.trace_lines.specs.Views.{shown}
+use Rattle.line_words.specs.Words.{texts}
 use Rattle.trace_lines.proofs.Outcomes.{after}
 use Rattle.trace_lines.proofs.trace.read_lines.Given as goal
 

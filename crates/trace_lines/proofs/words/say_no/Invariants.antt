@@ -1,6 +1,6 @@
 use Rattle.std.proofs.Common.{◌≡◌, drop}
 use Rattle.std.specs.List.{list_any}
-use Rattle.trace_lines.specs.Views.{texts}
+use Rattle.line_words.specs.Words.{texts}
 use Rattle.trace_lines.specs.Words.{is_no}
 use Rattle.trace_lines.proofs.words.say_no.Given as goal
 

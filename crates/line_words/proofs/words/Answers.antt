@@ -4,7 +4,7 @@ use Rattle.std.proofs.lemmas.Iterator.Consumers.{map_from_collect, YieldsList-fr
 use Rattle.std.proofs.lemmas.Iterator.Splits.{YieldsList-from_slice_split}
 use Rattle.std.specs.Slice.Iter.{split_rest, split_done, split_callee}
 use Rattle.bpf_insn.specs.Texts.{is_blank}
-use Rattle.trace_lines.proofs.words.words.Goals as goal
+use Rattle.line_words.proofs.words.Goals as goal
 
 pub returns : goal.returns
 returns c =
