@@ -11,9 +11,9 @@ use crate::fault::ScriptFaultKind;
 use crate::number::{number16, number32};
 use crate::reading::Reading;
 use crate::rows::Request;
-use line_words::word_at;
 use endpoint_caps::Rights;
 use filter_table::{Op, Program};
+use line_words::word_at;
 
 /// A fault where a test fails.
 pub(crate) fn check(passes: bool, fault: ScriptFaultKind) -> Result<(), ScriptFaultKind>

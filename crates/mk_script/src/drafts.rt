@@ -11,6 +11,7 @@ ghost use Rattle.mk_script.specs.declared.rows.Command.{Command};
 ghost use Rattle.mk_script.specs.DraftViews.{Answered, draft_of, known_of, settings_of};
 ghost use Rattle.line_words.specs.Words.{texts};
 ghost use Rattle.mk_script.specs.Words as words_spec;
+ghost use Rattle.line_words.specs.Words as list_spec;
 ghost use Rattle.mk_script.specs.declared.fault.ScriptFaultKind.TheVariants.{NoMemory};
 
 use crate::commands::{check, domain_of, op_of};
@@ -132,7 +133,7 @@ fn packet<'a>(
     reading: &Reading<'a>,
     words: &[&'a [u8]],
 ) -> Result<Draft<'a>, ScriptFaultKind>
-    requires { length (words_spec.word_at (texts words.now) 2) < 2 ^ 32 }
+    requires { length (list_spec.word_at (texts words.now) 2) < 2 ^ 32 }
     ensures drafts { Answered draft_of result (spec.packet_draft (known_of reading.now) (texts words.now)) }
     ensures follows { IfOk result (λ d. DraftFollows reading.now d) }
 {
@@ -348,7 +349,7 @@ fn draft_by<'a>(
     command: Command,
 ) -> Result<Draft<'a>, ScriptFaultKind>
     requires some { 1 ≤ length words.now }
-    requires short { length (words_spec.word_at (texts words.now) 2) < 2 ^ 32 }
+    requires short { length (list_spec.word_at (texts words.now) 2) < 2 ^ 32 }
     requires ready { spec.is_cores command ≡ false → 0 < vec_len reading.now.budgets }
     requires few { spec.is_cores command ≡ true → length words.now ≤ 9 }
     requires block_short { IfSome block (λ text. length text.now < 2 ^ 32) }
@@ -404,7 +405,7 @@ pub(crate) fn script_line<'a>(
     block: Option<&'a [u8]>,
 ) -> Result<Draft<'a>, ScriptFaultKind>
     requires some { 1 ≤ length words.now }
-    requires short { length (words_spec.word_at (texts words.now) 2) < 2 ^ 32 }
+    requires short { length (list_spec.word_at (texts words.now) 2) < 2 ^ 32 }
     requires block_short { IfSome block (λ text. length text.now < 2 ^ 32) }
     requires untraced { reading.now.jobs ≡ None }
     ensures drafts { Answered draft_of result (spec.script_draft (settings_of settings.entry) (known_of reading.now) reading.now.received (texts words.now) line.now (option_copied block.entry)) }

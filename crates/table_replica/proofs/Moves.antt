@@ -7,7 +7,8 @@ use Rattle.bpf_insn.specs.declared.insn.Insn.{Insn}
 use Rattle.filter_table.specs.Listed.{ListedFilter, FilterTable}
 use Rattle.table_replica.specs.declared.filters.Row.{Row}
 use Rattle.table_replica.specs.Distinct.{AreDistinct}
-use Rattle.table_replica.specs.Keeping.{listed_row, ArePlaced, placed_row, IsShared}
+use Rattle.table_replica.specs.Keeping.{listed_row, ArePlaced, placed_row, IsShared, Keeps}
+use Rattle.table_replica.specs.Keeping.Keeps.{there, added}
 use Rattle.table_replica.specs.Lent.{IsIn}
 use Rattle.filter_table.specs.Tables.{instructions_of, replaced}
 use Rattle.filter_table.proofs.Tables.{sum_filter}
