@@ -1,4 +1,4 @@
-//! Requests, packets and decisions that several tests use.
+//! Requests and packets that several tests use.
 
 ghost use Rattle.std.specs.Prelude.{◌≡◌, ◌≤◌, ◌∷◌, [], IsTrue, IfOk, length};
 ghost use Rattle.filter_table.specs.Tables.{HasShortProgram};
@@ -7,7 +7,7 @@ ghost use Rattle.core_drive.specs.Driving.{IsStep};
 
 use bpf_insn::Insn;
 use core_drive::{Step, Task};
-use filter_table::{Decision, Made, Op, Program};
+use filter_table::{Op, Program};
 use pcap_reader::SharedPacket;
 use seq::Shared;
 use std::alloc::{AllocError, Global};
@@ -21,18 +21,6 @@ pub(crate) fn create() -> Op
         endpoint: 7,
     }
 }
-
-/// The first capability is made, at the first version.
-pub(crate) const CAP: Decision = Decision::Committed {
-    version: 1,
-    made: Made::Cap(1),
-};
-
-/// The first filter is made, at the second version.
-pub(crate) const FILTER: Decision = Decision::Committed {
-    version: 2,
-    made: Made::Filter(1),
-};
 
 /// A program that accepts every packet.
 fn all(alloc: Global) -> Result<Program, AllocError>

@@ -9,7 +9,6 @@ ghost use Rattle.core_loop.specs.Cores.{AreShort};
 ghost use Rattle.core_join.specs.Machines.{HasPlace, IsMachine};
 
 use crate::facts::equal;
-use crate::words::{ARP, CAP, FILTER, REQUEST, Told, program, tells};
 use bpf_insn::TextFault;
 use core_join::{Histories, Recorded, conclude, in_order, merge};
 use core_loop::{Core, RingLinks, Stamped};
@@ -23,6 +22,7 @@ use std::process::Abort;
 use table_replica::Op;
 use ump_ring::ring;
 use world_model::{Answer, Done, Event};
+use test_words::{ARP, CAP, FILTER, REQUEST, Told, program, tells};
 
 /// What an event is, but for programs and packets: a word, and three numbers that are 0 where it has none.
 type Asked = (&'static str, u16, u16, u64);

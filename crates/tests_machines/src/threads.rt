@@ -5,7 +5,7 @@ ghost use Rattle.core_join.specs.Machines.{IsMachine};
 ghost use Rattle.core_boot.specs.Booting.{AreGivable};
 
 use crate::facts::{equal, holds};
-use crate::words::{ALL, Told, is_for_memory, job, program, tells};
+use crate::words::job;
 use core_join::{Recorded, conclude, merge};
 use core_loop::RingLinks;
 use core_threads::{
@@ -20,6 +20,7 @@ use std::thread::Threads;
 use std::time::Clock;
 use table_replica::Op;
 use world_model::{Done, Event};
+use test_words::{ALL, Told, is_for_memory, program, tells};
 
 // A limit that is never met.
 const LIMIT: u64 = 50_000_000;

@@ -1,64 +1,13 @@
-//! What is asked of a table and what is sent, in plain values.
-ghost use Rattle.std.specs.Prelude.{◌≤◌, length, IfOk};
-ghost use Rattle.filter_table.specs.Tables.{HasShortProgram};
+//! What is sent, in plain values.
+ghost use Rattle.std.specs.Prelude.{IfOk};
 ghost use Rattle.monitor_messages.specs.Coding.{IsShort};
 
-use bpf_insn::{TextFault, read_ddd};
-use endpoint_caps::Rights;
+use bpf_insn::TextFault;
 use monitor_messages::{Decision, Message, Vote};
 use std::alloc::Global;
 use std::process::Abort;
-use table_replica::{Op, Program};
-
-/// An operation. Programs are decimal texts.
-#[derive(Clone, Copy)]
-pub(crate) enum Ask {
-    Create(u16, u16),
-    Mint(u16, u32, u16, Rights),
-    Revoke(u16, u32),
-    DropCap(u16, u32),
-    Install(u16, u32, &'static str),
-    Remove(u16, u32),
-    Replace(u16, u32, &'static str),
-}
-
-/// The program of a decimal text.
-pub(crate) fn program(alloc: Global, text: &str) -> Result<Program, TextFault>
-    ensures { IfOk result (λ program. length program ≤ 4096) }
-{
-    let code = read_ddd(alloc, text.as_bytes())?;
-    if code.len() > 4096 {
-        return Err(TextFault::TooLong);
-    }
-    Ok(Program::from_vec(alloc, code)?)
-}
-
-pub(crate) fn op(alloc: Global, ask: Ask) -> Result<Op, TextFault>
-    ensures { IfOk result HasShortProgram }
-{
-    Ok(match ask {
-        Ask::Create(domain, endpoint) => Op::Create { domain, endpoint },
-        Ask::Mint(domain, cap, to, rights) => Op::Mint {
-            domain,
-            cap,
-            to,
-            rights,
-        },
-        Ask::Revoke(domain, cap) => Op::Revoke { domain, cap },
-        Ask::DropCap(domain, cap) => Op::DropCap { domain, cap },
-        Ask::Install(domain, cap, text) => Op::Install {
-            domain,
-            cap,
-            program: program(alloc, text)?,
-        },
-        Ask::Remove(domain, filter) => Op::Remove { domain, filter },
-        Ask::Replace(domain, filter, text) => Op::Replace {
-            domain,
-            filter,
-            program: program(alloc, text)?,
-        },
-    })
-}
+use table_replica::Op;
+use test_words::{Ask, op};
 
 /// The operation, for which there is memory.
 pub(crate) fn asked(rt: &impl Abort, alloc: Global, ask: Ask) -> Op {

@@ -1,11 +1,12 @@
 //! Worked calls of the protocol: what each role answers to messages that fit and to strangers.
-use crate::asks::{Ask, Sent, asked};
+use crate::asks::{Sent, asked};
 use crate::cores::{Heard, Home, Peer};
 use crate::facts::equal_at;
 use monitor_2pc::{Decision, Say, StartFault, Step, Veto, Vote};
 use std::alloc::Global;
 use std::process::Abort;
 use table_replica::{Made, Op, OpFault};
+use test_words::{Ask, CAP, NO_FILTER, OVER_BUDGET_OF_2, TAKEN};
 
 /// A call on core 0.
 #[derive(Clone, Copy)]
@@ -66,26 +67,6 @@ fn core_0_says(rt: &impl Abort, alloc: Global, home: &mut Home, call: Call) -> S
 
 const CREATE: Ask = Ask::Create(1, 7);
 
-const CAP: Decision = Decision::Committed {
-    version: 1,
-    made: Made::Cap(1),
-};
-
-const TAKEN: Decision = Decision::Refused {
-    core: 0,
-    why: Veto::Rule(OpFault::EndpointTaken),
-};
-
-const NO_FILTER: Decision = Decision::Refused {
-    core: 0,
-    why: Veto::Rule(OpFault::NoFilter),
-};
-
-const OVER_BUDGET: Decision = Decision::Refused {
-    core: 2,
-    why: Veto::Budget,
-};
-
 const MADE_1: Said = Ok(Step {
     txn: 1,
     say: None,
@@ -117,7 +98,7 @@ const NOTHING_9: Said = Ok(Step {
 const ABORT_9: Said = Ok(Step {
     txn: 9,
     say: Some(Say::Abort),
-    decided: Some(OVER_BUDGET),
+    decided: Some(OVER_BUDGET_OF_2),
     reply: None,
 });
 

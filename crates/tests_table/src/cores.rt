@@ -1,12 +1,13 @@
 //! Core 0 and another core, each with its replica.
 
-use crate::asks::{Ask, Sent, asked, said};
+use crate::asks::{Sent, asked, said};
 use crate::facts::equal;
 use monitor_2pc::{Coordinator, Message, Participant, StartFault, Step, Stranger, Vote};
 use std::alloc::Global;
 use std::marker::Model;
 use std::process::Abort;
 use table_replica::{Op, Replica};
+use test_words::Ask;
 
 /// Core 0 with its replica.
 #[derive(Drop)]

@@ -2,7 +2,7 @@
 ghost use Rattle.std.specs.Prelude.{◌≤◌, length};
 ghost use Rattle.monitor_messages.specs.Coding.{IsShort};
 
-use crate::asks::{Ask, Sent, message, said};
+use crate::asks::{Sent, message, said};
 use crate::facts::{equal, holds};
 use bpf_insn::Insn;
 use endpoint_caps::Rights;
@@ -10,6 +10,7 @@ use monitor_messages::{Decision, DecodeFault, Message, Veto, Vote, decode, encod
 use std::alloc::{AllocError, Global};
 use std::process::Abort;
 use table_replica::{Made, Op, OpFault, Program};
+use test_words::Ask;
 
 /// The bytes of the message under stamp 1 are these; they are read back, and so is a copy's. With a byte more, or with one
 /// less, they are no message.

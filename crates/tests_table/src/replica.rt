@@ -1,19 +1,16 @@
 //! The worked calls on a replica.
-use crate::asks::{Ask, asked, program};
+use crate::asks::asked;
 use crate::facts::{equal, equal_at, holds};
 use bpf_insn::Insn;
 use endpoint_caps::{Cap, Rights};
 use std::alloc::{AllocError, Global};
 use std::process::Abort;
 use table_replica::{Kept, Made, NothingStaged, Op, OpFault, Program, Replica, StageFault};
+use test_words::{ALL, Ask, THREE, program};
 
 type Outcome = Result<Made, StageFault>;
 
-const ALL: &str = "1,6 0 0 65535";
-
 const FIVE: &str = "1,6 0 0 5";
-
-const THREE_LONG: &str = "3,0 0 0 0,7 0 0 0,6 0 0 64";
 
 fn insn(code: u16, k: u32) -> Insn {
     Insn {
@@ -255,9 +252,9 @@ const REPLACED: Run = (
         CREATED,
         Step::Does(Ask::Install(1, 1, ALL), Ok(Made::Filter(1))),
         Step::Does(Ask::Install(1, 1, ALL), Ok(Made::Filter(2))),
-        Step::Does(Ask::Replace(1, 1, THREE_LONG), Err(StageFault::Budget)),
+        Step::Does(Ask::Replace(1, 1, THREE), Err(StageFault::Budget)),
         Step::Does(Ask::Remove(1, 2), Ok(Made::Nothing)),
-        Step::Does(Ask::Replace(1, 1, THREE_LONG), Ok(Made::Nothing)),
+        Step::Does(Ask::Replace(1, 1, THREE), Ok(Made::Nothing)),
         Step::Does(
             Ask::Replace(2, 1, ALL),
             Err(StageFault::Rule(OpFault::NotOwner)),
@@ -286,7 +283,7 @@ const REPLACED_IN_ORDER: Run = (
         Step::Does(Ask::Install(1, 1, ALL), Ok(Made::Filter(1))),
         Step::Does(Ask::Install(1, 2, ALL), Ok(Made::Filter(2))),
         Step::Does(Ask::Install(1, 2, FIVE), Ok(Made::Filter(3))),
-        Step::Does(Ask::Replace(1, 1, THREE_LONG), Ok(Made::Nothing)),
+        Step::Does(Ask::Replace(1, 1, THREE), Ok(Made::Nothing)),
         Step::Filters(&[(1, 1, 1, 7, 3), (2, 1, 2, 3, 1), (3, 1, 2, 3, 1)]),
         Step::Hands(80, &[(3, 80), (7, 64)]),
         Step::Does(Ask::Remove(1, 2), Ok(Made::Nothing)),
@@ -335,7 +332,7 @@ const KEPT_ONCE: Run = (
         CREATED,
         Step::Does(Ask::Install(1, 1, ALL), Ok(Made::Filter(1))),
         Step::Does(Ask::Install(1, 1, ALL), Ok(Made::Filter(2))),
-        Step::Does(Ask::Install(1, 1, THREE_LONG), Ok(Made::Filter(3))),
+        Step::Does(Ask::Install(1, 1, THREE), Ok(Made::Filter(3))),
         Step::Programs(2),
         Step::Is(4, 5),
         Step::Does(Ask::Remove(1, 1), Ok(Made::Nothing)),
@@ -540,7 +537,7 @@ fn the_last_ids(rt: HostRuntime) {
 /// A copy of an operation is the same.
 #[test]
 fn operations_are_copied(rt: HostRuntime) {
-    let install = asked(&rt, rt.alloc(), Ask::Install(3, 4, THREE_LONG));
+    let install = asked(&rt, rt.alloc(), Ask::Install(3, 4, THREE));
     let copy = install.clone().expect(&rt, "there is memory");
     installs_three(&rt, rt.alloc(), &copy);
 }
@@ -561,7 +558,7 @@ fn installs_three(rt: &impl Abort, alloc: Global, op: &Op) {
 }
 
 fn are_three(rt: &impl Abort, alloc: Global, code: &[Insn]) {
-    let three = program(alloc, THREE_LONG).expect(rt, "there is memory");
+    let three = program(alloc, THREE).expect(rt, "there is memory");
     equal(rt, code, three.as_slice());
     equal(rt, code.len(), 3);
 }

@@ -1,6 +1,6 @@
 //! Worked runs of two, three, four and eight cores as calls, a message at a time.
 
-use crate::asks::{Ask, Sent, asked};
+use crate::asks::{Sent, asked};
 use crate::cores::{Home, Peer};
 use crate::facts::{equal, equal_at, holds};
 use endpoint_caps::Rights;
@@ -8,27 +8,11 @@ use monitor_2pc::{Decision, Say, StartFault, Step, Veto, Vote};
 use std::alloc::Global;
 use std::process::Abort;
 use table_replica::{Kept, Made, OpFault, Replica};
-
-/// The ARP packets, whole.
-const ARP: &str = "4,40 0 0 12,21 0 1 2054,6 0 0 4294967295,6 0 0 0";
-
-/// The first 64 bytes of every packet, by three instructions.
-const THREE: &str = "3,0 0 0 0,7 0 0 0,6 0 0 64";
-
-/// The head of an ARP packet.
-const PACKET: [u8; 14] = [255, 255, 255, 255, 255, 255, 0, 17, 34, 51, 68, 85, 8, 6];
+use test_words::{
+    ARP, Ask, CAP, FILTER, NO_MEMORY_ON_1, OVER_BUDGET_OF_1, OVER_BUDGET_OF_2, REQUEST, TAKEN, THREE,
+};
 
 const CREATE: Ask = Ask::Create(1, 7);
-
-const CAP: Decision = Decision::Committed {
-    version: 1,
-    made: Made::Cap(1),
-};
-
-const FILTER: Decision = Decision::Committed {
-    version: 2,
-    made: Made::Filter(1),
-};
 
 /// Each other core votes on what core 0 began, in order, and the last vote decides; the core of this number is short of memory.
 fn votes(
@@ -120,21 +104,6 @@ type Row = (Ask, u16, Decision, u64, u64);
 
 /// The budgets of core 0 and of the others, the requests, and the instructions that the others have then.
 type Run = (u32, &'static [u32], &'static [Row], u32);
-
-const OVER_BUDGET_OF_1: Decision = Decision::Refused {
-    core: 1,
-    why: Veto::Budget,
-};
-
-const OVER_BUDGET_OF_2: Decision = Decision::Refused {
-    core: 2,
-    why: Veto::Budget,
-};
-
-const NO_MEMORY_ON_1: Decision = Decision::Refused {
-    core: 1,
-    why: Veto::NoMemory,
-};
 
 static RUNS: [Run; 4] = [
     // With four cores all are asked, the last vote decides, and the least core that refuses is named.
@@ -261,7 +230,7 @@ fn rounds_of_requests(rt: HostRuntime) {
 /// The endpoint, and what it keeps of the packet; there is one at most.
 fn delivered(rt: &impl Abort, alloc: Global, table: &Replica) -> Option<Kept> {
     let kept = table
-        .accepting(alloc, &PACKET, 14)
+        .accepting(alloc, &REQUEST, 14)
         .expect(rt, "there is memory");
     holds(rt, kept.len() < 2);
     kept.first().copied()
@@ -328,11 +297,6 @@ const ENDED: Step = Step {
     say: None,
     decided: None,
     reply: Some((1, CAP)),
-};
-
-const TAKEN: Decision = Decision::Refused {
-    core: 0,
-    why: Veto::Rule(OpFault::EndpointTaken),
 };
 
 /// Requests of another core: one is committed after all have voted, the next is refused at once, and each gets its Reply.

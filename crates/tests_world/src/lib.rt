@@ -4,6 +4,4 @@
 #[cfg(test)]
 mod facts;
 #[cfg(test)]
-mod words;
-#[cfg(test)]
 mod world;

@@ -9,11 +9,13 @@ mod steps;
 
 use self::steps::{Asked, Run, Step, runs};
 use crate::facts::equal;
-use crate::words::{ALL, ARP, Ask, CAP, FILTER, REQUEST, THREE, Told};
 use endpoint_caps::Rights;
 use monitor_messages::{Decision, Veto, Vote};
 use std::alloc::Global;
 use table_replica::{Made, OpFault};
+use test_words::{
+    ALL, ARP, Ask, CAP, FILTER, NO_FILTER, NO_MEMORY_ON_1, OVER_BUDGET_OF_1, REQUEST, TAKEN, THREE, Told,
+};
 use world_core::{BootFault, Lines, Messages, World, WorldFault};
 
 /// Why there is no machine with these budgets, if there is none.
@@ -72,24 +74,9 @@ const NOT_OWNER: Decision = Decision::Refused {
     why: Veto::Rule(OpFault::NotOwner),
 };
 
-const NO_FILTER: Decision = Decision::Refused {
-    core: 0,
-    why: Veto::Rule(OpFault::NoFilter),
-};
-
 const OVER_BUDGET_OF_0: Decision = Decision::Refused {
     core: 0,
     why: Veto::Budget,
-};
-
-const OVER_BUDGET_OF_1: Decision = Decision::Refused {
-    core: 1,
-    why: Veto::Budget,
-};
-
-const NO_MEMORY_ON_1: Decision = Decision::Refused {
-    core: 1,
-    why: Veto::NoMemory,
 };
 
 const NO_MEMORY_ON_2: Decision = Decision::Refused {
@@ -97,14 +84,9 @@ const NO_MEMORY_ON_2: Decision = Decision::Refused {
     why: Veto::NoMemory,
 };
 
-pub(crate) const TAKEN: Decision = Decision::Refused {
-    core: 0,
-    why: Veto::Rule(OpFault::EndpointTaken),
-};
+const NO_CORE: WorldFault = WorldFault::NoSuchCore;
 
-const NO_CORE: Told = Told::Fault(WorldFault::NoSuchCore);
-
-const NOT_IDLE: Told = Told::Fault(WorldFault::NotIdle);
+const NOT_IDLE: WorldFault = WorldFault::NotIdle;
 
 const CREATE: Asked = Asked::Start(Ask::Create(1, 7));
 
@@ -153,7 +135,7 @@ const TWO_PHASES: Run = (
         Step::Does(Asked::Rx(0, &REQUEST, 0), Told::Delivered(2, 1, 7, 14)),
         Step::Does(Asked::Take(1, 0), Told::TookCommit(2, 2)),
         Step::Does(Asked::Rx(1, &REQUEST, 0), Told::Delivered(2, 1, 7, 14)),
-        Step::Does(Asked::Rx(1, &REQUEST, 3), Told::Fault(WorldFault::NotReady)),
+        Step::Fails(Asked::Rx(1, &REQUEST, 3), WorldFault::NotReady),
     ],
 );
 
@@ -232,18 +214,18 @@ const FAULTS: Run = (
     &[9, 9],
     &[
         Step::Does(CREATE, Told::Prepared(1)),
-        Step::Does(Asked::Start(Ask::Create(1, 8)), NOT_IDLE),
-        Step::Does(Asked::StartFor(1), NOT_IDLE),
-        Step::Does(Asked::Take(0, 1), Told::Fault(WorldFault::Nothing)),
-        Step::Does(Asked::Take(2, 0), NO_CORE),
-        Step::Does(Asked::Take(0, 2), NO_CORE),
-        Step::Does(Asked::Take(1, 1), NO_CORE),
-        Step::Does(Asked::Take(0, 0), NO_CORE),
-        Step::Does(Asked::Submit(0, 7), NO_CORE),
-        Step::Does(Asked::Submit(2, 7), NO_CORE),
-        Step::Does(Asked::StartFor(0), NO_CORE),
-        Step::Does(Asked::StartFor(2), NO_CORE),
-        Step::Does(Asked::Rx(2, &[], 0), NO_CORE),
+        Step::Fails(Asked::Start(Ask::Create(1, 8)), NOT_IDLE),
+        Step::Fails(Asked::StartFor(1), NOT_IDLE),
+        Step::Fails(Asked::Take(0, 1), WorldFault::Nothing),
+        Step::Fails(Asked::Take(2, 0), NO_CORE),
+        Step::Fails(Asked::Take(0, 2), NO_CORE),
+        Step::Fails(Asked::Take(1, 1), NO_CORE),
+        Step::Fails(Asked::Take(0, 0), NO_CORE),
+        Step::Fails(Asked::Submit(0, 7), NO_CORE),
+        Step::Fails(Asked::Submit(2, 7), NO_CORE),
+        Step::Fails(Asked::StartFor(0), NO_CORE),
+        Step::Fails(Asked::StartFor(2), NO_CORE),
+        Step::Fails(Asked::Rx(2, &[], 0), NO_CORE),
         Step::HasNoCore(2),
     ],
 );
@@ -252,9 +234,9 @@ const FAULTS: Run = (
 const HOME: Run = (
     &[9, 9],
     &[
-        Step::Does(Asked::StartFor(1), Told::Fault(WorldFault::NoneWaiting)),
+        Step::Fails(Asked::StartFor(1), WorldFault::NoneWaiting),
         Step::Does(Asked::Submit(1, 7), Told::Submitted),
-        Step::Does(Asked::Submit(1, 7), Told::Fault(WorldFault::Outstanding)),
+        Step::Fails(Asked::Submit(1, 7), WorldFault::Outstanding),
         Step::Waits(1, false),
         Step::Does(Asked::Take(0, 1), Told::TookSubmit),
         Step::WaitsToCreate(1),

@@ -2,14 +2,14 @@
 
 ghost use Rattle.std.specs.Prelude.{◌≡◌, IfOk};
 
-use super::steps::{Asked, boot, event, packet};
+use super::steps::{Asked, boot, event, operation, packet};
 use crate::facts::holds;
-use crate::words::{ARP, Ask, REQUEST, op};
 use monitor_messages::{Message, Vote};
 use pcap_reader::SharedPacket;
 use std::alloc::{AllocError, Global};
 use std::process::Abort;
 use table_replica::Op;
+use test_words::{ARP, Ask, REQUEST};
 use world_core::{Answer, Done, Event, Messages, WorldOver};
 
 fn packet_of(packet: &SharedPacket) -> Result<SharedPacket, AllocError>
@@ -82,7 +82,7 @@ fn events_are_copied(rt: HostRuntime) {
 }
 
 fn are_copied(rt: &impl Abort, alloc: Global, txn: u64, ask: Ask) {
-    let op = op(rt, alloc, ask);
+    let op = operation(rt, alloc, ask);
     holds(rt, op_of(&op).is_ok());
     let vote = Vote::Yes;
     for message in [

@@ -1,14 +1,13 @@
 //! Runs of two cores where one growth is refused, whichever it is. An event that it meets changes nothing and is done again; a core
 //! that has no memory for an operation refuses it, and then the request is begun again.
 
-use super::TAKEN;
 use super::sights::are_equal;
 use super::steps::{Asked, are_told, boot, outcome, settled, settles};
 use crate::facts::{equal, holds};
-use crate::words::{ARP, Ask, CAP, FILTER, REQUEST, Told, no_memory};
 use monitor_messages::Vote;
 use std::alloc::Global;
 use std::process::Abort;
+use test_words::{ARP, Ask, CAP, FILTER, REQUEST, TAKEN, Told, no_memory};
 use world_core::{Channel, Lines, Messages, WorldFault, WorldOver};
 
 /// The events tell this, one after the other.
@@ -19,8 +18,19 @@ fn tell<C: Channel>(
     events: &[(Asked, Told)],
 ) {
     for (asked, wanted) in events {
-        equal(rt, outcome(rt, alloc, world, *asked), *wanted);
+        equal(rt, outcome(rt, alloc, world, *asked), Ok(*wanted));
     }
+}
+
+/// The event isn't done, for this fault.
+fn fails<C: Channel>(
+    rt: &impl Abort,
+    alloc: Global,
+    world: &mut WorldOver<C>,
+    asked: Asked,
+    fault: WorldFault,
+) {
+    equal(rt, outcome(rt, alloc, world, asked), Err(fault));
 }
 
 #[test]
@@ -52,9 +62,10 @@ fn two_phase<C: Channel>(rt: &impl Abort, alloc: Global) {
             (Asked::Rx(0, &REQUEST, 0), Told::Delivered(2, 1, 7, 14)),
             (Asked::Take(1, 0), Told::TookCommit(txn, 2)),
             (Asked::Rx(1, &REQUEST, 0), Told::Delivered(2, 1, 7, 14)),
-            (Asked::Rx(1, &REQUEST, 3), Told::Fault(WorldFault::NotReady)),
         ],
     );
+    let late = Asked::Rx(1, &REQUEST, 3);
+    fails(rt, alloc, &mut world, late, WorldFault::NotReady);
     settles(rt, alloc, &mut world, &[(0, 1, Told::TookAck(txn))]);
     are_equal(rt, &world);
     drop(world);
@@ -63,7 +74,7 @@ fn two_phase<C: Channel>(rt: &impl Abort, alloc: Global) {
 /// The number under which core 1 is asked.
 fn asks<C: Channel>(rt: &impl Abort, alloc: Global, world: &mut WorldOver<C>, ask: Ask) -> u64 {
     match outcome(rt, alloc, world, Asked::Start(ask)) {
-        Told::Prepared(txn) => txn,
+        Ok(Told::Prepared(txn)) => txn,
         _ => panic!(rt; "core 1 is asked"),
     }
 }
@@ -127,10 +138,10 @@ fn votes_yes<C: Channel>(
     txn: u64,
 ) -> bool {
     let told = outcome(rt, alloc, world, Asked::Take(1, 0));
-    if told == Told::TookPrepare(txn, Vote::Yes) {
+    if told == Ok(Told::TookPrepare(txn, Vote::Yes)) {
         return true;
     }
-    equal(rt, told, Told::TookPrepare(txn, Vote::NoMemory));
+    equal(rt, told, Ok(Told::TookPrepare(txn, Vote::NoMemory)));
     false
 }
 
@@ -143,8 +154,8 @@ fn a_home_core_with_a_refused_growth(rt: HostRuntime) {
 /// Requests enter at core 1. The second is refused as soon as it is started.
 fn home<C: Channel>(rt: &impl Abort, alloc: Global) {
     let mut world = boot::<C>(rt, alloc, &[9, 9]);
-    let none = Told::Fault(WorldFault::NoneWaiting);
-    tell(rt, alloc, &mut world, &[(Asked::StartFor(1), none)]);
+    let none = WorldFault::NoneWaiting;
+    fails(rt, alloc, &mut world, Asked::StartFor(1), none);
     let txn = match creates_for(rt, alloc, &mut world) {
         Some(txn) => txn,
         None => creates_for(rt, alloc, &mut world).expect(rt, "there is memory"),
@@ -175,28 +186,22 @@ fn creates_for<C: Channel>(
     alloc: Global,
     world: &mut WorldOver<C>,
 ) -> Option<u64> {
-    tell(
-        rt,
-        alloc,
-        world,
-        &[
-            (Asked::Submit(1, 7), Told::Submitted),
-            (Asked::Submit(1, 7), Told::Fault(WorldFault::Outstanding)),
-            (Asked::Take(0, 1), Told::TookSubmit),
-        ],
-    );
+    let submit = Asked::Submit(1, 7);
+    tell(rt, alloc, world, &[(submit, Told::Submitted)]);
+    fails(rt, alloc, world, submit, WorldFault::Outstanding);
+    tell(rt, alloc, world, &[(Asked::Take(0, 1), Told::TookSubmit)]);
     holds(rt, world.waiting(1).is_some());
     let begun = outcome(rt, alloc, world, Asked::StartFor(1));
     holds(rt, world.waiting(1).is_none());
     match begun {
-        Told::Prepared(txn) => {
+        Ok(Told::Prepared(txn)) => {
             if votes_yes(rt, alloc, world, txn) {
                 return Some(txn);
             }
             given_up(rt, alloc, world, txn);
         }
         _ => {
-            equal(rt, begun, Told::Decided(no_memory(0)));
+            equal(rt, begun, Ok(Told::Decided(no_memory(0))));
             settles(rt, alloc, world, &[(1, 0, Told::TookReply(no_memory(0)))]);
         }
     }

@@ -4,13 +4,13 @@ ghost use Rattle.world_core.specs.Refusals.{IsShortEvent};
 
 use super::sights::{after, listed, places_of, sights};
 use crate::facts::{equal, equal_at};
-use crate::words::{Ask, Told, no_memory, op, tells};
 use endpoint_caps::{Cap, Rights};
 use pcap_reader::SharedPacket;
 use seq::Shared;
 use std::alloc::{AllocError, Global};
 use std::process::Abort;
 use table_replica::Op;
+use test_words::{Ask, Told, no_memory, op, tells};
 use world_core::{Channel, Done, Event, WorldFault, WorldOver};
 
 /// An event.
@@ -37,6 +37,8 @@ pub(crate) type Taken = (u16, u16, Told);
 pub(crate) enum Step {
     /// The event tells this.
     Does(Asked, Told),
+    /// The event isn't done, for this fault.
+    Fails(Asked, WorldFault),
     /// Settling does these takes.
     Settles(&'static [Taken]),
     /// The core shows this version, so many capabilities and filters, and so many instructions of the filters.
@@ -66,12 +68,20 @@ fn shared(alloc: Global, bytes: &[u8]) -> Result<Shared<u8>, AllocError> {
     Shared::from_vec(alloc, bytes.to_vec(alloc)?)
 }
 
+/// The operation, made once more where a growth is refused.
+pub(crate) fn operation(rt: &impl Abort, alloc: Global, ask: Ask) -> Op {
+    match op(alloc, ask) {
+        Ok(op) => op,
+        Err(_) => op(alloc, ask).expect(rt, "there is memory"),
+    }
+}
+
 pub(crate) fn event(rt: &impl Abort, alloc: Global, asked: Asked) -> Event
     ensures { IsShortEvent result }
 {
     match asked {
         Asked::Start(ask) => Event::Start {
-            op: op(rt, alloc, ask),
+            op: operation(rt, alloc, ask),
         },
         Asked::Submit(core, endpoint) => {
             let domain = 1;
@@ -98,13 +108,14 @@ pub(crate) fn event(rt: &impl Abort, alloc: Global, asked: Asked) -> Event
     }
 }
 
-fn outcome_once<C: Channel>(world: &mut WorldOver<C>, event: &Event) -> Told
+fn outcome_once<C: Channel>(
+    world: &mut WorldOver<C>,
+    event: &Event,
+) -> Result<Told, WorldFault>
     requires { IsShortEvent event.now }
 {
-    match world.apply(event) {
-        Ok(answer) => tells(&answer),
-        Err(fault) => Told::Fault(fault),
-    }
+    let answer = world.apply(event)?;
+    Ok(tells(&answer))
 }
 
 /// What the event tells. A growth that is refused changes nothing, and then the event is done again; so is a request of core 0's own
@@ -114,12 +125,12 @@ pub(crate) fn outcome<C: Channel>(
     alloc: Global,
     world: &mut WorldOver<C>,
     asked: Asked,
-) -> Told {
+) -> Result<Told, WorldFault> {
     let event = event(rt, alloc, asked);
     let before = sights(world);
     let first = outcome_once(world, &event);
-    let own = matches!(asked, Asked::Start(_)) && first == Told::Decided(no_memory(0));
-    if first == Told::Fault(WorldFault::NoMemory) || own {
+    let own = matches!(asked, Asked::Start(_)) && first == Ok(Told::Decided(no_memory(0)));
+    if first == Err(WorldFault::NoMemory) || own {
         equal(rt, sights(world), before);
         return outcome_once(world, &event);
     }
@@ -220,7 +231,12 @@ fn take_step<C: Channel>(
     row: &usize,
 ) {
     match step {
-        Step::Does(asked, wanted) => equal_at(rt, outcome(rt, alloc, world, asked), wanted, row),
+        Step::Does(asked, wanted) => {
+            equal_at(rt, outcome(rt, alloc, world, asked), Ok(wanted), row);
+        }
+        Step::Fails(asked, fault) => {
+            equal_at(rt, outcome(rt, alloc, world, asked), Err(fault), row);
+        }
         Step::Settles(wanted) => settles(rt, alloc, world, wanted),
         Step::Shows(core, version, caps, filters, instructions) => {
             let wanted = Some((version, caps, filters, instructions));
