@@ -259,6 +259,26 @@ try_cores() {
     fi
 }
 
+# ---- Both ----
+
+# The model with the thread sanitizer, under which a program that has a race ends with a status that is not 0.
+is_free_of_races() {
+    build11 core_model "$folder/lib/libmkdemux.a" -g -fsanitize=thread && "$made/core_model" 4
+}
+
+try_model() {
+    if links '' -fsanitize=thread && "$made/try"; then
+        try "core_model with -fsanitize=thread" is_free_of_races
+    else
+        echo "skipped: core_model with -fsanitize=thread: the compiler hasn't it"
+    fi
+    try "core_model.c without a warning" build11 core_model "$folder/lib/libmkdemux.a"
+    for cores in 1 2 4 8; do
+        try "random requests beside a model on $cores cores" "$made/core_model" $cores
+    done
+    [ -z "$watch" ] || try "core_model under valgrind" $watch "$made/core_model" 2
+}
+
 # ---- What is there ----
 
 case ${1-} in
@@ -300,5 +320,6 @@ fi
 if has mkdemux && has mkdemux_cores; then
     accepts_both mkdemux mkdemux_cores
     accepts_both mkdemux_cores mkdemux
+    try_model
 fi
 end

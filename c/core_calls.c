@@ -111,7 +111,7 @@ static void decide(struct machine *machine, size_t number, mkdemux_turned *turne
     CHECK(!"a decision");
 }
 
-/* Turns all until none has anything to do. */
+/* Turns all until none has anything to do, where only short messages are under way. */
 static void settle(struct machine *machine)
 {
     mkdemux_turned turned;
@@ -368,6 +368,67 @@ static void asks_too_much(void)
     turned = answer_at(&machine, 0, mkdemux_ask_install(machine.cores, 1, 1, longest, LONGEST + 1)); /* core 0 takes it */
     CHECK(is_refused_by(turned, MKDEMUX_REFUSED, MKDEMUX_RULE_BAD_PROGRAM + 2, 0, 0));
     CHECK(is_committed(answer_at(&machine, 1, mkdemux_ask_install(core, 1, 1, txa(LONGEST), LONGEST)), 2, 1));
+    close_all(&machine);
+}
+
+/* Core 0 looks for its own budget before the program. What it lets pass it refuses for a bad program, before others look at theirs. */
+static void refuses_in_order(void)
+{
+    static const uint32_t budgets[2] = {LONGEST, 3};
+    static const struct mkdemux_insn bad[] = {{0xff, 0, 0, 0}, {0x34, 0, 0, 0}, {0, 0, 0, 0}, {0, 0, 0, 0}};
+    struct machine machine = {{{NULL}}, 2};
+    mkdemux_turned turned;
+    CHECK(mkdemux_boot(budgets, 2, machine.cores) == MKDEMUX_CORE_OK);
+    answer_at(&machine, 0, mkdemux_ask_create(machine.cores, 1, 7));
+    turned = answer_at(&machine, 0, mkdemux_ask_install(machine.cores, 1, 1, txa(LONGEST + 1), LONGEST + 1));
+    CHECK(is_refused_by(turned, MKDEMUX_VETOED, MKDEMUX_RULE_BUDGET, 0, 0));
+    turned = answer_at(&machine, 1, mkdemux_ask_install(&machine.cores[1], 1, 1, bad, COUNT(bad)));
+    CHECK(is_refused_by(turned, MKDEMUX_REFUSED, MKDEMUX_RULE_BAD_PROGRAM + 3, 0, 0));
+    close_all(&machine);
+}
+
+/* A core alone decides in the turn that begins the request. */
+static void decides_at_once(void)
+{
+    struct machine machine;
+    mkdemux_turned turned;
+    boot(&machine, 1, 100);
+    CHECK(mkdemux_ask_create(machine.cores, 1, 7) == MKDEMUX_CORE_OK && mkdemux_turn(machine.cores, &turned) == MKDEMUX_CORE_OK);
+    CHECK(is_committed(turned, 1, 1) && mkdemux_turn(machine.cores, &turned) == MKDEMUX_CORE_IDLE);
+    close_all(&machine);
+}
+
+/* A message of many lines goes in parts: all cores answer IDLE while it is under way, and turning them on brings the decision. */
+static void goes_on_while_idle(void)
+{
+    struct machine machine;
+    mkdemux_turned turned;
+    size_t at, idle, most = 0;
+    boot(&machine, 2, 5000);
+    answer_at(&machine, 1, mkdemux_ask_create(&machine.cores[1], 1, 7));
+    CHECK(mkdemux_ask_install(&machine.cores[1], 1, 1, txa(LONGEST), LONGEST) == MKDEMUX_CORE_OK);
+    for (idle = 0; mkdemux_unanswered(&machine.cores[1]) > 0 && idle < 1000; most = idle > most ? idle : most)
+        for (at = 0; at < 2; at++)
+            idle = mkdemux_turn(&machine.cores[at], &turned) == MKDEMUX_CORE_IDLE ? idle + 1 : 0;
+    CHECK(most >= 2 && idle < 1000 && mkdemux_version(machine.cores) == 2);
+    close_all(&machine);
+}
+
+/* Refusals need no other core, and a core may be moved. */
+static void goes_on_alone(void)
+{
+    struct machine machine;
+    mkdemux_turned turned;
+    boot(&machine, 3, 100);
+    answer_at(&machine, 0, mkdemux_ask_create(machine.cores, 1, 7));
+    settle(&machine);
+    mkdemux_close(&machine.cores[2]);
+    machine.cores[2] = machine.cores[0]; /* from here on the first place is not used */
+    machine.cores[0].at = NULL;
+    CHECK(!mkdemux_ask_create(&machine.cores[2], 1, 7) && !mkdemux_ask_create(&machine.cores[2], 1, 8));
+    CHECK(!mkdemux_turn(&machine.cores[2], &turned));
+    RULE(turned, ENDPOINT_TAKEN);
+    CHECK(!mkdemux_turn(&machine.cores[2], &turned) && turned.what == MKDEMUX_TURN_STEP);
     close_all(&machine);
 }
 
@@ -630,6 +691,10 @@ int main(void)
     fills();
     vetoes();
     asks_too_much();
+    refuses_in_order();
+    decides_at_once();
+    goes_on_while_idle();
+    goes_on_alone();
     for (count = 1; count <= MOST; count++)
         keeps_order(count);
     closes_early();

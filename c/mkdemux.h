@@ -44,7 +44,8 @@ enum mkdemux_answer {
     MKDEMUX_NO_MEMORY = 255  /* malloc refused; nothing was written to the caller's room */
 };
 
-/* What the verifier says. The order is the order in which rules are looked for. */
+/* What the verifier says. It looks for EMPTY and TOO_LONG; then at each instruction in turn for BAD_CODE to ANCILLARY, in this order;
+ * then for NO_RETURN, and last for UNWRITTEN. */
 enum mkdemux_rule {
     MKDEMUX_ACCEPTED = 0,
     MKDEMUX_EMPTY = 1,        /* no instruction */
@@ -123,7 +124,7 @@ struct mkdemux_writing {
 
 /* Accepts a program (0), or answers the first rule that it breaks.
  * Proved: 0 only where the program is sound; a sound one gives 0 or NO_MEMORY; any other number is that of the first rule that
- * is broken, with its place, and for UNWRITTEN with its word and a real path to the load.
+ * is broken, in the order above, with its place, and for UNWRITTEN with its word and a real path to the load.
  * `place` isn't NULL, and is written whatever the answer: with zeros where it says nothing. `path` gets as many of the path's places as
  * `room` allows, the first ones; a room of `count` always has room for all. All else of it stays as it was.
  * A count of 0 gives EMPTY, one above 4,096 TOO_LONG; `code` isn't looked at then. Takes memory. */
@@ -197,7 +198,7 @@ static inline const mkdemux_program *mkdemux_open(const void *code, size_t count
 /* Gives the copy back. NULL is allowed, and nothing then. Its name is mkdemux_close. */
 static inline void mkdemux_close_program(const mkdemux_program *program)
 {
-    free((void *)program);
+    free((void *)(uintptr_t)program);
 }
 
 /* What bpf_filter answers, with its arguments, for a program that was opened and not closed: the verdict on `buflen` captured bytes

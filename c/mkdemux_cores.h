@@ -78,7 +78,7 @@ enum {
     MKDEMUX_CORE_MOST_ENDPOINTS = 1024  /* that get one packet: a room of so many is always enough */
 };
 
-/* What calls answer. After any answer but OK each core is as it was. */
+/* What calls answer. After any answer but OK each core is as it was, but a turn may have moved messages. */
 enum mkdemux_core_answer {
     MKDEMUX_CORE_OK = 0,
     MKDEMUX_CORE_CLOSED = 1,     /* the core is closed */
@@ -86,18 +86,20 @@ enum mkdemux_core_answer {
     MKDEMUX_CORE_NO_MEMORY = 3,  /* malloc or realloc refused */
     MKDEMUX_CORE_NO_ROOM = 4,    /* of mkdemux_receive: the room is too small */
     MKDEMUX_CORE_TOO_LONG = 5,   /* of requests: a program of more than 4,096 instructions, which no message
-                                    holds. Core 0 needs none: it takes it, and refuses it as BAD_PROGRAM + 2 */
+                                    holds. Core 0 needs none: it takes it, and refuses it as BAD_PROGRAM + 2,
+                                    or vetoes it where it has no budget for it */
     MKDEMUX_CORE_STOPPED = 6,    /* the core took a message that no core sends: something else has written to
                                     its memory. It stays stopped */
     MKDEMUX_CORE_SPENT = 7,      /* a number that only grows is at its end, 2^64 - 1 */
-    MKDEMUX_CORE_IDLE = 8,       /* of mkdemux_turn: there was nothing to do */
+    MKDEMUX_CORE_IDLE = 8,       /* of mkdemux_turn: no message was there whole, and no request could begin */
     MKDEMUX_CORE_OPEN = 9,       /* of mkdemux_boot: one of the cores is open already */
-    MKDEMUX_CORE_BAD_RIGHTS = 10 /* of mkdemux_ask_mint: none of the rights below */
+    MKDEMUX_CORE_BAD_RIGHTS = 10 /* of mkdemux_ask_mint: rights that aren't 1, 2 or 3 */
 };
 
 /* ---- A machine ---- */
 
-/* What mkdemux_boot calls, with the length of each array. NO_ROOM where they differ. */
+/* What mkdemux_boot calls, with the length of each array. NOT_CORES is looked for first, then NO_ROOM, where
+ * the lengths differ, then OPEN. */
 uint32_t mkdemux_boot_cores(const uint32_t *budgets, size_t count, mkdemux_core *cores, size_t room);
 
 /* Opens the cores of one machine, 1 to 8, all closed before. The first is core 0, which coordinates. A budget
@@ -112,7 +114,8 @@ static inline uint32_t mkdemux_boot(const uint32_t *budgets, size_t count, mkdem
 }
 
 /* Closes a core, and gives back all that it has. Nothing for a closed one. The other cores of its machine may
- * be closed in any order, and go on to receive; but no change of theirs is decided without this one. */
+ * be closed in any order, and go on to receive; but no change of theirs is made without this one. A request
+ * that core 0 refuses is answered all the same, while core 0 is open. */
 #undef mkdemux_close
 void mkdemux_close(mkdemux_core *core);
 
@@ -130,8 +133,11 @@ enum mkdemux_decision {
     MKDEMUX_VETOED = 2     /* none does: a core has no budget or no memory for it */
 };
 
-/* Why a request isn't granted; mkdemux_core_rule_word has words for these. VERSIONS_SPENT is looked for
- * first, and then what stands at the request, in that order. */
+/* Why a request isn't granted; mkdemux_core_rule_word has words for these. Core 0 looks for VERSIONS_SPENT
+ * first, and then for what stands at the request, in that order; for BUDGET, by its own budget, just before
+ * BAD_PROGRAM, and for MEMORY last. What it lets pass the other cores vote on, each by its own budget and
+ * memory; the least core that votes no is named. Where the search for an unwritten word is refused memory,
+ * MEMORY may be answered in the place of BAD_PROGRAM + 10. */
 enum mkdemux_core_rule {
     MKDEMUX_RULE_NO_CAP = 1,            /* no capability of this id is held */
     MKDEMUX_RULE_NOT_HOLDER = 2,        /* another domain holds it */
@@ -156,19 +162,25 @@ enum mkdemux_core_rule {
 typedef struct mkdemux_turned {
     uint32_t what;     /* a mkdemux_turn_what */
     uint32_t decision; /* of a DECISION: a mkdemux_decision */
-    uint64_t version;  /* COMMITTED: the version of the table that has the change. Each change is one version */
+    uint64_t version;  /* COMMITTED: the version of the table that has the change, now that of this core. Each
+                          change is one version, and so is a revocation that takes nothing away */
     uint32_t made;     /* COMMITTED: the id of the capability or the filter that was made */
     uint32_t rule;     /* REFUSED, VETOED: a mkdemux_core_rule */
     uint32_t place;    /* BAD_PROGRAM: which instruction, from 0; 0 where no single one is at fault */
-    uint32_t core;     /* REFUSED, VETOED: the core that says so */
+    uint32_t core;     /* REFUSED: 0. VETOED: the least core that says so */
 } mkdemux_turned;
 
 /* Does at most one thing: takes a message of another core, or else begins the core's next request.
- * OK: `turned` says what it did. The n-th DECISION of a core is on its n-th request. IDLE: there was nothing
- * to do. NO_MEMORY: nothing was done; a later turn may do it. STOPPED, SPENT: nothing, nor will a later turn.
+ * Each turn, one that answers IDLE too, also passes on what the core has to send and fetches what is sent to
+ * it, a long message in parts. So all cores may answer IDLE, more than once, while a request is open: go on
+ * turning each of them. A core that is turned until it has answered, and then left, may keep its message.
+ * OK: `turned` says what it did. The n-th DECISION of a core is on its n-th request. IDLE: no message was
+ * there whole, and no request could begin. NO_MEMORY: nothing was done; a later turn may do it. STOPPED,
+ * SPENT: nothing, nor will a later turn.
  * Proved: with OK the core went on by one event of the protocol, and a decision that is told is the one on
- * its oldest request that had none, with that decision's version, id, rule, place and core. `turned` is
- * written, but for a closed core. Takes memory. */
+ * its oldest request that had none, with that decision's version, id, rule, place and core; STOPPED, SPENT
+ * and NO_MEMORY are answered only for a cause that is there. `turned` is written, but for a closed core.
+ * Takes memory. */
 uint32_t mkdemux_turn(mkdemux_core *core, mkdemux_turned *turned);
 
 /* The version of the core's table: how many changes it has. 0 for a closed core. */
@@ -180,8 +192,8 @@ uint64_t mkdemux_unanswered(mkdemux_core *core);
 /* ---- Requests ----
  *
  * A request is put behind those that the core has. A turn begins it after the one before has its decision, and
- * a later turn has its own. OK says only that it was put; with CLOSED, NO_MEMORY, TOO_LONG and BAD_RIGHTS it
- * wasn't. A stopped core takes requests and never begins them.
+ * the same turn or a later one has its own. OK says only that it was put; with CLOSED, NO_MEMORY, TOO_LONG
+ * and BAD_RIGHTS it wasn't; CLOSED is looked for first. A stopped core takes requests and never begins them.
  * Ids of capabilities begin at 1, so do those of filters, and none is used twice. At each request stands why
  * it may be refused; those that add instructions may be vetoed for BUDGET, and any for MEMORY.
  * Proved: with OK the request is the last of those that the core hasn't begun, and all else is as it was.
@@ -236,7 +248,8 @@ struct mkdemux_kept {
  * `*count` is 0.
  * Proved: with OK these are just the endpoints at which a filter that is listed at that version, with a
  * capability that is held, gives a verdict above 0 by the definition of classic BPF, each once, with the
- * greatest such verdict. Behind them the room is as it was, and with any other answer all of it.
+ * greatest such verdict. After them the room is as it was, and with any other answer all of it.
+ * (Systems differ in a few cases, as in a shift by X of 32 or more: docs/filters-from-other-tools.md.)
  * Takes memory only for the first packet after a change. A change that is under way isn't seen before the
  * turn that commits it. */
 uint32_t mkdemux_receive(mkdemux_core *core, const uint8_t *packet, size_t captured, uint32_t original,

@@ -94,7 +94,7 @@ ROWS = {
     "core_drive": 2320,
     "core_threads": 1420,
     "core_handle": 1960,
-    "mk_script": 1120,
+    "line_words": 1120,
     "sim_lines": 240,
     "console": 680,
     "script_input": 70,
