@@ -20,9 +20,9 @@ use std::alloc::{AllocError, Global};
 use std::collections::VecDeque;
 use std::process::Abort;
 use table_replica::Op;
+use test_words::{ARP, CAP, FILTER, REQUEST, Told, program, tells};
 use ump_ring::ring;
 use world_model::{Answer, Done, Event};
-use test_words::{ARP, CAP, FILTER, REQUEST, Told, program, tells};
 
 /// What an event is, but for programs and packets: a word, and three numbers that are 0 where it has none.
 type Asked = (&'static str, u16, u16, u64);

@@ -19,8 +19,8 @@ use std::sync::atomic::{AtomicBool, AtomicU64, Ordering};
 use std::thread::Threads;
 use std::time::Clock;
 use table_replica::Op;
-use world_model::{Done, Event};
 use test_words::{ALL, Told, is_for_memory, program, tells};
+use world_model::{Done, Event};
 
 // A limit that is never met.
 const LIMIT: u64 = 50_000_000;

@@ -9,7 +9,8 @@ use std::alloc::Global;
 use std::process::Abort;
 use table_replica::{Kept, Made, OpFault, Replica};
 use test_words::{
-    ARP, Ask, CAP, FILTER, NO_MEMORY_ON_1, OVER_BUDGET_OF_1, OVER_BUDGET_OF_2, REQUEST, TAKEN, THREE,
+    ARP, Ask, CAP, FILTER, NO_MEMORY_ON_1, OVER_BUDGET_OF_1, OVER_BUDGET_OF_2, REQUEST, TAKEN,
+    THREE,
 };
 
 const CREATE: Ask = Ask::Create(1, 7);

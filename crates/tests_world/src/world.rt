@@ -14,7 +14,8 @@ use monitor_messages::{Decision, Veto, Vote};
 use std::alloc::Global;
 use table_replica::{Made, OpFault};
 use test_words::{
-    ALL, ARP, Ask, CAP, FILTER, NO_FILTER, NO_MEMORY_ON_1, OVER_BUDGET_OF_1, REQUEST, TAKEN, THREE, Told,
+    ALL, ARP, Ask, CAP, FILTER, NO_FILTER, NO_MEMORY_ON_1, OVER_BUDGET_OF_1, REQUEST, TAKEN, THREE,
+    Told,
 };
 use world_core::{BootFault, Lines, Messages, World, WorldFault};
 

@@ -108,10 +108,7 @@ pub(crate) fn event(rt: &impl Abort, alloc: Global, asked: Asked) -> Event
     }
 }
 
-fn outcome_once<C: Channel>(
-    world: &mut WorldOver<C>,
-    event: &Event,
-) -> Result<Told, WorldFault>
+fn outcome_once<C: Channel>(world: &mut WorldOver<C>, event: &Event) -> Result<Told, WorldFault>
     requires { IsShortEvent event.now }
 {
     let answer = world.apply(event)?;
