@@ -1,4 +1,4 @@
--- Programs after the cases of Linux' lib/test_bpf.c, each headed by the name of its case.
+-- Programs after the cases of lib/test_bpf.c of Linux 6.1, each headed by the name of its case, with that file's results in src/kernel.rt.
 use Rattle.std.specs.Prelude.{◌+◌, List, [], ◌∷◌}
 use Rattle.bpf_insn.specs.declared.insn.Insn.{Insn}
 use Rattle.definitions_tried.specs.Codes.{BPF_LD, BPF_LDX, BPF_ALU, BPF_JMP, BPF_RET, BPF_MISC, BPF_W, BPF_H, BPF_B, BPF_IMM, BPF_ABS, BPF_IND, BPF_LEN, BPF_ADD, BPF_SUB, BPF_MUL, BPF_DIV, BPF_OR, BPF_AND, BPF_LSH, BPF_NEG, BPF_MOD, BPF_JA, BPF_JEQ, BPF_JGT, BPF_JGE, BPF_JSET, BPF_K, BPF_X, BPF_A, BPF_TAX, BPF_TXA, BPF_STMT, BPF_JUMP}
@@ -126,7 +126,7 @@ jge =
     ∷ BPF_STMT (BPF_RET + BPF_K) 0xffffffff
     ∷ []
 
--- "JSET", which repeats its last test there
+-- "JSET", which repeats its last test there, and has 1 in the unused fields of a `ja`
 abbrev pub jset : List Insn
 jset =
     BPF_STMT (BPF_JMP + BPF_JA) 0
