@@ -1,4 +1,4 @@
-use Rattle.std.proofs.Common.{◌≡◌, ℕ, sym, ap, ◌∙◌, subst}
+use Rattle.std.proofs.Common.{◌≡◌, ℕ, refl, sym, ap, ◌∙◌, subst}
 use Rattle.core_join.specs.Machines.{RingCore}
 use Rattle.mkdemux_cores.specs.declared.turned.Turned.{Turned}
 use Rattle.mkdemux_cores.specs.Turns.{HasTurned}
