@@ -1,12 +1,12 @@
-/* mkdemux: a proved verifier of classic BPF programs, a proved machine that runs them, and their texts.
+/* mkdemux: a proved verifier of classic BPF programs, a proved machine that runs them, and functions for their texts.
  *
- * Link with -lmkdemux (pkg-config mkdemux). Beside the C library it needs nothing. It has no global state, starts no thread
- * and takes no lock: calls may run beside each other wherever what they are given allows it.
+ * Link with -lmkdemux (pkg-config mkdemux). It needs only the C library. It has no global state, starts no thread and
+ * takes no lock: calls may run at the same time wherever their arguments allow it.
  *
- * A program is what libpcap's pcap_compile gives, BSD's bpf(4) takes and Linux's SO_ATTACH_FILTER takes: records of eight
- * bytes, code (16 bits), jt, jf (8 bits each), k (32 bits), in the machine's byte order.
+ * A program is an array that libpcap's pcap_compile gives, and that BSD's bpf(4) and Linux's SO_ATTACH_FILTER take:
+ * records of eight bytes, code (16 bits), jt, jf (8 bits each), k (32 bits), in the machine's byte order.
  *
- * C99 and C++. Where <pcap.h> is included before, there is also mkdemux_offline_filter.
+ * C99 and C++. If <pcap.h> is included before, there is also mkdemux_offline_filter.
  */
 #ifndef MKDEMUX_H
 #define MKDEMUX_H
@@ -20,8 +20,8 @@
 extern "C" {
 #endif
 
-/* One instruction. `struct bpf_insn` of libpcap and BSD and `struct sock_filter` of Linux have this very layout, so a pointer
- * to either may be cast to a pointer to this. (mkdemux_cores.h has it too.) */
+/* One instruction. `struct bpf_insn` of libpcap and BSD and `struct sock_filter` of Linux have the same layout, so a
+ * pointer to either may be cast to a pointer to this. (mkdemux_cores.h has it too.) */
 #ifndef MKDEMUX_INSN
 #define MKDEMUX_INSN
 struct mkdemux_insn {
@@ -32,7 +32,7 @@ struct mkdemux_insn {
 #endif
 
 enum {
-    MKDEMUX_MAX_INSNS = 4096,             /* a program of more is refused */
+    MKDEMUX_MAX_INSNS = 4096,             /* a longer program is refused */
     MKDEMUX_MAX_DDD = 5 + 25 * 4096 /* bytes of the longest decimal text of such a program */
 };
 
@@ -44,8 +44,8 @@ enum mkdemux_answer {
     MKDEMUX_NO_MEMORY = 255  /* malloc refused; nothing was written to the caller's room */
 };
 
-/* What the verifier says. It looks for EMPTY and TOO_LONG; then at each instruction in turn for BAD_CODE to ANCILLARY, in this order;
- * then for NO_RETURN, and last for UNWRITTEN. */
+/* The verifier's answers. It checks EMPTY and TOO_LONG first; then BAD_CODE to ANCILLARY, in this order, at each
+ * instruction in turn; then NO_RETURN, and last UNWRITTEN. */
 enum mkdemux_rule {
     MKDEMUX_ACCEPTED = 0,
     MKDEMUX_EMPTY = 1,        /* no instruction */
@@ -58,7 +58,7 @@ enum mkdemux_rule {
     MKDEMUX_ANCILLARY = 8,    /* an absolute load at 2^31 or more */
     MKDEMUX_NO_RETURN = 9,    /* the last instruction is no return */
     MKDEMUX_UNWRITTEN = 10    /* some path loads a scratch word that nothing on it stored */
-    /* or MKDEMUX_NO_MEMORY: of the program's scratch words nothing is said, all other rules are kept */
+    /* or MKDEMUX_NO_MEMORY: the program's scratch words weren't checked; all other rules are kept */
 };
 
 /* Where a program is refused. */
@@ -74,7 +74,7 @@ struct mkdemux_ending {
     uint32_t steps;   /* instructions taken, from 1 to the program's length */
 };
 
-/* What was read of a decimal text. */
+/* The result of reading a decimal text. */
 struct mkdemux_reading {
     size_t count;   /* instructions of the program, also for NO_ROOM; 0 for a fault of the text */
     uint32_t fault; /* MKDEMUX_DONE, a number of mkdemux_text_fault, MKDEMUX_NO_ROOM or MKDEMUX_NO_MEMORY */
@@ -86,14 +86,14 @@ enum mkdemux_text_fault {
     MKDEMUX_COUNT_TOO_LONG = 3  /* the count is above 4,096 */
 };
 
-/* What was assembled of a text. */
+/* The result of assembling a text. */
 struct mkdemux_assembly {
     size_t count;   /* instructions of the program, also for NO_ROOM; 0 for a fault of the text */
     uint32_t fault; /* MKDEMUX_DONE, a number of mkdemux_asm_fault, MKDEMUX_TOO_LARGE, MKDEMUX_NO_ROOM or MKDEMUX_NO_MEMORY */
     uint32_t line;  /* of a fault of the text: its line, from 1 */
 };
 enum mkdemux_asm_fault {
-    MKDEMUX_MNEMONIC = 1,    /* no known mnemonic stands where one should */
+    MKDEMUX_MNEMONIC = 1,    /* there is no known mnemonic where one should be */
     MKDEMUX_OPERAND = 2,     /* the operands fit no shape of their mnemonic */
     MKDEMUX_NUMBER = 3,      /* a number is not in range, or no number */
     MKDEMUX_NO_LABEL = 4,    /* a jump names a label that the text doesn't define */
@@ -103,7 +103,7 @@ enum mkdemux_asm_fault {
     MKDEMUX_ASM_TOO_LONG = 8 /* more than 4,096 instructions */
 };
 
-/* How a program was written. */
+/* The result of writing a program. */
 struct mkdemux_writing {
     size_t length;  /* bytes of the text, also for NO_ROOM; 0 for NO_MEMORY */
     uint32_t fault; /* MKDEMUX_DONE, MKDEMUX_NO_ROOM or MKDEMUX_NO_MEMORY */
@@ -111,66 +111,68 @@ struct mkdemux_writing {
 
 /* ---- The proved functions ----
  *
- * What a caller owes all of them, and nothing checks:
- * - An array of `count` leads to so many values. Where the count is 0 it may be NULL, and is never looked at. Where it isn't, NULL
- *   is no array, and what happens is undefined. No array has more than PTRDIFF_MAX bytes.
- * - Arrays are aligned as their type is, to 4 bytes for instructions and places, to 1 for packets and texts. (mkdemux_open takes
- *   instructions at any address.)
- * - Nobody writes what a call reads, nor touches what it writes, until it returns. So what is written overlaps nothing else that
- *   is passed.
+ * A caller owes all of them the following. Nothing checks it:
+ * - An array with a `count` has so many values. If the count is 0, the array may be NULL, and is never looked at. If
+ *   the count isn't 0, the behaviour for NULL is undefined. No array has more than PTRDIFF_MAX bytes.
+ * - Arrays are aligned for their type: to 4 bytes for instructions and places, to 1 for packets and texts.
+ *   (mkdemux_open takes instructions at any address.)
+ * - Until a call returns, nobody else writes what it reads, or touches what it writes. So an output overlaps no other
+ *   argument.
  *
- * No function reads or writes a byte outside what it is given, and each ends. Those that take memory take it by malloc and
- * realloc and give it back by free before they return; these may be called wherever malloc may. */
+ * No function reads or writes a byte outside its arguments, and each ends. Functions that take memory take it by malloc
+ * and realloc and give it back by free before they return; they may be called wherever malloc may. */
 
 /* Accepts a program (0), or answers the first rule that it breaks.
- * Proved: 0 only where the program is sound; a sound one gives 0 or NO_MEMORY; any other number is that of the first rule that
- * is broken, in the order above, with its place, and for UNWRITTEN with its word and a real path to the load.
- * `place` isn't NULL, and is written whatever the answer: with zeros where it says nothing. `path` gets as many of the path's places as
- * `room` allows, the first ones; a room of `count` always has room for all. All else of it stays as it was.
- * A count of 0 gives EMPTY, one above 4,096 TOO_LONG; `code` isn't looked at then. Takes memory. */
+ * Proved: 0 is answered only if the program is sound; a sound program gives 0 or NO_MEMORY; any other number is that of
+ * the first rule that is broken, in the order above, with its place, and for UNWRITTEN with its word and a real path to
+ * the load.
+ * `place` must not be NULL. It is always written, with zeros where it says nothing. `path` gets the first places of the
+ * path, as many as `room` allows; a room of `count` is always enough for all. The rest of `path` stays as it was.
+ * A count of 0 gives EMPTY, and a count above 4,096 TOO_LONG; `code` isn't looked at then. Takes memory. */
 uint32_t mkdemux_verify(const struct mkdemux_insn *code, size_t count,
     struct mkdemux_place *place, uint32_t *path, size_t room);
 
-/* Runs a program over the captured bytes of a packet that had `original` bytes.
- * OWED: mkdemux_verify answered 0 for these very instructions; so count is from 1 to 4,096. For any other program what happens
- * is undefined.
- * Proved: it ends within `count` instructions, with the one verdict that the machine's definition gives. Takes no memory.
- * A packet of 0 bytes may be NULL. `original` may be any number. */
+/* Runs a program over the captured bytes of a packet whose original length is `original`.
+ * OWED: mkdemux_verify answered 0 for exactly these instructions; so count is from 1 to 4,096. For any other program
+ * the behaviour is undefined.
+ * Proved: it ends within `count` instructions, with the one verdict that the machine's definition gives.
+ * Takes no memory. A packet of 0 bytes may be NULL. `original` may be any number. */
 struct mkdemux_ending mkdemux_run(const struct mkdemux_insn *code, size_t count,
     const uint8_t *packet, size_t captured, uint32_t original);
 
-/* The same, the verdict alone; it is faster. */
+/* The same, but only the verdict; it is faster. */
 uint32_t mkdemux_verdict(const struct mkdemux_insn *code, size_t count,
     const uint8_t *packet, size_t captured, uint32_t original);
 
 /* Reads a decimal text (`tcpdump -ddd`, `bpf_asm`, the bpf match of iptables) into at most `room` instructions.
- * Proved: for DONE the first `count` of them are the program that the text spells; any other number is the text's first fault, or
- * NO_ROOM, for which `count` says how many are needed (4,096 at most), or NO_MEMORY. Behind the program, and for all other
- * answers, the room stays as it was. Whether the program can run isn't looked at. A text of length 0 is a BAD_NUMBER. Takes
- * memory. */
+ * Proved: for DONE the first `count` of them are the program that the text spells; any other number is the text's first
+ * fault, or NO_ROOM, for which `count` says how many are needed (4,096 at most), or NO_MEMORY. After the program, and
+ * for all other answers, the room stays as it was. The program isn't verified. A text of length 0 is a BAD_NUMBER.
+ * Takes memory. */
 struct mkdemux_reading mkdemux_read(const char *text, size_t length, struct mkdemux_insn *insns, size_t room);
 
 /* Assembles a text (the mnemonics of Linux's bpf_asm, without its ancillary loads) into at most `room` instructions.
- * Proved: as mkdemux_read; the fault is the first one, with its line. A text of length 0 is a program of no instruction. Takes
- * memory. */
+ * Proved: as for mkdemux_read; the fault is the first one, with its line. A text of length 0 is a program of no
+ * instruction. Takes memory. */
 struct mkdemux_assembly mkdemux_assemble(const char *text, size_t length, struct mkdemux_insn *insns, size_t room);
 
-/* Writes the decimal text of any program, as `tcpdump -ddd` does, into at most `room` bytes. No byte 0 ends it.
- * Proved: for DONE the first `length` bytes are the text, and mkdemux_read gives the program back if it has 4,096 instructions at
- * most; for NO_ROOM `length` says how many bytes are needed. The rest of the room stays as it was. Takes memory. */
+/* Writes the decimal text of any program, as `tcpdump -ddd` does, into at most `room` bytes, without a final 0 byte.
+ * Proved: for DONE the first `length` bytes are the text, and mkdemux_read gives the program back if it has at most
+ * 4,096 instructions; for NO_ROOM `length` says how many bytes are needed. The rest of the room stays as it was. Takes
+ * memory. */
 struct mkdemux_writing mkdemux_write_ddd(const struct mkdemux_insn *code, size_t count, char *text, size_t room);
 
-/* ---- A program that was accepted, as a value that can't be had otherwise: plain C over the functions above, not proved ---- */
+/* ---- An accepted program as a value: plain C over the functions above, not proved ---- */
 
-/* A private copy of a program that was accepted. Nothing but mkdemux_open makes one; its fields aren't to be written. */
+/* A private copy of an accepted program. Only mkdemux_open makes one; its fields must not be written. */
 typedef struct mkdemux_program {
     size_t count;
     const struct mkdemux_insn *code;
 } mkdemux_program;
 
-/* Copies and verifies `count` records of eight bytes at `code` (struct bpf_insn, struct sock_filter or struct mkdemux_insn, at any
- * address; NULL where the count is 0). NULL where the program is refused. `rule` and `place`, each of which may be NULL, say
- * why. What runs is the copy: the caller may free its own. */
+/* Copies and verifies `count` records of eight bytes at `code` (struct bpf_insn, struct sock_filter or struct
+ * mkdemux_insn, at any address; `code` may be NULL if the count is 0). The answer is NULL if the program is refused;
+ * `rule` and `place`, each of which may be NULL, say why. Only the copy is run: the caller may free its own array. */
 static inline const mkdemux_program *mkdemux_open(const void *code, size_t count, uint32_t *rule, struct mkdemux_place *place)
 {
     struct mkdemux_place where = {0, 0, 0};
@@ -195,20 +197,21 @@ static inline const mkdemux_program *mkdemux_open(const void *code, size_t count
     return made;
 }
 
-/* Gives the copy back. NULL is allowed, and nothing then. Its name is mkdemux_close. */
+/* Frees the copy. For NULL it does nothing. Call it by the name mkdemux_close. */
 static inline void mkdemux_close_program(const mkdemux_program *program)
 {
     free((void *)(uintptr_t)program);
 }
 
-/* What bpf_filter answers, with its arguments, for a program that was opened and not closed: the verdict on `buflen` captured bytes
- * at `p` of a packet that had `wirelen`. `program` isn't NULL. `p` may be NULL where `buflen` is 0. */
+/* Answers as bpf_filter does, with its arguments, for a program that was opened and not closed: the verdict on `buflen`
+ * captured bytes at `p` of a packet whose original length is `wirelen`. `program` must not be NULL. `p` may be NULL if
+ * `buflen` is 0. */
 static inline uint32_t mkdemux_filter(const mkdemux_program *program, const uint8_t *p, uint32_t wirelen, uint32_t buflen)
 {
     return mkdemux_verdict(program->code, program->count, p, buflen, wirelen);
 }
 
-/* One word for what mkdemux_verify answers, as `mkdemux match` has them. */
+/* The word for an answer of mkdemux_verify, as in `mkdemux match`. */
 static inline const char *mkdemux_rule_name(uint32_t rule)
 {
     static const char *const names[] = {"accepted", "Empty", "TooLong", "BadCode", "ZeroDivisor", "BadShift", "BadWord",
@@ -220,7 +223,7 @@ static inline const char *mkdemux_rule_name(uint32_t rule)
 }
 #endif
 
-/* mkdemux_close is the name of a call of mkdemux_cores.h too. Where that is included, it closes what it is given. */
+/* mkdemux_cores.h has a mkdemux_close, too. If it is included, mkdemux_close closes a program or a core. */
 #ifdef __cplusplus
 static inline void mkdemux_close(const mkdemux_program *program)
 {
@@ -237,8 +240,8 @@ static inline void mkdemux_close(const mkdemux_program *program)
 #if defined(PCAP_VERSION_MAJOR) && !defined(MKDEMUX_OFFLINE_FILTER)
 #define MKDEMUX_OFFLINE_FILTER
 
-/* As pcap_offline_filter, for a program that was opened from fp->bf_insns and fp->bf_len: 0 where the packet isn't accepted, and
- * for a program that is NULL. */
+/* As pcap_offline_filter, for a program that was opened from fp->bf_insns and fp->bf_len: 0 if the packet isn't
+ * accepted, or if the program is NULL. */
 static inline int mkdemux_offline_filter(const mkdemux_program *program, const struct pcap_pkthdr *header, const u_char *packet)
 {
     return program ? (int)mkdemux_filter(program, packet, header->len, header->caplen) : 0;
