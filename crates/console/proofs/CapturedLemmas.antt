@@ -7,13 +7,14 @@ use Rattle.pcap_reader.specs.declared.capture.CaptureFault.TheVariants as faults
 use Rattle.pcap_reader.specs.Savefile.{Reads}
 use Rattle.pcap_reader.specs.Held.{Holds}
 use Rattle.pcap_reader.specs.Answers.{GivesWhole, GivesFront}
+use Rattle.console.specs.declared.source.Source.{Source}
 use Rattle.console.specs.declared.input.TheConstants.{INPUT_BYTES}
 use Rattle.console.specs.declared.captured.Captured.{Captured}
 use Rattle.console.specs.Reading.{Fed, GaveCapture}
 
 -- all was read
-pub gave_read : (old new : Option (List ℕ)) (before feed : Feed) (whole : Bool) (c : Captured) → Fed old new INPUT_BYTES before feed whole → whole ≡ true
-    → ((fed : List ℕ) → Holds fed feed → Reads fed c.header c.packets c.fault) → GaveCapture old new (Some c)
+pub gave_read : {R : Type 0} {remaining : R → Option (List ℕ)} (old new : Source R) (before feed : Feed) (whole : Bool) (c : Captured) → Fed remaining old new INPUT_BYTES before feed whole → whole ≡ true
+    → ((fed : List ℕ) → Holds fed feed → Reads fed c.header c.packets c.fault) → GaveCapture remaining old new (Some c)
 gave_read old new before feed false c fed e reads = absurd (cc)
 gave_read old new before feed true c fed e reads = (fed.0, fed.1, fed.3, fed.4, reads fed.0 fed.2)
 

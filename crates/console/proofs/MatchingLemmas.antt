@@ -1,7 +1,7 @@
 -- What `match` has shown after some of its lines.
 use Rattle.std.proofs.Common.{Result, Ok, Err, IfOk, ◌⊎◌, Bool, ◌≡◌, ℕ, ◌+◌, List, [], ◌∷◌, ◌++◌, ◌<◌, length, Option, Some, None, refl, ap, sym, ◌∙◌, append_assoc, arith, length-append, inl, inr, IsErr, flat_map}
 use Rattle.std.specs.List.{AllZip}
-use Rattle.std.specs.Io.KnownBytes.{Appends, Consumes, IsAtEnd}
+use Rattle.std.specs.Io.KnownBytes.{Consumes, IsAtEnd}
 use Rattle.std.proofs.lemmas.List.{append-nil}
 use Rattle.hex.specs.Hex.{decode_of}
 use Rattle.bpf_insn.specs.declared.insn.Insn.{Insn}
@@ -11,32 +11,35 @@ use Rattle.console.specs.declared.fault.EngineFault.{EngineFault}
 use Rattle.console.specs.declared.fault.EngineFault.TheVariants.{NoMemory}
 use Rattle.console.specs.Code.{IsGoodCode, ShowsBadCode}
 use Rattle.console.specs.declared.input.TheConstants.{INPUT_BYTES}
-use Rattle.console.specs.Reading.{IsInput, LostTooMany, too_long_line}
+use Rattle.console.specs.declared.source.Source.{Source}
+use Rattle.console.specs.declared.sink.Sink.{Sink}
+use Rattle.console.specs.Devices.{Gets, Writes}
+use Rattle.console.specs.Reading.{BeginsWith, GotTooMany, IsInput, IsKnown, too_long_line}
 use Rattle.console.specs.Matching.{Answers, ShowsLines, ShowsGoodCode, ShowsInput, ShowsPart, ShowsRead, outcome_line, bad_line}
 use Rattle.console.proofs.WholeLemmas.{packets_front}
-use Rattle.console.proofs.KnownBytesLemmas.{appends-then, appends-nothing}
+use Rattle.console.proofs.KnownBytesLemmas.{writes-then, writes-nothing}
 use Rattle.pcap_reader.proofs.FeedLemmas.{AllZip-push}
 
 -- all is lines that were answered and the rest, and the answers are written but for what is kept back
-pub record SoFar {A : Type 0} (Gives : A → Outcome → Type 0) (all rest : List A) (number : ℕ) (old new : Option (List ℕ)) (kept : List ℕ) : Type 0 where
+pub record SoFar {A W : Type 0} (Gives : A → Outcome → Type 0) (all rest : List A) (number : ℕ) (contents : W → Option (List ℕ)) (old new : Sink W) (kept : List ℕ) : Type 0 where
   pub good : List A
   pub outcomes : List Outcome
   pub written : List ℕ
   pub front : all ≡ good ++ rest
   pub ran : AllZip Gives good outcomes
   pub count : number ≡ length good
-  pub appended : Appends old new written
+  pub appended : Writes contents old new written
   pub printed : written ++ kept ≡ flat_map outcome_line outcomes
 
-pub so_far_start : {A : Type 0} (Gives : A → Outcome → Type 0) (all : List A) (known : Option (List ℕ)) → SoFar Gives all all 0 known known []
-so_far_start Gives all known = record {
+pub so_far_start : {A : Type 0} (Gives : A → Outcome → Type 0) (all : List A) {W : Type 0} {contents : W → Option (List ℕ)} (sink : Sink W) → SoFar Gives all all 0 contents sink sink []
+so_far_start Gives all sink = record {
   good = [];
   outcomes = [];
   written = [];
   front = refl;
   ran = tt;
   count = refl;
-  appended = appends-nothing known;
+  appended = writes-nothing sink;
   printed = refl;
 }
 
@@ -44,8 +47,8 @@ pub flat_map-push : {A B : Type 0} (f : A → List B) (xs : List A) (x : A) → 
 flat_map-push f [] x = append-nil (f x)
 flat_map-push f (a ∷ xs) x = ap (λ t. f a ++ t) (flat_map-push f xs x) ∙ sym (append_assoc (f a) (flat_map f xs) (f x))
 
-pub so_far_next : {A : Type 0} (Gives : A → Outcome → Type 0) (all : List A) (line : A) (rest : List A) (n m : ℕ) (old new : Option (List ℕ)) (kept kept' : List ℕ) (o : Outcome)
-    → (left : List A) → left ≡ line ∷ rest → SoFar Gives all left n old new kept → Gives line o → kept' ≡ kept ++ outcome_line o → m ≡ n + 1 → SoFar Gives all rest m old new kept'
+pub so_far_next : {A : Type 0} (Gives : A → Outcome → Type 0) (all : List A) (line : A) (rest : List A) (n m : ℕ) {W : Type 0} {contents : W → Option (List ℕ)} (old new : Sink W) (kept kept' : List ℕ) (o : Outcome)
+    → (left : List A) → left ≡ line ∷ rest → SoFar Gives all left n contents old new kept → Gives line o → kept' ≡ kept ++ outcome_line o → m ≡ n + 1 → SoFar Gives all rest m contents old new kept'
 so_far_next Gives all line rest n m old new kept kept' o left first so ran text one = record {
   good = so.good ++ line ∷ [];
   outcomes = so.outcomes ++ o ∷ [];
@@ -58,8 +61,8 @@ so_far_next Gives all line rest n m old new kept kept' o left first so ran text 
 }
 
 -- what was kept back is written
-pub so_far_written : {A : Type 0} (Gives : A → Outcome → Type 0) (all rest : List A) (n : ℕ) (old new last : Option (List ℕ)) (kept : List ℕ)
-    → SoFar Gives all rest n old new kept → Appends new last kept → SoFar Gives all rest n old last []
+pub so_far_written : {A : Type 0} (Gives : A → Outcome → Type 0) (all rest : List A) (n : ℕ) {W : Type 0} {contents : W → Option (List ℕ)} (old new last : Sink W) (kept : List ℕ)
+    → SoFar Gives all rest n contents old new kept → Writes contents new last kept → SoFar Gives all rest n contents old last []
 so_far_written Gives all rest n old new last kept so more = record {
   good = so.good;
   outcomes = so.outcomes;
@@ -67,13 +70,13 @@ so_far_written Gives all rest n old new last kept so more = record {
   front = so.front;
   ran = so.ran;
   count = so.count;
-  appended = appends-then old new last so.written kept so.appended more;
+  appended = writes-then old new last so.written kept so.appended more;
   printed = append-nil (so.written ++ kept) ∙ so.printed;
 }
 
 -- at the end of the lines
-pub so_far_end : (program : List Insn) (all : List (List ℕ)) (n : ℕ) (old new last : Option (List ℕ)) (kept : List ℕ)
-    → (left : List (List ℕ)) → left ≡ [] → SoFar (Answers program) all left n old new kept → Appends new last kept → (text : List ℕ) × ShowsLines program all 0 text × Appends old last text
+pub so_far_end : (program : List Insn) (all : List (List ℕ)) (n : ℕ) {W : Type 0} {contents : W → Option (List ℕ)} (old new last : Sink W) (kept : List ℕ)
+    → (left : List (List ℕ)) → left ≡ [] → SoFar (Answers program) all left n contents old new kept → Writes contents new last kept → (text : List ℕ) × ShowsLines program all 0 text × Writes contents old last text
 so_far_end program all n old new last kept left none so more = (
   so.written ++ kept,
   record {
@@ -84,12 +87,12 @@ so_far_end program all n old new last kept left none so more = (
     stops = inl (so.front ∙ ap (λ t. so.good ++ t) none ∙ append-nil so.good, refl, refl);
     printed = so.printed ∙ sym (append-nil (flat_map outcome_line so.outcomes));
   },
-  appends-then old new last so.written kept so.appended more,
+  writes-then old new last so.written kept so.appended more,
 )
 
 -- at a line that spells no packet
-pub so_far_bad : (program : List Insn) (all : List (List ℕ)) (bad : List ℕ) (rest : List (List ℕ)) (n m : ℕ) (old new last : Option (List ℕ)) (kept kept' : List ℕ)
-    → (left : List (List ℕ)) → left ≡ bad ∷ rest → SoFar (Answers program) all left n old new kept → IsErr (decode_of bad) → kept' ≡ kept ++ bad_line m → m ≡ n + 1 → Appends new last kept' → (text : List ℕ) × ShowsLines program all 1 text × Appends old last text
+pub so_far_bad : (program : List Insn) (all : List (List ℕ)) (bad : List ℕ) (rest : List (List ℕ)) (n m : ℕ) {W : Type 0} {contents : W → Option (List ℕ)} (old new last : Sink W) (kept kept' : List ℕ)
+    → (left : List (List ℕ)) → left ≡ bad ∷ rest → SoFar (Answers program) all left n contents old new kept → IsErr (decode_of bad) → kept' ≡ kept ++ bad_line m → m ≡ n + 1 → Writes contents new last kept' → (text : List ℕ) × ShowsLines program all 1 text × Writes contents old last text
 so_far_bad program all bad rest n m old new last kept kept' left first so err text one more = (
   so.written ++ kept',
   record {
@@ -100,52 +103,64 @@ so_far_bad program all bad rest n m old new last kept kept' left first so err te
     stops = inr (bad, rest, so.front ∙ ap (λ t. so.good ++ t) first, err, refl, ap bad_line (one ∙ ap (λ k. k + 1) so.count));
     printed = ap (λ t. so.written ++ t) text ∙ sym (append_assoc so.written kept (bad_line m)) ∙ ap (λ t. t ++ bad_line m) so.printed;
   },
-  appends-then old new last so.written kept' so.appended more,
+  writes-then old new last so.written kept' so.appended more,
 )
 
--- a reader that lost more than so many bytes had more
-pub long_input : (old new : Option (List ℕ)) (given : List ℕ) (n : ℕ) → Consumes old new given → n < length given → (input : List ℕ) × IsInput old input × (n < length input)
-long_input None new given n lost long = (given, tt, long)
-long_input (Some xs) None given n lost long = absurd lost
-long_input (Some xs) (Some ys) given n lost long = (xs, refl, omega (arith, ap length lost, length-append given ys))
+-- a source that got these bytes had them at the front of an input
+known_front : (old new : Option (List ℕ)) (got : List ℕ) → Consumes old new got → (input : List ℕ) × IsKnown old input × BeginsWith got input
+known_front None new got lost = (got, tt, ([], sym (append-nil got)))
+known_front (Some xs) None got lost = absurd lost
+known_front (Some xs) (Some ys) got lost = (xs, refl, (ys, lost))
+
+-- a source that got more than so many bytes had more
+pub long_input : {R : Type 0} {remaining : R → Option (List ℕ)} (old new : Source R) (given : List ℕ) → Gets remaining old new given → INPUT_BYTES < length given
+    → (input : List ℕ) × IsInput remaining old new input × (INPUT_BYTES < length input)
+long_input old new given got long =
+    let input = known_front _ _ given got.lost in
+    (input.0, (input.1, (given, got, inr (long, input.2))), omega (arith, long, ap length input.2.1, length-append given input.2.0))
 
 -- what is shown where an input is too long
-pub shown_long : (r : Result ℕ EngineFault) (known lost old new : Option (List ℕ)) (Shows : List ℕ → ℕ → List ℕ → Type 0) → LostTooMany known lost INPUT_BYTES
-    → ((input : List ℕ) → INPUT_BYTES < length input → Shows input 1 too_long_line) → IfOk r (λ status. (status ≡ 1) × Appends old new too_long_line)
-    → IfOk r (λ status. (text : List ℕ) × Appends old new text × ((input : List ℕ) × IsInput known input × Shows input status text))
-shown_long (Ok status) known lost old new Shows gave shows wrote =
-    let input = long_input known lost gave.0 INPUT_BYTES gave.1 gave.2 in
+pub shown_long : (r : Result ℕ EngineFault) {R W : Type 0} {remaining : R → Option (List ℕ)} (contents : W → Option (List ℕ)) (known lost : Source R) (old new : Sink W) (Shows : List ℕ → ℕ → List ℕ → Type 0) → GotTooMany remaining known lost INPUT_BYTES
+    → ((input : List ℕ) → INPUT_BYTES < length input → Shows input 1 too_long_line) → IfOk r (λ status. (status ≡ 1) × Writes contents old new too_long_line)
+    → IfOk r (λ status. (text : List ℕ) × Writes contents old new text × ((input : List ℕ) × IsInput remaining known lost input × Shows input status text))
+shown_long (Ok status) contents known lost old new Shows gave shows wrote =
+    let input = long_input known lost gave.0 gave.1 gave.2 in
     (too_long_line, wrote.1, (input.0, input.1, rw wrote.0 (shows input.0 input.2)))
-shown_long (Err e) known lost old new Shows gave shows wrote = tt
+shown_long (Err e) contents known lost old new Shows gave shows wrote = tt
 
 -- a reader that lost these bytes and then was at its end had just these
-pub whole_input : (old new : Option (List ℕ)) (held : List ℕ) → Consumes old new held → IsAtEnd new → IsInput old held
-whole_input None new held lost end = tt
-whole_input (Some xs) None held lost end = absurd lost
-whole_input (Some xs) (Some ys) held lost end = sym (lost ∙ ap (λ rest. held ++ rest) end ∙ append-nil held)
+pub known_whole : (old new : Option (List ℕ)) (held : List ℕ) → Consumes old new held → IsAtEnd new → IsKnown old held
+known_whole None new held lost end = tt
+known_whole (Some xs) None held lost end = absurd lost
+known_whole (Some xs) (Some ys) held lost end = sym (lost ∙ ap (λ rest. held ++ rest) end ∙ append-nil held)
+
+-- and they are the input
+pub whole_input : {R : Type 0} {remaining : R → Option (List ℕ)} (old new : Source R) (held : List ℕ) → Gets remaining old new held → IsAtEnd (remaining new.inner) → IsInput remaining old new held
+whole_input old new held got end = (known_whole _ _ held got.lost end, (held, got, inl refl))
 
 -- what is shown of a good code is what is shown of its program
-pub shown_of : (r : Result ℕ EngineFault) (code : List ℕ) (program : List Insn) (pcap : Bool) (known old new : Option (List ℕ)) → IsGoodCode code program
-    → IfOk r (λ status. (text : List ℕ) × Appends old new text × ((input : List ℕ) × IsInput known input × ShowsInput program pcap input status text))
-    → IfOk r (λ status. (text : List ℕ) × Appends old new text
-    × ((ShowsBadCode code text × (status ≡ 1)) ⊎ ((input : List ℕ) × IsInput known input × ShowsGoodCode code pcap input status text)))
-shown_of (Ok status) code program pcap known old new good s = (s.0, s.1, inr (s.2.0, s.2.1, (program, good, s.2.2)))
-shown_of (Err fault) code program pcap known old new good s = tt
+pub shown_of : (r : Result ℕ EngineFault) (code : List ℕ) (program : List Insn) (pcap : Bool) {R W : Type 0} (remaining : R → Option (List ℕ)) (contents : W → Option (List ℕ)) (known lost : Source R) (old new : Sink W) → IsGoodCode code program
+    → IfOk r (λ status. (text : List ℕ) × Writes contents old new text × ((input : List ℕ) × IsInput remaining known lost input × ShowsInput program pcap input status text))
+    → IfOk r (λ status. (text : List ℕ) × Writes contents old new text
+    × ((ShowsBadCode code text × (status ≡ 1)) ⊎ ((input : List ℕ) × IsInput remaining known lost input × ShowsGoodCode code pcap input status text)))
+shown_of (Ok status) code program pcap remaining contents known lost old new good s = (s.0, s.1, inr (s.2.0, s.2.1, (program, good, s.2.2)))
+shown_of (Err fault) code program pcap remaining contents known lost old new good s = tt
 
-pub part_of : (r : Result ℕ EngineFault) (code : List ℕ) (program : List Insn) (pcap : Bool) (known left old new : Option (List ℕ)) → IsGoodCode code program
-    → (IsErrOf r NoMemory → (text : List ℕ) × ShowsRead program pcap known left text × Appends old new text)
-    → IsErrOf r NoMemory → (text : List ℕ) × ShowsPart code pcap known left text × Appends old new text
-part_of r code program pcap known left old new good part = λ memory. let p = part memory in (p.0, by p.0 p.1, p.2)
-  where
-    by : (text : List ℕ) → ShowsRead program pcap known left text → ShowsPart code pcap known left text
-    by text (inl nothing) = inl nothing
-    by text (inr read) = inr (record {
-      program = program;
-      good = good;
-      input = read.0;
-      lost = read.1;
-      is = read.2;
-      short = read.3;
-      front = packets_front program good.1 pcap read.0 text read.4;
-      packets = read.4;
-    })
+part_by : (code : List ℕ) (program : List Insn) (pcap : Bool) {R : Type 0} {remaining : R → Option (List ℕ)} (known left : Source R) (text : List ℕ) → IsGoodCode code program → ShowsRead program pcap remaining known left text
+    → ShowsPart code pcap remaining known left text
+part_by code program pcap known left text good (inl nothing) = inl nothing
+part_by code program pcap known left text good (inr read) = inr (record {
+  program = program;
+  good = good;
+  input = read.0;
+  got = read.1;
+  is = read.2;
+  short = read.3;
+  front = packets_front program good.1 pcap read.0 text read.4;
+  packets = read.4;
+})
+
+pub part_of : (r : Result ℕ EngineFault) (code : List ℕ) (program : List Insn) (pcap : Bool) {R W : Type 0} {remaining : R → Option (List ℕ)} {contents : W → Option (List ℕ)} (known left : Source R) (old new : Sink W) → IsGoodCode code program
+    → (IsErrOf r NoMemory → (text : List ℕ) × ShowsRead program pcap remaining known left text × Writes contents old new text)
+    → IsErrOf r NoMemory → (text : List ℕ) × ShowsPart code pcap remaining known left text × Writes contents old new text
+part_of r code program pcap known left old new good part = λ memory. let p = part memory in (p.0, part_by code program pcap known left p.0 good p.1, p.2)

@@ -1,7 +1,6 @@
 -- How packets are run while a capture is read.
 use Rattle.std.proofs.Common.{◌≡◌, ◌≢◌, ℕ, ◌+◌, ◌<◌, List, [], ◌∷◌, ◌++◌, length, drop, All, Option, Some, Result, Err, arith, refl, ap, sym, ◌∙◌, append_assoc, length-append, slice_index, subst}
 use Rattle.std.specs.List.{AllZip}
-use Rattle.std.specs.Io.KnownBytes.{Consumes, Keeps}
 use Rattle.std.proofs.lemmas.List.{append-nil}
 use Rattle.std.proofs.lemmas.List.Elements.{All-drop}
 use Rattle.std.proofs.Math.Seq.{drop-append_seam}
@@ -15,11 +14,12 @@ use Rattle.pcap_reader.specs.declared.capture.CaptureFault.TheVariants.{NoMemory
 use Rattle.pcap_reader.specs.Savefile.{Reads}
 use Rattle.pcap_reader.specs.Held.{HoldsBehind, TakesFront, TakesWhole, held_packets}
 use Rattle.pcap_reader.proofs.FeedLemmas.{holds-on, are_bytes}
+use Rattle.console.specs.declared.source.Source.{Source}
+use Rattle.console.specs.Devices.{Gets, GetsNothing}
 use Rattle.console.specs.Matching.{AnswersCaptured}
 use Rattle.console.specs.Reading.{HasStopped}
 use Rattle.console.specs.Running.{HasRun, RunsOn, RunsTo}
-use Rattle.console.proofs.KnownBytesLemmas.{consumes-then}
-use Rattle.console.proofs.FeedingLemmas.{consumes-kept}
+use Rattle.console.proofs.KnownBytesLemmas.{gets-kept, gets-then}
 
 -- nothing was taken
 pub runs_none : {S : Type 0} (Ran : List ℕ → S → List Outcome → Type 0) (bytes : List ℕ) (feed : S) (before : List Outcome) → RunsTo Ran Ran bytes bytes feed feed before before
@@ -122,26 +122,26 @@ other_fault held fault answer is other refused memory = let e = refused memory i
 pub reads_given : (bytes : List ℕ) (header : Option Header) (packets held : List Packet) (fault : Option CaptureFault) → held ≡ [] → Reads bytes header (packets ++ held) fault → Reads bytes header packets fault
 reads_given bytes header packets held fault none reads = rw (ap (λ t. packets ++ t) none ∙ append-nil packets) at reads
 
--- a reader lost these bytes, whose whole packets were run
-pub record SoRun (program : List Insn) (old new : Option (List ℕ)) (feed : Feed) (outcomes : List Outcome) (taken : ℕ) : Type 0 where
+-- a source got these bytes, whose whole packets were run
+pub record SoRun {R : Type 0} (program : List Insn) (remaining : R → Option (List ℕ)) (old new : Source R) (feed : Feed) (outcomes : List Outcome) (taken : ℕ) : Type 0 where
   pub given : List ℕ
-  pub lost : Consumes old new given
+  pub lost : Gets remaining old new given
   pub has : HasRun program given feed outcomes
   pub count : taken ≡ length given
 
-pub so_run_next : (program : List Insn) (old mid new : Option (List ℕ)) (feed feed' : Feed) (before after : List Outcome) (taken taken' : ℕ) (piece : List ℕ)
-    → SoRun program old mid feed before taken → Consumes mid new piece → taken' ≡ taken + length piece → taken' < 18446744073709551616
-    → RunsOn program piece [] feed feed' before after → SoRun program old new feed' after taken'
+pub so_run_next : (program : List Insn) {R : Type 0} {remaining : R → Option (List ℕ)} (old mid new : Source R) (feed feed' : Feed) (before after : List Outcome) (taken taken' : ℕ) (piece : List ℕ)
+    → SoRun program remaining old mid feed before taken → Gets remaining mid new piece → taken' ≡ taken + length piece → taken' < 18446744073709551616
+    → RunsOn program piece [] feed feed' before after → SoRun program remaining old new feed' after taken'
 so_run_next program old mid new feed feed' before after taken taken' piece so next count short runs =
     let all : piece ≡ runs.front = runs.parts ∙ append-nil runs.front in
     record {
       given = so.given ++ piece;
-      lost = consumes-then old mid new so.given piece so.lost next;
+      lost = gets-then old mid new so.given piece so.lost next;
       has = rw (all, runs.pushed) (runs.runs so.given before so.has (omega (arith, length-append so.given runs.front, ap length all, so.count)));
       count = omega (arith, length-append so.given piece, so.count);
     }
 
 -- a read that failed and took nothing
-pub so_run_kept : (program : List Insn) (old mid new : Option (List ℕ)) (feed : Feed) (outcomes : List Outcome) (taken taken' : ℕ) → SoRun program old mid feed outcomes taken → Keeps mid new → taken' ≡ taken
-    → SoRun program old new feed outcomes taken'
-so_run_kept program old mid new feed outcomes taken taken' so kept same = record { given = so.given; lost = consumes-kept old mid new so.given so.lost kept; has = so.has; count = same ∙ so.count }
+pub so_run_kept : (program : List Insn) {R : Type 0} {remaining : R → Option (List ℕ)} (old mid new : Source R) (feed : Feed) (outcomes : List Outcome) (taken taken' : ℕ) → SoRun program remaining old mid feed outcomes taken → GetsNothing remaining mid new → taken' ≡ taken
+    → SoRun program remaining old new feed outcomes taken'
+so_run_kept program old mid new feed outcomes taken taken' so kept same = record { given = so.given; lost = gets-kept old mid new so.given so.lost kept; has = so.has; count = same ∙ so.count }

@@ -2,10 +2,13 @@
 use Rattle.std.proofs.Common.{◌≡◌, ℕ, ◌+◌, ◌*◌, ◌<◌, ◌≤◌, ◌⊎◌, inl, inr, List, [], ◌∷◌, ◌++◌, length, zero-add, All, Bool, true, false, Option, Some, None, Result, Ok, Err, IfOk, arith, refl, sym, ap, ◌∙◌, append_assoc, length-append, take, length-take-le}
 use Rattle.std.specs.Prelude.{IsTrue, OnErr, OnOk}
 use Rattle.std.specs.Bool.{MatchBool}
-use Rattle.std.specs.Io.KnownBytes.{Appends, Consumes, IsAtEnd, Keeps}
+use Rattle.std.specs.Io.KnownBytes.{IsAtEnd}
 use Rattle.std.proofs.lemmas.List.{append-nil}
 use Rattle.bpf_insn.specs.declared.insn.Insn.{Insn}
 use Rattle.filter_vm.specs.declared.machine.Outcome.{Outcome}
+use Rattle.console.specs.declared.source.Source.{Source}
+use Rattle.console.specs.declared.sink.Sink.{Sink}
+use Rattle.console.specs.Devices.{Gets, GetsNothing, Writes}
 use Rattle.console.specs.declared.ending.Ending.{Ending}
 use Rattle.console.specs.declared.packet_source.PacketSource.{PacketSource}
 use Rattle.console.specs.declared.stamp.Stamp.{Stamp}
@@ -18,19 +21,18 @@ use Rattle.console.specs.Code.{IsGoodCode, ShowsBadCode}
 use Rattle.console.specs.Streaming.{SourceEnded, SourceRan, StampTo, StreamLeaves, StreamShows, is_capture, is_stamped}
 use Rattle.console.specs.Views.{AreShown, HasCounted, IsFound, RanAll, RanFirst, ShowsEnd, ShowsView, ShowsViewCode, ShowsViewPart, ViewLeaves, ViewShows, accepted, ending_status, ending_text, other_stamps, shown_at_once, shows_stamps}
 use Rattle.console.proofs.WholeLemmas.{some_front}
-use Rattle.console.proofs.KnownBytesLemmas.{appends-then, consumes-then}
-use Rattle.console.proofs.FeedingLemmas.{consumes-kept}
+use Rattle.console.proofs.KnownBytesLemmas.{gets-kept, gets-then, keeps-itself, writes-then}
 use Rattle.console.proofs.StreamingLemmas.{Ends, EndsAtOne, Streamed, begins_itself, ended_first, ended_stamps, no_bytes, ran_aligned, ran_first, ran_stamps}
 use Rattle.console.proofs.ViewLemmas.{lines_part, lines_shows, shown-append}
 
 -- what is left where what was read isn't run
-pub left_read : {T E : Type 0} (r : Result T E) (view : View) (program : List Insn) (pcap : Bool) (from at at' old new : Option (List ℕ)) (source : PacketSource) (tally : Tally) (turns : ℕ) (piece : List ℕ)
-    → Streamed view program pcap from at old new source tally turns → Consumes at at' piece → All (λ b. b < 256) piece
-    → OnErr r ((input : List ℕ) × Consumes from at' input × ((text : List ℕ) × Appends old new text × ShowsViewPart view program pcap input text))
+pub left_read : {T E : Type 0} (r : Result T E) (view : View) (program : List Insn) (pcap : Bool) {R W : Type 0} {remaining : R → Option (List ℕ)} {contents : W → Option (List ℕ)} (from at at' : Source R) (old new : Sink W) (source : PacketSource) (tally : Tally) (turns : ℕ) (piece : List ℕ)
+    → Streamed view program pcap remaining from at contents old new source tally turns → Gets remaining at at' piece → All (λ b. b < 256) piece
+    → OnErr r ((input : List ℕ) × Gets remaining from at' input × ((text : List ℕ) × Writes contents old new text × ShowsViewPart view program pcap input text))
 left_read (Ok v) view program pcap from at at' old new source tally turns piece so lost small = tt
 left_read (Err e) view program pcap from at at' old new source tally turns piece so lost small = (
   so.input ++ piece,
-  consumes-then from at at' so.input piece so.lost lost,
+  gets-then from at at' so.input piece so.lost lost,
   (
     shown_at_once view 0 so.stamps so.shown,
     so.appended,
@@ -39,11 +41,11 @@ left_read (Err e) view program pcap from at at' old new source tally turns piece
 )
 
 -- and where a read failed
-pub left_kept : (view : View) (program : List Insn) (pcap : Bool) (from at at' old new : Option (List ℕ)) (source : PacketSource) (tally : Tally) (turns : ℕ) → Streamed view program pcap from at old new source tally turns → Keeps at at'
-    → (input : List ℕ) × Consumes from at' input × ((text : List ℕ) × Appends old new text × ShowsViewPart view program pcap input text)
+pub left_kept : (view : View) (program : List Insn) (pcap : Bool) {R W : Type 0} {remaining : R → Option (List ℕ)} {contents : W → Option (List ℕ)} (from at at' : Source R) (old new : Sink W) (source : PacketSource) (tally : Tally) (turns : ℕ) → Streamed view program pcap remaining from at contents old new source tally turns → GetsNothing remaining at at'
+    → (input : List ℕ) × Gets remaining from at' input × ((text : List ℕ) × Writes contents old new text × ShowsViewPart view program pcap input text)
 left_kept view program pcap from at at' old new source tally turns so kept = (
   so.input,
-  consumes-kept from at at' so.input so.lost kept,
+  gets-kept from at at' so.input so.lost kept,
   (
     shown_at_once view 0 so.stamps so.shown,
     so.appended,
@@ -51,19 +53,18 @@ left_kept view program pcap from at at' old new source tally turns so kept = (
   ),
 )
 
-pub keeps_itself : (known : Option (List ℕ)) → Keeps known known
-keeps_itself None = tt
-keeps_itself (Some xs) = refl
+pub keeps_itself : {R : Type 0} {remaining : R → Option (List ℕ)} (source : Source R) → GetsNothing remaining source source
+keeps_itself source = record { list = refl; left = keeps-itself _ }
 
 -- a read that was interrupted
-pub streamed_kept : (view : View) (program : List Insn) (pcap : Bool) (from at at' old new : Option (List ℕ)) (source : PacketSource) (tally : Tally) (turns : ℕ) → Streamed view program pcap from at old new source tally turns → Keeps at at'
-    → Streamed view program pcap from at' old new source tally (turns + 1)
+pub streamed_kept : (view : View) (program : List Insn) (pcap : Bool) {R W : Type 0} {remaining : R → Option (List ℕ)} {contents : W → Option (List ℕ)} (from at at' : Source R) (old new : Sink W) (source : PacketSource) (tally : Tally) (turns : ℕ) → Streamed view program pcap remaining from at contents old new source tally turns → GetsNothing remaining at at'
+    → Streamed view program pcap remaining from at' contents old new source tally (turns + 1)
 streamed_kept view program pcap from at at' old new source tally turns so kept = record {
   input = so.input;
   shown = so.shown;
   stamps = so.stamps;
   stamped = so.stamped;
-  lost = consumes-kept from at at' so.input so.lost kept;
+  lost = gets-kept from at at' so.input so.lost kept;
   ran = so.ran;
   counted = so.counted;
   appended = so.appended;
@@ -72,15 +73,15 @@ streamed_kept view program pcap from at at' old new source tally turns so kept =
 }
 
 -- what was read was run, but isn't shown yet
-pub record Took (view : View) (To : List ℕ → List Outcome → List Stamp → Type 0) (pcap : Bool) (from at old new : Option (List ℕ)) (source : PacketSource) (tally : Tally) (outcomes : List Outcome) (times : List Stamp) (turns : ℕ) : Type 0 where
+pub record Took {R W : Type 0} (view : View) (To : List ℕ → List Outcome → List Stamp → Type 0) (pcap : Bool) (remaining : R → Option (List ℕ)) (from at : Source R) (contents : W → Option (List ℕ)) (old new : Sink W) (source : PacketSource) (tally : Tally) (outcomes : List Outcome) (times : List Stamp) (turns : ℕ) : Type 0 where
   pub input : List ℕ
   pub shown : List Outcome
   pub stamps : List Stamp
-  pub lost : Consumes from at input
+  pub lost : Gets remaining from at input
   pub has : To input (shown ++ outcomes) (stamps ++ times)
   pub aligned : (length stamps ≡ length shown) ⊎ ((stamps ≡ []) × (times ≡ []))
   pub counted : HasCounted view tally shown
-  pub appended : Appends old new (shown_at_once view 0 stamps shown)
+  pub appended : Writes contents old new (shown_at_once view 0 stamps shown)
   pub kind : is_capture source ≡ pcap
   pub stamped : is_stamped source ≡ shows_stamps view pcap
   pub short : length input ≤ 65536 * turns
@@ -92,10 +93,10 @@ align program fed source outcomes stamps since upto ran none plain = elim (ran_a
   | inr apart ↦ inr (apart.1, plain apart.0 ∙ none)
 ]
 
-pub took : (view : View) (To : List ℕ → PacketSource → List Outcome → List Stamp → Type 0) (program : List Insn) (pcap : Bool) (from at at' old new : Option (List ℕ)) (source source' : PacketSource) (tally : Tally) (turns : ℕ) (piece : List ℕ) (before after : List Outcome) (since upto : List Stamp)
-    → Streamed view program pcap from at old new source tally turns → Consumes at at' piece → length piece ≤ 65536 → turns < 281474976710655 → before ≡ [] → since ≡ [] → (is_stamped source ≡ false → upto ≡ since)
+pub took : (view : View) (To : List ℕ → PacketSource → List Outcome → List Stamp → Type 0) (program : List Insn) (pcap : Bool) {R W : Type 0} {remaining : R → Option (List ℕ)} {contents : W → Option (List ℕ)} (from at at' : Source R) (old new : Sink W) (source source' : PacketSource) (tally : Tally) (turns : ℕ) (piece : List ℕ) (before after : List Outcome) (since upto : List Stamp)
+    → Streamed view program pcap remaining from at contents old new source tally turns → Gets remaining at at' piece → length piece ≤ 65536 → turns < 281474976710655 → before ≡ [] → since ≡ [] → (is_stamped source ≡ false → upto ≡ since)
     → StampTo (SourceRan program) To piece source source' before after since upto → is_capture source' ≡ is_capture source → is_stamped source' ≡ is_stamped source
-    → Took view (λ input outcomes stamps. To input source' outcomes stamps) pcap from at' old new source' tally after upto (turns + 1)
+    → Took view (λ input outcomes stamps. To input source' outcomes stamps) pcap remaining from at' contents old new source' tally after upto (turns + 1)
 took view To program pcap from at at' old new source source' tally turns piece before after since upto so lost few limit none no_times plain runs kind stamped =
     let pushed : after ≡ runs.more = runs.pushed ∙ ap (λ t. t ++ runs.more) none in
     let timed : upto ≡ runs.times = runs.pushed_times ∙ ap (λ t. t ++ runs.times) no_times in
@@ -103,7 +104,7 @@ took view To program pcap from at at' old new source source' tally turns piece b
       input = so.input ++ piece;
       shown = so.shown;
       stamps = so.stamps;
-      lost = consumes-then from at at' so.input piece so.lost lost;
+      lost = gets-then from at at' so.input piece so.lost lost;
       has = rw (pushed, timed) (runs.runs so.input so.shown so.stamps so.ran (omega (arith, length-append so.input piece, so.short, few, limit)));
       aligned = align program so.input source so.shown so.stamps since upto so.ran no_times plain;
       counted = so.counted;
@@ -142,11 +143,11 @@ shown_then : (view : View) (tally : Tally) (stamps times : List Stamp) (shown mo
 shown_then view tally stamps times shown more counted aligned = rw (counted.0, counted.1) (rw zero-add at (shown-append view 0 stamps times shown more aligned))
 
 -- what is left where the outcomes couldn't be written
-pub left_took : {T E : Type 0} (r : Result T E) (view : View) (To : List ℕ → List Outcome → List Stamp → Type 0) (program : List Insn) (pcap : Bool) (from at old new last : Option (List ℕ)) (source : PacketSource) (tally : Tally) (outcomes : List Outcome) (times : List Stamp) (turns : ℕ)
-    → Took view To pcap from at old new source tally outcomes times turns
+pub left_took : {T E : Type 0} (r : Result T E) (view : View) (To : List ℕ → List Outcome → List Stamp → Type 0) (program : List Insn) (pcap : Bool) {R W : Type 0} {remaining : R → Option (List ℕ)} {contents : W → Option (List ℕ)} (from at : Source R) (old new last : Sink W) (source : PacketSource) (tally : Tally) (outcomes : List Outcome) (times : List Stamp) (turns : ℕ)
+    → Took view To pcap remaining from at contents old new source tally outcomes times turns
     → ((input : List ℕ) (outcomes : List Outcome) (stamps : List Stamp) → To input outcomes stamps → FirstShown program source input outcomes stamps)
-    → (front : List ℕ) × BeginsWith front (shown_at_once tally.view tally.total times outcomes) × Appends new last front
-    → OnErr r ((input : List ℕ) × Consumes from at input × ((text : List ℕ) × Appends old last text × ShowsViewPart view program pcap input text))
+    → (front : List ℕ) × BeginsWith front (shown_at_once tally.view tally.total times outcomes) × Writes contents new last front
+    → OnErr r ((input : List ℕ) × Gets remaining from at input × ((text : List ℕ) × Writes contents old last text × ShowsViewPart view program pcap input text))
 left_took (Ok v) view To program pcap from at old new last source tally outcomes times turns so firsts failed = tt
 left_took (Err e) view To program pcap from at old new last source tally outcomes times turns so firsts failed =
     let lines : List ℕ = shown_at_once view 0 so.stamps so.shown in
@@ -157,28 +158,28 @@ left_took (Err e) view To program pcap from at old new last source tally outcome
       so.lost,
       (
         lines ++ failed.0,
-        appends-then old new last lines failed.0 so.appended failed.2,
+        writes-then old new last lines failed.0 so.appended failed.2,
         inl (so.shown ++ outcomes, rw so.kind at shown.0, so.stamps ++ times, rw so.stamped at shown.1, (failed.1.0, all)),
       ),
     )
 
 -- the outcomes were shown
-pub record Showed (view : View) (To : List ℕ → List Outcome → List Stamp → Type 0) (pcap : Bool) (from at old new : Option (List ℕ)) (source : PacketSource) (tally : Tally) (turns : ℕ) : Type 0 where
+pub record Showed {R W : Type 0} (view : View) (To : List ℕ → List Outcome → List Stamp → Type 0) (pcap : Bool) (remaining : R → Option (List ℕ)) (from at : Source R) (contents : W → Option (List ℕ)) (old new : Sink W) (source : PacketSource) (tally : Tally) (turns : ℕ) : Type 0 where
   pub input : List ℕ
   pub outcomes : List Outcome
   pub stamps : List Stamp
-  pub lost : Consumes from at input
+  pub lost : Gets remaining from at input
   pub has : To input outcomes stamps
   pub stamped : is_stamped source ≡ shows_stamps view pcap
   pub counted : HasCounted view tally outcomes
-  pub appended : Appends old new (shown_at_once view 0 stamps outcomes)
+  pub appended : Writes contents old new (shown_at_once view 0 stamps outcomes)
   pub kind : is_capture source ≡ pcap
   pub short : length input ≤ 65536 * turns
 
-pub showed : (view : View) (To : List ℕ → List Outcome → List Stamp → Type 0) (pcap : Bool) (from at old new last : Option (List ℕ)) (source : PacketSource) (tally tally' : Tally) (outcomes : List Outcome) (times : List Stamp) (turns : ℕ)
-    → Took view To pcap from at old new source tally outcomes times turns → Appends new last (shown_at_once tally.view tally.total times outcomes)
+pub showed : (view : View) (To : List ℕ → List Outcome → List Stamp → Type 0) (pcap : Bool) {R W : Type 0} {remaining : R → Option (List ℕ)} {contents : W → Option (List ℕ)} (from at : Source R) (old new last : Sink W) (source : PacketSource) (tally tally' : Tally) (outcomes : List Outcome) (times : List Stamp) (turns : ℕ)
+    → Took view To pcap remaining from at contents old new source tally outcomes times turns → Writes contents new last (shown_at_once tally.view tally.total times outcomes)
     → ((view : View) (before : List Outcome) → HasCounted view tally before → HasCounted view tally' (before ++ outcomes))
-    → Showed view To pcap from at old last source tally' turns
+    → Showed view To pcap remaining from at contents old last source tally' turns
 showed view To pcap from at old new last source tally tally' outcomes times turns so more counts = record {
   input = so.input;
   outcomes = so.shown ++ outcomes;
@@ -187,14 +188,14 @@ showed view To pcap from at old new last source tally tally' outcomes times turn
   lost = so.lost;
   has = so.has;
   counted = counts view so.shown so.counted;
-  appended = rw (shown_then view tally so.stamps times so.shown outcomes so.counted so.aligned) (appends-then old new last (shown_at_once view 0 so.stamps so.shown) (shown_at_once tally.view tally.total times outcomes) so.appended more);
+  appended = rw (shown_then view tally so.stamps times so.shown outcomes so.counted so.aligned) (writes-then old new last (shown_at_once view 0 so.stamps so.shown) (shown_at_once tally.view tally.total times outcomes) so.appended more);
   kind = so.kind;
   short = so.short;
 }
 
 -- and there is more to read
-pub streamed_next : (view : View) (program : List Insn) (pcap : Bool) (from at old new : Option (List ℕ)) (source : PacketSource) (tally : Tally) (turns : ℕ)
-    → Showed view (λ input outcomes stamps. RanOrStopped program false input source outcomes stamps) pcap from at old new source tally turns → Streamed view program pcap from at old new source tally turns
+pub streamed_next : (view : View) (program : List Insn) (pcap : Bool) {R W : Type 0} {remaining : R → Option (List ℕ)} {contents : W → Option (List ℕ)} (from at : Source R) (old new : Sink W) (source : PacketSource) (tally : Tally) (turns : ℕ)
+    → Showed view (λ input outcomes stamps. RanOrStopped program false input source outcomes stamps) pcap remaining from at contents old new source tally turns → Streamed view program pcap remaining from at contents old new source tally turns
 streamed_next view program pcap from at old new source tally turns so = record {
   input = so.input;
   shown = so.outcomes;
@@ -213,10 +214,10 @@ short_input : (input turns : ℕ) → input ≤ 65536 * turns → turns ≤ 2814
 short_input input turns short limit = omega arith
 
 -- what is left where nothing came after the outcomes
-pub left_showed : {T E : Type 0} (r : Result T E) (view : View) (To : List ℕ → List Outcome → List Stamp → Type 0) (program : List Insn) (pcap : Bool) (from at old new : Option (List ℕ)) (source : PacketSource) (tally : Tally) (turns : ℕ)
-    → Showed view To pcap from at old new source tally turns
+pub left_showed : {T E : Type 0} (r : Result T E) (view : View) (To : List ℕ → List Outcome → List Stamp → Type 0) (program : List Insn) (pcap : Bool) {R W : Type 0} {remaining : R → Option (List ℕ)} {contents : W → Option (List ℕ)} (from at : Source R) (old new : Sink W) (source : PacketSource) (tally : Tally) (turns : ℕ)
+    → Showed view To pcap remaining from at contents old new source tally turns
     → ((input : List ℕ) (outcomes : List Outcome) (stamps : List Stamp) → To input outcomes stamps → FirstShown program source input outcomes stamps)
-    → OnErr r ((input : List ℕ) × Consumes from at input × ((text : List ℕ) × Appends old new text × ShowsViewPart view program pcap input text))
+    → OnErr r ((input : List ℕ) × Gets remaining from at input × ((text : List ℕ) × Writes contents old new text × ShowsViewPart view program pcap input text))
 left_showed (Ok v) view To program pcap from at old new source tally turns so firsts = tt
 left_showed (Err e) view To program pcap from at old new source tally turns so firsts = (
   so.input,
@@ -247,8 +248,8 @@ view_end Quiet program pcap input outcomes stamps ending status text first times
   ],
 )
 
-ended_view : (view : View) (program : List Insn) (stopped pcap : Bool) (from at old new : Option (List ℕ)) (source : PacketSource) (tally : Tally) (turns : ℕ) (ending : Ending) (status : ℕ) (text : List ℕ)
-    → (so : Showed view (λ input outcomes stamps. SourceEnded program stopped input source outcomes stamps) pcap from at old new source tally turns) → turns ≤ 281474976710655
+ended_view : (view : View) (program : List Insn) (stopped pcap : Bool) {R W : Type 0} {remaining : R → Option (List ℕ)} {contents : W → Option (List ℕ)} (from at : Source R) (old new : Sink W) (source : PacketSource) (tally : Tally) (turns : ℕ) (ending : Ending) (status : ℕ) (text : List ℕ)
+    → (so : Showed view (λ input outcomes stamps. SourceEnded program stopped input source outcomes stamps) pcap remaining from at contents old new source tally turns) → turns ≤ 281474976710655
     → Ends source stopped ending → ShowsEnd tally.view tally.accepted tally.total ending status text
     → ShowsView view program pcap so.input status (shown_at_once view 0 so.stamps so.outcomes ++ text)
 ended_view view program stopped pcap from at old new source tally turns ending status text so limit ends shows =
@@ -268,21 +269,21 @@ status_of Quiet some all ending status text shows one = elim (shows.1) [
 ]
 
 -- what is shown at the end
-pub end_shown : (r : Result ℕ EngineFault) (view : View) (program : List Insn) (stopped pcap : Bool) (from at old new last : Option (List ℕ)) (source : PacketSource) (tally : Tally) (turns : ℕ) (ending : Ending)
-    → Showed view (λ input outcomes stamps. SourceEnded program stopped input source outcomes stamps) pcap from at old new source tally turns → turns ≤ 281474976710655
-    → (IsAtEnd at ⊎ IsTrue stopped)
+pub end_shown : (r : Result ℕ EngineFault) (view : View) (program : List Insn) (stopped pcap : Bool) {R W : Type 0} {remaining : R → Option (List ℕ)} {contents : W → Option (List ℕ)} (from at : Source R) (old new last : Sink W) (source : PacketSource) (tally : Tally) (turns : ℕ) (ending : Ending)
+    → Showed view (λ input outcomes stamps. SourceEnded program stopped input source outcomes stamps) pcap remaining from at contents old new source tally turns → turns ≤ 281474976710655
+    → (IsAtEnd (remaining at.inner) ⊎ IsTrue stopped)
     → Ends source stopped ending
     → EndsAtOne source stopped ending
-    → IfOk r (λ status. (text : List ℕ) × Appends new last text × ShowsEnd tally.view tally.accepted tally.total ending status text)
-    → IfOk r (λ status. (input : List ℕ) × Consumes from at input × ((text : List ℕ) × Appends old last text × ShowsView view program pcap input status text)
-    × (IsAtEnd at ⊎ (status ≡ 1) ⊎ IsFound view status))
+    → IfOk r (λ status. (text : List ℕ) × Writes contents new last text × ShowsEnd tally.view tally.accepted tally.total ending status text)
+    → IfOk r (λ status. (input : List ℕ) × Gets remaining from at input × ((text : List ℕ) × Writes contents old last text × ShowsView view program pcap input status text)
+    × (IsAtEnd (remaining at.inner) ⊎ (status ≡ 1) ⊎ IsFound view status))
 end_shown (Err e) view program stopped pcap from at old new last source tally turns ending so limit at_end ends is_one shows = tt
 end_shown (Ok status) view program stopped pcap from at old new last source tally turns ending so limit at_end ends is_one shows = (
   so.input,
   so.lost,
   (
     shown_at_once view 0 so.stamps so.outcomes ++ shows.0,
-    appends-then old new last (shown_at_once view 0 so.stamps so.outcomes) shows.0 so.appended shows.1,
+    writes-then old new last (shown_at_once view 0 so.stamps so.outcomes) shows.0 so.appended shows.1,
     ended_view view program stopped pcap from at old new source tally turns ending status shows.0 so limit ends shows.2,
   ),
   elim at_end [
@@ -292,10 +293,10 @@ end_shown (Ok status) view program stopped pcap from at old new last source tall
 )
 
 -- where nothing that follows is looked at, the status says so
-pub end_well : (r : Result ℕ EngineFault) (view : View) (program : List Insn) (pcap : Bool) (from at old new last : Option (List ℕ)) (source : PacketSource) (tally : Tally) (turns : ℕ) (ending : Ending) (written read ended : Bool)
-    → Showed view (λ input outcomes stamps. SourceEnded program true input source outcomes stamps) pcap from at old new source tally turns
+pub end_well : (r : Result ℕ EngineFault) (view : View) (program : List Insn) (pcap : Bool) {R W : Type 0} {remaining : R → Option (List ℕ)} {contents : W → Option (List ℕ)} (from at : Source R) (old new last : Sink W) (source : PacketSource) (tally : Tally) (turns : ℕ) (ending : Ending) (written read ended : Bool)
+    → Showed view (λ input outcomes stamps. SourceEnded program true input source outcomes stamps) pcap remaining from at contents old new source tally turns
     → EndsAtOne source true ending
-    → IfOk r (λ status. (text : List ℕ) × Appends new last text × ShowsEnd tally.view tally.accepted tally.total ending status text)
+    → IfOk r (λ status. (text : List ℕ) × Writes contents new last text × ShowsEnd tally.view tally.accepted tally.total ending status text)
     → OnOk r (written ≡ false) → read ≡ false
     → IfOk r (λ status. (written ≡ false) × (read ≡ false) × ((ended ≡ true) ⊎ (status ≡ 1) ⊎ IsFound view status))
 end_well (Err e) view program pcap from at old new last source tally turns ending written read ended so is_one shows good well = tt
@@ -303,11 +304,11 @@ end_well (Ok status) view program pcap from at old new last source tally turns e
     (good, well, inr (rw so.counted.0 at (status_of tally.view tally.accepted tally.total ending status shows.0 shows.2 (is_one program so.input so.outcomes so.stamps so.has refl))))
 
 -- and left, where it couldn't be written
-pub end_left : (r : Result ℕ EngineFault) (view : View) (program : List Insn) (stopped pcap : Bool) (from at old new last : Option (List ℕ)) (source : PacketSource) (tally : Tally) (turns : ℕ) (ending : Ending)
-    → Showed view (λ input outcomes stamps. SourceEnded program stopped input source outcomes stamps) pcap from at old new source tally turns → turns ≤ 281474976710655
+pub end_left : (r : Result ℕ EngineFault) (view : View) (program : List Insn) (stopped pcap : Bool) {R W : Type 0} {remaining : R → Option (List ℕ)} {contents : W → Option (List ℕ)} (from at : Source R) (old new last : Sink W) (source : PacketSource) (tally : Tally) (turns : ℕ) (ending : Ending)
+    → Showed view (λ input outcomes stamps. SourceEnded program stopped input source outcomes stamps) pcap remaining from at contents old new source tally turns → turns ≤ 281474976710655
     → Ends source stopped ending
-    → OnErr r ((text : List ℕ) × Appends new last text × ((status : ℕ) × (whole : List ℕ) × ShowsEnd tally.view tally.accepted tally.total ending status whole × BeginsWith text whole))
-    → OnErr r ((input : List ℕ) × Consumes from at input × ((text : List ℕ) × Appends old last text × ShowsViewPart view program pcap input text))
+    → OnErr r ((text : List ℕ) × Writes contents new last text × ((status : ℕ) × (whole : List ℕ) × ShowsEnd tally.view tally.accepted tally.total ending status whole × BeginsWith text whole))
+    → OnErr r ((input : List ℕ) × Gets remaining from at input × ((text : List ℕ) × Writes contents old last text × ShowsViewPart view program pcap input text))
 end_left (Ok v) view program stopped pcap from at old new last source tally turns ending so limit ends failed = tt
 end_left (Err e) view program stopped pcap from at old new last source tally turns ending so limit ends failed =
     let lines : List ℕ = shown_at_once view 0 so.stamps so.outcomes in
@@ -317,7 +318,7 @@ end_left (Err e) view program stopped pcap from at old new last source tally tur
       so.lost,
       (
         lines ++ text,
-        appends-then old new last lines text so.appended failed.1,
+        writes-then old new last lines text so.appended failed.1,
         inr (
           part.0,
           lines ++ part.1,
@@ -328,9 +329,9 @@ end_left (Err e) view program stopped pcap from at old new last source tally tur
     )
 
 -- a packet was accepted, and nothing else matters
-pub found_shown : (view : View) (program : List Insn) (pcap : Bool) (from at old new : Option (List ℕ)) (source : PacketSource) (tally : Tally) (turns : ℕ) (stopped : Bool)
-    → Showed view (λ input outcomes stamps. RanOrStopped program stopped input source outcomes stamps) pcap from at old new source tally turns → (tally.view ≡ Quiet) × (0 < tally.accepted)
-    → (input : List ℕ) × Consumes from at input × ((text : List ℕ) × Appends old new text × ShowsView view program pcap input 0 text) × (IsAtEnd at ⊎ (◌≡◌ {A = ℕ} 0 1) ⊎ IsFound view 0)
+pub found_shown : (view : View) (program : List Insn) (pcap : Bool) {R W : Type 0} {remaining : R → Option (List ℕ)} {contents : W → Option (List ℕ)} (from at : Source R) (old new : Sink W) (source : PacketSource) (tally : Tally) (turns : ℕ) (stopped : Bool)
+    → Showed view (λ input outcomes stamps. RanOrStopped program stopped input source outcomes stamps) pcap remaining from at contents old new source tally turns → (tally.view ≡ Quiet) × (0 < tally.accepted)
+    → (input : List ℕ) × Gets remaining from at input × ((text : List ℕ) × Writes contents old new text × ShowsView view program pcap input 0 text) × (IsAtEnd (remaining at.inner) ⊎ (◌≡◌ {A = ℕ} 0 1) ⊎ IsFound view 0)
 found_shown view program pcap from at old new source tally turns stopped so found =
     let quiet : view ≡ Quiet = sym so.counted.0 ∙ found.0 in (
       so.input,
@@ -348,41 +349,41 @@ pub taken_bytes : (count : ℕ) (block : List ℕ) → count ≤ length block �
 taken_bytes count block within room = omega (arith, length-take-le count block within)
 
 -- what is shown of a good code
-pub shown_of_code : (r : Result ℕ EngineFault) (view : View) (code : List ℕ) (program : List Insn) (pcap kind : Bool) (from at old new : Option (List ℕ)) → IsGoodCode code program → kind ≡ pcap
-    → IfOk r (λ status. (input : List ℕ) × Consumes from at input × ((text : List ℕ) × Appends old new text × ShowsView view program kind input status text) × (IsAtEnd at ⊎ (status ≡ 1) ⊎ IsFound view status))
-    → IfOk r (λ status. (text : List ℕ) × Appends old new text × ((ShowsViewCode view code text × (status ≡ 1))
-    ⊎ ((input : List ℕ) × Consumes from at input × ViewShows view code pcap input status text × (IsAtEnd at ⊎ (status ≡ 1) ⊎ IsFound view status))))
-shown_of_code (Err e) view code program pcap kind from at old new good same shown = tt
-shown_of_code (Ok status) view code program pcap kind from at old new good same shown = (shown.2.0, shown.2.1, inr (shown.0, shown.1, (program, good, rw same at shown.2.2), shown.3))
+pub shown_of_code : (r : Result ℕ EngineFault) (view : View) (code : List ℕ) (program : List Insn) (pcap kind : Bool) {R W : Type 0} (remaining : R → Option (List ℕ)) (contents : W → Option (List ℕ)) (from at : Source R) (old new : Sink W) → IsGoodCode code program → kind ≡ pcap
+    → IfOk r (λ status. (input : List ℕ) × Gets remaining from at input × ((text : List ℕ) × Writes contents old new text × ShowsView view program kind input status text) × (IsAtEnd (remaining at.inner) ⊎ (status ≡ 1) ⊎ IsFound view status))
+    → IfOk r (λ status. (text : List ℕ) × Writes contents old new text × ((ShowsViewCode view code text × (status ≡ 1))
+    ⊎ ((input : List ℕ) × Gets remaining from at input × ViewShows view code pcap input status text × (IsAtEnd (remaining at.inner) ⊎ (status ≡ 1) ⊎ IsFound view status))))
+shown_of_code (Err e) view code program pcap kind remaining contents from at old new good same shown = tt
+shown_of_code (Ok status) view code program pcap kind remaining contents from at old new good same shown = (shown.2.0, shown.2.1, inr (shown.0, shown.1, (program, good, rw same at shown.2.2), shown.3))
 
-pub left_of_code : (r : Result ℕ EngineFault) (view : View) (code : List ℕ) (program : List Insn) (pcap kind : Bool) (from at old new : Option (List ℕ)) → IsGoodCode code program → kind ≡ pcap
-    → OnErr r ((input : List ℕ) × Consumes from at input × ((text : List ℕ) × Appends old new text × ShowsViewPart view program kind input text))
-    → OnErr r ((text : List ℕ) × Appends old new text × ((text ≡ []) ⊎ (((whole : List ℕ) × ShowsBadCode code whole × BeginsWith text whole)
-    ⊎ ((input : List ℕ) × Consumes from at input × ViewLeaves view code pcap input text))))
-left_of_code (Ok v) view code program pcap kind from at old new good same left = tt
-left_of_code (Err e) view code program pcap kind from at old new good same left = (left.2.0, left.2.1, inr (inr (left.0, left.1, (program, good, rw same at left.2.2))))
+pub left_of_code : (r : Result ℕ EngineFault) (view : View) (code : List ℕ) (program : List Insn) (pcap kind : Bool) {R W : Type 0} (remaining : R → Option (List ℕ)) (contents : W → Option (List ℕ)) (from at : Source R) (old new : Sink W) → IsGoodCode code program → kind ≡ pcap
+    → OnErr r ((input : List ℕ) × Gets remaining from at input × ((text : List ℕ) × Writes contents old new text × ShowsViewPart view program kind input text))
+    → OnErr r ((text : List ℕ) × Writes contents old new text × ((text ≡ []) ⊎ (((whole : List ℕ) × ShowsBadCode code whole × BeginsWith text whole)
+    ⊎ ((input : List ℕ) × Gets remaining from at input × ViewLeaves view code pcap input text))))
+left_of_code (Ok v) view code program pcap kind remaining contents from at old new good same left = tt
+left_of_code (Err e) view code program pcap kind remaining contents from at old new good same left = (left.2.0, left.2.1, inr (inr (left.0, left.1, (program, good, rw same at left.2.2))))
 
 -- where the line of a bad code couldn't be written
-pub bad_code_left : {T E : Type 0} (r : Result T E) (view : View) (code line : List ℕ) (pcap : Bool) (from at old new : Option (List ℕ)) → ShowsBadCode code line → (front : List ℕ) × BeginsWith front line × Appends old new front
-    → OnErr r ((text : List ℕ) × Appends old new text × ((text ≡ []) ⊎ (((whole : List ℕ) × ShowsBadCode code whole × BeginsWith text whole)
-    ⊎ ((input : List ℕ) × Consumes from at input × ViewLeaves view code pcap input text))))
-bad_code_left (Ok v) view code line pcap from at old new bad failed = tt
-bad_code_left (Err e) view code line pcap from at old new bad failed = (failed.0, failed.2, inr (inl (line, bad, failed.1)))
+pub bad_code_left : {T E : Type 0} (r : Result T E) (view : View) (code line : List ℕ) (pcap : Bool) {R W : Type 0} (remaining : R → Option (List ℕ)) {contents : W → Option (List ℕ)} (from at : Source R) (old new : Sink W) → ShowsBadCode code line → (front : List ℕ) × BeginsWith front line × Writes contents old new front
+    → OnErr r ((text : List ℕ) × Writes contents old new text × ((text ≡ []) ⊎ (((whole : List ℕ) × ShowsBadCode code whole × BeginsWith text whole)
+    ⊎ ((input : List ℕ) × Gets remaining from at input × ViewLeaves view code pcap input text))))
+bad_code_left (Ok v) view code line pcap remaining from at old new bad failed = tt
+bad_code_left (Err e) view code line pcap remaining from at old new bad failed = (failed.0, failed.2, inr (inl (line, bad, failed.1)))
 
 -- A stream of lines
 
-pub lines_of_view : (r : Result ℕ EngineFault) (code : List ℕ) (pcap : Bool) (from at old new : Option (List ℕ))
-    → IfOk r (λ status. (text : List ℕ) × Appends old new text × ((ShowsViewCode Lines code text × (status ≡ 1))
-    ⊎ ((input : List ℕ) × Consumes from at input × ViewShows Lines code pcap input status text × (IsAtEnd at ⊎ (status ≡ 1) ⊎ IsFound Lines status))))
-    → IfOk r (λ status. (text : List ℕ) × Appends old new text × ((ShowsBadCode code text × (status ≡ 1))
-    ⊎ ((input : List ℕ) × Consumes from at input × StreamShows code pcap input status text × (IsAtEnd at ⊎ (status ≡ 1)))))
-lines_of_view (Err e) code pcap from at old new shown = tt
-lines_of_view (Ok status) code pcap from at old new shown = (
+pub lines_of_view : (r : Result ℕ EngineFault) (code : List ℕ) (pcap : Bool) {R W : Type 0} (remaining : R → Option (List ℕ)) (contents : W → Option (List ℕ)) (from at : Source R) (old new : Sink W)
+    → IfOk r (λ status. (text : List ℕ) × Writes contents old new text × ((ShowsViewCode Lines code text × (status ≡ 1))
+    ⊎ ((input : List ℕ) × Gets remaining from at input × ViewShows Lines code pcap input status text × (IsAtEnd (remaining at.inner) ⊎ (status ≡ 1) ⊎ IsFound Lines status))))
+    → IfOk r (λ status. (text : List ℕ) × Writes contents old new text × ((ShowsBadCode code text × (status ≡ 1))
+    ⊎ ((input : List ℕ) × Gets remaining from at input × StreamShows code pcap input status text × (IsAtEnd (remaining at.inner) ⊎ (status ≡ 1)))))
+lines_of_view (Err e) code pcap remaining contents from at old new shown = tt
+lines_of_view (Ok status) code pcap remaining contents from at old new shown = (
   shown.0,
   shown.1,
   elim (shown.2) [
     | inl bad ↦ inl (rw bad.0.2 bad.0.1, bad.1)
-    | inr s ↦ inr (s.0, s.1, (s.2.0, s.2.1, lines_shows s.2.0 pcap s.0 status shown.0 s.2.2), no_find (IsAtEnd at) status s.3)
+    | inr s ↦ inr (s.0, s.1, (s.2.0, s.2.1, lines_shows s.2.0 pcap s.0 status shown.0 s.2.2), no_find _ status s.3)
   ],
 )
   where
@@ -391,16 +392,17 @@ lines_of_view (Ok status) code pcap from at old new shown = (
     no_find P status (inr (inl one)) = inr one
     no_find P status (inr (inr found)) = let never = found.0 in absurd (cc)
 
-pub left_of_view : {T E : Type 0} (r : Result T E) (code : List ℕ) (pcap : Bool) (from at old new : Option (List ℕ))
-    → OnErr r ((text : List ℕ) × Appends old new text × ((text ≡ []) ⊎ (((whole : List ℕ) × ShowsBadCode code whole × BeginsWith text whole)
-    ⊎ ((input : List ℕ) × Consumes from at input × ViewLeaves Lines code pcap input text))))
-    → OnErr r ((text : List ℕ) × Appends old new text × ((text ≡ []) ⊎ (((whole : List ℕ) × ShowsBadCode code whole × BeginsWith text whole)
-    ⊎ ((input : List ℕ) × Consumes from at input × StreamLeaves code pcap input text))))
-left_of_view (Ok v) code pcap from at old new left = tt
-left_of_view (Err e) code pcap from at old new left = (left.0, left.1, by left.0 left.2)
-  where
-    by : (text : List ℕ) → (text ≡ []) ⊎ (((whole : List ℕ) × ShowsBadCode code whole × BeginsWith text whole) ⊎ ((input : List ℕ) × Consumes from at input × ViewLeaves Lines code pcap input text))
-        → (text ≡ []) ⊎ (((whole : List ℕ) × ShowsBadCode code whole × BeginsWith text whole) ⊎ ((input : List ℕ) × Consumes from at input × StreamLeaves code pcap input text))
-    by text (inl none) = inl none
-    by text (inr (inl bad)) = inr (inl bad)
-    by text (inr (inr s)) = inr (inr (s.0, s.1, (s.2.0, s.2.1, some_front s.2.0 s.2.1.1 pcap s.0 text (lines_part s.2.0 pcap s.0 text s.2.2))))
+view_left : (code : List ℕ) (pcap : Bool) {R : Type 0} {remaining : R → Option (List ℕ)} (from at : Source R) (text : List ℕ)
+    → (text ≡ []) ⊎ (((whole : List ℕ) × ShowsBadCode code whole × BeginsWith text whole) ⊎ ((input : List ℕ) × Gets remaining from at input × ViewLeaves Lines code pcap input text))
+    → (text ≡ []) ⊎ (((whole : List ℕ) × ShowsBadCode code whole × BeginsWith text whole) ⊎ ((input : List ℕ) × Gets remaining from at input × StreamLeaves code pcap input text))
+view_left code pcap from at text (inl none) = inl none
+view_left code pcap from at text (inr (inl bad)) = inr (inl bad)
+view_left code pcap from at text (inr (inr s)) = inr (inr (s.0, s.1, (s.2.0, s.2.1, some_front s.2.0 s.2.1.1 pcap s.0 text (lines_part s.2.0 pcap s.0 text s.2.2))))
+
+pub left_of_view : {T E : Type 0} (r : Result T E) (code : List ℕ) (pcap : Bool) {R W : Type 0} (remaining : R → Option (List ℕ)) (contents : W → Option (List ℕ)) (from at : Source R) (old new : Sink W)
+    → OnErr r ((text : List ℕ) × Writes contents old new text × ((text ≡ []) ⊎ (((whole : List ℕ) × ShowsBadCode code whole × BeginsWith text whole)
+    ⊎ ((input : List ℕ) × Gets remaining from at input × ViewLeaves Lines code pcap input text))))
+    → OnErr r ((text : List ℕ) × Writes contents old new text × ((text ≡ []) ⊎ (((whole : List ℕ) × ShowsBadCode code whole × BeginsWith text whole)
+    ⊎ ((input : List ℕ) × Gets remaining from at input × StreamLeaves code pcap input text))))
+left_of_view (Ok v) code pcap remaining contents from at old new left = tt
+left_of_view (Err e) code pcap remaining contents from at old new left = (left.0, left.1, view_left code pcap from at left.0 left.2)

@@ -2,7 +2,6 @@
 use Rattle.std.proofs.Common.{◌≡◌, ℕ, ◌*◌, ◌<◌, ◌≤◌, ◌⊎◌, inl, inr, List, [], ◌∷◌, ◌++◌, length, All, Bool, true, false, Option, None, Some, Result, Ok, Err, IfOk, arith, refl, sym, ap, ◌∙◌, append_assoc}
 use Rattle.std.specs.Prelude.{IsTrue}
 use Rattle.std.specs.Str.Lines.{lines}
-use Rattle.std.specs.Io.KnownBytes.{Appends, Consumes}
 use Rattle.std.proofs.lemmas.List.{append-nil}
 use Rattle.std.proofs.lemmas.List.Elements.{All-append}
 use Rattle.bpf_insn.specs.declared.insn.Insn.{Insn}
@@ -17,6 +16,9 @@ use Rattle.pcap_reader.proofs.FeedLemmas.{open_front}
 use Rattle.pcap_reader.proofs.Fronts.{front-lasts, reads-lasts}
 use Rattle.pcap_reader.proofs.LawLemmas.{has_fronts, one_reading}
 use Rattle.pcap_reader.proofs.ReadingLemmas.{has_reading}
+use Rattle.console.specs.declared.source.Source.{Source}
+use Rattle.console.specs.declared.sink.Sink.{Sink}
+use Rattle.console.specs.Devices.{Gets, Writes}
 use Rattle.console.specs.declared.packet_source.PacketSource.{PacketSource}
 use Rattle.console.specs.declared.packet_source.PacketSource.TheVariants.{Lines, Capture, Stamped}
 use Rattle.console.specs.declared.ending.Ending.{Ending}
@@ -149,14 +151,14 @@ one_stamped (Ok ending) source s feed true is same one = rw is (λ program taken
 one_stamped (Ok ending) source s feed false is same one = λ program taken outcomes stamps ended at. absurd (cc)
 
 -- what a stream has read, run and shown
-pub record Streamed (view : View) (program : List Insn) (pcap : Bool) (from at old new : Option (List ℕ)) (source : PacketSource) (tally : Tally) (turns : ℕ) : Type 0 where
+pub record Streamed {R W : Type 0} (view : View) (program : List Insn) (pcap : Bool) (remaining : R → Option (List ℕ)) (from at : Source R) (contents : W → Option (List ℕ)) (old new : Sink W) (source : PacketSource) (tally : Tally) (turns : ℕ) : Type 0 where
   pub input : List ℕ
   pub shown : List Outcome
-  pub lost : Consumes from at input
+  pub lost : Gets remaining from at input
   pub stamps : List Stamp
   pub ran : SourceRan program input source shown stamps
   pub counted : HasCounted view tally shown
-  pub appended : Appends old new (shown_at_once view 0 stamps shown)
+  pub appended : Writes contents old new (shown_at_once view 0 stamps shown)
   pub stamped : is_stamped source ≡ shows_stamps view pcap
   pub kind : is_capture source ≡ pcap
   pub short : length input ≤ 65536 * turns

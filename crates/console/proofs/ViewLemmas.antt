@@ -1,8 +1,9 @@
 -- What a view shows of some outcomes and of more.
 use Rattle.std.proofs.Common.{◌≡◌, ℕ, zero, suc, ◌+◌, ◌⊎◌, inl, inr, List, [], ◌∷◌, ◌++◌, length, flat_map, Bool, true, false, Option, None, Some, refl, sym, ap, ◌∙◌, append_assoc, add-zero, arith}
 use Rattle.std.specs.Prelude.{Result, Ok, Err, OnErr}
-use Rattle.std.specs.Io.KnownBytes.{Appends}
-use Rattle.console.proofs.KnownBytesLemmas.{appends-nothing}
+use Rattle.console.specs.declared.sink.Sink.{Sink}
+use Rattle.console.specs.Devices.{Writes}
+use Rattle.console.proofs.KnownBytesLemmas.{writes-nothing}
 use Rattle.std.proofs.lemmas.List.Sums.{sum_by-append}
 use Rattle.bpf_insn.specs.declared.insn.Insn.{Insn}
 use Rattle.filter_vm.specs.declared.machine.Outcome.{Outcome}
@@ -113,10 +114,10 @@ some_end Quiet zero all (Fault fault) = (1, [], (refl, inr (refl, inr (refl, ref
 some_end Quiet (suc n) all ending = (0, [], (refl, inl (omega arith, refl)))
 
 -- and nothing of it was written
-pub end_unwritten : {T E : Type 0} (r : Result T E) (view : View) (some all : ℕ) (ending : Ending) (known : Option (List ℕ))
-    → OnErr r ((text : List ℕ) × Appends known known text × ((status : ℕ) × (whole : List ℕ) × ShowsEnd view some all ending status whole × BeginsWith text whole))
-end_unwritten (Ok v) view some all ending known = tt
-end_unwritten (Err e) view some all ending known = let end = some_end view some all ending in ([], appends-nothing known, (end.0, end.1, end.2, (end.1, refl)))
+pub end_unwritten : {T E : Type 0} (r : Result T E) (view : View) (some all : ℕ) (ending : Ending) {W : Type 0} (contents : W → Option (List ℕ)) (known : Sink W)
+    → OnErr r ((text : List ℕ) × Writes contents known known text × ((status : ℕ) × (whole : List ℕ) × ShowsEnd view some all ending status whole × BeginsWith text whole))
+end_unwritten (Ok v) view some all ending contents known = tt
+end_unwritten (Err e) view some all ending contents known = let end = some_end view some all ending in ([], writes-nothing known, (end.0, end.1, end.2, (end.1, refl)))
 
 -- all of it, but under `Quiet`
 pub end_written : (view : View) (some all : ℕ) (ending : Ending) (text : List ℕ) → (view ≡ Quiet → ⊥) → text ≡ shown_after view some all ++ ending_text ending
@@ -127,8 +128,8 @@ end_written Count some all ending text loud is = (refl, is)
 end_written Quiet some all ending text loud is = absurd (loud refl)
 
 -- a front of it
-pub end_front : {T E : Type 0} (r : Result T E) (view : View) (some all : ℕ) (ending : Ending) (text : List ℕ) (old new : Option (List ℕ)) → (view ≡ Quiet → ⊥) → text ≡ shown_after view some all ++ ending_text ending
-    → (front : List ℕ) × BeginsWith front text × Appends old new front
-    → OnErr r ((text : List ℕ) × Appends old new text × ((status : ℕ) × (whole : List ℕ) × ShowsEnd view some all ending status whole × BeginsWith text whole))
+pub end_front : {T E : Type 0} (r : Result T E) (view : View) (some all : ℕ) (ending : Ending) (text : List ℕ) {W : Type 0} {contents : W → Option (List ℕ)} (old new : Sink W) → (view ≡ Quiet → ⊥) → text ≡ shown_after view some all ++ ending_text ending
+    → (front : List ℕ) × BeginsWith front text × Writes contents old new front
+    → OnErr r ((text : List ℕ) × Writes contents old new text × ((status : ℕ) × (whole : List ℕ) × ShowsEnd view some all ending status whole × BeginsWith text whole))
 end_front (Ok v) view some all ending text old new loud is failed = tt
 end_front (Err e) view some all ending text old new loud is failed = (failed.0, failed.2, (ending_status ending, text, end_written view some all ending text loud is, failed.1))

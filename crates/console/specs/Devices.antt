@@ -1,5 +1,5 @@
--- What the record of a source says of a read, that of a sink of a write, and why an engine may end early.
-use Rattle.std.specs.Prelude.{◌≡◌, ℕ, ◌+◌, ◌<◌, ◌≤◌, ◌⊎◌, List, [], length, take, Option, Some, None, Bool, true, false}
+-- What was got of a source and written to a sink, what their records say of a read and of a write, and why an engine may end early.
+use Rattle.std.specs.Prelude.{◌≡◌, ℕ, ◌+◌, ◌<◌, ◌≤◌, ◌⊎◌, List, [], ◌++◌, length, take, Option, Some, None, Bool, true, false}
 use Rattle.std.specs.Io.KnownBytes.{Appends, Consumes, IsAtEnd, Keeps}
 use Rattle.console.specs.declared.source.Source.{Source}
 use Rattle.console.specs.declared.source.Got.{Got}
@@ -10,6 +10,26 @@ use Rattle.console.specs.declared.input.Input.TheVariants.{Whole, TooLong}
 use Rattle.console.specs.declared.fault.EngineFault.{EngineFault}
 use Rattle.console.specs.declared.fault.EngineFault.TheVariants.{ReadFailed, WriteFailed, NoMemory}
 
+-- this text was written: the list of the sink grew by it, and so did what its writer holds, where that is known
+pub record Writes {W : Type 0} (contents : W → Option (List ℕ)) (old new : Sink W) (text : List ℕ) : Type 0 where
+  pub list : new.written.items ≡ old.written.items ++ text
+  pub held : Appends (contents old.inner) (contents new.inner) text
+
+-- nothing was written: the list stays as it was, and so does what the writer holds, where that is known
+pub record WritesNothing {W : Type 0} (contents : W → Option (List ℕ)) (old new : Sink W) : Type 0 where
+  pub list : new.written.items ≡ old.written.items
+  pub held : Keeps (contents old.inner) (contents new.inner)
+
+-- these bytes were got: the list of the source grew by them, and what its reader had began with them, and lost them, where that is known
+pub record Gets {R : Type 0} (remaining : R → Option (List ℕ)) (old new : Source R) (bytes : List ℕ) : Type 0 where
+  pub list : new.got.items ≡ old.got.items ++ bytes
+  pub lost : Consumes (remaining old.inner) (remaining new.inner) bytes
+
+-- nothing was got: the list stays as it was, and so does what the reader has, where that is known
+pub record GetsNothing {R : Type 0} (remaining : R → Option (List ℕ)) (old new : Source R) : Type 0 where
+  pub list : new.got.items ≡ old.got.items
+  pub left : Keeps (remaining old.inner) (remaining new.inner)
+
 -- a read: one less is left, and the record says how many bytes were taken, whether it met the end, and whether it failed
 abbrev pub Records : {R : Type 0} → Source R → Source R → ℕ → Bool → Bool → Type 0
 Records old new count ended failed =
@@ -18,16 +38,16 @@ Records old new count ended failed =
 -- a read gave what the record says: bytes, the end, or nothing
 abbrev pub HasRead : {R : Type 0} → (R → Option (List ℕ)) → Source R → Source R → List ℕ → Got → Type 0
 HasRead remaining old new buffer (Bytes count) =
-    Records old new count false false × (0 < count) × (count ≤ length buffer) × Consumes (remaining old.inner) (remaining new.inner) (take count buffer)
-HasRead remaining old new buffer End = Records old new 0 true false × Consumes (remaining old.inner) (remaining new.inner) [] × IsAtEnd (remaining new.inner)
-HasRead remaining old new buffer Again = Records old new 0 false false × Keeps (remaining old.inner) (remaining new.inner)
-HasRead remaining old new buffer Failed = Records old new 0 false true × Keeps (remaining old.inner) (remaining new.inner)
+    Records old new count false false × (0 < count) × (count ≤ length buffer) × Gets remaining old new (take count buffer)
+HasRead remaining old new buffer End = Records old new 0 true false × Gets remaining old new [] × IsAtEnd (remaining new.inner)
+HasRead remaining old new buffer Again = Records old new 0 false false × GetsNothing remaining old new
+HasRead remaining old new buffer Failed = Records old new 0 false true × GetsNothing remaining old new
 
 -- a write took bytes of the front, or it failed, and the record says so
 abbrev pub HasWritten : {W : Type 0} → (W → Option (List ℕ)) → Sink W → Sink W → List ℕ → Option ℕ → Type 0
 HasWritten contents old new bytes (Some count) =
-    (new.failed ≡ false) × (0 < count) × (count ≤ length bytes) × Appends (contents old.inner) (contents new.inner) (take count bytes)
-HasWritten contents old new bytes None = (new.failed ≡ true) × Keeps (contents old.inner) (contents new.inner)
+    (new.failed ≡ false) × (0 < count) × (count ≤ length bytes) × Writes contents old new (take count bytes)
+HasWritten contents old new bytes None = (new.failed ≡ true) × WritesNothing contents old new
 
 -- What the records say of an engine
 

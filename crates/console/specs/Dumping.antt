@@ -7,6 +7,7 @@ use Rattle.pcap_reader.specs.declared.capture.Packet.{Packet}
 use Rattle.pcap_reader.specs.declared.capture.CaptureFault.{CaptureFault}
 use Rattle.pcap_reader.specs.Savefile.{Reads}
 use Rattle.console.specs.declared.input.TheConstants.{INPUT_BYTES}
+use Rattle.console.specs.declared.source.Source.{Source}
 use Rattle.console.specs.Faults.{fault_status, fault_text}
 use Rattle.console.specs.Reading.{BeginsWith, IsInput, ShowsTooLong}
 
@@ -49,6 +50,6 @@ ShowsDump input status text =
     ⊎ ((INPUT_BYTES < length input) × ShowsTooLong status text)
 
 -- text is nothing, or a front of what `dump` shows of the input
-abbrev pub ShowsDumpPart : Option (List ℕ) → List ℕ → Type 0
-ShowsDumpPart known text = (text ≡ [])
-    ⊎ ((input : List ℕ) × (status : ℕ) × (whole : List ℕ) × IsInput known input × ShowsDump input status whole × BeginsWith text whole)
+abbrev pub ShowsDumpPart : {R : Type 0} → (R → Option (List ℕ)) → Source R → Source R → List ℕ → Type 0
+ShowsDumpPart remaining old new text = (text ≡ [])
+    ⊎ ((input : List ℕ) × (status : ℕ) × (whole : List ℕ) × IsInput remaining old new input × ShowsDump input status whole × BeginsWith text whole)

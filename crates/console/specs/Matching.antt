@@ -3,7 +3,6 @@ use Rattle.std.specs.Prelude.{◌≡◌, ℕ, ◌+◌, ◌<◌, ◌≤◌, ◌�
 use Rattle.std.specs.List.{AllZip}
 use Rattle.std.specs.Fmt.{decimal}
 use Rattle.std.specs.Str.Lines.{lines}
-use Rattle.std.specs.Io.KnownBytes.{Consumes}
 use Rattle.hex.specs.Hex.{decode_of}
 use Rattle.bpf_insn.specs.declared.insn.Insn.{Insn}
 use Rattle.filter_vm.specs.declared.machine.Outcome.{Outcome}
@@ -14,7 +13,9 @@ use Rattle.pcap_reader.specs.declared.capture.CaptureFault.{CaptureFault}
 use Rattle.pcap_reader.specs.Savefile.{Reads}
 use Rattle.console.specs.Code.{IsGoodCode}
 use Rattle.console.specs.declared.input.TheConstants.{INPUT_BYTES}
-use Rattle.console.specs.Reading.{BeginsWith, IsInput, ShowsTooLong}
+use Rattle.console.specs.declared.source.Source.{Source}
+use Rattle.console.specs.Devices.{Gets}
+use Rattle.console.specs.Reading.{BeginsWith, IsKnown, ShowsTooLong}
 use Rattle.console.specs.Faults.{fault_status, fault_text}
 use Rattle.console.specs.declared.fault.EngineFault.{EngineFault}
 use Rattle.console.specs.declared.fault.EngineFault.TheVariants.{ReadFailed, WriteFailed, NoMemory}
@@ -102,25 +103,25 @@ ShowsPackets program true input text =
     (header : Option Header) × (packets : List Captured) × (fault : Option CaptureFault)
     × Reads input header packets fault × ShowsFirst (AnswersCaptured program) packets text
 
--- text is nothing, or such a front of an input, which the reader lost whole and which isn't too long
-abbrev pub ShowsRead : List Insn → Bool → Option (List ℕ) → Option (List ℕ) → List ℕ → Type 0
-ShowsRead program pcap old new text = (text ≡ [])
-    ⊎ ((input : List ℕ) × Consumes old new input × IsInput old input × (length input ≤ INPUT_BYTES) × ShowsPackets program pcap input text)
+-- text is nothing, or such a front of an input, which the source got whole and which isn't too long
+abbrev pub ShowsRead : {R : Type 0} → List Insn → Bool → (R → Option (List ℕ)) → Source R → Source R → List ℕ → Type 0
+ShowsRead program pcap remaining old new text = (text ≡ [])
+    ⊎ ((input : List ℕ) × Gets remaining old new input × IsKnown (remaining old.inner) input × (length input ≤ INPUT_BYTES) × ShowsPackets program pcap input text)
 
--- text is a front of what is shown of a good code and of an input, which the reader lost whole: of its first packets alone
-pub record ShowsGoodPart (code : List ℕ) (pcap : Bool) (old new : Option (List ℕ)) (text : List ℕ) : Type 0 where
+-- text is a front of what is shown of a good code and of an input, which the source got whole: of its first packets alone
+pub record ShowsGoodPart {R : Type 0} (code : List ℕ) (pcap : Bool) (remaining : R → Option (List ℕ)) (old new : Source R) (text : List ℕ) : Type 0 where
   pub program : List Insn
   pub good : IsGoodCode code program
   pub input : List ℕ
-  pub lost : Consumes old new input
-  pub is : IsInput old input
+  pub got : Gets remaining old new input
+  pub is : IsKnown (remaining old.inner) input
   pub short : length input ≤ INPUT_BYTES
   pub front : ShowsFront program pcap input text
   pub packets : ShowsPackets program pcap input text
 
 -- text is nothing, or such a front
-abbrev pub ShowsPart : List ℕ → Bool → Option (List ℕ) → Option (List ℕ) → List ℕ → Type 0
-ShowsPart code pcap old new text = (text ≡ []) ⊎ ShowsGoodPart code pcap old new text
+abbrev pub ShowsPart : {R : Type 0} → List ℕ → Bool → (R → Option (List ℕ)) → Source R → Source R → List ℕ → Type 0
+ShowsPart code pcap remaining old new text = (text ≡ []) ⊎ ShowsGoodPart code pcap remaining old new text
 
 -- what can go wrong while text is printed
 abbrev pub IsPrintFault : EngineFault → Type 0

@@ -1,6 +1,6 @@
--- What an engine was given to read, where the bytes of its reader are known.
+-- What an engine was given to read: what its source got, and what its reader had, where that is known.
 use Rattle.std.specs.Prelude.{◌≡◌, ℕ, ◌+◌, ◌++◌, ◌<◌, ◌≤◌, ◌⊎◌, List, All, length, codes, Option, Some, None, ⊤, Bool, true, false, ◌≢◌}
-use Rattle.std.specs.Io.KnownBytes.{Consumes, IsAtEnd}
+use Rattle.std.specs.Io.KnownBytes.{IsAtEnd}
 use Rattle.pcap_reader.specs.declared.capture.CaptureFault.{CaptureFault}
 use Rattle.pcap_reader.specs.declared.capture.CaptureFault.TheVariants as captures
 use Rattle.pcap_reader.specs.declared.feed.Feed.{Feed}
@@ -11,45 +11,47 @@ use Rattle.console.specs.declared.input.TheConstants.{BLOCK, INPUT_BYTES}
 use Rattle.console.specs.declared.input.Input.{Input}
 use Rattle.console.specs.declared.input.Input.TheVariants.{Whole, TooLong}
 use Rattle.console.specs.declared.fault.EngineFault.{EngineFault}
+use Rattle.console.specs.declared.source.Source.{Source}
 use Rattle.console.specs.declared.fault.EngineFault.TheVariants.{ReadFailed, NoMemory}
+use Rattle.console.specs.Devices.{Gets}
 
--- a reader lost more than the limit, and stopped there: with the piece that went past it
-abbrev pub LostTooMany : Option (List ℕ) → Option (List ℕ) → ℕ → Type 0
-LostTooMany old new most = (given : List ℕ) × Consumes old new given × (most < length given) × (length given ≤ most + BLOCK)
+-- a source got more than the limit, and stopped there: with the piece that went past it
+abbrev pub GotTooMany : {R : Type 0} → (R → Option (List ℕ)) → Source R → Source R → ℕ → Type 0
+GotTooMany remaining old new most = (given : List ℕ) × Gets remaining old new given × (most < length given) × (length given ≤ most + BLOCK)
 
--- a reader lost just these bytes, and then was at its end, or it lost more than the limit
-abbrev pub Gave : Option (List ℕ) → Option (List ℕ) → ℕ → Input → Type 0
-Gave old new most (Whole held) = Consumes old new held.items × IsAtEnd new × (length held.items ≤ most)
-Gave old new most TooLong = LostTooMany old new most
+-- a source got just these bytes, and then its reader was at its end, or it got more than the limit
+abbrev pub Gave : {R : Type 0} → (R → Option (List ℕ)) → Source R → Source R → ℕ → Input → Type 0
+Gave remaining old new most (Whole held) = Gets remaining old new held.items × IsAtEnd (remaining new.inner) × (length held.items ≤ most)
+Gave remaining old new most TooLong = GotTooMany remaining old new most
 
 -- a feed that was not refused memory
 abbrev pub HadMemory : Feed → Type 0
 HadMemory feed = held_fault feed ≢ Some captures.NoMemory
 
--- a reader lost just these bytes, which a feed holds that was not refused memory meanwhile, and then was at its end, or it
--- lost more than the limit
-abbrev pub Fed : Option (List ℕ) → Option (List ℕ) → ℕ → Feed → Feed → Bool → Type 0
-Fed old new most before feed true =
-    (given : List ℕ) × Consumes old new given × Holds given feed × IsAtEnd new × (length given ≤ most) × (HadMemory before → HadMemory feed)
-Fed old new most before feed false = LostTooMany old new most
+-- a source got just these bytes, which a feed holds that was not refused memory meanwhile, and then its reader was at its end, or it
+-- got more than the limit
+abbrev pub Fed : {R : Type 0} → (R → Option (List ℕ)) → Source R → Source R → ℕ → Feed → Feed → Bool → Type 0
+Fed remaining old new most before feed true =
+    (given : List ℕ) × Gets remaining old new given × Holds given feed × IsAtEnd (remaining new.inner) × (length given ≤ most) × (HadMemory before → HadMemory feed)
+Fed remaining old new most before feed false = GotTooMany remaining old new most
 
--- a reader lost just these bytes, which hold this capture, and then was at its end, or it lost more than 64 MiB
-abbrev pub GaveCapture : Option (List ℕ) → Option (List ℕ) → Option Captured → Type 0
-GaveCapture old new (Some c) =
-    (given : List ℕ) × Consumes old new given × IsAtEnd new × (length given ≤ INPUT_BYTES) × Reads given c.header c.packets c.fault
-GaveCapture old new None = LostTooMany old new INPUT_BYTES
+-- a source got just these bytes, which hold this capture, and then its reader was at its end, or it got more than 64 MiB
+abbrev pub GaveCapture : {R : Type 0} → (R → Option (List ℕ)) → Source R → Source R → Option Captured → Type 0
+GaveCapture remaining old new (Some c) =
+    (given : List ℕ) × Gets remaining old new given × IsAtEnd (remaining new.inner) × (length given ≤ INPUT_BYTES) × Reads given c.header c.packets c.fault
+GaveCapture remaining old new None = GotTooMany remaining old new INPUT_BYTES
 
 -- a feed has met a fault, so it takes nothing more
 abbrev pub HasStopped : Feed → Type 0
 HasStopped feed = (fault : CaptureFault) × (held_fault feed ≡ Some fault)
 
--- a reader lost some bytes at its front, or none
-abbrev pub LosesSome : Option (List ℕ) → Option (List ℕ) → Type 0
-LosesSome old new = (given : List ℕ) × Consumes old new given
+-- a source got some bytes, or none
+abbrev pub GetsSome : {R : Type 0} → (R → Option (List ℕ)) → Source R → Source R → Type 0
+GetsSome remaining old new = (given : List ℕ) × Gets remaining old new given
 
--- a reader lost so many bytes at its front at most
-abbrev pub LosesAtMost : Option (List ℕ) → Option (List ℕ) → ℕ → Type 0
-LosesAtMost old new most = (given : List ℕ) × Consumes old new given × (length given ≤ most)
+-- a source got so many bytes at most
+abbrev pub GetsAtMost : {R : Type 0} → (R → Option (List ℕ)) → Source R → Source R → ℕ → Type 0
+GetsAtMost remaining old new most = (given : List ℕ) × Gets remaining old new given × (length given ≤ most)
 
 -- the most bytes that are taken of an input: with the piece that goes past the limit
 abbrev pub most_taken : ℕ
@@ -59,14 +61,23 @@ most_taken = INPUT_BYTES + BLOCK
 abbrev pub IsReadFault : EngineFault → Type 0
 IsReadFault e = (e ≡ ReadFailed) ⊎ (e ≡ NoMemory)
 
--- the input of an engine: what its reader had, where that is known
-abbrev pub IsInput : Option (List ℕ) → List ℕ → Type 0
-IsInput None input = ⊤
-IsInput (Some bytes) input = input ≡ bytes
-
 -- whole begins with text
 abbrev pub BeginsWith : List ℕ → List ℕ → Type 0
 BeginsWith text whole = (more : List ℕ) × (whole ≡ text ++ more)
+
+-- these are the bytes that a reader had, where those are known
+abbrev pub IsKnown : Option (List ℕ) → List ℕ → Type 0
+IsKnown None input = ⊤
+IsKnown (Some bytes) input = input ≡ bytes
+
+-- bytes are all of an input, or they begin it, and are more than 64 MiB
+abbrev pub IsReadOf : List ℕ → List ℕ → Type 0
+IsReadOf got input = (input ≡ got) ⊎ ((INPUT_BYTES < length got) × BeginsWith got input)
+
+-- the input of an engine: what its source got is all of it, or more than 64 MiB at its front; and it is what the reader had, where
+-- that is known
+abbrev pub IsInput : {R : Type 0} → (R → Option (List ℕ)) → Source R → Source R → List ℕ → Type 0
+IsInput remaining old new input = IsKnown (remaining old.inner) input × ((got : List ℕ) × Gets remaining old new got × IsReadOf got input)
 
 -- each is a byte
 abbrev pub AreBytes : List ℕ → Type 0

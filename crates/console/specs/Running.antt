@@ -1,7 +1,7 @@
 -- What was run of a capture that comes in pieces: the packets that are whole so far.
 use Rattle.std.specs.Prelude.{◌≡◌, ℕ, ◌<◌, ◌≤◌, ◌^◌, List, [], ◌++◌, length, Option, Bool, true, false}
 use Rattle.std.specs.List.{AllZip}
-use Rattle.std.specs.Io.KnownBytes.{Consumes, IsAtEnd}
+use Rattle.std.specs.Io.KnownBytes.{IsAtEnd}
 use Rattle.bpf_insn.specs.declared.insn.Insn.{Insn}
 use Rattle.filter_vm.specs.declared.machine.Outcome.{Outcome}
 use Rattle.pcap_reader.specs.declared.feed.Feed.{Feed}
@@ -11,7 +11,9 @@ use Rattle.pcap_reader.specs.declared.capture.CaptureFault.{CaptureFault}
 use Rattle.pcap_reader.specs.Savefile.{Reads}
 use Rattle.pcap_reader.specs.Held.{HoldsBehind, held_packets}
 use Rattle.console.specs.declared.input.TheConstants.{INPUT_BYTES}
-use Rattle.console.specs.Reading.{LostTooMany}
+use Rattle.console.specs.declared.source.Source.{Source}
+use Rattle.console.specs.Devices.{Gets}
+use Rattle.console.specs.Reading.{GotTooMany}
 use Rattle.console.specs.Matching.{AnswersCaptured}
 
 -- a feed was fed these bytes, holds no packet, and the packets that it gave up ended with these outcomes
@@ -34,11 +36,11 @@ pub record RunsTo {S : Type 0} (From To : List ℕ → S → List Outcome → Ty
 abbrev pub RunsOn : List Insn → List ℕ → List ℕ → Feed → Feed → List Outcome → List Outcome → Type 0
 RunsOn program = RunsTo (HasRun program) (HasRun program)
 
--- a reader lost just these bytes, whose whole packets were run, and then was at its end; or it lost more than 64 MiB
-abbrev pub RunsInput : Option (List ℕ) → Option (List ℕ) → List Insn → Feed → List Outcome → Bool → Type 0
-RunsInput old new program feed outcomes true =
-    (given : List ℕ) × Consumes old new given × IsAtEnd new × (length given ≤ INPUT_BYTES) × HasRun program given feed outcomes
-RunsInput old new program feed outcomes false = LostTooMany old new INPUT_BYTES
+-- a source got just these bytes, whose whole packets were run, and then its reader was at its end; or it got more than 64 MiB
+abbrev pub RunsInput : {R : Type 0} → (R → Option (List ℕ)) → Source R → Source R → List Insn → Feed → List Outcome → Bool → Type 0
+RunsInput remaining old new program feed outcomes true =
+    (given : List ℕ) × Gets remaining old new given × IsAtEnd (remaining new.inner) × (length given ≤ INPUT_BYTES) × HasRun program given feed outcomes
+RunsInput remaining old new program feed outcomes false = GotTooMany remaining old new INPUT_BYTES
 
 -- bytes hold a capture with these packets' outcomes, and this fault after them
 abbrev pub EndsRun : List Insn → List ℕ → List Outcome → Option CaptureFault → Type 0

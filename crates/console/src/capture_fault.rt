@@ -1,8 +1,7 @@
 //! The end of what is shown of a capture: the line for its fault, and the status.
 
 ghost use Rattle.std.specs.Prelude.{◌≡◌, ◌++◌, ℕ, List, IfOk, IfErr, IsErrOf, OnOk, OnErr, string_bytes, false};
-ghost use Rattle.std.specs.Io.KnownBytes.{Appends};
-ghost use Rattle.console.specs.Devices.{StopsWriting};
+ghost use Rattle.console.specs.Devices.{StopsWriting, Writes};
 ghost use Rattle.console.specs.Faults.{fault_line, fault_status, fault_text};
 ghost use Rattle.console.specs.Matching.{IsPrintFault};
 ghost use Rattle.console.specs.Reading.{BeginsWith};
@@ -22,10 +21,10 @@ pub fn write_ending<W: Write>(
 ) -> Result<u8, EngineFault>
     requires { writer.old.failed ≡ false }
     ensures shown { IfOk result (λ status. (status ≡ fault_status fault)
-        × Appends (W.contents writer.old.inner) (W.contents writer.new.inner) (string_bytes text ++ fault_text fault)) }
+        × Writes W.contents writer.old writer.new (string_bytes text ++ fault_text fault)) }
     ensures part { IsErrOf result EngineFault.NoMemory → writer.new ≡ writer.old }
     ensures front { OnErr result ((front : List ℕ) × BeginsWith front (string_bytes text ++ fault_text fault)
-        × Appends (W.contents writer.old.inner) (W.contents writer.new.inner) front) }
+        × Writes W.contents writer.old writer.new front) }
     ensures fault { IfErr result IsPrintFault }
     ensures good { OnOk result (writer.new.failed ≡ false) }
     ensures cause { IfErr result (StopsWriting writer.new) }

@@ -1,7 +1,7 @@
 //! Reading a capture: its packets, up to the end or to a fault.
 
 ghost use Rattle.std.specs.Prelude.{◌≡◌, ◌≤◌, IfOk, IfErr, is_some, false};
-ghost use Rattle.console.specs.Reading.{GaveCapture, IsReadFault, LosesSome, most_taken};
+ghost use Rattle.console.specs.Reading.{GaveCapture, GetsSome, IsReadFault, most_taken};
 ghost use Rattle.console.specs.Devices.{IsReadThrough, StopsReading};
 
 use crate::input::{INPUT_BYTES, feed_bounded};
@@ -28,11 +28,11 @@ pub fn read_packets<R: Read>(
 ) -> Result<Option<Captured>, EngineFault>
     requires unread { reader.old.taken ≡ 0 }
     requires open { (reader.old.ended ≡ false) × (reader.old.failed ≡ false) }
-    ensures read { IfOk result (GaveCapture (R.remaining reader.old.inner) (R.remaining reader.new.inner)) }
+    ensures read { IfOk result (GaveCapture R.remaining reader.old reader.new) }
     ensures record { IfOk result (λ found. IsReadThrough reader.new INPUT_BYTES (is_some found)) }
     ensures fault { IfErr result IsReadFault }
     ensures cause { IfErr result (StopsReading reader.new) }
-    ensures taken { LosesSome (R.remaining reader.old.inner) (R.remaining reader.new.inner) }
+    ensures taken { GetsSome R.remaining reader.old reader.new }
     ensures most { reader.new.taken ≤ most_taken }
 {
     let mut feed = Feed::new(alloc);

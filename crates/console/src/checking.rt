@@ -1,16 +1,15 @@
 //! `check`: assembles a filter.
 
 ghost use Rattle.std.specs.Prelude.{◌≡◌, ◌≢◌, ◌<◌, ◌≤◌, ◌^◌, ◌⊎◌, ℕ, List, length, IfOk, IfErr, Err, IsTrue, MatchOption, string_bytes, false};
-ghost use Rattle.std.specs.Io.KnownBytes.{Appends};
 ghost use Rattle.bpf_insn.specs.declared.form.Form.{Form as AnyForm};
 ghost use Rattle.bpf_insn.specs.Program.{FormAt, JumpsOut};
 ghost use Rattle.bpf_insn.specs.declared.insn.TheConstants.{MAX_INSNS};
 ghost use Rattle.filter_asm.specs.declared.fault.AsmFaultKind.TheVariants.{NoMemory};
 ghost use Rattle.console.specs.Checking.{IsFirstOut, ShowsAsm, ShowsCheck, ShowsProgram, asm_fault_line};
 ghost use Rattle.console.specs.declared.input.TheConstants.{INPUT_BYTES, INPUT_READS};
-ghost use Rattle.console.specs.Devices.{EndsEarly, EndsWell, IsFresh};
+ghost use Rattle.console.specs.Devices.{EndsEarly, EndsWell, IsFresh, Writes};
 ghost use Rattle.console.specs.Matching.{IsEngineFault};
-ghost use Rattle.console.specs.Reading.{IsInput, LosesAtMost, most_taken, ShowsOne};
+ghost use Rattle.console.specs.Reading.{GetsAtMost, IsInput, most_taken, ShowsOne};
 
 use crate::fault_words::name_of_asm_fault;
 use crate::input::{INPUT_BYTES, Input, read_bounded};
@@ -39,9 +38,9 @@ pub fn run_check<R: Read, W: Write>(
 ) -> Result<u8, EngineFault>
     requires fresh { IsFresh reader.old INPUT_READS }
     requires good { writer.old.failed ≡ false }
-    ensures shown { IfOk result (λ status. (text : List ℕ) × Appends (W.contents writer.old.inner) (W.contents writer.new.inner) text
-        × ((input : List ℕ) × IsInput (R.remaining reader.old.inner) input × ShowsCheck asm input status text)) }
-    ensures taken { IfOk result (λ _. LosesAtMost (R.remaining reader.old.inner) (R.remaining reader.new.inner) most_taken) }
+    ensures shown { IfOk result (λ status. (text : List ℕ) × Writes W.contents writer.old writer.new text
+        × ((input : List ℕ) × IsInput R.remaining reader.old reader.new input × ShowsCheck asm input status text)) }
+    ensures taken { IfOk result (λ _. GetsAtMost R.remaining reader.old reader.new most_taken) }
     ensures only { (input : List ℕ) → ShowsOne (ShowsCheck asm input) }
     ensures fault { IfErr result IsEngineFault }
     ensures well { IfOk result (λ _. EndsWell reader.new writer.new INPUT_BYTES) }

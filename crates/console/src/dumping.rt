@@ -1,10 +1,9 @@
 //! `dump`: prints what a capture holds.
 
 ghost use Rattle.std.specs.Prelude.{◌≡◌, ◌≤◌, ◌++◌, ℕ, List, Option, Some, IfOk, IfErr, IsErrOf, OnOk, string_bytes, false};
-ghost use Rattle.std.specs.Io.KnownBytes.{Appends};
-ghost use Rattle.console.specs.Reading.{AreBytes, BeginsWith, IsInput, LosesAtMost, most_taken, ShowsOne};
+ghost use Rattle.console.specs.Reading.{AreBytes, BeginsWith, GetsAtMost, IsInput, most_taken, ShowsOne};
 ghost use Rattle.console.specs.declared.input.TheConstants.{INPUT_BYTES, INPUT_READS};
-ghost use Rattle.console.specs.Devices.{EndsEarly, EndsWell, IsFresh, StopsWriting};
+ghost use Rattle.console.specs.Devices.{EndsEarly, EndsWell, IsFresh, StopsWriting, Writes};
 ghost use Rattle.console.specs.Faults.{fault_status};
 ghost use Rattle.console.specs.Matching.{IsEngineFault, IsPrintFault};
 ghost use Rattle.console.specs.Dumping.{ShowsDump, ShowsDumpPart, digits, dump_text, header_line, packet_line};
@@ -36,9 +35,9 @@ pub fn run_dump<R: Read, W: Write>(
 ) -> Result<u8, EngineFault>
     requires fresh { IsFresh reader.old INPUT_READS }
     requires good { writer.old.failed ≡ false }
-    ensures shown { IfOk result (λ status. (text : List ℕ) × Appends (W.contents writer.old.inner) (W.contents writer.new.inner) text
-        × ((input : List ℕ) × IsInput (R.remaining reader.old.inner) input × ShowsDump input status text)) }
-    ensures taken { IfOk result (λ _. LosesAtMost (R.remaining reader.old.inner) (R.remaining reader.new.inner) most_taken) }
+    ensures shown { IfOk result (λ status. (text : List ℕ) × Writes W.contents writer.old writer.new text
+        × ((input : List ℕ) × IsInput R.remaining reader.old reader.new input × ShowsDump input status text)) }
+    ensures taken { IfOk result (λ _. GetsAtMost R.remaining reader.old reader.new most_taken) }
     ensures only { (input : List ℕ) → AreBytes input → ShowsOne (ShowsDump input) }
     ensures fault { IfErr result IsEngineFault }
     ensures well { IfOk result (λ _. EndsWell reader.new writer.new INPUT_BYTES) }
@@ -46,7 +45,7 @@ pub fn run_dump<R: Read, W: Write>(
     ensures most { reader.new.taken ≤ most_taken }
     ensures silent { IsErrOf result EngineFault.ReadFailed → writer.new ≡ writer.old }
     ensures part { IsErrOf result EngineFault.NoMemory → (text : List ℕ)
-        × ShowsDumpPart (R.remaining reader.old.inner) text × Appends (W.contents writer.old.inner) (W.contents writer.new.inner) text }
+        × ShowsDumpPart R.remaining reader.old reader.new text × Writes W.contents writer.old writer.new text }
 {
     let Some(captured) = read_packets(alloc, reader)? else {
         return refuse_long(writer);
@@ -64,10 +63,10 @@ fn dump<W: Write>(
     writer: &mut Sink<W>,
 ) -> Result<u8, EngineFault>
     requires { writer.old.failed ≡ false }
-    ensures shown { IfOk result (λ status. Appends (W.contents writer.old.inner) (W.contents writer.new.inner) (dump_text header packets.now fault)
+    ensures shown { IfOk result (λ status. Writes W.contents writer.old writer.new (dump_text header packets.now fault)
         × (status ≡ fault_status fault)) }
     ensures part { IsErrOf result EngineFault.NoMemory → (text : List ℕ)
-        × BeginsWith text (dump_text header packets.now fault) × Appends (W.contents writer.old.inner) (W.contents writer.new.inner) text }
+        × BeginsWith text (dump_text header packets.now fault) × Writes W.contents writer.old writer.new text }
     ensures fault { IfErr result IsPrintFault }
     ensures good { OnOk result (writer.new.failed ≡ false) }
     ensures cause { IfErr result (StopsWriting writer.new) }

@@ -3,7 +3,7 @@
 ghost use Rattle.std.specs.Prelude.{◌≡◌, ◌+◌, ◌<◌, ◌≤◌, ◌^◌, ◌++◌, ℕ, List, [], length, IfOk, IfErr, OnOk, IsTrue, false};
 ghost use Rattle.pcap_reader.specs.Held.{Holds};
 ghost use Rattle.console.specs.Devices.{HasTaken, IsReadThrough, StopsReading};
-ghost use Rattle.console.specs.Reading.{Fed, Gave, HadMemory, HasStopped, IsReadFault, LosesSome};
+ghost use Rattle.console.specs.Reading.{Fed, Gave, GetsSome, HadMemory, HasStopped, IsReadFault};
 
 use crate::{EngineFault, Got, Source};
 use pcap_reader::{CaptureFault, Feed};
@@ -41,11 +41,11 @@ pub fn read_bounded<R: Read>(
     requires unread { reader.old.taken ≡ 0 }
     requires open { (reader.old.ended ≡ false) × (reader.old.failed ≡ false) }
     requires short { bytes + BLOCK < 2 ^ 64 }
-    ensures input { IfOk result (Gave (R.remaining reader.old.inner) (R.remaining reader.new.inner) bytes) }
+    ensures input { IfOk result (Gave R.remaining reader.old reader.new bytes) }
     ensures record { IfOk result (HasTaken reader.new bytes) }
     ensures fault { IfErr result IsReadFault }
     ensures cause { IfErr result (StopsReading reader.new) }
-    ensures taken { LosesSome (R.remaining reader.old.inner) (R.remaining reader.new.inner) }
+    ensures taken { GetsSome R.remaining reader.old reader.new }
     ensures most { reader.new.taken ≤ bytes + BLOCK }
 {
     let mut held = Vec::new(alloc);
@@ -79,11 +79,11 @@ pub fn feed_bounded<R: Read>(
     requires unread { reader.old.taken ≡ 0 }
     requires open { (reader.old.ended ≡ false) × (reader.old.failed ≡ false) }
     requires short { bytes + BLOCK < 2 ^ 64 }
-    ensures fed { IfOk result (Fed (R.remaining reader.old.inner) (R.remaining reader.new.inner) bytes feed.old feed.new) }
+    ensures fed { IfOk result (Fed R.remaining reader.old reader.new bytes feed.old feed.new) }
     ensures record { IfOk result (IsReadThrough reader.new bytes) }
     ensures fault { IfErr result IsReadFault }
     ensures cause { IfErr result (StopsReading reader.new) }
-    ensures taken { LosesSome (R.remaining reader.old.inner) (R.remaining reader.new.inner) }
+    ensures taken { GetsSome R.remaining reader.old reader.new }
     ensures most { reader.new.taken ≤ bytes + BLOCK }
 {
     let mut stopped = false;

@@ -19,6 +19,7 @@ mod matching;
 mod outcome;
 mod output;
 mod packet_source;
+mod remembering;
 mod running;
 mod sink;
 mod source;

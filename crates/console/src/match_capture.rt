@@ -1,10 +1,9 @@
 //! `match` over the packets of a capture.
 
 ghost use Rattle.std.specs.Prelude.{◌≡◌, ◌≤◌, ℕ, List, true, IfOk, IfErr, IsErrOf, false};
-ghost use Rattle.std.specs.Io.KnownBytes.{Appends};
-ghost use Rattle.console.specs.Reading.{IsInput, LosesAtMost, most_taken};
+ghost use Rattle.console.specs.Reading.{GetsAtMost, IsInput, most_taken};
 ghost use Rattle.console.specs.declared.input.TheConstants.{INPUT_BYTES};
-ghost use Rattle.console.specs.Devices.{EndsEarly, EndsWell};
+ghost use Rattle.console.specs.Devices.{EndsEarly, EndsWell, Writes};
 ghost use Rattle.console.specs.Matching.{IsEngineFault, ShowsInput, ShowsRead};
 
 use crate::capture_fault::write_ending;
@@ -27,17 +26,17 @@ pub fn match_input<R: Read, W: Write>(
     requires unread { reader.old.taken ≡ 0 }
     requires open { (reader.old.ended ≡ false) × (reader.old.failed ≡ false) }
     requires good { writer.old.failed ≡ false }
-    ensures shown { IfOk result (λ status. (text : List ℕ) × Appends (W.contents writer.old.inner) (W.contents writer.new.inner) text
-        × ((input : List ℕ) × IsInput (R.remaining reader.old.inner) input × ShowsInput program.now true input status text)) }
-    ensures taken { IfOk result (λ _. LosesAtMost (R.remaining reader.old.inner) (R.remaining reader.new.inner) most_taken) }
+    ensures shown { IfOk result (λ status. (text : List ℕ) × Writes W.contents writer.old writer.new text
+        × ((input : List ℕ) × IsInput R.remaining reader.old reader.new input × ShowsInput program.now true input status text)) }
+    ensures taken { IfOk result (λ _. GetsAtMost R.remaining reader.old reader.new most_taken) }
     ensures fault { IfErr result IsEngineFault }
     ensures well { IfOk result (λ _. EndsWell reader.new writer.new INPUT_BYTES) }
     ensures cause { IfErr result (EndsEarly reader.new writer.new) }
     ensures most { reader.new.taken ≤ most_taken }
     ensures silent { IsErrOf result EngineFault.ReadFailed → writer.new ≡ writer.old }
     ensures part { IsErrOf result EngineFault.NoMemory → (text : List ℕ)
-        × ShowsRead program.now true (R.remaining reader.old.inner) (R.remaining reader.new.inner) text
-        × Appends (W.contents writer.old.inner) (W.contents writer.new.inner) text }
+        × ShowsRead program.now true R.remaining reader.old reader.new text
+        × Writes W.contents writer.old writer.new text }
 {
     let mut feed = Feed::new(alloc);
     let mut outcomes = Vec::new(alloc);

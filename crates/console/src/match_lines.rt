@@ -1,11 +1,10 @@
 //! `match` over lines of hexadecimal digits.
 
 ghost use Rattle.std.specs.Prelude.{◌≡◌, ◌+◌, ◌<◌, ◌≤◌, ◌++◌, ◌^◌, ℕ, List, false, length, IfOk, IfErr, IsErr, IsErrOf, OnOk, MatchOption, string_bytes};
-ghost use Rattle.std.specs.Io.KnownBytes.{Appends};
 ghost use Rattle.std.specs.Str.Lines.{lines};
 ghost use Rattle.hex.specs.Hex.{decode_of};
-ghost use Rattle.console.specs.Reading.{IsInput, LosesAtMost, most_taken};
-ghost use Rattle.console.specs.Devices.{EndsEarly, EndsWell, StopsWriting};
+ghost use Rattle.console.specs.Reading.{GetsAtMost, IsInput, most_taken};
+ghost use Rattle.console.specs.Devices.{EndsEarly, EndsWell, StopsWriting, Writes};
 ghost use Rattle.console.specs.Matching.{Answers, IsEngineFault, IsPrintFault, ShowsFirst, ShowsInput, ShowsLines, ShowsRead, bad_line};
 
 use crate::input::{INPUT_BYTES, Input, read_bounded};
@@ -30,17 +29,17 @@ pub fn match_input<R: Read, W: Write>(
     requires unread { reader.old.taken ≡ 0 }
     requires open { (reader.old.ended ≡ false) × (reader.old.failed ≡ false) }
     requires good { writer.old.failed ≡ false }
-    ensures shown { IfOk result (λ status. (text : List ℕ) × Appends (W.contents writer.old.inner) (W.contents writer.new.inner) text
-        × ((input : List ℕ) × IsInput (R.remaining reader.old.inner) input × ShowsInput program.now false input status text)) }
-    ensures taken { IfOk result (λ _. LosesAtMost (R.remaining reader.old.inner) (R.remaining reader.new.inner) most_taken) }
+    ensures shown { IfOk result (λ status. (text : List ℕ) × Writes W.contents writer.old writer.new text
+        × ((input : List ℕ) × IsInput R.remaining reader.old reader.new input × ShowsInput program.now false input status text)) }
+    ensures taken { IfOk result (λ _. GetsAtMost R.remaining reader.old reader.new most_taken) }
     ensures fault { IfErr result IsEngineFault }
     ensures well { IfOk result (λ _. EndsWell reader.new writer.new INPUT_BYTES) }
     ensures cause { IfErr result (EndsEarly reader.new writer.new) }
     ensures most { reader.new.taken ≤ most_taken }
     ensures silent { IsErrOf result EngineFault.ReadFailed → writer.new ≡ writer.old }
     ensures part { IsErrOf result EngineFault.NoMemory → (text : List ℕ)
-        × ShowsRead program.now false (R.remaining reader.old.inner) (R.remaining reader.new.inner) text
-        × Appends (W.contents writer.old.inner) (W.contents writer.new.inner) text }
+        × ShowsRead program.now false R.remaining reader.old reader.new text
+        × Writes W.contents writer.old writer.new text }
 {
     match read_bounded(alloc, reader, INPUT_BYTES)? {
         Input::TooLong => refuse_long(writer),
@@ -61,9 +60,9 @@ fn match_lines<W: Write>(
     requires short { length input.now < 2 ^ 32 }
     requires good { writer.old.failed ≡ false }
     ensures shown { IfOk result (λ status. (text : List ℕ) × ShowsLines program.now (lines input.now) status text
-        × Appends (W.contents writer.old.inner) (W.contents writer.new.inner) text) }
+        × Writes W.contents writer.old writer.new text) }
     ensures part { IsErrOf result EngineFault.NoMemory → (text : List ℕ) × ShowsFirst (Answers program.now) (lines input.now) text
-        × Appends (W.contents writer.old.inner) (W.contents writer.new.inner) text }
+        × Writes W.contents writer.old writer.new text }
     ensures fault { IfErr result IsPrintFault }
     ensures good { OnOk result (writer.new.failed ≡ false) }
     ensures cause { IfErr result (StopsWriting writer.new) }

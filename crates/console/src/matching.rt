@@ -1,12 +1,11 @@
 //! `match`: runs a filter on packets.
 
 ghost use Rattle.std.specs.Prelude.{◌≡◌, ◌≤◌, ◌⊎◌, ℕ, List, IfOk, IfErr, IsErrOf, false};
-ghost use Rattle.std.specs.Io.KnownBytes.{Appends};
 ghost use Rattle.bpf_insn.specs.declared.insn.Insn.{Insn};
 ghost use Rattle.console.specs.Code.{IsGoodCode, SameButPath, ShowsBadCode};
-ghost use Rattle.console.specs.Reading.{AreBytes, IsInput, LosesAtMost, most_taken, ShowsOne};
+ghost use Rattle.console.specs.Reading.{AreBytes, GetsAtMost, IsInput, most_taken, ShowsOne};
 ghost use Rattle.console.specs.declared.input.TheConstants.{INPUT_BYTES, INPUT_READS};
-ghost use Rattle.console.specs.Devices.{EndsEarly, EndsWell, IsFresh};
+ghost use Rattle.console.specs.Devices.{EndsEarly, EndsWell, IsFresh, Writes};
 ghost use Rattle.console.specs.Matching.{IsEngineFault, ShowsGoodCode, ShowsPart};
 
 use crate::code::read_code;
@@ -40,10 +39,10 @@ pub fn run_match<R: Read, W: Write>(
 ) -> Result<u8, EngineFault>
     requires fresh { IsFresh reader.old INPUT_READS }
     requires good { writer.old.failed ≡ false }
-    ensures shown { IfOk result (λ status. (text : List ℕ) × Appends (W.contents writer.old.inner) (W.contents writer.new.inner) text
+    ensures shown { IfOk result (λ status. (text : List ℕ) × Writes W.contents writer.old writer.new text
         × ((ShowsBadCode code.now text × (status ≡ 1))
-        ⊎ ((input : List ℕ) × IsInput (R.remaining reader.old.inner) input × ShowsGoodCode code.now pcap input status text))) }
-    ensures taken { IfOk result (λ _. LosesAtMost (R.remaining reader.old.inner) (R.remaining reader.new.inner) most_taken) }
+        ⊎ ((input : List ℕ) × IsInput R.remaining reader.old reader.new input × ShowsGoodCode code.now pcap input status text))) }
+    ensures taken { IfOk result (λ _. GetsAtMost R.remaining reader.old reader.new most_taken) }
     ensures only { (input : List ℕ) → AreBytes input → ShowsOne (ShowsGoodCode code.now pcap input) }
     ensures bad_only { (text other : List ℕ) → ShowsBadCode code.now text → ShowsBadCode code.now other → SameButPath text other }
     ensures good_or_bad { (program : List Insn) (text : List ℕ) → IsGoodCode code.now program → ShowsBadCode code.now text → ⊥ }
@@ -54,8 +53,8 @@ pub fn run_match<R: Read, W: Write>(
     ensures most { reader.new.taken ≤ most_taken }
     ensures silent { IsErrOf result EngineFault.ReadFailed → writer.new ≡ writer.old }
     ensures part { IsErrOf result EngineFault.NoMemory → (text : List ℕ)
-        × ShowsPart code.now pcap (R.remaining reader.old.inner) (R.remaining reader.new.inner) text
-        × Appends (W.contents writer.old.inner) (W.contents writer.new.inner) text }
+        × ShowsPart code.now pcap R.remaining reader.old reader.new text
+        × Writes W.contents writer.old writer.new text }
 {
     let program = match read_code(alloc, code)? {
         Ok(program) => program,

@@ -1,8 +1,7 @@
 //! Writing text in large pieces.
 
 ghost use Rattle.std.specs.Prelude.{◌≡◌, ◌+◌, ◌<◌, ◌^◌, ◌++◌, ℕ, List, length, OnOk, OnErr, IfErr, string_bytes, [], false};
-ghost use Rattle.std.specs.Io.KnownBytes.{Appends};
-ghost use Rattle.console.specs.Devices.{StopsWriting};
+ghost use Rattle.console.specs.Devices.{StopsWriting, Writes};
 ghost use Rattle.console.specs.Reading.{BeginsWith};
 ghost use Rattle.console.specs.Matching.{IsPrintFault};
 ghost use Rattle.console.specs.Views.{shown_at_once};
@@ -18,8 +17,8 @@ pub const BLOCK: usize = 65_536;
 /// Writes a text that was kept back. Where a write fails, a front of the text was written, and nothing after it.
 pub fn write_text<W: Write>(writer: &mut Sink<W>, text: &str) -> Result<(), EngineFault>
     requires { writer.old.failed ≡ false }
-    ensures written { OnOk result (Appends (W.contents writer.old.inner) (W.contents writer.new.inner) text.now) }
-    ensures front { OnErr result ((front : List ℕ) × BeginsWith front text.now × Appends (W.contents writer.old.inner) (W.contents writer.new.inner) front) }
+    ensures written { OnOk result (Writes W.contents writer.old writer.new text.now) }
+    ensures front { OnErr result ((front : List ℕ) × BeginsWith front text.now × Writes W.contents writer.old writer.new front) }
     ensures fault { IfErr result (λ e. e ≡ EngineFault.WriteFailed) }
     ensures good { OnOk result (writer.new.failed ≡ false) }
     ensures cause { IfErr result (StopsWriting writer.new) }
@@ -30,8 +29,8 @@ pub fn write_text<W: Write>(writer: &mut Sink<W>, text: &str) -> Result<(), Engi
 /// Writes bytes. Where a write fails, a front of them was written, and nothing after it.
 pub fn write_bytes<W: Write>(writer: &mut Sink<W>, bytes: &[u8]) -> Result<(), EngineFault>
     requires { writer.old.failed ≡ false }
-    ensures written { OnOk result (Appends (W.contents writer.old.inner) (W.contents writer.new.inner) bytes.now) }
-    ensures front { OnErr result ((front : List ℕ) × BeginsWith front bytes.now × Appends (W.contents writer.old.inner) (W.contents writer.new.inner) front) }
+    ensures written { OnOk result (Writes W.contents writer.old writer.new bytes.now) }
+    ensures front { OnErr result ((front : List ℕ) × BeginsWith front bytes.now × Writes W.contents writer.old writer.new front) }
     ensures fault { IfErr result (λ e. e ≡ EngineFault.WriteFailed) }
     ensures good { OnOk result (writer.new.failed ≡ false) }
     ensures cause { IfErr result (StopsWriting writer.new) }
@@ -59,9 +58,9 @@ pub fn write_outcomes<W: Write>(
     requires empty { string_bytes text.old ≡ [] }
     requires few { before + length outcomes.now < 2 ^ 64 }
     requires good { writer.old.failed ≡ false }
-    ensures written { OnOk result (Appends (W.contents writer.old.inner) (W.contents writer.new.inner) (shown_at_once view before stamps.now outcomes.now)) }
+    ensures written { OnOk result (Writes W.contents writer.old writer.new (shown_at_once view before stamps.now outcomes.now)) }
     ensures front { OnErr result ((front : List ℕ) × BeginsWith front (shown_at_once view before stamps.now outcomes.now)
-        × Appends (W.contents writer.old.inner) (W.contents writer.new.inner) front) }
+        × Writes W.contents writer.old writer.new front) }
     ensures empty { OnOk result (string_bytes text.new ≡ []) }
     ensures fault { IfErr result IsPrintFault }
     ensures good { OnOk result (writer.new.failed ≡ false) }

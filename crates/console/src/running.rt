@@ -6,7 +6,7 @@ ghost use Rattle.bpf_insn.specs.declared.insn.Insn.{Insn};
 ghost use Rattle.filter_vm.specs.declared.machine.Outcome.{Outcome as Ended};
 ghost use Rattle.pcap_reader.specs.Held.{Holds, held_packets};
 ghost use Rattle.console.specs.Matching.{AnswersCaptured};
-ghost use Rattle.console.specs.Reading.{HasStopped, IsReadFault, LosesSome, most_taken};
+ghost use Rattle.console.specs.Reading.{GetsSome, HasStopped, IsReadFault, most_taken};
 ghost use Rattle.console.specs.Devices.{IsReadThrough, StopsReading};
 ghost use Rattle.console.specs.Running.{EndsRun, HasRun, RunsInput, RunsOn};
 
@@ -33,11 +33,11 @@ pub fn run_input<R: Read>(
     requires empty { outcomes.old.items ≡ [] }
     requires unread { reader.old.taken ≡ 0 }
     requires open { (reader.old.ended ≡ false) × (reader.old.failed ≡ false) }
-    ensures run { IfOk result (RunsInput (R.remaining reader.old.inner) (R.remaining reader.new.inner) program.now feed.new outcomes.new.items) }
+    ensures run { IfOk result (RunsInput R.remaining reader.old reader.new program.now feed.new outcomes.new.items) }
     ensures record { IfOk result (IsReadThrough reader.new INPUT_BYTES) }
     ensures fault { IfErr result IsReadFault }
     ensures cause { IfErr result (StopsReading reader.new) }
-    ensures taken { LosesSome (R.remaining reader.old.inner) (R.remaining reader.new.inner) }
+    ensures taken { GetsSome R.remaining reader.old reader.new }
     ensures most { reader.new.taken ≤ most_taken }
 {
     let mut block = [0u8; BLOCK];

@@ -2,12 +2,17 @@
 
 ghost use Rattle.std.specs.Prelude.{◌≡◌, ◌≢◌, [], false};
 
+use crate::remembering::remembered;
+use ghost_log::Log;
 use std::io::{ErrorKind, Write};
 
-/// A writer, with a record of whether a write failed. Only `write` writes the record.
+/// A writer, with a list of what was written, which only proofs read, and a record of whether a write failed. Only `write` writes
+/// them.
 #[derive(Drop)]
 pub struct Sink<W> {
     inner: W,
+    /// The bytes that the writer took.
+    written: Log<u8>,
     /// Whether a write failed, other than by an interruption.
     failed: bool,
 }
@@ -15,10 +20,13 @@ pub struct Sink<W> {
 impl<W> Sink<W> {
     /// A sink to which nothing was written.
     pub fn new(inner: W) -> Sink<W>
-        ensures { result ≡ record { inner = inner; failed = false } }
+        ensures inner { result.inner ≡ inner }
+        ensures written { result.written.items ≡ [] }
+        ensures good { result.failed ≡ false }
     {
         Sink {
             inner,
+            written: Log::new(),
             failed: false,
         }
     }
@@ -44,7 +52,10 @@ impl<W: Write> Sink<W> {
         for _ in 0..u64::MAX {
             match self.inner.write(bytes) {
                 Ok(0) => break,
-                Ok(count) => return Some(count),
+                Ok(count) => {
+                    self.written = remembered(&self.written, &bytes[..count]);
+                    return Some(count);
+                }
                 Err(error) => {
                     if error.kind() != ErrorKind::Interrupted {
                         break;

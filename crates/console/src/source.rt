@@ -1,13 +1,17 @@
 //! What an engine reads from.
 
-ghost use Rattle.std.specs.Prelude.{◌≡◌, ◌+◌, ◌<◌, ◌^◌, length, true, false};
+ghost use Rattle.std.specs.Prelude.{◌≡◌, [], ◌+◌, ◌<◌, ◌^◌, length, true, false};
 
+use crate::remembering::remembered;
+use ghost_log::Log;
 use std::io::{ErrorKind, Read};
 
-/// A reader, with a record of what came of its reads. Only `read` writes the record.
+/// A reader, with a list of what was got, which only proofs read, and a record of what came of its reads. Only `read` writes them.
 #[derive(Drop)]
 pub struct Source<R> {
     inner: R,
+    /// The bytes that the reads gave.
+    got: Log<u8>,
     /// How many reads are left.
     left: u64,
     /// How many bytes the reads gave.
@@ -32,12 +36,17 @@ pub enum Got {
 }
 
 impl<R> Source<R> {
+    ghost use Rattle.console.specs.Devices.{IsFresh};
+
     /// A source of which nothing was read, with so many reads at most.
     pub fn new(inner: R, reads: u64) -> Source<R>
-        ensures { result ≡ record { inner = inner; left = reads; taken = 0; ended = false; failed = false } }
+        ensures inner { result.inner ≡ inner }
+        ensures got { result.got.items ≡ [] }
+        ensures fresh { IsFresh result reads }
     {
         Source {
             inner,
+            got: Log::new(),
             left: reads,
             taken: 0,
             ended: false,
@@ -94,6 +103,7 @@ impl<R: Read> Source<R> {
             }
             Ok(count) => {
                 self.taken += count as u64;
+                self.got = remembered(&self.got, &buffer[..count]);
                 Got::Bytes(count)
             }
             Err(error) => {

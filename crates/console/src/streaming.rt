@@ -1,11 +1,11 @@
 //! `match --stream`: runs a filter on packets of an input of any length, and shows each outcome while it reads.
 
 ghost use Rattle.std.specs.Prelude.{◌≡◌, ◌⊎◌, ℕ, List, [], IfOk, IfErr, OnErr, OnOk, true, false};
-ghost use Rattle.std.specs.Io.KnownBytes.{Appends, Consumes, IsAtEnd};
+ghost use Rattle.std.specs.Io.KnownBytes.{IsAtEnd};
 ghost use Rattle.bpf_insn.specs.declared.insn.Insn.{Insn};
 ghost use Rattle.console.specs.Code.{IsGoodCode, ShowsBadCode};
 ghost use Rattle.console.specs.Reading.{BeginsWith};
-ghost use Rattle.console.specs.Devices.{EndsEarly, IsFresh, StopsWriting};
+ghost use Rattle.console.specs.Devices.{EndsEarly, Gets, IsFresh, StopsWriting, Writes};
 ghost use Rattle.console.specs.Matching.{IsEngineFault};
 ghost use Rattle.console.specs.Streaming.{SourceRan, StreamLeaves, StreamShows, is_capture, is_stamped};
 ghost use Rattle.console.specs.Views.{IsFound, ShowsView, ShowsViewCode, ShowsViewPart, ViewLeaves, ViewShows, heard, shows_stamps};
@@ -44,14 +44,14 @@ pub fn run_stream<R: Read, W: Write>(
 ) -> Result<u8, EngineFault>
     requires fresh { IsFresh reader.old STREAM_READS }
     requires good { writer.old.failed ≡ false }
-    ensures shown { IfOk result (λ status. (text : List ℕ) × Appends (W.contents writer.old.inner) (W.contents writer.new.inner) text
+    ensures shown { IfOk result (λ status. (text : List ℕ) × Writes W.contents writer.old writer.new text
         × ((ShowsBadCode code.now text × (status ≡ 1))
-        ⊎ ((input : List ℕ) × Consumes (R.remaining reader.old.inner) (R.remaining reader.new.inner) input
+        ⊎ ((input : List ℕ) × Gets R.remaining reader.old reader.new input
         × StreamShows code.now pcap input status text × (IsAtEnd (R.remaining reader.new.inner) ⊎ (status ≡ 1))))) }
     ensures unread { ((program : List Insn) → IsGoodCode code.now program → ⊥) → reader.new ≡ reader.old }
-    ensures left { OnErr result ((text : List ℕ) × Appends (W.contents writer.old.inner) (W.contents writer.new.inner) text
+    ensures left { OnErr result ((text : List ℕ) × Writes W.contents writer.old writer.new text
         × ((text ≡ []) ⊎ (((whole : List ℕ) × ShowsBadCode code.now whole × BeginsWith text whole)
-        ⊎ ((input : List ℕ) × Consumes (R.remaining reader.old.inner) (R.remaining reader.new.inner) input × StreamLeaves code.now pcap input text)))) }
+        ⊎ ((input : List ℕ) × Gets R.remaining reader.old reader.new input × StreamLeaves code.now pcap input text)))) }
     ensures fault { IfErr result IsEngineFault }
     ensures well { IfOk result (λ status. (writer.new.failed ≡ false) × (reader.new.failed ≡ false) × ((reader.new.ended ≡ true) ⊎ (status ≡ 1))) }
     ensures cause { IfErr result (EndsEarly reader.new writer.new) }
@@ -83,14 +83,14 @@ pub fn run_view<R: Read, W: Write>(
 ) -> Result<u8, EngineFault>
     requires fresh { IsFresh reader.old STREAM_READS }
     requires good { writer.old.failed ≡ false }
-    ensures shown { IfOk result (λ status. (text : List ℕ) × Appends (W.contents writer.old.inner) (W.contents writer.new.inner) text
+    ensures shown { IfOk result (λ status. (text : List ℕ) × Writes W.contents writer.old writer.new text
         × ((ShowsViewCode view code.now text × (status ≡ 1))
-        ⊎ ((input : List ℕ) × Consumes (R.remaining reader.old.inner) (R.remaining reader.new.inner) input
+        ⊎ ((input : List ℕ) × Gets R.remaining reader.old reader.new input
         × ViewShows view code.now pcap input status text × (IsAtEnd (R.remaining reader.new.inner) ⊎ (status ≡ 1) ⊎ IsFound view status)))) }
     ensures unread { ((program : List Insn) → IsGoodCode code.now program → ⊥) → reader.new ≡ reader.old }
-    ensures left { OnErr result ((text : List ℕ) × Appends (W.contents writer.old.inner) (W.contents writer.new.inner) text
+    ensures left { OnErr result ((text : List ℕ) × Writes W.contents writer.old writer.new text
         × ((text ≡ []) ⊎ (((whole : List ℕ) × ShowsBadCode code.now whole × BeginsWith text whole)
-        ⊎ ((input : List ℕ) × Consumes (R.remaining reader.old.inner) (R.remaining reader.new.inner) input × ViewLeaves view code.now pcap input text)))) }
+        ⊎ ((input : List ℕ) × Gets R.remaining reader.old reader.new input × ViewLeaves view code.now pcap input text)))) }
     ensures fault { IfErr result IsEngineFault }
     ensures well { IfOk result (λ status. (writer.new.failed ≡ false) × (reader.new.failed ≡ false)
         × ((reader.new.ended ≡ true) ⊎ (status ≡ 1) ⊎ IsFound view status)) }
@@ -117,8 +117,8 @@ fn shows_stamps(view: View, pcap: bool) -> bool
 /// Writes the line of a code that is refused, where the view shows any, and answers the status.
 fn refuse_code<W: Write>(view: View, line: &str, writer: &mut Sink<W>) -> Result<u8, EngineFault>
     requires { writer.old.failed ≡ false }
-    ensures written { IfOk result (λ status. (status ≡ 1) × Appends (W.contents writer.old.inner) (W.contents writer.new.inner) (heard view line.now)) }
-    ensures front { OnErr result ((front : List ℕ) × BeginsWith front line.now × Appends (W.contents writer.old.inner) (W.contents writer.new.inner) front) }
+    ensures written { IfOk result (λ status. (status ≡ 1) × Writes W.contents writer.old writer.new (heard view line.now)) }
+    ensures front { OnErr result ((front : List ℕ) × BeginsWith front line.now × Writes W.contents writer.old writer.new front) }
     ensures fault { IfErr result (λ e. e ≡ EngineFault.WriteFailed) }
     ensures good { OnOk result (writer.new.failed ≡ false) }
     ensures cause { IfErr result (StopsWriting writer.new) }
@@ -143,11 +143,11 @@ fn stream<R: Read, W: Write>(
     requires stamped { is_stamped source.old ≡ shows_stamps view (is_capture source.old) }
     requires fresh { IsFresh reader.old STREAM_READS }
     requires good { writer.old.failed ≡ false }
-    ensures shown { IfOk result (λ status. (input : List ℕ) × Consumes (R.remaining reader.old.inner) (R.remaining reader.new.inner) input
-        × ((text : List ℕ) × Appends (W.contents writer.old.inner) (W.contents writer.new.inner) text × ShowsView view program.now (is_capture source.old) input status text)
+    ensures shown { IfOk result (λ status. (input : List ℕ) × Gets R.remaining reader.old reader.new input
+        × ((text : List ℕ) × Writes W.contents writer.old writer.new text × ShowsView view program.now (is_capture source.old) input status text)
         × (IsAtEnd (R.remaining reader.new.inner) ⊎ (status ≡ 1) ⊎ IsFound view status)) }
-    ensures left { OnErr result ((input : List ℕ) × Consumes (R.remaining reader.old.inner) (R.remaining reader.new.inner) input
-        × ((text : List ℕ) × Appends (W.contents writer.old.inner) (W.contents writer.new.inner) text × ShowsViewPart view program.now (is_capture source.old) input text)) }
+    ensures left { OnErr result ((input : List ℕ) × Gets R.remaining reader.old reader.new input
+        × ((text : List ℕ) × Writes W.contents writer.old writer.new text × ShowsViewPart view program.now (is_capture source.old) input text)) }
     ensures fault { IfErr result IsEngineFault }
     ensures well { IfOk result (λ status. (writer.new.failed ≡ false) × (reader.new.failed ≡ false)
         × ((reader.new.ended ≡ true) ⊎ (status ≡ 1) ⊎ IsFound view status)) }

@@ -1,10 +1,9 @@
 //! Showing outcomes, and counting them.
 
 ghost use Rattle.std.specs.Prelude.{◌≡◌, ◌+◌, ◌<◌, ◌^◌, ◌++◌, ℕ, List, [], length, IfOk, IfErr, IsTrue, OnOk, OnErr, string_bytes, false};
-ghost use Rattle.std.specs.Io.KnownBytes.{Appends};
 ghost use Rattle.filter_vm.specs.declared.machine.Outcome.{Outcome as Ended};
 ghost use Rattle.console.specs.declared.view.View.{View as Shown};
-ghost use Rattle.console.specs.Devices.{StopsWriting};
+ghost use Rattle.console.specs.Devices.{StopsWriting, Writes};
 ghost use Rattle.console.specs.Matching.{IsPrintFault};
 ghost use Rattle.console.specs.Reading.{BeginsWith};
 ghost use Rattle.console.specs.Views.{HasCounted, IsNoneStatus, ShowsEnd, accepted, ending_status, shown_at_once};
@@ -55,9 +54,9 @@ impl Tally {
     ) -> Result<(), EngineFault>
         requires empty { string_bytes self.old.text ≡ [] }
         requires good { writer.old.failed ≡ false }
-        ensures shown { OnOk result (Appends (W.contents writer.old.inner) (W.contents writer.new.inner) (shown_at_once self.old.view self.old.total stamps.now outcomes.now)) }
+        ensures shown { OnOk result (Writes W.contents writer.old writer.new (shown_at_once self.old.view self.old.total stamps.now outcomes.now)) }
         ensures front { OnErr result ((front : List ℕ) × BeginsWith front (shown_at_once self.old.view self.old.total stamps.now outcomes.now)
-            × Appends (W.contents writer.old.inner) (W.contents writer.new.inner) front) }
+            × Writes W.contents writer.old writer.new front) }
         ensures counted { OnOk result ((view : Shown) (before : List Ended) → HasCounted view self.old before → HasCounted view self.new (before ++ outcomes.now)) }
         ensures empty { OnOk result (string_bytes self.new.text ≡ []) }
         ensures fault { IfErr result IsPrintFault }
@@ -105,9 +104,9 @@ impl Tally {
     ) -> Result<u8, EngineFault>
         requires empty { string_bytes self.text ≡ [] }
         requires good { writer.old.failed ≡ false }
-        ensures shown { IfOk result (λ status. (text : List ℕ) × Appends (W.contents writer.old.inner) (W.contents writer.new.inner) text
+        ensures shown { IfOk result (λ status. (text : List ℕ) × Writes W.contents writer.old writer.new text
             × ShowsEnd self.view self.accepted self.total ending status text) }
-        ensures left { OnErr result ((text : List ℕ) × Appends (W.contents writer.old.inner) (W.contents writer.new.inner) text
+        ensures left { OnErr result ((text : List ℕ) × Writes W.contents writer.old writer.new text
             × ((status : ℕ) × (whole : List ℕ) × ShowsEnd self.view self.accepted self.total ending status whole × BeginsWith text whole)) }
         ensures fault { IfErr result IsPrintFault }
         ensures good { OnOk result (writer.new.failed ≡ false) }

@@ -1,8 +1,7 @@
 //! What is shown of an input that is too long.
 
 ghost use Rattle.std.specs.Prelude.{◌≡◌, IfOk, IfErr, OnOk, false};
-ghost use Rattle.std.specs.Io.KnownBytes.{Appends};
-ghost use Rattle.console.specs.Devices.{StopsWriting};
+ghost use Rattle.console.specs.Devices.{StopsWriting, Writes};
 ghost use Rattle.console.specs.Reading.{too_long_line};
 
 use crate::output::write_text;
@@ -12,7 +11,7 @@ use std::io::Write;
 /// Prints that an input is too long, and answers the status.
 pub fn refuse_long<W: Write>(writer: &mut Sink<W>) -> Result<u8, EngineFault>
     requires { writer.old.failed ≡ false }
-    ensures shown { IfOk result (λ status. (status ≡ 1) × Appends (W.contents writer.old.inner) (W.contents writer.new.inner) too_long_line) }
+    ensures shown { IfOk result (λ status. (status ≡ 1) × Writes W.contents writer.old writer.new too_long_line) }
     ensures fault { IfErr result (λ e. e ≡ EngineFault.WriteFailed) }
     ensures good { OnOk result (writer.new.failed ≡ false) }
     ensures cause { IfErr result (StopsWriting writer.new) }

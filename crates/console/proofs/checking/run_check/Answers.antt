@@ -7,7 +7,7 @@ use Rattle.console.proofs.checking.run_check.Goals as goal
 
 pub returns-in-TooLong-clause-shown : goal.returns-in-TooLong-clause-shown
 returns-in-TooLong-clause-shown g c =
-    shown_long c.refuse_long.result _ _ _ _ (ShowsCheck c.args.asm) (rw c.in-TooLong.is at c.in_ok-read_bounded.ensures.input) (λ input long. inr (long, (refl, refl))) c.refuse_long.ensures.shown
+    shown_long c.refuse_long.result _ _ _ _ _ (ShowsCheck c.args.asm) (rw c.in-TooLong.is at c.in_ok-read_bounded.ensures.input) (λ input long. inr (long, (refl, refl))) c.refuse_long.ensures.shown
 
 pub returns-in_ok-write_bytes-in-Whole-clause-shown : goal.returns-in_ok-write_bytes-in-Whole-clause-shown
 returns-in_ok-write_bytes-in-Whole-clause-shown g c =

@@ -8,7 +8,7 @@ abbrev pub invariant-loop-block : goal.invariant-loop-block
 invariant-loop-block g l = record {
   good : l.reader.failed ≡ false;
   open_end : l.reader.ended ≡ false;
-  so : SoFed (g.R.Read.remaining l.initial.reader.inner) (g.R.Read.remaining l.reader.inner) l.feed l.reader.taken;
+  so : SoFed g.R.Read.remaining l.initial.reader l.reader l.feed l.reader.taken;
   within : l.reader.taken ≤ l.bytes;
   fault : IsTrue l.stopped → HasStopped l.feed;
   memory : HadMemory l.initial.feed → HadMemory l.feed;

@@ -10,7 +10,7 @@ use Rattle.console.proofs.match_capture.match_input.Goals as goal
 
 pub returns-then-not-branch-clause-shown : goal.returns-then-not-branch-clause-shown
 returns-then-not-branch-clause-shown g c =
-    shown_long c.refuse_long.result _ _ _ _ (ShowsInput c.args.program.now true) (capture_long _ _ _ _ _ _ c.in_ok-run_input.ensures.run c.if-not-branch.true) (λ input long. inr (long, (refl, refl))) c.refuse_long.ensures.shown
+    shown_long c.refuse_long.result _ _ _ _ _ (ShowsInput c.args.program.now true) (capture_long _ _ _ _ _ _ c.in_ok-run_input.ensures.run c.if-not-branch.true) (λ input long. inr (long, (refl, refl))) c.refuse_long.ensures.shown
 
 pub returns-in_err-write_outcomes-clause-part : goal.returns-in_err-write_outcomes-clause-part
 returns-in_err-write_outcomes-clause-part g c = λ _.
@@ -19,7 +19,7 @@ returns-in_err-write_outcomes-clause-part g c = λ _.
 
 pub returns-clause-shown : goal.returns-clause-shown
 returns-clause-shown g c =
-    capture_ended _ _ _ _ _ _ _ _ _ _ _ _ c.in_ok-run_input.ensures.run c.if-not-branch.false c.in_ok-fault.ensures.ends (rw c.as_slice.ensures.value at c.in_ok-write_outcomes.ensures.written)
+    capture_ended _ _ _ _ _ _ _ _ _ _ _ _ _ c.in_ok-run_input.ensures.run c.if-not-branch.false c.in_ok-fault.ensures.ends (rw c.as_slice.ensures.value at c.in_ok-write_outcomes.ensures.written)
     c.in_ok-write_outcomes.ensures.empty c.write_ending.ensures.shown
 
 pub returns-clause-part : goal.returns-clause-part

@@ -2,13 +2,13 @@ use Rattle.std.proofs.Common.{refl, inl, inr, false}
 use Rattle.std.proofs.lemmas.Result.{err_from_is_err_and}
 use Rattle.console.specs.Matching.{ShowsInput}
 use Rattle.console.proofs.DeviceLemmas.{ends_reading, ends_well, ends_writing, ends_written}
-use Rattle.console.proofs.MatchingLemmas.{shown_long, whole_input}
+use Rattle.console.proofs.MatchingLemmas.{known_whole, shown_long, whole_input}
 use Rattle.console.proofs.TakingLemmas.{gave_taken, on_ok}
 use Rattle.console.proofs.match_lines.match_input.Goals as goal
 
 pub returns-in-TooLong-clause-shown : goal.returns-in-TooLong-clause-shown
 returns-in-TooLong-clause-shown g c =
-    shown_long c.refuse_long.result _ _ _ _ (ShowsInput c.args.program.now false) (rw c.in-TooLong.is at c.in_ok-read_bounded.ensures.input) (λ input long. inr (long, (refl, refl))) c.refuse_long.ensures.shown
+    shown_long c.refuse_long.result _ _ _ _ _ (ShowsInput c.args.program.now false) (rw c.in-TooLong.is at c.in_ok-read_bounded.ensures.input) (λ input long. inr (long, (refl, refl))) c.refuse_long.ensures.shown
 
 pub returns-in_ok-status-in-Whole-clause-shown : goal.returns-in_ok-status-in-Whole-clause-shown
 returns-in_ok-status-in-Whole-clause-shown g c =
@@ -22,7 +22,7 @@ returns-in_err-status-in-Whole-clause-part g c =
     let p = err_from_is_err_and c.from_residual-in_err-status-in-Whole.result c.from_residual-in_err-status-in-Whole.ensures.1 in
     rw (p.1, p.2) (λ memory.
     let part = rw c.as_slice.ensures.value at (c.in_err-status-in-Whole.ensures.part memory) in
-    (part.0, inr (c.in-Whole.input.items, gave.0, whole_input _ _ _ gave.0 gave.1, gave.2, part.1), part.2))
+    (part.0, inr (c.in-Whole.input.items, gave.0, known_whole _ _ _ gave.0.lost gave.1, gave.2, part.1), part.2))
 
 pub returns-in-TooLong-clause-taken : goal.returns-in-TooLong-clause-taken
 returns-in-TooLong-clause-taken g c = on_ok c.refuse_long.result _ (gave_taken _ _ _ c.in_ok-read_bounded.ensures.input)

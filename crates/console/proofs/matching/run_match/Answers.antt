@@ -1,5 +1,5 @@
 use Rattle.std.proofs.Common.{[], arith, refl, inl, true, false}
-use Rattle.console.proofs.FeedingLemmas.{consumes-nothing}
+use Rattle.console.proofs.KnownBytesLemmas.{gets-nothing}
 use Rattle.console.proofs.BadCodeLemmas.{bad_code_once, good_not_bad}
 use Rattle.console.proofs.MatchingLemmas.{shown_of, part_of}
 use Rattle.console.proofs.OnceLemmas.{good_code_once}
@@ -13,13 +13,13 @@ returns-in-Err-clause-shown g c = (
 )
 
 pub returns-then-pcap-clause-shown : goal.returns-then-pcap-clause-shown
-returns-then-pcap-clause-shown g c = rw c.if-pcap.true (shown_of _ _ c.in-Ok.program true _ _ _ (rw c.in-Ok.is at c.in_ok-program.ensures) c.match_input.ensures.shown)
+returns-then-pcap-clause-shown g c = rw c.if-pcap.true (shown_of _ _ c.in-Ok.program true g.R.Read.remaining g.W.Write.contents c.args.reader.now c.match_input.new.reader c.args.writer.now c.match_input.new.writer (rw c.in-Ok.is at c.in_ok-program.ensures) c.match_input.ensures.shown)
 
 pub returns-then-pcap-clause-part : goal.returns-then-pcap-clause-part
 returns-then-pcap-clause-part g c = rw c.if-pcap.true (part_of _ _ c.in-Ok.program true _ _ _ _ (rw c.in-Ok.is at c.in_ok-program.ensures) c.match_input.ensures.part)
 
 pub returns-clause-shown : goal.returns-clause-shown
-returns-clause-shown g c = rw c.if-pcap.false (shown_of _ _ c.in-Ok.program false _ _ _ (rw c.in-Ok.is at c.in_ok-program.ensures) c.match_input-else-pcap.ensures.shown)
+returns-clause-shown g c = rw c.if-pcap.false (shown_of _ _ c.in-Ok.program false g.R.Read.remaining g.W.Write.contents c.args.reader.now c.match_input-else-pcap.new.reader c.args.writer.now c.match_input-else-pcap.new.writer (rw c.in-Ok.is at c.in_ok-program.ensures) c.match_input-else-pcap.ensures.shown)
 
 pub returns-clause-part : goal.returns-clause-part
 returns-clause-part g c = rw c.if-pcap.false (part_of _ _ c.in-Ok.program false _ _ _ _ (rw c.in-Ok.is at c.in_ok-program.ensures) c.match_input-else-pcap.ensures.part)
@@ -70,4 +70,4 @@ pub returns-clause-good_or_bad : goal.returns-clause-good_or_bad
 returns-clause-good_or_bad g c = good_not_bad c.args.code.now
 
 pub returns-in-Err-clause-taken : goal.returns-in-Err-clause-taken
-returns-in-Err-clause-taken g c = ([], consumes-nothing _, omega arith)
+returns-in-Err-clause-taken g c = ([], gets-nothing _, omega arith)

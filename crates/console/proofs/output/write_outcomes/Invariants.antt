@@ -7,7 +7,7 @@ abbrev pub invariant-loop-outcome : goal.invariant-loop-outcome
 invariant-loop-outcome g l = record {
   few : l.number + length l.rest < 2 ^ 64;
   good : l.writer.failed ≡ false;
-  printing : Printing (shown_at_once l.view l.fn.before l.fn.stamps l.outcomes) (shown_at_once l.view l.number l.times l.rest) (g.W.Write.contents l.initial.writer.inner) (g.W.Write.contents l.writer.inner) (string_bytes l.text);
+  printing : Printing (shown_at_once l.view l.fn.before l.fn.stamps l.outcomes) (shown_at_once l.view l.number l.times l.rest) g.W.Write.contents l.initial.writer l.writer (string_bytes l.text);
 }
 
 abbrev pub decreases-loop-outcome : goal.decreases-loop-outcome

@@ -1,24 +1,23 @@
 use Rattle.std.proofs.Common.{arith, ◌++◌, take, length-append, length-take-le}
-use Rattle.console.proofs.KnownBytesLemmas.{consumes-then}
-use Rattle.console.proofs.FeedingLemmas.{consumes-end, consumes-kept}
+use Rattle.console.proofs.KnownBytesLemmas.{gets-end, gets-kept, gets-then}
 use Rattle.console.proofs.RunningLemmas.{so_run_next, so_run_kept}
 use Rattle.console.proofs.running.run_input.Goals as goal
 
 pub returns-then-taken-gt-INPUT_BYTES-clause-run : goal.returns-then-taken-gt-INPUT_BYTES-clause-run
 returns-then-taken-gt-INPUT_BYTES-clause-run g c = (
   c.loop-block.invariant.so.given ++ take c.in-Bytes.count c.read.new.buffer,
-  consumes-then _ _ _ _ _ c.loop-block.invariant.so.lost c.in-Bytes.ensures.3,
+  gets-then _ _ _ _ _ c.loop-block.invariant.so.lost c.in-Bytes.ensures.3,
   omega (arith, length-append c.loop-block.invariant.so.given (take c.in-Bytes.count c.read.new.buffer), length-take-le c.in-Bytes.count c.read.new.buffer c.in-Bytes.ensures.2, c.loop-block.invariant.so.count, c.in-Bytes.ensures.0.1),
   omega (arith, length-append c.loop-block.invariant.so.given (take c.in-Bytes.count c.read.new.buffer), length-take-le c.in-Bytes.count c.read.new.buffer c.in-Bytes.ensures.2, c.in-Bytes.ensures.2, c.loop-block.invariant.so.count, c.loop-block.invariant.within),
 )
 
 pub returns-then-taken-gt-INPUT_BYTES-clause-taken : goal.returns-then-taken-gt-INPUT_BYTES-clause-taken
 returns-then-taken-gt-INPUT_BYTES-clause-taken g c =
-    (c.loop-block.invariant.so.given ++ take c.in-Bytes.count c.read.new.buffer, consumes-then _ _ _ _ _ c.loop-block.invariant.so.lost c.in-Bytes.ensures.3)
+    (c.loop-block.invariant.so.given ++ take c.in-Bytes.count c.read.new.buffer, gets-then _ _ _ _ _ c.loop-block.invariant.so.lost c.in-Bytes.ensures.3)
 
 pub returns-in_err-run_piece-in-Bytes-clause-taken : goal.returns-in_err-run_piece-in-Bytes-clause-taken
 returns-in_err-run_piece-in-Bytes-clause-taken g c =
-    (c.loop-block.invariant.so.given ++ take c.in-Bytes.count c.read.new.buffer, consumes-then _ _ _ _ _ c.loop-block.invariant.so.lost c.in-Bytes.ensures.3)
+    (c.loop-block.invariant.so.given ++ take c.in-Bytes.count c.read.new.buffer, gets-then _ _ _ _ _ c.loop-block.invariant.so.lost c.in-Bytes.ensures.3)
 
 pub loop-block-preserved-in-Bytes : goal.loop-block-preserved-in-Bytes
 loop-block-preserved-in-Bytes g c = record {
@@ -40,11 +39,11 @@ loop-block-preserved g c = record {
 pub returns-in-End-clause-run : goal.returns-in-End-clause-run
 returns-in-End-clause-run g c = (
   c.loop-block.invariant.so.given,
-  consumes-end _ _ _ _ c.loop-block.invariant.so.lost c.in-End.ensures.1,
+  gets-end _ _ _ _ c.loop-block.invariant.so.lost c.in-End.ensures.1,
   c.in-End.ensures.2,
   omega (arith, c.loop-block.invariant.so.count, c.loop-block.invariant.within),
   c.loop-block.invariant.so.has,
 )
 
 pub returns-in-Failed-clause-taken : goal.returns-in-Failed-clause-taken
-returns-in-Failed-clause-taken g c = (c.loop-block.invariant.so.given, consumes-kept _ _ _ _ c.loop-block.invariant.so.lost c.in-Failed.ensures.1)
+returns-in-Failed-clause-taken g c = (c.loop-block.invariant.so.given, gets-kept _ _ _ _ c.loop-block.invariant.so.lost c.in-Failed.ensures.1)

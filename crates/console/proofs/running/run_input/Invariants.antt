@@ -7,7 +7,7 @@ abbrev pub invariant-loop-block : goal.invariant-loop-block
 invariant-loop-block g l = record {
   good : l.reader.failed ≡ false;
   open_end : l.reader.ended ≡ false;
-  so : SoRun l.program (g.R.Read.remaining l.initial.reader.inner) (g.R.Read.remaining l.reader.inner) l.feed l.outcomes.items l.reader.taken;
+  so : SoRun l.program g.R.Read.remaining l.initial.reader l.reader l.feed l.outcomes.items l.reader.taken;
   within : l.reader.taken ≤ INPUT_BYTES;
 }
 

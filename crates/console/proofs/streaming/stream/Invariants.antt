@@ -6,7 +6,7 @@ use Rattle.console.proofs.streaming.stream.Given as goal
 
 abbrev pub invariant-loop-turn : goal.invariant-loop-turn
 invariant-loop-turn g l = record {
-  so : Streamed l.fn.view l.program (is_capture l.initial.source) (g.R.Read.remaining l.initial.reader.inner) (g.R.Read.remaining l.reader.inner) (g.W.Write.contents l.initial.writer.inner) (g.W.Write.contents l.writer.inner) l.source l.tally l._turn;
+  so : Streamed l.fn.view l.program (is_capture l.initial.source) g.R.Read.remaining l.initial.reader l.reader g.W.Write.contents l.initial.writer l.writer l.source l.tally l._turn;
   left : l.reader.left + l._turn ≡ STREAM_READS;
   few : l.reader.taken ≤ 65536 * l._turn;
   open_end : (l.reader.ended ≡ false) × (l.reader.failed ≡ false);

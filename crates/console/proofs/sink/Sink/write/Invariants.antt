@@ -1,9 +1,12 @@
 use Rattle.std.proofs.Common.{◌≡◌, false}
-use Rattle.std.specs.Io.KnownBytes.{Keeps}
+use Rattle.console.specs.Devices.{WritesNothing}
 use Rattle.console.proofs.sink.Sink.write.Given as goal
 
 abbrev pub invariant-loop : goal.invariant-loop
 invariant-loop g l = record {
   good : l.self.failed ≡ false;
-  kept : Keeps (g.W.Write.contents l.initial.self.inner) (g.W.Write.contents l.self.inner);
+  kept : WritesNothing g.W.Write.contents l.initial.self l.self;
 }
+
+abbrev pub ghost-remembered : goal.ghost-remembered
+ghost-remembered g a = a._bytes.now

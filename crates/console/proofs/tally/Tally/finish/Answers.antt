@@ -4,10 +4,10 @@ use Rattle.console.proofs.ViewLemmas.{end_front, end_unwritten}
 use Rattle.console.proofs.tally.Tally.finish.Goals as goal
 
 pub returns-in_err-push_after-clause-left : goal.returns-in_err-push_after-clause-left
-returns-in_err-push_after-clause-left g c = end_unwritten c.from_residual.result c.args.self.view c.args.self.accepted c.args.self.total c.args.ending _
+returns-in_err-push_after-clause-left g c = end_unwritten c.from_residual.result c.args.self.view c.args.self.accepted c.args.self.total c.args.ending _ _
 
 pub returns-in_err-push-clause-left : goal.returns-in_err-push-clause-left
-returns-in_err-push-clause-left g c = end_unwritten c.from_residual-in_err-push.result c.args.self.view c.args.self.accepted c.args.self.total c.args.ending _
+returns-in_err-push-clause-left g c = end_unwritten c.from_residual-in_err-push.result c.args.self.view c.args.self.accepted c.args.self.total c.args.ending _ _
 
 pub returns-in_err-write_text-clause-left : goal.returns-in_err-write_text-clause-left
 returns-in_err-write_text-clause-left g c =
