@@ -1,5 +1,5 @@
 -- The steps of a stream.
-use Rattle.std.proofs.Common.{◌≡◌, ℕ, ◌+◌, ◌*◌, ◌<◌, ◌≤◌, ◌⊎◌, inl, inr, List, [], ◌∷◌, ◌++◌, length, zero-add, All, Bool, true, false, Option, Some, None, Result, Ok, Err, IfOk, arith, refl, sym, ap, ◌∙◌, append_assoc, length-append, take, length-take-le}
+use Rattle.std.proofs.Common.{◌≡◌, ℕ, ◌+◌, ◌*◌, ◌<◌, ◌≤◌, ◌⊎◌, inl, inr, List, [], ◌∷◌, ◌++◌, length, zero-add, All, Bool, true, false, Option, Result, Ok, Err, IfOk, arith, refl, sym, ap, ◌∙◌, append_assoc, length-append, take, length-take-le}
 use Rattle.std.specs.Prelude.{IsTrue, OnErr, OnOk}
 use Rattle.std.specs.Bool.{MatchBool}
 use Rattle.std.specs.Io.KnownBytes.{IsAtEnd}

@@ -1,5 +1,5 @@
 -- Inputs that are read one after the other.
-use Rattle.std.proofs.Common.{◌≡◌, ◌≢◌, ◌<◌, ◌≤◌, ℕ, zero, suc, true, false, Option, Some, None, List, [], ◌∷◌, ◌++◌, length, slice_get, slice_set, take, ◌⊎◌, refl, ap, sym, subst, ◌∙◌, inl, inr, arith}
+use Rattle.std.proofs.Common.{◌≡◌, ◌≢◌, ◌<◌, ◌≤◌, ℕ, zero, suc, true, false, Option, Some, None, List, [], ◌∷◌, ◌++◌, length, slice_get, slice_set, take, ◌⊎◌, refl, ap, sym, subst, ◌∙◌, inl, inr, arith, length-append}
 use Rattle.std.proofs.lemmas.Bool.{cases_eq, cases_lt}
 use Rattle.std.proofs.lemmas.Option.{slice_get_within}
 use Rattle.console.specs.declared.fault.EngineFault.{EngineFault}
@@ -8,18 +8,18 @@ use Rattle.console.specs.declared.input.TheConstants.{INPUT_BYTES, INPUT_READS}
 use Rattle.console.specs.declared.source.Source.{Source}
 use Rattle.console.specs.declared.sink.Sink.{Sink}
 use Rattle.console.specs.Devices.{EndsEarly, IsFresh, IsReadThrough, StopsReading}
-use Rattle.console.specs.Reading.{IsInput}
-use Rattle.script_input.specs.Inputs.{AllFresh, AllShort, AllWithin, AreInputs, AreReadInOrder, Kept, LongAmong, NoneFailed, OneLonger, ScriptEndsEarly, SomeLong, StopsFiles, had}
+use Rattle.console.specs.Reading.{IsInput, IsKnown}
+use Rattle.script_input.specs.Inputs.{AllFresh, AllShort, AllWithin, AreInputs, AreKnown, AreReadInOrder, Kept, LongAmong, NoneFailed, OneLonger, ScriptEndsEarly, SomeLong, StopsFiles, had}
 
-some_input : (known : Option (List ℕ)) → (input : List ℕ) × IsInput known input
+some_input : (known : Option (List ℕ)) → (input : List ℕ) × IsKnown known input
 some_input None = ([], cc)
 some_input (Some bytes) = (bytes, refl)
 
-pub some_inputs : (known : List (Option (List ℕ))) → (inputs : List (List ℕ)) × AreInputs known inputs
+pub some_inputs : (known : List (Option (List ℕ))) → (inputs : List (List ℕ)) × AreKnown known inputs
 some_inputs [] = ([], cc)
 some_inputs (k ∷ ks) = let first = some_input k in let rest = some_inputs ks in (first.0 ∷ rest.0, (first.1, rest.1))
 
-inputs_push : (known : List (Option (List ℕ))) (inputs : List (List ℕ)) (k : Option (List ℕ)) (input : List ℕ) → AreInputs known inputs → IsInput k input → AreInputs (known ++ k ∷ []) (inputs ++ input ∷ [])
+inputs_push : (known : List (Option (List ℕ))) (inputs : List (List ℕ)) (k : Option (List ℕ)) (input : List ℕ) → AreKnown known inputs → IsKnown k input → AreKnown (known ++ k ∷ []) (inputs ++ input ∷ [])
 inputs_push [] [] k input are is = (is, cc)
 inputs_push [] (i ∷ is) k input are is' = absurd are
 inputs_push (k' ∷ ks) [] k input are is = absurd are
@@ -29,7 +29,7 @@ within_push : (inputs : List (List ℕ)) (input : List ℕ) → AllWithin inputs
 within_push [] input all le = (le, cc)
 within_push (i ∷ is) input all le = (all.0, within_push is input all.1 le)
 
-longer_last : (known : List (Option (List ℕ))) (inputs : List (List ℕ)) (input : List ℕ) → AreInputs known inputs → INPUT_BYTES < length input → OneLonger (inputs ++ input ∷ [])
+longer_last : (known : List (Option (List ℕ))) (inputs : List (List ℕ)) (input : List ℕ) → AreKnown known inputs → INPUT_BYTES < length input → OneLonger (inputs ++ input ∷ [])
 longer_last known inputs input are lt = (length inputs, input, at inputs, lt)
   where
     at : (is : List (List ℕ)) → slice_get (is ++ input ∷ []) (length is) ≡ Some input
@@ -61,13 +61,15 @@ cc_some e = cc
 -- the files before this place were read to their ends and are kept, and the others were not read
 pub record ReadUpTo {F : Type 0} (remaining : F → Option (List ℕ)) (old now : List (Source F)) (held : List (List ℕ)) (place : ℕ) : Type 0 where
   pub same_length : length now ≡ length old
-  pub inputs : AreInputs (take place (had remaining old)) held
+  pub inputs : AreKnown (take place (had remaining old)) held
+  pub count : length held ≡ place
+  pub got : (k : ℕ) (file file' : Source F) (input : List ℕ) → slice_get old k ≡ Some file → slice_get now k ≡ Some file' → slice_get held k ≡ Some input → IsInput remaining file file' input
   pub within : AllWithin held
   pub ended : (earlier : ℕ) (file : Source F) → earlier < place → slice_get now earlier ≡ Some file → (file.ended ≡ true) × (file.failed ≡ false)
   pub later : (k : ℕ) → place ≤ k → slice_get now k ≡ slice_get old k
 
 pub read_none : {F : Type 0} (remaining : F → Option (List ℕ)) (files : List (Source F)) → ReadUpTo remaining files files [] 0
-read_none remaining files = record { same_length = refl; inputs = tt; within = tt; ended = λ earlier file lt. absurd (omega arith); later = λ k le. refl }
+read_none remaining files = record { same_length = refl; inputs = tt; count = refl; got = λ k file file' input a b c. absurd cc; within = tt; ended = λ earlier file lt. absurd (omega arith); later = λ k le. refl }
 
 -- what the reader at a place has
 had_here : {F : Type 0} (remaining : F → Option (List ℕ)) (files : List (Source F)) (place : ℕ) (file : Source F) → slice_get files place ≡ Some file
@@ -77,14 +79,20 @@ had_here remaining (f ∷ files) zero file at = let same : f ≡ file = cc in ap
 had_here remaining (f ∷ files) (suc place) file at = ap (λ (known : List (Option (List ℕ))). remaining f.inner ∷ known) (had_here remaining files place file at)
 
 -- what the readers from a place on have, whatever that is
-had_rest : {F : Type 0} (remaining : F → Option (List ℕ)) (files : List (Source F)) (place : ℕ) (inputs : List (List ℕ)) → AreInputs (take place (had remaining files)) inputs
-    → (more : List (List ℕ)) × AreInputs (had remaining files) (inputs ++ more)
+had_rest : {F : Type 0} (remaining : F → Option (List ℕ)) (files : List (Source F)) (place : ℕ) (inputs : List (List ℕ)) → AreKnown (take place (had remaining files)) inputs
+    → (more : List (List ℕ)) × AreKnown (had remaining files) (inputs ++ more)
 had_rest remaining files zero [] are = some_inputs (had remaining files)
 had_rest remaining files zero (i ∷ is) are = absurd are
 had_rest remaining [] (suc place) [] are = ([], tt)
 had_rest remaining [] (suc place) (i ∷ is) are = absurd are
 had_rest remaining (f ∷ files) (suc place) [] are = absurd are
 had_rest remaining (f ∷ files) (suc place) (i ∷ is) are = let rest = had_rest remaining files place is are.1 in (rest.0, (are.0, rest.1))
+
+last_at : {A : Type 0} (xs : List A) (x : A) (place : ℕ) → length xs ≡ place → slice_get (xs ++ x ∷ []) place ≡ Some x
+last_at [] x zero e = refl
+last_at [] x (suc place) e = absurd (omega (arith, e))
+last_at (y ∷ xs) x zero e = absurd (omega (arith, e))
+last_at (y ∷ xs) x (suc place) e = last_at xs x place (omega (arith, e))
 
 longer_more : (inputs more : List (List ℕ)) → OneLonger inputs → OneLonger (inputs ++ more)
 longer_more inputs more long = (long.0, long.1, front inputs long.0 long.2, long.3)
@@ -94,13 +102,39 @@ longer_more inputs more long = (long.0, long.1, front inputs long.0 long.2, long
     front (i ∷ is) zero h = h
     front (i ∷ is) (suc k) h = front is k h
 
+-- what stands in a list with one item more
+push_at : {A : Type 0} (xs : List A) (x y : A) (k : ℕ) → slice_get (xs ++ x ∷ []) k ≡ Some y → (slice_get xs k ≡ Some y) ⊎ ((k ≡ length xs) × (x ≡ y))
+push_at [] x y zero e = inr (refl, cc_some e)
+push_at [] x y (suc k) e = absurd cc
+push_at (z ∷ xs) x y zero e = inl e
+push_at (z ∷ xs) x y (suc k) e = elim (push_at xs x y k e) [ | inl there ↦ inl there | inr last ↦ inr (ap suc last.0, last.1) ]
+
+-- the input at the place was got, and so were those before it
+got_push : {F : Type 0} (remaining : F → Option (List ℕ)) (old now : List (Source F)) (held : List (List ℕ)) (place : ℕ) (file file' : Source F) (kept : List ℕ)
+    → ReadUpTo remaining old now held place → slice_get now place ≡ Some file → IsInput remaining file file' kept
+    → (k : ℕ) (f f' : Source F) (input : List ℕ) → slice_get old k ≡ Some f → slice_get (slice_set now place file') k ≡ Some f' → slice_get (held ++ kept ∷ []) k ≡ Some input → IsInput remaining f f' input
+got_push remaining old now held place file file' kept upto at is k f f' input a b c = elim (push_at held kept input k c) [
+  | inl there ↦
+      let before : k < place = omega (arith, slice_get_within held k input there, upto.count) in
+      upto.got k f f' input a (sym (set_other now place k file' (λ e. absurd (omega arith))) ∙ b) there
+  | inr last ↦
+      let here : k ≡ place = last.0 ∙ upto.count in
+      let old_at : slice_get old place ≡ Some f = subst (λ (n : ℕ). slice_get old n ≡ Some f) here a in
+      let new_at : slice_get (slice_set now place file') place ≡ Some f' = subst (λ (n : ℕ). slice_get (slice_set now place file') n ≡ Some f') here b in
+      let same : file ≡ f = cc_some (sym at ∙ upto.later place (omega arith) ∙ old_at) in
+      let same' : file' ≡ f' = cc_some (sym (set_here now place file' (slice_get_within now place file at)) ∙ new_at) in
+      subst (λ (g : Source _). IsInput remaining g f' input) same (subst (λ (g : Source _). IsInput remaining file g input) same' (subst (λ (i : List ℕ). IsInput remaining file file' i) last.1 is))
+]
+
 -- one file more is read to its end and kept
 pub read_more : {F : Type 0} (remaining : F → Option (List ℕ)) (old now : List (Source F)) (held held' : List (List ℕ)) (place : ℕ) (file file' : Source F)
-    → ReadUpTo remaining old now held place → slice_get now place ≡ Some file → Kept (remaining file.inner) held held' true → IsReadThrough file' INPUT_BYTES true
+    → ReadUpTo remaining old now held place → slice_get now place ≡ Some file → Kept remaining file file' held held' true → IsReadThrough file' INPUT_BYTES true
     → ReadUpTo remaining old (slice_set now place file') held' (suc place)
 read_more remaining old now held held' place file file' upto at kept through = record {
   same_length = set_length now place file' ∙ upto.same_length;
-  inputs = rw (kept.1, had_here remaining old place file (sym (upto.later place (omega arith)) ∙ at)) (inputs_push (take place (had remaining old)) held (remaining file.inner) kept.0 upto.inputs kept.2);
+  inputs = rw (kept.1, had_here remaining old place file (sym (upto.later place (omega arith)) ∙ at)) (inputs_push (take place (had remaining old)) held (remaining file.inner) kept.0 upto.inputs kept.2.0);
+  count = omega (arith, ap length kept.1, length-append held (kept.0 ∷ []), upto.count);
+  got = λ k f f' input a b c. got_push remaining old now held place file file' kept.0 upto at kept.2 k f f' input a b (subst (λ (xs : List (List ℕ)). slice_get xs k ≡ Some input) kept.1 c);
   within = rw kept.1 (within_push held kept.0 upto.within kept.3);
   ended = λ earlier f lt there. elim (cases_eq earlier place) [
     | inl same ↦
@@ -120,19 +154,54 @@ take_had remaining (f ∷ files) zero le = absurd (omega arith)
 take_had remaining (f ∷ files) (suc place) le = ap (λ (known : List (Option (List ℕ))). remaining f.inner ∷ known) (take_had remaining files place (omega arith))
 
 pub read_all : {F : Type 0} (remaining : F → Option (List ℕ)) (old now : List (Source F)) (held : List (List ℕ)) (place : ℕ) → ReadUpTo remaining old now held place → length old ≤ place
-    → AreInputs (had remaining old) held × AllWithin held
-read_all remaining old now held place upto le = (subst (λ (known : List (Option (List ℕ))). AreInputs known held) (take_had remaining old place le) upto.inputs, upto.within)
+    → AreInputs remaining old now held × AllWithin held
+read_all remaining old now held place upto le = (
+  (
+    subst (λ (known : List (Option (List ℕ))). AreKnown known held) (take_had remaining old place le) upto.inputs,
+    record { same = upto.same_length; each = λ k f f' input a b c within. upto.got k f f' input a b c },
+  ),
+  upto.within,
+)
+
+front_at : {A : Type 0} (xs ys : List A) (k : ℕ) → k < length xs → slice_get (xs ++ ys) k ≡ slice_get xs k
+front_at [] ys k lt = absurd (omega arith)
+front_at (x ∷ xs) ys zero lt = refl
+front_at (x ∷ xs) ys (suc k) lt = front_at xs ys k (omega arith)
+
+-- of inputs that are within the limit none is longer
+none_before : (inputs : List (List ℕ)) (k place : ℕ) (input : List ℕ) → place < k → slice_get inputs place ≡ Some input → AllWithin (take k inputs) → length input ≤ INPUT_BYTES
+none_before inputs zero place input lt at all = absurd (omega arith)
+none_before [] (suc k) place input lt at all = absurd cc
+none_before (i ∷ is) (suc k) zero input lt at all = let same : i ≡ input = cc_some at in omega (arith, ap length same, all.0)
+none_before (i ∷ is) (suc k) (suc place) input lt at all = none_before is k place input (omega arith) at all.1
 
 -- the file at a place is too long
-pub read_long : {F : Type 0} (remaining : F → Option (List ℕ)) (old now : List (Source F)) (held held' : List (List ℕ)) (place : ℕ) (file : Source F)
-    → ReadUpTo remaining old now held place → slice_get now place ≡ Some file → Kept (remaining file.inner) held held' false → LongAmong (had remaining old)
-read_long remaining old now held held' place file upto at kept =
+pub read_long : {F : Type 0} (remaining : F → Option (List ℕ)) (old now : List (Source F)) (held held' : List (List ℕ)) (place : ℕ) (file file' : Source F)
+    → ReadUpTo remaining old now held place → slice_get now place ≡ Some file → Kept remaining file file' held held' false → LongAmong remaining old (slice_set now place file')
+read_long remaining old now held held' place file file' upto at kept =
     let input = kept.1 in
     let known = take place (had remaining old) in
-    let here = inputs_push known held (remaining file.inner) input.0 upto.inputs input.1 in
+    let here = inputs_push known held (remaining file.inner) input.0 upto.inputs input.1.0 in
     let all = had_rest remaining old (suc place) (held ++ input.0 ∷ [])
-    (subst (λ (k : List (Option (List ℕ))). AreInputs k (held ++ input.0 ∷ [])) (sym (had_here remaining old place file (sym (upto.later place (omega arith)) ∙ at))) here) in
-    ((held ++ input.0 ∷ []) ++ all.0, all.1, longer_more (held ++ input.0 ∷ []) all.0 (longer_last known held input.0 upto.inputs input.2))
+    (subst (λ (k : List (Option (List ℕ))). AreKnown k (held ++ input.0 ∷ [])) (sym (had_here remaining old place file (sym (upto.later place (omega arith)) ∙ at))) here) in
+    (
+      (held ++ input.0 ∷ []) ++ all.0,
+      (all.1, record { same = set_length now place file' ∙ upto.same_length; each = λ k f f' i a b c within. long_got remaining old now held place file file' input.0 all.0 upto at input.1 input.2 k f f' i a b c within }),
+      longer_more (held ++ input.0 ∷ []) all.0 (longer_last known held input.0 upto.inputs input.2),
+    )
+  where
+    long_got : {F : Type 0} (remaining : F → Option (List ℕ)) (old now : List (Source F)) (held : List (List ℕ)) (place : ℕ) (file file' : Source F) (kept : List ℕ) (more : List (List ℕ))
+        → ReadUpTo remaining old now held place → slice_get now place ≡ Some file → IsInput remaining file file' kept → INPUT_BYTES < length kept
+        → (k : ℕ) (f f' : Source F) (input : List ℕ) → slice_get old k ≡ Some f → slice_get (slice_set now place file') k ≡ Some f' → slice_get ((held ++ kept ∷ []) ++ more) k ≡ Some input
+        → AllWithin (take k ((held ++ kept ∷ []) ++ more)) → IsInput remaining f f' input
+    long_got remaining old now held place file file' kept more upto at is long k f f' input a b c within = elim (cases_lt place k) [
+      | inl after ↦
+          let there : slice_get ((held ++ kept ∷ []) ++ more) place ≡ Some kept = front_at (held ++ kept ∷ []) more place (omega (arith, length-append held (kept ∷ []), upto.count)) ∙ last_at held kept place upto.count in
+          absurd (omega (arith, long, none_before ((held ++ kept ∷ []) ++ more) k place kept after there within))
+      | inr upto_here ↦
+          let inside : k < length (held ++ kept ∷ []) = omega (arith, length-append held (kept ∷ []), upto.count, upto_here) in
+          got_push remaining old now held place file file' kept upto at is k f f' input a b (sym (front_at (held ++ kept ∷ []) more k inside) ∙ c)
+    ]
 
 -- whatever came of the file at a place, the files are read in order
 pub in_order_at : {F : Type 0} (remaining : F → Option (List ℕ)) (old now : List (Source F)) (held : List (List ℕ)) (place : ℕ) (file : Source F)

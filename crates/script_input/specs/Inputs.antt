@@ -1,45 +1,56 @@
 -- What was read of a script and its files, in which order, and why it ended early.
-use Rattle.std.specs.Prelude.{◌≡◌, ◌<◌, ◌≤◌, ◌++◌, ◌∷◌, ◌⊎◌, [], ℕ, ⊤, Bool, true, false, Option, Some, List, length, map, slice_get}
+use Rattle.std.specs.Prelude.{◌≡◌, ◌<◌, ◌≤◌, ◌++◌, ◌∷◌, ◌⊎◌, [], ℕ, ⊤, Bool, true, false, Option, Some, List, length, map, slice_get, take}
 use Rattle.console.specs.declared.fault.EngineFault.{EngineFault}
 use Rattle.console.specs.declared.fault.EngineFault.TheVariants.{ReadFailed, WriteFailed, NoMemory}
 use Rattle.console.specs.declared.input.TheConstants.{INPUT_BYTES, INPUT_READS}
 use Rattle.console.specs.declared.sink.Sink.{Sink}
 use Rattle.console.specs.declared.source.Source.{Source}
 use Rattle.console.specs.Devices.{CannotRead, IsFresh}
-use Rattle.console.specs.Reading.{IsInput}
+use Rattle.console.specs.Reading.{IsInput, IsKnown}
 
 -- what the readers of these sources have, as far as that is known
 abbrev pub had : {F : Type 0} → (F → Option (List ℕ)) → List (Source F) → List (Option (List ℕ))
 had remaining files = map (λ file. remaining file.inner) files
 
 -- these are what the readers had, as far as that is known
-abbrev pub AreInputs : List (Option (List ℕ)) → List (List ℕ) → Type 0
-AreInputs [] [] = ⊤
-AreInputs (known ∷ others) (input ∷ inputs) = IsInput known input × AreInputs others inputs
-AreInputs others inputs = ⊥
+abbrev pub AreKnown : List (Option (List ℕ)) → List (List ℕ) → Type 0
+AreKnown [] [] = ⊤
+AreKnown (known ∷ others) (input ∷ inputs) = IsKnown known input × AreKnown others inputs
+AreKnown others inputs = ⊥
 
 -- each is within the limit of an input
 abbrev pub AllWithin : List (List ℕ) → Type 0
 AllWithin [] = ⊤
 AllWithin (input ∷ inputs) = (length input ≤ INPUT_BYTES) × AllWithin inputs
 
+-- each file that has none before it which is too long was read: its input is by what its source got
+pub record AreGot {F : Type 0} (remaining : F → Option (List ℕ)) (files files' : List (Source F)) (inputs : List (List ℕ)) : Type 0 where
+  pub same : length files' ≡ length files
+  pub each : (place : ℕ) (old new : Source F) (input : List ℕ) → slice_get files place ≡ Some old → slice_get files' place ≡ Some new → slice_get inputs place ≡ Some input
+      → AllWithin (take place inputs) → IsInput remaining old new input
+
+-- these are the inputs of these files
+abbrev pub AreInputs : {F : Type 0} → (F → Option (List ℕ)) → List (Source F) → List (Source F) → List (List ℕ) → Type 0
+AreInputs remaining files files' inputs = AreKnown (had remaining files) inputs × AreGot remaining files files' inputs
+
 -- one is longer
 abbrev pub OneLonger : List (List ℕ) → Type 0
 OneLonger inputs = (k : ℕ) × (input : List ℕ) × (slice_get inputs k ≡ Some input) × (INPUT_BYTES < length input)
 
-abbrev pub LongAmong : List (Option (List ℕ)) → Type 0
-LongAmong known = (inputs : List (List ℕ)) × AreInputs known inputs × OneLonger inputs
+abbrev pub LongAmong : {F : Type 0} → (F → Option (List ℕ)) → List (Source F) → List (Source F) → Type 0
+LongAmong remaining files files' = (inputs : List (List ℕ)) × AreInputs remaining files files' inputs × OneLonger inputs
 
--- a reader's input was kept last, or it is too long
-abbrev pub Kept : Option (List ℕ) → List (List ℕ) → List (List ℕ) → Bool → Type 0
-Kept known held held' true = (input : List ℕ) × (held' ≡ held ++ input ∷ []) × IsInput known input × (length input ≤ INPUT_BYTES)
-Kept known held held' false = (held' ≡ held) × ((input : List ℕ) × IsInput known input × (INPUT_BYTES < length input))
+-- a source's input was kept last, or it is too long
+abbrev pub Kept : {F : Type 0} → (F → Option (List ℕ)) → Source F → Source F → List (List ℕ) → List (List ℕ) → Bool → Type 0
+Kept remaining old new held held' true = (input : List ℕ) × (held' ≡ held ++ input ∷ []) × IsInput remaining old new input × (length input ≤ INPUT_BYTES)
+Kept remaining old new held held' false = (held' ≡ held) × ((input : List ℕ) × IsInput remaining old new input × (INPUT_BYTES < length input))
 
 -- The script and its files
 
--- these are the script and the files that the readers had, as far as that is known
-abbrev pub AreScriptInputs : Option (List ℕ) → List (Option (List ℕ)) → List ℕ → List (List ℕ) → Type 0
-AreScriptInputs known others input files = IsInput known input × AreInputs others files
+-- these are the inputs of the script and of the files: those of the files by what was got of them where the script isn't too long
+abbrev pub AreScriptInputs : {R F : Type 0} → (R → Option (List ℕ)) → Source R → Source R → (F → Option (List ℕ)) → List (Source F) → List (Source F) → List ℕ → List (List ℕ) → Type 0
+AreScriptInputs remaining old new left files files' input inputs =
+    IsInput remaining old new input × AreKnown (had left files) inputs × (length input ≤ INPUT_BYTES → AreGot left files files' inputs)
 
 -- the script and each file are within the limit
 abbrev pub AllShort : List ℕ → List (List ℕ) → Type 0
@@ -49,9 +60,10 @@ AllShort input files = (length input ≤ INPUT_BYTES) × AllWithin files
 abbrev pub SomeLong : List ℕ → List (List ℕ) → Type 0
 SomeLong input files = (INPUT_BYTES < length input) ⊎ OneLonger files
 
--- so it is with what the readers had
-abbrev pub HadLong : Option (List ℕ) → List (Option (List ℕ)) → Type 0
-HadLong known others = (input : List ℕ) × (files : List (List ℕ)) × AreScriptInputs known others input files × SomeLong input files
+-- so it is with the inputs
+abbrev pub HadLong : {R F : Type 0} → (R → Option (List ℕ)) → Source R → Source R → (F → Option (List ℕ)) → List (Source F) → List (Source F) → Type 0
+HadLong remaining old new left files files' =
+    (input : List ℕ) × (inputs : List (List ℕ)) × AreScriptInputs remaining old new left files files' input inputs × SomeLong input inputs
 
 -- The records of the files
 

@@ -4,7 +4,7 @@ ghost use Rattle.std.specs.Prelude.{◌≡◌, ◌++◌, ◌∷◌, [], OnOk, Op
 ghost use Rattle.console.specs.Devices.{IsFresh, IsReadThrough, StopsReading};
 ghost use Rattle.console.specs.Reading.{IsReadFault};
 ghost use Rattle.console.specs.declared.input.TheConstants.{INPUT_BYTES, INPUT_READS};
-ghost use Rattle.script_input.specs.Inputs.{AllFresh, AllWithin, AreInputs, AreReadInOrder, Kept, LongAmong, NoneFailed, StopsFiles, had};
+ghost use Rattle.script_input.specs.Inputs.{AllFresh, AllWithin, AreInputs, AreReadInOrder, Kept, LongAmong, NoneFailed, StopsFiles};
 
 use console::{EngineFault, INPUT_BYTES, Input, Source, read_bounded};
 use seq::Shared;
@@ -17,8 +17,8 @@ pub(crate) fn read_files<F: Read>(
     files: &mut [Source<F>],
 ) -> Result<Option<Vec<Shared<u8>>>, EngineFault>
     requires { AllFresh files.old }
-    ensures read { IfOk result (λ read. MatchOption read (LongAmong (had F.remaining files.old))
-        (λ held. AreInputs (had F.remaining files.old) held.items × AllWithin held.items)) }
+    ensures read { IfOk result (λ read. MatchOption read (LongAmong F.remaining files.old files.new)
+        (λ held. AreInputs F.remaining files.old files.new held.items × AllWithin held.items)) }
     ensures order { AreReadInOrder files.old files.new }
     ensures fault { IfErr result IsReadFault }
     ensures good { OnOk result (NoneFailed files.new) }
@@ -40,7 +40,7 @@ fn keep<F: Read>(
     held: &mut Vec<Shared<u8>>,
 ) -> Result<bool, EngineFault>
     requires { IsFresh source.old INPUT_READS }
-    ensures kept { IfOk result (Kept (F.remaining source.old.inner) (held.old.items) (held.new.items)) }
+    ensures kept { IfOk result (Kept F.remaining source.old source.new (held.old.items) (held.new.items)) }
     ensures record { IfOk result (IsReadThrough source.new INPUT_BYTES) }
     ensures fault { IfErr result IsReadFault }
     ensures cause { IfErr result (StopsReading source.new) }

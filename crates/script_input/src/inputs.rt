@@ -4,7 +4,7 @@ ghost use Rattle.std.specs.Prelude.{◌≡◌, ◌≤◌, ◌⊎◌, IfOk, IfErr
 ghost use Rattle.console.specs.declared.input.TheConstants.{INPUT_READS};
 ghost use Rattle.console.specs.Devices.{IsFresh};
 ghost use Rattle.console.specs.Reading.{IsReadFault, most_taken};
-ghost use Rattle.script_input.specs.Inputs.{AllFresh, AllShort, AreReadInOrder, AreScriptInputs, HadLong, NoneFailed, StopsInputs, had};
+ghost use Rattle.script_input.specs.Inputs.{AllFresh, AllShort, AreReadInOrder, AreScriptInputs, HadLong, NoneFailed, StopsInputs};
 
 use crate::files::read_files;
 use console::{EngineFault, INPUT_BYTES, Input, Source, read_bounded};
@@ -29,8 +29,8 @@ pub fn read_inputs<R: Read, F: Read>(
 ) -> Result<Option<Inputs>, EngineFault>
     requires fresh { IsFresh reader.old INPUT_READS }
     requires fresh_files { AllFresh files.old }
-    ensures read { IfOk result (λ read. MatchOption read (HadLong (R.remaining reader.old.inner) (had F.remaining files.old))
-        (λ inputs. AreScriptInputs (R.remaining reader.old.inner) (had F.remaining files.old) inputs.script.items (inputs.files.items)
+    ensures read { IfOk result (λ read. MatchOption read (HadLong R.remaining reader.old reader.new F.remaining files.old files.new)
+        (λ inputs. AreScriptInputs R.remaining reader.old reader.new F.remaining files.old files.new inputs.script.items (inputs.files.items)
         × AllShort inputs.script.items (inputs.files.items))) }
     ensures script_first { (reader.new.ended ≡ true) ⊎ (files.new ≡ files.old) }
     ensures order { AreReadInOrder files.old files.new }

@@ -1,8 +1,7 @@
 //! What is printed in place of what a script does.
 
 ghost use Rattle.std.specs.Prelude.{◌≡◌, ◌≢◌, IfOk, IfErr, IsErrOf, OnOk, false};
-ghost use Rattle.std.specs.Io.KnownBytes.{Appends};
-ghost use Rattle.console.specs.Devices.{StopsWriting};
+ghost use Rattle.console.specs.Devices.{StopsWriting, Writes};
 ghost use Rattle.console.specs.Matching.{IsPrintFault};
 ghost use Rattle.script_input.specs.Faults.{script_fault_line};
 
@@ -20,7 +19,7 @@ pub fn refuse<W: Write>(
     writer: &mut Sink<W>,
 ) -> Result<u8, EngineFault>
     requires { writer.old.failed ≡ false }
-    ensures shown { IfOk result (λ status. (status ≡ 1) × (fault.kind ≢ ScriptFaultKind.NoMemory) × Appends (W.contents writer.old.inner) (W.contents writer.new.inner) (script_fault_line fault)) }
+    ensures shown { IfOk result (λ status. (status ≡ 1) × (fault.kind ≢ ScriptFaultKind.NoMemory) × Writes W.contents writer.old writer.new (script_fault_line fault)) }
     ensures fault { IfErr result IsPrintFault }
     ensures good { OnOk result (writer.new.failed ≡ false) }
     ensures cause { IfErr result (StopsWriting writer.new) }

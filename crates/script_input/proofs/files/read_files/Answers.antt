@@ -1,4 +1,4 @@
-use Rattle.std.proofs.Common.{◌≡◌, ◌∙◌, ◌<◌, ℕ, Bool, List, true, false, slice_index_or, slice_set, suc, ◌+◌, refl, sym, subst, arith}
+use Rattle.std.proofs.Common.{◌≡◌, ◌∙◌, ℕ, Bool, List, true, false, slice_index_or, slice_set, suc, ◌+◌, refl, sym, subst, arith}
 use Rattle.std.proofs.lemmas.Option.{slice_get_read}
 use Rattle.std.proofs.lemmas.Result.{err_from_is_err_and}
 use Rattle.console.specs.declared.input.TheConstants.{INPUT_BYTES, INPUT_READS}
@@ -27,9 +27,9 @@ returns-in_err-keep-clause-cause g c =
 pub returns-then-not-branch-clause-read : goal.returns-then-not-branch-clause-read
 returns-then-not-branch-clause-read g c =
     let here = slice_get_read c.files.files _ c.files.place c.index-files-place.result refl (omega (arith, c.files-test.true, c.files.auto.files)) c.index-files-place.is in
-    let kept = subst (λ s. Kept (g.F.Read.remaining s.inner) c.files.held.items c.keep.new.held.items false) (sym c.index-files-place.is)
-    (subst (λ (b : Bool). Kept (g.F.Read.remaining (slice_index_or c.files.files c.files.place c.index-files-place.result).inner) c.files.held.items c.keep.new.held.items b) c.if-not-branch.true c.in_ok-keep.ensures.kept) in
-    read_long g.F.Read.remaining _ c.files.files c.files.held.items c.keep.new.held.items c.files.place c.index-files-place.result c.files.invariant here kept
+    let kept = subst (λ s. Kept g.F.Read.remaining s c.keep.new.source c.files.held.items c.keep.new.held.items false) (sym c.index-files-place.is)
+    (subst (λ (b : Bool). Kept g.F.Read.remaining (slice_index_or c.files.files c.files.place c.index-files-place.result) c.keep.new.source c.files.held.items c.keep.new.held.items b) c.if-not-branch.true c.in_ok-keep.ensures.kept) in
+    read_long g.F.Read.remaining _ c.files.files c.files.held.items c.keep.new.held.items c.files.place c.index-files-place.result c.keep.new.source c.files.invariant here kept
 
 pub returns-then-not-branch-clause-order : goal.returns-then-not-branch-clause-order
 returns-then-not-branch-clause-order g c = in_order_at g.F.Read.remaining _ c.files.files c.files.held.items c.files.place _ c.files.invariant
@@ -41,8 +41,8 @@ returns-then-not-branch-clause-good g c =
 pub files-preserved : goal.files-preserved
 files-preserved g c =
     let here = slice_get_read c.files.files _ c.files.place c.index-files-place.result refl (omega (arith, c.files-test.true, c.files.auto.files)) c.index-files-place.is in
-    let kept = subst (λ s. Kept (g.F.Read.remaining s.inner) c.files.held.items c.keep.new.held.items true) (sym c.index-files-place.is)
-    (subst (λ (b : Bool). Kept (g.F.Read.remaining (slice_index_or c.files.files c.files.place c.index-files-place.result).inner) c.files.held.items c.keep.new.held.items b) c.if-not-branch.false c.in_ok-keep.ensures.kept) in
+    let kept = subst (λ s. Kept g.F.Read.remaining s c.keep.new.source c.files.held.items c.keep.new.held.items true) (sym c.index-files-place.is)
+    (subst (λ (b : Bool). Kept g.F.Read.remaining (slice_index_or c.files.files c.files.place c.index-files-place.result) c.keep.new.source c.files.held.items c.keep.new.held.items b) c.if-not-branch.false c.in_ok-keep.ensures.kept) in
     let next : suc c.files.place ≡ c.files.place + 1 = omega arith in
     subst (λ (n : ℕ). ReadUpTo g.F.Read.remaining c.args.files.now (slice_set c.files.files c.files.place c.keep.new.source) c.keep.new.held.items n) next
     (read_more g.F.Read.remaining c.args.files.now c.files.files c.files.held.items c.keep.new.held.items c.files.place c.index-files-place.result c.keep.new.source c.files.invariant here kept
