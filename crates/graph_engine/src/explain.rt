@@ -2,7 +2,6 @@
 
 ghost use Rattle.std.specs.Prelude.{◌≡◌, ◌<◌, ◌≤◌, ◌^◌, ◌++◌, ◌⊎◌, ℕ, List, length, Ok, IfOk, IfErr, IsErr, IsErrOf, MatchOption, OnOk, flat_map, string_bytes, ⊤, [], false};
 ghost use Rattle.std.specs.List.{All};
-ghost use Rattle.std.specs.Io.KnownBytes.{Appends};
 ghost use Rattle.std.specs.Str.Lines.{lines};
 ghost use Rattle.hex.specs.Hex.{decode_of};
 ghost use Rattle.std.specs.Option.{option_map_or};
@@ -12,7 +11,7 @@ ghost use Rattle.bpf_insn.specs.declared.insn.Insn.{Insn};
 ghost use Rattle.filter_verify.specs.Rules.{Sound};
 ghost use Rattle.console.specs.Code.{IsGoodCode, ShowsBadCode};
 ghost use Rattle.console.specs.declared.input.TheConstants.{INPUT_READS};
-ghost use Rattle.console.specs.Devices.{EndsEarly, EndsWell, IsFresh};
+ghost use Rattle.console.specs.Devices.{EndsEarly, EndsWell, IsFresh, Writes};
 ghost use Rattle.console.specs.Matching.{IsEngineFault};
 ghost use Rattle.console.specs.Reading.{IsInput, most_taken};
 ghost use Rattle.graph_engine.specs.Explaining as spec;
@@ -45,9 +44,9 @@ pub fn run_explain<R: Read, W: Write>(
 ) -> Result<u8, EngineFault>
     requires fresh { IsFresh reader.old INPUT_READS }
     requires good { writer.old.failed ≡ false }
-    ensures shown { IfOk result (λ status. (text : List ℕ) × Appends (W.contents writer.old.inner) (W.contents writer.new.inner) text
+    ensures shown { IfOk result (λ status. (text : List ℕ) × Writes W.contents writer.old writer.new text
         × ((ShowsBadCode code.now text × (status ≡ 1))
-        ⊎ ((input : List ℕ) × IsInput (R.remaining reader.old.inner) input × spec.ShowsExplained code.now input status text))) }
+        ⊎ ((input : List ℕ) × IsInput R.remaining reader.old reader.new input × spec.ShowsExplained code.now input status text))) }
     ensures unread { ((program : List Insn) → IsGoodCode code.now program → ⊥) → reader.new ≡ reader.old }
     ensures fault { IfErr result IsEngineFault }
     ensures well { IfOk result (λ _. (writer.new.failed ≡ false) × ((reader.new ≡ reader.old) ⊎ EndsWell reader.new writer.new INPUT_BYTES)) }
@@ -77,8 +76,8 @@ fn explain_input<R: Read, W: Write>(
     requires unread { reader.old.taken ≡ 0 }
     requires open { (reader.old.ended ≡ false) × (reader.old.failed ≡ false) }
     requires good { writer.old.failed ≡ false }
-    ensures shown { IfOk result (λ status. (text : List ℕ) × Appends (W.contents writer.old.inner) (W.contents writer.new.inner) text
-        × ((input : List ℕ) × IsInput (R.remaining reader.old.inner) input × spec.ShowsInput program.now input status text)) }
+    ensures shown { IfOk result (λ status. (text : List ℕ) × Writes W.contents writer.old writer.new text
+        × ((input : List ℕ) × IsInput R.remaining reader.old reader.new input × spec.ShowsInput program.now input status text)) }
     ensures fault { IfErr result IsEngineFault }
     ensures well { IfOk result (λ _. EndsWell reader.new writer.new INPUT_BYTES) }
     ensures cause { IfErr result (EndsEarly reader.new writer.new) }

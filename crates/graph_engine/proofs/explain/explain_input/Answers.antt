@@ -5,7 +5,7 @@ use Rattle.graph_engine.proofs.explain.explain_input.Goals as goal
 pub returns-in_ok-write_text-in-TooLong-clause-shown : goal.returns-in_ok-write_text-in-TooLong-clause-shown
 returns-in_ok-write_text-in-TooLong-clause-shown g c =
     let given = rw c.in-TooLong.is at c.in_ok-read_bounded.ensures.input in
-    let input = long_input _ _ given.0 _ given.1 given.2 in
+    let input = long_input _ _ given.0 given.1 given.2 in
     (_, c.in_ok-write_text-in-TooLong.ensures.written, (input.0, input.1, inr (input.2, (refl, refl))))
 
 pub returns-in_ok-write_bytes-in-Whole-clause-shown : goal.returns-in_ok-write_bytes-in-Whole-clause-shown
