@@ -107,7 +107,7 @@ push_at : {A : Type 0} (xs : List A) (x y : A) (k : ℕ) → slice_get (xs ++ x 
 push_at [] x y zero e = inr (refl, cc_some e)
 push_at [] x y (suc k) e = absurd cc
 push_at (z ∷ xs) x y zero e = inl e
-push_at (z ∷ xs) x y (suc k) e = elim (push_at xs x y k e) [ | inl there ↦ inl there | inr last ↦ inr (ap suc last.0, last.1) ]
+push_at (z ∷ xs) x y (suc k) e = elim (push_at xs x y k e) [ inl there ↦ inl there | inr last ↦ inr (ap suc last.0, last.1) ]
 
 -- the input at the place was got, and so were those before it
 got_push : {F : Type 0} (remaining : F → Option (List ℕ)) (old now : List (Source F)) (held : List (List ℕ)) (place : ℕ) (file file' : Source F) (kept : List ℕ)
@@ -183,8 +183,7 @@ read_long remaining old now held held' place file file' upto at kept =
     let known = take place (had remaining old) in
     let here = inputs_push known held (remaining file.inner) input.0 upto.inputs input.1.0 in
     let all = had_rest remaining old (suc place) (held ++ input.0 ∷ [])
-    (subst (λ (k : List (Option (List ℕ))). AreKnown k (held ++ input.0 ∷ [])) (sym (had_here remaining old place file (sym (upto.later place (omega arith)) ∙ at))) here) in
-    (
+    (subst (λ (k : List (Option (List ℕ))). AreKnown k (held ++ input.0 ∷ [])) (sym (had_here remaining old place file (sym (upto.later place (omega arith)) ∙ at))) here) in (
       (held ++ input.0 ∷ []) ++ all.0,
       (all.1, record { same = set_length now place file' ∙ upto.same_length; each = λ k f f' i a b c within. long_got remaining old now held place file file' input.0 all.0 upto at input.1 input.2 k f f' i a b c within }),
       longer_more (held ++ input.0 ∷ []) all.0 (longer_last known held input.0 upto.inputs input.2),

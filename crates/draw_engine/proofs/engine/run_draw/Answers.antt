@@ -5,7 +5,7 @@ use Rattle.draw_engine.proofs.engine.run_draw.Goals as goal
 
 pub returns-in-TooLong-clause-shown : goal.returns-in-TooLong-clause-shown
 returns-in-TooLong-clause-shown g c =
-    shown_long c.refuse_long.result _ _ _ _ (ShowsDraw c.args.plain) (rw c.in-TooLong.is at c.in_ok-read_bounded.ensures.input) (λ input long. inr (long, (refl, refl))) c.refuse_long.ensures.shown
+    shown_long c.refuse_long.result _ _ _ _ _ (ShowsDraw c.args.plain) (rw c.in-TooLong.is at c.in_ok-read_bounded.ensures.input) (λ input long. inr (long, (refl, refl))) c.refuse_long.ensures.shown
 
 pub returns-in_ok-write_bytes-in-Whole-clause-shown : goal.returns-in_ok-write_bytes-in-Whole-clause-shown
 returns-in_ok-write_bytes-in-Whole-clause-shown g c =
