@@ -51,10 +51,11 @@ abbrev pub HaltsScript : List (List ℕ) → List ℕ → RunFailure → Type 0
 HaltsScript files input (Halted core why) = (script : Script) × Stands (for_threads files) input (Ok script) × HasHalted script.budgets script.items core why
 HaltsScript files input failure = ⊤
 
--- and that is what the script and its files had
-abbrev pub HaltsRun : Option (List ℕ) → List (Option (List ℕ)) → RunFailure → Type 0
-HaltsRun remaining had (Halted core why) = (input : List ℕ) × (inputs : List (List ℕ)) × AreScriptInputs remaining had input inputs × HaltsScript inputs input (Halted core why)
-HaltsRun remaining had failure = ⊤
+-- and that is what was got of the script and its files
+abbrev pub HaltsRun : {R F : Type 0} → (R → Option (List ℕ)) → Source R → Source R → (F → Option (List ℕ)) → List (Source F) → List (Source F) → RunFailure → Type 0
+HaltsRun remaining old new left files files' (Halted core why) =
+    (input : List ℕ) × (inputs : List (List ℕ)) × AreScriptInputs remaining old new left files files' input inputs × HaltsScript inputs input (Halted core why)
+HaltsRun remaining old new left files files' failure = ⊤
 
 -- why a run isn't written: no write failed, unless that is why
 abbrev pub StopsRun : {W : Type 0} → Sink W → RunFailure → Type 0

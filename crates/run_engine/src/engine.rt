@@ -1,13 +1,12 @@
 //! `run`: runs a script on cores that are threads.
 
 ghost use Rattle.std.specs.Prelude.{◌≡◌, ◌<◌, ◌≤◌, ◌^◌, ◌⊎◌, ℕ, All, List, length, IfOk, IfErr, OnOk, string_bytes, true, false};
-ghost use Rattle.std.specs.Io.KnownBytes.{Appends};
 ghost use Rattle.console.specs.declared.input.TheConstants.{INPUT_READS};
-ghost use Rattle.console.specs.Devices.{IsFresh};
+ghost use Rattle.console.specs.Devices.{IsFresh, Writes};
 ghost use Rattle.console.specs.Reading.{most_taken};
 ghost use Rattle.mk_script.specs.Limits.{HasLimits, IsLimited};
 ghost use Rattle.mk_script.specs.Threads.{IsForThreads, IsScriptForThreads};
-ghost use Rattle.script_input.specs.Inputs.{AllFresh, AreReadInOrder, AreScriptInputs, NoneFailed, had};
+ghost use Rattle.script_input.specs.Inputs.{AllFresh, AreReadInOrder, AreScriptInputs, NoneFailed};
 ghost use Rattle.run_engine.specs.Failing.{HaltsOf, HaltsRun, HaltsScript, IsOfCores, RunEndsEarly, StopsRun};
 ghost use Rattle.run_engine.specs.Running.{HaveDone};
 ghost use Rattle.run_engine.specs.Showing.{Shows, ShowsRun, ShowsRunScript};
@@ -93,13 +92,13 @@ pub fn run_run<T: Threads + Wait + Clock + Sync, G: Gate + Sync, R: Read, F: Rea
     requires fresh { IsFresh reader.old INPUT_READS }
     requires fresh_files { AllFresh files.old }
     requires good { writer.old.failed ≡ false }
-    ensures shown { IfOk result (λ status. (text : List ℕ) × Appends (W.contents writer.old.inner) (W.contents writer.new.inner) text
-        × ((input : List ℕ) × (inputs : List (List ℕ)) × AreScriptInputs (R.remaining reader.old.inner) (had F.remaining files.old) input inputs × Shows inputs input status text)) }
+    ensures shown { IfOk result (λ status. (text : List ℕ) × Writes W.contents writer.old writer.new text
+        × ((input : List ℕ) × (inputs : List (List ℕ)) × AreScriptInputs R.remaining reader.old reader.new F.remaining files.old files.new input inputs × Shows inputs input status text)) }
     ensures script_first { (reader.new.ended ≡ true) ⊎ (files.new ≡ files.old) }
     ensures order { AreReadInOrder files.old files.new }
     ensures well { OnOk result ((reader.new.failed ≡ false) × NoneFailed files.new × (writer.new.failed ≡ false)) }
     ensures cause { IfErr result (RunEndsEarly reader.new files.new writer.new) }
-    ensures halted { IfErr result (HaltsRun (R.remaining reader.old.inner) (had F.remaining files.old)) }
+    ensures halted { IfErr result (HaltsRun R.remaining reader.old reader.new F.remaining files.old files.new) }
     ensures most { reader.new.taken ≤ most_taken }
     ensures silent { IfErr result (λ failure. (failure ≡ RunFailure.Engine EngineFault.WriteFailed) ⊎ (writer.new ≡ writer.old)) }
 {
@@ -120,7 +119,7 @@ fn run_text<T: Threads + Wait + Clock + Sync, G: Gate + Sync, W: Write>(
 ) -> Result<u8, RunFailure>
     requires short { length input.now < 2 ^ 32 }
     requires good { writer.old.failed ≡ false }
-    ensures shown { IfOk result (λ status. (text : List ℕ) × Appends (W.contents writer.old.inner) (W.contents writer.new.inner) text × ShowsRunScript (files.now) input.now status text) }
+    ensures shown { IfOk result (λ status. (text : List ℕ) × Writes W.contents writer.old writer.new text × ShowsRunScript (files.now) input.now status text) }
     ensures good { OnOk result (writer.new.failed ≡ false) }
     ensures cause { IfErr result (StopsRun writer.new) }
     ensures halted { IfErr result (HaltsScript files.now input.now) }
@@ -143,7 +142,7 @@ fn run_script<T: Threads + Wait + Clock + Sync, G: Gate + Sync, W: Write>(
     requires limits { HasLimits script }
     requires threads { IsScriptForThreads script }
     requires good { writer.old.failed ≡ false }
-    ensures shown { IfOk result (λ status. (status ≡ 0) × ((text : List ℕ) × Appends (W.contents writer.old.inner) (W.contents writer.new.inner) text × ShowsRun script text)) }
+    ensures shown { IfOk result (λ status. (status ≡ 0) × ((text : List ℕ) × Writes W.contents writer.old writer.new text × ShowsRun script text)) }
     ensures good { OnOk result (writer.new.failed ≡ false) }
     ensures cause { IfErr result (StopsRun writer.new) }
     ensures halted { IfErr result (HaltsOf script) }
