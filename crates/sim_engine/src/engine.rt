@@ -1,15 +1,14 @@
 //! `sim`: runs a script.
 
 ghost use Rattle.std.specs.Prelude.{◌≡◌, ◌<◌, ◌≤◌, ◌^◌, ◌++◌, ◌⊎◌, length, ℕ, List, IfOk, IfErr, IsErrOf, OnOk, true, false};
-ghost use Rattle.std.specs.Io.KnownBytes.{Appends};
 ghost use Rattle.console.specs.declared.input.TheConstants.{INPUT_READS};
-ghost use Rattle.console.specs.Devices.{IsFresh, StopsWriting};
+ghost use Rattle.console.specs.Devices.{IsFresh, StopsWriting, Writes};
 ghost use Rattle.console.specs.Reading.{most_taken};
 ghost use Rattle.console.specs.Matching.{IsEngineFault, IsPrintFault};
 ghost use Rattle.mk_script.specs.Limits.{HasLimits};
 ghost use Rattle.mk_script.specs.declared.script.Item.{Item as GhostItem};
 ghost use Rattle.mk_script.specs.Scripts.{AreFiles};
-ghost use Rattle.script_input.specs.Inputs.{AllFresh, AreReadInOrder, AreScriptInputs, NoneFailed, ScriptEndsEarly, had};
+ghost use Rattle.script_input.specs.Inputs.{AllFresh, AreReadInOrder, AreScriptInputs, NoneFailed, ScriptEndsEarly};
 ghost use Rattle.sim_engine.specs.Showing.{ShowsAmply, ShowsItems, ShowsOneButForMemory, ShowsPart, ShowsScript, ShowsSim};
 
 use crate::running::perform_all;
@@ -37,8 +36,8 @@ pub fn run_sim<R: Read, F: Read, W: Write>(
     requires fresh { IsFresh reader.old INPUT_READS }
     requires fresh_files { AllFresh files.old }
     requires good { writer.old.failed ≡ false }
-    ensures shown { IfOk result (λ status. (text : List ℕ) × Appends (W.contents writer.old.inner) (W.contents writer.new.inner) text
-        × ((input : List ℕ) × (inputs : List (List ℕ)) × AreScriptInputs (R.remaining reader.old.inner) (had F.remaining files.old) input inputs × ShowsSim inputs input status text)) }
+    ensures shown { IfOk result (λ status. (text : List ℕ) × Writes W.contents writer.old writer.new text
+        × ((input : List ℕ) × (inputs : List (List ℕ)) × AreScriptInputs R.remaining reader.old reader.new F.remaining files.old files.new input inputs × ShowsSim inputs input status text)) }
     ensures some { (input : List ℕ) (inputs : List (List ℕ)) → AreFiles inputs → ShowsAmply (ShowsSim inputs input) }
     ensures only { (input : List ℕ) (inputs : List (List ℕ)) → AreFiles inputs → ShowsOneButForMemory (ShowsSim inputs input) }
     ensures fault { IfErr result IsEngineFault }
@@ -48,8 +47,8 @@ pub fn run_sim<R: Read, F: Read, W: Write>(
     ensures cause { IfErr result (ScriptEndsEarly reader.new files.new writer.new) }
     ensures most { reader.new.taken ≤ most_taken }
     ensures silent { IsErrOf result EngineFault.ReadFailed → writer.new ≡ writer.old }
-    ensures part { IsErrOf result EngineFault.NoMemory → (writer.new ≡ writer.old) ⊎ ((text : List ℕ) × Appends (W.contents writer.old.inner) (W.contents writer.new.inner) text
-        × ((input : List ℕ) × (inputs : List (List ℕ)) × AreScriptInputs (R.remaining reader.old.inner) (had F.remaining files.old) input inputs × ShowsPart inputs input text)) }
+    ensures part { IsErrOf result EngineFault.NoMemory → (writer.new ≡ writer.old) ⊎ ((text : List ℕ) × Writes W.contents writer.old writer.new text
+        × ((input : List ℕ) × (inputs : List (List ℕ)) × AreScriptInputs R.remaining reader.old reader.new F.remaining files.old files.new input inputs × ShowsPart inputs input text)) }
 {
     run_sim_over::<Messages, R, F, W>(alloc, files, reader, writer)
 }
@@ -64,8 +63,8 @@ pub fn run_sim_over<C: Channel, R: Read, F: Read, W: Write>(
     requires fresh { IsFresh reader.old INPUT_READS }
     requires fresh_files { AllFresh files.old }
     requires good { writer.old.failed ≡ false }
-    ensures shown { IfOk result (λ status. (text : List ℕ) × Appends (W.contents writer.old.inner) (W.contents writer.new.inner) text
-        × ((input : List ℕ) × (inputs : List (List ℕ)) × AreScriptInputs (R.remaining reader.old.inner) (had F.remaining files.old) input inputs × ShowsSim inputs input status text)) }
+    ensures shown { IfOk result (λ status. (text : List ℕ) × Writes W.contents writer.old writer.new text
+        × ((input : List ℕ) × (inputs : List (List ℕ)) × AreScriptInputs R.remaining reader.old reader.new F.remaining files.old files.new input inputs × ShowsSim inputs input status text)) }
     ensures fault { IfErr result IsEngineFault }
     ensures script_first { (reader.new.ended ≡ true) ⊎ (files.new ≡ files.old) }
     ensures order { AreReadInOrder files.old files.new }
@@ -73,8 +72,8 @@ pub fn run_sim_over<C: Channel, R: Read, F: Read, W: Write>(
     ensures cause { IfErr result (ScriptEndsEarly reader.new files.new writer.new) }
     ensures most { reader.new.taken ≤ most_taken }
     ensures silent { IsErrOf result EngineFault.ReadFailed → writer.new ≡ writer.old }
-    ensures part { IsErrOf result EngineFault.NoMemory → (writer.new ≡ writer.old) ⊎ ((text : List ℕ) × Appends (W.contents writer.old.inner) (W.contents writer.new.inner) text
-        × ((input : List ℕ) × (inputs : List (List ℕ)) × AreScriptInputs (R.remaining reader.old.inner) (had F.remaining files.old) input inputs × ShowsPart inputs input text)) }
+    ensures part { IsErrOf result EngineFault.NoMemory → (writer.new ≡ writer.old) ⊎ ((text : List ℕ) × Writes W.contents writer.old writer.new text
+        × ((input : List ℕ) × (inputs : List (List ℕ)) × AreScriptInputs R.remaining reader.old reader.new F.remaining files.old files.new input inputs × ShowsPart inputs input text)) }
 {
     let Some(inputs) = read_inputs(alloc, reader, files)? else {
         return refuse_long(writer);
@@ -91,11 +90,11 @@ fn run_text<C: Channel, W: Write>(
 ) -> Result<u8, EngineFault>
     requires short { length input.now < 2 ^ 32 }
     requires good { writer.old.failed ≡ false }
-    ensures shown { IfOk result (λ status. (text : List ℕ) × Appends (W.contents writer.old.inner) (W.contents writer.new.inner) text × ShowsScript inputs.now input.now status text) }
+    ensures shown { IfOk result (λ status. (text : List ℕ) × Writes W.contents writer.old writer.new text × ShowsScript inputs.now input.now status text) }
     ensures fault { IfErr result IsPrintFault }
     ensures good { OnOk result (writer.new.failed ≡ false) }
     ensures cause { IfErr result (StopsWriting writer.new) }
-    ensures part { IsErrOf result EngineFault.NoMemory → (writer.new ≡ writer.old) ⊎ ((text : List ℕ) × Appends (W.contents writer.old.inner) (W.contents writer.new.inner) text
+    ensures part { IsErrOf result EngineFault.NoMemory → (writer.new ≡ writer.old) ⊎ ((text : List ℕ) × Writes W.contents writer.old writer.new text
         × ((more : List ℕ) × ShowsScript inputs.now input.now 0 (text ++ more))) }
 {
     match read_script(alloc, input, inputs, false) {
@@ -112,12 +111,12 @@ fn run_script<C: Channel, W: Write>(
 ) -> Result<u8, EngineFault>
     requires limits { HasLimits script.now }
     requires good { writer.old.failed ≡ false }
-    ensures shown { IfOk result (λ status. (status ≡ 0) × ((text : List ℕ) × Appends (W.contents writer.old.inner) (W.contents writer.new.inner) text × ShowsItems script.now.budgets script.now.items text)) }
+    ensures shown { IfOk result (λ status. (status ≡ 0) × ((text : List ℕ) × Writes W.contents writer.old writer.new text × ShowsItems script.now.budgets script.now.items text)) }
     ensures fault { IfErr result IsPrintFault }
     ensures good { OnOk result (writer.new.failed ≡ false) }
     ensures cause { IfErr result (StopsWriting writer.new) }
     ensures part { IsErrOf result EngineFault.NoMemory → (writer.new ≡ writer.old) ⊎ ((done rest : List GhostItem) × (script.now.items ≡ done ++ rest) × (text more : List ℕ)
-        × ShowsItems script.now.budgets done (text ++ more) × Appends (W.contents writer.old.inner) (W.contents writer.new.inner) text) }
+        × ShowsItems script.now.budgets done (text ++ more) × Writes W.contents writer.old writer.new text) }
 {
     let mut world = match WorldOver::<C>::boot(alloc, script.budgets.as_slice()) {
         Ok(world) => world,

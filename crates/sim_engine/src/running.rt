@@ -1,8 +1,7 @@
 //! A script's items, one after the other.
 
 ghost use Rattle.std.specs.Prelude.{◌≡◌, ◌++◌, ℕ, List, OnOk, IfErr, IsErrOf, false};
-ghost use Rattle.std.specs.Io.KnownBytes.{Appends};
-ghost use Rattle.console.specs.Devices.{StopsWriting};
+ghost use Rattle.console.specs.Devices.{StopsWriting, Writes};
 ghost use Rattle.console.specs.Matching.{IsPrintFault};
 ghost use Rattle.std.specs.List.{All};
 ghost use Rattle.mk_script.specs.Limits.{EntersBelow, IsLimited};
@@ -33,12 +32,12 @@ pub(crate) fn perform_all<C: Channel, W: Write>(
     requires entered { All (EntersBelow 8) items.now }
     requires good { writer.old.failed ≡ false }
     ensures shown { OnOk result ((s' : Simulation) × (text : List ℕ) × Performs (just world.old) items.now s' text
-        × Appends (W.contents writer.old.inner) (W.contents writer.new.inner) text) }
+        × Writes W.contents writer.old writer.new text) }
     ensures fault { IfErr result IsPrintFault }
     ensures good { OnOk result (writer.new.failed ≡ false) }
     ensures cause { IfErr result (StopsWriting writer.new) }
     ensures part { IsErrOf result EngineFault.NoMemory → (done rest : List GhostItem) × (items.now ≡ done ++ rest) × (s' : Simulation) × (text more : List ℕ)
-        × Performs (just world.old) done s' (text ++ more) × Appends (W.contents writer.old.inner) (W.contents writer.new.inner) text }
+        × Performs (just world.old) done s' (text ++ more) × Writes W.contents writer.old writer.new text }
 {
     let mut requests = Requests::new(alloc)?;
     let mut text = Vec::new(alloc);
@@ -52,7 +51,7 @@ pub(crate) fn perform_all<C: Channel, W: Write>(
 /// Writes the text that was kept back, once there is much of it.
 fn write_block<W: Write>(writer: &mut Sink<W>, text: &mut Vec<u8>) -> Result<(), EngineFault>
     requires { writer.old.failed ≡ false }
-    ensures written { OnOk result (Wrote (W.contents writer.old.inner) (W.contents writer.new.inner) text.old.items text.new.items) }
+    ensures written { OnOk result (Wrote W.contents writer.old writer.new text.old.items text.new.items) }
     ensures fault { IfErr result (λ e. e ≡ EngineFault.WriteFailed) }
     ensures good { OnOk result (writer.new.failed ≡ false) }
     ensures cause { IfErr result (StopsWriting writer.new) }

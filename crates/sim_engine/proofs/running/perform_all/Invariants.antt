@@ -6,5 +6,5 @@ use Rattle.sim_engine.proofs.running.perform_all.Given as goal
 abbrev pub invariant-loop-item : goal.invariant-loop-item
 invariant-loop-item g l = record {
   good : l.writer.failed ≡ false;
-  printed : Printed (just l.initial.world) (take l.item-index l.items) (sim l.world l.requests) (g.W.Write.contents l.initial.writer.inner) (g.W.Write.contents l.writer.inner) l.text.items;
+  printed : Printed (just l.initial.world) (take l.item-index l.items) (sim l.world l.requests) g.W.Write.contents l.initial.writer l.writer l.text.items;
 }
