@@ -1,6 +1,6 @@
 -- What the program shows for each request: the text and the status of the engine of its command.
 use Rattle.std.specs.Prelude.{◌≡◌, ◌⊎◌, ⊤, ℕ, Bool, true, false, List, Option}
-use Rattle.std.specs.Io.KnownBytes.{Consumes, IsAtEnd}
+use Rattle.std.specs.Io.KnownBytes.{IsAtEnd}
 use Rattle.command_line.specs.declared.request.Request.{Request}
 use Rattle.command_line.specs.declared.request.Request.TheVariants.{Match, View as Viewed, Explain, Check, Graph, Dump, Sim, Run, Draw}
 use Rattle.command_line.specs.declared.request.View.{View}
@@ -9,9 +9,11 @@ use Rattle.console.specs.Checking.{ShowsCheck}
 use Rattle.console.specs.Code.{ShowsBadCode}
 use Rattle.console.specs.Dumping.{ShowsDump}
 use Rattle.console.specs.Matching.{ShowsGoodCode}
+use Rattle.console.specs.Devices.{Gets}
 use Rattle.console.specs.Reading.{IsInput}
 use Rattle.console.specs.Streaming.{StreamShows}
 use Rattle.console.specs.Views.{IsFound, ShowsViewCode, ViewShows}
+use Rattle.console.specs.declared.source.Source.{Source}
 use Rattle.console.specs.declared.view.View.{View as Shown}
 use Rattle.console.specs.declared.view.View.TheVariants as shown
 use Rattle.console.specs.declared.input.TheConstants.{INPUT_READS}
@@ -26,13 +28,13 @@ use Rattle.run_engine.specs.declared.engine.RunFailure.TheVariants.{Engine}
 use Rattle.script_input.specs.Inputs.{AreScriptInputs}
 use Rattle.sim_engine.specs.Showing.{ShowsSim}
 
--- `match`, and `match --stream`, which reads to the end unless it stops at a fault: by what the reader had before and has now
-abbrev pub ShowsMatch : List ℕ → Bool → Bool → Option (List ℕ) → Option (List ℕ) → ℕ → List ℕ → Type 0
-ShowsMatch code pcap false had has status text =
-    (ShowsBadCode code text × (status ≡ 1)) ⊎ ((input : List ℕ) × IsInput had input × ShowsGoodCode code pcap input status text)
-ShowsMatch code pcap true had has status text =
+-- `match`, and `match --stream`, which reads to the end unless it stops at a fault: by what was got of the source
+abbrev pub ShowsMatch : {R : Type 0} → List ℕ → Bool → Bool → (R → Option (List ℕ)) → Source R → Source R → ℕ → List ℕ → Type 0
+ShowsMatch code pcap false remaining old new status text =
+    (ShowsBadCode code text × (status ≡ 1)) ⊎ ((input : List ℕ) × IsInput remaining old new input × ShowsGoodCode code pcap input status text)
+ShowsMatch code pcap true remaining old new status text =
     (ShowsBadCode code text × (status ≡ 1))
-    ⊎ ((input : List ℕ) × Consumes had has input × StreamShows code pcap input status text × (IsAtEnd has ⊎ (status ≡ 1)))
+    ⊎ ((input : List ℕ) × Gets remaining old new input × StreamShows code pcap input status text × (IsAtEnd (remaining new.inner) ⊎ (status ≡ 1)))
 
 -- the view of the engine
 abbrev pub shown_as : View → Shown
@@ -41,29 +43,35 @@ shown_as asked.Count = shown.Count
 shown_as asked.Quiet = shown.Quiet
 
 -- `match` under a view, which reads to the end unless it stops at a fault, or at the first packet that is accepted
-abbrev pub ShowsViewed : Shown → List ℕ → Bool → Option (List ℕ) → Option (List ℕ) → ℕ → List ℕ → Type 0
-ShowsViewed view code pcap had has status text =
+abbrev pub ShowsViewed : {R : Type 0} → Shown → List ℕ → Bool → (R → Option (List ℕ)) → Source R → Source R → ℕ → List ℕ → Type 0
+ShowsViewed view code pcap remaining old new status text =
     (ShowsViewCode view code text × (status ≡ 1))
-    ⊎ ((input : List ℕ) × Consumes had has input × ViewShows view code pcap input status text × (IsAtEnd has ⊎ (status ≡ 1) ⊎ IsFound view status))
+    ⊎ ((input : List ℕ) × Gets remaining old new input × ViewShows view code pcap input status text × (IsAtEnd (remaining new.inner) ⊎ (status ≡ 1) ⊎ IsFound view status))
 
 -- `match --explain`
-abbrev pub ShowsExplain : List ℕ → Option (List ℕ) → ℕ → List ℕ → Type 0
-ShowsExplain code had status text =
-    (ShowsBadCode code text × (status ≡ 1)) ⊎ ((input : List ℕ) × IsInput had input × ShowsExplained code input status text)
+abbrev pub ShowsExplain : {R : Type 0} → List ℕ → (R → Option (List ℕ)) → Source R → Source R → ℕ → List ℕ → Type 0
+ShowsExplain code remaining old new status text =
+    (ShowsBadCode code text × (status ≡ 1)) ⊎ ((input : List ℕ) × IsInput remaining old new input × ShowsExplained code input status text)
 
--- what is shown for a request, by what the captures had, and what the reader had before and has now
-abbrev pub Shows : Request → List (Option (List ℕ)) → Option (List ℕ) → Option (List ℕ) → ℕ → List ℕ → Type 0
-Shows (Match code pcap stream) captures had has status text = ShowsMatch code.now pcap stream had has status text
-Shows (Viewed code pcap view) captures had has status text = ShowsViewed (shown_as view) code.now pcap had has status text
-Shows (Explain code) captures had has status text = ShowsExplain code.now had status text
-Shows (Check asm) captures had has status text = (input : List ℕ) × IsInput had input × ShowsCheck asm input status text
-Shows Graph captures had has status text = (input : List ℕ) × IsInput had input × ShowsGraph input status text
-Shows Dump captures had has status text = (input : List ℕ) × IsInput had input × ShowsDump input status text
-Shows (Draw plain) captures had has status text = (input : List ℕ) × IsInput had input × ShowsDraw plain input status text
-Shows (Sim files) captures had has status text =
-    (input : List ℕ) × (inputs : List (List ℕ)) × AreScriptInputs had captures input inputs × ShowsSim inputs input status text
-Shows (Run files) captures had has status text =
-    (input : List ℕ) × (inputs : List (List ℕ)) × AreScriptInputs had captures input inputs × ShowsRunScript inputs input status text
+-- what is shown for a request that takes no captures, by what was got of the source
+abbrev pub ShowsAlone : {R : Type 0} → Request → (R → Option (List ℕ)) → Source R → Source R → ℕ → List ℕ → Type 0
+ShowsAlone (Match code pcap stream) remaining old new status text = ShowsMatch code.now pcap stream remaining old new status text
+ShowsAlone (Viewed code pcap view) remaining old new status text = ShowsViewed (shown_as view) code.now pcap remaining old new status text
+ShowsAlone (Explain code) remaining old new status text = ShowsExplain code.now remaining old new status text
+ShowsAlone (Check asm) remaining old new status text = (input : List ℕ) × IsInput remaining old new input × ShowsCheck asm input status text
+ShowsAlone Graph remaining old new status text = (input : List ℕ) × IsInput remaining old new input × ShowsGraph input status text
+ShowsAlone Dump remaining old new status text = (input : List ℕ) × IsInput remaining old new input × ShowsDump input status text
+ShowsAlone (Draw plain) remaining old new status text = (input : List ℕ) × IsInput remaining old new input × ShowsDraw plain input status text
+ShowsAlone (Sim files) remaining old new status text = ⊥
+ShowsAlone (Run files) remaining old new status text = ⊥
+
+-- what is shown for a request, by what was got of the source and of the captures
+abbrev pub Shows : {R F : Type 0} → Request → (R → Option (List ℕ)) → Source R → Source R → (F → Option (List ℕ)) → List (Source F) → List (Source F) → ℕ → List ℕ → Type 0
+Shows (Sim files) remaining old new left captures captures' status text =
+    (input : List ℕ) × (inputs : List (List ℕ)) × AreScriptInputs remaining old new left captures captures' input inputs × ShowsSim inputs input status text
+Shows (Run files) remaining old new left captures captures' status text =
+    (input : List ℕ) × (inputs : List (List ℕ)) × AreScriptInputs remaining old new left captures captures' input inputs × ShowsRunScript inputs input status text
+Shows request remaining old new left captures captures' status text = ShowsAlone request remaining old new status text
 
 -- only `run` halts, or can't start a thread
 abbrev pub IsFailure : Request → RunFailure → Type 0

@@ -1,11 +1,10 @@
 //! Each request by its engine.
 
-ghost use Rattle.std.specs.Prelude.{◌≡◌, ◌⊎◌, ℕ, List, [], true, false, IfErr, IfOk, IsErrOf};
-ghost use Rattle.std.specs.Io.KnownBytes.{Appends};
-ghost use Rattle.console.specs.Devices.{EndsEarly, IsFresh};
+ghost use Rattle.std.specs.Prelude.{◌≡◌, ◌⊎◌, ℕ, List, true, false, IfErr, IfOk, IsErrOf};
+ghost use Rattle.console.specs.Devices.{EndsEarly, IsFresh, Writes};
 ghost use Rattle.run_engine.specs.Failing.{RunEndsEarly};
-ghost use Rattle.script_input.specs.Inputs.{AllFresh, AreReadInOrder, had};
-ghost use Rattle.commands.specs.Commands.{IsFailure, Shows, ShowsMatch, is_stream, reads_at, reads_of, shown_as, takes_captures};
+ghost use Rattle.script_input.specs.Inputs.{AllFresh, AreReadInOrder};
+ghost use Rattle.commands.specs.Commands.{IsFailure, Shows, ShowsAlone, ShowsMatch, is_stream, reads_at, reads_of, shown_as, takes_captures};
 
 use command_line::{Request, View};
 use console::{
@@ -52,8 +51,8 @@ pub fn perform<T: Threads + Wait + Clock + Sync, G: Gate + Sync, R: Read, F: Rea
     requires fresh { IsFresh reader.old (reads_of request.now) }
     requires fresh_captures { AllFresh captures.old }
     requires good { writer.old.failed ≡ false }
-    ensures shown { IfOk result (λ status. (text : List ℕ) × Appends (W.contents writer.old.inner) (W.contents writer.new.inner) text
-        × Shows request.now (had F.remaining captures.old) (R.remaining reader.old.inner) (R.remaining reader.new.inner) status text) }
+    ensures shown { IfOk result (λ status. (text : List ℕ) × Writes W.contents writer.old writer.new text
+        × Shows request.now R.remaining reader.old reader.new F.remaining captures.old captures.new status text) }
     ensures alone { takes_captures request.now ≡ false → captures.new ≡ captures.old }
     ensures input_first { (reader.new.ended ≡ true) ⊎ (captures.new ≡ captures.old) }
     ensures order { AreReadInOrder captures.old captures.new }
@@ -78,8 +77,8 @@ fn perform_alone<R: Read, W: Write>(
     requires alone { takes_captures request.now ≡ false }
     requires fresh { IsFresh reader.old (reads_of request.now) }
     requires good { writer.old.failed ≡ false }
-    ensures shown { IfOk result (λ status. (text : List ℕ) × Appends (W.contents writer.old.inner) (W.contents writer.new.inner) text
-        × Shows request.now [] (R.remaining reader.old.inner) (R.remaining reader.new.inner) status text) }
+    ensures shown { IfOk result (λ status. (text : List ℕ) × Writes W.contents writer.old writer.new text
+        × ShowsAlone request.now R.remaining reader.old reader.new status text) }
     ensures cause { IfErr result (EndsEarly reader.new writer.new) }
     ensures silent { IsErrOf result EngineFault.ReadFailed → is_stream request.now ≡ false → writer.new ≡ writer.old }
 {
@@ -121,8 +120,8 @@ fn perform_match<R: Read, W: Write>(
 ) -> Result<u8, EngineFault>
     requires fresh { IsFresh reader.old (reads_at stream) }
     requires good { writer.old.failed ≡ false }
-    ensures shown { IfOk result (λ status. (text : List ℕ) × Appends (W.contents writer.old.inner) (W.contents writer.new.inner) text
-        × ShowsMatch code.now pcap stream (R.remaining reader.old.inner) (R.remaining reader.new.inner) status text) }
+    ensures shown { IfOk result (λ status. (text : List ℕ) × Writes W.contents writer.old writer.new text
+        × ShowsMatch code.now pcap stream R.remaining reader.old reader.new status text) }
     ensures cause { IfErr result (EndsEarly reader.new writer.new) }
     ensures silent { IsErrOf result EngineFault.ReadFailed → stream ≡ false → writer.new ≡ writer.old }
 {
