@@ -1,3 +1,5 @@
 pub mod Logs
 pub mod Shown
 pub mod Applying
+pub mod OneList
+pub mod Ending

@@ -1,12 +1,13 @@
 -- The headline, by what can be seen alone: the events that a machine did, with their answers, and the replicas of its cores. The
 -- operations that were committed are read off the events, so that no clause speaks of the protocol that agreed on them (Baumann et
 -- al. 2009, "The Multikernel", section 3.3: replicated state is kept consistent by agreement).
-use Rattle.std.specs.Prelude.{◌≡◌, ◌==◌, ◌++◌, ℕ, Bool, true, false, if◌then◌else◌, Option, Some, None, List, [], slice_get, option_to_list, fold}
+use Rattle.std.specs.Prelude.{◌≡◌, ◌==◌, ◌++◌, ℕ, Bool, true, false, if◌then◌else◌, Option, Some, None, List, [], ◌∷◌, slice_get, option_to_list, flat_map, fold}
 use Rattle.filter_table.specs.declared.operation.Op.{Op}
 use Rattle.filter_table.specs.Tables.{table}
 use Rattle.table_replica.specs.Shown.{ReplicaState}
+use Rattle.rx_queue.specs.declared.job.Job.{Job}
 use Rattle.world_events.specs.declared.event.Event.{Event}
-use Rattle.world_events.specs.declared.event.Event.TheVariants.{Start, Submit, StartFor}
+use Rattle.world_events.specs.declared.event.Event.TheVariants.{Start, Submit, StartFor, Rx}
 use Rattle.world_events.specs.declared.event.Done.{Done}
 use Rattle.world_model.specs.Readings.{commits_at, version_of}
 
@@ -54,3 +55,24 @@ ShowTables events replicas = (core : ℕ) (replica : ReplicaState) → slice_get
 -- replicas at one version hold equal tables, next ids included
 abbrev pub AreEqualByVersion : List ReplicaState → Type 0
 AreEqualByVersion replicas = (core other : ℕ) (r s : ReplicaState) → slice_get replicas core ≡ Some r → slice_get replicas other ≡ Some s → r.shown.version ≡ s.shown.version → r.shown ≡ s.shown
+
+-- What was given
+
+-- the request of a core's own that it begins with the event: core 0 starts it, another core submits it
+abbrev pub begun_by : ℕ → Event → List Op
+begun_by core (Start op) = if 0 == core then op ∷ [] else []
+begun_by core (Submit from op) = if from == core then op ∷ [] else []
+begun_by core event = []
+
+-- the job that a core receives with the event
+abbrev pub received_by : ℕ → Event → List Job
+received_by core (Rx to number packet floor) = if to == core then record { number = number; packet = packet; floor = floor } ∷ [] else []
+received_by core event = []
+
+-- the requests that a core begins in these events, in order
+abbrev pub begun_in : ℕ → List Done → List Op
+begun_in core events = flat_map (λ done. begun_by core done.event) events
+
+-- the jobs that a core receives in these events, in order
+abbrev pub received_in : ℕ → List Done → List Job
+received_in core events = flat_map (λ done. received_by core done.event) events

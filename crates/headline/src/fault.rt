@@ -1,18 +1,23 @@
-//! Why a machine has not done its events.
+//! Why a machine has not done what it was given.
 
 ghost use Rattle.std.specs.Prelude.{◌≡◌};
 ghost use Rattle.headline.specs.declared.fault.Fault.TheVariants as fault;
 
+use core_threads::RunFault;
 use std::alloc::AllocError;
-use world_core::{BootFault, WorldFault};
+use world_core::WorldFault;
 
-/// Why the events of a machine are not done. The machine is gone then.
+/// Why a machine has not done all that it was given. The machine is gone then.
 #[derive(Clone, Copy, PartialEq, Eq, Debug, Drop)]
 pub enum Fault {
     /// A machine has 1 to 8 cores.
     CoreCount,
     /// A core can't do its event, for this.
     Refused(WorldFault),
+    /// This core halted.
+    Halted(u16),
+    /// A thread could not be started.
+    Spawn,
     /// There was no memory.
     NoMemory,
 }
@@ -30,5 +35,19 @@ impl From<WorldFault> for Fault {
 
     fn from(why: WorldFault) -> Fault {
         Fault::Refused(why)
+    }
+}
+
+impl From<RunFault> for Fault {
+    ghost use Rattle.std.specs.Prelude.{◌⊎◌};
+    ghost use Rattle.core_threads.specs.declared.halt.RunFault.TheVariants as run_fault;
+
+    ghost from_gives = { λ why f. ((why ≡ run_fault.Spawn) × (f ≡ fault.Spawn)) ⊎ ((why ≡ run_fault.NoMemory) × (f ≡ fault.NoMemory)) };
+
+    fn from(why: RunFault) -> Fault {
+        match why {
+            RunFault::Spawn => Fault::Spawn,
+            RunFault::NoMemory => Fault::NoMemory,
+        }
     }
 }

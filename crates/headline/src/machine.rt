@@ -10,7 +10,7 @@ ghost use Rattle.headline.specs.declared.fault.Fault.TheVariants.{CoreCount};
 ghost use Rattle.headline.specs.Headline.{log_of, ShowTables, AreEqualByVersion};
 
 use crate::fault::Fault;
-use crate::replicas::Replicas;
+use crate::replicas::{Holder, Replicas};
 use std::alloc::Global;
 use world_core::{BootFault, World};
 use world_events::{Done, Event};
@@ -45,7 +45,9 @@ pub fn one_by_one(alloc: Global, budgets: &[u32], events: Vec<Event>) -> Result<
     match apply_all(alloc, &mut world, events) {
         Ok(events) => Ok(Did {
             events,
-            replicas: Replicas { world },
+            replicas: Replicas {
+                holder: Holder::World(world),
+            },
         }),
         Err(fault) => {
             drop(world);

@@ -1,0 +1,174 @@
+-- What cores did that were booted, ran as threads, and were joined.
+use Rattle.std.proofs.Common.{◌≡◌, ◌==◌, ◌<◌, ◌≤◌, ◌++◌, All, ℕ, zero, suc, Bool, false, cond, inl, inr, List, [], ◌∷◌, Option, Some, None, slice_get, length, refl, sym, ap, ◌∙◌, subst, arith}
+use Rattle.std.proofs.lemmas.List.{append-nil, length-map}
+use Rattle.std.proofs.lemmas.List.Elements.{All-nil, All-cons, All-head, All-tail}
+use Rattle.std.proofs.lemmas.Option.{slice_get_within}
+use Rattle.std.proofs.lemmas.Bool.{cases_lt}
+use Rattle.filter_table.specs.declared.operation.Op.{Op}
+use Rattle.filter_table.specs.Tables.{HasShortProgram}
+use Rattle.table_replica.specs.Shown.{ReplicaState}
+use Rattle.table_replica.proofs.Shared.{get_at}
+use Rattle.rx_queue.specs.declared.job.Job.{Job}
+use Rattle.world_events.specs.declared.event.Done.{Done}
+use Rattle.world_model.specs.Decisions.{Delivers}
+use Rattle.world_model.proofs.Submissions.{eq_other}
+use Rattle.core_loop.specs.Keeping.{replica_of}
+use Rattle.core_loop.specs.Cores.{AreShort, begun, receipts}
+use Rattle.core_join.specs.Machines.{RingCore, IsMachine}
+use Rattle.core_links.specs.declared.ring_links.RingLinks.{RingLinks}
+use Rattle.core_links.specs.RingSlots.{ring_view}
+use Rattle.core_loop.specs.declared.part.Part.{Part}
+use Rattle.core_loop.specs.declared.part.Part.TheVariants as role
+use Rattle.core_loop.specs.Beginning.{HasNothingUnderWay}
+use Rattle.world_histories.specs.Histories.{Core0}
+use Rattle.core_join.specs.Conclusions.{Concludes, OfMachine, StandsAt0, IsIdle0, histories_of}
+use Rattle.core_join.specs.Looking.{AreLookedAt}
+use Rattle.core_join.specs.Merges.{ListsRuns}
+use Rattle.core_boot.specs.Booting.{HaveRequests, AreGivable, IsMachineOf}
+use Rattle.core_boot.specs.Lanes.{items_for}
+use Rattle.core_threads.specs.declared.halt.Halt.{Halt}
+use Rattle.core_threads.specs.Ending.{EndsRightly, IsAtEnd}
+use Rattle.headline.specs.Headline.{log_of, ShowTables, begun_in, received_in}
+use Rattle.headline.specs.Shown.{replicas_of_cores}
+use Rattle.headline.specs.Ended.{HaveEnded}
+use Rattle.headline.proofs.OneList.{joined_deliver, joined_tables, joined_begun, joined_received, joined_newest, joined_none_begun, joined_none_received}
+
+-- the requests of cores other than 0 are short, so each can be given to its core
+short_for : (core : ℕ) (op : Op) → (0 < core → HasShortProgram op) → AreShort core (op ∷ [])
+short_for zero op h = tt
+short_for (suc entry) op h = All-cons HasShortProgram op [] (h (omega arith)) (All-nil HasShortProgram)
+
+pub givable : (requests : List (ℕ × Op)) → All (λ (r : ℕ × Op). 0 < r.0 → HasShortProgram r.1) requests → AreGivable requests
+givable [] all = All-nil (λ (r : ℕ × Op). AreShort r.0 (r.1 ∷ []))
+givable (r ∷ rs) all = All-cons (λ (x : ℕ × Op). AreShort x.0 (x.1 ∷ [])) r rs (short_for r.0 r.1 (All-head (λ (x : ℕ × Op). 0 < x.0 → HasShortProgram x.1) r rs all)) (givable rs (All-tail (λ (x : ℕ × Op). 0 < x.0 → HasShortProgram x.1) r rs all))
+
+-- none of these items is for a core beyond so many
+items_none : {T : Type 0} (core count : ℕ) (items : List (ℕ × T)) → All (λ i. i.0 < count) items → count ≤ core → items_for core items ≡ []
+items_none core count [] all le = refl
+items_none {T} core count (i ∷ is) all le =
+    let P : ℕ × T → Type 0 = λ x. x.0 < count in
+    let less : i.0 < count = All-head P i is all in
+    let other : (i.0 == core) ≡ false = eq_other i.0 core (λ e. omega (arith, less, le, e)) in
+    ap (λ (b : Bool). (cond b (i.1 ∷ []) []) ++ items_for core is) other ∙ items_none core count is (All-tail P i is all) le
+
+ran_machine : (budgets : List ℕ) (machine cores : List RingCore) → IsMachineOf budgets machine → ((budget : ℕ) (others : List ℕ) → IsMachine budget others machine → IsMachine budget others cores) → IsMachineOf budgets cores
+ran_machine [] machine cores is keeps = absurd is
+ran_machine (budget ∷ budgets) machine cores is keeps = keeps budget budgets is
+
+ended_whole : (budgets : List ℕ) (requests : List (ℕ × Op)) (jobs : List (ℕ × Job)) (machine cores : List RingCore) (left : List (ℕ × Job)) → IsMachineOf budgets machine → length machine ≡ length budgets → HaveRequests requests machine
+    → EndsRightly machine jobs cores left None → ((budget : ℕ) (others : List ℕ) → IsMachine budget others machine → IsMachine budget others cores) → HaveEnded budgets requests jobs cores left
+ended_whole budgets requests jobs machine cores left is count have ends keeps = record {
+  count = ends.all ∙ count;
+  machine = ran_machine budgets machine cores is keeps;
+  begun_all = λ i c at.
+      let old = before i c at in
+      let core = ends.each i old.0 c old.1 at in
+      sym (append-nil (begun c.history)) ∙ (ap (λ (rest : List Op). begun c.history ++ rest) (sym (ends.why i c at).pending) ∙ (core.requests ∙ have i old.0 old.1));
+  received_all = λ i c at. let old = before i c at in (ends.each i old.0 c old.1 at).received;
+  left_inside = subst (λ (n : ℕ). All (λ (j : ℕ × Job). j.0 < n) left) (ends.all ∙ count) ends.inside;
+  ended = ends.why;
+}
+  where
+    before : (i : ℕ) (c : RingCore) → slice_get cores i ≡ Some c → (old : RingCore) × (slice_get machine i ≡ Some old)
+    before i c at = get_at machine i (omega (arith, ends.all, slice_get_within cores i c at))
+
+pub have_ended : (budgets : List ℕ) (requests : List (ℕ × Op)) (jobs : List (ℕ × Job)) (machine cores : List RingCore) (left : List (ℕ × Job)) (halted : Option (ℕ × Halt)) → halted ≡ None → IsMachineOf budgets machine → length machine ≡ length budgets
+    → HaveRequests requests machine → EndsRightly machine jobs cores left halted → ((budget : ℕ) (others : List ℕ) → IsMachine budget others machine → IsMachine budget others cores) → HaveEnded budgets requests jobs cores left
+have_ended budgets requests jobs machine cores left halted none is count have ends keeps =
+    ended_whole budgets requests jobs machine cores left is count have (subst (EndsRightly machine jobs cores left) none ends) keeps
+
+-- they are a machine
+pub ended_machine : (budgets : List ℕ) (requests : List (ℕ × Op)) (jobs : List (ℕ × Job)) (cores : List RingCore) (left : List (ℕ × Job)) → HaveEnded budgets requests jobs cores left → (budget : ℕ) × (others : List ℕ) × IsMachine budget others cores
+ended_machine [] requests jobs cores left e = absurd e.machine
+ended_machine (budget ∷ others) requests jobs cores left e = (budget, others, e.machine)
+
+-- core 0 decides nothing
+idle_at : (cores : ℕ) (p : Part) (links : RingLinks) (others clock : ℕ) (end : Core0) → HasNothingUnderWay cores p (ring_view links) → StandsAt0 others p clock end → IsIdle0 p
+idle_at cores (role.First core) links others clock end idle stands = idle.0
+idle_at cores (role.Other core) links others clock end idle stands = absurd stands
+
+-- What the one list of events says of them
+module _ (budgets : List ℕ) (requests : List (ℕ × Op)) (jobs : List (ℕ × Job)) (left : List (ℕ × Job)) (list : List Done) where
+  record Said (cores : List RingCore) : Type 0 where
+    delivers : Delivers (log_of list) list
+    tables : ShowTables list (replicas_of_cores cores)
+    begun_each : (core : ℕ) (c : RingCore) → slice_get cores core ≡ Some c → begun_in core list ≡ begun c.history
+    received_each : (core : ℕ) (c : RingCore) → slice_get cores core ≡ Some c → received_in core list ≡ receipts c.history
+    newest : All (λ (r : ReplicaState). r.shown.version ≡ length (log_of list)) (replicas_of_cores cores)
+    none_begun : (core : ℕ) → length cores ≤ core → begun_in core list ≡ []
+    none_received : (core : ℕ) → length cores ≤ core → received_in core list ≡ []
+
+  said : (cores : List RingCore) → HaveEnded budgets requests jobs cores left → OfMachine cores Concludes → ListsRuns (histories_of cores) list → Said cores
+  said cores e computes lists = by_machine cores (ended_machine budgets requests jobs cores left e) e.ended computes lists
+    where
+      by_machine : (cores : List RingCore) → ((budget : ℕ) × (others : List ℕ) × IsMachine budget others cores) → ((i : ℕ) (c : RingCore) → slice_get cores i ≡ Some c → IsAtEnd (items_for i left) c)
+          → OfMachine cores Concludes → ListsRuns (histories_of cores) list → Said cores
+      by_machine [] m ended computes lists = absurd m.2
+      by_machine (first ∷ others) m ended computes lists =
+          let con = computes m.0 m.1 first others refl m.2 in
+          record {
+            delivers = joined_deliver m.0 m.1 first others list con lists;
+            tables = joined_tables m.0 m.1 first others list con lists;
+            begun_each = joined_begun m.0 m.1 first others list con lists;
+            received_each = joined_received m.0 m.1 first others list con lists;
+            newest = joined_newest m.0 m.1 first others list con lists (idle_at first.cores first.part first.links (length m.1) first.clock con.end (ended 0 first refl).idle con.ends0);
+            none_begun = joined_none_begun m.0 m.1 first others list con lists;
+            none_received = joined_none_received m.0 m.1 first others list con lists;
+          }
+
+  pub ended_deliver : (cores : List RingCore) → HaveEnded budgets requests jobs cores left → OfMachine cores Concludes → ListsRuns (histories_of cores) list → Delivers (log_of list) list
+  ended_deliver cores e computes lists = (said cores e computes lists).delivers
+
+  pub ended_tables : (cores : List RingCore) (replicas : List ReplicaState) → replicas ≡ replicas_of_cores cores → HaveEnded budgets requests jobs cores left → OfMachine cores Concludes → ListsRuns (histories_of cores) list → ShowTables list replicas
+  ended_tables cores replicas is e computes lists = subst (ShowTables list) (sym is) (said cores e computes lists).tables
+
+  pub ended_newest : (cores : List RingCore) (replicas : List ReplicaState) → replicas ≡ replicas_of_cores cores → HaveEnded budgets requests jobs cores left → OfMachine cores Concludes → ListsRuns (histories_of cores) list
+      → All (λ (r : ReplicaState). r.shown.version ≡ length (log_of list)) replicas
+  ended_newest cores replicas is e computes lists = subst (All (λ (r : ReplicaState). r.shown.version ≡ length (log_of list))) (sym is) (said cores e computes lists).newest
+
+  -- the first job that is left of a core waits for a version that was not made
+  pub ended_left : (cores : List RingCore) → HaveEnded budgets requests jobs cores left → OfMachine cores Concludes → ListsRuns (histories_of cores) list
+      → (core : ℕ) (job : Job) (later : List Job) → items_for core left ≡ job ∷ later → length (log_of list) < job.floor
+  ended_left cores e computes lists core job later is = elim (cases_lt core (length budgets)) [
+    | inl within ↦ (let c = get_at cores core (omega (arith, within, e.count)) in
+        let waits : (replica_of c.0.part).shown.version < job.floor = (e.ended core c.0 c.1).floor job later is in
+        let newest : (replica_of c.0.part).shown.version ≡ length (log_of list) = at_core cores core c.0 c.1 (said cores e computes lists).newest in
+        omega (arith, waits, newest))
+    | inr beyond ↦ absurd (let none : [] ≡ job ∷ later = sym (items_none core (length budgets) left e.left_inside beyond) ∙ is in cc)
+  ]
+    where
+      at_core : (cs : List RingCore) (k : ℕ) (c : RingCore) → slice_get cs k ≡ Some c → All (λ (r : ReplicaState). r.shown.version ≡ length (log_of list)) (replicas_of_cores cs) → (replica_of c.part).shown.version ≡ length (log_of list)
+      at_core [] k c at all = absurd (let e : None ≡ Some c = at in cc)
+      at_core (x ∷ cs) zero c at all = (let same : x ≡ c = cc in subst (λ (y : RingCore). (replica_of y.part).shown.version ≡ length (log_of list)) same
+          (All-head (λ (r : ReplicaState). r.shown.version ≡ length (log_of list)) (replica_of x.part) (replicas_of_cores cs) all))
+      at_core (x ∷ cs) (suc k) c at all = at_core cs k c at (All-tail (λ (r : ReplicaState). r.shown.version ≡ length (log_of list)) (replica_of x.part) (replicas_of_cores cs) all)
+
+  pub ended_begun : (cores : List RingCore) → All (λ (r : ℕ × Op). r.0 < length budgets) requests → HaveEnded budgets requests jobs cores left → OfMachine cores Concludes → ListsRuns (histories_of cores) list
+      → (core : ℕ) → begun_in core list ≡ items_for core requests
+  ended_begun cores inside e computes lists core = elim (cases_lt core (length budgets)) [
+    | inl within ↦ (let c = get_at cores core (omega (arith, within, e.count)) in
+        (said cores e computes lists).begun_each core c.0 c.1 ∙ e.begun_all core c.0 c.1)
+    | inr beyond ↦ (said cores e computes lists).none_begun core (omega (arith, beyond, e.count)) ∙ sym (items_none core (length budgets) requests inside beyond)
+  ]
+
+  pub ended_received : (cores : List RingCore) → All (λ (j : ℕ × Job). j.0 < length budgets) jobs → HaveEnded budgets requests jobs cores left → OfMachine cores Concludes → ListsRuns (histories_of cores) list
+      → (core : ℕ) → received_in core list ++ items_for core left ≡ items_for core jobs
+  ended_received cores inside e computes lists core = elim (cases_lt core (length budgets)) [
+    | inl within ↦ (let c = get_at cores core (omega (arith, within, e.count)) in
+        ap (λ (js : List Job). js ++ items_for core left) ((said cores e computes lists).received_each core c.0 c.1) ∙ e.received_all core c.0 c.1)
+    | inr beyond ↦ ap (λ (js : List Job). js ++ items_for core left) ((said cores e computes lists).none_received core (omega (arith, beyond, e.count)))
+        ∙ (items_none core (length budgets) left e.left_inside beyond ∙ sym (items_none core (length budgets) jobs inside beyond))
+  ]
+
+pub count_replicas : (budgets : List ℕ) (requests : List (ℕ × Op)) (jobs : List (ℕ × Job)) (cores : List RingCore) (left : List (ℕ × Job)) (replicas : List ReplicaState) → replicas ≡ replicas_of_cores cores
+    → HaveEnded budgets requests jobs cores left → length replicas ≡ length budgets
+count_replicas budgets requests jobs cores left replicas is e = ap length is ∙ (length-map cores (λ (c : RingCore). replica_of c.part) ∙ e.count)
+
+-- cores that were looked at have their replicas still
+pub looked_replicas : (old new : List RingCore) → AreLookedAt old new → replicas_of_cores new ≡ replicas_of_cores old
+looked_replicas [] [] l = refl
+looked_replicas [] (d ∷ ds) l = absurd (let e = l.all in cc)
+looked_replicas (c ∷ cs) [] l = absurd (let e = l.all in cc)
+looked_replicas (c ∷ cs) (d ∷ ds) l =
+    let first : replica_of d.part ≡ replica_of c.part = ap (λ (x : RingCore). replica_of x.part) (l.each 0 c d refl refl).core in
+    rw (first, looked_replicas cs ds (record { all = (let e = l.all in omega (arith, e)); each = λ i x y at at'. l.each (suc i) x y at at' })) refl

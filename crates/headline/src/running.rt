@@ -1,0 +1,84 @@
+//! A machine whose cores are threads.
+
+ghost use Rattle.std.specs.Prelude.{◌≡◌, ◌↔◌, ◌⊎◌, ◌<◌, ◌++◌, ◌∷◌, ℕ, List, All, Err, IfOk, length};
+ghost use Rattle.filter_table.specs.Tables.{HasShortProgram};
+ghost use Rattle.world_model.specs.Decisions.{Delivers};
+ghost use Rattle.rx_queue.specs.declared.job.Job.{Job as GhostJob};
+ghost use Rattle.core_boot.specs.Lanes.{items_for};
+ghost use Rattle.headline.specs.declared.fault.Fault.TheVariants.{CoreCount};
+ghost use Rattle.headline.specs.Headline.{log_of, ShowTables, AreEqualByVersion, begun_in, received_in};
+ghost use Rattle.headline.specs.Ended.{HaveEnded};
+
+use crate::fault::Fault;
+use crate::joined::conclude_all;
+use crate::machine::Did;
+use core_join::Recorded;
+use core_loop::RingLinks;
+use core_threads::{BootFault, Free, boot, run_machine};
+use filter_table::Op;
+use rx_queue::Job;
+use std::alloc::Global;
+use std::sync::Wait;
+use std::thread::Threads;
+use std::time::Clock;
+
+/// Boots a machine with a core for each budget, 1 to 8 of them, and runs each core in a thread of its own, until these requests are
+/// decided and these jobs are received. Requests and jobs have the number of their core before them, and each core's come in order;
+/// a request of a core other than 0 has a program of at most 4,096 instructions. A core halts after `limit` turns in a row that
+/// did nothing.
+///
+/// It gives what the cores did in one order, that of their clocks, and the jobs that are left, which wait for a later version.
+pub fn threads<R: Threads + Wait + Clock + Sync>(
+    rt: &R,
+    alloc: Global,
+    budgets: &[u32],
+    requests: Vec<(u16, Op)>,
+    jobs: Vec<(u16, Job)>,
+    limit: u64,
+) -> Result<(Did, Vec<(u16, Job)>), Fault>
+    requires requests { All (λ r. r.0 < length budgets.now) requests.items }
+    requires short { All (λ r. 0 < r.0 → HasShortProgram r.1) requests.items }
+    requires jobs { All (λ j. j.0 < length budgets.now) jobs.items }
+    ensures count { result ≡ Err CoreCount ↔ ((length budgets.now ≡ 0) ⊎ (8 < length budgets.now)) }
+    ensures cores { IfOk result (λ ran. length ran.0.replicas ≡ length budgets.now) }
+    ensures tables { IfOk result (λ ran. ShowTables ran.0.events.items ran.0.replicas) }
+    ensures equal { IfOk result (λ ran. AreEqualByVersion ran.0.replicas) }
+    ensures delivers { IfOk result (λ ran. Delivers (log_of ran.0.events.items) ran.0.events.items) }
+    ensures newest { IfOk result (λ ran. All (λ replica. replica.shown.version ≡ length (log_of ran.0.events.items)) ran.0.replicas) }
+
+    // Of each core, each request is begun once, and each job is received or left once, in the order in which they were given.
+    ensures begun { IfOk result (λ ran. (core : ℕ) → begun_in core ran.0.events.items ≡ items_for core requests.items) }
+    ensures received { IfOk result (λ ran. (core : ℕ) → received_in core ran.0.events.items ++ items_for core ran.1.items ≡ items_for core jobs.items) }
+    ensures left { IfOk result (λ ran. (core : ℕ) (job : GhostJob) (later : List GhostJob) → items_for core ran.1.items ≡ job ∷ later → length (log_of ran.0.events.items) < job.floor) }
+{
+    let (cores, left) = run_cores(rt, alloc, budgets, requests, jobs, limit)?;
+    let did = conclude_all(alloc, cores)?;
+    Ok((did, left))
+}
+
+// Runs the cores, and gives them with the jobs that are left.
+fn run_cores<R: Threads + Wait + Clock + Sync>(
+    rt: &R,
+    alloc: Global,
+    budgets: &[u32],
+    requests: Vec<(u16, Op)>,
+    jobs: Vec<(u16, Job)>,
+    limit: u64,
+) -> Result<(Vec<Recorded<RingLinks>>, Vec<(u16, Job)>), Fault>
+    requires requests { All (λ r. r.0 < length budgets.now) requests.items }
+    requires short { All (λ r. 0 < r.0 → HasShortProgram r.1) requests.items }
+    requires jobs { All (λ j. j.0 < length budgets.now) jobs.items }
+    ensures count { result ≡ Err CoreCount ↔ ((length budgets.now ≡ 0) ⊎ (8 < length budgets.now)) }
+    ensures ended { IfOk result (λ r. HaveEnded budgets.now requests.items jobs.items r.0.items r.1.items) }
+{
+    let machine = match boot(alloc, budgets, requests) {
+        Ok(machine) => machine,
+        Err(BootFault::CoreCount) => return Err(Fault::CoreCount),
+        Err(BootFault::NoMemory) => return Err(Fault::NoMemory),
+    };
+    let ended = run_machine(rt, alloc, machine, jobs, &Free, limit)?;
+    match ended.halted {
+        Some((core, _)) => Err(Fault::Halted(core)),
+        None => Ok((ended.cores, ended.left)),
+    }
+}
