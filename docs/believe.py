@@ -33,7 +33,16 @@ class Part:
 
 HEADLINE = [
     Part("Filters", ["filter_verify::verify[sound,code,accepts]", "filter_vm::run[ends,within]"], 260),
-    Part("A machine, by events with their answers and replicas alone", ["headline::filter", "headline::one_by_one", "headline::Replicas::get"], 600),
+    Part("The whole headline, by events with their answers and replicas alone", [
+        "headline::filter",
+        "headline::one_by_one",
+        "headline::threads",
+        "headline::Replicas::get",
+    ], 600),
+]
+WHOLE = HEADLINE[-1]
+# What the program's own calls say beside the headline: each case of the protocol, and what rings and their ends show.
+CALLS = [
     Part("Every interleaving, one event after another", [
         "world_core::WorldOver::boot",
         "world_core::WorldOver::apply[happens,extends,one_log,versions_counted,delivers]",
@@ -49,20 +58,19 @@ HEADLINE = [
         "core_join::merge",
     ], 1870),
 ]
-WHOLE = Part("The whole headline", [root for part in HEADLINE for root in part.roots], 1990)
 COMMANDS = [
-    Part("`match`", ["console::run_match"], 590),
-    Part("`match --stream`", ["console::run_stream"], 540),
-    Part("`match --number`, `--count`, `--quiet`", ["console::run_view"], 610),
-    Part("`match --explain`", ["graph_engine::run_explain"], 520),
-    Part("`check`", ["console::run_check"], 530),
-    Part("`check --graph`", ["graph_engine::run_graph"], 700),
-    Part("`dump`", ["console::run_dump"], 170),
+    Part("`match`", ["console::run_match"], 600),
+    Part("`match --stream`", ["console::run_stream"], 550),
+    Part("`match --number`, `--count`, `--quiet`", ["console::run_view"], 620),
+    Part("`match --explain`", ["graph_engine::run_explain"], 540),
+    Part("`check`", ["console::run_check"], 550),
+    Part("`check --graph`", ["graph_engine::run_graph"], 710),
+    Part("`dump`", ["console::run_dump"], 180),
     Part("`sim`", ["sim_engine::run_sim"], 2400),
-    Part("`run`", ["run_engine::run_run"], 2970),
-    Part("`draw`", ["draw_engine::run_draw"], 440),
+    Part("`run`", ["run_engine::run_run"], 2990),
+    Part("`draw`", ["draw_engine::run_draw"], 460),
     Part("the words of the command line", ["command_line::request_of"], 120),
-    Part("all of them", ["commands::perform"], 3470),
+    Part("all of them", ["commands::perform"], 3480),
 ]
 # The most lines for each row of README's table, by the first of its crates.
 ROWS = {
@@ -96,12 +104,12 @@ ROWS = {
     "core_handle": 1960,
     "line_words": 1120,
     "sim_lines": 240,
-    "console": 680,
-    "script_input": 70,
+    "console": 700,
+    "script_input": 90,
     "sim_engine": 2430,
-    "run_engine": 2970,
+    "run_engine": 2990,
     "trace_text": 2590,
-    "trace_lines": 450,
+    "trace_lines": 460,
     "graph_engine": 710,
     "command_line": 3490,
 }
@@ -125,10 +133,11 @@ each, and stands once below. A type with a model is seen as the value that its m
 affair. What a file is about and its source stand before its definitions, or in [definitions.md](definitions.md), which
 has all of them in plain words.
 
-**Two calls say the whole headline by what can be seen alone**, of filters and of a machine that does one event after
-another: `headline::filter` and `headline::one_by_one`. The clauses of the calls below them say more: each case of the
-protocol, which message is under way, and for threads also what rings and their ends show. Of threads no call says it in
-the headline's own words yet, so there the greater number is what it rests on."""
+**Three calls say the whole headline by what can be seen alone**: `headline::filter` of filters, `headline::one_by_one`
+of a machine that does one event after another, and `headline::threads` of cores that are threads. They make the calls
+that the program makes, and their clauses cite no case of the protocol and no ring. The clauses of the program's own
+calls say more: each case of the protocol, which message is under way, and for threads also what rings and their ends
+show. What these rest on is named after the headline, and not needed for it."""
 
 NOTATION = """\
 ## The kit's words
@@ -220,7 +229,7 @@ class Page:
 
     def parts(self):
         """All that is counted."""
-        return [*HEADLINE, WHOLE, *COMMANDS, *self.rows]
+        return [*HEADLINE, *CALLS, *COMMANDS, *self.rows]
 
     def cited(self, part):
         """What a part rests on."""
@@ -240,7 +249,8 @@ class Page:
     def tables(self):
         """How many definitions and lines each part has."""
         yield "## How much it is"
-        yield "\n".join(self.table("The headline", [*HEADLINE, WHOLE]))
+        yield "\n".join(self.table("The headline", HEADLINE))
+        yield "\n".join(self.table("The program's own calls", CALLS))
         yield "\n".join(self.table("A command of the program", COMMANDS))
         yield "\n".join(self.table("A row of README's table", self.rows))
 
@@ -357,10 +367,10 @@ class Page:
         return {name_of_word(path) for path in self.cited(WHOLE).words}
 
     def lists(self):
-        """The names of what the commands and the rows rest on beside the headline."""
-        yield "## The commands and the other rows"
+        """The names of what the program's own calls, the commands and the rows rest on beside the headline."""
+        yield "## The program's own calls, the commands and the other rows"
         yield OTHERS
-        for part in [*COMMANDS, *self.rows]:
+        for part in [*CALLS, *COMMANDS, *self.rows]:
             cited = self.cited(part)
             new = [key for key in cited.keys if key not in self.told]
             self.told.update(new)
