@@ -67,10 +67,10 @@ COMMANDS = [
     Part("`check --graph`", ["graph_engine::run_graph"], 710),
     Part("`dump`", ["console::run_dump"], 180),
     Part("`sim`", ["sim_engine::run_sim"], 2400),
-    Part("`run`", ["run_engine::run_run"], 2990),
+    Part("`run`", ["run_engine::run_run"], 3030),
     Part("`draw`", ["draw_engine::run_draw"], 460),
     Part("the words of the command line", ["command_line::request_of"], 120),
-    Part("all of them", ["commands::perform"], 3480),
+    Part("all of them", ["commands::perform"], 3520),
 ]
 # The most lines for each row of README's table, by the first of its crates.
 ROWS = {
@@ -107,11 +107,11 @@ ROWS = {
     "console": 700,
     "script_input": 90,
     "sim_engine": 2430,
-    "run_engine": 2990,
+    "run_engine": 3030,
     "trace_text": 2590,
     "trace_lines": 460,
     "graph_engine": 710,
-    "command_line": 3490,
+    "command_line": 3520,
 }
 # The roots that were counted by reading, with the definitions and the lines that were found.
 BY_HAND = {

@@ -6,6 +6,7 @@ use Rattle.filter_table.specs.declared.operation.Op.{Op}
 use Rattle.rx_queue.specs.declared.job.Job.{Job}
 use Rattle.monitor_2pc.specs.Coordinators.{Idle}
 use Rattle.world_events.specs.declared.event.Done.{Done}
+use Rattle.world_model.specs.Decisions.{Delivers}
 use Rattle.world_histories.specs.declared.history.Stamped.{Stamped}
 use Rattle.world_histories.specs.Histories.{Core0, Other}
 use Rattle.core_links.specs.declared.ring_links.RingLinks.{RingLinks}
@@ -21,6 +22,8 @@ use Rattle.core_threads.specs.declared.halt.Halt.{Halt}
 use Rattle.core_boot.specs.Booting.{HaveRequests, IsMachineOf}
 use Rattle.core_threads.specs.Ending.{EndsRightly, IsAtEnd}
 use Rattle.core_boot.specs.Lanes.{items_for}
+use Rattle.headline.specs.Headline.{log_of}
+use Rattle.headline.proofs.OneList.{joined_deliver}
 use Rattle.sim_lines.specs.Events.{done_line}
 use Rattle.mk_script.specs.declared.script.Item.{Item}
 use Rattle.mk_script.specs.declared.script.Script.{Script}
@@ -141,6 +144,7 @@ shows script (first ∷ others) left events text lines done computes lists shown
         at_cores = subst (λ (bs : List ℕ). All (λ l. l.0 < length bs) left) done.are_budgets done.at_cores;
         is_merged = r.is_merged;
       };
+      delivers = subst (λ (es : List Done). Delivers (log_of es) es) r.is_listed (joined_deliver done.budget done.others first others events c lists);
       last_lines = lines;
       shows_left = shown;
       printed = printed ∙ ap (λ (es : List Done). flat_map done_line es ++ lines) r.is_listed;

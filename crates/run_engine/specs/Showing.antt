@@ -4,11 +4,13 @@ use Rattle.std.specs.List.{flat_map}
 use Rattle.std.specs.List.Sorted.{IsNonDecreasingBy, IsPermutation}
 use Rattle.rx_queue.specs.declared.job.Job.{Job}
 use Rattle.monitor_2pc.specs.Coordinators.{Idle}
+use Rattle.world_model.specs.Decisions.{Delivers}
 use Rattle.world_histories.specs.declared.history.Stamped.{Stamped}
 use Rattle.world_histories.specs.Histories.{Core0, Other, Computation}
 use Rattle.world_histories.specs.Merging.{Merged, as_listed}
 use Rattle.core_loop.specs.Cores.{begun, receipts}
 use Rattle.core_boot.specs.Lanes.{items_for}
+use Rattle.headline.specs.Headline.{log_of}
 use Rattle.sim_lines.specs.Events.{done_line, left_line}
 use Rattle.mk_script.specs.declared.script.Item.{Item}
 use Rattle.mk_script.specs.declared.script.Script.{Script}
@@ -51,7 +53,8 @@ pub record ShowsLeft (left : List (ℕ × Job)) (text : List ℕ) : Type 0 where
   pub by_number : IsNonDecreasingBy (λ l. l.1.number) in_order
   pub printed : text ≡ left_lines in_order
 
--- what cores with the script's budgets did, a line for each event, and then what is left
+-- What cores with the script's budgets did, a line for each event, and then what is left. Each packet went to exactly the endpoints
+-- that accept it in the table of its core's version.
 pub record ShowsRun (script : Script) (text : List ℕ) : Type 0 where
   pub budget : ℕ
   pub budgets : List ℕ
@@ -59,6 +62,7 @@ pub record ShowsRun (script : Script) (text : List ℕ) : Type 0 where
   pub merged : List Stamped
   pub left : List (ℕ × Job)
   pub did : DidWork budget budgets script.items left merged
+  pub delivers : Delivers (log_of (as_listed merged)) (as_listed merged)
   pub last_lines : List ℕ
   pub shows_left : ShowsLeft left last_lines
   pub printed : text ≡ flat_map done_line (as_listed merged) ++ last_lines
