@@ -1,7 +1,8 @@
 """Measures `mkdemux run` and `mkdemux sim` on one script, by turns: medians of nine rounds, in brackets the least and the greatest.
 
-Usage: run.py MKDEMUX FOLDER [COMMAND..]. The script installs 16 filters of 24 instructions at one endpoint, and deals out a capture of
-1,000,000 packets of 48 bytes to its cores, which receive them once all filters are installed.
+Usage: run.py MKDEMUX FOLDER [COMMAND..]. The script installs 16 filters of 24 instructions at one endpoint, or FILTERS of them where
+that is set, up to 1,024, and deals out a capture of 1,000,000 packets of 48 bytes to its cores, which receive them once all filters are
+installed.
 """
 import os
 import random
@@ -13,6 +14,7 @@ import time
 
 mkdemux, folder, *starter = sys.argv[1:]
 PACKETS, ROUNDS, CORES = 1_000_000, 9, (1, 2, 4)
+FILTERS = int(os.environ.get("FILTERS", "16"))
 capture = f"{folder}/run.pcap"
 
 
@@ -31,13 +33,13 @@ def write_capture():
 
 def script(cores, settle):
     """A load of the protocol, 22 tests of it, of which most fail, and a verdict."""
-    text = ["cores " + " ".join(["1000"] * cores), "capture c 1"]
-    for number in range(16):
+    text = ["cores " + " ".join([str(24 * FILTERS)] * cores), "capture c 1"]
+    for number in range(FILTERS):
         tests = ",".join(f"21 0 0 {2048 + 31 * number + 7 * test}" for test in range(22))
         text.append(f"ddd f{number} 24,40 0 0 12,{tests},6 0 0 {number + 1}")
-    text += ["create 1 7"] + [f"install 1 1 f{number}" for number in range(16)]
+    text += ["create 1 7"] + [f"install 1 1 f{number}" for number in range(FILTERS)]
     text += ["settle"] if settle else []
-    return "\n".join(text + ["replay c 17"]) + "\n"
+    return "\n".join(text + [f"replay c {FILTERS + 1}"]) + "\n"
 
 
 def timed(command, name):
