@@ -1,12 +1,9 @@
-use Rattle.std.proofs.Common.{List, refl, subst, sym}
-use Rattle.console.specs.declared.input.TheConstants.{INPUT_READS}
+use Rattle.std.proofs.Common.{List, subst, sym}
 use Rattle.console.specs.declared.source.Source.{Source}
-use Rattle.console.specs.Devices.{IsFresh}
 use Rattle.script_input.specs.Inputs.{AllFresh}
 use Rattle.script_input.proofs.Reading.{fresh_push}
 use Rattle.tests_program.proofs.engines.sources.Goals as goal
 
 pub loop-file-preserved : goal.loop-file-preserved
 loop-file-preserved g c =
-    let fresh = subst (λ s. IsFresh s INPUT_READS) (sym c.new.ensures) (refl, refl, (refl, refl)) in
-    subst (λ (files : List (Source g.row.F.Denot)). AllFresh files) (sym c.in_ok-push.ensures.items) (fresh_push c.loop-file.sources.items c.new.result c.loop-file.invariant fresh)
+    subst (λ (files : List (Source g.row.F.Denot)). AllFresh files) (sym c.in_ok-push.ensures.items) (fresh_push c.loop-file.sources.items c.new.result c.loop-file.invariant c.new.ensures.fresh)
