@@ -144,7 +144,10 @@ static struct bpf_insn *copy_of(const struct bpf_program *program)
 
 /* ---- A machine ---- */
 
-static mkdemux_core cores[MKDEMUX_CORE_MOST_CORES];
+/* Each core in a cache line of its own, since each call writes to its struct. */
+static struct {
+    _Alignas(64) mkdemux_core core;
+} lines[MKDEMUX_CORE_MOST_CORES];
 static size_t core_count;
 
 static const struct mkdemux_insn *code_of(const struct bpf_program *program)
@@ -158,7 +161,7 @@ static uint32_t made(size_t asker)
     mkdemux_turned turned;
     for (;;)
         for (size_t i = 0; i < core_count; i++)
-            if (!mkdemux_turn(&cores[i], &turned) && turned.what == MKDEMUX_TURN_DECISION) {
+            if (!mkdemux_turn(&lines[i].core, &turned) && turned.what == MKDEMUX_TURN_DECISION) {
                 if (turned.decision != MKDEMUX_COMMITTED || i != asker)
                     die(mkdemux_core_rule_word(turned.rule));
                 return turned.made;
@@ -167,29 +170,32 @@ static uint32_t made(size_t asker)
 
 static void boot(size_t count, uint32_t filters)
 {
-    uint32_t budgets[MKDEMUX_CORE_MOST_CORES];
+    uint32_t budgets[MKDEMUX_CORE_MOST_CORES] = {0};
+    mkdemux_core cores[MKDEMUX_CORE_MOST_CORES] = {{NULL}};
     for (size_t i = 0; i < count; i++)
         budgets[i] = BUDGET;
     core_count = count;
     if (mkdemux_boot(budgets, count, cores))
         die("no machine");
+    for (size_t i = 0; i < count; i++)
+        lines[i].core = cores[i];
     for (uint32_t i = 0; i < filters; i++) {
-        mkdemux_ask_create(&cores[0], 1, (uint16_t)(i + 1));
-        mkdemux_ask_install(&cores[0], 1, made(0), code_of(&programs[i]), programs[i].bf_len);
+        mkdemux_ask_create(&lines[0].core, 1, (uint16_t)(i + 1));
+        mkdemux_ask_install(&lines[0].core, 1, made(0), code_of(&programs[i]), programs[i].bf_len);
         made(0);
     }
     mkdemux_turned turned; /* all have the last change */
     for (size_t i = 1; i < count;)
-        if (mkdemux_version(&cores[i]) == mkdemux_version(&cores[0]))
+        if (mkdemux_version(&lines[i].core) == mkdemux_version(&lines[0].core))
             i++;
         else
-            mkdemux_turn(&cores[0], &turned), mkdemux_turn(&cores[i], &turned);
+            mkdemux_turn(&lines[0].core, &turned), mkdemux_turn(&lines[i].core, &turned);
 }
 
 static void shut(void)
 {
     for (size_t i = 0; i < core_count; i++)
-        mkdemux_close(&cores[i]);
+        mkdemux_close(&lines[i].core);
 }
 
 /* ---- Packets a second ---- */
@@ -213,15 +219,15 @@ static atomic_ullong newest; /* the number of the last change of `copied` */
 static void change_ours(struct thread *thread, bool due)
 {
     const struct bpf_program *program = &programs[filter_count + thread->changed % 2];
-    if (due && mkdemux_unanswered(&cores[0]) == 0)
-        mkdemux_ask_replace(&cores[0], 1, 1, code_of(program), program->bf_len);
+    if (due && mkdemux_unanswered(&lines[0].core) == 0)
+        mkdemux_ask_replace(&lines[0].core, 1, 1, code_of(program), program->bf_len);
 }
 
 static void turn_ours(struct thread *thread)
 {
     mkdemux_turned turned;
     for (int i = 0; i < 4; i++) {
-        if (mkdemux_turn(&cores[thread->number], &turned))
+        if (mkdemux_turn(&lines[thread->number].core, &turned))
             break;
         if (turned.what == MKDEMUX_TURN_DECISION) {
             if (turned.decision != MKDEMUX_COMMITTED)
@@ -269,7 +275,7 @@ static void receive(struct thread *thread, struct mkdemux_kept *room, const stru
         const uint8_t *packet = packets[(thread->received + i) % PACKETS];
         switch (way) {
         case OURS:
-            if (mkdemux_receive(&cores[thread->number], packet, SIZE, ORIGINAL, room, MOST, &count))
+            if (mkdemux_receive(&lines[thread->number].core, packet, SIZE, ORIGINAL, room, MOST, &count))
                 die("a packet wasn't received");
             break;
         case LOCKED:
@@ -318,10 +324,10 @@ static void *run(void *argument)
 /* Lets the cores finish what is under way. */
 static void settle(void)
 {
-    while (mkdemux_unanswered(&cores[0]))
+    while (mkdemux_unanswered(&lines[0].core))
         for (size_t i = 0; i < core_count; i++) {
             mkdemux_turned turned;
-            mkdemux_turn(&cores[i], &turned);
+            mkdemux_turn(&lines[i].core, &turned);
         }
 }
 
@@ -335,7 +341,7 @@ static void compare(void)
         first.filters[i] = programs[i].bf_insns;
     for (int i = 0; i < PACKETS; i++) {
         size_t wanted = run_list(&first, packets[i], theirs);
-        if (mkdemux_receive(&cores[0], packets[i], SIZE, ORIGINAL, ours, MOST, &count) || count != wanted)
+        if (mkdemux_receive(&lines[0].core, packets[i], SIZE, ORIGINAL, ours, MOST, &count) || count != wanted)
             die("the two don't keep the same");
         for (size_t j = 0; j < count; j++)
             if (ours[j].endpoint != theirs[j].endpoint || ours[j].kept != theirs[j].kept)
@@ -471,8 +477,8 @@ static void *turn_only(void *argument)
     size_t count;
     for (unsigned i = 0; !atomic_load_explicit(&stop, memory_order_relaxed); i++) {
         for (size_t j = 0; j < batch; j++)
-            mkdemux_receive(&cores[thread->number], packets[(i + j) % PACKETS], SIZE, ORIGINAL, room, MOST, &count);
-        mkdemux_turn(&cores[thread->number], &turned);
+            mkdemux_receive(&lines[thread->number].core, packets[(i + j) % PACKETS], SIZE, ORIGINAL, room, MOST, &count);
+        mkdemux_turn(&lines[thread->number].core, &turned);
     }
     return NULL;
 }
@@ -497,12 +503,12 @@ static void measure_decisions(size_t count, size_t asker, size_t packets_a_turn,
     while (done < rounds && (done < 100 || now() < end)) {
         const struct bpf_program *program = &programs[16 + done % 2];
         double begin = now();
-        if (mkdemux_ask_replace(&cores[asker], 1, 1, code_of(program), program->bf_len))
+        if (mkdemux_ask_replace(&lines[asker].core, 1, 1, code_of(program), program->bf_len))
             die("not asked");
         do {
             for (size_t j = 0; j < batch; j++)
-                mkdemux_receive(&cores[asker], packets[j % PACKETS], SIZE, ORIGINAL, room, MOST, &got);
-        } while (mkdemux_turn(&cores[asker], &turned) || turned.what != MKDEMUX_TURN_DECISION);
+                mkdemux_receive(&lines[asker].core, packets[j % PACKETS], SIZE, ORIGINAL, room, MOST, &got);
+        } while (mkdemux_turn(&lines[asker].core, &turned) || turned.what != MKDEMUX_TURN_DECISION);
         times[done++] = now() - begin;
         if (turned.decision != MKDEMUX_COMMITTED)
             die("a change was refused");
@@ -596,14 +602,14 @@ static void measure_allocations(uint32_t filters)
     make_programs(filters, true);
     boot(2, filters);
     for (int i = 0; i < PACKETS; i++)
-        mkdemux_receive(&cores[0], packets[i], SIZE, ORIGINAL, room, MOST, &count);
+        mkdemux_receive(&lines[0].core, packets[i], SIZE, ORIGINAL, room, MOST, &count);
     unsigned long long before = atomic_load(&allocations), between;
     for (int i = 0; i < number; i++)
-        mkdemux_receive(&cores[0], packets[i % PACKETS], SIZE, ORIGINAL, room, MOST, &count);
+        mkdemux_receive(&lines[0].core, packets[i % PACKETS], SIZE, ORIGINAL, room, MOST, &count);
     between = atomic_load(&allocations);
     for (int i = 0; i < changes; i++) {
         const struct bpf_program *program = &programs[filters + (unsigned)i % 2];
-        mkdemux_ask_replace(&cores[0], 1, 1, code_of(program), program->bf_len);
+        mkdemux_ask_replace(&lines[0].core, 1, 1, code_of(program), program->bf_len);
         made(0);
     }
     printf("%u filters: %llu allocations for %d packets, %.1f for each change on two cores\n", filters, between - before, number,

@@ -168,12 +168,12 @@ struct waiting { size_t count, room; struct asked *items; size_t first; };
 /* A core, the thread that turns it, and what that thread alone touches until it is joined. */
 struct lane {
     struct live *live;
-    mkdemux_core *core;
     unsigned number;
     pthread_t thread;
     struct packets packets; /* of captures */
     int socket;             /* of an interface */
     uint8_t *buffer;
+    mkdemux_core core; /* apart from those of other threads, since each call writes to it */
     pcap_t *compiler;
     size_t order; /* the next */
     struct clients clients;
@@ -221,13 +221,13 @@ static void ask(struct lane *lane, size_t number, enum request request)
     if (asked) {
         *asked = (struct asked){request, number};
         switch (request) {
-        case CREATE: answer = mkdemux_ask_create(lane->core, domain, client->endpoint); break;
+        case CREATE: answer = mkdemux_ask_create(&lane->core, domain, client->endpoint); break;
         case INSTALL:
-            answer = mkdemux_ask_install(lane->core, domain, client->cap,
+            answer = mkdemux_ask_install(&lane->core, domain, client->cap,
                 (const struct mkdemux_insn *)client->code.bf_insns, client->code.bf_len);
             break;
-        case REMOVE: answer = mkdemux_ask_remove(lane->core, domain, client->filter); break;
-        case DROP: answer = mkdemux_ask_drop(lane->core, domain, client->cap); break;
+        case REMOVE: answer = mkdemux_ask_remove(&lane->core, domain, client->filter); break;
+        case DROP: answer = mkdemux_ask_drop(&lane->core, domain, client->cap); break;
         }
     }
     if (answer)
@@ -365,7 +365,7 @@ static bool turn(struct lane *lane)
     mkdemux_turned turned;
     int turns;
     for (turns = 0; turns < TURNS && !lane->fault; turns++) {
-        uint32_t answer = mkdemux_turn(lane->core, &turned);
+        uint32_t answer = mkdemux_turn(&lane->core, &turned);
         if (answer == MKDEMUX_CORE_IDLE)
             break;
         if (answer)
@@ -413,7 +413,7 @@ static bool keep_receipt(struct lane *lane, struct packet packet, const struct m
         packet.bytes = keep(&lane->blocks, packet.bytes, packet.captured);
     if (!receipt || !packet.bytes)
         return false;
-    *receipt = (struct receipt){packet, mkdemux_version(lane->core), lane->deliveries.count, count};
+    *receipt = (struct receipt){packet, mkdemux_version(&lane->core), lane->deliveries.count, count};
     for (size_t i = 0; i < count; i++) {
         struct mkdemux_kept *delivery = ADD(&lane->deliveries);
         if (!delivery)
@@ -427,7 +427,7 @@ static void receive(struct lane *lane, const struct packet *packet)
 {
     struct mkdemux_kept room[MKDEMUX_CORE_MOST_ENDPOINTS];
     size_t count;
-    uint32_t answer = mkdemux_receive(lane->core, packet->bytes, packet->captured, packet->original, room,
+    uint32_t answer = mkdemux_receive(&lane->core, packet->bytes, packet->captured, packet->original, room,
         MKDEMUX_CORE_MOST_ENDPOINTS, &count);
     if (answer) {
         fail(lane, mkdemux_core_word(answer));
@@ -449,7 +449,7 @@ static void receive(struct lane *lane, const struct packet *packet)
 /* Whether nothing is left to do: no packet, no order, no request. */
 static bool has_nothing_left(struct lane *lane)
 {
-    return lane->order == lane->live->orders.count && mkdemux_unanswered(lane->core) == 0;
+    return lane->order == lane->live->orders.count && mkdemux_unanswered(&lane->core) == 0;
 }
 
 /* Whether all clients that begin at 0 packets, on all cores, have begun, and the core's table has them. */
@@ -457,12 +457,12 @@ static bool may_receive(struct lane *lane)
 {
     struct live *live = lane->live;
     bool is_due = lane->order < live->orders.count && live->orders.items[lane->order].at == 0;
-    if (!lane->is_ready && !is_due && mkdemux_unanswered(lane->core) == 0) {
+    if (!lane->is_ready && !is_due && mkdemux_unanswered(&lane->core) == 0) {
         lane->is_ready = true;
         atomic_fetch_add(&live->ready, 1);
     }
     if (!lane->may_receive)
-        lane->may_receive = atomic_load(&live->ready) == live->cores && mkdemux_version(lane->core) >= atomic_load(&live->newest);
+        lane->may_receive = atomic_load(&live->ready) == live->cores && mkdemux_version(&lane->core) >= atomic_load(&live->newest);
     return lane->may_receive;
 }
 
@@ -847,8 +847,9 @@ static void run_all(struct live *live, struct lane *lanes)
 }
 
 /* Whether each lane has what it needs beside its source. */
-static bool prepare(struct live *live, struct lane *lanes, mkdemux_core *cores)
+static bool prepare(struct live *live, struct lane *lanes)
 {
+    mkdemux_core cores[MKDEMUX_CORE_MOST_CORES] = {{NULL}};
     uint32_t budgets[MKDEMUX_CORE_MOST_CORES], answer;
     for (unsigned i = 0; i < live->cores; i++) {
         budgets[i] = BUDGET;
@@ -860,12 +861,14 @@ static bool prepare(struct live *live, struct lane *lanes, mkdemux_core *cores)
     answer = mkdemux_boot(budgets, live->cores, cores);
     if (answer)
         fprintf(stderr, "live: %s\n", mkdemux_core_word(answer));
+    for (unsigned i = 0; i < live->cores; i++)
+        lanes[i].core = cores[i]; /* moved: those of the array aren't used again */
     return !answer;
 }
 
 static void free_lane(struct lane *lane)
 {
-    mkdemux_close(lane->core);
+    mkdemux_close(&lane->core);
     for (size_t i = 0; i < lane->changes.count; i++)
         pcap_freecode(&lane->changes.items[i].code);
     for (size_t i = 0; i < lane->clients.count; i++)
@@ -905,14 +908,14 @@ static bool parse(struct live *live, int argc, char **argv)
 }
 
 /* Sources, orders and cores; then the threads; then the check. */
-static int work(struct live *live, struct lane *lanes, mkdemux_core *cores, char **captures)
+static int work(struct live *live, struct lane *lanes, char **captures)
 {
     bool ready = live->orders_file ? read_orders(live) : make_orders(live);
     for (char **name = captures; ready && *name; name++)
         ready = read_capture(live, lanes, *name);
     if (ready && live->interface)
         ready = open_interface(live, lanes);
-    if (!ready || !prepare(live, lanes, cores))
+    if (!ready || !prepare(live, lanes))
         return 2;
     printf("live: %u cores, %s\n", live->cores, live->interface ? live->interface : "captures");
     fflush(stdout);
@@ -920,7 +923,7 @@ static int work(struct live *live, struct lane *lanes, mkdemux_core *cores, char
     print_counts(live, lanes, "at the end:");
     for (unsigned i = 0; i < live->cores; i++) {
         printf("core %u: %llu packets, version %llu%s%s\n", i, (unsigned long long)lanes[i].received,
-            (unsigned long long)mkdemux_version(lanes[i].core), lanes[i].fault ? ": " : "", lanes[i].fault ? lanes[i].fault : "");
+            (unsigned long long)mkdemux_version(&lanes[i].core), lanes[i].fault ? ": " : "", lanes[i].fault ? lanes[i].fault : "");
     }
     int status = check(live, lanes);
     return atomic_load(&live->failed) ? 2 : status;
@@ -930,17 +933,15 @@ int main(int argc, char **argv)
 {
     struct live live = {.link = -1, .most_kept = 1000000, .compiling = PTHREAD_MUTEX_INITIALIZER};
     struct lane lanes[MKDEMUX_CORE_MOST_CORES] = {{0}};
-    mkdemux_core cores[MKDEMUX_CORE_MOST_CORES] = {{NULL}};
     if (!parse(&live, argc, argv)) {
         fprintf(stderr, "usage: live [-c CORES] [-f ORDERS] [-n PACKETS] [-s SECONDS] {-i INTERFACE | CAPTURE..}\n");
         return 2;
     }
-    for (unsigned i = 0; i < MKDEMUX_CORE_MOST_CORES; i++) {
-        lanes[i] = (struct lane){.live = &live, .core = &cores[i], .number = i, .socket = -1};
-    }
+    for (unsigned i = 0; i < MKDEMUX_CORE_MOST_CORES; i++)
+        lanes[i] = (struct lane){.live = &live, .number = i, .socket = -1};
     if (!live.interface)
         live.most_kept = SIZE_MAX;
-    int status = work(&live, lanes, cores, argv + optind);
+    int status = work(&live, lanes, argv + optind);
     for (unsigned i = 0; i < MKDEMUX_CORE_MOST_CORES; i++)
         free_lane(&lanes[i]);
     for (size_t i = 0; i < live.orders.count; i++)

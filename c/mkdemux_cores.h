@@ -31,6 +31,9 @@
  * - The caller guards which thread may speak for which domain. A domain is a number that a request passes,
  *   and the library believes it. Capabilities say what a domain may do.
  *
+ * SPEED. Each call writes to the struct. Cores that different threads use should lie 64 bytes apart: four
+ * threads whose structs share a cache line receive at half the rate. So move each to a place of its thread.
+ *
  * WHAT IS PROVED of all calls, for callers that keep this: a call reads and writes only bytes that it is
  * given and bytes that the core owns; it ends; and it does exactly what is said below to its core, whose
  * value is as the call before left it. A closed core, an impossible count of cores, a program that is too
