@@ -60,8 +60,18 @@ look_at_library() {
     fi
 }
 
+# README names the kit that dist/ was built with.
+look_at_kit() {
+    if grep -qF "\`$(cat dist/KIT)\`" README.md; then
+        count 0 "README names the kit of dist/KIT"
+    else
+        count 1 "README names another kit than dist/KIT"
+    fi
+}
+
 case ${1-} in
 --built)
+    look_at_kit
     digest=$(dist/digest.sh)
     case $(dist/mkdemux --version) in
     *" (sources $digest)") count 0 "dist/mkdemux says that it is of these sources" ;;
@@ -91,8 +101,11 @@ dist/stamp.sh crates/mkdemux/out/mkdemux $built "$digest" || {
     end
 }
 echo "$digest" > ${built%/*}/sources
+look_at_kit
 if [ "$digest" != "$(cat dist/sources 2> /dev/null)" ]; then
     echo "dist: there is no dist/mkdemux of these sources to compare"
+elif [ "$(rt version)" != "$(cat dist/KIT)" ]; then
+    echo "dist: dist/mkdemux is of another kit: there is nothing to compare"
 elif cmp $built dist/mkdemux; then
     count 0 "dist/mkdemux is the program of these sources"
 else

@@ -3,6 +3,7 @@
 # sources. It needs the Rattle kit's command `rt`, and ld, objcopy and ar (binutils).
 #   dist/release.sh --libraries   the C libraries alone
 cd "$(dirname "$0")/.." || exit 2
+rt version > dist/KIT || exit 1
 if [ "${1-}" != --libraries ]; then
     (cd crates/mkdemux && rt run -- --version) || exit 1
     digest=$(dist/digest.sh)

@@ -167,7 +167,7 @@ TRUSTED = """\
   libraries of `dist/lib` have the latter three, and for C also the declarations and the plain C of `c/mkdemux.h` and
   `c/mkdemux_cores.h`, the C compiler and binutils.
 - **`dist/` and the launcher `./mkdemux`**, until `./test` builds the program again and compares each byte: before that
-  nothing but a digest of the sources says that `dist/mkdemux` is theirs, and the digest leaves the kit's version out.
+  nothing but a digest of the sources and of the kit's version says that `dist/mkdemux` is theirs.
 - **The scripts of the gate**: `./test`, and what it calls: `edits/check.py` and `edits/try.py`, the scripts of `dist/`,
   `examples/check.sh`, `rows/check.py`, `c/check.sh`, and `docs/believe.py`, which makes this page: a definition that it
   misses is missing here. Three of its counts are compared with counts by hand.
