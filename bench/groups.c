@@ -10,7 +10,7 @@ uint64_t bench_many(const Insn *code, size_t insns, const uint32_t *lengths, siz
 uint64_t bench_many_in_place(const Insn *code, size_t insns, const uint32_t *lengths, size_t programs, const uint8_t *packet, size_t bytes,
                              uint32_t original, uint32_t rounds, Kept *kept, size_t room);
 uint64_t bench_alone(const Insn *code, size_t insns, const uint32_t *lengths, size_t programs, const uint8_t *packet, size_t bytes,
-                     uint32_t original, uint32_t rounds);
+                     uint32_t original, uint32_t rounds, Kept *kept, size_t room);
 uint64_t bench_change(const Insn *code, size_t insns, const uint32_t *lengths, size_t programs, const Insn *more, size_t count, uint32_t rounds);
 
 static double now(void)
@@ -57,17 +57,17 @@ static double by_table(Many *many, const List *l, const uint8_t *p, uint32_t len
     return (all - none) / rounds;
 }
 
-/* Nanoseconds of one run of each program by the proved machine. */
+/* Nanoseconds of one run of each program by the proved machine, with the answer. */
 static double by_runs(const List *l, const uint8_t *p, uint32_t len, uint32_t rounds)
 {
     double none = 1e18, all = 1e18;
     for (int turn = 0; turn < 5; turn++) {
         double start = now();
-        bench_alone(l->code, l->insns, l->lengths, l->programs, p, len, len, 0);
+        bench_alone(l->code, l->insns, l->lengths, l->programs, p, len, len, 0, proved, MOST);
         double time = now() - start;
         none = time < none ? time : none;
         start = now();
-        bench_alone(l->code, l->insns, l->lengths, l->programs, p, len, len, rounds);
+        bench_alone(l->code, l->insns, l->lengths, l->programs, p, len, len, rounds, proved, MOST);
         time = now() - start;
         all = time < all ? time : all;
     }
@@ -131,7 +131,7 @@ static void change(const Workload *w, const Table *t, const List *l)
 int main(int count, char **words)
 {
     const char *only = count > 1 ? words[1] : "";
-    printf("ns a packet. loop: bpf_filter over all programs. runs: the proved machine over all. peer: groups in plain C. table: the proved one.\n"
+    printf("ns a packet. loop: bpf_filter over all programs. runs: the proved machine over all, with the answer. peer: groups in plain C. table: the proved one.\n"
            "in place: the same with lists that are used again. The ratios are the table's, the last that of in place.\n");
     printf("%-18s %5s %4s %-5s %4s | %9s %9s %9s %9s %9s | %7s %7s %6s %6s\n", "workload", "progs", "grps", "pkt", "gets", "loop", "runs", "peer", "table",
            "in place", "/loop", "/runs", "/peer", "/peer");

@@ -1,7 +1,14 @@
 /* Workloads: filters as libpcap compiles them (the same that `tcpdump -ddd` prints), and programs made to be hard. */
 
 static uint32_t seed = 1;
-static uint32_t draw(void) { seed = seed * 1664525u + 1013904223u; return seed >> 8; }
+/* (the low bits of a linear generator repeat soon, and a branch predictor learns them) */
+static uint32_t draw(void)
+{
+    uint32_t z = seed += 0x9e3779b9u;
+    z = (z ^ z >> 16) * 0x85ebca6bu;
+    z = (z ^ z >> 13) * 0xc2b2ae35u;
+    return (z ^ z >> 16) >> 8;
+}
 
 typedef struct { const char *kind; void (*fill)(uint8_t *, uint32_t n); } Packet;
 typedef struct { const char *name; void (*text)(char *, uint32_t i); Program *(*code)(uint32_t i, uint32_t n); Packet *packets; } Workload;

@@ -1,4 +1,4 @@
-/* Plain threads that receive packets by 16 filters of classic BPF, in C11: one thread for each core, with a ring of 16 jobs each, and the
+/* Plain threads that receive packets by 16 or more filters of classic BPF, in C11: one thread for each core, with a ring of 16 jobs each, and the
    calling thread, which puts the jobs. The filters are one table. With "mutex" each packet is received, and each change of the table is
    made, under one mutex; with "free" no lock is taken, and nothing changes the table.
    Arguments: mutex|free CORES PACKETS CHANGES: so many packets for each core, and so many changes of the table by core 0, each an install
@@ -13,7 +13,7 @@
 #include <string.h>
 #include <time.h>
 
-enum { PLACES = 16, FILTERS = 16, LENGTH = 25, SIZE = 64, CORES = 8, YIELDS = 256, SLEEP = 50000 };
+enum { PLACES = 16, MOST = 1024, LENGTH = 25, SIZE = 64, CORES = 8, YIELDS = 256, SLEEP = 50000 };
 
 struct insn { uint16_t code; uint8_t jt, jf; uint32_t k; };
 
@@ -31,12 +31,12 @@ static struct {
 static struct {
     pthread_mutex_t mutex;
     uint64_t version;
-    struct insn *filters[FILTERS + 1];
+    struct insn *filters[MOST + 1];
     int count;
 } table = {.mutex = PTHREAD_MUTEX_INITIALIZER};
 
 static int locked;
-static size_t packets, changes;
+static size_t packets, changes, filters;
 
 static uint64_t now(void)
 {
@@ -188,15 +188,16 @@ static int less(const void *a, const void *b)
 
 int main(int argc, char **argv)
 {
-    if (argc != 5)
+    if (argc != 6)
         return 2;
     locked = strcmp(argv[1], "mutex") == 0;
     size_t count = strtoull(argv[2], NULL, 10);
     packets = strtoull(argv[3], NULL, 10);
     changes = strtoull(argv[4], NULL, 10);
-    if (count == 0 || count > CORES || (!locked && changes > 0))
+    filters = strtoull(argv[5], NULL, 10);
+    if (count == 0 || count > CORES || filters > MOST || (!locked && changes > 0))
         return 2;
-    for (; table.count < FILTERS; table.count++)
+    for (; (size_t)table.count < filters; table.count++)
         table.filters[table.count] = program(table.count + 1);
     struct job *jobs = malloc((count * packets + 1) * sizeof *jobs);
     for (size_t i = 0; i < count * packets; i++) {
@@ -217,7 +218,7 @@ int main(int argc, char **argv)
     for (size_t c = 0; c < count; c++)
         for (size_t i = 0; i < packets; i++) {
             struct receipt *r = &cores[c].receipts[i];
-            if (r->kept != FILTERS && changes == 0)
+            if (r->kept != (filters < SIZE ? filters : SIZE) && changes == 0)
                 abort();
             waits[c * packets + i] = r->received - r->put;
             first = r->received < first ? r->received : first;
