@@ -15,7 +15,7 @@ use Rattle.filter_vm.specs.declared.machine.Outcome.{Outcome}
 use Rattle.bpf_insn.specs.Machine.{Packet, Ends}
 use Rattle.filter_vm.proofs.Unique.{Ends-same}
 use Rattle.pcap_reader.specs.declared.capture.Header.{Header}
-use Rattle.pcap_reader.specs.declared.capture.Packet.{Packet as Captured}
+use Rattle.pcap_reader.specs.declared.capture.CapturedPacket.{CapturedPacket}
 use Rattle.pcap_reader.specs.declared.capture.CaptureFault.{CaptureFault}
 use Rattle.pcap_reader.proofs.LawLemmas.{one_reading}
 use Rattle.console.specs.Reading.{AreBytes, ShowsOne, ShowsTooLong}
@@ -31,7 +31,7 @@ long_once status other text more one two = (one.0 ∙ sym two.0, one.1 ∙ sym t
 
 -- A dump
 
-dump_same : (h h' : Option Header) (ks ks' : List Captured) (f f' : Option CaptureFault) → h ≡ h' → ks ≡ ks' → f ≡ f' → dump_text h ks f ≡ dump_text h' ks' f'
+dump_same : (h h' : Option Header) (ks ks' : List CapturedPacket) (f f' : Option CaptureFault) → h ≡ h' → ks ≡ ks' → f ≡ f' → dump_text h ks f ≡ dump_text h' ks' f'
 dump_same h h' ks ks' f f' a b c = rw (a, b, c) refl
 
 pub dump_once : (input : List ℕ) → AreBytes input → ShowsOne (ShowsDump input)
@@ -122,7 +122,7 @@ answers_same program line o p one two =
     let ends : Ends program two.0 o.verdict o.steps = rw same at one.2 in
     ends_same program two.0 o p ends two.2
 
-captured_same : (program : List Insn) (packet : Captured) (o p : Outcome) → AnswersCaptured program packet o → AnswersCaptured program packet p → o ≡ p
+captured_same : (program : List Insn) (packet : CapturedPacket) (o p : Outcome) → AnswersCaptured program packet o → AnswersCaptured program packet p → o ≡ p
 captured_same program packet o p one two = ends_same program (record { bytes = packet.bytes; original = packet.original }) o p one two
 
 -- Lines

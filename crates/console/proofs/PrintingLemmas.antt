@@ -1,7 +1,7 @@
 -- A text that is printed bit by bit: what is written, what is kept back, and what is left to print.
 use Rattle.std.proofs.Common.{◌≡◌, ℕ, ◌+◌, List, [], ◌∷◌, ◌++◌, Option, ap, sym, ◌∙◌, append_assoc}
 use Rattle.std.specs.Prelude.{Result, Ok, Err, OnErr}
-use Rattle.pcap_reader.specs.declared.capture.Packet.{Packet}
+use Rattle.pcap_reader.specs.declared.capture.CapturedPacket.{CapturedPacket}
 use Rattle.pcap_reader.specs.declared.capture.CaptureFault.{CaptureFault}
 use Rattle.console.specs.declared.sink.Sink.{Sink}
 use Rattle.console.specs.Devices.{Writes}
@@ -50,9 +50,9 @@ on_err (Ok v) P p = tt
 on_err (Err e) P p = p
 
 -- the lines that are left of a dump
-abbrev pub left_lines : ℕ → List Packet → Option CaptureFault → List ℕ
+abbrev pub left_lines : ℕ → List CapturedPacket → Option CaptureFault → List ℕ
 left_lines number rest fault = packet_lines (number + 1) rest ++ fault_text fault
 
-pub left_first : (number : ℕ) (rest more : List Packet) (p : Packet) (fault : Option CaptureFault) → rest ≡ p ∷ more
+pub left_first : (number : ℕ) (rest more : List CapturedPacket) (p : CapturedPacket) (fault : Option CaptureFault) → rest ≡ p ∷ more
     → left_lines number rest fault ≡ packet_line (number + 1) p ++ left_lines (number + 1) more fault
 left_first number rest more p fault first = ap (λ r. left_lines number r fault) first ∙ append_assoc (packet_line (number + 1) p) (packet_lines (number + 1 + 1) more) (fault_text fault)

@@ -7,7 +7,7 @@ use Rattle.std.proofs.Math.Seq.{drop-append_seam}
 use Rattle.bpf_insn.specs.declared.insn.Insn.{Insn}
 use Rattle.filter_vm.specs.declared.machine.Outcome.{Outcome}
 use Rattle.pcap_reader.specs.declared.feed.Feed.{Feed}
-use Rattle.pcap_reader.specs.declared.capture.Packet.{Packet}
+use Rattle.pcap_reader.specs.declared.capture.CapturedPacket.{CapturedPacket}
 use Rattle.pcap_reader.specs.declared.capture.Header.{Header}
 use Rattle.pcap_reader.specs.declared.capture.CaptureFault.{CaptureFault}
 use Rattle.pcap_reader.specs.declared.capture.CaptureFault.TheVariants.{NoMemory}
@@ -53,7 +53,7 @@ AllZip-append R (a ∷ xs) xs' [] ys' first next = absurd first
 AllZip-append R (a ∷ xs) xs' (b ∷ ys) ys' first next = (first.0, AllZip-append R xs xs' ys ys' first.1 next)
 
 -- one packet that was seen in place
-pub runs_whole : (program : List Insn) (bytes rest : List ℕ) (old new : Feed) (packet : Packet) (o : Outcome) (before after : List Outcome)
+pub runs_whole : (program : List Insn) (bytes rest : List ℕ) (old new : Feed) (packet : CapturedPacket) (o : Outcome) (before after : List Outcome)
     → TakesWhole bytes rest old new packet → (held_packets old ≡ [] → held_packets new ≡ []) → AnswersCaptured program packet o → after ≡ before ++ o ∷ []
     → RunsOn program bytes rest old new before after
 runs_whole program bytes rest old new packet o before after takes none ran pushed = record {
@@ -70,8 +70,8 @@ runs_whole program bytes rest old new packet o before after takes none ran pushe
 }
 
 -- a front that was fed, after which the packets that were whole were given up
-pub runs_cut : (program : List Insn) (bytes rest : List ℕ) (old mid new : Feed) (packets : List Packet) (more before after : List Outcome)
-    → TakesFront bytes rest old mid → ((given : List Packet) (fed : List ℕ) → HoldsBehind given fed mid → HoldsBehind (given ++ packets) fed new) → held_packets new ≡ []
+pub runs_cut : (program : List Insn) (bytes rest : List ℕ) (old mid new : Feed) (packets : List CapturedPacket) (more before after : List Outcome)
+    → TakesFront bytes rest old mid → ((given : List CapturedPacket) (fed : List ℕ) → HoldsBehind given fed mid → HoldsBehind (given ++ packets) fed new) → held_packets new ≡ []
     → AllZip (AnswersCaptured program) packets more → after ≡ before ++ more → RunsOn program bytes rest old new before after
 runs_cut program bytes rest old mid new packets more before after takes given none ran pushed = record {
   front = takes.front;
@@ -119,7 +119,7 @@ pub other_fault : (held : Option CaptureFault) (fault : CaptureFault) (answer : 
 other_fault held fault answer is other refused memory = let e = refused memory in let same : fault ≡ NoMemory = cc in other same
 
 -- with no packet held, what was given up is all
-pub reads_given : (bytes : List ℕ) (header : Option Header) (packets held : List Packet) (fault : Option CaptureFault) → held ≡ [] → Reads bytes header (packets ++ held) fault → Reads bytes header packets fault
+pub reads_given : (bytes : List ℕ) (header : Option Header) (packets held : List CapturedPacket) (fault : Option CaptureFault) → held ≡ [] → Reads bytes header (packets ++ held) fault → Reads bytes header packets fault
 reads_given bytes header packets held fault none reads = rw (ap (λ t. packets ++ t) none ∙ append-nil packets) at reads
 
 -- a source got these bytes, whose whole packets were run

@@ -9,7 +9,7 @@ use Rattle.std.proofs.Math.Seq.{drop-append_seam, take-append_seam}
 use Rattle.bpf_insn.specs.declared.insn.Insn.{Insn}
 use Rattle.filter_vm.specs.declared.machine.Outcome.{Outcome}
 use Rattle.pcap_reader.specs.declared.capture.Header.{Header}
-use Rattle.pcap_reader.specs.declared.capture.Packet.{Packet}
+use Rattle.pcap_reader.specs.declared.capture.CapturedPacket.{CapturedPacket}
 use Rattle.pcap_reader.specs.declared.capture.CaptureFault.{CaptureFault}
 use Rattle.pcap_reader.specs.declared.feed.Feed.{Feed}
 use Rattle.pcap_reader.specs.Savefile.{IsHeader, IsRecord, Reads, captured, number}
@@ -29,14 +29,14 @@ use Rattle.console.proofs.RunningLemmas.{runs_whole}
 
 -- Places of records
 
-record_size : (big : Bool) (r : List ℕ) (p : Packet) → IsRecord big r p → length r ≡ 16 + captured big r
+record_size : (big : Bool) (r : List ℕ) (p : CapturedPacket) → IsRecord big r p → length r ≡ 16 + captured big r
 record_size big r p is = omega (arith, is.header, is.length_is, length-drop 16 r, ap length is.body)
 
 captured_front : (big : Bool) (r tail : List ℕ) → 16 ≤ length r → captured big (r ++ tail) ≡ captured big r
 captured_front big r tail long = word_at-front big 8 r tail (omega arith)
 
 -- after the records of some packets comes what follows them
-walk : (big : Bool) (records : List (List ℕ)) (packets : List Packet) (tail : List ℕ) → AllZip (IsRecord big) records packets → after_records big (length packets) (concat records ++ tail) ≡ tail
+walk : (big : Bool) (records : List (List ℕ)) (packets : List CapturedPacket) (tail : List ℕ) → AllZip (IsRecord big) records packets → after_records big (length packets) (concat records ++ tail) ≡ tail
 walk big [] [] tail each = refl
 walk big [] (p ∷ ps) tail each = absurd each
 walk big (r ∷ rs) [] tail each = absurd each
@@ -76,7 +76,7 @@ All-behind : (bytes front rest : List ℕ) → All (λ b. b < 256) bytes → byt
 All-behind bytes front rest small parts =
     let e : drop (length front) bytes ≡ rest = ap (drop (length front)) parts ∙ drop-append_seam front rest in rw e at (All-drop (λ b. b < 256) (length front) bytes small)
 
-placed : (fed tail : List ℕ) (h : Header) (packets : List Packet) → All (λ b. b < 256) fed → Reads fed (Some h) packets None → Placed fed tail h (length packets)
+placed : (fed tail : List ℕ) (h : Header) (packets : List CapturedPacket) → All (λ b. b < 256) fed → Reads fed (Some h) packets None → Placed fed tail h (length packets)
 placed fed tail h packets small reads =
     let parts : fed ≡ reads.head ++ concat reads.records = reads.parts ∙ ap (λ t. (reads.head ++ concat reads.records) ++ t) reads.ends ∙ append-nil (reads.head ++ concat reads.records) in
     let whole : fed ++ tail ≡ reads.head ++ (concat reads.records ++ tail) = ap (λ t. t ++ tail) parts ∙ append_assoc reads.head (concat reads.records) tail in
@@ -142,9 +142,9 @@ zip_length R (x ∷ xs) [] each = absurd each
 zip_length R (x ∷ xs) (y ∷ ys) each = ap suc (zip_length R xs ys each.1)
 
 -- one packet with its time stamp
-pub timed_whole : (program : List Insn) (bytes rest : List ℕ) (old new : Feed) (packet : Packet) (o : Outcome) (h : Header) (before after : List Outcome) (since upto : List Stamp)
+pub timed_whole : (program : List Insn) (bytes rest : List ℕ) (old new : Feed) (packet : CapturedPacket) (o : Outcome) (h : Header) (before after : List Outcome) (since upto : List Stamp)
     → TakesWhole bytes rest old new packet → (held_packets old ≡ [] → held_packets new ≡ []) → AnswersCaptured program packet o → after ≡ before ++ o ∷ [] → upto ≡ since ++ stamp_in h.big h.nano bytes ∷ []
-    → 16 ≤ length bytes → ((given : List Packet) (fed : List ℕ) → HoldsBehind given fed old → Reads fed (Some h) (given ++ held_packets old) None)
+    → 16 ≤ length bytes → ((given : List CapturedPacket) (fed : List ℕ) → HoldsBehind given fed old → Reads fed (Some h) (given ++ held_packets old) None)
     → TimedTo program bytes rest old new before after since upto
 timed_whole program bytes rest old new packet o h before after since upto takes none answers pushed stamped room reads =
     let runs = runs_whole program bytes rest old new packet o before after takes none answers pushed in
@@ -297,8 +297,8 @@ timed_long (Err e) program bytes old new before after runs same = tt
 
 -- a feed that goes on has read its header
 pub reads_header : (feed : Feed) (r : Result Header CaptureFault) (h : Header) → r ≡ Ok h → held_fault feed ≡ None
-    → ((given : List Packet) (fed : List ℕ) → HoldsBehind given fed feed → (held_fault feed ≡ Some NoMemory → ⊥) → IsEnding fed (held_header feed) (given ++ held_packets feed) r)
-    → (given : List Packet) (fed : List ℕ) → HoldsBehind given fed feed → Reads fed (Some h) (given ++ held_packets feed) None
+    → ((given : List CapturedPacket) (fed : List ℕ) → HoldsBehind given fed feed → (held_fault feed ≡ Some NoMemory → ⊥) → IsEnding fed (held_header feed) (given ++ held_packets feed) r)
+    → (given : List CapturedPacket) (fed : List ℕ) → HoldsBehind given fed feed → Reads fed (Some h) (given ++ held_packets feed) None
 reads_header feed r h is going whole given fed holds = rw is at (whole given fed holds (λ refused. absurd (let no = sym going ∙ refused in cc)))
 
 -- what comes after some steps has no time stamp

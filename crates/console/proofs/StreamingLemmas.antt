@@ -8,7 +8,7 @@ use Rattle.bpf_insn.specs.declared.insn.Insn.{Insn}
 use Rattle.filter_vm.specs.declared.machine.Outcome.{Outcome}
 use Rattle.pcap_reader.specs.declared.feed.Feed.{Feed}
 use Rattle.pcap_reader.specs.declared.capture.Header.{Header}
-use Rattle.pcap_reader.specs.declared.capture.Packet.{Packet}
+use Rattle.pcap_reader.specs.declared.capture.CapturedPacket.{CapturedPacket}
 use Rattle.pcap_reader.specs.declared.capture.CaptureFault.{CaptureFault}
 use Rattle.pcap_reader.specs.Savefile.{Reads, ReadsFront}
 use Rattle.pcap_reader.specs.Held.{BehindAt}
@@ -33,13 +33,13 @@ use Rattle.console.specs.declared.view.View.{View}
 use Rattle.console.specs.Views.{AreShown, HasCounted, RanAll, RanFirst, ending_status, ending_text, shown_at_once, shows_stamps}
 
 -- the packets of a front come first in any reading
-front_first : (bytes : List ℕ) (header header' : Option Header) (packets all : List Packet) (fault : Option CaptureFault) → All (λ b. b < 256) bytes → ReadsFront bytes header packets → Reads bytes header' all fault
-    → (more : List Packet) × (all ≡ packets ++ more)
+front_first : (bytes : List ℕ) (header header' : Option Header) (packets all : List CapturedPacket) (fault : Option CaptureFault) → All (λ b. b < 256) bytes → ReadsFront bytes header packets → Reads bytes header' all fault
+    → (more : List CapturedPacket) × (all ≡ packets ++ more)
 front_first bytes header header' packets all fault small front reads = let both = has_fronts bytes small header header' packets all fault front reads in (both.1, both.2)
 
 -- so do those that a feed has read of fewer bytes
-behind_first : (fed rest : List ℕ) (packets all : List Packet) (feed : Feed) (held : Option CaptureFault) (header : Option Header) (fault : Option CaptureFault) → All (λ b. b < 256) (fed ++ rest)
-    → BehindAt packets fed feed held → Reads (fed ++ rest) header all fault → (more : List Packet) × (all ≡ (packets ++ feed.packets.items) ++ more)
+behind_first : (fed rest : List ℕ) (packets all : List CapturedPacket) (feed : Feed) (held : Option CaptureFault) (header : Option Header) (fault : Option CaptureFault) → All (λ b. b < 256) (fed ++ rest)
+    → BehindAt packets fed feed held → Reads (fed ++ rest) header all fault → (more : List CapturedPacket) × (all ≡ (packets ++ feed.packets.items) ++ more)
 behind_first fed rest packets all feed None header fault small behind reads =
     front_first (fed ++ rest) feed.header header (packets ++ feed.packets.items) all fault small (front-lasts fed rest feed.header (packets ++ feed.packets.items) (open_front fed feed.header (packets ++ feed.packets.items) feed.offset feed.part.items behind)) reads
 behind_first fed rest packets all feed (Some f) header fault small (inl stood) reads =

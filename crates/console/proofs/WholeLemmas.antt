@@ -9,7 +9,7 @@ use Rattle.filter_verify.specs.Rules.{Sound}
 use Rattle.filter_vm.specs.declared.machine.Outcome.{Outcome}
 use Rattle.bpf_insn.specs.Machine.{Packet}
 use Rattle.filter_vm.proofs.Totality.{has_end}
-use Rattle.pcap_reader.specs.declared.capture.Packet.{Packet as Captured}
+use Rattle.pcap_reader.specs.declared.capture.CapturedPacket.{CapturedPacket}
 use Rattle.console.specs.Reading.{BeginsWith}
 use Rattle.console.specs.Faults.{fault_status, fault_text}
 use Rattle.console.specs.Matching.{Answers, AnswersCaptured, ShowsFirst, ShowsFront, ShowsLines, ShowsPackets, bad_line, outcome_line}
@@ -94,7 +94,7 @@ module _ (program : List Insn) (sound : Sound program) where
       ]
 
   -- each packet of a capture has an outcome
-  captured : (packets : List Captured) → (outcomes : List Outcome) × AllZip (AnswersCaptured program) packets outcomes
+  captured : (packets : List CapturedPacket) → (outcomes : List Outcome) × AllZip (AnswersCaptured program) packets outcomes
   captured [] = ([], tt)
   captured (packet ∷ packets) =
       let ends = has_end program (record { bytes = packet.bytes; original = packet.original }) sound in

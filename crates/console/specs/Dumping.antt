@@ -3,7 +3,7 @@ use Rattle.std.specs.Prelude.{◌≡◌, ℕ, ◌+◌, ◌<◌, ◌≤◌, ◌�
 use Rattle.std.specs.Fmt.{decimal}
 use Rattle.hex.specs.Hex.{encode_lower}
 use Rattle.pcap_reader.specs.declared.capture.Header.{Header}
-use Rattle.pcap_reader.specs.declared.capture.Packet.{Packet}
+use Rattle.pcap_reader.specs.declared.capture.CapturedPacket.{CapturedPacket}
 use Rattle.pcap_reader.specs.declared.capture.CaptureFault.{CaptureFault}
 use Rattle.pcap_reader.specs.Savefile.{Reads}
 use Rattle.console.specs.declared.input.TheConstants.{INPUT_BYTES}
@@ -30,22 +30,22 @@ digits [] = codes "-"
 digits (b ∷ bytes) = encode_lower (b ∷ bytes)
 
 -- the line for packet number n
-abbrev pub packet_line : ℕ → Packet → List ℕ
+abbrev pub packet_line : ℕ → CapturedPacket → List ℕ
 packet_line n p = decimal n ++ codes " captured " ++ decimal (length p.bytes) ++ codes " original " ++ decimal p.original ++ codes " " ++ digits p.bytes ++ codes "\n"
 
 -- the lines for packets from number n
-abbrev pub packet_lines : ℕ → List Packet → List ℕ
+abbrev pub packet_lines : ℕ → List CapturedPacket → List ℕ
 packet_lines n [] = []
 packet_lines n (p ∷ packets) = packet_line n p ++ packet_lines (n + 1) packets
 
 -- the lines for a header, packets and a fault
-abbrev pub dump_text : Option Header → List Packet → Option CaptureFault → List ℕ
+abbrev pub dump_text : Option Header → List CapturedPacket → Option CaptureFault → List ℕ
 dump_text header packets fault = header_line header ++ (packet_lines 1 packets ++ fault_text fault)
 
 -- what `dump` shows of an input, whose length has a limit
 abbrev pub ShowsDump : List ℕ → ℕ → List ℕ → Type 0
 ShowsDump input status text =
-    ((length input ≤ INPUT_BYTES) × (header : Option Header) × (packets : List Packet) × (fault : Option CaptureFault)
+    ((length input ≤ INPUT_BYTES) × (header : Option Header) × (packets : List CapturedPacket) × (fault : Option CaptureFault)
     × Reads input header packets fault × (text ≡ dump_text header packets fault) × (status ≡ fault_status fault))
     ⊎ ((INPUT_BYTES < length input) × ShowsTooLong status text)
 

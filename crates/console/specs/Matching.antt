@@ -8,7 +8,7 @@ use Rattle.bpf_insn.specs.declared.insn.Insn.{Insn}
 use Rattle.filter_vm.specs.declared.machine.Outcome.{Outcome}
 use Rattle.bpf_insn.specs.Machine.{Packet, Ends}
 use Rattle.pcap_reader.specs.declared.capture.Header.{Header}
-use Rattle.pcap_reader.specs.declared.capture.Packet.{Packet as Captured}
+use Rattle.pcap_reader.specs.declared.capture.CapturedPacket.{CapturedPacket}
 use Rattle.pcap_reader.specs.declared.capture.CaptureFault.{CaptureFault}
 use Rattle.pcap_reader.specs.Savefile.{Reads}
 use Rattle.console.specs.Code.{IsGoodCode}
@@ -30,7 +30,7 @@ abbrev pub Answers : List Insn → List ℕ → Outcome → Type 0
 Answers program line outcome = (packet : Packet) × Hex line packet × Ends program packet outcome.verdict outcome.steps
 
 -- the program ends on a packet of a capture with this outcome
-abbrev pub AnswersCaptured : List Insn → Captured → Outcome → Type 0
+abbrev pub AnswersCaptured : List Insn → CapturedPacket → Outcome → Type 0
 AnswersCaptured program packet outcome =
     Ends program (record { bytes = packet.bytes; original = packet.original }) outcome.verdict outcome.steps
 
@@ -59,7 +59,7 @@ pub record ShowsLines (program : List Insn) (all : List (List ℕ)) (status : �
   pub printed : text ≡ flat_map outcome_line outcomes ++ complaint
 
 -- what is shown of these packets of a capture, and of the fault after them
-pub record ShowsCapture (program : List Insn) (packets : List Captured) (fault : Option CaptureFault) (text : List ℕ) : Type 0 where
+pub record ShowsCapture (program : List Insn) (packets : List CapturedPacket) (fault : Option CaptureFault) (text : List ℕ) : Type 0 where
   pub outcomes : List Outcome
   pub ran : AllZip (AnswersCaptured program) packets outcomes
   pub printed : text ≡ flat_map outcome_line outcomes ++ fault_text fault
@@ -68,7 +68,7 @@ pub record ShowsCapture (program : List Insn) (packets : List Captured) (fault :
 abbrev pub ShowsBytes : List Insn → Bool → List ℕ → ℕ → List ℕ → Type 0
 ShowsBytes program false input status text = ShowsLines program (lines input) status text
 ShowsBytes program true input status text =
-    (header : Option Header) × (packets : List Captured) × (fault : Option CaptureFault)
+    (header : Option Header) × (packets : List CapturedPacket) × (fault : Option CaptureFault)
     × Reads input header packets fault × ShowsCapture program packets fault text × (status ≡ fault_status fault)
 
 -- what is shown of an input, where it isn't too long
@@ -100,7 +100,7 @@ ShowsFront program pcap input text = (status : ℕ) × (whole : List ℕ) × Sho
 abbrev pub ShowsPackets : List Insn → Bool → List ℕ → List ℕ → Type 0
 ShowsPackets program false input text = ShowsFirst (Answers program) (lines input) text
 ShowsPackets program true input text =
-    (header : Option Header) × (packets : List Captured) × (fault : Option CaptureFault)
+    (header : Option Header) × (packets : List CapturedPacket) × (fault : Option CaptureFault)
     × Reads input header packets fault × ShowsFirst (AnswersCaptured program) packets text
 
 -- text is nothing, or such a front of an input, which the source got whole and which isn't too long

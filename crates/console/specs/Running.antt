@@ -6,7 +6,7 @@ use Rattle.bpf_insn.specs.declared.insn.Insn.{Insn}
 use Rattle.filter_vm.specs.declared.machine.Outcome.{Outcome}
 use Rattle.pcap_reader.specs.declared.feed.Feed.{Feed}
 use Rattle.pcap_reader.specs.declared.capture.Header.{Header}
-use Rattle.pcap_reader.specs.declared.capture.Packet.{Packet}
+use Rattle.pcap_reader.specs.declared.capture.CapturedPacket.{CapturedPacket}
 use Rattle.pcap_reader.specs.declared.capture.CaptureFault.{CaptureFault}
 use Rattle.pcap_reader.specs.Savefile.{Reads}
 use Rattle.pcap_reader.specs.Held.{HoldsBehind, held_packets}
@@ -18,7 +18,7 @@ use Rattle.console.specs.Matching.{AnswersCaptured}
 
 -- a feed was fed these bytes, holds no packet, and the packets that it gave up ended with these outcomes
 pub record HasRun (program : List Insn) (fed : List ℕ) (feed : Feed) (outcomes : List Outcome) : Type 0 where
-  pub packets : List Packet
+  pub packets : List CapturedPacket
   pub holds : HoldsBehind packets fed feed
   pub none : held_packets feed ≡ []
   pub ran : AllZip (AnswersCaptured program) packets outcomes
@@ -45,4 +45,4 @@ RunsInput remaining old new program feed outcomes false = GotTooMany remaining o
 -- bytes hold a capture with these packets' outcomes, and this fault after them
 abbrev pub EndsRun : List Insn → List ℕ → List Outcome → Option CaptureFault → Type 0
 EndsRun program bytes outcomes fault =
-    (header : Option Header) × (packets : List Packet) × Reads bytes header packets fault × AllZip (AnswersCaptured program) packets outcomes
+    (header : Option Header) × (packets : List CapturedPacket) × Reads bytes header packets fault × AllZip (AnswersCaptured program) packets outcomes

@@ -6,7 +6,7 @@ use Rattle.std.specs.Str.Lines.{lines}
 use Rattle.bpf_insn.specs.declared.insn.Insn.{Insn}
 use Rattle.filter_vm.specs.declared.machine.Outcome.{Outcome}
 use Rattle.pcap_reader.specs.declared.capture.Header.{Header}
-use Rattle.pcap_reader.specs.declared.capture.Packet.{Packet as Captured}
+use Rattle.pcap_reader.specs.declared.capture.CapturedPacket.{CapturedPacket}
 use Rattle.pcap_reader.specs.declared.capture.CaptureFault.{CaptureFault}
 use Rattle.pcap_reader.specs.Savefile.{Reads}
 use Rattle.console.specs.declared.ending.Ending.{Ending}
@@ -78,7 +78,7 @@ abbrev pub RanAll : List Insn → Bool → List ℕ → List Outcome → ℕ →
 RanAll program false input outcomes status ending =
     (good : List (List ℕ)) × AllZip (Answers program) good outcomes × Stops (lines input) good status ending
 RanAll program true input outcomes status ending =
-    (header : Option Header) × (packets : List Captured) × (fault : Option CaptureFault)
+    (header : Option Header) × (packets : List CapturedPacket) × (fault : Option CaptureFault)
     × Reads input header packets fault × AllZip (AnswersCaptured program) packets outcomes × (status ≡ fault_status fault) × (ending ≡ fault_text fault)
 
 -- the first packets of bytes ended with these outcomes
@@ -86,8 +86,8 @@ abbrev pub RanFirst : List Insn → Bool → List ℕ → List Outcome → Type 
 RanFirst program false input outcomes =
     (good : List (List ℕ)) × (left : List (List ℕ)) × (lines input ≡ good ++ left) × AllZip (Answers program) good outcomes
 RanFirst program true input outcomes =
-    (header : Option Header) × (packets : List Captured) × (fault : Option CaptureFault) × Reads input header packets fault
-    × (good : List Captured) × (left : List Captured) × (packets ≡ good ++ left) × AllZip (AnswersCaptured program) good outcomes
+    (header : Option Header) × (packets : List CapturedPacket) × (fault : Option CaptureFault) × Reads input header packets fault
+    × (good : List CapturedPacket) × (left : List CapturedPacket) × (packets ≡ good ++ left) × AllZip (AnswersCaptured program) good outcomes
 
 -- the time stamps that a view shows of so many packets: those of a capture, where numbers are shown
 abbrev pub AreShown : Bool → List ℕ → ℕ → List Stamp → Type 0

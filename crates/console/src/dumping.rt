@@ -14,7 +14,7 @@ use crate::output::{BLOCK, write_bytes};
 use crate::too_long::refuse_long;
 use crate::{EngineFault, Sink, Source};
 use itoa::Buffer;
-use pcap_reader::{CaptureFault, Header, Packet};
+use pcap_reader::{CaptureFault, CapturedPacket, Header};
 use std::alloc::{AllocError, Global};
 use std::fmt::Write as FmtWrite;
 use std::io::{Read, Write};
@@ -58,7 +58,7 @@ pub fn run_dump<R: Read, W: Write>(
 fn dump<W: Write>(
     alloc: Global,
     header: Option<Header>,
-    packets: &[Packet],
+    packets: &[CapturedPacket],
     fault: Option<CaptureFault>,
     writer: &mut Sink<W>,
 ) -> Result<u8, EngineFault>
@@ -105,7 +105,7 @@ fn header_text(alloc: Global, header: Option<Header>) -> Result<String, AllocErr
 }
 
 /// Prints the line for a packet.
-fn push_packet(text: &mut Vec<u8>, number: usize, packet: &Packet) -> Result<(), AllocError>
+fn push_packet(text: &mut Vec<u8>, number: usize, packet: &CapturedPacket) -> Result<(), AllocError>
     ensures { OnOk result (text.new.items ≡ text.old.items ++ packet_line number packet.now) }
 {
     let bytes = packet.bytes.as_slice();

@@ -14,7 +14,7 @@ use crate::input::{BLOCK, INPUT_BYTES};
 use crate::{EngineFault, Got, Source};
 use filter_verify::Verified;
 use filter_vm::{Outcome, run};
-use pcap_reader::{CaptureFault, Feed, Packet};
+use pcap_reader::{CaptureFault, CapturedPacket, Feed};
 use std::alloc::AllocError;
 use std::io::Read;
 
@@ -117,7 +117,7 @@ fn run_cut(
 /// Runs the filter on packets and appends the outcomes.
 fn run_packets(
     program: &Verified,
-    packets: &[Packet],
+    packets: &[CapturedPacket],
     outcomes: &mut Vec<Outcome>,
 ) -> Result<(), AllocError>
     ensures { OnOk result ((more : List Ended) × (outcomes.new.items ≡ outcomes.old.items ++ more)

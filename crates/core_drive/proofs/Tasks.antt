@@ -2,7 +2,7 @@
 use Rattle.std.proofs.Common.{◌≡◌, ◌+◌, ◌++◌, ◌∙◌, ℕ, Bool, false, Option, List, [], ◌∷◌, refl, sym, ap, subst, append_assoc, rules}
 use Rattle.std.specs.Prelude.{option_to_list}
 use Rattle.std.proofs.lemmas.List.{append-nil, map-append}
-use Rattle.pcap_reader.specs.declared.capture.Packet.{Packet}
+use Rattle.pcap_reader.specs.declared.capture.CapturedPacket.{CapturedPacket}
 use Rattle.filter_table.specs.declared.operation.Op.{Op}
 use Rattle.filter_table.specs.declared.decision.Decision.{Decision}
 use Rattle.filter_table.specs.declared.delivery.Kept.{Kept}
@@ -102,7 +102,7 @@ asked_one op old new is = subst (λ (c : RingCore). CoreDrives [] (op ∷ []) []
 
 -- A packet
 
-pub received : (packet : Packet) (kept : List Kept) (version : ℕ) (old new : RingCore) → HasReceived old new packet.bytes packet.original kept → version ≡ version_now old
+pub received : (packet : CapturedPacket) (kept : List Kept) (version : ℕ) (old new : RingCore) → HasReceived old new packet.bytes packet.original kept → version ≡ version_now old
     → CoreDrives (record { event = Rx old.number 0 packet 0; answer = Delivered version kept } ∷ []) [] [] old new
 received packet kept version old new h at =
     let s : Stamped = receipt old.number (old.clock + 1) (version_now old) packet.bytes packet.original kept in

@@ -2,7 +2,7 @@
 use Rattle.std.proofs.Common.{◌≡◌, ◌-◌, ℕ, zero, suc, List, ◌∷◌, length, map, Some, slice_get, sym, ap, ◌∙◌, subst, arith}
 use Rattle.std.proofs.lemmas.List.{length-map}
 use Rattle.filter_table.specs.declared.operation.Op.{Op}
-use Rattle.filter_table.specs.Tables.{State, table}
+use Rattle.filter_table.specs.Tables.{TableState, table}
 use Rattle.table_replica.specs.Shown.{ReplicaState}
 use Rattle.filter_table.proofs.Tables.{table_version}
 use Rattle.monitor_2pc.specs.Coordinators.{Idle}
@@ -90,7 +90,7 @@ idle_at others (part.First core) clock end s idle = ap (λ p. p.phase) s.place_i
 idle_at others (part.Other core) clock end s idle = absurd s
 
 version_at_end : (r : ReplicaState) (log : List Op) → r.shown ≡ table log (length log) → r.shown.version ≡ length log
-version_at_end r log e = ap (λ (s : State). s.version) e ∙ table_version log
+version_at_end r log e = ap (λ (s : TableState). s.version) e ∙ table_version log
 
 -- All cores
 

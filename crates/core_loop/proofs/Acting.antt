@@ -7,9 +7,9 @@ use Rattle.rx_queue.specs.Queue.{jobs_seen}
 use Rattle.core_links.specs.Views.{LinkView}
 use Rattle.filter_table.specs.declared.operation.Op.{Op}
 use Rattle.table_replica.specs.Shown.{ReplicaState}
-use Rattle.filter_table.specs.Tables.{State, table}
+use Rattle.filter_table.specs.Tables.{TableState, table}
 use Rattle.filter_table.proofs.Tables.{table_version}
-use Rattle.pcap_reader.specs.declared.capture.Packet.{Packet}
+use Rattle.pcap_reader.specs.declared.capture.CapturedPacket.{CapturedPacket}
 use Rattle.world_events.specs.declared.event.Event.{Event}
 use Rattle.world_events.specs.declared.event.Event.TheVariants.{Rx}
 use Rattle.world_events.specs.declared.event.Answer.{Answer}
@@ -82,10 +82,10 @@ acts_stand (part.Other x) (part.Other y) number cores clock h s v w st a =
 
 -- The receipt of a packet
 
-receives_at : (log : List Op) (replica : ReplicaState) (packet : Packet) (floor : ℕ) (answer : Answer) → replica.shown ≡ table log (length log) → ReceivesAt replica.shown replica.shown.version packet floor answer → ReceivesAt (table log (length log)) (length log) packet floor answer
+receives_at : (log : List Op) (replica : ReplicaState) (packet : CapturedPacket) (floor : ℕ) (answer : Answer) → replica.shown ≡ table log (length log) → ReceivesAt replica.shown replica.shown.version packet floor answer → ReceivesAt (table log (length log)) (length log) packet floor answer
 receives_at log replica packet floor answer shown h =
-    let version : replica.shown.version ≡ length log = ap (λ (s : State). s.version) shown ∙ table_version log in
-    subst (λ (v : ℕ). ReceivesAt (table log (length log)) v packet floor answer) version (subst (λ (s : State). ReceivesAt s replica.shown.version packet floor answer) shown h)
+    let version : replica.shown.version ≡ length log = ap (λ (s : TableState). s.version) shown ∙ table_version log in
+    subst (λ (v : ℕ). ReceivesAt (table log (length log)) v packet floor answer) version (subst (λ (s : TableState). ReceivesAt s replica.shown.version packet floor answer) shown h)
 
 quiet_carries0 : (others : ℕ) (s : Stamped) (v : ℕ → LinkView) → taking s.done.event None ≡ [] → Carries0 others s None nothing v v
 quiet_carries0 others s v none = start_carries others s nothing v v none (hands_nothing others s.stamp v v (λ p. refl))

@@ -4,7 +4,7 @@ use Rattle.std.specs.List.{list_all}
 use Rattle.std.specs.Prelude.{slice_set}
 use Rattle.std.proofs.lemmas.List.{length-append, append-nil}
 use Rattle.filter_table.specs.declared.operation.Op.{Op}
-use Rattle.filter_table.specs.Tables.{State, table, made}
+use Rattle.filter_table.specs.Tables.{TableState, table, made}
 use Rattle.filter_table.specs.declared.decision.Decision.{Decision}
 use Rattle.filter_table.specs.declared.decision.Decision.TheVariants.{Committed, Refused}
 use Rattle.filter_table.specs.declared.decision.Vote.{Vote}
@@ -38,7 +38,7 @@ pub record KeepsOwn (own : Bool) (event : Event) (answer : Answer) (phase : Phas
 
 -- An idle core 0 begins a request of its own
 
-starts : (own : Bool) (op : Op) (others : ℕ) (s : State) (budget : ℕ) (place place' : CoordinatorPlace) (committed : Option Op) (told : Step) (asker : Option ℕ) (answer : Answer)
+starts : (own : Bool) (op : Op) (others : ℕ) (s : TableState) (budget : ℕ) (place place' : CoordinatorPlace) (committed : Option Op) (told : Step) (asker : Option ℕ) (answer : Answer)
     → place.phase ≡ Idle → asker ≡ None → Starts others s budget place op place' committed told → answer ≡ start_told told.txn told.decided
     → KeepsOwn own (Start op) answer place.phase asker place'.phase asker
 starts own op others s budget place place' committed told asker answer idle none (refused fault f p c t) a = rw (a, t, p, idle, none) (record { knows = refl; counts = refl; tells = refl })
@@ -48,7 +48,7 @@ starts own op others s budget place place' committed told asker answer idle none
 
 -- It begins the request of another core
 
-starts_for : (own : Bool) (entry : ℕ) (op : Op) (others : ℕ) (s : State) (budget : ℕ) (place place' : CoordinatorPlace) (committed : Option Op) (begun told : Step) (asker : Option ℕ) (answer : Answer)
+starts_for : (own : Bool) (entry : ℕ) (op : Op) (others : ℕ) (s : TableState) (budget : ℕ) (place place' : CoordinatorPlace) (committed : Option Op) (begun told : Step) (asker : Option ℕ) (answer : Answer)
     → place.phase ≡ Idle → Starts others s budget place op place' committed begun → told.decided ≡ begun.decided → told.txn ≡ begun.txn → answer ≡ start_told told.txn told.decided
     → asker ≡ asker_after (suc entry) begun.decided → KeepsOwn own (StartFor (suc entry)) answer place.phase None place'.phase asker
 starts_for own entry op others s budget place place' committed begun told asker answer idle (refused fault f p c t) d n a r = rw (a, d, n, r, t, p, idle) (record { knows = refl; counts = refl; tells = refl })
@@ -76,7 +76,7 @@ same_voting : (votes votes' : List (Option Vote)) (asker : Option ℕ) → voted
 same_voting votes votes' None = refl
 same_voting votes votes' (Some core) = refl
 
-hears : (own : Bool) (from : ℕ) (short : Bool) (s : State) (txn : ℕ) (v : Vote) (op : Op) (before votes : List (Option Vote)) (place' : CoordinatorPlace) (committed : Option Op) (told : Step) (asker : Option ℕ) (answer : Answer)
+hears : (own : Bool) (from : ℕ) (short : Bool) (s : TableState) (txn : ℕ) (v : Vote) (op : Op) (before votes : List (Option Vote)) (place' : CoordinatorPlace) (committed : Option Op) (told : Step) (asker : Option ℕ) (answer : Answer)
     → own ≡ by_itself asker → Tallies s txn op votes place' committed told → answer ≡ TookVote txn v told.decided → KeepsOwn own (Take 0 from short) answer (Voting before) asker place'.phase asker
 hears own from short s txn v op before votes place' committed told asker answer knows (waits i none p c t) a =
     rw (a, t, p) (record { knows = knows; counts = omega (arith, same_voting before votes asker, votes_none own from txn v short); tells = tells_one own asker (Take 0 from short) (TookVote txn v None) knows })
@@ -96,7 +96,7 @@ acked_none : (asker : Option ℕ) (acks : List Bool) (last : Bool) → voted_on 
 acked_none asker acks true = refl
 acked_none asker acks false = refl
 
-takes : (own : Bool) (s : State) (place place' : CoordinatorPlace) (requests requests' : Requests) (entry : ℕ) (short : Bool) (m : Message) (committed : Option Op) (told : Step) (answer : Answer)
+takes : (own : Bool) (s : TableState) (place place' : CoordinatorPlace) (requests requests' : Requests) (entry : ℕ) (short : Bool) (m : Message) (committed : Option Op) (told : Step) (answer : Answer)
     → KnowsOwn own place.phase requests.asker → TakesUpAt s place requests entry m place' requests' committed told answer
     → KeepsOwn own (Take 0 (suc entry) short) answer place.phase requests.asker place'.phase requests'.asker
 takes own s place place' requests requests' entry short (message.Vote txn v) committed told answer knows h =
@@ -170,7 +170,7 @@ answered own short to (message.Commit txn) reply out out' version answer e h = r
 answered own short to (message.Abort txn) reply out out' version answer e h = rw (h, e) (record { counts = refl; tells = refl })
 answered own short to m reply out out' version answer e h = absurd h
 
-down : (own short : Bool) (to : ℕ) (s : State) (budget version : ℕ) (place place' : ParticipantPlace) (out out' : Bool) (m : Message) (committed : Option Op) (answer : Answer)
+down : (own short : Bool) (to : ℕ) (s : TableState) (budget version : ℕ) (place place' : ParticipantPlace) (out out' : Bool) (m : Message) (committed : Option Op) (answer : Answer)
     → TakesDownAt short s budget version place out m place' out' committed answer → KeepsOther own (Take to 0 short) answer out out'
 down own short to s budget version place place' out out' (message.Reply d) committed answer h = rw (h.was_outstanding, h.none_outstanding, h.is_answer) (record { counts = refl; tells = refl })
 down own short to s budget version place place' out out' (message.Prepare txn op) committed answer h = answered own short to (message.Prepare txn op) h.reply out out' _ answer h.same_outstanding h.is_answer

@@ -7,7 +7,7 @@ use Rattle.world_model.specs.Cases.{Outgoing, sent_up}
 use Rattle.world_histories.specs.declared.history.Stamped.{Stamped}
 use Rattle.world_histories.specs.Histories.{Stamping, for_entry, with_stamp, sent_to, sent_by, taking, taken_from, Core0, core0_first, Step0, Other, other_first, StepOther}
 use Rattle.world_histories.proofs.More.{history0_more, history_other_more, sent_to-append, sent_by-append, taken_from-append}
-use Rattle.filter_table.specs.Tables.{opening, table}
+use Rattle.filter_table.specs.Tables.{empty_table, table}
 use Rattle.filter_table.proofs.Tables.{table_whole}
 use Rattle.monitor_2pc.specs.Coordinators.{no_requests}
 use Rattle.monitor_2pc.specs.Participants.{at_first}
@@ -71,13 +71,13 @@ stands_other_more entry budget h v w c c' s m st step posted took elsewhere = re
   elsewhere = λ peer. still_silent (v (suc peer)) (w (suc peer)) (elsewhere peer) (st.elsewhere peer);
 }
 
-table_opening : table [] 0 ≡ opening
+table_opening : table [] 0 ≡ empty_table
 table_opening = table_whole []
 
 none_coded : (bs : List (List ℕ)) → bs ≡ [] → AreCoded bs []
 none_coded bs e = subst (λ (l : List (List ℕ)). AreCoded l []) (sym e) tt
 
-pub first_stands : (core : First) (cores : ℕ) (view : ℕ → LinkView) → core.replica.shown ≡ opening → core0_place core ≡ idle_at_first → core.coordinator.others ≡ cores - 1 → core.coordinator.requests ≡ no_requests (cores - 1) → BetweenSteps core → ((peer : ℕ) → IsSilent (view peer))
+pub first_stands : (core : First) (cores : ℕ) (view : ℕ → LinkView) → core.replica.shown ≡ empty_table → core0_place core ≡ idle_at_first → core.coordinator.others ≡ cores - 1 → core.coordinator.requests ≡ no_requests (cores - 1) → BetweenSteps core → ((peer : ℕ) → IsSilent (view peer))
     → IsStanding (part.First core) 0 cores 0 [] view
 first_stands core cores view shown place others requests between silent = (
   core0_first (cores - 1),
@@ -94,7 +94,7 @@ first_stands core cores view shown place others requests between silent = (
   },
 )
 
-pub other_stands : (core : OtherCore) (entry cores : ℕ) (view : ℕ → LinkView) → core.replica.shown ≡ opening → other_place core ≡ at_first → core.participant.outstanding ≡ false → IsBetweenSteps core → ((peer : ℕ) → IsSilent (view peer))
+pub other_stands : (core : OtherCore) (entry cores : ℕ) (view : ℕ → LinkView) → core.replica.shown ≡ empty_table → other_place core ≡ at_first → core.participant.outstanding ≡ false → IsBetweenSteps core → ((peer : ℕ) → IsSilent (view peer))
     → IsStanding (part.Other core) (suc entry) cores 0 [] view
 other_stands core entry cores view shown place outstanding between silent = (
   entry,

@@ -1,7 +1,7 @@
 -- A step of a core's parts is Event's case from each state that it stands in.
 use Rattle.std.proofs.Common.{◌≡◌, ◌∙◌, ◌+◌, ℕ, suc, max, true, false, Bool, Option, None, Some, length, refl, ap, sym, subst, arith}
 use Rattle.filter_table.specs.declared.operation.Op.{Op}
-use Rattle.filter_table.specs.Tables.{State, table}
+use Rattle.filter_table.specs.Tables.{TableState, table}
 use Rattle.filter_table.proofs.Tables.{table_version}
 use Rattle.monitor_2pc.specs.Places.{after_commit}
 use Rattle.monitor_2pc.specs.Coordinators.{CoordinatorPlace, Requests, Idle, coordinator_place}
@@ -29,7 +29,7 @@ moved_home others clock stamp core core' before committed m h = record {
   clock_is = refl;
   place_is = refl;
   requests_are = refl;
-  shown_is = m.shown_next ∙ (ap (λ (s : State). after_commit s committed) h.shown_is ∙ table_joined before.log committed);
+  shown_is = m.shown_next ∙ (ap (λ (s : TableState). after_commit s committed) h.shown_is ∙ table_joined before.log committed);
   others_are = m.same_others ∙ h.others_are;
   between = m.between;
 }
@@ -40,7 +40,7 @@ pub leads_take : (others clock stamp from : ℕ) (core core' : First) (m : Stamp
 leads_take others clock stamp from core core' m told e t before h =
     let after = moved stamp core' before t.committed in
     let here : TakesUpAt (table before.log (length before.log)) before.place before.requests t.entry m.message (core0_place core') core'.coordinator.requests t.committed told.step told.answer =
-    subst (λ (s : State). TakesUpAt s before.place before.requests t.entry m.message (core0_place core') core'.coordinator.requests t.committed told.step told.answer) h.shown_is
+    subst (λ (s : TableState). TakesUpAt s before.place before.requests t.entry m.message (core0_place core') core'.coordinator.requests t.committed told.step told.answer) h.shown_is
     (subst (λ (p : CoordinatorPlace). TakesUpAt core.replica.shown p before.requests t.entry m.message (core0_place core') core'.coordinator.requests t.committed told.step told.answer) (sym h.place_is)
     (subst (λ (r : Requests). TakesUpAt core.replica.shown (core0_place core) r t.entry m.message (core0_place core') core'.coordinator.requests t.committed told.step told.answer) (sym h.requests_are) t.here)) in
     record {
@@ -74,7 +74,7 @@ leads_start others clock stamp core staged core' op told e none t before h =
     let place : before.place ≡ coordinator_place core.coordinator None = h.place_is ∙ ap (λ (s : Option Op). coordinator_place core.coordinator s) none in
     let here : StartsAt others (table before.log (length before.log)) core.replica.budget before.place op (core0_place core') t.committed told.step told.answer =
     subst (λ (n : ℕ). StartsAt n (table before.log (length before.log)) core.replica.budget before.place op (core0_place core') t.committed told.step told.answer) h.others_are
-    (subst (λ (s : State). StartsAt core.coordinator.others s core.replica.budget before.place op (core0_place core') t.committed told.step told.answer) h.shown_is
+    (subst (λ (s : TableState). StartsAt core.coordinator.others s core.replica.budget before.place op (core0_place core') t.committed told.step told.answer) h.shown_is
     (subst (λ (p : CoordinatorPlace). StartsAt core.coordinator.others core.replica.shown core.replica.budget p op (core0_place core') t.committed told.step told.answer) (sym place) t.here)) in
     record {
       after = moved stamp core' before t.committed;
@@ -100,7 +100,7 @@ leads_start_for others clock stamp from entry core staged core' told e is none t
     let after = moved stamp core' before t.committed in
     let here : StartsForAt others (table before.log (length before.log)) core.replica.budget before.place before.requests entry (core0_place core') core'.coordinator.requests t.committed told.step told.answer =
     subst (λ (n : ℕ). StartsForAt n (table before.log (length before.log)) core.replica.budget before.place before.requests entry (core0_place core') core'.coordinator.requests t.committed told.step told.answer) h.others_are
-    (subst (λ (s : State). StartsForAt core.coordinator.others s core.replica.budget before.place before.requests entry (core0_place core') core'.coordinator.requests t.committed told.step told.answer) h.shown_is
+    (subst (λ (s : TableState). StartsForAt core.coordinator.others s core.replica.budget before.place before.requests entry (core0_place core') core'.coordinator.requests t.committed told.step told.answer) h.shown_is
     (subst (λ (p : CoordinatorPlace). StartsForAt core.coordinator.others core.replica.shown core.replica.budget p before.requests entry (core0_place core') core'.coordinator.requests t.committed told.step told.answer) (sym place)
     (subst (λ (r : Requests). StartsForAt core.coordinator.others core.replica.shown core.replica.budget (coordinator_place core.coordinator None) r entry (core0_place core') core'.coordinator.requests t.committed told.step told.answer) (sym h.requests_are) t.here))) in
     record {
@@ -120,10 +120,10 @@ pub leads_take_other : (entry clock stamp number : ℕ) (core core' : OtherCore)
     → LeadsOther entry core.replica.budget core' before (record { stamp = stamp; done = record { event = Take number 0 false; answer = answer } }) (Some m)
 leads_take_other entry clock stamp number core core' m answer e is t before h =
     let after : Other = record { clock = stamp; place = other_place core'; outstanding = core'.participant.outstanding; log = joined before.log t.committed } in
-    let version : core.replica.shown.version ≡ length before.log = ap (λ (s : State). s.version) h.shown_is ∙ table_version before.log in
+    let version : core.replica.shown.version ≡ length before.log = ap (λ (s : TableState). s.version) h.shown_is ∙ table_version before.log in
     let here : TakesDownAt false (table before.log (length before.log)) core.replica.budget (length before.log) before.place before.outstanding m.message (other_place core') core'.participant.outstanding t.committed answer =
     subst (λ (v : ℕ). TakesDownAt false (table before.log (length before.log)) core.replica.budget v before.place before.outstanding m.message (other_place core') core'.participant.outstanding t.committed answer) version
-    (subst (λ (s : State). TakesDownAt false s core.replica.budget core.replica.shown.version before.place before.outstanding m.message (other_place core') core'.participant.outstanding t.committed answer) h.shown_is
+    (subst (λ (s : TableState). TakesDownAt false s core.replica.budget core.replica.shown.version before.place before.outstanding m.message (other_place core') core'.participant.outstanding t.committed answer) h.shown_is
     (subst (λ (p : ParticipantPlace). TakesDownAt false core.replica.shown core.replica.budget core.replica.shown.version p before.outstanding m.message (other_place core') core'.participant.outstanding t.committed answer) (sym h.place_is)
     (subst (λ (b : Bool). TakesDownAt false core.replica.shown core.replica.budget core.replica.shown.version (other_place core) b m.message (other_place core') core'.participant.outstanding t.committed answer) (sym h.outstanding_is) t.here))) in
     record {
@@ -132,7 +132,7 @@ leads_take_other entry clock stamp number core core' m answer e is t before h =
         clock_is = refl;
         place_is = refl;
         outstanding_is = refl;
-        shown_is = t.shown_next ∙ (ap (λ (s : State). after_commit s t.committed) h.shown_is ∙ table_joined before.log t.committed);
+        shown_is = t.shown_next ∙ (ap (λ (s : TableState). after_commit s t.committed) h.shown_is ∙ table_joined before.log t.committed);
         between = t.between;
       };
       step = record {

@@ -1,7 +1,7 @@
 -- The receipt of a packet that lies in the caller's memory.
 use Rattle.std.specs.Prelude.{◌≡◌, ◌<◌, ◌≤◌, ◌+◌, ◌++◌, ℕ, List, [], ◌∷◌, length, None, Some}
 use Rattle.filter_table.specs.declared.delivery.Kept.{Kept}
-use Rattle.filter_table.specs.Tables.{State, Accepting}
+use Rattle.filter_table.specs.Tables.{TableState, Accepting}
 use Rattle.world_events.specs.declared.event.Event.TheVariants.{Rx}
 use Rattle.world_events.specs.declared.event.Answer.TheVariants.{Delivered}
 use Rattle.world_histories.specs.declared.history.Stamped.{Stamped}
@@ -19,7 +19,7 @@ abbrev pub version_now : {L : Type 0} → CoreState L → ℕ
 version_now c = (replica_of c.part).shown.version
 
 -- why it can't be received by this table in a room of so many places: it has more receivers, or memory was refused
-abbrev pub LacksRoom : State → List ℕ → ℕ → ℕ → NotReceived → Type 0
+abbrev pub LacksRoom : TableState → List ℕ → ℕ → ℕ → NotReceived → Type 0
 LacksRoom s bytes original room (no.NoRoom count) = (kept : List Kept) × Accepting s (record { bytes = bytes; original = original }) kept × (count ≡ length kept) × (room < count)
 LacksRoom s bytes original room no.NoMemory = Unit {0}
 LacksRoom s bytes original room why = ⊥

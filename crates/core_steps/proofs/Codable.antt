@@ -14,7 +14,7 @@ use Rattle.filter_table.specs.declared.operation.OpFault.TheVariants.{BadProgram
 use Rattle.filter_table.specs.declared.operation.StageFault.{StageFault}
 use Rattle.filter_table.specs.declared.operation.StageFault.TheVariants as stage_fault
 use Rattle.table_replica.specs.Shown.{ReplicaState}
-use Rattle.filter_table.specs.Tables.{State, tests, program_of, Verifies, Allowed}
+use Rattle.filter_table.specs.Tables.{TableState, tests, program_of, Verifies, Allowed}
 use Rattle.filter_table.proofs.Tables.{allowed_tests, allowed_answers}
 use Rattle.filter_table.specs.Tables.{HasShortProgram}
 use Rattle.monitor_messages.specs.Coding.{IsNumbered}
@@ -34,7 +34,7 @@ sound_short : (program : List Insn) → Verifies (Some program) None → length 
 sound_short program (inl v) = v.0.shaped.sized.1
 sound_short program (inr v) = absurd (cc (v.2))
 
-pub allowed_short : (s : State) (b : ℕ) (op : Op) → Allowed s b op None → HasShortProgram op
+pub allowed_short : (s : TableState) (b : ℕ) (op : Op) → Allowed s b op None → HasShortProgram op
 allowed_short s b (Install domain cap program) a = sound_short program (allowed_answers s b (Install domain cap program) None None (allowed_tests s b (Install domain cap program) a) a)
 allowed_short s b (Replace domain id program) a = sound_short program (allowed_answers s b (Replace domain id program) None None (allowed_tests s b (Replace domain id program) a) a)
 allowed_short s b (Create domain endpoint) a = tt
@@ -66,7 +66,7 @@ first_bad (t ∷ ts) rule pc h = by_test t.0 refl (first_bad ts rule pc)
         either false r = r
 
 -- no test says that a program is bad
-none_bad : (s : State) (b : ℕ) (op : Op) → list_any (λ t. is_bad t.1) (tests s b op) ≡ false
+none_bad : (s : TableState) (b : ℕ) (op : Op) → list_any (λ t. is_bad t.1) (tests s b op) ≡ false
 none_bad s b (Create domain endpoint) = refl
 none_bad s b (Mint domain cap to rights) = refl
 none_bad s b (Revoke domain cap) = refl
@@ -82,7 +82,7 @@ verified_within (Some program) rule pc (inr v) =
     let same : rule ≡ number_of v.0 = cc (v.2) in
     rw same (number_within program v.0 (v.1))
 
-bad_within : (s : State) (b : ℕ) (op : Op) (rule pc : ℕ) → Allowed s b op (Some (stage_fault.Rule (BadProgram rule pc))) → (1 ≤ rule) × (rule ≤ 10)
+bad_within : (s : TableState) (b : ℕ) (op : Op) (rule pc : ℕ) → Allowed s b op (Some (stage_fault.Rule (BadProgram rule pc))) → (1 ≤ rule) × (rule ≤ 10)
 bad_within s b op rule pc a = by_first (first (tests s b op)) refl
   where
     by_first : (f : Option StageFault) → first (tests s b op) ≡ f → (1 ≤ rule) × (rule ≤ 10)
@@ -95,7 +95,7 @@ rule_numbered : (f : OpFault) → ((rule pc : ℕ) → f ≡ BadProgram rule pc 
 rule_numbered (BadProgram rule pc) h = h rule pc refl
 rule_numbered f h = tt
 
-pub fault_numbered : (s : State) (b : ℕ) (op : Op) (fault : StageFault) → Allowed s b op (Some fault) → IsNumbered (message.Reply (Refused 0 (veto_of fault)))
+pub fault_numbered : (s : TableState) (b : ℕ) (op : Op) (fault : StageFault) → Allowed s b op (Some fault) → IsNumbered (message.Reply (Refused 0 (veto_of fault)))
 fault_numbered s b op (stage_fault.Rule f) a = rule_numbered f (λ rule pc e. bad_within s b op rule pc (subst (λ (x : OpFault). Allowed s b op (Some (stage_fault.Rule x))) e a))
 fault_numbered s b op stage_fault.Budget a = tt
 fault_numbered s b op stage_fault.AlreadyStaged a = tt

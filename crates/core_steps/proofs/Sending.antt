@@ -2,7 +2,7 @@
 use Rattle.std.proofs.Common.{◌≡◌, ◌≢◌, ◌+◌, ◌-◌, ◌<◌, ◌∙◌, Bool, ℕ, zero, suc, Option, None, Some, List, refl, ap, sym, subst, arith}
 use Rattle.filter_table.specs.declared.operation.Op.{Op}
 use Rattle.filter_table.specs.declared.operation.StageFault.{StageFault}
-use Rattle.filter_table.specs.Tables.{State}
+use Rattle.filter_table.specs.Tables.{TableState}
 use Rattle.monitor_messages.specs.declared.message.Message.TheVariants as message
 use Rattle.filter_table.specs.declared.decision.Vote.{Vote}
 use Rattle.filter_table.specs.declared.decision.Decision.{Decision}
@@ -26,7 +26,7 @@ said_by txn (Some Commit) = to_all (message.Commit txn)
 said_by txn (Some Abort) = to_all (message.Abort txn)
 said_by txn said = nothing
 
-pub vote_sent : (s : State) (last : ℕ) (op : Op) (votes : List (Option Vote)) (place : CoordinatorPlace) (committed : Option Op) (told : Step) → Tallies s last op votes place committed told → outgoing told place ≡ said_by last told.say
+pub vote_sent : (s : TableState) (last : ℕ) (op : Op) (votes : List (Option Vote)) (place : CoordinatorPlace) (committed : Option Op) (told : Step) → Tallies s last op votes place committed told → outgoing told place ≡ said_by last told.say
 vote_sent s last op votes place committed told (waits i at p c t) = rw t refl
 vote_sent s last op votes place committed told (commits_all all p c t) = rw t refl
 vote_sent s last op votes place committed told (aborts_all core against least full p c t) = rw t refl
@@ -57,7 +57,7 @@ reply_to_one (suc entry) at decision some e = let same : at - 1 ≡ entry = omeg
 -- with a start
 
 -- it was staged, and the others are asked
-pub start_asked : (others : ℕ) (s : State) (b : ℕ) (place place' : CoordinatorPlace) (op : Op) (committed : Option Op) (told : Step) → coordinators.Starts others s b place op place' committed told → told.say ≡ asked_by None others → outgoing told place' ≡ asks others place.last op
+pub start_asked : (others : ℕ) (s : TableState) (b : ℕ) (place place' : CoordinatorPlace) (op : Op) (committed : Option Op) (told : Step) → coordinators.Starts others s b place op place' committed told → told.say ≡ asked_by None others → outgoing told place' ≡ asks others place.last op
 start_asked zero s b place place' op committed told (coordinators.refused f a p c t) says = rw t refl
 start_asked zero s b place place' op committed told (coordinators.unstaged f p c t) says = rw t refl
 start_asked zero s b place place' op committed told (coordinators.alone a n p c t) says = rw t refl
@@ -68,13 +68,13 @@ start_asked (suc others) s b place place' op committed told (coordinators.alone 
 start_asked (suc others) s b place place' op committed told (coordinators.prepared a n p c t) says = rw (t, p) refl
 
 -- it was refused
-pub start_silent : (others : ℕ) (s : State) (b : ℕ) (place place' : CoordinatorPlace) (op : Op) (committed : Option Op) (told : Step) → coordinators.Starts others s b place op place' committed told → told.say ≡ None → outgoing told place' ≡ nothing
+pub start_silent : (others : ℕ) (s : TableState) (b : ℕ) (place place' : CoordinatorPlace) (op : Op) (committed : Option Op) (told : Step) → coordinators.Starts others s b place op place' committed told → told.say ≡ None → outgoing told place' ≡ nothing
 start_silent others s b place place' op committed told (coordinators.refused f a p c t) says = rw t refl
 start_silent others s b place place' op committed told (coordinators.unstaged f p c t) says = rw t refl
 start_silent others s b place place' op committed told (coordinators.alone a n p c t) says = rw t refl
 start_silent others s b place place' op committed told (coordinators.prepared a n p c t) says = absurd (let x = ap (λ (y : Step). y.say) t in cc)
 
-pub start_sent : (core : Core0) (s : State) (b : ℕ) (place place' : CoordinatorPlace) (op : Op) (committed : Option Op) (told : Step) (refusal : Option StageFault) → coordinators.Starts core.coordinator.others s b place op place' committed told → core.coordinator.last ≡ place.last
+pub start_sent : (core : Core0) (s : TableState) (b : ℕ) (place place' : CoordinatorPlace) (op : Op) (committed : Option Op) (told : Step) (refusal : Option StageFault) → coordinators.Starts core.coordinator.others s b place op place' committed told → core.coordinator.last ≡ place.last
     → told.say ≡ asked_by refusal core.coordinator.others → outgoing told place' ≡ start_sends core op refusal
 start_sent core s b place place' op committed told None starts last says = rw last (start_asked core.coordinator.others s b place place' op committed told starts says)
 start_sent core s b place place' op committed told (Some fault) starts last says = start_silent core.coordinator.others s b place place' op committed told starts says

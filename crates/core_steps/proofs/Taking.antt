@@ -2,7 +2,7 @@
 use Rattle.std.proofs.Common.{◌≡◌, ◌∙◌, ℕ, Bool, false, Option, None, Some, Result, Ok, Err, refl, ap, subst}
 use Rattle.std.specs.Prelude.{IfOk, OnOk, OnErr}
 use Rattle.filter_table.specs.declared.operation.Op.{Op}
-use Rattle.filter_table.specs.Tables.{State}
+use Rattle.filter_table.specs.Tables.{TableState}
 use Rattle.filter_table.proofs.Tables.{version-after}
 use Rattle.monitor_messages.specs.declared.message.Message.{Message}
 use Rattle.monitor_messages.specs.declared.message.Message.TheVariants as message
@@ -14,12 +14,12 @@ use Rattle.world_model.specs.Cases.{raised}
 use Rattle.core_steps.specs.declared.other_core.OtherCore.{OtherCore}
 use Rattle.core_steps.specs.OtherCoreSteps.{IsBetweenSteps, Considers, TakesDown, other_place}
 
-pub version_commit : (s : State) (o : Option Op) → (after_commit s o).version ≡ raised s.version o
+pub version_commit : (s : TableState) (o : Option Op) → (after_commit s o).version ≡ raised s.version o
 version_commit s None = refl
 version_commit s (Some op) = version-after s op
 
 -- Commit is answered the same whether memory is short or not
-commit_any : (short : Bool) (s : State) (b txn : ℕ) (place place' : ParticipantPlace) (reply : Message) → Answers false s b place (message.Commit txn) place' reply → Answers short s b place (message.Commit txn) place' reply
+commit_any : (short : Bool) (s : TableState) (b txn : ℕ) (place place' : ParticipantPlace) (reply : Message) → Answers false s b place (message.Commit txn) place' reply → Answers short s b place (message.Commit txn) place' reply
 commit_any short s b txn place place' (message.Ack n) a = a
 commit_any short s b txn place place' reply a = absurd a
 
@@ -41,7 +41,7 @@ commit_taken short core m reply own own' txn version r is h answered shown budge
         answers = commit_any short own.replica.shown own.replica.budget txn (other_place own) (other_place own') sent a;
         same_outstanding = outstanding;
         is_committed = refl;
-        is_answer = ap (TookCommit txn) (numbered ∙ (ap (λ (s : State). s.version) next ∙ version_commit own.replica.shown own.replica.staged));
+        is_answer = ap (TookCommit txn) (numbered ∙ (ap (λ (s : TableState). s.version) next ∙ version_commit own.replica.shown own.replica.staged));
       };
       shown_next = next;
       same_budget = budget;

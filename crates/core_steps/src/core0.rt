@@ -2,7 +2,7 @@
 
 ghost use Rattle.std.specs.Prelude.{◌≡◌, ◌≢◌, ◌+◌, ◌-◌, ◌<◌, ◌≤◌, ℕ, suc, None, Some, IsSome, IfOk, IfSome, IfNone, OnSome, OnErr, slice_get};
 ghost use Rattle.filter_table.specs.declared.operation.Op.{Op as GhostOp};
-ghost use Rattle.filter_table.specs.Tables.{opening};
+ghost use Rattle.filter_table.specs.Tables.{empty_table};
 ghost use Rattle.monitor_messages.specs.declared.message.Message.TheVariants as message;
 ghost use Rattle.monitor_2pc.specs.Coordinators.{Idle, CanStart, coordinator_place, no_requests};
 ghost use Rattle.monitor_2pc.specs.Starting.{WasStaged};
@@ -38,7 +38,7 @@ impl Core0 {
     pub fn new(alloc: Global, budget: u32, cores: u16) -> Result<Core0, AllocError>
         requires least { 1 ≤ cores }
         requires most { cores ≤ 8 }
-        ensures replica { IfOk result (λ core. core.replica ≡ record { budget = budget; shown = opening; staged = None }) }
+        ensures replica { IfOk result (λ core. core.replica ≡ record { budget = budget; shown = empty_table; staged = None }) }
         ensures coordinator { IfOk result (λ core. core.coordinator ≡ record { others = cores - 1; last = 0; phase = Idle; requests = no_requests (cores - 1) }) }
         ensures between { IfOk result BetweenSteps }
     {

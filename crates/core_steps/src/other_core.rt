@@ -2,7 +2,7 @@
 
 ghost use Rattle.std.specs.Prelude.{◌≡◌, Bool, true, false, Option, None, IfOk, OnErr};
 ghost use Rattle.monitor_messages.specs.declared.message.Message.{Message as GhostMessage};
-ghost use Rattle.filter_table.specs.Tables.{opening};
+ghost use Rattle.filter_table.specs.Tables.{empty_table};
 ghost use Rattle.world_model.specs.Cases.{sent_up, SubmitsAt};
 ghost use Rattle.world_events.specs.declared.event.Event.TheVariants.{Take};
 ghost use Rattle.core_steps.specs.declared.other_core.OtherCore.{OtherCore as GhostCore};
@@ -23,7 +23,7 @@ pub struct OtherCore {
 impl OtherCore {
     /// A core that has done nothing yet.
     pub fn new(alloc: Global, budget: u32) -> Result<OtherCore, AllocError>
-        ensures replica { IfOk result (λ core. core.replica ≡ record { budget = budget; shown = opening; staged = None }) }
+        ensures replica { IfOk result (λ core. core.replica ≡ record { budget = budget; shown = empty_table; staged = None }) }
         ensures participant { IfOk result (λ core. core.participant ≡ record { last = 0; voted = None; outstanding = false }) }
         ensures between { IfOk result IsBetweenSteps }
     {

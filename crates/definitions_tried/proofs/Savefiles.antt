@@ -4,14 +4,14 @@ use Rattle.std.specs.Prelude.{All}
 use Rattle.std.specs.List.{list_all}
 use Rattle.std.proofs.lemmas.Bool.Decides.{nat_tests}
 use Rattle.std.proofs.lemmas.List.Sums.{AllPass-from_list_all}
-use Rattle.pcap_reader.specs.declared.capture.Packet.{Packet}
+use Rattle.pcap_reader.specs.declared.capture.CapturedPacket.{CapturedPacket}
 use Rattle.pcap_reader.specs.declared.capture.CaptureFault.TheVariants.{TruncatedRecord, TooLong, TruncatedHeader, BadMagic, BadVersion}
 use Rattle.pcap_reader.specs.Savefile.{IsHeader, IsMagic, IsRecord, Reads}
 use Rattle.pcap_reader.proofs.LawLemmas.{one_reading}
 use Rattle.definitions_tried.specs.Captures.{little, big_nano, little_record, big_record, cut_record, long_record, longest_record, old, ethernet, packet}
 use Rattle.definitions_tried.proofs.Kept.{apart}
 
-abbrev seen : Packet
+abbrev seen : CapturedPacket
 seen = packet (10 ∷ 20 ∷ 30 ∷ []) 60
 
 little_header : IsHeader little (ethernet false false)
@@ -42,7 +42,7 @@ two_packets = record { head = little; records = little_record ∷ little_record 
 small : (bytes : List ℕ) → list_all (λ b. nat_lt b 256) bytes ≡ true → All (λ b. b < 256) bytes
 small bytes e k d inside = let test : nat_lt (slice_index_or bytes k d) 256 ≡ true = AllPass-from_list_all (λ b. nat_lt b 256) bytes e k d inside in grind (arith, nat_tests)
 
-original_of : List Packet → ℕ
+original_of : List CapturedPacket → ℕ
 original_of [] = 0
 original_of (p ∷ ps) = p.original
 

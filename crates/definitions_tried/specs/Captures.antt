@@ -1,7 +1,7 @@
 -- Captures, byte for byte as pcap-savefile(5) of libpcap says.
 use Rattle.std.specs.Prelude.{ℕ, Bool, List, [], ◌∷◌}
 use Rattle.pcap_reader.specs.declared.capture.Header.{Header}
-use Rattle.pcap_reader.specs.declared.capture.Packet.{Packet}
+use Rattle.pcap_reader.specs.declared.capture.CapturedPacket.{CapturedPacket}
 
 -- the magic number 0xa1b2c3d4, version 2.4, two unused numbers, the most bytes that are captured of a packet, 262144, and the link
 -- type, 1 for Ethernet: each with the low byte first
@@ -39,5 +39,5 @@ abbrev pub ethernet : Bool → Bool → Header
 ethernet big nano = record { big = big; nano = nano; snaplen = 262144; network = 1 }
 
 -- these bytes of a packet that had so many
-abbrev pub packet : List ℕ → ℕ → Packet
+abbrev pub packet : List ℕ → ℕ → CapturedPacket
 packet bytes original = record { bytes = bytes; original = original }

@@ -8,7 +8,7 @@ use Rattle.filter_table.specs.declared.operation.Op.{Op}
 use Rattle.filter_table.specs.declared.operation.Op.TheVariants.{Create, Mint, Revoke, DropCap, Install, Remove, Replace}
 use Rattle.filter_table.specs.declared.operation.StageFault.{StageFault}
 use Rattle.filter_table.specs.declared.operation.StageFault.TheVariants.{AlreadyStaged, Rule, Budget, NoMemory}
-use Rattle.filter_table.specs.Tables.{State, tests, Allowed, Verifies, AnswersFirst, program_of, instructions, instructions_of, replaced, after}
+use Rattle.filter_table.specs.Tables.{TableState, tests, Allowed, Verifies, AnswersFirst, program_of, instructions, instructions_of, replaced, after}
 use Rattle.filter_verify.specs.Rules.{IsWellShaped}
 use Rattle.filter_table.specs.Staging.{AsksForMemory, CannotStage}
 use Rattle.filter_table.proofs.Tables.{first_none, allowed_fits}
@@ -16,7 +16,7 @@ use Rattle.filter_table.proofs.Tables.{first_none, allowed_fits}
 not_last : (n m : ℕ) → (n == m) ≡ false → n ≤ m → n < m
 not_last n m e le = grind (arith, nat_tests)
 
-pub version_room : (s : State) (budget : ℕ) (op : Op) → first (tests s budget op) ≡ None → s.version < 18446744073709551616 → s.version < 18446744073709551615
+pub version_room : (s : TableState) (budget : ℕ) (op : Op) → first (tests s budget op) ≡ None → s.version < 18446744073709551616 → s.version < 18446744073709551615
 version_room s budget op h lt = not_last s.version 18446744073709551615 (by_op op h) (omega arith)
   where
     by_op : (op : Op) → first (tests s budget op) ≡ None → (s.version == 18446744073709551615) ≡ false
@@ -28,13 +28,13 @@ version_room s budget op h lt = not_last s.version 18446744073709551615 (by_op o
     by_op (Remove domain id) h = first_none (tests s budget (Remove domain id)) 0 _ h refl
     by_op (Replace domain id program) h = first_none (tests s budget (Replace domain id program)) 0 _ h refl
 
-pub filter_id_room : (s : State) (budget domain cap : ℕ) (program : List Insn) → first (tests s budget (Install domain cap program)) ≡ None → s.next_filter < 4294967296 → s.next_filter < 4294967295
+pub filter_id_room : (s : TableState) (budget domain cap : ℕ) (program : List Insn) → first (tests s budget (Install domain cap program)) ≡ None → s.next_filter < 4294967296 → s.next_filter < 4294967295
 filter_id_room s budget domain cap program h lt = not_last s.next_filter 4294967295 (first_none (tests s budget (Install domain cap program)) 5 _ h refl) (omega arith)
 
-pub install_room : (s : State) (budget domain cap : ℕ) (program : List Insn) → first (tests s budget (Install domain cap program)) ≡ None → instructions_of s.filters + length program ≤ budget
+pub install_room : (s : TableState) (budget domain cap : ℕ) (program : List Insn) → first (tests s budget (Install domain cap program)) ≡ None → instructions_of s.filters + length program ≤ budget
 install_room s budget domain cap program h = let within = first_none (tests s budget (Install domain cap program)) 6 _ h refl in grind (arith, nat_tests, within)
 
-pub replace_room : (s : State) (budget domain id : ℕ) (program : List Insn) → first (tests s budget (Replace domain id program)) ≡ None → instructions_of (replaced s.filters id program) ≤ budget
+pub replace_room : (s : TableState) (budget domain id : ℕ) (program : List Insn) → first (tests s budget (Replace domain id program)) ≡ None → instructions_of (replaced s.filters id program) ≤ budget
 replace_room s budget domain id program h = let within = first_none (tests s budget (Replace domain id program)) 6 _ h refl in grind (arith, nat_tests, within)
 
 -- No test names memory, or what is staged
@@ -54,7 +54,7 @@ first_of p (t ∷ ts) f n h = by_test t.0 refl (p t.1) refl (first_of p ts f)
     by_test false e false o rest = rest (rw o at n) (rw e at h)
     by_test false e true o rest = absurd (let n' = rw o at n in cc)
 
-no_other : (s : State) (budget : ℕ) (op : Op) → list_any (λ t. is_other t.1) (tests s budget op) ≡ false
+no_other : (s : TableState) (budget : ℕ) (op : Op) → list_any (λ t. is_other t.1) (tests s budget op) ≡ false
 no_other s budget (Create domain endpoint) = refl
 no_other s budget (Mint domain cap to rights) = refl
 no_other s budget (Revoke domain cap) = refl
@@ -63,22 +63,22 @@ no_other s budget (Install domain cap program) = refl
 no_other s budget (Remove domain id) = refl
 no_other s budget (Replace domain id program) = refl
 
-refused_if : (s : State) (budget : ℕ) (op : Op) (f : StageFault) → first (tests s budget op) ≡ Some f → Allowed s budget op (Some f)
+refused_if : (s : TableState) (budget : ℕ) (op : Op) (f : StageFault) → first (tests s budget op) ≡ Some f → Allowed s budget op (Some f)
 unfolding Allowed
 refused_if s budget op f h = rw h refl
 
-pub allowed_if : (s : State) (budget : ℕ) (op : Op) (answer : Option StageFault) → first (tests s budget op) ≡ None → Verifies (program_of op) answer → Allowed s budget op answer
+pub allowed_if : (s : TableState) (budget : ℕ) (op : Op) (answer : Option StageFault) → first (tests s budget op) ≡ None → Verifies (program_of op) answer → Allowed s budget op answer
 unfolding Allowed
 allowed_if s budget op answer h v = rw h v
 
-pub cannot_first : (s : State) (budget : ℕ) (op : Op) (f : StageFault) → first (tests s budget op) ≡ Some f → CannotStage s budget op None f
+pub cannot_first : (s : TableState) (budget : ℕ) (op : Op) (f : StageFault) → first (tests s budget op) ≡ Some f → CannotStage s budget op None f
 cannot_first s budget op AlreadyStaged h = absurd (let x = first_of is_other (tests s budget op) AlreadyStaged (no_other s budget op) h in cc)
 cannot_first s budget op (Rule fault) h = (refl, refused_if s budget op (Rule fault) h)
 cannot_first s budget op Budget h = (refl, refused_if s budget op Budget h)
 cannot_first s budget op NoMemory h = absurd (let x = first_of is_other (tests s budget op) NoMemory (no_other s budget op) h in cc)
 
 -- no test finds that memory is lacking
-pub never_memory : (s : State) (budget : ℕ) (op : Op) → first (tests s budget op) ≡ Some NoMemory → ⊥
+pub never_memory : (s : TableState) (budget : ℕ) (op : Op) → first (tests s budget op) ≡ Some NoMemory → ⊥
 never_memory s budget op h = absurd (let x = first_of is_other (tests s budget op) NoMemory (no_other s budget op) h in cc)
 
 -- a program that is verified is well shaped
@@ -87,15 +87,15 @@ verified_shape None v program is = absurd cc
 verified_shape (Some other) (inl v) program is = let same : other ≡ program = cc in subst IsWellShaped same v.0.shaped
 verified_shape (Some other) (inr v) program is = absurd (let x = v.2 in cc)
 
-pub asks_verified : (s : State) (budget : ℕ) (op : Op) → first (tests s budget op) ≡ None → Verifies (program_of op) None → AsksForMemory s budget op
+pub asks_verified : (s : TableState) (budget : ℕ) (op : Op) → first (tests s budget op) ≡ None → Verifies (program_of op) None → AsksForMemory s budget op
 asks_verified s budget op h v = record { passed = h; shaped = verified_shape (program_of op) v }
 
 -- the table after the operation is not made
-pub cannot_change : (s : State) (budget : ℕ) (op : Op) → first (tests s budget op) ≡ None → Verifies (program_of op) None → CannotStage s budget op None NoMemory
+pub cannot_change : (s : TableState) (budget : ℕ) (op : Op) → first (tests s budget op) ≡ None → Verifies (program_of op) None → CannotStage s budget op None NoMemory
 cannot_change s budget op h v = (refl, asks_verified s budget op h v)
 
 -- staging an operation that is allowed asks for memory
-pub asks_allowed : (s : State) (budget : ℕ) (op : Op) → Allowed s budget op None → AsksForMemory s budget op
+pub asks_allowed : (s : TableState) (budget : ℕ) (op : Op) → Allowed s budget op None → AsksForMemory s budget op
 unfolding Allowed
 asks_allowed s budget op allowed = by_first (first (tests s budget op)) refl allowed
   where
@@ -103,6 +103,6 @@ asks_allowed s budget op allowed = by_first (first (tests s budget op)) refl all
     by_first None e v = asks_verified s budget op e v
     by_first (Some fault) e v = absurd cc
 
-pub fits_after : (s : State) (budget : ℕ) (op : Op) → Allowed s budget op None → instructions_of s.filters ≤ budget → instructions_of (after s op).filters ≤ budget
+pub fits_after : (s : TableState) (budget : ℕ) (op : Op) → Allowed s budget op None → instructions_of s.filters ≤ budget → instructions_of (after s op).filters ≤ budget
 unfolding instructions
 fits_after s budget op allowed h = allowed_fits s budget op allowed h

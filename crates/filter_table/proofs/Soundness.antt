@@ -14,7 +14,7 @@ use Rattle.endpoint_caps.proofs.Keeping.{caps-entries, entries-append, at-append
 use Rattle.filter_table.specs.Listed.{ListedFilter}
 use Rattle.filter_table.specs.declared.operation.Op.{Op}
 use Rattle.filter_table.specs.declared.operation.Op.TheVariants.{Create, Mint, Revoke, DropCap, Install, Remove, Replace}
-use Rattle.filter_table.specs.Tables.{State, tests, Allowed, Verifies, program_of, replaced, after, endpoint_of}
+use Rattle.filter_table.specs.Tables.{TableState, tests, Allowed, Verifies, program_of, replaced, after, endpoint_of}
 use Rattle.filter_table.specs.Soundness.{FilterIdsBetween, IsRightful, IsSoundTable, IdsGrow}
 use Rattle.filter_table.proofs.Lists.{from_filter, was_mapped}
 use Rattle.filter_table.proofs.Tables.{first_none, allowed_tests, allowed_answers}
@@ -105,7 +105,7 @@ held_below held next id c ids at = omega (arith, late)
 
 -- The operations
 
-verified : (s : State) (budget : ℕ) (op : Op) (program : List Insn) → program_of op ≡ Some program → Allowed s budget op None → Sound program
+verified : (s : TableState) (budget : ℕ) (op : Op) (program : List Insn) → program_of op ≡ Some program → Allowed s budget op None → Sound program
 verified s budget op program brings allowed = by_verdict (subst (λ (p : Option (List Insn)). Verifies p None) brings (allowed_answers s budget op None None (allowed_tests s budget op allowed) allowed))
   where
     by_verdict : Verifies (Some program) None → Sound program
@@ -123,7 +123,7 @@ passed held domain cap c at holds has =
     same_number : (a b : ℕ) → (a == b) ≡ true → a ≡ b
     same_number a b e = grind (arith, nat_tests)
 
-module _ (s : State) (h : IsSoundTable s) where
+module _ (s : TableState) (h : IsSoundTable s) where
   with_caps : (caps : CapTable) → s.caps.next ≤ caps.next → ((id : ℕ) (c : Cap) → id < s.caps.next → cap_at caps.held id ≡ Some c → cap_at s.caps.held id ≡ Some c)
       → IdsBetween 0 caps.held caps.next → ParentsHeld caps.held → IsSoundTable (record s { version = s.version + 1; caps = caps })
   with_caps caps le same ids parents = record {
@@ -170,7 +170,7 @@ module _ (s : State) (h : IsSoundTable s) where
         sound = sound;
       }
 
-pub sound_next : (s : State) (budget : ℕ) (op : Op) → Allowed s budget op None → IsSoundTable s → IsSoundTable (after s op)
+pub sound_next : (s : TableState) (budget : ℕ) (op : Op) → Allowed s budget op None → IsSoundTable s → IsSoundTable (after s op)
 unfolding after
 sound_next s budget (Create domain endpoint) allowed h = with_cap s h _ refl (λ p is. absurd cc)
 sound_next s budget (Mint domain cap to rights) allowed h =
@@ -195,7 +195,7 @@ sound_next s budget (Replace domain id program) allowed h =
     with_filters s h _ _ (filters-replaced 0 s.filters s.next_filter id program h.filter_ids)
     (replaced_rightful s h id program (verified s budget (Replace domain id program) program refl allowed))
 
-pub ids_grow : (s : State) (op : Op) → IdsGrow s (after s op)
+pub ids_grow : (s : TableState) (op : Op) → IdsGrow s (after s op)
 unfolding after
 ids_grow s (Create domain endpoint) = record { caps = omega arith; filters = omega arith }
 ids_grow s (Mint domain cap to rights) = record { caps = omega arith; filters = omega arith }
@@ -213,8 +213,8 @@ sound_empty version next_cap next_filter = record {
   rightful = λ f at. absurd (omega (arith, at.1));
 }
 
-pub ids_stay : (s s' : State) → s' ≡ s → IdsGrow s s'
-ids_stay s s' same = let caps = ap (λ (t : State). t.caps.next) same in let filters = ap (λ (t : State). t.next_filter) same in record { caps = omega arith; filters = omega arith }
+pub ids_stay : (s s' : TableState) → s' ≡ s → IdsGrow s s'
+ids_stay s s' same = let caps = ap (λ (t : TableState). t.caps.next) same in let filters = ap (λ (t : TableState). t.next_filter) same in record { caps = omega arith; filters = omega arith }
 
-pub ids_after : (s s' : State) (op : Op) → s' ≡ after s op → IdsGrow s s'
+pub ids_after : (s s' : TableState) (op : Op) → s' ≡ after s op → IdsGrow s s'
 ids_after s s' op same = subst (IdsGrow s) (sym same) (ids_grow s op)

@@ -17,9 +17,9 @@ use Rattle.filter_verify.specs.Rules.{Sound, Refuses}
 use Rattle.filter_verify.specs.Numbers.{number_of, place_of}
 use Rattle.filter_verify.proofs.Reasons.{Refuses-sound}
 use Rattle.endpoint_caps.specs.Capabilities.{first}
-use Rattle.filter_table.specs.Tables.{State, replaced, opening, after, after_all, table, instructions, instructions_of, tests, AnswersFirst, program_of, Verifies, Allowed}
+use Rattle.filter_table.specs.Tables.{TableState, replaced, empty_table, after, after_all, table, instructions, instructions_of, tests, AnswersFirst, program_of, Verifies, Allowed}
 
-pub version-after : (s : State) (op : Op) → (after s op).version ≡ s.version + 1
+pub version-after : (s : TableState) (op : Op) → (after s op).version ≡ s.version + 1
 unfolding after
 version-after s (Create domain endpoint) = refl
 version-after s (Mint domain from to rights) = refl
@@ -29,29 +29,29 @@ version-after s (Install domain from program) = refl
 version-after s (Remove domain id) = refl
 version-after s (Replace domain id program) = refl
 
-pub after_all-append : (s : State) (xs ys : List Op) → after_all s (xs ++ ys) ≡ after_all (after_all s xs) ys
+pub after_all-append : (s : TableState) (xs ys : List Op) → after_all s (xs ++ ys) ≡ after_all (after_all s xs) ys
 after_all-append s [] ys = refl
 after_all-append s (x ∷ xs) ys = after_all-append (after s x) xs ys
 
-pub version-after_all : (s : State) (ops : List Op) → (after_all s ops).version ≡ s.version + length ops
+pub version-after_all : (s : TableState) (ops : List Op) → (after_all s ops).version ≡ s.version + length ops
 version-after_all s [] = omega arith
 version-after_all s (op ∷ ops) = omega (arith, version-after_all (after s op) ops, version-after s op)
 
 -- the table after the whole log
-pub table_whole : (log : List Op) → table log (length log) ≡ after_all opening log
+pub table_whole : (log : List Op) → table log (length log) ≡ after_all empty_table log
 unfolding table
-table_whole log = ap (after_all opening) (take_all (length log) log (omega arith))
+table_whole log = ap (after_all empty_table) (take_all (length log) log (omega arith))
 
 pub table_next : (log : List Op) (op : Op) → table (log ++ op ∷ []) (length (log ++ op ∷ [])) ≡ after (table log (length log)) op
-table_next log op = table_whole (log ++ op ∷ []) ∙ after_all-append opening log (op ∷ []) ∙ ap (λ s. after s op) (sym (table_whole log))
+table_next log op = table_whole (log ++ op ∷ []) ∙ after_all-append empty_table log (op ∷ []) ∙ ap (λ s. after s op) (sym (table_whole log))
 
 -- a longer log has the same tables at the versions of the shorter
 pub table_front : (log more : List Op) (v : ℕ) → v ≤ length log → table (log ++ more) v ≡ table log v
 unfolding table
-table_front log more v h = ap (after_all opening) (take-append-le v log more h)
+table_front log more v h = ap (after_all empty_table) (take-append-le v log more h)
 
 pub table_version : (log : List Op) → (table log (length log)).version ≡ length log
-table_version log = ap (λ (s : State). s.version) (table_whole log) ∙ (version-after_all opening log ∙ omega arith)
+table_version log = ap (λ (s : TableState). s.version) (table_whole log) ∙ (version-after_all empty_table log ∙ omega arith)
 
 -- the tests of an allowed operation fail
 pub first_none : {A : Type 0} (tests : List (Bool × A)) (i : ℕ) (test : Bool × A) → first tests ≡ None → slice_get tests i ≡ Some test → test.0 ≡ false
@@ -63,7 +63,7 @@ first_none (t ∷ ts) i test h at = by_first t.0 refl i at (λ j. first_none ts 
     by_first false e zero at rest = cc
     by_first false e (suc i) at rest = rest i (rw e at h) at
 
-pub allowed_tests : (s : State) (budget : ℕ) (op : Op) → Allowed s budget op None → first (tests s budget op) ≡ None
+pub allowed_tests : (s : TableState) (budget : ℕ) (op : Op) → Allowed s budget op None → first (tests s budget op) ≡ None
 unfolding Allowed
 allowed_tests s budget op allowed = by_first (first (tests s budget op)) refl allowed
   where
@@ -80,7 +80,7 @@ sum_filter p (f ∷ fs) = by_test (p f) refl (sum_filter p fs)
     by_test false e rest = rw e (omega (arith, rest, sum_by-append (λ (g : ListedFilter). length g.program) (f ∷ []) fs))
 
 -- an operation that no test refuses keeps within the budget
-pub tests_fit : (s : State) (budget : ℕ) (op : Op) → first (tests s budget op) ≡ None → instructions s ≤ budget → instructions (after s op) ≤ budget
+pub tests_fit : (s : TableState) (budget : ℕ) (op : Op) → first (tests s budget op) ≡ None → instructions s ≤ budget → instructions (after s op) ≤ budget
 unfolding instructions after
 tests_fit s budget (Create domain endpoint) passed h = h
 tests_fit s budget (Mint domain from to rights) passed h = h
@@ -94,10 +94,10 @@ tests_fit s budget (Replace domain id program) passed h =
     let within = first_none (tests s budget (Replace domain id program)) 6 _ passed refl in
     grind (arith, nat_tests, within)
 
-pub allowed_fits : (s : State) (budget : ℕ) (op : Op) → Allowed s budget op None → instructions s ≤ budget → instructions (after s op) ≤ budget
+pub allowed_fits : (s : TableState) (budget : ℕ) (op : Op) → Allowed s budget op None → instructions s ≤ budget → instructions (after s op) ≤ budget
 allowed_fits s budget op allowed h = tests_fit s budget op (allowed_tests s budget op allowed) h
 
-pub instructions_opening : instructions opening ≡ 0
+pub instructions_opening : instructions empty_table ≡ 0
 unfolding instructions
 instructions_opening = refl
 
@@ -119,12 +119,12 @@ first_skip (x ∷ xs) ys h = by_test x.0 refl (first_skip xs ys)
     by_test true e rest = absurd (let h' = rw e at h in cc)
     by_test false e rest = rw e (rest (rw e at h))
 
-pub allowed_answers : (s : State) (budget : ℕ) (op : Op) (answer : Option StageFault) (f : Option StageFault) → first (tests s budget op) ≡ f → Allowed s budget op answer → AnswersFirst f op answer
+pub allowed_answers : (s : TableState) (budget : ℕ) (op : Op) (answer : Option StageFault) (f : Option StageFault) → first (tests s budget op) ≡ f → Allowed s budget op answer → AnswersFirst f op answer
 unfolding Allowed
 allowed_answers s budget op answer f e a = rw e at a
 
 -- an operation whose last test is the budget's, and which brings a program
-elsewhere_last : (s : State) (b b' : ℕ) (op : Op) (fault : OpFault) (program : List Insn) (front : List (Bool × StageFault)) (over over' : Bool)
+elsewhere_last : (s : TableState) (b b' : ℕ) (op : Op) (fault : OpFault) (program : List Insn) (front : List (Bool × StageFault)) (over over' : Bool)
     → tests s b op ≡ front ++ (over, Budget) ∷ [] → tests s b' op ≡ front ++ (over', Budget) ∷ [] → program_of op ≡ Some program
     → Allowed s b op None → Allowed s b' op (Some (Rule fault)) → ⊥
 elsewhere_last s b b' op fault program front over over' here there brings a r = by_last over' refl
@@ -153,7 +153,7 @@ elsewhere_last s b b' op fault program front over over' here there brings a r = 
         by_verdict (inl v) = cc (v.1)
         by_verdict (inr v) = Refuses-sound program v.0 sound v.1
 
-pub allowed_elsewhere : (s : State) (b b' : ℕ) (op : Op) (fault : OpFault) → Allowed s b op None → Allowed s b' op (Some (Rule fault)) → ⊥
+pub allowed_elsewhere : (s : TableState) (b b' : ℕ) (op : Op) (fault : OpFault) → Allowed s b op None → Allowed s b' op (Some (Rule fault)) → ⊥
 allowed_elsewhere s b b' (Create domain endpoint) fault a r = let x = allowed_answers s b' (Create domain endpoint) _ None (allowed_tests s b (Create domain endpoint) a) r in cc
 allowed_elsewhere s b b' (Mint domain from to rights) fault a r = let x = allowed_answers s b' (Mint domain from to rights) _ None (allowed_tests s b (Mint domain from to rights) a) r in cc
 allowed_elsewhere s b b' (Revoke domain from) fault a r = let x = allowed_answers s b' (Revoke domain from) _ None (allowed_tests s b (Revoke domain from) a) r in cc
@@ -192,7 +192,7 @@ first_budget (t ∷ ts) h = by_test t.0 refl (first_budget ts)
         either true r = refl
         either false r = r
 
-budget_first : (s : State) (budget : ℕ) (op : Op) → Allowed s budget op (Some Budget) → first (tests s budget op) ≡ Some Budget
+budget_first : (s : TableState) (budget : ℕ) (op : Op) → Allowed s budget op (Some Budget) → first (tests s budget op) ≡ Some Budget
 budget_first s budget op a = by_first (first (tests s budget op)) refl
   where
     verified : (p : Option (List Insn)) → Verifies p (Some Budget) → ⊥
@@ -205,7 +205,7 @@ budget_first s budget op a = by_first (first (tests s budget op)) refl
     by_first (Some fault) e = let x = allowed_answers s budget op (Some Budget) (Some fault) e a in cc
 
 -- an operation whose last test alone is the budget's
-over_last : (s : State) (budget : ℕ) (op : Op) (front : List (Bool × StageFault)) (over : Bool) → tests s budget op ≡ front ++ (over, Budget) ∷ [] → list_any (λ t. is_budget t.1) front ≡ false
+over_last : (s : TableState) (budget : ℕ) (op : Op) (front : List (Bool × StageFault)) (over : Bool) → tests s budget op ≡ front ++ (over, Budget) ∷ [] → list_any (λ t. is_budget t.1) front ≡ false
     → Allowed s budget op (Some Budget) → over ≡ true
 over_last s budget op front over is none a = by_last over refl
   where
@@ -213,7 +213,7 @@ over_last s budget op front over is none a = by_last over refl
     by_last true e = e
     by_last false e = absurd (let x = first_budget front (last_false front (over, Budget) Budget e (ap first (sym is) ∙ budget_first s budget op a)) in cc)
 
-pub over_budget : (s : State) (budget : ℕ) (op : Op) → Allowed s budget op (Some Budget) → budget < instructions (after s op)
+pub over_budget : (s : TableState) (budget : ℕ) (op : Op) → Allowed s budget op (Some Budget) → budget < instructions (after s op)
 unfolding instructions after
 over_budget s budget (Create domain endpoint) a = absurd (let x = first_budget (tests s budget (Create domain endpoint)) (budget_first s budget (Create domain endpoint) a) in cc)
 over_budget s budget (Mint domain from to rights) a = absurd (let x = first_budget (tests s budget (Mint domain from to rights)) (budget_first s budget (Mint domain from to rights) a) in cc)

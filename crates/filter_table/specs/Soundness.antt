@@ -6,7 +6,7 @@ use Rattle.endpoint_caps.specs.declared.Cap.{Cap}
 use Rattle.endpoint_caps.specs.declared.Right.TheVariants.{Receive}
 use Rattle.endpoint_caps.specs.Capabilities.{CapTable, IdsBetween, ParentsHeld, cap_at, has_right}
 use Rattle.filter_table.specs.Listed.{ListedFilter}
-use Rattle.filter_table.specs.Tables.{State}
+use Rattle.filter_table.specs.Tables.{TableState}
 
 -- the ids increase, from the first number on and below the second
 abbrev pub FilterIdsBetween : ℕ → List ListedFilter → ℕ → Type 0
@@ -20,13 +20,13 @@ pub record IsRightful (caps : CapTable) (f : ListedFilter) : Type 0 where
   pub sound : Sound f.program
 
 -- ids are given out once and in order, and each filter is rightful
-pub record IsSoundTable (s : State) : Type 0 where
+pub record IsSoundTable (s : TableState) : Type 0 where
   pub cap_ids : IdsBetween 0 s.caps.held s.caps.next
   pub parents : ParentsHeld s.caps.held
   pub filter_ids : FilterIdsBetween 0 s.filters s.next_filter
   pub rightful : (f : ListedFilter) → Contains s.filters f → IsRightful s.caps f
 
 -- no id is given out again
-pub record IdsGrow (old new : State) : Type 0 where
+pub record IdsGrow (old new : TableState) : Type 0 where
   pub caps : old.caps.next ≤ new.caps.next
   pub filters : old.next_filter ≤ new.next_filter

@@ -25,14 +25,14 @@ use Rattle.filter_table.specs.declared.delivery.Kept.{Kept}
 
 -- The state
 
-pub record State : Type 0 where
+pub record TableState : Type 0 where
   pub version : ℕ
   pub caps : CapTable
   pub filters : List ListedFilter  -- in order of installation
   pub next_filter : ℕ
 
-abbrev pub opening : State
-opening = record { version = 0; caps = no_caps; filters = []; next_filter = 1 }
+abbrev pub empty_table : TableState
+empty_table = record { version = 0; caps = no_caps; filters = []; next_filter = 1 }
 
 abbrev pub filter_at : List ListedFilter → ℕ → Option ListedFilter
 filter_at filters id = find (λ f. f.id == id) filters
@@ -41,7 +41,7 @@ filter_at filters id = find (λ f. f.id == id) filters
 abbrev pub instructions_of : List ListedFilter → ℕ
 instructions_of filters = sum_by (λ f. length f.program) filters
 
-unfoldable pub instructions : State → ℕ
+unfoldable pub instructions : TableState → ℕ
 instructions s = instructions_of s.filters
 
 -- What an operation does
@@ -54,7 +54,7 @@ abbrev pub endpoint_of : Option Cap → ℕ
 endpoint_of None = 0
 endpoint_of (Some c) = c.endpoint
 
-unfoldable pub after : State → Op → State
+unfoldable pub after : TableState → Op → TableState
 after s (Create domain endpoint) = record s { version = s.version + 1; caps = created s.caps domain endpoint }
 after s (Mint domain cap to rights) = record s { version = s.version + 1; caps = minted_from s.caps cap to rights }
 after s (Revoke domain cap) = record s { version = s.version + 1; caps = revoked s.caps cap }
@@ -68,7 +68,7 @@ after s (Remove domain id) = record s { version = s.version + 1; filters = filte
 after s (Replace domain id program) = record s { version = s.version + 1; filters = replaced s.filters id program }
 
 -- the id that the operation makes
-unfoldable pub made : State → Op → Made
+unfoldable pub made : TableState → Op → Made
 made s (Create domain endpoint) = made_variants.Cap s.caps.next
 made s (Mint domain cap to rights) = made_variants.Cap s.caps.next
 made s (Install domain cap program) = made_variants.Filter s.next_filter
@@ -89,7 +89,7 @@ rule_of cap_fault.NoMemory = NoMemory
 abbrev pub as_rules : List (Bool × CapFault) → List (Bool × StageFault)
 as_rules tests = map (λ test. (test.0, rule_of test.1)) tests
 
-abbrev pub version_test : State → Bool × StageFault
+abbrev pub version_test : TableState → Bool × StageFault
 version_test s = (s.version == 18446744073709551615, Rule VersionsSpent)
 
 abbrev pub cap_of : Option ListedFilter → ℕ
@@ -102,7 +102,7 @@ owner_tests filters domain id =
     ∷ (not (is_some_and (λ f. f.owner == domain) (filter_at filters id)), Rule NotOwner)
     ∷ []
 
-abbrev pub install_tests : State → ℕ → ℕ → ℕ → List Insn → List (Bool × StageFault)
+abbrev pub install_tests : TableState → ℕ → ℕ → ℕ → List Insn → List (Bool × StageFault)
 install_tests s budget domain cap program =
     as_rules (right_tests s.caps.held domain cap Receive)
     ++ (leb 1024 (length s.filters), Rule TableFull)
@@ -111,7 +111,7 @@ install_tests s budget domain cap program =
     ∷ []
 
 -- the capability is the filter's, and the new program is counted in place of the old
-abbrev pub replace_tests : State → ℕ → ℕ → ℕ → List Insn → List (Bool × StageFault)
+abbrev pub replace_tests : TableState → ℕ → ℕ → ℕ → List Insn → List (Bool × StageFault)
 replace_tests s budget domain id program =
     owner_tests s.filters domain id
     ++ as_rules (right_tests s.caps.held domain (cap_of (filter_at s.filters id)) Receive)
@@ -119,7 +119,7 @@ replace_tests s budget domain id program =
     ∷ []
 
 -- what is tested of an operation, in order, before its program is verified
-abbrev pub tests : State → ℕ → Op → List (Bool × StageFault)
+abbrev pub tests : TableState → ℕ → Op → List (Bool × StageFault)
 tests s budget (Create domain endpoint) = version_test s ∷ as_rules (create_tests s.caps endpoint)
 tests s budget (Mint domain cap to rights) = version_test s ∷ as_rules (mint_tests s.caps domain cap rights)
 tests s budget (Revoke domain cap) = version_test s ∷ as_rules (holder_tests s.caps.held domain cap)
@@ -152,7 +152,7 @@ AnswersFirst (Some fault) op answer = answer ≡ Some fault
 AnswersFirst None op answer = Verifies (program_of op) answer
 
 -- the first refusal that stands at this state under this budget, or none
-unfoldable pub Allowed : State → ℕ → Op → Option StageFault → Type 0
+unfoldable pub Allowed : TableState → ℕ → Op → Option StageFault → Type 0
 Allowed s budget op answer = AnswersFirst (first (tests s budget op)) op answer
 
 -- Packets
@@ -186,15 +186,15 @@ pub record AreReceivers (caps : List Cap) (filters : List ListedFilter) (packet 
   pub each : (endpoint bytes : ℕ) → Contains kept (record { endpoint = endpoint; kept = bytes }) ↔ Gets caps filters packet endpoint bytes
 
 -- those whose filters in this table accept the packet
-abbrev pub Accepting : State → Packet → List Kept → Type 0
+abbrev pub Accepting : TableState → Packet → List Kept → Type 0
 Accepting s packet kept = AreReceivers s.caps.held s.filters packet kept
 
 -- Logs
 
-abbrev pub after_all : State → List Op → State
+abbrev pub after_all : TableState → List Op → TableState
 after_all s [] = s
 after_all s (op ∷ ops) = after_all (after s op) ops
 
 -- the table after the first v operations of the log
-unfoldable pub table : List Op → ℕ → State
-table log v = after_all opening (take v log)
+unfoldable pub table : List Op → ℕ → TableState
+table log v = after_all empty_table (take v log)

@@ -3,7 +3,7 @@ use Rattle.std.proofs.Common.{◌≡◌, ◌==◌, ◌++◌, ◌∷◌, ℕ, zer
 use Rattle.std.specs.Prelude.{fold}
 use Rattle.std.proofs.lemmas.List.Sums.{fold-append}
 use Rattle.filter_table.specs.declared.operation.Op.{Op}
-use Rattle.filter_table.specs.Tables.{State}
+use Rattle.filter_table.specs.Tables.{TableState}
 use Rattle.filter_table.specs.declared.decision.Decision.{Decision}
 use Rattle.filter_table.specs.declared.decision.Decision.TheVariants.{Committed}
 use Rattle.filter_table.specs.declared.decision.Vote.{Vote}
@@ -90,7 +90,7 @@ leaves_vote : (from txn : ℕ) (short : Bool) (v : Vote) (d : Option Decision) �
 leaves_vote from txn short v None core r = refl
 leaves_vote from txn short v (Some d) core r = decided_same r txn d
 
-leaves_up : (j : ℕ) (short : Bool) (place place' : CoordinatorPlace) (requests requests' : Requests) (s : State) (m : Message) (committed : Option Op) (step : Step) (answer : Answer)
+leaves_up : (j : ℕ) (short : Bool) (place place' : CoordinatorPlace) (requests requests' : Requests) (s : TableState) (m : Message) (committed : Option Op) (step : Step) (answer : Answer)
     → TakesUpAt s place requests j m place' requests' committed step answer → Leaves (Take 0 (suc j) short) answer
 leaves_up j short place place' requests requests' s (message.Vote txn v) committed step answer h core r = ap (λ (a : Answer). requested (followed core r (Take 0 (suc j) short) a)) h.is_answer ∙ leaves_vote (suc j) txn short v step.decided core r
 leaves_up j short place place' requests requests' s (message.Ack txn) committed step answer h core r = ap (λ (a : Answer). requested (followed core r (Take 0 (suc j) short) a)) h.is_answer
@@ -109,7 +109,7 @@ quiet_took i short (message.Commit txn) reply version answer t = rw t (λ core r
 quiet_took i short (message.Abort txn) reply version answer t = rw t (λ core r. refl, λ told. refl)
 quiet_took i short m reply version answer t = absurd t
 
-quiet_down : (i : ℕ) (short : Bool) (s : State) (b version : ℕ) (place place' : ParticipantPlace) (out out' : Bool) (m : Message) (committed : Option Op) (answer : Answer)
+quiet_down : (i : ℕ) (short : Bool) (s : TableState) (b version : ℕ) (place place' : ParticipantPlace) (out out' : Bool) (m : Message) (committed : Option Op) (answer : Answer)
     → TakesDownAt short s b version place out m place' out' committed answer → IsQuiet (Take (suc i) 0 short) answer
 quiet_down i short s b version place place' out out' (message.Reply d) committed answer h = rw h.is_answer (λ core r. refl, λ told. refl)
 quiet_down i short s b version place place' out out' (message.Prepare txn op) committed answer h = quiet_took i short (message.Prepare txn op) h.reply _ answer h.is_answer
@@ -134,7 +134,7 @@ tells_same t t' w w' log place committed started h = record {
 }
 
 -- core 0 starts the operation
-tells_start : (t : Told) (w w' : World) (op : Op) (others : ℕ) (s : State) (b : ℕ) (committed : Option Op) (step : Step) → w'.log ≡ joined w.log committed → t.started ≡ Some op → w.log ≡ t.committed
+tells_start : (t : Told) (w w' : World) (op : Op) (others : ℕ) (s : TableState) (b : ℕ) (committed : Option Op) (step : Step) → w'.log ≡ joined w.log committed → t.started ≡ Some op → w.log ≡ t.committed
     → Starts others s b w.place op w'.place committed step → w.place.phase ≡ Idle → Tells (decided t (start_told step.txn step.decided)) w'
 tells_start t w w' op others s b committed step log on is (refused f al p c e) idle = rw e (record { log_is = log ∙ rw c is; on = λ votes ph. absurd (let x = ap (λ (x : CoordinatorPlace). x.phase) p in cc) })
 tells_start t w w' op others s b committed step log on is (unstaged f p c e) idle = rw e (record { log_is = log ∙ rw c is; on = λ votes ph. absurd (let x = ap (λ (x : CoordinatorPlace). x.phase) p in cc) })
@@ -142,7 +142,7 @@ tells_start t w w' op others s b committed step log on is (alone al n p c e) idl
 tells_start t w w' op others s b committed step log on is (prepared al n p c e) idle = rw e (record { log_is = log ∙ rw c is; on = λ votes ph. on ∙ sym (ap (λ (x : CoordinatorPlace). x.staged) p) })
 
 -- core 0 counts a vote on the operation
-tells_vote : (t : Told) (w w' : World) (op : Op) (s : State) (last txn : ℕ) (v : Vote) (votes : List (Option Vote)) (committed : Option Op) (step : Step) → w'.log ≡ joined w.log committed → t.started ≡ Some op → w.log ≡ t.committed
+tells_vote : (t : Told) (w w' : World) (op : Op) (s : TableState) (last txn : ℕ) (v : Vote) (votes : List (Option Vote)) (committed : Option Op) (step : Step) → w'.log ≡ joined w.log committed → t.started ≡ Some op → w.log ≡ t.committed
     → Tallies s last op votes w'.place committed step → Tells (decided t (TookVote txn v step.decided)) w'
 tells_vote t w w' op s last txn v votes committed step log on is (waits k n p c e) = rw e (record { log_is = log ∙ rw c is; on = λ vs ph. on ∙ sym (ap (λ (x : CoordinatorPlace). x.staged) p) })
 tells_vote t w w' op s last txn v votes committed step log on is (commits_all a p c e) = rw e (record { log_is = log ∙ rw (c, on, is) refl; on = λ vs ph. absurd (let x = ap (λ (x : CoordinatorPlace). x.phase) p in cc) })

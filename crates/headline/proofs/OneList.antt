@@ -5,7 +5,7 @@ use Rattle.std.proofs.lemmas.List.{length-map}
 use Rattle.std.proofs.lemmas.Option.{slice_get_within, slice_get-get_or}
 use Rattle.filter_table.specs.declared.operation.Op.{Op}
 use Rattle.filter_table.specs.declared.decision.Vote.TheVariants as vote
-use Rattle.filter_table.specs.Tables.{State, table}
+use Rattle.filter_table.specs.Tables.{TableState, table}
 use Rattle.filter_table.proofs.Tables.{table_version}
 use Rattle.table_replica.specs.Shown.{ReplicaState}
 use Rattle.table_replica.proofs.Shared.{get_at}
@@ -62,7 +62,7 @@ joined_deliver budget budgets first others list con lists =
 
 other_version : (x : Part) (clock : ℕ) (d : Other) → StandsAtOther x clock d → (replica_of x).shown.version ≡ length d.log
 other_version (role.First core) clock d s = absurd s
-other_version (role.Other core) clock d s = ap (λ (t : State). t.version) s.shown_is ∙ table_version d.log
+other_version (role.Other core) clock d s = ap (λ (t : TableState). t.version) s.shown_is ∙ table_version d.log
 
 -- a core's version is how often it committed
 core_version : (budget : ℕ) (budgets : List ℕ) (first : RingCore) (others : List RingCore) (list : List Done) → (con : Concludes budget budgets first others) → (l : ListsRun budget budgets first.history (histories_of others) con.end con.ends list)

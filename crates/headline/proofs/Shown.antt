@@ -4,7 +4,7 @@ use Rattle.std.specs.Prelude.{option_map}
 use Rattle.std.proofs.lemmas.Option.{slice_get-map}
 use Rattle.std.proofs.lemmas.List.{take-append-drop, length-take-le}
 use Rattle.filter_table.specs.declared.operation.Op.{Op}
-use Rattle.filter_table.specs.Tables.{State, table}
+use Rattle.filter_table.specs.Tables.{TableState, table}
 use Rattle.filter_table.proofs.Tables.{table_version, table_front}
 use Rattle.table_replica.specs.Shown.{ReplicaState}
 use Rattle.world_events.specs.declared.event.Done.{Done}
@@ -19,7 +19,7 @@ use Rattle.headline.specs.Headline.{log_of, ShowTables, AreEqualByVersion}
 use Rattle.headline.specs.Shown.{replica_of_peer, replicas_of}
 use Rattle.headline.proofs.Logs.{run_log}
 
-same_state : (r : ReplicaState) (b : ℕ) (s : State) (staged : Option Op) → b ≡ r.budget → s ≡ r.shown → staged ≡ r.staged → Some (record { budget = b; shown = s; staged = staged }) ≡ Some r
+same_state : (r : ReplicaState) (b : ℕ) (s : TableState) (staged : Option Op) → b ≡ r.budget → s ≡ r.shown → staged ≡ r.staged → Some (record { budget = b; shown = s; staged = staged }) ≡ Some r
 same_state r b s staged e e' e'' = rw (e, e', e'') refl
 
 -- what the world shows of a core's replica is the replica at its place
@@ -56,7 +56,7 @@ table_at : (log : List Op) (v : ℕ) → v ≤ length log → (table log v).vers
 table_at log v le =
     let long : length (take v log) ≡ v = length-take-le v log le in
     let front : table log v ≡ table (take v log) v = ap (λ (l : List Op). table l v) (sym (take-append-drop v log)) ∙ table_front (take v log) (drop v log) v (omega (arith, long)) in
-    ap (λ (s : State). s.version) front ∙ (subst (λ (n : ℕ). (table (take v log) n).version ≡ n) long (table_version (take v log)))
+    ap (λ (s : TableState). s.version) front ∙ (subst (λ (n : ℕ). (table (take v log) n).version ≡ n) long (table_version (take v log)))
 
 pub tables_shown : (budget : ℕ) (budgets : List ℕ) (events : List Done) (w : World) → Run budget budgets events w → ShowTables events (replicas_of w)
 tables_shown budget budgets events w run core r at =
@@ -65,7 +65,7 @@ tables_shown budget budgets events w run core r at =
     let log : w.log ≡ log_of events = run_log budget budgets events w run in
     let le = version_within budget budgets w core o.0 (run_agrees budget budgets events w run) o.1 in
     record {
-      numbered = ap (λ (s : State). s.version) o.2 ∙ (table_at w.log o.0 le ∙ is);
+      numbered = ap (λ (s : TableState). s.version) o.2 ∙ (table_at w.log o.0 le ∙ is);
       shown = o.2 ∙ (ap (table w.log) is ∙ ap (λ (l : List Op). table l (version_of core events)) log);
     }
 

@@ -11,7 +11,7 @@ use Rattle.std.proofs.lemmas.List.Folds.{list_any-append}
 use Rattle.std.proofs.lemmas.Slice.Eq.{bytes_eq-Decides}
 use Rattle.std.proofs.Math.Bool.{or-false, or-true}
 use Rattle.bpf_insn.specs.declared.insn.Insn.{Insn}
-use Rattle.pcap_reader.specs.declared.capture.Packet.{Packet}
+use Rattle.pcap_reader.specs.declared.capture.CapturedPacket.{CapturedPacket}
 use Rattle.world_events.specs.declared.event.Event.{Event}
 use Rattle.mk_script.specs.declared.script.Item.{Item}
 use Rattle.mk_script.specs.declared.script.Item.TheVariants.{Ask, Apply}
@@ -91,7 +91,7 @@ untraced_from n given e = elim (cases_Bool (is_traced given)) [
   | inr untraced ↦ let counted = rw untraced at e in let same : n ≡ length (flat_map jobs_in given) = cc in (untraced, same)
 ]
 
-module _ (budgets : List ℕ) (programs : List ℕ → Option (List Insn)) (packets : List ℕ → Option Packet) (captures : List ℕ → Option (List Packet)) (home : ℕ → ℕ) (acted : Bool)
+module _ (budgets : List ℕ) (programs : List ℕ → Option (List Insn)) (packets : List ℕ → Option CapturedPacket) (captures : List ℕ → Option (List CapturedPacket)) (home : ℕ → ℕ) (acted : Bool)
     (jobs : Jobs) (items : List Item) (given : List Meaning) (knows : KnowsParts budgets programs packets captures home acted jobs items given) where
   pub knows_nothing : KnowsParts budgets programs packets captures home acted jobs items (given ++ Nothing ∷ [])
   knows_nothing = record {
@@ -129,7 +129,7 @@ module _ (budgets : List ℕ) (programs : List ℕ → Option (List Insn)) (pack
     same_items = knows.same_items ∙ sym (items_push given (NamedProgram name x) refl ∙ append-nil (items_of given));
   }
 
-  pub knows_packet : (name : List ℕ) (x : Packet) (newer : List ℕ → Option (Packet)) → packets name ≡ None → ((n : List ℕ) → newer n ≡ update bytes_eq packets name (Some x) n) → KnowsParts budgets programs newer captures home acted jobs items (given ++ NamedPacket name x ∷ [])
+  pub knows_packet : (name : List ℕ) (x : CapturedPacket) (newer : List ℕ → Option (CapturedPacket)) → packets name ≡ None → ((n : List ℕ) → newer n ≡ update bytes_eq packets name (Some x) n) → KnowsParts budgets programs newer captures home acted jobs items (given ++ NamedPacket name x ∷ [])
   knows_packet name x newer new changed = record {
     same_budgets = knows.same_budgets ∙ sym (same_flat budgets_in given (NamedPacket name x) refl);
     same_programs = λ n. knows.same_programs n ∙ ap (λ l. named l n) (sym (same_flat programs_in given (NamedPacket name x) refl));
@@ -141,7 +141,7 @@ module _ (budgets : List ℕ) (programs : List ℕ → Option (List Insn)) (pack
     same_items = knows.same_items ∙ sym (items_push given (NamedPacket name x) refl ∙ append-nil (items_of given));
   }
 
-  pub knows_capture : (name : List ℕ) (x : List Packet) (newer : List ℕ → Option (List Packet)) → captures name ≡ None → ((n : List ℕ) → newer n ≡ update bytes_eq captures name (Some x) n) → KnowsParts budgets programs packets newer home acted jobs items (given ++ NamedCapture name x ∷ [])
+  pub knows_capture : (name : List ℕ) (x : List CapturedPacket) (newer : List ℕ → Option (List CapturedPacket)) → captures name ≡ None → ((n : List ℕ) → newer n ≡ update bytes_eq captures name (Some x) n) → KnowsParts budgets programs packets newer home acted jobs items (given ++ NamedCapture name x ∷ [])
   knows_capture name x newer new changed = record {
     same_budgets = knows.same_budgets ∙ sym (same_flat budgets_in given (NamedCapture name x) refl);
     same_programs = λ n. knows.same_programs n ∙ ap (λ l. named l n) (sym (same_flat programs_in given (NamedCapture name x) refl));

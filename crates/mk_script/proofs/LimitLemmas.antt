@@ -16,7 +16,7 @@ use Rattle.hex.specs.Hex.{decode_of}
 use Rattle.hex.specs.declared.error.FromHexError.{FromHexError}
 use Rattle.hex.proofs.HexLemmas.{decode_of-ok}
 use Rattle.pcap_reader.specs.declared.capture.Header.{Header}
-use Rattle.pcap_reader.specs.declared.capture.Packet.{Packet}
+use Rattle.pcap_reader.specs.declared.capture.CapturedPacket.{CapturedPacket}
 use Rattle.pcap_reader.specs.Savefile.{IsRecord, Reads}
 use Rattle.filter_table.specs.Tables.{HasShortProgram}
 use Rattle.filter_table.specs.declared.operation.Op.{Op}
@@ -208,13 +208,13 @@ and_then_some : {A B : Type 0} (f : A → Option B) (o : Option A) (y : B) → o
 and_then_some f None y e = absurd (cc)
 and_then_some f (Some x) y e = (x, refl, e)
 
-packet_known : (k : Known) (word : List ℕ) (number : Option ℕ) (packet : Packet) → AreShort k → packet_of k word number ≡ Some packet → IsShortPacket packet
+packet_known : (k : Known) (word : List ℕ) (number : Option ℕ) (packet : CapturedPacket) → AreShort k → packet_of k word number ≡ Some packet → IsShortPacket packet
 packet_known k word None packet short e = short.packets word packet e
 packet_known k word (Some number) packet short e =
     let found = and_then_some (λ packets. counted packets number) (k.captures (before_dot word)) packet e in
     counted_all IsShortPacket found.0 number packet (short.captures (before_dot word) found.0 found.1) found.2
 
-packet_short : (k : Known) (word : List ℕ) (packet : Packet) → AreShort k → packet_at k word ≡ Ok packet → IsShortPacket packet
+packet_short : (k : Known) (word : List ℕ) (packet : CapturedPacket) → AreShort k → packet_at k word ≡ Ok packet → IsShortPacket packet
 unfolding packet_at
 packet_short k word packet short e =
     let number = bound (packet_number word) _ packet e in
@@ -229,7 +229,7 @@ rx_within s k received words d short e =
     subst (IsDraftWithin k) (same_ok (Whole (Receives (Rx core.value (received + 1) packet.value floor.value ∷ []))) d packet.next)
     ((packet_short k (word_at words 2) packet.value short packet.gave, cc), tt)
 
-replayed_received : (cores received floor place : ℕ) (packets : List Packet) → AllByRecursion IsShortPacket packets → AllByRecursion IsTakeOrRx (replayed cores received floor place packets)
+replayed_received : (cores received floor place : ℕ) (packets : List CapturedPacket) → AllByRecursion IsShortPacket packets → AllByRecursion IsTakeOrRx (replayed cores received floor place packets)
 replayed_received cores received floor place [] all = cc
 replayed_received cores received floor place (packet ∷ packets) all = (all.0, replayed_received cores received floor (place + 1) packets all.1)
 
@@ -410,13 +410,13 @@ decimal_within : (k : Known) (name text : List ℕ) (m : Meaning) → MeansDecim
 decimal_within k name text m (inl x) = let same = sym (same_ok m (NamedProgram name x.0) x.2) in subst (λ (m : Meaning). IsWithin m × IsFirst k m) same (x.1.short, tt)
 decimal_within k name text m (inr x) = let never = x.2 in absurd (cc)
 
-record_short : (big : Bool) (records : List (List ℕ)) (packets : List Packet) → AllZip (IsRecord big) records packets → AllByRecursion IsShortPacket packets
+record_short : (big : Bool) (records : List (List ℕ)) (packets : List CapturedPacket) → AllZip (IsRecord big) records packets → AllByRecursion IsShortPacket packets
 record_short big [] [] each = cc
 record_short big [] (packet ∷ packets) each = absurd each
 record_short big (r ∷ records) [] each = absurd each
 record_short big (r ∷ records) (packet ∷ packets) each = (omega (arith, each.0.length_is, each.0.short), record_short big records packets each.1)
 
-reads_short : (bytes : List ℕ) (header : Option Header) (packets : List Packet) → Reads bytes header packets None → AllByRecursion IsShortPacket packets
+reads_short : (bytes : List ℕ) (header : Option Header) (packets : List CapturedPacket) → Reads bytes header packets None → AllByRecursion IsShortPacket packets
 reads_short bytes None packets reads = absurd reads
 reads_short bytes (Some header) packets reads = record_short header.big reads.records packets reads.each
 

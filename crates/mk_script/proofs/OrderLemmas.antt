@@ -16,7 +16,7 @@ use Rattle.filter_asm.specs.Program.{Asm}
 use Rattle.filter_asm.proofs.LawLemmas.{none_stands_for_two}
 use Rattle.pcap_reader.specs.Savefile.{Reads}
 use Rattle.pcap_reader.specs.declared.capture.Header.{Header}
-use Rattle.pcap_reader.specs.declared.capture.Packet.{Packet}
+use Rattle.pcap_reader.specs.declared.capture.CapturedPacket.{CapturedPacket}
 use Rattle.pcap_reader.proofs.LawLemmas.{one_reading}
 use Rattle.filter_table.specs.declared.operation.Op.TheVariants.{Revoke, DropCap, Install, Remove, Replace}
 use Rattle.world_events.specs.declared.event.Event.{Event}
@@ -488,7 +488,7 @@ decimals_say name text (Ok m) (inr x) = let never = x.2 in absurd (cc)
 decimals_say name text (Err kind) (inl x) = let never = x.2 in absurd (cc)
 decimals_say name text (Err kind) (inr x) = (fault.Ddd x.0, same_err kind (fault.Ddd x.0) x.2, x.1)
 
-file_bad : (bytes : List ℕ) → All (λ b. b < 256) bytes → (header : Option Header) (packets : List Packet) (why : BodyFault) → Reads bytes header packets None → HasBadBody (File bytes) why → ⊥
+file_bad : (bytes : List ℕ) → All (λ b. b < 256) bytes → (header : Option Header) (packets : List CapturedPacket) (why : BodyFault) → Reads bytes header packets None → HasBadBody (File bytes) why → ⊥
 file_bad bytes small header packets (fault.Capture f) reads bad = let same = (one_reading bytes small header bad.0 packets bad.1 None (Some f) reads bad.2).2 in absurd (cc)
 file_bad bytes small header packets why reads bad = bad
 

@@ -8,7 +8,7 @@ use Rattle.std.proofs.lemmas.Bool.{cases_Bool}
 use Rattle.std.proofs.lemmas.Grind.{flat_map-append}
 use Rattle.std.proofs.lemmas.List.Elements.{All-from_recursion}
 use Rattle.bpf_insn.specs.Texts.{words_of}
-use Rattle.pcap_reader.specs.declared.capture.Packet.{Packet}
+use Rattle.pcap_reader.specs.declared.capture.CapturedPacket.{CapturedPacket}
 use Rattle.world_events.specs.declared.event.Event.{Event}
 use Rattle.world_events.specs.declared.event.Event.TheVariants.{Rx}
 use Rattle.mk_script.specs.declared.fault.ScriptFault.{ScriptFault}
@@ -150,7 +150,7 @@ rx_suited s k before words d threads e =
     let less : core.value < length k.budgets = omega (arith, limit, below_is (core_limit s k) (word_at words 1) core.value core.gave) in
     subst (IsDraftSuited k before) (same_ok (Whole (Receives (Rx core.value (before + 1) packet.value floor.value ∷ []))) d packet.next) (less, refl, tt)
 
-replayed_suited : (cores before floor place : ℕ) (packets : List Packet) → 1 ≤ cores → AreReceivedAt cores (before + place) (replayed cores before floor place packets)
+replayed_suited : (cores before floor place : ℕ) (packets : List CapturedPacket) → 1 ≤ cores → AreReceivedAt cores (before + place) (replayed cores before floor place packets)
 replayed_suited cores before floor place [] some = tt
 replayed_suited cores before floor place (packet ∷ packets) some =
     let next : before + (place + 1) ≡ (before + place) + 1 = omega arith in
@@ -391,7 +391,7 @@ jobs_received_at cores before [] all = tt
 jobs_received_at cores before (Receives events ∷ given) all = received_append cores before events (flat_map jobs_in given) all.0 (jobs_received_at cores (before + length events) given all.1)
 jobs_received_at cores before (m ∷ given) all = rw add-zero at (jobs_received_at cores (before + 0) given all.1)
 
-numbered_after : (cores before : ℕ) (events : List Event) (k core number floor : ℕ) (packet : Packet) → AreReceivedAt cores before events → slice_get events k ≡ Some (Rx core number packet floor) → number ≡ (before + k) + 1
+numbered_after : (cores before : ℕ) (events : List Event) (k core number floor : ℕ) (packet : CapturedPacket) → AreReceivedAt cores before events → slice_get events k ≡ Some (Rx core number packet floor) → number ≡ (before + k) + 1
 numbered_after cores before [] k core number floor packet all e = absurd (cc)
 numbered_after cores before (Rx c n p f ∷ events) zero core number floor packet all e = let same : n ≡ number = cc in omega (arith, same, all.1)
 numbered_after cores before (Rx c n p f ∷ events) (suc k) core number floor packet all e = omega (arith, numbered_after cores (before + 1) events k core number floor packet all.2 e)

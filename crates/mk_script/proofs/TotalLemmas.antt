@@ -6,7 +6,7 @@ use Rattle.filter_asm.specs.declared.fault.AsmFault.{AsmFault}
 use Rattle.filter_asm.specs.Program.{Fault, Assembles}
 use Rattle.filter_asm.proofs.LawLemmas.{each_stands_for_some}
 use Rattle.pcap_reader.specs.declared.capture.Header.{Header}
-use Rattle.pcap_reader.specs.declared.capture.Packet.{Packet}
+use Rattle.pcap_reader.specs.declared.capture.CapturedPacket.{CapturedPacket}
 use Rattle.pcap_reader.specs.declared.capture.CaptureFault.{CaptureFault}
 use Rattle.pcap_reader.specs.Savefile.{Reads}
 use Rattle.pcap_reader.proofs.ReadingLemmas.{has_reading}
@@ -40,7 +40,7 @@ decimal_some name text = elim (spelled_or_fault text) [
   | inr fault ↦ inr (BadBody (body.Ddd fault.0), inr (fault.0, fault.1, refl))
 ]
 
-captured_by : (name bytes : List ℕ) (header : Option Header) (packets : List Packet) (fault : Option CaptureFault) → Reads bytes header packets fault → Some_ (MeansCaptured name bytes)
+captured_by : (name bytes : List ℕ) (header : Option Header) (packets : List CapturedPacket) (fault : Option CaptureFault) → Reads bytes header packets fault → Some_ (MeansCaptured name bytes)
 captured_by name bytes header packets None reads = inl (NamedCapture name packets, inl (header, packets, reads, refl))
 captured_by name bytes header packets (Some fault) reads = inr (BadBody (body.Capture fault), inr (header, packets, fault, reads, refl))
 

@@ -8,7 +8,7 @@ use Rattle.filter_asm.specs.Faults.{fault_of}
 use Rattle.filter_asm.specs.declared.fault.AsmFault.{AsmFault}
 use Rattle.pcap_reader.specs.Savefile.{Reads}
 use Rattle.pcap_reader.specs.declared.capture.Header.{Header}
-use Rattle.pcap_reader.specs.declared.capture.Packet.{Packet}
+use Rattle.pcap_reader.specs.declared.capture.CapturedPacket.{CapturedPacket}
 use Rattle.pcap_reader.specs.declared.capture.CaptureFault.{CaptureFault}
 use Rattle.mk_script.specs.declared.fault.BodyFault.TheVariants as body
 use Rattle.mk_script.specs.declared.fault.ScriptFaultKind.{ScriptFaultKind}
@@ -30,8 +30,8 @@ MeansDecimal name text outcome =
 
 abbrev pub MeansCaptured : List ℕ → List ℕ → Result Meaning ScriptFaultKind → Type 0
 MeansCaptured name bytes outcome =
-    ((header : Option Header) × (packets : List Packet) × Reads bytes header packets None × (outcome ≡ Ok (NamedCapture name packets)))
-    ⊎ ((header : Option Header) × (packets : List Packet) × (fault : CaptureFault) × Reads bytes header packets (Some fault) × (outcome ≡ Err (BadBody (body.Capture fault))))
+    ((header : Option Header) × (packets : List CapturedPacket) × Reads bytes header packets None × (outcome ≡ Ok (NamedCapture name packets)))
+    ⊎ ((header : Option Header) × (packets : List CapturedPacket) × (fault : CaptureFault) × Reads bytes header packets (Some fault) × (outcome ≡ Err (BadBody (body.Capture fault))))
 
 abbrev pub DraftMeans : Draft → Result Meaning ScriptFaultKind → Type 0
 DraftMeans (Whole meaning) outcome = outcome ≡ Ok meaning

@@ -2,7 +2,7 @@
 use Rattle.std.specs.Prelude.{◌≡◌, ◌≤◌, ℕ, ◌^◌, ◌<◌, Bool, false, List, [], ◌∷◌, length, Option, None, vec_len}
 use Rattle.std.specs.List.{flat_map, list_any}
 use Rattle.bpf_insn.specs.declared.insn.Insn.{Insn}
-use Rattle.pcap_reader.specs.declared.capture.Packet.{Packet}
+use Rattle.pcap_reader.specs.declared.capture.CapturedPacket.{CapturedPacket}
 use Rattle.world_events.specs.declared.event.Event.{Event}
 use Rattle.mk_script.specs.declared.meaning.Meaning.{Meaning}
 use Rattle.mk_script.specs.declared.meaning.Meaning.TheVariants.{Budgets, NamedProgram, NamedPacket, NamedCapture, Home, Does, Receives, Replays, Trace, Nothing}
@@ -26,7 +26,7 @@ events_in (Apply event) = event ∷ []
 events_in _ = []
 
 -- this is known of lines that mean this, and they have done these items
-pub record KnowsParts (budgets : List ℕ) (programs : List ℕ → Option (List Insn)) (packets : List ℕ → Option Packet) (captures : List ℕ → Option (List Packet)) (home : ℕ → ℕ) (acted : Bool)
+pub record KnowsParts (budgets : List ℕ) (programs : List ℕ → Option (List Insn)) (packets : List ℕ → Option CapturedPacket) (captures : List ℕ → Option (List CapturedPacket)) (home : ℕ → ℕ) (acted : Bool)
     (jobs : meanings.Jobs) (items : List Item) (given : List meanings.Meaning) : Type 0 where
   pub same_budgets : budgets ≡ flat_map meanings.budgets_in given
   pub same_programs : (name : List ℕ) → programs name ≡ meanings.named (flat_map meanings.programs_in given) name

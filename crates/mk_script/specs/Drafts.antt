@@ -10,7 +10,7 @@ use Rattle.bpf_insn.specs.Texts.{is_blank, words_of, number_of}
 use Rattle.bpf_insn.specs.declared.insn.Insn.{Insn}
 use Rattle.endpoint_caps.specs.declared.Rights.{Rights}
 use Rattle.endpoint_caps.specs.declared.Rights.TheVariants.{R, M, Rm}
-use Rattle.pcap_reader.specs.declared.capture.Packet.{Packet}
+use Rattle.pcap_reader.specs.declared.capture.CapturedPacket.{CapturedPacket}
 use Rattle.filter_table.specs.declared.operation.Op.{Op}
 use Rattle.filter_table.specs.declared.operation.Op.TheVariants.{Create, Mint, Revoke, DropCap, Install, Remove, Replace}
 use Rattle.world_events.specs.declared.event.Event.{Event}
@@ -193,11 +193,11 @@ abbrev pub packet_number : List ℕ → Result (Option ℕ) ScriptFaultKind
 packet_number word = if is_dotted word then (whole_number (after_first (λ b. b == 46) word) >>= λ n. Ok (Some n)) else Ok None
 
 -- the packet of a name, or of a capture by its number
-abbrev pub packet_of : Known → List ℕ → Option ℕ → Option Packet
+abbrev pub packet_of : Known → List ℕ → Option ℕ → Option CapturedPacket
 packet_of k word None = k.packets word
 packet_of k word (Some number) = option_and_then (λ packets. counted packets number) (k.captures (before_dot word))
 
-unfoldable pub packet_at : Known → List ℕ → Result Packet ScriptFaultKind
+unfoldable pub packet_at : Known → List ℕ → Result CapturedPacket ScriptFaultKind
 packet_at k word = do
   number ← packet_number word
   ok_or (packet_of k word number) NoName
@@ -214,7 +214,7 @@ rx_draft s k received words = do
   Ok (Whole (Receives (Rx core (received + 1) packet floor ∷ [])))
 
 -- the packets from a place on, each received at the core of its place
-abbrev pub replayed : ℕ → ℕ → ℕ → ℕ → List Packet → List Event
+abbrev pub replayed : ℕ → ℕ → ℕ → ℕ → List CapturedPacket → List Event
 replayed cores received floor place [] = []
 replayed cores received floor place (packet ∷ packets) = Rx (place % cores) (received + place + 1) packet floor ∷ replayed cores received floor (place + 1) packets
 

@@ -4,7 +4,7 @@ use Rattle.std.specs.List.{flat_map, list_any}
 use Rattle.std.specs.Map.{lookup}
 use Rattle.std.specs.Str.{bytes_eq}
 use Rattle.bpf_insn.specs.declared.insn.Insn.{Insn}
-use Rattle.pcap_reader.specs.declared.capture.Packet.{Packet}
+use Rattle.pcap_reader.specs.declared.capture.CapturedPacket.{CapturedPacket}
 use Rattle.world_events.specs.declared.event.Event.{Event}
 use Rattle.mk_script.specs.declared.script.Item.{Item}
 use Rattle.mk_script.specs.declared.script.Item.TheVariants.{Ask, Apply}
@@ -15,8 +15,8 @@ pub data Meaning : Type 0 where
   Budgets : List ℕ → Meaning
   -- a name of a program, of a packet or of a capture
   NamedProgram : List ℕ → List Insn → Meaning
-  NamedPacket : List ℕ → Packet → Meaning
-  NamedCapture : List ℕ → List Packet → Meaning
+  NamedPacket : List ℕ → CapturedPacket → Meaning
+  NamedCapture : List ℕ → List CapturedPacket → Meaning
   -- a domain, and the core at which its requests enter from now on
   Home : ℕ → ℕ → Meaning
   Does : Item → Meaning
@@ -35,11 +35,11 @@ abbrev pub programs_in : Meaning → List (List ℕ × List Insn)
 programs_in (NamedProgram name program) = (name, program) ∷ []
 programs_in _ = []
 
-abbrev pub packets_in : Meaning → List (List ℕ × Packet)
+abbrev pub packets_in : Meaning → List (List ℕ × CapturedPacket)
 packets_in (NamedPacket name packet) = (name, packet) ∷ []
 packets_in _ = []
 
-abbrev pub captures_in : Meaning → List (List ℕ × List Packet)
+abbrev pub captures_in : Meaning → List (List ℕ × List CapturedPacket)
 captures_in (NamedCapture name packets) = (name, packets) ∷ []
 captures_in _ = []
 
@@ -79,8 +79,8 @@ pub data Jobs : Type 0 where
 pub record Known : Type 0 where
   pub budgets : List ℕ
   pub programs : List ℕ → Option (List Insn)
-  pub packets : List ℕ → Option Packet
-  pub captures : List ℕ → Option (List Packet)
+  pub packets : List ℕ → Option CapturedPacket
+  pub captures : List ℕ → Option (List CapturedPacket)
   -- of a domain
   pub home : ℕ → ℕ
   -- whether something was done that only a simulation does

@@ -11,7 +11,7 @@ use Rattle.filter_asm.specs.Program.{Assembles}
 use Rattle.filter_asm.specs.Faults.{fault_of}
 use Rattle.pcap_reader.specs.Savefile.{Reads}
 use Rattle.pcap_reader.specs.declared.capture.Header.{Header}
-use Rattle.pcap_reader.specs.declared.capture.Packet.{Packet}
+use Rattle.pcap_reader.specs.declared.capture.CapturedPacket.{CapturedPacket}
 use Rattle.world_events.specs.declared.event.Event.{Event}
 use Rattle.mk_script.specs.declared.fault.BodyFault.{BodyFault}
 use Rattle.mk_script.specs.declared.fault.BodyFault.TheVariants as fault
@@ -143,7 +143,7 @@ abbrev pub HasBadBody : Body → BodyFault → Type 0
 HasBadBody (Digits word) fault.Hex = is_hex word ≡ false
 HasBadBody (Block text) (fault.Asm why) = Assembles text (Err (fault_of why))
 HasBadBody (Decimals text) (fault.Ddd why) = Faults text why
-HasBadBody (File bytes) (fault.Capture why) = (header : Option Header) × (packets : List Packet) × Reads bytes header packets (Some why)
+HasBadBody (File bytes) (fault.Capture why) = (header : Option Header) × (packets : List CapturedPacket) × Reads bytes header packets (Some why)
 HasBadBody body why = ⊥
 
 -- what is asked of a line

@@ -2,7 +2,7 @@
 -- receives it. It doesn't say in which order the cores do things.
 use Rattle.std.specs.Prelude.{◌≡◌, ◌<◌, ◌+◌, ℕ, true, false, List, [], ◌∷◌, Some, length, slice_get}
 use Rattle.std.specs.List.{All, flat_map}
-use Rattle.pcap_reader.specs.declared.capture.Packet.{Packet}
+use Rattle.pcap_reader.specs.declared.capture.CapturedPacket.{CapturedPacket}
 use Rattle.world_events.specs.declared.event.Event.{Event}
 use Rattle.world_events.specs.declared.event.Event.TheVariants.{Rx}
 use Rattle.mk_script.specs.declared.script.Item.{Item}
@@ -26,7 +26,7 @@ received items = flat_map received_in items
 
 -- packets are numbered from 1
 abbrev pub AreNumbered : List Event → Type 0
-AreNumbered events = (k core number floor : ℕ) (packet : Packet) → slice_get events k ≡ Some (Rx core number packet floor) → number ≡ k + 1
+AreNumbered events = (k core number floor : ℕ) (packet : CapturedPacket) → slice_get events k ≡ Some (Rx core number packet floor) → number ≡ k + 1
 
 pub record IsScriptForThreads (script : Script) : Type 0 where
   pub items : All (IsForThreads (length script.budgets)) script.items

@@ -6,7 +6,7 @@ use Rattle.filter_table.specs.declared.operation.StageFault.{StageFault}
 use Rattle.filter_table.specs.declared.operation.StageFault.TheVariants as stage_fault
 use Rattle.filter_table.specs.Staging.{CannotStage}
 use Rattle.table_replica.specs.Shown.{ReplicaState}
-use Rattle.filter_table.specs.Tables.{State, after, made, instructions, instructions_of, Allowed}
+use Rattle.filter_table.specs.Tables.{TableState, after, made, instructions, instructions_of, Allowed}
 use Rattle.filter_table.proofs.Changes.{asks_allowed}
 use Rattle.filter_table.proofs.Tables.{allowed_fits, tests_fit, version-after}
 use Rattle.filter_table.specs.declared.decision.Vote.TheVariants.{Yes, NoMemory}
@@ -16,28 +16,28 @@ use Rattle.monitor_2pc.specs.declared.step.Step.{Step}
 use Rattle.monitor_2pc.specs.Participants.{Casts}
 use Rattle.monitor_2pc.specs.Coordinators.{step}
 
-within : (s : State) (budget : ℕ) → instructions_of s.filters ≤ budget → instructions s ≤ budget
+within : (s : TableState) (budget : ℕ) → instructions_of s.filters ≤ budget → instructions s ≤ budget
 unfolding instructions
 within s budget h = h
 
 -- it was staged
-pub casts_yes : (short : Bool) (s : State) (budget : ℕ) (op : Op) → short ≡ false → Allowed s budget op None → instructions_of s.filters ≤ budget → Casts short s budget op Yes
+pub casts_yes : (short : Bool) (s : TableState) (budget : ℕ) (op : Op) → short ≡ false → Allowed s budget op None → instructions_of s.filters ≤ budget → Casts short s budget op Yes
 casts_yes short s budget op is allowed h = (allowed, allowed_fits s budget op allowed (within s budget h), is)
 
 -- it could be staged, if there were memory
-pub casts_short : (short : Bool) (s : State) (budget : ℕ) (op : Op) → Allowed s budget op None → instructions_of s.filters ≤ budget → Casts short s budget op NoMemory
+pub casts_short : (short : Bool) (s : TableState) (budget : ℕ) (op : Op) → Allowed s budget op None → instructions_of s.filters ≤ budget → Casts short s budget op NoMemory
 casts_short short s budget op allowed h = (asks_allowed s budget op allowed, allowed_fits s budget op allowed (within s budget h))
 
 -- memory was refused
-pub casts_unstaged : (short : Bool) (s : State) (budget : ℕ) (op : Op) (staged : Option Op) (fault : StageFault) → fault ≡ stage_fault.NoMemory → CannotStage s budget op staged fault → instructions_of s.filters ≤ budget → Casts short s budget op NoMemory
+pub casts_unstaged : (short : Bool) (s : TableState) (budget : ℕ) (op : Op) (staged : Option Op) (fault : StageFault) → fault ≡ stage_fault.NoMemory → CannotStage s budget op staged fault → instructions_of s.filters ≤ budget → Casts short s budget op NoMemory
 casts_unstaged short s budget op staged fault is refused h = let r = rw is at refused in (r.1, tests_fit s budget op r.1.passed (within s budget h))
 
 -- what was staged is shown
-pub told_committed : (txn : ℕ) (said : Option Say) (s s' : State) (op : Op) (version : ℕ) (id : Made) → s' ≡ after s op → version ≡ s'.version → id ≡ made s op
+pub told_committed : (txn : ℕ) (said : Option Say) (s s' : TableState) (op : Op) (version : ℕ) (id : Made) → s' ≡ after s op → version ≡ s'.version → id ≡ made s op
     → ◌≡◌ {A = Step} (record { txn = txn; say = said; decided = Some (Committed version id); reply = None }) (step txn said (Some (Committed (s.version + 1) (made s op))))
 told_committed txn said s s' op version id shown v i =
-    let numbered : version ≡ s.version + 1 = v ∙ ap (λ (t : State). t.version) shown ∙ version-after s op in
+    let numbered : version ≡ s.version + 1 = v ∙ ap (λ (t : TableState). t.version) shown ∙ version-after s op in
     rw (numbered, i) refl
 
-pub replica_is : (r : ReplicaState) (budget : ℕ) (shown : State) (staged : Option Op) → r.budget ≡ budget → r.shown ≡ shown → r.staged ≡ staged → r ≡ record { budget = budget; shown = shown; staged = staged }
+pub replica_is : (r : ReplicaState) (budget : ℕ) (shown : TableState) (staged : Option Op) → r.budget ≡ budget → r.shown ≡ shown → r.staged ≡ staged → r ≡ record { budget = budget; shown = shown; staged = staged }
 replica_is r budget shown staged b s t = rw (← b, ← s, ← t) refl

@@ -12,7 +12,7 @@ use Rattle.filter_table.specs.declared.operation.StageFault.{StageFault}
 use Rattle.filter_table.specs.declared.operation.StageFault.TheVariants as stage_fault
 use Rattle.table_replica.specs.Shown.{ReplicaState}
 use Rattle.filter_table.specs.Staging.{CannotStage}
-use Rattle.filter_table.specs.Tables.{State, after, made, Allowed}
+use Rattle.filter_table.specs.Tables.{TableState, after, made, Allowed}
 use Rattle.filter_table.specs.declared.decision.Veto.{Veto}
 use Rattle.filter_table.specs.declared.decision.Decision.{Decision}
 use Rattle.filter_table.specs.declared.decision.Decision.TheVariants.{Committed, Refused}
@@ -63,7 +63,7 @@ keeps last phase waiting asker decided own from at op lent new view above place 
 
 -- Requests that are begun
 
-pub starts_refused : (others : ℕ) (s : State) (budget : ℕ) (op : Op) (staged : Option Op) (fault : StageFault) (place place' : CoordinatorPlace) (why : Veto) (txn : ℕ)
+pub starts_refused : (others : ℕ) (s : TableState) (budget : ℕ) (op : Op) (staged : Option Op) (fault : StageFault) (place place' : CoordinatorPlace) (why : Veto) (txn : ℕ)
     → staged ≡ None → CannotStage s budget op staged fault → place' ≡ place → why ≡ veto_of fault → txn ≡ place.last
     → Starts others s budget place op place' None (record { txn = txn; say = None; decided = Some (Refused 0 why); reply = None })
 starts_refused others s budget op staged stage_fault.AlreadyStaged place place' why txn free cannot same because number = absurd (let h = rw free at cannot in cc)
@@ -80,7 +80,7 @@ CommitsStep txn r told r' =
 abbrev pub placed : ℕ → Phase → Option Op → CoordinatorPlace
 placed last phase staged = record { last = last; phase = phase; staged = staged }
 
-pub starts_alone : (others : ℕ) (s : State) (budget last : ℕ) (op : Op) (place place' : CoordinatorPlace) (r r' : ReplicaState) (told : Step)
+pub starts_alone : (others : ℕ) (s : TableState) (budget last : ℕ) (op : Op) (place place' : CoordinatorPlace) (r r' : ReplicaState) (told : Step)
     → Allowed s budget op None → others ≡ 0 → r.shown ≡ s → r.staged ≡ Some op → last ≡ place.last
     → place' ≡ record { last = last + 1; phase = Idle; staged = r'.staged } → CommitsStep (last + 1) r told r'
     → (committed : Option Op) × Starts others s budget place op place' committed told × (r'.shown ≡ after_commit s committed)
@@ -99,7 +99,7 @@ at_rest Nothing votes acks asker decided idle keeps = keeps
 at_rest Votes votes acks asker decided idle keeps = absurd cc
 at_rest Acks votes acks asker decided idle keeps = absurd cc
 
-no_reply : (others : ℕ) (s : State) (budget : ℕ) (place : CoordinatorPlace) (op : Op) (place' : CoordinatorPlace) (committed : Option Op) (told : Step) → Starts others s budget place op place' committed told → told.reply ≡ None
+no_reply : (others : ℕ) (s : TableState) (budget : ℕ) (place : CoordinatorPlace) (op : Op) (place' : CoordinatorPlace) (committed : Option Op) (told : Step) → Starts others s budget place op place' committed told → told.reply ≡ None
 no_reply others s budget place op place' committed told (refused fault allowed same none tells) = ap (λ (t : Step). t.reply) tells
 no_reply others s budget place op place' committed told (unstaged passed same none tells) = ap (λ (t : Step). t.reply) tells
 no_reply others s budget place op place' committed told (alone allowed one same none tells) = ap (λ (t : Step). t.reply) tells
@@ -112,7 +112,7 @@ left waiting asker = record { waiting = waiting; asker = asker; decided = None }
 abbrev pub replying : Step → Option (ℕ × Decision) → Step
 replying begun reply = record begun { reply = reply }
 
-starts_for : (s : State) (budget last : ℕ) (phase : Phase) (waiting lent taken : List (Option Op)) (asker : Option ℕ) (decided : Option Decision) (own : CoordinatorState) (staged : Option Op) (from at : ℕ) (op : Op) (place' : CoordinatorPlace) (requests' : Requests) (committed : Option Op) (begun told : Step)
+starts_for : (s : TableState) (budget last : ℕ) (phase : Phase) (waiting lent taken : List (Option Op)) (asker : Option ℕ) (decided : Option Decision) (own : CoordinatorState) (staged : Option Op) (from at : ℕ) (op : Op) (place' : CoordinatorPlace) (requests' : Requests) (committed : Option Op) (begun told : Step)
     → shown_by last phase waiting asker decided ≡ own → 0 < from → at ≡ from → lent ≡ waiting
     → slice_get lent (at - 1) ≡ Some (Some op) → taken ≡ slice_set lent (at - 1) None
     → Starts (length (refill (length waiting) waiting taken)) s budget (placed last phase staged) op place' committed begun
@@ -136,16 +136,16 @@ starts_for s budget last phase waiting lent taken asker decided own staged from 
     (at - 1, entry_is, subst (λ (o : CoordinatorState). StartsFor o.others s budget (coordinator_place o staged) o.requests (at - 1) place' requests' committed told) view for_fields)
 
 -- what begin tells, of core 0 whose waiting list lacks the operation already
-abbrev pub Begins : State → ℕ → ℕ → Phase → List (Option Op) → Option Op → Op → CoordinatorState → Option Op → Step → State → Type 0
+abbrev pub Begins : TableState → ℕ → ℕ → Phase → List (Option Op) → Option Op → Op → CoordinatorState → Option Op → Step → TableState → Type 0
 Begins s budget last phase waiting staged op new staged' begun shown' =
     (committed : Option Op) × Starts (length waiting) s budget (placed last phase staged) op (coordinator_place new staged') committed begun × (shown' ≡ after_commit s committed)
 
-abbrev pub StartsForSome : State → ℕ → CoordinatorState → Option Op → ℕ → CoordinatorState → Option Op → Step → State → Type 0
+abbrev pub StartsForSome : TableState → ℕ → CoordinatorState → Option Op → ℕ → CoordinatorState → Option Op → Step → TableState → Type 0
 StartsForSome s budget own staged from own' staged' told shown' =
     (entry : ℕ) × (committed : Option Op) × (from ≡ suc entry) × StartsFor own.others s budget (coordinator_place own staged) own.requests entry (coordinator_place own' staged') own'.requests committed told × (shown' ≡ after_commit s committed)
 
 -- a decision at once goes to the core
-pub starts_for_decided : (s : State) (budget last : ℕ) (wait : Wait) (votes : List (Option Vote)) (acks : List Bool) (waiting lent taken : List (Option Op)) (asker : Option ℕ) (decided : Option Decision) (own new own' : CoordinatorState) (staged staged' : Option Op) (from at : ℕ) (op : Op) (begun told : Step) (shown' : State) (decision : Decision)
+pub starts_for_decided : (s : TableState) (budget last : ℕ) (wait : Wait) (votes : List (Option Vote)) (acks : List Bool) (waiting lent taken : List (Option Op)) (asker : Option ℕ) (decided : Option Decision) (own new own' : CoordinatorState) (staged staged' : Option Op) (from at : ℕ) (op : Op) (begun told : Step) (shown' : TableState) (decision : Decision)
     → shown_by last (phase_of wait votes acks) waiting asker decided ≡ own → own.phase ≡ Idle → KeepsDecided wait asker decided → 0 < from → at ≡ from → lent ≡ waiting
     → slice_get lent (at - 1) ≡ Some (Some op) → taken ≡ slice_set lent (at - 1) None
     → Begins s budget last (phase_of wait votes acks) (refill (length waiting) waiting taken) staged op new staged' begun shown'
@@ -159,7 +159,7 @@ starts_for_decided s budget last wait votes acks waiting lent taken asker decide
     subst (λ (o : CoordinatorState). StartsForSome s budget own staged from o staged' told shown') (sym is) (r.0, begins.0, r.1, r.2, begins.2)
 
 -- else the operation is under way for it
-pub starts_for_asked : (s : State) (budget last : ℕ) (wait : Wait) (votes : List (Option Vote)) (acks : List Bool) (waiting lent taken : List (Option Op)) (asker : Option ℕ) (decided : Option Decision) (own new own' : CoordinatorState) (staged staged' : Option Op) (from at : ℕ) (op : Op) (begun told : Step) (shown' : State)
+pub starts_for_asked : (s : TableState) (budget last : ℕ) (wait : Wait) (votes : List (Option Vote)) (acks : List Bool) (waiting lent taken : List (Option Op)) (asker : Option ℕ) (decided : Option Decision) (own new own' : CoordinatorState) (staged staged' : Option Op) (from at : ℕ) (op : Op) (begun told : Step) (shown' : TableState)
     (last2 : ℕ) (phase2 : Phase) (waiting2 : List (Option Op)) (asker2 : Option ℕ) (decided2 : Option Decision)
     → shown_by last (phase_of wait votes acks) waiting asker decided ≡ own → own.phase ≡ Idle → KeepsDecided wait asker decided → 0 < from → at ≡ from → lent ≡ waiting
     → slice_get lent (at - 1) ≡ Some (Some op) → taken ≡ slice_set lent (at - 1) None
@@ -180,7 +180,7 @@ starts_for_asked s budget last wait votes acks waiting lent taken asker decided 
     (r.0, begins.0, r.1, subst (λ (p : CoordinatorPlace). StartsFor own.others s budget (coordinator_place own staged) own.requests r.0 p (record { waiting = waiting2; asker = Some from; decided = decided2 }) begins.0 told) place_is r.2, begins.2)
 
 -- where nothing is decided, core 0 waits for votes, and for no other core than before
-asking : (others : ℕ) (s : State) (budget : ℕ) (place : CoordinatorPlace) (op : Op) (place' : CoordinatorPlace) (committed : Option Op) (told : Step) → Starts others s budget place op place' committed told → told.decided ≡ None → place'.phase ≡ Voting (replicate others None)
+asking : (others : ℕ) (s : TableState) (budget : ℕ) (place : CoordinatorPlace) (op : Op) (place' : CoordinatorPlace) (committed : Option Op) (told : Step) → Starts others s budget place op place' committed told → told.decided ≡ None → place'.phase ≡ Voting (replicate others None)
 asking others s budget place op place' committed told (refused fault allowed same none tells) e = absurd (let x = ap (λ (t : Step). t.decided) tells in cc)
 asking others s budget place op place' committed told (unstaged passed same none tells) e = absurd (let x = ap (λ (t : Step). t.decided) tells in cc)
 asking others s budget place op place' committed told (alone allowed one same none tells) e = absurd (let x = ap (λ (t : Step). t.decided) tells in cc)
@@ -191,7 +191,7 @@ voting_keeps Nothing votes vs acks asker asker' decided e k = absurd cc
 voting_keeps Votes votes vs acks asker asker' decided e k = k
 voting_keeps Acks votes vs acks asker asker' decided e k = k
 
-pub asked_keeps : (others : ℕ) (s : State) (budget : ℕ) (place : CoordinatorPlace) (op : Op) (own : CoordinatorState) (staged committed : Option Op) (told : Step) (last : ℕ) (wait : Wait) (votes : List (Option Vote)) (acks : List Bool) (waiting : List (Option Op)) (asker asker' : Option ℕ) (decided : Option Decision)
+pub asked_keeps : (others : ℕ) (s : TableState) (budget : ℕ) (place : CoordinatorPlace) (op : Op) (own : CoordinatorState) (staged committed : Option Op) (told : Step) (last : ℕ) (wait : Wait) (votes : List (Option Vote)) (acks : List Bool) (waiting : List (Option Op)) (asker asker' : Option ℕ) (decided : Option Decision)
     → Starts others s budget place op (coordinator_place own staged) committed told → told.decided ≡ None → shown_by last (phase_of wait votes acks) waiting asker decided ≡ own → KeepsDecided wait asker decided → KeepsDecided wait asker' decided
 asked_keeps others s budget place op own staged committed told last wait votes acks waiting asker asker' decided starts none view keeps =
     voting_keeps wait votes (replicate others None) acks asker asker' decided (ap (λ (o : CoordinatorState). o.phase) view ∙ asking others s budget place op (coordinator_place own staged) committed told starts none) keeps

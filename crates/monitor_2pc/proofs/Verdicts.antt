@@ -2,7 +2,7 @@
 use Rattle.std.proofs.Common.{◌≡◌, ◌≢◌, ◌<◌, ◌≤◌, ◌-◌, cond, ℕ, suc, Bool, true, false, Option, Some, None, List, [], ◌∷◌, length, slice_get, slice_set, refl, ap, subst, ◌∙◌, arith}
 use Rattle.std.specs.List.{list_all}
 use Rattle.filter_table.specs.declared.operation.Op.{Op}
-use Rattle.filter_table.specs.Tables.{State}
+use Rattle.filter_table.specs.Tables.{TableState}
 use Rattle.filter_table.specs.declared.decision.Vote.{Vote}
 use Rattle.filter_table.specs.declared.decision.Vote.TheVariants.{Yes}
 use Rattle.monitor_2pc.specs.declared.step.Say.{Say}
@@ -21,7 +21,7 @@ SaysBelow votes n Abort = ((k : ℕ) × (v : Vote) × (slice_get votes k ≡ Som
 SaysBelow votes n Prepare = ⊥
 
 -- it is what is told once they are there
-pub says_told : (s : State) (last : ℕ) (op : Op) (votes : List (Option Vote)) (place : CoordinatorPlace) (committed : Option Op) (told : Step) (said : Option Say) → Tallies s last op votes place committed told → SaysOn votes said → told.say ≡ said
+pub says_told : (s : TableState) (last : ℕ) (op : Op) (votes : List (Option Vote)) (place : CoordinatorPlace) (committed : Option Op) (told : Step) (said : Option Say) → Tallies s last op votes place committed told → SaysOn votes said → told.say ≡ said
 says_told s last op votes place committed told None (waits i at p c t) h = ap (λ (x : Step). x.say) t
 says_told s last op votes place committed told None (commits_all all p c t) h = absurd (let e = all h.0 None h.1 in cc)
 says_told s last op votes place committed told None (aborts_all core against least full p c t) h = absurd (full h.0 h.1)

@@ -4,7 +4,7 @@ use Rattle.std.specs.List.{refill}
 use Rattle.std.proofs.lemmas.List.{length-set}
 use Rattle.filter_table.specs.declared.operation.Op.{Op}
 use Rattle.table_replica.specs.Shown.{ReplicaState}
-use Rattle.filter_table.specs.Tables.{State, after, made}
+use Rattle.filter_table.specs.Tables.{TableState, after, made}
 use Rattle.filter_table.specs.declared.decision.Vote.{Vote}
 use Rattle.filter_table.specs.declared.decision.Decision.{Decision}
 use Rattle.filter_table.specs.declared.decision.Decision.TheVariants.{Committed, Refused}
@@ -34,7 +34,7 @@ undecided wait waiting last phase asker decided own is keeps view =
     subst (λ (o : CoordinatorState). (shown_by last phase waiting asker decided).requests ≡ with_decided o.requests None) view (rw none refl)
 
 -- the vote of a core is heard, and the replica shows then what was committed
-abbrev pub HeardVote : State → CoordinatorState → Option Op → ℕ → ℕ → Vote → CoordinatorPlace → Step → State → Type 0
+abbrev pub HeardVote : TableState → CoordinatorState → Option Op → ℕ → ℕ → Vote → CoordinatorPlace → Step → TableState → Type 0
 HeardVote s own staged from txn v place' told shown' =
     (entry : ℕ) × (committed : Option Op) × (from ≡ suc entry) × Hears s (coordinator_place own staged) entry txn v place' committed told × (shown' ≡ after_commit s committed)
 
@@ -55,7 +55,7 @@ pub record PutIn (own : CoordinatorState) (staged : Option Op) (from at txn : �
 phase_is : (last : ℕ) (wait : Wait) (votes : List (Option Vote)) (acks : List Bool) (waiting : List (Option Op)) (asker : Option ℕ) (decided : Option Decision) (own : CoordinatorState) → shown_by last (phase_of wait votes acks) waiting asker decided ≡ own → wait ≡ Votes → own.phase ≡ Voting votes
 phase_is last wait votes acks waiting asker decided own view is = sym (ap (λ (o : CoordinatorState). o.phase) view) ∙ ap (λ (w : Wait). phase_of w votes acks) is
 
-hears : (s : State) (own : CoordinatorState) (staged : Option Op) (from at txn : ℕ) (v : Vote) (last : ℕ) (wait : Wait) (votes lent new : List (Option Vote)) (acks : List Bool) (waiting : List (Option Op)) (asker : Option ℕ) (decided : Option Decision) (tally : Tally) (place' : CoordinatorPlace) (committed : Option Op) (told : Step) (shown' : State) (op : Op)
+hears : (s : TableState) (own : CoordinatorState) (staged : Option Op) (from at txn : ℕ) (v : Vote) (last : ℕ) (wait : Wait) (votes lent new : List (Option Vote)) (acks : List Bool) (waiting : List (Option Op)) (asker : Option ℕ) (decided : Option Decision) (tally : Tally) (place' : CoordinatorPlace) (committed : Option Op) (told : Step) (shown' : TableState) (op : Op)
     → PutIn own staged from at txn v last wait votes lent new acks waiting asker decided tally → staged ≡ Some op
     → Tallies s txn op (slice_set votes (at - 1) (Some v)) place' committed told → shown' ≡ after_commit s committed
     → HeardVote s own staged from txn v place' told shown'
@@ -84,7 +84,7 @@ votes_then own staged from at txn v last wait votes lent new acks waiting asker 
 open_place : (last txn : ℕ) (wait : Wait) (full now : List (Option Vote)) (acks : List Bool) (staged : Option Op) (op : Op) → full ≡ now → wait ≡ Votes → txn ≡ last → staged ≡ Some op → placed last (phase_of wait full acks) staged ≡ placed txn (Voting now) (Some op)
 open_place last txn wait full now acks staged op f w n o = rw (f, w, n, o) refl
 
-pub heard_open : (s : State) (own : CoordinatorState) (staged : Option Op) (from at txn : ℕ) (v : Vote) (last : ℕ) (wait : Wait) (votes lent new : List (Option Vote)) (acks : List Bool) (waiting : List (Option Op)) (asker : Option ℕ) (decided : Option Decision)
+pub heard_open : (s : TableState) (own : CoordinatorState) (staged : Option Op) (from at txn : ℕ) (v : Vote) (last : ℕ) (wait : Wait) (votes lent new : List (Option Vote)) (acks : List Bool) (waiting : List (Option Op)) (asker : Option ℕ) (decided : Option Decision)
     → PutIn own staged from at txn v last wait votes lent new acks waiting asker decided Open
     → HeardVote s own staged from txn v (placed last (phase_of wait (refill (length votes) votes new) acks) staged) (step txn None None) s
 heard_open s own staged from at txn v last wait votes lent new acks waiting asker decided put =
@@ -109,7 +109,7 @@ decided_place last txn at v wait votes new acks waiting asker decided own' stage
     let size : length (slice_set votes (at - 1) (Some v)) ≡ length waiting = length-set votes (at - 1) (Some v) ∙ many in
     rw (is, none, size, number) refl
 
-pub heard_all : (s : State) (own : CoordinatorState) (staged : Option Op) (from at txn : ℕ) (v : Vote) (last : ℕ) (wait : Wait) (votes lent new : List (Option Vote)) (acks : List Bool) (waiting : List (Option Op)) (asker : Option ℕ) (decided : Option Decision) (own' : CoordinatorState) (r r' : ReplicaState) (told : Step)
+pub heard_all : (s : TableState) (own : CoordinatorState) (staged : Option Op) (from at txn : ℕ) (v : Vote) (last : ℕ) (wait : Wait) (votes lent new : List (Option Vote)) (acks : List Bool) (waiting : List (Option Op)) (asker : Option ℕ) (decided : Option Decision) (own' : CoordinatorState) (r r' : ReplicaState) (told : Step)
     → PutIn own staged from at txn v last wait votes lent new acks waiting asker decided AllYes
     → r.shown ≡ s → r.staged ≡ staged
     → ((op : Op) × (r.staged ≡ Some op) × (told ≡ step txn (Some Commit) (Some (Committed (r.shown.version + 1) (made r.shown op)))) × (r' ≡ record { budget = r.budget; shown = after r.shown op; staged = None }))
@@ -124,7 +124,7 @@ heard_all s own staged from at txn v last wait votes lent new acks waiting asker
     hears s own staged from at txn v last wait votes lent new acks waiting asker decided AllYes _ (Some commits.0) told r'.shown commits.0 put (sym on ∙ commits.1)
     (commits_all all (decided_place last txn at v wait votes new acks waiting asker decided own' r'.staged told.decided put.number put.as_many is gone) refl tells) new_shown
 
-pub heard_against : (s : State) (own : CoordinatorState) (staged : Option Op) (from at txn : ℕ) (v : Vote) (last : ℕ) (wait : Wait) (votes lent new : List (Option Vote)) (acks : List Bool) (waiting : List (Option Op)) (asker : Option ℕ) (decided : Option Decision) (own' : CoordinatorState) (r r' : ReplicaState) (told : Step) (core : ℕ) (against : Vote)
+pub heard_against : (s : TableState) (own : CoordinatorState) (staged : Option Op) (from at txn : ℕ) (v : Vote) (last : ℕ) (wait : Wait) (votes lent new : List (Option Vote)) (acks : List Bool) (waiting : List (Option Op)) (asker : Option ℕ) (decided : Option Decision) (own' : CoordinatorState) (r r' : ReplicaState) (told : Step) (core : ℕ) (against : Vote)
     → PutIn own staged from at txn v last wait votes lent new acks waiting asker decided (Against core against)
     → r.shown ≡ s → told ≡ step txn (Some Abort) (Some (Refused core (veto_by against))) → r' ≡ record r { staged = None }
     → own' ≡ deciding (between last wait votes new acks waiting asker decided) told.decided

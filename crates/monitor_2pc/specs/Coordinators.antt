@@ -6,7 +6,7 @@ use Rattle.std.proofs.Common.{replicate}
 use Rattle.filter_table.specs.declared.operation.Op.{Op}
 use Rattle.filter_table.specs.declared.operation.StageFault.{StageFault}
 use Rattle.filter_table.specs.declared.operation.StageFault.TheVariants as stage_fault
-use Rattle.filter_table.specs.Tables.{State, made, Allowed}
+use Rattle.filter_table.specs.Tables.{TableState, made, Allowed}
 use Rattle.filter_table.specs.Staging.{AsksForMemory}
 use Rattle.filter_table.specs.declared.decision.Vote.{Vote}
 use Rattle.filter_table.specs.declared.decision.Vote.TheVariants as vote
@@ -75,7 +75,7 @@ step txn said decided = record { txn = txn; say = said; decided = decided; reply
 
 -- With so many other cores, this table and this budget, a start may lead from this place to that one, commit the
 -- operation or nothing, and tell this step.
-pub data Starts (others : ℕ) (s : State) (budget : ℕ) (place : CoordinatorPlace) (op : Op) (place' : CoordinatorPlace) (committed : Option Op) (told : Step) : Type 0 where
+pub data Starts (others : ℕ) (s : TableState) (budget : ℕ) (place : CoordinatorPlace) (op : Op) (place' : CoordinatorPlace) (committed : Option Op) (told : Step) : Type 0 where
   -- refused by the first rule that stands
   refused : (fault : StageFault) → Allowed s budget op (Some fault)
       → place' ≡ place → committed ≡ None → told ≡ step place.last None (Some (Refused 0 (veto_of fault)))
@@ -107,7 +107,7 @@ asker_after core None = Some core
 asker_after core (Some decision) = None
 
 -- The operation that the core with this entry has waiting leaves the waiting list and is begun as any other.
-pub record StartsFor (others : ℕ) (s : State) (budget : ℕ) (place : CoordinatorPlace) (requests : Requests) (entry : ℕ) (place' : CoordinatorPlace) (requests' : Requests) (committed : Option Op) (told : Step) : Type 0 where
+pub record StartsFor (others : ℕ) (s : TableState) (budget : ℕ) (place : CoordinatorPlace) (requests : Requests) (entry : ℕ) (place' : CoordinatorPlace) (requests' : Requests) (committed : Option Op) (told : Step) : Type 0 where
   pub op : Op
   pub is_waiting : slice_get requests.waiting entry ≡ Some (Some op)
   pub begun : Step
@@ -133,7 +133,7 @@ pub record LeastNo (votes : List (Option Vote)) (core : ℕ) (against : Vote) : 
   pub yes_before : (i : ℕ) → i < entry → slice_get votes i ≡ Some (Some vote.Yes)
 
 -- What is done once these votes are there: wait for the rest, commit where all are Yes, or abort.
-pub data Tallies (s : State) (last : ℕ) (op : Op) (votes : List (Option Vote)) (place' : CoordinatorPlace) (committed : Option Op) (told : Step) : Type 0 where
+pub data Tallies (s : TableState) (last : ℕ) (op : Op) (votes : List (Option Vote)) (place' : CoordinatorPlace) (committed : Option Op) (told : Step) : Type 0 where
   waits : (i : ℕ) → slice_get votes i ≡ Some None
       → place' ≡ record { last = last; phase = Voting votes; staged = Some op } → committed ≡ None
       → told ≡ step last None None
@@ -152,7 +152,7 @@ abbrev pub with_decided : Requests → Option Decision → Requests
 with_decided requests decided = record { waiting = requests.waiting; asker = requests.asker; decided = decided }
 
 -- a vote of the core with this entry is taken, the first on this number
-pub record Hears (s : State) (place : CoordinatorPlace) (entry txn : ℕ) (v : Vote) (place' : CoordinatorPlace) (committed : Option Op) (told : Step) : Type 0 where
+pub record Hears (s : TableState) (place : CoordinatorPlace) (entry txn : ℕ) (v : Vote) (place' : CoordinatorPlace) (committed : Option Op) (told : Step) : Type 0 where
   pub votes : List (Option Vote)
   pub op : Op
   pub voting : place.phase ≡ Voting votes

@@ -4,7 +4,7 @@ use Rattle.std.specs.Prelude.{◌≡◌, ◌+◌, ◌<◌, ◌≤◌, ℕ, Bool,
 use Rattle.filter_table.specs.declared.operation.Op.{Op}
 use Rattle.filter_table.specs.declared.operation.OpFault.{OpFault}
 use Rattle.filter_table.specs.declared.operation.StageFault.TheVariants.{Rule, Budget}
-use Rattle.filter_table.specs.Tables.{State, after, instructions, Allowed}
+use Rattle.filter_table.specs.Tables.{TableState, after, instructions, Allowed}
 use Rattle.filter_table.specs.Staging.{AsksForMemory}
 use Rattle.monitor_messages.specs.declared.message.Message.{Message}
 use Rattle.monitor_messages.specs.declared.message.Message.TheVariants as message
@@ -38,7 +38,7 @@ StagedByVote v staged = staged ≡ None
 -- A core with this table and budget may cast the vote: Budget exactly where the instructions would exceed the budget, else Yes
 -- or NoMemory. Where `short` is true it has no memory for the operation; where it is false, memory may still be refused to it.
 -- An operation that a rule refuses gets no vote (where memory is refused, the words of its program are not looked at).
-abbrev pub Casts : Bool → State → ℕ → Op → Vote → Type 0
+abbrev pub Casts : Bool → TableState → ℕ → Op → Vote → Type 0
 Casts short s budget op vote.Yes = Allowed s budget op None × (instructions (after s op) ≤ budget) × (short ≡ false)
 Casts short s budget op vote.Budget = Allowed s budget op (Some Budget) × (budget < instructions (after s op))
 Casts short s budget op vote.NoMemory = AsksForMemory s budget op × (instructions (after s op) ≤ budget)
@@ -49,7 +49,7 @@ staged_by vote.Yes op = Some op
 staged_by v op = None
 
 -- the message is the one that comes next
-abbrev pub Fits : State → ℕ → ParticipantPlace → Message → Type 0
+abbrev pub Fits : TableState → ℕ → ParticipantPlace → Message → Type 0
 Fits s budget place (message.Prepare txn op) =
     (place.voted ≡ None) × (txn ≡ place.last + 1) × ((fault : OpFault) → Allowed s budget op (Some (Rule fault)) → ⊥)
 Fits s budget place (message.Commit txn) = (place.voted ≡ Some vote.Yes) × (txn ≡ place.last)
@@ -57,7 +57,7 @@ Fits s budget place (message.Abort txn) = IsSome place.voted × (txn ≡ place.l
 Fits s budget place m = ⊥
 
 -- from this place the message may lead to that place and be answered so
-abbrev pub Answers : Bool → State → ℕ → ParticipantPlace → Message → ParticipantPlace → Message → Type 0
+abbrev pub Answers : Bool → TableState → ℕ → ParticipantPlace → Message → ParticipantPlace → Message → Type 0
 Answers short s budget place (message.Prepare txn op) place' (message.Vote txn' v) =
     (place.voted ≡ None) × (txn ≡ place.last + 1) × Casts short s budget op v
     × (place' ≡ record { last = txn; voted = Some v; staged = staged_by v op }) × (txn' ≡ txn)

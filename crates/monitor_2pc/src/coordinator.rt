@@ -3,7 +3,7 @@
 ghost use Rattle.std.specs.Prelude.{◌≡◌, ◌+◌, ◌-◌, ◌<◌, ◌≤◌, ◌↔◌, ℕ, suc, true, false, Option, None, Some, IsSome, IsTrue, IsFalse, IfOk, IfErr, OnOk, OnErr, IfSome, OnSome, IfNone, slice_get, slice_set};
 ghost use Rattle.std.proofs.Common.{replicate};
 ghost use Rattle.filter_table.specs.declared.operation.Op.{Op as GhostOp};
-ghost use Rattle.filter_table.specs.Tables.{State as GhostState, after, made};
+ghost use Rattle.filter_table.specs.Tables.{TableState as GhostState, after, made};
 ghost use Rattle.monitor_2pc.specs.declared.step.Step.{Step as GhostStep};
 ghost use Rattle.filter_table.specs.declared.decision.Decision.TheVariants.{Committed, Refused};
 ghost use Rattle.monitor_2pc.specs.declared.step.Say.TheVariants.{Abort};

@@ -1,7 +1,7 @@
 -- What is answered is all that the bytes hold.
 use Rattle.std.proofs.Common.{◌≡◌, ◌≢◌, ℕ, ◌<◌, ◌⊎◌, List, [], ◌++◌, All, refl, sym, inl, inr, Option, Some, None, Result, Ok, Err}
 use Rattle.pcap_reader.specs.declared.capture.Header.{Header}
-use Rattle.pcap_reader.specs.declared.capture.Packet.{Packet}
+use Rattle.pcap_reader.specs.declared.capture.CapturedPacket.{CapturedPacket}
 use Rattle.pcap_reader.specs.declared.capture.Capture.{Capture}
 use Rattle.pcap_reader.specs.declared.capture.Stop.{Stop}
 use Rattle.pcap_reader.specs.declared.capture.CaptureFault.{CaptureFault}
@@ -21,7 +21,7 @@ gives_only bs (Ok capture) small (inr front) h ks f reads = absurd front
 gives_only bs (Err stop) small (inr front) h ks f reads =
     let begins = has_fronts bs small stop.header h stop.before ks f front.1 reads in inr (front.0, begins.0, begins.1, begins.2)
 
-open_end : (fed : List ℕ) (h : Header) (packets : List Packet) (offset : ℕ) (part : List ℕ) → Keeps fed h packets offset part → part ≡ [] → Reads fed (Some h) packets None
+open_end : (fed : List ℕ) (h : Header) (packets : List CapturedPacket) (offset : ℕ) (part : List ℕ) → Keeps fed h packets offset part → part ≡ [] → Reads fed (Some h) packets None
 open_end fed h packets offset part keeps none = record {
   head = keeps.head;
   records = keeps.records;
@@ -32,7 +32,7 @@ open_end fed h packets offset part keeps none = record {
   ends = none;
 }
 
-open_part : (fed : List ℕ) (h : Header) (packets : List Packet) (offset : ℕ) (part : List ℕ) → Keeps fed h packets offset part → IsPart h.big part → Reads fed (Some h) packets (Some (TruncatedRecord offset))
+open_part : (fed : List ℕ) (h : Header) (packets : List CapturedPacket) (offset : ℕ) (part : List ℕ) → Keeps fed h packets offset part → IsPart h.big part → Reads fed (Some h) packets (Some (TruncatedRecord offset))
 open_part fed h packets offset part keeps half = record {
   head = keeps.head;
   records = keeps.records;
@@ -47,8 +47,8 @@ not_lasting : (f g : CaptureFault) → Some f ≡ Some g → ¬ (IsLasting f) �
 not_lasting f g same brief = let e : f ≡ g = cc in rw e at brief
 
 -- no fault that stands whatever follows is in what an open feed was fed
-open_tells : (fed : List ℕ) (header : Option Header) (packets : List Packet) (offset : ℕ) (part : List ℕ) → All (λ b. b < 256) fed → IsOpen fed header packets offset part
-    → (h : Option Header) (ks : List Packet) (f : CaptureFault) → Reads fed h ks (Some f) → ¬ (IsLasting f)
+open_tells : (fed : List ℕ) (header : Option Header) (packets : List CapturedPacket) (offset : ℕ) (part : List ℕ) → All (λ b. b < 256) fed → IsOpen fed header packets offset part
+    → (h : Option Header) (ks : List CapturedPacket) (f : CaptureFault) → Reads fed h ks (Some f) → ¬ (IsLasting f)
 open_tells fed None packets offset part small was h ks f reads =
     let one = one_reading fed small None h [] ks (Some TruncatedHeader) (Some f) (refl, was.3) reads in
     not_lasting TruncatedHeader f one.2 (λ lasting. lasting)
@@ -59,7 +59,7 @@ open_tells fed (Some k) packets offset part small was h ks f reads = elim was.1 
       not_lasting (TruncatedRecord offset) f one.2 (λ lasting. lasting)
 ]
 
-pub tells : (given : List Packet) (fed : List ℕ) (feed : Feed) (r : Result (Unit {0}) CaptureFault) → HoldsBehind given fed feed → Says feed.fault r → Tells fed r
+pub tells : (given : List CapturedPacket) (fed : List ℕ) (feed : Feed) (r : Result (Unit {0}) CaptureFault) → HoldsBehind given fed feed → Says feed.fault r → Tells fed r
 tells given fed feed (Ok done) held says = open_tells fed feed.header (given ++ feed.packets.items) feed.offset feed.part.items held.0 (rw says at held.1)
 tells given fed feed (Err f) held says = stopped_tells (rw says at held.1) where
   stopped_tells : BehindAt given fed feed (Some f) → Tells fed (Err f)

@@ -7,7 +7,7 @@ use Rattle.std.proofs.lemmas.Bool.Decides.{eqb_tells}
 use Rattle.std.proofs.lemmas.List.Folds.{concat-append}
 use Rattle.std.proofs.lemmas.List.Elements.{All-append, All-from_get_or}
 use Rattle.pcap_reader.specs.declared.capture.Header.{Header}
-use Rattle.pcap_reader.specs.declared.capture.Packet.{Packet}
+use Rattle.pcap_reader.specs.declared.capture.CapturedPacket.{CapturedPacket}
 use Rattle.pcap_reader.specs.declared.capture.CaptureFault.{CaptureFault}
 use Rattle.pcap_reader.specs.declared.capture.CaptureFault.TheVariants.{TruncatedHeader, NoMemory}
 use Rattle.pcap_reader.specs.Savefile.{number, captured, IsHeader, IsRecord, IsPart, HasNoHeader, ReadsFront, IsLasting}
@@ -28,17 +28,17 @@ concat-push : (xs : List (List ℕ)) (x : List ℕ) → concat (xs ++ x ∷ []) 
 concat-push xs x = concat-append xs (x ∷ []) ∙ ap (λ t. concat xs ++ t) (append-nil x)
 
 -- a header that is wrong
-pub bad_header : (fed part : List ℕ) (header : Option Header) (packets : List Packet) (offset : ℕ) (f : CaptureFault) → header ≡ None → IsGrownTo fed header packets offset part → IsLasting f → HasNoHeader part f → HasStopped fed header packets f
+pub bad_header : (fed part : List ℕ) (header : Option Header) (packets : List CapturedPacket) (offset : ℕ) (f : CaptureFault) → header ≡ None → IsGrownTo fed header packets offset part → IsLasting f → HasNoHeader part f → HasStopped fed header packets f
 bad_header fed part None packets offset f none grown lasting wrong = inl (lasting, (grown.1, rw (sym grown.0) wrong))
 bad_header fed part (Some h) packets offset f none grown lasting wrong = absurd (cc)
 
 -- a part of a header is short of one
-pub grown_header : (fed part : List ℕ) (header : Option Header) (packets : List Packet) (offset : ℕ) → header ≡ None → IsGrownTo fed header packets offset part → length part ≤ 24
+pub grown_header : (fed part : List ℕ) (header : Option Header) (packets : List CapturedPacket) (offset : ℕ) → header ≡ None → IsGrownTo fed header packets offset part → length part ≤ 24
 grown_header fed part None packets offset none grown = grown.3
 grown_header fed part (Some h) packets offset none grown = absurd (cc)
 
 -- a header that is whole
-pub good_header : (fed part part' : List ℕ) (header : Option Header) (packets : List Packet) (offset : ℕ) (h : Header) → header ≡ None → IsGrownTo fed header packets offset part → IsHeader part h → part' ≡ [] → IsOpen fed (Some h) packets offset part'
+pub good_header : (fed part part' : List ℕ) (header : Option Header) (packets : List CapturedPacket) (offset : ℕ) (h : Header) → header ≡ None → IsGrownTo fed header packets offset part → IsHeader part h → part' ≡ [] → IsOpen fed (Some h) packets offset part'
 good_header fed part part' None packets offset h none grown good empty = (
   record {
     head = part;
@@ -53,7 +53,7 @@ good_header fed part part' None packets offset h none grown good empty = (
 good_header fed part part' (Some k) packets offset h none grown good empty = absurd (cc)
 
 -- a record that is whole
-pub good_record : (fed part part' : List ℕ) (header : Option Header) (packets packets' : List Packet) (offset offset' n : ℕ) (h : Header) (p : Packet)
+pub good_record : (fed part part' : List ℕ) (header : Option Header) (packets packets' : List CapturedPacket) (offset offset' n : ℕ) (h : Header) (p : CapturedPacket)
     → header ≡ Some h → IsGrownTo fed header packets offset part → IsWhole h.big part n → IsPacket h.big part p
     → packets' ≡ packets ++ p ∷ [] → (offset + (16 + n) < 18446744073709551616 → offset' ≡ offset + (16 + n)) → length fed < 18446744073709551616 → part' ≡ []
     → IsOpen fed header packets' offset' part'
@@ -88,11 +88,11 @@ good_record fed part part' (Some k) packets packets' offset offset' n h p is gro
     )
 
 -- an error that was handed on
-pub handed_on : (given : List Packet) (fed : List ℕ) (feed : Feed) (r : Result (Unit {0}) CaptureFault) (f : CaptureFault) → IsErrAnd r (λ g. g ≡ f) → BehindAt given fed feed (Some f) → GoesOn given fed feed r
+pub handed_on : (given : List CapturedPacket) (fed : List ℕ) (feed : Feed) (r : Result (Unit {0}) CaptureFault) (f : CaptureFault) → IsErrAnd r (λ g. g ≡ f) → BehindAt given fed feed (Some f) → GoesOn given fed feed r
 handed_on given fed feed (Ok _) f handed stopped = absurd handed
 handed_on given fed feed (Err g) f handed stopped = rw handed stopped
 
-kept_front : (fed : List ℕ) (h : Header) (packets : List Packet) (offset : ℕ) (part : List ℕ) → Keeps fed h packets offset part → ReadsFront fed (Some h) packets
+kept_front : (fed : List ℕ) (h : Header) (packets : List CapturedPacket) (offset : ℕ) (part : List ℕ) → Keeps fed h packets offset part → ReadsFront fed (Some h) packets
 kept_front fed h packets offset part keeps = inr (
   keeps.head ++ concat keeps.records,
   part,
@@ -121,12 +121,12 @@ grown_part big part piece n (inr half) (inr long) some few = elim half.1 [
 ]
 
 -- what an open feed has read is read of a front
-pub open_front : (fed : List ℕ) (header : Option Header) (packets : List Packet) (offset : ℕ) (part : List ℕ) → IsOpen fed header packets offset part → ReadsFront fed header packets
+pub open_front : (fed : List ℕ) (header : Option Header) (packets : List CapturedPacket) (offset : ℕ) (part : List ℕ) → IsOpen fed header packets offset part → ReadsFront fed header packets
 open_front fed None packets offset part was = inl (refl, was.1)
 open_front fed (Some h) packets offset part was = kept_front fed h packets offset part was.0
 
 -- memory was refused in an open feed
-pub open_refused : (fed : List ℕ) (header : Option Header) (packets : List Packet) (offset : ℕ) (part : List ℕ) → IsOpen fed header packets offset part → HasStopped fed header packets NoMemory
+pub open_refused : (fed : List ℕ) (header : Option Header) (packets : List CapturedPacket) (offset : ℕ) (part : List ℕ) → IsOpen fed header packets offset part → HasStopped fed header packets NoMemory
 open_refused fed header packets offset part was = inr (refl, open_front fed header packets offset part was)
 
 short_header : (fed : List ℕ) → HasNoHeader fed TruncatedHeader → length fed < 24
@@ -137,7 +137,7 @@ short_header fed (inr more) = elim more.3 [
 ]
 
 -- a part of an open feed grows by some bytes that it lacks
-pub grown_next : (fed piece : List ℕ) (header : Option Header) (packets : List Packet) (offset n : ℕ) (part part' : List ℕ)
+pub grown_next : (fed piece : List ℕ) (header : Option Header) (packets : List CapturedPacket) (offset n : ℕ) (part part' : List ℕ)
     → IsOpen fed header packets offset part → IsWanted header part n → 0 < length piece → length piece ≤ max n 1 → part' ≡ part ++ piece
     → IsGrownTo (fed ++ piece) header packets offset part'
 grown_next fed piece None packets offset n part part' was wanted some few e = (
@@ -164,7 +164,7 @@ pub record SoFed (bytes rest : List ℕ) (old new : Feed) : Type 0 where
   pub done : List ℕ
   pub parts : bytes ≡ done ++ rest
   pub none : new.fault ≡ None
-  pub holds : (given : List Packet) (fed : List ℕ) → HoldsBehind given fed old → length (fed ++ bytes) < 18446744073709551616 → BehindAt given (fed ++ done) new None
+  pub holds : (given : List CapturedPacket) (fed : List ℕ) → HoldsBehind given fed old → length (fed ++ bytes) < 18446744073709551616 → BehindAt given (fed ++ done) new None
 
 pub so_fed_start : (bytes : List ℕ) (feed : Feed) → feed.fault ≡ None → SoFed bytes bytes feed feed
 so_fed_start bytes feed none = record {
@@ -191,14 +191,14 @@ within_all : (fed bytes done rest : List ℕ) → bytes ≡ done ++ rest → len
 within_all fed bytes done rest e = omega (arith, length-append fed bytes, ap length e, length-append done rest, length-append fed done)
 
 -- memory is refused where some were fed
-pub so_fed_refused : (bytes rest : List ℕ) (old new : Feed) → SoFed bytes rest old new → (given : List Packet) (fed : List ℕ) → HoldsBehind given fed old → length (fed ++ bytes) < 18446744073709551616
+pub so_fed_refused : (bytes rest : List ℕ) (old new : Feed) → SoFed bytes rest old new → (given : List CapturedPacket) (fed : List ℕ) → HoldsBehind given fed old → length (fed ++ bytes) < 18446744073709551616
     → HasStopped (fed ++ bytes) new.header (given ++ new.packets.items) NoMemory
 so_fed_refused bytes rest old new so given fed held short =
     rw so.parts (rw (sym (append_assoc fed so.done rest)) (stopped-lasts (fed ++ so.done) rest _ _ _ (open_refused (fed ++ so.done) _ _ _ _ (so.holds given fed held short))))
 
 -- what a part has grown to, in an open feed to which count more bytes were given
 grown_so : (bytes rest part' : List ℕ) (old new : Feed) (n count : ℕ) → (so : SoFed bytes rest old new) → IsWanted new.header new.part.items n → rest ≢ [] → count ≡ min (max n 1) (length rest)
-    → part' ≡ new.part.items ++ take count rest → (given : List Packet) (fed : List ℕ) → HoldsBehind given fed old → length (fed ++ bytes) < 18446744073709551616
+    → part' ≡ new.part.items ++ take count rest → (given : List CapturedPacket) (fed : List ℕ) → HoldsBehind given fed old → length (fed ++ bytes) < 18446744073709551616
     → IsGrownTo ((fed ++ so.done) ++ take count rest) new.header (given ++ new.packets.items) new.offset part'
 grown_so bytes rest part' old new n count so wanted some counted grew given fed held short =
     let left : 0 < length rest = not_empty rest some in
@@ -209,7 +209,7 @@ grown_so bytes rest part' old new n count so wanted some counted grew given fed 
 -- count bytes more, and no fault
 pub so_fed_next : (bytes rest part' : List ℕ) (old new new' : Feed) (n count : ℕ) → SoFed bytes rest old new → IsWanted new.header new.part.items n → rest ≢ [] → count ≡ min (max n 1) (length rest)
     → part' ≡ new.part.items ++ take count rest
-    → ((given : List Packet) (fed : List ℕ) → IsGrownTo fed new.header (given ++ new.packets.items) new.offset part' → length fed < 18446744073709551616 → BehindAt given fed new' None)
+    → ((given : List CapturedPacket) (fed : List ℕ) → IsGrownTo fed new.header (given ++ new.packets.items) new.offset part' → length fed < 18446744073709551616 → BehindAt given fed new' None)
     → new'.fault ≡ None → SoFed bytes (take (length rest - count) (drop count rest)) old new'
 so_fed_next bytes rest part' old new new' n count so wanted some counted grew closed none = record {
   done = so.done ++ take count rest;
@@ -223,8 +223,8 @@ so_fed_next bytes rest part' old new new' n count so wanted some counted grew cl
 -- count bytes more, and a fault
 pub so_fed_stopped : (bytes rest part' : List ℕ) (old new new' : Feed) (n count : ℕ) (f : CaptureFault) → SoFed bytes rest old new → IsWanted new.header new.part.items n → rest ≢ [] → count ≡ min (max n 1) (length rest)
     → part' ≡ new.part.items ++ take count rest
-    → ((given : List Packet) (fed : List ℕ) → IsGrownTo fed new.header (given ++ new.packets.items) new.offset part' → length fed < 18446744073709551616 → BehindAt given fed new' (Some f))
-    → (given : List Packet) (fed : List ℕ) → HoldsBehind given fed old → length (fed ++ bytes) < 18446744073709551616 → BehindAt given (fed ++ bytes) new' (Some f)
+    → ((given : List CapturedPacket) (fed : List ℕ) → IsGrownTo fed new.header (given ++ new.packets.items) new.offset part' → length fed < 18446744073709551616 → BehindAt given fed new' (Some f))
+    → (given : List CapturedPacket) (fed : List ℕ) → HoldsBehind given fed old → length (fed ++ bytes) < 18446744073709551616 → BehindAt given (fed ++ bytes) new' (Some f)
 so_fed_stopped bytes rest part' old new new' n count f so wanted some counted grew closed given fed held short =
     let left = take (length rest - count) (drop count rest) in
     let all : fed ++ bytes ≡ ((fed ++ so.done) ++ take count rest) ++ left =
@@ -234,7 +234,7 @@ so_fed_stopped bytes rest part' old new new' n count f so wanted some counted gr
     (omega (arith, within_all fed bytes so.done rest so.parts, short, length-append (fed ++ so.done) (take count rest), length-take-le count rest (omega arith)))))
 
 -- a feed with a fault stays as it is
-pub holds-on : (given : List Packet) (fed bytes : List ℕ) (feed : Feed) (f : CaptureFault) → All (λ b. b < 256) bytes → feed.fault ≡ Some f → HoldsBehind given fed feed → HoldsBehind given (fed ++ bytes) feed
+pub holds-on : (given : List CapturedPacket) (fed bytes : List ℕ) (feed : Feed) (f : CaptureFault) → All (λ b. b < 256) bytes → feed.fault ≡ Some f → HoldsBehind given fed feed → HoldsBehind given (fed ++ bytes) feed
 holds-on given fed bytes feed f small e held = (All-append (λ b. b < 256) fed bytes held.0 small, rw e (stopped-lasts fed bytes _ _ _ (rw e at held.1)))
 
 -- the bytes of a slice are below 256
@@ -242,7 +242,7 @@ pub are_bytes : (bytes : List ℕ) → ((i : ℕ) → slice_index bytes i < 256)
 are_bytes bytes small = All-from_get_or (λ b. b < 256) bytes 0 (λ i within. small i)
 
 -- a feed that went on to these bytes holds them
-pub holds_next : (given : List Packet) (fed bytes : List ℕ) (feed : Feed) (fault : Option CaptureFault) → All (λ b. b < 256) fed → All (λ b. b < 256) bytes → feed.fault ≡ fault → BehindAt given (fed ++ bytes) feed fault → HoldsBehind given (fed ++ bytes) feed
+pub holds_next : (given : List CapturedPacket) (fed bytes : List ℕ) (feed : Feed) (fault : Option CaptureFault) → All (λ b. b < 256) fed → All (λ b. b < 256) bytes → feed.fault ≡ fault → BehindAt given (fed ++ bytes) feed fault → HoldsBehind given (fed ++ bytes) feed
 holds_next given fed bytes feed fault small more e held = (All-append (λ b. b < 256) fed bytes small more, rw e held)
 
 -- between two feeds another part is held
@@ -256,7 +256,7 @@ grows_on old mid mid' new header packets first then = record {
 }
 
 -- the record in front of some bytes
-pub split_front : (big : Bool) (bytes : List ℕ) (n : ℕ) (p : Packet) → IsWhole big bytes n → p.bytes ≡ take (16 + n - 16) (drop 16 bytes) → p.original ≡ number big 4 (take (length bytes - 12) (drop 12 bytes))
+pub split_front : (big : Bool) (bytes : List ℕ) (n : ℕ) (p : CapturedPacket) → IsWhole big bytes n → p.bytes ≡ take (16 + n - 16) (drop 16 bytes) → p.original ≡ number big 4 (take (length bytes - 12) (drop 12 bytes))
     → IsRecord big (take (16 + n) bytes) p
 split_front big bytes n p whole body original =
     let front : List ℕ = take (16 + n) bytes in
@@ -279,7 +279,7 @@ split_front big bytes n p whole body original =
     }
 
 -- an open feed between two records, and one more record
-next_record : (fed front : List ℕ) (header : Option Header) (packets : List Packet) (offset offset' : ℕ) (part : List ℕ) (h : Header) (p : Packet)
+next_record : (fed front : List ℕ) (header : Option Header) (packets : List CapturedPacket) (offset offset' : ℕ) (part : List ℕ) (h : Header) (p : CapturedPacket)
     → header ≡ Some h → part ≡ [] → IsOpen fed header packets offset part → IsRecord h.big front p → length (fed ++ front) < 18446744073709551616
     → (offset + (16 + length p.bytes) < 18446744073709551616 → offset' ≡ offset + (16 + length p.bytes))
     → IsOpen (fed ++ front) header (packets ++ p ∷ []) offset' part
@@ -306,7 +306,7 @@ next_record fed front (Some k) packets offset offset' part h p is none was one s
     )
 
 -- a feed that took one whole record off some bytes
-pub whole_taken : (bytes rest front : List ℕ) (old : Feed) (h : Header) (offset' : ℕ) (p : Packet) → old.header ≡ Some h → old.fault ≡ None → old.part.items ≡ [] → old.packets.items ≡ []
+pub whole_taken : (bytes rest front : List ℕ) (old : Feed) (h : Header) (offset' : ℕ) (p : CapturedPacket) → old.header ≡ Some h → old.fault ≡ None → old.part.items ≡ [] → old.packets.items ≡ []
     → bytes ≡ front ++ rest → IsRecord h.big front p → All (λ b. b < 256) front
     → (old.offset + (16 + length p.bytes) < 18446744073709551616 → offset' ≡ old.offset + (16 + length p.bytes))
     → TakesWhole bytes rest old (record old { offset = offset' }) p

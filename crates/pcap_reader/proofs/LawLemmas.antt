@@ -4,7 +4,7 @@ use Rattle.std.specs.List.{AllZip, concat}
 use Rattle.std.proofs.lemmas.List.{append_cancel_left}
 use Rattle.std.proofs.Math.Seq.{take-append_seam}
 use Rattle.pcap_reader.specs.declared.capture.Header.{Header}
-use Rattle.pcap_reader.specs.declared.capture.Packet.{Packet}
+use Rattle.pcap_reader.specs.declared.capture.CapturedPacket.{CapturedPacket}
 use Rattle.pcap_reader.specs.declared.capture.CaptureFault.{CaptureFault}
 use Rattle.pcap_reader.specs.declared.capture.CaptureFault.TheVariants.{BadMagic, BadVersion, TruncatedHeader, TruncatedRecord, TooLong, NoMemory}
 use Rattle.pcap_reader.specs.Savefile.{number, captured, IsMagic, IsVersion, IsHeader, IsRecord, IsPart, IsLong, HasNoHeader, HasRecords, EndsWith, Reads, ReadsFront}
@@ -13,8 +13,8 @@ use Rattle.pcap_reader.proofs.Fronts.{word_at-front, magic-on, version-on}
 
 -- the packets of a front are the first packets of the whole
 abbrev pub HasFronts : List ℕ → Type 0
-HasFronts bytes = (h h' : Option Header) (ks ks' : List Packet) (f' : Option CaptureFault)
-    → ReadsFront bytes h ks → Reads bytes h' ks' f' → ((h ≡ None) ⊎ (h ≡ h')) × (more : List Packet) × (ks' ≡ ks ++ more)
+HasFronts bytes = (h h' : Option Header) (ks ks' : List CapturedPacket) (f' : Option CaptureFault)
+    → ReadsFront bytes h ks → Reads bytes h' ks' f' → ((h ≡ None) ⊎ (h ≡ h')) × (more : List CapturedPacket) × (ks' ≡ ks ++ more)
 
 -- of two cuts of one list, the fronts that are as long are the same
 fronts_same : (xs ys more rest : List ℕ) → xs ++ more ≡ ys ++ rest → length xs ≡ length ys → xs ≡ ys
@@ -28,10 +28,10 @@ orders_differ a b c d n m la lb lc ld big little (inl i) (inr j) = omega arith
 orders_differ a b c d n m la lb lc ld big little (inr i) (inl j) = omega arith
 orders_differ a b c d n m la lb lc ld big little (inr i) (inr j) = omega arith
 
-abbrev packet_of : List ℕ → ℕ → Packet
+abbrev packet_of : List ℕ → ℕ → CapturedPacket
 packet_of b o = record { bytes = b; original = o }
 
-packet_same : (p q : Packet) → p.bytes ≡ q.bytes → p.original ≡ q.original → p ≡ q
+packet_same : (p q : CapturedPacket) → p.bytes ≡ q.bytes → p.original ≡ q.original → p ≡ q
 packet_same p q e o = ap (λ b. packet_of b p.original) e ∙ ap (packet_of q.bytes) o
 
 abbrev header_of : Bool → Bool → ℕ → ℕ → Header
@@ -153,11 +153,11 @@ ends_one big rest at f f' e e' = elim (ends_kind big rest at f e) [
   ]
 ]
 
-record_length : (big : Bool) (r : List ℕ) (p : Packet) → IsRecord big r p → length r ≡ 16 + captured big r
+record_length : (big : Bool) (r : List ℕ) (p : CapturedPacket) → IsRecord big r p → length r ≡ 16 + captured big r
 record_length big r p one = omega (arith, length-drop 16 r, ap length one.body, one.length_is, one.header)
 
 -- where a whole record stands in front, a capture doesn't end
-no_end : (big : Bool) (r tail : List ℕ) (p : Packet) (at : ℕ) (f : Option CaptureFault) → IsRecord big r p → EndsWith big (r ++ tail) at f → ⊥
+no_end : (big : Bool) (r tail : List ℕ) (p : CapturedPacket) (at : ℕ) (f : Option CaptureFault) → IsRecord big r p → EndsWith big (r ++ tail) at f → ⊥
 no_end big r tail p at f one e =
     let size : length (r ++ tail) ≡ length r + length tail = length-append r tail in
     let same : captured big (r ++ tail) ≡ captured big r = word_at-front big 8 r tail (omega (arith, one.header)) in
@@ -172,12 +172,12 @@ no_end big r tail p at f one e =
     ]
 
 -- the first records of two cuts are the same
-pub record FirstSame (r r' tail tail' : List ℕ) (p p' : Packet) : Type 0 where
+pub record FirstSame (r r' tail tail' : List ℕ) (p p' : CapturedPacket) : Type 0 where
   pub same : r ≡ r'
   pub tails : tail ≡ tail'
   pub packet : p ≡ p'
 
-first_same : (big : Bool) (r r' tail tail' : List ℕ) (p p' : Packet) → IsRecord big r p → IsRecord big r' p' → r ++ tail ≡ r' ++ tail' → FirstSame r r' tail tail' p p'
+first_same : (big : Bool) (r r' tail tail' : List ℕ) (p p' : CapturedPacket) → IsRecord big r p → IsRecord big r' p' → r ++ tail ≡ r' ++ tail' → FirstSame r r' tail tail' p p'
 first_same big r r' tail tail' p p' one one' e =
     let long : captured big r ≡ captured big r' =
     sym (word_at-front big 8 r tail (omega (arith, one.header))) ∙ ap (captured big) e ∙ word_at-front big 8 r' tail' (omega (arith, one'.header)) in
@@ -188,12 +188,12 @@ first_same big r r' tail tail' p p' one one' e =
       packet = packet_same p p' (sym one.body ∙ ap (drop 16) same ∙ one'.body) (one.original ∙ ap (λ t. number big 4 (drop 12 t)) same ∙ sym one'.original);
     }
 
-pub record RecordsSame (records records' : List (List ℕ)) (rest rest' : List ℕ) (packets packets' : List Packet) : Type 0 where
+pub record RecordsSame (records records' : List (List ℕ)) (rest rest' : List ℕ) (packets packets' : List CapturedPacket) : Type 0 where
   pub count : length (concat records) ≡ length (concat records')
   pub rests : rest ≡ rest'
   pub packets_same : packets ≡ packets'
 
-records_one : (big : Bool) (records records' : List (List ℕ)) (rest rest' : List ℕ) (packets packets' : List Packet) (at at' : ℕ) (f f' : Option CaptureFault)
+records_one : (big : Bool) (records records' : List (List ℕ)) (rest rest' : List ℕ) (packets packets' : List CapturedPacket) (at at' : ℕ) (f f' : Option CaptureFault)
     → concat records ++ rest ≡ concat records' ++ rest' → AllZip (IsRecord big) records packets → AllZip (IsRecord big) records' packets'
     → EndsWith big rest at f → EndsWith big rest' at' f' → RecordsSame records records' rest rest' packets packets'
 records_one big [] [] rest rest' [] [] at at' f f' e each each' ends ends' = record { count = refl; rests = e; packets_same = refl }
@@ -216,9 +216,9 @@ records_one big [] (r ∷ rs) rest rest' packets [] at at' f f' e each each' end
 records_one big (r ∷ rs) (r' ∷ rs') rest rest' (p ∷ ps) [] at at' f f' e each each' ends ends' = absurd each'
 
 -- of a front's packets, the whole has more
-records_front : (big : Bool) (records records' : List (List ℕ)) (more rest' : List ℕ) (packets packets' : List Packet) (at' : ℕ) (f' : Option CaptureFault)
+records_front : (big : Bool) (records records' : List (List ℕ)) (more rest' : List ℕ) (packets packets' : List CapturedPacket) (at' : ℕ) (f' : Option CaptureFault)
     → concat records ++ more ≡ concat records' ++ rest' → AllZip (IsRecord big) records packets → AllZip (IsRecord big) records' packets'
-    → EndsWith big rest' at' f' → (left : List Packet) × (packets' ≡ packets ++ left)
+    → EndsWith big rest' at' f' → (left : List CapturedPacket) × (packets' ≡ packets ++ left)
 records_front big [] records' more rest' [] packets' at' f' e each each' ends' = (packets', refl)
 records_front big (r ∷ rs) [] more rest' (p ∷ ps) packets' at' f' e each each' ends' =
     absurd (no_end big r (concat rs ++ more) p at' f' each.0 (rw (sym (append_assoc r (concat rs) more) ∙ e) ends'))
@@ -273,7 +273,7 @@ head_one bs small h h' head head' tail tail' has has' =
       tails = append_cancel_left head tail tail' (both ∙ ap (λ t. t ++ tail') (sym same));
     }
 
-head_of : (bs : List ℕ) (h : Header) (ks : List Packet) (f : Option CaptureFault) → (r : HasRecords bs h ks f) → HasHead bs h r.head (concat r.records ++ r.rest)
+head_of : (bs : List ℕ) (h : Header) (ks : List CapturedPacket) (f : Option CaptureFault) → (r : HasRecords bs h ks f) → HasHead bs h r.head (concat r.records ++ r.rest)
 head_of bs h ks f r = record { parts = r.parts ∙ append_assoc r.head (concat r.records) r.rest; header = r.header }
 
 pub one_reading : (bs : List ℕ) → All (λ b. b < 256) bs → HasOneReading bs
@@ -291,8 +291,8 @@ one_reading bs small None (Some h') ks ks' None f' r r' = absurd r
 one_reading bs small None None ks ks' None f' r r' = absurd r
 one_reading bs small None None ks ks' (Some f) None r r' = absurd r'
 
-front_whole : (bs : List ℕ) → All (λ b. b < 256) bs → (h : Header) (h' : Option Header) (ks ks' : List Packet) (f' : Option CaptureFault) (front more : List ℕ)
-    → bs ≡ front ++ more → HasRecords front h ks None → Reads bs h' ks' f' → (Some h ≡ h') × (left : List Packet) × (ks' ≡ ks ++ left)
+front_whole : (bs : List ℕ) → All (λ b. b < 256) bs → (h : Header) (h' : Option Header) (ks ks' : List CapturedPacket) (f' : Option CaptureFault) (front more : List ℕ)
+    → bs ≡ front ++ more → HasRecords front h ks None → Reads bs h' ks' f' → (Some h ≡ h') × (left : List CapturedPacket) × (ks' ≡ ks ++ left)
 front_whole bs small h None ks ks' (Some f') front more e r r' =
     absurd (head_not_none bs small h r.head (concat r.records ++ r.rest ++ more) f' (record {
       parts = e ∙ ap (λ t. t ++ more) (r.parts ∙ append_assoc r.head (concat r.records) r.rest) ∙ append_assoc r.head (concat r.records ++ r.rest) more;

@@ -4,7 +4,7 @@ use Rattle.std.specs.List.{AllZip, concat}
 use Rattle.std.proofs.lemmas.List.{take-append-drop}
 use Rattle.std.proofs.lemmas.Bool.{cases_lt, cases_order}
 use Rattle.pcap_reader.specs.declared.capture.Header.{Header}
-use Rattle.pcap_reader.specs.declared.capture.Packet.{Packet}
+use Rattle.pcap_reader.specs.declared.capture.CapturedPacket.{CapturedPacket}
 use Rattle.pcap_reader.specs.declared.capture.CaptureFault.{CaptureFault}
 use Rattle.pcap_reader.specs.declared.capture.CaptureFault.TheVariants.{BadMagic, BadVersion, TruncatedHeader, TruncatedRecord, TooLong}
 use Rattle.pcap_reader.specs.Savefile.{number, captured, IsMagic, IsVersion, IsHeader, IsRecord, IsPart, IsLong, HasNoHeader, EndsWith}
@@ -97,7 +97,7 @@ some_header bs = elim (cases_lt (length bs) 4) [
 
 -- bytes in whole records, and what follows them
 record SomeRecords (big : Bool) (at : ℕ) (bs : List ℕ) : Type 0 where
-  pub packets : List Packet
+  pub packets : List CapturedPacket
   pub records : List (List ℕ)
   pub rest : List ℕ
   pub fault : Option CaptureFault
@@ -133,7 +133,7 @@ next_kind big (b ∷ bs) = elim (cases_lt (length (b ∷ bs)) 16) [
   ]
 ]
 
-abbrev packet_in : Bool → List ℕ → Packet
+abbrev packet_in : Bool → List ℕ → CapturedPacket
 packet_in big r = record { bytes = drop 16 r; original = number big 4 (drop 12 r) }
 
 front_record : (big : Bool) (bs r tail : List ℕ) → bs ≡ r ++ tail → length r ≡ 16 + captured big bs → captured big bs ≤ 262144 → IsRecord big r (packet_in big r)

@@ -3,13 +3,13 @@ use Rattle.std.specs.Prelude.{◌≡◌, ℕ, ◌+◌, ◌-◌, ◌<◌, ◌≤�
 use Rattle.pcap_reader.specs.Savefile.{number, captured, IsRecord}
 use Rattle.pcap_reader.specs.Held.{Keeps, BehindAt, seen_packet}
 use Rattle.pcap_reader.specs.declared.capture.Header.{Header}
-use Rattle.pcap_reader.specs.declared.capture.Packet.{Packet}
+use Rattle.pcap_reader.specs.declared.capture.CapturedPacket.{CapturedPacket}
 use Rattle.pcap_reader.specs.declared.feed.Feed.{Feed}
 use Rattle.pcap_reader.specs.declared.feed.Seen.{Seen}
 use Rattle.pcap_reader.specs.declared.capture.CaptureFault.{CaptureFault}
 
 -- after more bytes a feed is still open, or this fault stands in them
-abbrev pub GoesOn : List Packet → List ℕ → Feed → Result (Unit {0}) CaptureFault → Type 0
+abbrev pub GoesOn : List CapturedPacket → List ℕ → Feed → Result (Unit {0}) CaptureFault → Type 0
 GoesOn given fed feed (Ok done) = BehindAt given fed feed None
 GoesOn given fed feed (Err fault) = BehindAt given fed feed (Some fault)
 
@@ -33,16 +33,16 @@ abbrev pub SplitsRecord : Bool → List ℕ → Seen → List ℕ → Type 0
 SplitsRecord big bytes seen rest = (front : List ℕ) × (bytes ≡ front ++ rest) × IsRecord big front (seen_packet seen) × All (λ byte. byte < 256) front
 
 -- the packet of a record
-abbrev pub IsPacket : Bool → List ℕ → Packet → Type 0
+abbrev pub IsPacket : Bool → List ℕ → CapturedPacket → Type 0
 IsPacket big part p = (p.bytes ≡ drop 16 part) × (p.original ≡ number big 4 (drop 12 part))
 
 -- a part with more bytes at its end, up to the place where it is looked at
-abbrev pub IsGrownTo : List ℕ → Option Header → List Packet → ℕ → List ℕ → Type 0
+abbrev pub IsGrownTo : List ℕ → Option Header → List CapturedPacket → ℕ → List ℕ → Type 0
 IsGrownTo fed None packets offset part = (part ≡ fed) × (packets ≡ []) × (offset ≡ 24) × (length part ≤ 24)
 IsGrownTo fed (Some h) packets offset part =
     Keeps fed h packets offset part × (0 < length part)
     × ((length part ≤ 16) ⊎ ((captured h.big part ≤ 262144) × (length part ≤ 16 + captured h.big part)))
 
 -- a feed whose part has grown
-abbrev pub IsGrown : List Packet → List ℕ → Feed → Type 0
+abbrev pub IsGrown : List CapturedPacket → List ℕ → Feed → Type 0
 IsGrown given fed feed = IsGrownTo fed feed.header (given ++ feed.packets.items) feed.offset feed.part.items

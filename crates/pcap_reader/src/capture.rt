@@ -10,7 +10,7 @@ pub type Bytes = Seq<u8>;
 
 /// A packet as a record of a capture holds it.
 #[derive(Clone, Debug, Drop, PartialEq, Eq)]
-pub struct Packet {
+pub struct CapturedPacket {
     /// The bytes that were captured, from the packet's first byte on.
     pub bytes: Bytes,
     /// The packet's length in bytes when it was seen. More than were captured where the capture
@@ -33,7 +33,7 @@ pub struct Header {
 }
 
 /// The packets of a capture, in order.
-pub type Packets = Seq<Packet>;
+pub type Packets = Seq<CapturedPacket>;
 
 /// A whole capture.
 #[derive(Debug, Drop)]

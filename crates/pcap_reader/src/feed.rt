@@ -1,13 +1,13 @@
 //! Captures that come in pieces, or whole.
 
 ghost use Rattle.std.specs.Prelude.{◌≡◌, ◌≢◌, ◌≤◌, ◌<◌, ◌+◌, ◌++◌, ◌^◌, ◌⊎◌, [], ℕ, List, Option, Some, None, Err, Bool, length, IsSome, IfOk, IfErr, IfSome, OnOk, MatchOption, MatchResult};
-ghost use Rattle.pcap_reader.specs.declared.capture.Packet.{Packet as Captured};
+ghost use Rattle.pcap_reader.specs.declared.capture.CapturedPacket.{CapturedPacket};
 ghost use Rattle.pcap_reader.specs.Savefile.{IsMagic, IsHeader, IsLong, HasNoHeader, IsLasting, ReadsFront};
 ghost use Rattle.pcap_reader.specs.Answers.{GivesWhole, GivesFront, GivesOnly, HasOneReading, HasReading, Tells};
 ghost use Rattle.pcap_reader.specs.Held.{Holds, HoldsBehind, IsEnding, Says, Grows, SeesWhole, TakesFront, TakesWhole, held_header, held_packets, held_fault, seen_packet};
 ghost use Rattle.pcap_reader.specs.Growth.{GoesOn, IsGrown, IsWanted, IsShort, IsWhole, IsPacket, SplitsRecord};
 
-use crate::capture::{Bytes, Capture, CaptureFault, Header, Packet, Packets, Stop};
+use crate::capture::{Bytes, Capture, CaptureFault, CapturedPacket, Header, Packets, Stop};
 use crate::fields::{short_at, word_at};
 use std::alloc::{AllocError, Global};
 
@@ -27,7 +27,7 @@ const MOST_CAPTURED: u32 = 262_144;
 pub struct Feed {
     alloc: Global,
     header: Option<Header>,
-    packets: Vec<Packet>,
+    packets: Vec<CapturedPacket>,
     /// Where the next record begins, once there is a header.
     offset: u64,
     /// The bytes of a header or a record that isn't whole yet.
@@ -57,9 +57,9 @@ impl Feed {
     /// or NoMemory where memory was refused. After a fault every later piece answers the same
     /// fault, takes nothing and changes nothing. The packets that were whole before a fault stay.
     pub fn piece(&mut self, bytes: &[u8]) -> Result<(), CaptureFault>
-        ensures holds { (given : List Captured) (fed : List ℕ) → HoldsBehind given fed self.old
+        ensures holds { (given : List CapturedPacket) (fed : List ℕ) → HoldsBehind given fed self.old
             → length (fed ++ bytes.now) < 2 ^ 64 → HoldsBehind given (fed ++ bytes.now) self.new }
-        ensures tells { (given : List Captured) (fed : List ℕ) → HoldsBehind given fed self.old → length (fed ++ bytes.now) < 2 ^ 64
+        ensures tells { (given : List CapturedPacket) (fed : List ℕ) → HoldsBehind given fed self.old → length (fed ++ bytes.now) < 2 ^ 64
             → Tells (fed ++ bytes.now) result }
         ensures says { Says (held_fault self.new) result }
 
@@ -85,7 +85,7 @@ impl Feed {
     /// Takes bytes up to each place where something can be seen: the end of a header or a record.
     fn take(&mut self, bytes: &[u8]) -> Result<(), CaptureFault>
         requires { self.old.fault ≡ None }
-        ensures grown { (given : List Captured) (fed : List ℕ) → HoldsBehind given fed self.old
+        ensures grown { (given : List CapturedPacket) (fed : List ℕ) → HoldsBehind given fed self.old
             → length (fed ++ bytes.now) < 2 ^ 64 → GoesOn given (fed ++ bytes.now) self.new result }
         ensures grows { Grows self.old self.new }
         ensures same { self.new.fault ≡ None }
@@ -105,7 +105,7 @@ impl Feed {
     /// Looks at a part that has grown.
     fn close(&mut self) -> Result<(), CaptureFault>
         requires { self.old.fault ≡ None }
-        ensures closed { (given : List Captured) (fed : List ℕ) → IsGrown given fed self.old
+        ensures closed { (given : List CapturedPacket) (fed : List ℕ) → IsGrown given fed self.old
             → length fed < 2 ^ 64 → GoesOn given fed self.new result }
         ensures grows { Grows self.old self.new }
         ensures same { self.new.fault ≡ None }
@@ -161,10 +161,10 @@ impl Feed {
     ///
     /// The fault is NoMemory just where a piece answered it.
     pub fn ending(&self) -> Result<Header, CaptureFault>
-        ensures whole { (given : List Captured) (fed : List ℕ) → HoldsBehind given fed self.now
+        ensures whole { (given : List CapturedPacket) (fed : List ℕ) → HoldsBehind given fed self.now
             → held_fault self.now ≢ Some CaptureFault.NoMemory
             → IsEnding fed (held_header self.now) (given ++ held_packets self.now) result }
-        ensures front { (given : List Captured) (fed : List ℕ) → HoldsBehind given fed self.now
+        ensures front { (given : List CapturedPacket) (fed : List ℕ) → HoldsBehind given fed self.now
             → held_fault self.now ≡ Some CaptureFault.NoMemory
             → ReadsFront fed (held_header self.now) (given ++ held_packets self.now) }
         ensures refused { held_fault self.now ≡ Some CaptureFault.NoMemory
@@ -189,7 +189,7 @@ impl Feed {
 
     /// Gives up the packets that are whole so far, and holds none then. Takes no memory.
     pub fn give_up(&mut self) -> Packets
-        ensures given { (given : List Captured) (fed : List ℕ) → HoldsBehind given fed self.old
+        ensures given { (given : List CapturedPacket) (fed : List ℕ) → HoldsBehind given fed self.old
             → HoldsBehind (given ++ result) fed self.new }
         ensures all { result ≡ held_packets self.old }
         ensures none { held_packets self.new ≡ [] }
@@ -349,13 +349,13 @@ fn split_record<'b>(big: bool, offset: u64, bytes: &'b [u8]) -> Option<(Seen<'b>
 }
 
 /// The packet of a whole record.
-fn packet_of(alloc: Global, big: bool, part: &[u8]) -> Result<Packet, AllocError>
+fn packet_of(alloc: Global, big: bool, part: &[u8]) -> Result<CapturedPacket, AllocError>
     requires { 16 ≤ length part.now }
     ensures { IfOk result (IsPacket big part.now) }
 {
     let bytes = Bytes::from_vec(Vec::from_slice(alloc, &part[RECORD_HEADER..])?);
     let original = word_at(big, &part[12..]);
-    Ok(Packet { bytes, original })
+    Ok(CapturedPacket { bytes, original })
 }
 
 /// Reads a capture that is there as a whole: one piece and a finish of a `Feed`.

@@ -31,6 +31,6 @@ mod feed;
 mod fields;
 mod shared;
 
-pub use capture::{Bytes, Capture, CaptureFault, Header, Packet, Packets, Stop};
+pub use capture::{Bytes, Capture, CaptureFault, CapturedPacket, Header, Packets, Stop};
 pub use feed::{Feed, Seen, read_capture};
 pub use shared::{SharedPacket, SharedPackets, share_capture};

@@ -2,7 +2,7 @@
 
 ghost use Rattle.std.specs.Prelude.{◌≡◌, ◌⊎◌, ◌++◌, [], List, ℕ, Option, Some, None, IfOk, IfErr, OnOk};
 ghost use Rattle.pcap_reader.specs.declared.capture.Header.{Header as Heading};
-ghost use Rattle.pcap_reader.specs.declared.capture.Packet.{Packet as Captured};
+ghost use Rattle.pcap_reader.specs.declared.capture.CapturedPacket.{CapturedPacket};
 ghost use Rattle.pcap_reader.specs.Savefile.{Reads};
 ghost use Rattle.pcap_reader.specs.Held.{HoldsBehind, held_packets, seen_packet};
 ghost use Rattle.pcap_reader.specs.Sharing.{IsLastOf, SharesTo};
@@ -21,9 +21,9 @@ pub struct SharedPacket {
 }
 
 impl Model for SharedPacket {
-    ghost use Rattle.pcap_reader.specs.declared.capture.Packet.{Packet as Captured};
+    ghost use Rattle.pcap_reader.specs.declared.capture.CapturedPacket.{CapturedPacket};
 
-    ghost Value = { Captured };
+    ghost Value = { CapturedPacket };
 
     ghost view = { λ packet. record { bytes = packet.bytes; original = packet.original } };
 }
@@ -70,7 +70,7 @@ impl Clone for SharedPacket {
 pub fn share_capture(alloc: Global, file: &Shared<u8>) -> Result<SharedPackets, CaptureFault>
     ensures packets { IfOk result (λ packets. (header : Heading) × Reads file.now (Some header) packets None) }
     ensures fault { IfErr result (λ fault. (fault ≡ CaptureFault.NoMemory)
-        ⊎ ((header : Option Heading) × (packets : List Captured) × Reads file.now header packets (Some fault))) }
+        ⊎ ((header : Option Heading) × (packets : List CapturedPacket) × Reads file.now header packets (Some fault))) }
 {
     let mut feed = Feed::new(alloc);
     let mut packets = Vec::new(alloc);
@@ -140,7 +140,7 @@ fn push_shared(
 }
 
 impl PartialEq for SharedPacket {
-    ghost use Rattle.pcap_reader.specs.contracts.capture.PacketPartialEq.TheImpl.{eq-value};
+    ghost use Rattle.pcap_reader.specs.contracts.capture.CapturedPacketPartialEq.TheImpl.{eq-value};
     ghost use Rattle.std.proofs.Common.{rules};
     ghost use Rattle.std.specs.Cmp.Rules.{comparing};
 

@@ -6,7 +6,7 @@ use Rattle.endpoint_caps.specs.declared.Rights.{Rights}
 use Rattle.endpoint_caps.specs.declared.Rights.TheVariants.{R, M, Rm}
 use Rattle.endpoint_caps.specs.declared.Cap.{Cap}
 use Rattle.filter_table.specs.Listed.{ListedFilter}
-use Rattle.filter_table.specs.Tables.{State, instructions_of}
+use Rattle.filter_table.specs.Tables.{TableState, instructions_of}
 
 abbrev pub rights_name : Rights → List ℕ
 rights_name R = codes "r"
@@ -29,10 +29,10 @@ filter_line f =
     ++ codes " endpoint " ++ decimal f.endpoint ++ codes " instructions " ++ decimal (length f.program) ++ codes "\n"
 
 -- a core's first line
-abbrev pub total_line : ℕ → State → List ℕ
+abbrev pub total_line : ℕ → TableState → List ℕ
 total_line core s =
     codes "show " ++ decimal core ++ codes ": version " ++ decimal s.version ++ codes " caps " ++ decimal (length s.caps.held)
     ++ codes " filters " ++ decimal (length s.filters) ++ codes " instructions " ++ decimal (instructions_of s.filters) ++ codes "\n"
 
-abbrev pub table_text : ℕ → State → List ℕ
+abbrev pub table_text : ℕ → TableState → List ℕ
 table_text core s = total_line core s ++ flat_map cap_line s.caps.held ++ flat_map filter_line s.filters

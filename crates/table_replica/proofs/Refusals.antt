@@ -9,13 +9,13 @@ use Rattle.filter_table.specs.declared.operation.Op.{Op}
 use Rattle.filter_table.specs.declared.operation.StageFault.{StageFault}
 use Rattle.filter_table.specs.declared.operation.StageFault.TheVariants.{AlreadyStaged, Rule, Budget, NoMemory}
 use Rattle.filter_table.specs.declared.operation.OpFault.TheVariants.{VersionsSpent}
-use Rattle.filter_table.specs.Tables.{State, tests, Verifies, program_of, as_rules, rule_of}
+use Rattle.filter_table.specs.Tables.{TableState, tests, Verifies, program_of, as_rules, rule_of}
 use Rattle.filter_verify.specs.Rules.{IsWellShaped}
 use Rattle.filter_table.specs.Staging.{VerifierAsks, CannotStage}
 use Rattle.table_replica.specs.Replicas.{RefusesAs}
 use Rattle.filter_table.proofs.Changes.{allowed_if}
 
-pub cannot_program : (s : State) (budget : ℕ) (op : Op) (f : StageFault) → first (tests s budget op) ≡ None → RefusesAs (program_of op) f → CannotStage s budget op None f
+pub cannot_program : (s : TableState) (budget : ℕ) (op : Op) (f : StageFault) → first (tests s budget op) ≡ None → RefusesAs (program_of op) f → CannotStage s budget op None f
 cannot_program s budget op AlreadyStaged h r = absurd (never (program_of op) r)
   where
     never : (p : Option (List Insn)) → Verifies p (Some AlreadyStaged) → ⊥

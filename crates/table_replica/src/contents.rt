@@ -3,7 +3,7 @@ ghost use Rattle.std.specs.Prelude.{◌≡◌, ◌+◌, ◌<◌, ◌≤◌, [], 
 ghost use Rattle.std.specs.Option.{option_map};
 ghost use Rattle.std.specs.Result.{result_err};
 ghost use Rattle.endpoint_caps.specs.Capabilities.{first, cap_at, mint_tests};
-ghost use Rattle.filter_table.specs.Tables.{State, Accepting, Allowed, after, made, tests, as_rules, rule_of, instructions, instructions_of, replaced, program_of, endpoint_of, Verifies, owner_tests, install_tests, replace_tests, cap_of, filter_at};
+ghost use Rattle.filter_table.specs.Tables.{TableState, Accepting, Allowed, after, made, tests, as_rules, rule_of, instructions, instructions_of, replaced, program_of, endpoint_of, Verifies, owner_tests, install_tests, replace_tests, cap_of, filter_at};
 ghost use Rattle.filter_verify.specs.Rules.{Sound, Refuses};
 ghost use Rattle.filter_verify.specs.Numbers.{number_of, place_of};
 ghost use Rattle.filter_table.specs.Staging.{CannotStage, VerifierAsks};
@@ -31,9 +31,9 @@ pub(crate) struct Contents {
 
 impl Model for Contents {
     ghost use Rattle.std.specs.Prelude.{◌≡◌};
-    ghost use Rattle.filter_table.specs.Tables.{State};
+    ghost use Rattle.filter_table.specs.Tables.{TableState};
 
-    ghost Value = { State };
+    ghost Value = { TableState };
 
     ghost view = { λ a. record { version = a.version; caps = a.caps; filters = a.filters.listed; next_filter = a.next_filter } };
 

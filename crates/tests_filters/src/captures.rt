@@ -2,8 +2,8 @@
 
 use crate::facts::{equal, equal_at, holds};
 use pcap_reader::{
-    Bytes, Capture, CaptureFault, Feed, Header, Packet, Packets, SharedPackets, Stop, read_capture,
-    share_capture,
+    Bytes, Capture, CaptureFault, CapturedPacket, Feed, Header, Packets, SharedPackets, Stop,
+    read_capture, share_capture,
 };
 use seq::Shared;
 use std::alloc::Global;
@@ -24,7 +24,7 @@ const TOO_LONG: &[u8; 40] =
 #[derive(Debug, Drop, PartialEq)]
 struct Reading {
     header: Option<Header>,
-    packets: Vec<Packet>,
+    packets: Vec<CapturedPacket>,
     fault: Option<CaptureFault>,
 }
 
@@ -85,16 +85,16 @@ fn joined(rt: &impl Abort, alloc: Global, parts: &[&[u8]]) -> Vec<u8> {
 }
 
 /// A packet of these captured bytes and this original length.
-fn packet(rt: &impl Abort, alloc: Global, bytes: &[u8], original: u32) -> Packet {
+fn packet(rt: &impl Abort, alloc: Global, bytes: &[u8], original: u32) -> CapturedPacket {
     let bytes = Vec::from_slice(alloc, bytes).expect(rt, "there is memory");
-    Packet {
+    CapturedPacket {
         bytes: Bytes::from_vec(bytes),
         original,
     }
 }
 
 /// Adds a packet after others.
-fn add(rt: &impl Abort, packets: &mut Vec<Packet>, packet: Packet) {
+fn add(rt: &impl Abort, packets: &mut Vec<CapturedPacket>, packet: CapturedPacket) {
     packets.push(packet).expect(rt, "there is memory");
 }
 
@@ -300,7 +300,7 @@ fn run_step(
     alloc: Global,
     feed: &mut Feed,
     rest: &mut &[u8],
-    packets: &mut Vec<Packet>,
+    packets: &mut Vec<CapturedPacket>,
 ) {
     match feed.whole(rest) {
         Some(seen) => {
@@ -317,7 +317,7 @@ fn run_step(
 }
 
 /// What was read at the end of a feed that gave up these packets.
-fn ended(feed: Feed, packets: Vec<Packet>) -> Reading {
+fn ended(feed: Feed, packets: Vec<CapturedPacket>) -> Reading {
     let fault = feed.ending().err();
     let header = match feed.finish() {
         Ok(capture) => Some(capture.header),
@@ -523,16 +523,16 @@ fn number_of(big: bool, number: u32) -> [u8; 4] {
 }
 
 /// Packet number `i` of a made capture: `i` modulo 97 bytes, each `i` modulo 251, of an original length of 3 times `i`.
-fn made_packet(rt: &impl Abort, alloc: Global, i: u32) -> Packet {
+fn made_packet(rt: &impl Abort, alloc: Global, i: u32) -> CapturedPacket {
     let bytes = vec![in alloc; (i % 251) as u8; (i % 97) as usize].expect(rt, "there is memory");
-    Packet {
+    CapturedPacket {
         bytes: Bytes::from_vec(bytes),
         original: i.wrapping_mul(3),
     }
 }
 
 /// Adds the record of that packet.
-fn add_record(rt: &impl Abort, capture: &mut Vec<u8>, big: bool, i: u32, packet: &Packet) {
+fn add_record(rt: &impl Abort, capture: &mut Vec<u8>, big: bool, i: u32, packet: &CapturedPacket) {
     append(rt, capture, &number_of(big, i));
     append(rt, capture, &number_of(big, 999_999));
     append(rt, capture, &number_of(big, i % 97));

@@ -1,7 +1,7 @@
 -- An event as a trace tells it.
 use Rattle.std.proofs.Common.{ℕ, zero, suc, Bool, Option, refl, sym, subst}
 use Rattle.filter_table.specs.declared.operation.Op.{Op}
-use Rattle.filter_table.specs.Tables.{State}
+use Rattle.filter_table.specs.Tables.{TableState}
 use Rattle.monitor_messages.specs.declared.message.Message.{Message}
 use Rattle.monitor_messages.specs.declared.message.Message.TheVariants as message
 use Rattle.filter_table.specs.declared.decision.Vote.{Vote}
@@ -17,12 +17,12 @@ use Rattle.world_events.specs.Memory.{lacked_memory}
 use Rattle.trace_runs.specs.Traces.{retold}
 
 -- the vote that was cast can be cast where the core is short of memory exactly if it voted so
-recast : (short : Bool) (s : State) (budget : ℕ) (op : Op) (txn : ℕ) (v : Vote) → Casts short s budget op v → Casts (lacked_memory (TookPrepare txn v)) s budget op v
+recast : (short : Bool) (s : TableState) (budget : ℕ) (op : Op) (txn : ℕ) (v : Vote) → Casts short s budget op v → Casts (lacked_memory (TookPrepare txn v)) s budget op v
 recast short s budget op txn vote.Yes c = (c.0, c.1, refl)
 recast short s budget op txn vote.Budget c = c
 recast short s budget op txn vote.NoMemory c = c
 
-reanswers : (short : Bool) (s : State) (budget version : ℕ) (place place' : ParticipantPlace) (m reply : Message) (answer : Answer) → Answers short s budget place m place' reply → Took m reply version answer
+reanswers : (short : Bool) (s : TableState) (budget version : ℕ) (place place' : ParticipantPlace) (m reply : Message) (answer : Answer) → Answers short s budget place m place' reply → Took m reply version answer
     → Answers (lacked_memory answer) s budget place m place' reply
 reanswers short s budget version place place' (message.Prepare txn op) (message.Vote n v) answer a t =
     let c : Casts (lacked_memory answer) s budget op v = subst (λ (x : Answer). Casts (lacked_memory x) s budget op v) (sym t) (recast short s budget op txn v a.2) in
@@ -31,7 +31,7 @@ reanswers short s budget version place place' (message.Commit txn) (message.Ack 
 reanswers short s budget version place place' (message.Abort txn) (message.Ack n) answer a t = a
 reanswers short s budget version place place' m reply answer a t = absurd a
 
-retaken : (short : Bool) (s : State) (budget version : ℕ) (place place' : ParticipantPlace) (out out' : Bool) (m : Message) (committed : Option Op) (answer : Answer)
+retaken : (short : Bool) (s : TableState) (budget version : ℕ) (place place' : ParticipantPlace) (out out' : Bool) (m : Message) (committed : Option Op) (answer : Answer)
     → TakesDownAt short s budget version place out m place' out' committed answer → TakesDownAt (lacked_memory answer) s budget version place out m place' out' committed answer
 retaken short s budget version place place' out out' (message.Reply d) committed answer h = h
 retaken short s budget version place place' out out' (message.Prepare txn op) committed answer h =

@@ -7,7 +7,7 @@ use Rattle.std.proofs.Math.Bool.{or-true}
 use Rattle.std.proofs.lemmas.Bool.Decides.{nat_tests}
 use Rattle.std.proofs.lemmas.List.{append-nil, same_from_push}
 use Rattle.bpf_insn.specs.Texts.{is_blank, words_of}
-use Rattle.pcap_reader.specs.declared.capture.Packet.{Packet}
+use Rattle.pcap_reader.specs.declared.capture.CapturedPacket.{CapturedPacket}
 use Rattle.world_events.specs.declared.event.Event.{Event}
 use Rattle.world_events.specs.declared.event.Event.TheVariants.{Start, Submit, StartFor, Take, Rx}
 use Rattle.world_events.specs.declared.event.Answer.{Answer}
@@ -127,7 +127,7 @@ take_is word first second to from short e e' = rw (e, e') refl
 same_core : (core : ℕ) → eqb core core ≡ true
 same_core core = grind (arith, nat_tests)
 
-job_is : (jobs : List Event) (word first second : List ℕ) (core number floor : ℕ) (packet : Packet) → number_below (2 ^ 16) first ≡ Ok core → number_below (2 ^ 64) second ≡ Ok number
+job_is : (jobs : List Event) (word first second : List ℕ) (core number floor : ℕ) (packet : CapturedPacket) → number_below (2 ^ 16) first ≡ Ok core → number_below (2 ^ 64) second ≡ Ok number
     → counted jobs number ≡ Some (Rx core number packet floor) → job_draft jobs (word ∷ first ∷ second ∷ []) ≡ Ok (Whole (Does (item.Apply (Rx core number packet floor))))
 unfolding job_draft
 job_is jobs word first second core number floor packet e e' found = rw (e, e', found, same_core core) refl

@@ -3,7 +3,7 @@ use Rattle.std.proofs.Common.{◌≡◌, ℕ, zero, suc, ◌+◌, ◌-◌, ◌^�
 use Rattle.std.specs.List.{AllByRecursion}
 use Rattle.std.proofs.lemmas.Bool.Decides.{nat_tests}
 use Rattle.std.proofs.lemmas.List.Elements.{recursion_from_All}
-use Rattle.pcap_reader.specs.declared.capture.Packet.{Packet}
+use Rattle.pcap_reader.specs.declared.capture.CapturedPacket.{CapturedPacket}
 use Rattle.world_events.specs.declared.event.Event.{Event}
 use Rattle.world_events.specs.declared.event.Event.TheVariants.{Rx}
 use Rattle.mk_script.specs.declared.script.Item.{Item}
@@ -13,7 +13,7 @@ use Rattle.mk_script.specs.Threads.{IsForThreads, IsScriptForThreads, received}
 use Rattle.trace_text.specs.Traces.{IsNamedIn}
 
 -- a reception is at one of the cores
-core_below : (cores : ℕ) (items : List Item) (place core number floor : ℕ) (packet : Packet) → AllByRecursion (IsForThreads cores) items → slice_get (received items) place ≡ Some (Rx core number packet floor) → core < cores
+core_below : (cores : ℕ) (items : List Item) (place core number floor : ℕ) (packet : CapturedPacket) → AllByRecursion (IsForThreads cores) items → slice_get (received items) place ≡ Some (Rx core number packet floor) → core < cores
 core_below cores [] place core number floor packet all e = absurd (cc)
 core_below cores (Ask c op ∷ items) place core number floor packet all e = core_below cores items place core number floor packet all.1 e
 core_below cores (Apply (Rx c n p f) ∷ items) zero core number floor packet all e = let same : c ≡ core = cc in omega (arith, same, all.0)
@@ -27,7 +27,7 @@ place_below [] place event e = absurd (cc)
 place_below (x ∷ events) zero event e = omega arith
 place_below (x ∷ events) (suc place) event e = omega (arith, place_below events place event e)
 
-pub named : (script : Script) (place core number floor : ℕ) (packet : Packet) → IsScriptForThreads script → length script.budgets ≤ 2 ^ 16 → length (received script.items) < 2 ^ 64
+pub named : (script : Script) (place core number floor : ℕ) (packet : CapturedPacket) → IsScriptForThreads script → length script.budgets ≤ 2 ^ 16 → length (received script.items) < 2 ^ 64
     → slice_get (received script.items) place ≡ Some (Rx core number packet floor) → IsNamedIn (received script.items) (Rx core number packet floor)
 named script place core number floor packet is few short e =
     let cores = length script.budgets in

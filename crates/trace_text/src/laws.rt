@@ -9,7 +9,7 @@ ghost use Rattle.mk_script.specs.Meanings.{Does, Known, Named, Nothing};
 ghost use Rattle.mk_script.specs.Scripts.{Stands};
 ghost use Rattle.mk_script.specs.Statements.{plain};
 ghost use Rattle.mk_script.specs.Threads.{IsScriptForThreads, for_simulation, for_threads, received};
-ghost use Rattle.pcap_reader.specs.declared.capture.Packet.{Packet};
+ghost use Rattle.pcap_reader.specs.declared.capture.CapturedPacket.{CapturedPacket};
 ghost use Rattle.sim_lines.specs.Events.{done_line, left_line};
 ghost use Rattle.trace_text.specs.Traces.{EndsInLf, IsNamed, IsNamedIn, trace_item, trace_of, traced_script};
 ghost use Rattle.world_events.specs.declared.event.Done.{Done};
@@ -28,7 +28,7 @@ pub fn lines_are_read_back()
 
 /// A packet of a script for threads is named by its core and its number.
 pub fn packets_are_named()
-    ensures { (script : Script) (place core number floor : ℕ) (packet : Packet) → IsScriptForThreads script →
+    ensures { (script : Script) (place core number floor : ℕ) (packet : CapturedPacket) → IsScriptForThreads script →
         length script.budgets ≤ 2 ^ 16 → length (received script.items) < 2 ^ 64 →
         slice_get (received script.items) place ≡ Some (Rx core number packet floor) → IsNamedIn (received script.items) (Rx core number packet floor) }
 {}

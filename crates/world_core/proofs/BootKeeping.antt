@@ -3,7 +3,7 @@ use Rattle.std.proofs.Common.{◌≡◌, ◌∙◌, ◌++◌, ◌∷◌, ◌+◌
 use Rattle.std.proofs.lemmas.List.{length-map, map-append, take_more}
 use Rattle.std.proofs.lemmas.List.Elements.{All-push}
 use Rattle.std.proofs.lemmas.Option.{get_or_from_slice_get, slice_get_within}
-use Rattle.filter_table.specs.Tables.{opening, table}
+use Rattle.filter_table.specs.Tables.{empty_table, table}
 use Rattle.table_replica.specs.Shown.{ReplicaState}
 use Rattle.monitor_messages.specs.declared.message.Message.{Message}
 use Rattle.monitor_2pc.specs.Coordinators.{CoordinatorState, Idle, no_requests}
@@ -19,7 +19,7 @@ all_at P xs i x all at = subst P (get_or_from_slice_get xs i x x at) (all i x (s
 -- core 0 and the others, as they begin
 pub record Begins {C Piece : Type 0} (messages : C → List Message) (home : Home) (peers : List (Peer C Piece)) (budget : ℕ) (budgets : List ℕ) : Type 0 where
   pub log : home.log.items ≡ []
-  pub replica : home.core.replica ≡ record { budget = budget; shown = opening; staged = None }
+  pub replica : home.core.replica ≡ record { budget = budget; shown = empty_table; staged = None }
   pub coordinator : home.core.coordinator ≡ record { others = length budgets; last = 0; phase = Idle; requests = no_requests (length budgets) }
   pub begun : home.begun ≡ None
   pub seen : map (seen_peer messages) peers ≡ map worlds.new_peer budgets

@@ -1,7 +1,7 @@
 -- What core 0 keeps with its steps.
 use Rattle.std.proofs.Common.{◌≡◌, ◌∙◌, ℕ, Option, None, Some, List, length, slice_get, slice_set, refl, ap, sym}
 use Rattle.filter_table.specs.declared.operation.Op.{Op}
-use Rattle.filter_table.specs.Tables.{State, table}
+use Rattle.filter_table.specs.Tables.{TableState, table}
 use Rattle.filter_table.specs.declared.decision.Vote.{Vote}
 use Rattle.monitor_messages.specs.declared.message.Message.{Message}
 use Rattle.monitor_messages.specs.declared.message.Message.TheVariants as message
@@ -19,7 +19,7 @@ use Rattle.world_core.specs.Homes.{HomeIsKept, HomeIsIdle, HomeStarts, HomeStart
 
 home_kept : (home home' : Home) (committed : Option Op) → home.core.replica.shown ≡ table home.log.items (length home.log.items) → Moves home.core committed home'.core → home'.log.items ≡ joined home.log.items committed → begun_op home'.begun ≡ home'.core.replica.staged → HomeIsKept home'
 home_kept home home' committed shown m log begun = record {
-  shown = m.shown_next ∙ (ap (λ (s : State). after_commit s committed) shown ∙ (table_joined home.log.items committed ∙ ap (λ (l : List Op). table l (length l)) (sym log)));
+  shown = m.shown_next ∙ (ap (λ (s : TableState). after_commit s committed) shown ∙ (table_joined home.log.items committed ∙ ap (λ (l : List Op). table l (length l)) (sym log)));
   between = m.between;
   begun = begun;
 }
@@ -27,7 +27,7 @@ home_kept home home' committed shown m log begun = record {
 -- A start
 
 -- what is noted is what is committed and what is staged
-noted : (others : ℕ) (s : State) (b : ℕ) (place place' : CoordinatorPlace) (op : Op) (committed : Option Op) (told : Step) (log : List Op) (begun : Option Op) → begun ≡ None → place.staged ≡ None → coordinators.Starts others s b place op place' committed told
+noted : (others : ℕ) (s : TableState) (b : ℕ) (place place' : CoordinatorPlace) (op : Op) (committed : Option Op) (told : Step) (log : List Op) (begun : Option Op) → begun ≡ None → place.staged ≡ None → coordinators.Starts others s b place op place' committed told
     → (logged log op told.decided ≡ joined log committed) × (begun_by begun op told.decided ≡ place'.staged)
 noted others s b place place' op committed told log begun none staged (refused f a p c t) = rw (c, t) (refl, none ∙ sym (ap (λ (x : CoordinatorPlace). x.staged) p ∙ staged))
 noted others s b place place' op committed told log begun none staged (unstaged f p c t) = rw (c, t) (refl, none ∙ sym (ap (λ (x : CoordinatorPlace). x.staged) p ∙ staged))
@@ -51,12 +51,12 @@ home_starts_for home home' entry op told idle s there log begun =
 -- A message
 
 -- what is entered and what is still begun are what is committed and what is staged
-heard : (s : State) (last : ℕ) (op : Op) (votes : List (Option Vote)) (place' : CoordinatorPlace) (committed : Option Op) (told : Step) (log : List Op) (begun : Option Op) → begun ≡ Some op → Tallies s last op votes place' committed told → (entered log begun told.decided ≡ joined log committed) × (still_begun begun told.decided ≡ place'.staged)
+heard : (s : TableState) (last : ℕ) (op : Op) (votes : List (Option Vote)) (place' : CoordinatorPlace) (committed : Option Op) (told : Step) (log : List Op) (begun : Option Op) → begun ≡ Some op → Tallies s last op votes place' committed told → (entered log begun told.decided ≡ joined log committed) × (still_begun begun told.decided ≡ place'.staged)
 heard s last op votes place' committed told log begun is (waits i at p c t) = rw (c, t, p) (refl, is)
 heard s last op votes place' committed told log begun is (commits_all all p c t) = rw (c, t, p, is) (refl, refl)
 heard s last op votes place' committed told log begun is (aborts_all core against least all p c t) = rw (c, t, p) (refl, refl)
 
-taken : (s : State) (place : CoordinatorPlace) (requests : Requests) (entry : ℕ) (m : Message) (place' : CoordinatorPlace) (requests' : Requests) (committed : Option Op) (told : Step) (answer : Answer) (log : List Op) (begun : Option Op) → begun ≡ place.staged → TakesUpAt s place requests entry m place' requests' committed told answer
+taken : (s : TableState) (place : CoordinatorPlace) (requests : Requests) (entry : ℕ) (m : Message) (place' : CoordinatorPlace) (requests' : Requests) (committed : Option Op) (told : Step) (answer : Answer) (log : List Op) (begun : Option Op) → begun ≡ place.staged → TakesUpAt s place requests entry m place' requests' committed told answer
     → (entered log begun told.decided ≡ joined log committed) × (still_begun begun told.decided ≡ place'.staged)
 taken s place requests entry (message.Vote txn v) place' requests' committed told answer log begun is h = heard s txn h.hears.op (slice_set h.hears.votes entry (Some v)) place' committed told log begun (is ∙ h.hears.on_op) h.hears.tallies
 taken s place requests entry (message.Ack txn) place' requests' committed told answer log begun is h = rw (h.none_committed, h.hears.tells) (refl, is ∙ sym (ap (λ (x : CoordinatorPlace). x.staged) h.hears.next))

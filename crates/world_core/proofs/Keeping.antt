@@ -1,7 +1,7 @@
 -- What keeps the cores as the world has them.
 use Rattle.std.proofs.Common.{◌≡◌, ◌∙◌, ◌++◌, ◌∷◌, Bool, Option, Some, List, [], drop, refl, ap, sym}
 use Rattle.std.specs.Prelude.{option_to_list}
-use Rattle.filter_table.specs.Tables.{State, opening, table}
+use Rattle.filter_table.specs.Tables.{TableState, empty_table, table}
 use Rattle.monitor_messages.specs.declared.message.Message.{Message}
 use Rattle.world_channels.specs.Channels.{first_of}
 use Rattle.world_events.specs.declared.event.Event.TheVariants.{Take}
@@ -13,12 +13,12 @@ use Rattle.core_steps.proofs.Taking.{version_commit}
 use Rattle.world_core.specs.declared.peer.Peer.{Peer}
 use Rattle.world_core.specs.Keeping.{seen_peer, CoreIsKept, PeerTakes}
 
-pub table_opening : table [] 0 ≡ opening
+pub table_opening : table [] 0 ≡ empty_table
 unfolding table
 table_opening = refl
 
 -- a core that has done nothing yet
-pub new_kept : (core : OtherCore) → core.replica.shown ≡ opening → IsBetweenSteps core → CoreIsKept [] core
+pub new_kept : (core : OtherCore) → core.replica.shown ≡ empty_table → IsBetweenSteps core → CoreIsKept [] core
 new_kept core shown between = record { shown = shown ∙ (rw shown (sym table_opening)); between = between }
 
 -- The oldest message
@@ -40,7 +40,7 @@ peer_takes messages short p p' m reply answer first t sent down up =
       committed = t.committed;
       here = t.here;
       same_budget = t.same_budget;
-      version_next = ap (λ (s : State). s.version) t.shown_next ∙ version_commit p.core.replica.shown t.committed;
+      version_next = ap (λ (s : TableState). s.version) t.shown_next ∙ version_commit p.core.replica.shown t.committed;
       table_next = t.shown_next;
       down_next = down ∙ r.2;
       up_next = up ∙ ap (λ (x : Option Message). messages p.up ++ option_to_list x) (sym (sent short));

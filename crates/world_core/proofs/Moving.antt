@@ -3,7 +3,7 @@ use Rattle.std.specs.declared.alloc.Global.{Global}
 use Rattle.std.specs.declared.vec.Vec.{Vec}
 use Rattle.std.proofs.Common.{◌≡◌, ◌∙◌, ◌++◌, ◌∷◌, ◌<◌, ◌≤◌, ◌⊎◌, inl, inr, All, ℕ, suc, Bool, Option, None, Some, List, [], length, map, slice_get, refl, ap, sym, subst, arith, false}
 use Rattle.filter_table.specs.declared.operation.Op.{Op}
-use Rattle.filter_table.specs.Tables.{State, table}
+use Rattle.filter_table.specs.Tables.{TableState, table}
 use Rattle.filter_table.proofs.Tables.{table_front}
 use Rattle.monitor_messages.specs.declared.message.Message.{Message}
 use Rattle.monitor_2pc.specs.declared.step.Step.{Step}
@@ -100,7 +100,7 @@ sent_out_seen messages peers peers' (to_one entry m) (inr s) = rw (s.1, no_core 
 pub moved_seen : {C Piece : Type 0} (messages : C → List Message) (home home' : Home) (peers peers' : List (Peer C Piece)) (committed : Option Op) (out : Outgoing) → HomeMoves home committed home' → SentOut messages peers out peers'
     → seen_world messages home' peers' ≡ worlds.core0_moves (seen_world messages home peers) (core0_place home'.core) home'.core.coordinator.requests committed out
 moved_seen messages home home' peers peers' committed out h sent =
-    let version : home'.core.replica.shown.version ≡ raised home.core.replica.shown.version committed = ap (λ (s : State). s.version) h.moves.shown_next ∙ version_commit home.core.replica.shown committed in
+    let version : home'.core.replica.shown.version ≡ raised home.core.replica.shown.version committed = ap (λ (s : TableState). s.version) h.moves.shown_next ∙ version_commit home.core.replica.shown committed in
     rw (h.log_next, h.moves.same_budget, version, sent_out_seen messages peers peers' out sent) refl
 
 -- The world is kept
@@ -157,7 +157,7 @@ up_done messages home home' peers mid peers' w core entry m committed told answe
       requests = home'.core.coordinator.requests;
       committed = committed;
       told = told;
-      here = subst (λ (s : State). TakesUpAt s (core0_place home.core) home.core.coordinator.requests o.entry m (core0_place home'.core) home'.core.coordinator.requests committed told answer) k.home_kept.shown here;
+      here = subst (λ (s : TableState). TakesUpAt s (core0_place home.core) home.core.coordinator.requests o.entry m (core0_place home'.core) home'.core.coordinator.requests committed told answer) k.home_kept.shown here;
       next = moved_seen messages home home' mid peers' committed (outgoing told (core0_place home'.core)) h sent
           ∙ ap (λ (x : worlds.World). worlds.core0_moves x (core0_place home'.core) home'.core.coordinator.requests committed (outgoing told (core0_place home'.core))) (seen_gave messages home peers mid core entry m o same gives);
     } in

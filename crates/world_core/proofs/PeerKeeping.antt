@@ -2,7 +2,7 @@
 use Rattle.std.proofs.Common.{◌≡◌, ◌∙◌, ◌++◌, ◌∷◌, ◌+◌, ◌⊎◌, inl, inr, ℕ, zero, suc, Bool, true, None, Some, List, [], Result, Ok, Err, length, map, slice_get, slice_set, refl, ap, sym, subst, add-one}
 use Rattle.std.specs.Prelude.{option_to_list}
 use Rattle.filter_table.specs.declared.operation.Op.{Op}
-use Rattle.filter_table.specs.Tables.{State, after, table}
+use Rattle.filter_table.specs.Tables.{TableState, after, table}
 use Rattle.table_replica.specs.Shown.{ReplicaState}
 use Rattle.monitor_messages.specs.declared.message.Message.{Message}
 use Rattle.monitor_messages.specs.declared.message.Message.TheVariants as message
@@ -170,11 +170,11 @@ awaits_oldest messages home peers i p k at m rest down =
     by_message (message.Submit op) e a = a
 
 -- Commit and Abort are answered the same at every table
-commit_any : (short : Bool) (s s' : State) (b txn : ℕ) (place place' : ParticipantPlace) (reply : Message) → Answers short s b place (message.Commit txn) place' reply → Answers short s' b place (message.Commit txn) place' reply
+commit_any : (short : Bool) (s s' : TableState) (b txn : ℕ) (place place' : ParticipantPlace) (reply : Message) → Answers short s b place (message.Commit txn) place' reply → Answers short s' b place (message.Commit txn) place' reply
 commit_any short s s' b txn place place' (message.Ack n) a = a
 commit_any short s s' b txn place place' reply a = absurd a
 
-abort_any : (short : Bool) (s s' : State) (b txn : ℕ) (place place' : ParticipantPlace) (reply : Message) → Answers short s b place (message.Abort txn) place' reply → Answers short s' b place (message.Abort txn) place' reply
+abort_any : (short : Bool) (s s' : TableState) (b txn : ℕ) (place place' : ParticipantPlace) (reply : Message) → Answers short s b place (message.Abort txn) place' reply → Answers short s' b place (message.Abort txn) place' reply
 abort_any short s s' b txn place place' (message.Ack n) a = a
 abort_any short s s' b txn place place' reply a = absurd a
 
@@ -209,7 +209,7 @@ take_happens messages home peers i p p' short answer k at t = record {
     by_message (message.Reply d) e h = h
     by_message (message.Prepare txn op) e h = record {
       reply = h.reply;
-      answers = subst (λ (s : State). Answers short s p.core.replica.budget (seen_peer messages p).place (message.Prepare txn op) (seen_peer messages p').place h.reply) (own_newest messages home peers i p txn op t.rest k at e) h.answers;
+      answers = subst (λ (s : TableState). Answers short s p.core.replica.budget (seen_peer messages p).place (message.Prepare txn op) (seen_peer messages p').place h.reply) (own_newest messages home peers i p txn op t.rest k at e) h.answers;
       same_outstanding = h.same_outstanding;
       is_committed = h.is_committed;
       is_answer = h.is_answer;
@@ -229,7 +229,7 @@ take_shown messages home peers i p p' short answer k at t = by_message t.m t.old
     stays : t.committed ≡ None → p'.core.replica.shown ≡ table home.log.items p'.core.replica.shown.version
     stays none =
         let same : p'.core.replica.shown ≡ p.core.replica.shown = t.table_next ∙ rw none refl in
-        same ∙ ((k.peers_kept i p at).shown ∙ ap (λ (s : State). table home.log.items s.version) (sym same))
+        same ∙ ((k.peers_kept i p at).shown ∙ ap (λ (s : TableState). table home.log.items s.version) (sym same))
 
     by_message : (m : Message) → messages p.down ≡ m ∷ t.rest
         → TakesDownAt short p.core.replica.shown p.core.replica.budget p.core.replica.shown.version (seen_peer messages p).place p.core.participant.outstanding m (seen_peer messages p').place p'.core.participant.outstanding t.committed answer
@@ -246,7 +246,7 @@ take_shown messages home peers i p p' short answer k at t = by_message t.m t.old
         let is : t.committed ≡ Some c.0 = h.is_committed ∙ c.1 in
         let next : p'.core.replica.shown ≡ after p.core.replica.shown c.0 = t.table_next ∙ ap (after_commit p.core.replica.shown) is in
         let version : p'.core.replica.shown.version ≡ p.core.replica.shown.version + 1 = t.version_next ∙ ap (raised p.core.replica.shown.version) is in
-        next ∙ (ap (λ (s : State). after s c.0) (k.peers_kept i p at).shown ∙ (sym (table_at home.log.items p.core.replica.shown.version c.0 c.2) ∙ ap (table home.log.items) (sym version)))
+        next ∙ (ap (λ (s : TableState). after s c.0) (k.peers_kept i p at).shown ∙ (sym (table_at home.log.items p.core.replica.shown.version c.0 c.2) ∙ ap (table home.log.items) (sym version)))
 
 pub take_kept : {C Piece : Type 0} (messages : C → List Message) (home : Home) (peers : List (Peer C Piece)) (i : ℕ) (p p' : Peer C Piece) (short : Bool) (r : Result Answer WorldFault) → WorldIsKept messages home peers → slice_get peers i ≡ Some p
     → Takes messages short r p p' → WorldIsKept messages home (slice_set peers i p')

@@ -2,7 +2,7 @@
 use Rattle.std.proofs.Common.{◌≡◌, ◌≢◌, ◌∙◌, ◌<◌, ◌∷◌, [], ℕ, zero, suc, Bool, true, None, Some, List, slice_get, refl, ap, sym, subst, arith}
 use Rattle.std.specs.Prelude.{option_map, option_and_then, Result, Ok, Err, IfOk, OnOk}
 use Rattle.filter_table.specs.declared.operation.Op.{Op}
-use Rattle.pcap_reader.specs.declared.capture.Packet.{Packet}
+use Rattle.pcap_reader.specs.declared.capture.CapturedPacket.{CapturedPacket}
 use Rattle.monitor_messages.specs.declared.message.Message.{Message}
 use Rattle.world_events.specs.declared.event.Event.{Event}
 use Rattle.world_events.specs.declared.event.Event.TheVariants.{Start, Submit, StartFor, Take, Rx}
@@ -81,7 +81,7 @@ take_none w w' (suc entry) zero short answer h Outstanding s = s
 take_none w w' (suc entry) zero short answer h NoneWaiting s = s
 take_none w w' (suc entry) zero short answer h NoMemory s = s
 
-pub rx_none : (w w' : World) (core number : ℕ) (packet : Packet) (floor : ℕ) (answer : Answer) → Happens w (Rx core number packet floor) w' answer → NoneStands w (Rx core number packet floor)
+pub rx_none : (w w' : World) (core number : ℕ) (packet : CapturedPacket) (floor : ℕ) (answer : Answer) → Happens w (Rx core number packet floor) w' answer → NoneStands w (Rx core number packet floor)
 rx_none w w' core number packet floor answer h NoSuchCore s = cc (h.is_version, s)
 rx_none w w' core number packet floor answer h NotReady s =
     let here = h.is_version in

@@ -2,7 +2,7 @@
 -- No public clause cites these.
 use Rattle.std.specs.Prelude.{◌≡◌, ◌≢◌, ◌<◌, ◌≤◌, ◌++◌, ◌∷◌, [], drop, ℕ, Bool, true, false, Option, None, Some, List, length, map, slice_get, slice_set, option_to_list, Result, IfOk, IfErr, OnErr}
 use Rattle.filter_table.specs.declared.operation.Op.{Op}
-use Rattle.filter_table.specs.Tables.{State, table}
+use Rattle.filter_table.specs.Tables.{TableState, table}
 use Rattle.monitor_messages.specs.declared.message.Message.{Message}
 use Rattle.monitor_messages.specs.declared.message.Message.TheVariants as message
 use Rattle.monitor_2pc.specs.Places.{after_commit}
@@ -56,7 +56,7 @@ abbrev pub AwaitsOldest : {C Piece : Type 0} → (C → List Message) → Peer C
 AwaitsOldest messages p = (m : Message) (rest : List Message) → messages p.down ≡ m ∷ rest → AwaitsHere p.core m
 
 -- a core with this table takes the oldest message
-pub record PeerTakes (short : Bool) (s : State) (p : worlds.Peer) (s' : State) (p' : worlds.Peer) (answer : Answer) : Type 0 where
+pub record PeerTakes (short : Bool) (s : TableState) (p : worlds.Peer) (s' : TableState) (p' : worlds.Peer) (answer : Answer) : Type 0 where
   pub m : Message
   pub rest : List Message
   pub oldest : p.down ≡ m ∷ rest

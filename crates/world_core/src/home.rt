@@ -2,7 +2,7 @@
 
 ghost use Rattle.std.specs.Prelude.{◌≡◌, ◌<◌, ◌≤◌, ℕ, suc, None, [], IfOk};
 ghost use Rattle.filter_table.specs.declared.operation.Op.{Op as GhostOp};
-ghost use Rattle.filter_table.specs.Tables.{opening};
+ghost use Rattle.filter_table.specs.Tables.{empty_table};
 ghost use Rattle.monitor_2pc.specs.Coordinators.{Idle, no_requests};
 ghost use Rattle.monitor_2pc.specs.Starting.{WasStaged};
 ghost use Rattle.world_model.specs.Agreement.{Expects};
@@ -32,7 +32,7 @@ impl Home {
     pub(crate) fn new(alloc: Global, budget: u32, others: u16) -> Result<Home, AllocError>
         requires { others ≤ 7 }
         ensures log { IfOk result (λ home. home.log.items ≡ []) }
-        ensures replica { IfOk result (λ home. home.core.replica ≡ record { budget = budget; shown = opening; staged = None }) }
+        ensures replica { IfOk result (λ home. home.core.replica ≡ record { budget = budget; shown = empty_table; staged = None }) }
         ensures coordinator { IfOk result (λ home. home.core.coordinator ≡ record { others = others; last = 0; phase = Idle; requests = no_requests others }) }
         ensures begun { IfOk result (λ home. home.begun ≡ None) }
     {

@@ -4,7 +4,7 @@ use Rattle.std.proofs.lemmas.List.{map-append}
 use mathlib.Core.List.{IsPrefix}
 use Rattle.filter_table.specs.declared.operation.Op.{Op}
 use Rattle.filter_table.specs.declared.operation.Made.{Made}
-use Rattle.filter_table.specs.Tables.{State, after, made, table, instructions, Allowed}
+use Rattle.filter_table.specs.Tables.{TableState, after, made, table, instructions, Allowed}
 use Rattle.filter_table.specs.Staging.{AsksForMemory}
 use Rattle.filter_table.proofs.Tables.{table_front}
 use Rattle.monitor_messages.specs.declared.message.Message.{Message}
@@ -238,7 +238,7 @@ is_entry_at : (log : List Op) (w w' : World) (v : ℕ) (op : Op) (version : ℕ)
 is_entry_at log w w' v op version id long same front next c = record {
   entry = rw (← long) (subst (λ (l : List Op). slice_get l (length w.log) ≡ Some op) (ap (λ (l : List Op). l ++ front.0) (sym next) ∙ front.1) (get_front (w.log ++ op ∷ []) front.0 (length w.log) op (get_end w.log op)));
   is_version = omega (arith, c.is_version, long);
-  is_made = c.is_made ∙ ap (λ (s : State). made s op) (ap (λ (l : List Op). table l (length w.log)) next ∙ (table_front w.log (op ∷ []) (length w.log) (omega arith) ∙ same));
+  is_made = c.is_made ∙ ap (λ (s : TableState). made s op) (ap (λ (l : List Op). table l (length w.log)) next ∙ (table_front w.log (op ∷ []) (length w.log) (omega arith) ∙ same));
 }
 
 -- what is known of core 0's event
@@ -290,7 +290,7 @@ vetoed budget budgets core0 others end ends before event answer x txn op core wh
       voted = voted_in_others budget budgets core0 others end ends before event answer x txn h.entry h.against within h.voted;
       budget = h.budget;
       is_budget = known.budgets_are h.entry p.0 p.1 ∙ ap (λ (n : ℕ). Some n) p.2;
-      reason = subst (λ (s : State). ((h.against ≡ vote.NoMemory) × (why ≡ veto.NoMemory) × AsksForMemory s h.budget op) ⊎ ((h.against ≡ vote.Budget) × (why ≡ veto.Budget) × (h.budget < instructions (after s op)))) x.newest_is h.reason;
+      reason = subst (λ (s : TableState). ((h.against ≡ vote.NoMemory) × (why ≡ veto.NoMemory) × AsksForMemory s h.budget op) ⊎ ((h.against ≡ vote.Budget) × (why ≡ veto.Budget) × (h.budget < instructions (after s op)))) x.newest_is h.reason;
     }
 
 votes_decide : (budget : ℕ) (budgets : List ℕ) (core0 : List Stamped) (others : List (List Stamped)) (end : Core0) (ends : List Other) (before : List Stamped) (event : Event) (answer : Answer) (x : Context budget budgets core0 others end ends before event answer) (txn : ℕ) (op : Op) (d : Decision)
@@ -314,7 +314,7 @@ allowed_then : (budget : ℕ) (budgets : List ℕ) (core0 : List Stamped) (other
     → Allowed (newest x.world) x.world.budget op None → Allowed (table end.log (version_of 0 (unstamped before))) budget op None
 allowed_then budget budgets core0 others end ends before event answer x op a =
     subst (λ (b : ℕ). Allowed (table end.log (version_of 0 (unstamped before))) b op None) (run_known budget budgets (as_listed x.earlier) x.world x.run).budget_is
-    (subst (λ (s : State). Allowed s x.world.budget op None) x.newest_is a)
+    (subst (λ (s : TableState). Allowed s x.world.budget op None) x.newest_is a)
 
 none_else : (budget : ℕ) (budgets : List ℕ) (core0 : List Stamped) (others : List (List Stamped)) (end : Core0) (ends : List Other) (before : List Stamped) (event : Event) (answer : Answer) (x : Context budget budgets core0 others end ends before event answer)
     → length x.world.peers ≡ 0 → length others ≡ 0
@@ -325,7 +325,7 @@ reason_then : (budget : ℕ) (budgets : List ℕ) (core0 : List Stamped) (others
     → HasReason (newest x.world) x.world.budget op why → HasReason (table end.log (version_of 0 (unstamped before))) budget op why
 reason_then budget budgets core0 others end ends before event answer x op why r =
     subst (λ (b : ℕ). HasReason (table end.log (version_of 0 (unstamped before))) b op why) (run_known budget budgets (as_listed x.earlier) x.world x.run).budget_is
-    (subst (λ (s : State). HasReason s x.world.budget op why) x.newest_is r)
+    (subst (λ (s : TableState). HasReason s x.world.budget op why) x.newest_is r)
 
 decides_by : (budget : ℕ) (budgets : List ℕ) (core0 : List Stamped) (others : List (List Stamped)) (end : Core0) (ends : List Other) (before : List Stamped) (event : Event) (answer : Answer) → Context budget budgets core0 others end ends before event answer
     → DecidesBy budget budgets others end.log before (version_of 0 (unstamped before)) event answer

@@ -2,7 +2,7 @@
 use Rattle.std.proofs.Common.{◌≡◌, ◌≤◌, ◌⊎◌, inl, inr, ℕ, zero, suc, Bool, true, Option, Some, List, [], ◌∷◌, ◌++◌, length, slice_get, slice_set, refl, sym, ◌∙◌, subst, arith}
 use Rattle.std.proofs.lemmas.List.{map-append}
 use Rattle.filter_table.specs.declared.operation.Op.{Op}
-use Rattle.filter_table.specs.Tables.{State}
+use Rattle.filter_table.specs.Tables.{TableState}
 use Rattle.monitor_messages.specs.declared.message.Message.{Message}
 use Rattle.monitor_messages.specs.declared.message.Message.TheVariants as message
 use Rattle.filter_table.specs.declared.decision.Vote.{Vote}
@@ -31,12 +31,12 @@ use Rattle.table_replica.proofs.Shared.{get_at}
 
 -- A vote NoMemory is as it would be with the flag
 
-casts_short : (short : Bool) (s : State) (b : ℕ) (op : Op) (v : Vote) → v ≡ vote.NoMemory → Casts short s b op v → Casts true s b op v
+casts_short : (short : Bool) (s : TableState) (b : ℕ) (op : Op) (v : Vote) → v ≡ vote.NoMemory → Casts short s b op v → Casts true s b op v
 casts_short short s b op vote.Yes e c = absurd (cc)
 casts_short short s b op vote.Budget e c = absurd (cc)
 casts_short short s b op vote.NoMemory e c = c
 
-short_at : (short : Bool) (s : State) (b version : ℕ) (place place' : ParticipantPlace) (out out' : Bool) (m : Message) (committed : Option Op) (txn : ℕ) → TakesDownAt short s b version place out m place' out' committed (TookPrepare txn vote.NoMemory)
+short_at : (short : Bool) (s : TableState) (b version : ℕ) (place place' : ParticipantPlace) (out out' : Bool) (m : Message) (committed : Option Op) (txn : ℕ) → TakesDownAt short s b version place out m place' out' committed (TookPrepare txn vote.NoMemory)
     → TakesDownAt true s b version place out m place' out' committed (TookPrepare txn vote.NoMemory)
 short_at short s b version place place' out out' (message.Prepare t op) committed txn h =
     record { reply = h.reply; answers = by_reply h.reply h.answers h.is_answer; same_outstanding = h.same_outstanding; is_committed = h.is_committed; is_answer = h.is_answer }

@@ -3,7 +3,7 @@ use Rattle.std.proofs.Common.{◌≡◌, ◌<◌, ◌≤◌, ◌⊎◌, inl, inr
 use mathlib.Core.List.{IsPrefix}
 use Rattle.filter_table.specs.declared.operation.Op.{Op}
 use Rattle.filter_table.specs.Tables.{table}
-use Rattle.pcap_reader.specs.declared.capture.Packet.{Packet}
+use Rattle.pcap_reader.specs.declared.capture.CapturedPacket.{CapturedPacket}
 use Rattle.monitor_messages.specs.declared.message.Message.{Message}
 use Rattle.monitor_messages.specs.declared.message.Message.TheVariants as message
 use Rattle.monitor_2pc.specs.declared.step.Step.{Step}
@@ -72,7 +72,7 @@ takes_up_at : (log log' : List Op) (place place' next : CoordinatorPlace) (reque
     → TakesUpAt (table log (length log)) place requests entry m next after committed told answer → TakesUpAt (table log' (length log')) place' requests' entry m next after committed told answer
 takes_up_at log log' place place' next requests requests' after entry m committed told answer el ep er h = rw (el, ep, er) h
 
-receives_0 : (log log' : List Op) (version : ℕ) (packet : Packet) (floor : ℕ) (answer : Answer) → log' ≡ log → version ≡ length log
+receives_0 : (log log' : List Op) (version : ℕ) (packet : CapturedPacket) (floor : ℕ) (answer : Answer) → log' ≡ log → version ≡ length log
     → ReceivesAt (table log (length log)) (length log) packet floor answer → ReceivesAt (table log' version) version packet floor answer
 receives_0 log log' version packet floor answer el ev h = rw (el, ev) h
 
@@ -123,7 +123,7 @@ lead_start_for entry budget budgets w c mid stamp answer None out hs ends sent t
     })
     (h.next ∙ rw st.log_is refl) (subst (λ (x : Outgoing). Seats w.log w.peers hs ends (record { stamp = stamp; sent = x } ∷ sent) taken) h.sends seats)
 
-lead_rx : (number : ℕ) (packet : Packet) (floor : ℕ) → Core0Event (Rx 0 number packet floor)
+lead_rx : (number : ℕ) (packet : CapturedPacket) (floor : ℕ) → Core0Event (Rx 0 number packet floor)
 lead_rx number packet floor budget budgets w c mid stamp answer (Some m) out hs ends sent taken st step seats late = absurd step.does
 lead_rx number packet floor budget budgets w c mid stamp answer None out hs ends sent taken st step seats late =
     let h = step.does in

@@ -2,7 +2,7 @@
 use Rattle.std.proofs.Common.{◌≡◌, ◌+◌, ℕ, zero, suc, Bool, true, false, Option, Some, None, List, [], ◌∷◌, ◌++◌, length, slice_set, refl, ap, sym, ◌∙◌, subst, replicate}
 use Rattle.std.specs.Prelude.{option_to_list}
 use Rattle.filter_table.specs.declared.operation.Op.{Op}
-use Rattle.filter_table.specs.Tables.{State}
+use Rattle.filter_table.specs.Tables.{TableState}
 use Rattle.monitor_messages.specs.declared.message.Message.{Message}
 use Rattle.monitor_messages.specs.declared.message.Message.TheVariants as message
 use Rattle.filter_table.specs.declared.decision.Vote.{Vote}
@@ -42,7 +42,7 @@ record StartIs (others : ℕ) (place : CoordinatorPlace) (op : Op) (answer : Ans
   committed_is : committed ≡ start_commits op answer
   told_is : told ≡ start_tells place answer
 
-start_is : (others : ℕ) (s : State) (b : ℕ) (place place' : CoordinatorPlace) (op : Op) (committed : Option Op) (told : Step) (answer : Answer) → answer ≡ start_told told.txn told.decided → Starts others s b place op place' committed told
+start_is : (others : ℕ) (s : TableState) (b : ℕ) (place place' : CoordinatorPlace) (op : Op) (committed : Option Op) (told : Step) (answer : Answer) → answer ≡ start_told told.txn told.decided → Starts others s b place op place' committed told
     → StartIs others place op answer place' committed told
 start_is others s b place place' op committed told answer a (refused f al p c t) =
     let e = a ∙ ap (λ (x : Step). start_told x.txn x.decided) t in record { place_is = rw e p; committed_is = rw e c; told_is = rw e t }
@@ -102,7 +102,7 @@ record TallyIs (last : ℕ) (op : Op) (votes : List (Option Vote)) (decided : Op
   committed_is : committed ≡ tally_commits op decided
   told_is : told ≡ tally_tells last decided
 
-tally_is : (s : State) (last : ℕ) (op : Op) (votes : List (Option Vote)) (place' : CoordinatorPlace) (committed : Option Op) (told : Step) (decided : Option Decision) → told.decided ≡ decided → Tallies s last op votes place' committed told
+tally_is : (s : TableState) (last : ℕ) (op : Op) (votes : List (Option Vote)) (place' : CoordinatorPlace) (committed : Option Op) (told : Step) (decided : Option Decision) → told.decided ≡ decided → Tallies s last op votes place' committed told
     → TallyIs last op votes decided place' committed told
 tally_is s last op votes place' committed told decided d (waits i n p c t) = let e = sym d ∙ ap (λ (x : Step). x.decided) t in record { place_is = rw e p; committed_is = rw e c; told_is = rw e t }
 tally_is s last op votes place' committed told decided d (commits_all a p c t) = let e = sym d ∙ ap (λ (x : Step). x.decided) t in record { place_is = rw e p; committed_is = rw e c; told_is = rw e t }
@@ -115,7 +115,7 @@ record SameUp (p1 p2 : CoordinatorPlace) (r1 r2 : Requests) (c1 c2 : Option Op) 
   committed : c1 ≡ c2
   told : t1 ≡ t2
 
-up_case_once : (s : State) (place p1 p2 : CoordinatorPlace) (requests r1 r2 : Requests) (i : ℕ) (m : Message) (c1 c2 : Option Op) (t1 t2 : Step) (answer : Answer)
+up_case_once : (s : TableState) (place p1 p2 : CoordinatorPlace) (requests r1 r2 : Requests) (i : ℕ) (m : Message) (c1 c2 : Option Op) (t1 t2 : Step) (answer : Answer)
     → TakesUpAt s place requests i m p1 r1 c1 t1 answer → TakesUpAt s place requests i m p2 r2 c2 t2 answer → SameUp p1 p2 r1 r2 c1 c2 t1 t2
 up_case_once s place p1 p2 requests r1 r2 i (message.Vote txn v) c1 c2 t1 t2 answer a b =
     let votes : a.hears.votes ≡ b.hears.votes = (let x = a.hears.voting in let y = b.hears.voting in cc) in
@@ -171,7 +171,7 @@ record SameDown (p1 p2 : ParticipantPlace) (o1 o2 : Bool) (c1 c2 : Option Op) : 
   committed : c1 ≡ c2
 
 -- the place after a message that the core answers, by its answer
-took_place : (short : Bool) (s : State) (b version : ℕ) (place p1 p2 : ParticipantPlace) (m reply1 reply2 : Message) (v2 : ℕ) (answer : Answer)
+took_place : (short : Bool) (s : TableState) (b version : ℕ) (place p1 p2 : ParticipantPlace) (m reply1 reply2 : Message) (v2 : ℕ) (answer : Answer)
     → Answers short s b place m p1 reply1 → Took m reply1 version answer → Answers short s b place m p2 reply2 → Took m reply2 v2 answer → p1 ≡ p2
 took_place short s b version place p1 p2 (message.Prepare txn op) (message.Vote n1 x) (message.Vote n2 y) v2 answer a t a' t' =
     let e : TookPrepare txn x ≡ TookPrepare txn y = sym t ∙ t' in
@@ -184,7 +184,7 @@ took_place short s b version place p1 p2 (message.Commit txn) (message.Ack n1) r
 took_place short s b version place p1 p2 (message.Abort txn) (message.Ack n1) reply2 v2 answer a t a' t' = absurd a'
 took_place short s b version place p1 p2 m reply1 reply2 v2 answer a t a' t' = absurd a
 
-down_case_once : (short : Bool) (s : State) (b version : ℕ) (place p1 p2 : ParticipantPlace) (out o1 o2 : Bool) (m : Message) (c1 c2 : Option Op) (answer : Answer)
+down_case_once : (short : Bool) (s : TableState) (b version : ℕ) (place p1 p2 : ParticipantPlace) (out o1 o2 : Bool) (m : Message) (c1 c2 : Option Op) (answer : Answer)
     → TakesDownAt short s b version place out m p1 o1 c1 answer → TakesDownAt short s b version place out m p2 o2 c2 answer → SameDown p1 p2 o1 o2 c1 c2
 down_case_once short s b version place p1 p2 out o1 o2 (message.Reply d) c1 c2 answer x y = record { place = x.same_place ∙ sym y.same_place; outstanding = x.none_outstanding ∙ sym y.none_outstanding; committed = x.none_committed ∙ sym y.none_committed }
 down_case_once short s b version place p1 p2 out o1 o2 (message.Prepare txn op) c1 c2 answer x y = record {

@@ -4,9 +4,9 @@ use Rattle.std.specs.Prelude.{option_to_list, option_map}
 use Rattle.std.proofs.lemmas.List.{append-nil}
 use mathlib.Core.List.{IsPrefix}
 use Rattle.filter_table.specs.declared.operation.Op.{Op}
-use Rattle.filter_table.specs.Tables.{State, table}
+use Rattle.filter_table.specs.Tables.{TableState, table}
 use Rattle.filter_table.proofs.Tables.{table_front}
-use Rattle.pcap_reader.specs.declared.capture.Packet.{Packet}
+use Rattle.pcap_reader.specs.declared.capture.CapturedPacket.{CapturedPacket}
 use Rattle.monitor_messages.specs.declared.message.Message.{Message}
 use Rattle.monitor_messages.specs.declared.message.Message.TheVariants as message
 use Rattle.monitor_2pc.specs.Participants.{ParticipantPlace, Answers}
@@ -68,10 +68,10 @@ whole_front front log f e =
     sym (append-nil front) ∙ (ap (λ (x : List Op). front ++ x) (sym none) ∙ f.1)
 
 -- only a Prepare is answered by the table
-takes_like : (short : Bool) (s s' : State) (b version : ℕ) (place place' : ParticipantPlace) (out out' : Bool) (m : Message) (committed : Option Op) (answer : Answer)
+takes_like : (short : Bool) (s s' : TableState) (b version : ℕ) (place place' : ParticipantPlace) (out out' : Bool) (m : Message) (committed : Option Op) (answer : Answer)
     → ((txn : ℕ) (op : Op) → m ≡ message.Prepare txn op → s ≡ s') → TakesDownAt short s b version place out m place' out' committed answer → TakesDownAt short s' b version place out m place' out' committed answer
 takes_like short s s' b version place place' out out' (message.Reply d) committed answer same h = h
-takes_like short s s' b version place place' out out' (message.Prepare txn op) committed answer same h = subst (λ (x : State). TakesDownAt short x b version place out (message.Prepare txn op) place' out' committed answer) (same txn op refl) h
+takes_like short s s' b version place place' out out' (message.Prepare txn op) committed answer same h = subst (λ (x : TableState). TakesDownAt short x b version place out (message.Prepare txn op) place' out' committed answer) (same txn op refl) h
 takes_like short s s' b version place place' out out' (message.Commit txn) committed answer same h = record { reply = h.reply; answers = by_reply h.reply h.answers; same_outstanding = h.same_outstanding; is_committed = h.is_committed; is_answer = h.is_answer }
   where
     by_reply : (reply : Message) → Answers short s b place (message.Commit txn) place' reply → Answers short s' b place (message.Commit txn) place' reply
@@ -86,7 +86,7 @@ takes_like short s s' b version place place' out out' (message.Vote txn v) commi
 takes_like short s s' b version place place' out out' (message.Ack txn) committed answer same h = absurd h.answers
 takes_like short s s' b version place place' out out' (message.Submit op) committed answer same h = absurd h.answers
 
-takes_at : (short : Bool) (s : State) (b version known : ℕ) (place at place' : ParticipantPlace) (out told out' : Bool) (m : Message) (committed : Option Op) (answer : Answer) → version ≡ known → place ≡ at → out ≡ told
+takes_at : (short : Bool) (s : TableState) (b version known : ℕ) (place at place' : ParticipantPlace) (out told out' : Bool) (m : Message) (committed : Option Op) (answer : Answer) → version ≡ known → place ≡ at → out ≡ told
     → TakesDownAt short s b known at told m place' out' committed answer → TakesDownAt short s b version place out m place' out' committed answer
 takes_at short s b version known place at place' out told out' m committed answer ev ep eo h = rw (ev, ep, eo) h
 
@@ -94,7 +94,7 @@ submits_at : (out known out' : Bool) (answer : Answer) → out ≡ known → Sub
 submits_at out known out' answer e h = rw e h
 
 -- a front of the log is a table of the log
-receives_at : (log front : List Op) (version : ℕ) (packet : Packet) (floor : ℕ) (answer : Answer) → version ≡ length front → IsPrefix front log → ReceivesAt (table front (length front)) (length front) packet floor answer
+receives_at : (log front : List Op) (version : ℕ) (packet : CapturedPacket) (floor : ℕ) (answer : Answer) → version ≡ length front → IsPrefix front log → ReceivesAt (table front (length front)) (length front) packet floor answer
     → ReceivesAt (table log version) version packet floor answer
 receives_at log front version packet floor answer e f h = rw (e, ← f.1, table_front front f.0 (length front) (omega arith)) h
 
@@ -119,7 +119,7 @@ record Fitting (log front : List Op) (committed : Option Op) (m : Message) : Typ
   still_front : IsPrefix (joined front committed) log
   newest_front : (txn : ℕ) (op : Op) → m ≡ message.Prepare txn op → front ≡ log
 
-fitting : (log front : List Op) (place : CoordinatorPlace) (i : ℕ) (p : Peer) (short : Bool) (s : State) (b version : ℕ) (place' : ParticipantPlace) (out' : Bool) (m : Message) (rest : List Message) (committed : Option Op) (answer : Answer)
+fitting : (log front : List Op) (place : CoordinatorPlace) (i : ℕ) (p : Peer) (short : Bool) (s : TableState) (b version : ℕ) (place' : ParticipantPlace) (out' : Bool) (m : Message) (rest : List Message) (committed : Option Op) (answer : Answer)
     → p.down ≡ m ∷ rest → Pair log place i p → IsPrefix front log → p.version ≡ length front → TakesDownAt short s b version p.place p.outstanding m place' out' committed answer → Fitting log front committed m
 fitting log front place i p short s b version place' out' (message.Reply d) rest committed answer e pair f v h = record { still_front = rw h.none_committed f; newest_front = λ txn op is. absurd cc }
 fitting log front place i p short s b version place' out' (message.Prepare txn op) rest committed answer e pair f v h = record {
@@ -207,7 +207,7 @@ own_submit w i p stamp op answer r e mid sent taken0 taken at seat h ahead takes
     q : Peer
     q = record p { outstanding = h.outstanding; up = p.up ++ option_to_list (sent_up (Submit (suc i) op) answer) }
 
-own_rx : (w : World) (i : ℕ) (p : Peer) (stamp number : ℕ) (packet : Packet) (floor : ℕ) (answer : Answer) (r : List Stamped) (e mid : Other) (sent : List Sending) (taken0 : List (ℕ × Stamping)) (taken : List Stamping)
+own_rx : (w : World) (i : ℕ) (p : Peer) (stamp number : ℕ) (packet : CapturedPacket) (floor : ℕ) (answer : Answer) (r : List Stamped) (e mid : Other) (sent : List Sending) (taken0 : List (ℕ × Stamping)) (taken : List Stamping)
     → slice_get w.peers i ≡ Some p → (seat : Seat i w.log p (record { stamp = stamp; done = record { event = Rx (suc i) number packet floor; answer = answer } } ∷ r) e sent taken0)
     → RxOther seat.core stamp packet floor mid answer → HistoryOther i p.budget mid r e taken → IsPrefix taken (seat.down ++ sent_to i sent)
     → Owned w i p (record { stamp = stamp; done = record { event = Rx (suc i) number packet floor; answer = answer } }) r e sent taken0
@@ -255,7 +255,7 @@ own_takes i short w p stamp answer (Some m) r e mid sent taken0 taken inv at sea
     own_take w i p stamp short answer m r e mid sent taken0 taken inv at seat h.does.1 ahead (takes_now i w.log p _ e sent taken0 seat (m ∷ taken) t)
     (λ ms first. late m ms first (omega (arith, h.ticks, tick_after seat.core.clock m)))
 
-own_receives : (i number : ℕ) (packet : Packet) (floor : ℕ) → OwnEvent (Rx (suc i) number packet floor) i
+own_receives : (i number : ℕ) (packet : CapturedPacket) (floor : ℕ) → OwnEvent (Rx (suc i) number packet floor) i
 own_receives i number packet floor w p stamp answer None r e mid sent taken0 taken inv at seat h ahead t late = own_rx w i p stamp number packet floor answer r e mid sent taken0 taken at seat h.does.1 ahead (takes_now i w.log p _ e sent taken0 seat taken t)
 own_receives i number packet floor w p stamp answer (Some m) r e mid sent taken0 taken inv at seat h ahead t late = absurd h.does
 

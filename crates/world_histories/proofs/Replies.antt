@@ -4,7 +4,7 @@ use Rattle.std.specs.Prelude.{count_by}
 use Rattle.std.proofs.lemmas.List.Sums.{sum_by-append}
 use mathlib.Core.List.{IsPrefix}
 use Rattle.filter_table.specs.declared.operation.Op.{Op}
-use Rattle.filter_table.specs.Tables.{State, made, table}
+use Rattle.filter_table.specs.Tables.{TableState, made, table}
 use Rattle.filter_table.proofs.Tables.{table_front}
 use Rattle.filter_table.specs.declared.decision.Vote.TheVariants as vote
 use Rattle.filter_table.specs.declared.decision.Decision.{Decision}
@@ -185,7 +185,7 @@ entered_front log front op (Committed version id) f x =
       record {
         entry = subst (λ (l : List Op). slice_get l x.0 ≡ Some op) f.1 (get_front front f.0 x.0 op x.1.entry);
         is_version = x.1.is_version;
-        is_made = x.1.is_made ∙ ap (λ (s : State). made s op) (sym (ap (λ (l : List Op). table l x.0) (sym f.1) ∙ table_front front f.0 x.0 le));
+        is_made = x.1.is_made ∙ ap (λ (s : TableState). made s op) (sym (ap (λ (l : List Op). table l x.0) (sym f.1) ∙ table_front front f.0 x.0 le));
       },
     )
 entered_front log front op (Refused core why) f x = tt

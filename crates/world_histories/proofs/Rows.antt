@@ -3,7 +3,7 @@ use Rattle.std.proofs.Common.{◌≡◌, ◌≤◌, ℕ, zero, suc, false, Optio
 use Rattle.filter_table.specs.declared.operation.Op.{Op}
 use Rattle.filter_table.specs.declared.operation.Op.TheVariants.{Create}
 use Rattle.filter_table.specs.declared.operation.Made.TheVariants.{Cap}
-use Rattle.filter_table.specs.Tables.{opening, table, after, made, instructions, Allowed}
+use Rattle.filter_table.specs.Tables.{empty_table, table, after, made, instructions, Allowed}
 use Rattle.monitor_messages.specs.declared.message.Message.{Message}
 use Rattle.monitor_messages.specs.declared.message.Message.TheVariants as message
 use Rattle.filter_table.specs.declared.decision.Vote.{Vote}
@@ -35,7 +35,7 @@ of_core1 : List Stamped
 unfolding at
 of_core1 = at 2 (Take 1 0 false) (TookPrepare 1 vote.Yes) ∷ at 4 (Take 1 0 false) (TookCommit 1 1) ∷ []
 
-allowed_first : Allowed opening 9 create_7 None
+allowed_first : Allowed empty_table 9 create_7 None
 unfolding Allowed create_7
 allowed_first = refl
 
@@ -115,7 +115,7 @@ step_3 = record {
   };
 }
 
-fits_first : instructions (after opening create_7) ≤ 9
+fits_first : instructions (after empty_table create_7) ≤ 9
 unfolding instructions after create_7
 fits_first = lit≤ tt
 

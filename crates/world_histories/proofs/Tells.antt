@@ -3,8 +3,8 @@ use Rattle.std.proofs.Common.{◌≡◌, ◌+◌, ◌⊎◌, ◌==◌, inl, inr,
 use Rattle.std.proofs.lemmas.List.Sums.{sum_by-append}
 use Rattle.filter_table.specs.declared.operation.Op.{Op}
 use Rattle.filter_table.specs.declared.delivery.Kept.{Kept}
-use Rattle.filter_table.specs.Tables.{State}
-use Rattle.pcap_reader.specs.declared.capture.Packet.{Packet}
+use Rattle.filter_table.specs.Tables.{TableState}
+use Rattle.pcap_reader.specs.declared.capture.CapturedPacket.{CapturedPacket}
 use Rattle.monitor_messages.specs.declared.message.Message.{Message}
 use Rattle.monitor_messages.specs.declared.message.Message.TheVariants as message
 use Rattle.filter_table.specs.declared.decision.Vote.{Vote}
@@ -55,7 +55,7 @@ start_silent : (core : ℕ) (event : Event) (txn : ℕ) (d : Option Decision) �
 start_silent core event txn None v c c' = record { no_commit = c; no_vote = λ n k. v n k (Prepared txn) }
 start_silent core event txn (Some x) v c c' = record { no_commit = c' x; no_vote = λ n k. v n k (Decided x) }
 
-up_silent : (core i : ℕ) (short : Bool) (place place' : CoordinatorPlace) (requests requests' : Requests) (s : State) (m : Message) (committed : Option Op) (told : Step) (answer : Answer) → TakesUpAt s place requests i m place' requests' committed told answer
+up_silent : (core i : ℕ) (short : Bool) (place place' : CoordinatorPlace) (requests requests' : Requests) (s : TableState) (m : Message) (committed : Option Op) (told : Step) (answer : Answer) → TakesUpAt s place requests i m place' requests' committed told answer
     → IsSilent (Take 0 (suc i) short) answer (suc core)
 up_silent core i short place place' requests requests' s (message.Vote txn v) committed told answer h = rw h.is_answer (record { no_commit = refl; no_vote = λ n k. refl })
 up_silent core i short place place' requests requests' s (message.Ack txn) committed told answer h = rw h.is_answer (record { no_commit = refl; no_vote = λ n k. refl })
@@ -80,7 +80,7 @@ took_silent core i short (message.Abort txn) reply version answer ne t = rw t (r
     abort_commits (suc c) = refl
 took_silent core i short m reply version answer ne t = absurd t
 
-down_silent : (core i : ℕ) (short : Bool) (s : State) (b version : ℕ) (place place' : ParticipantPlace) (out out' : Bool) (m : Message) (committed : Option Op) (answer : Answer) → (suc i ≡ core → ⊥) → TakesDownAt short s b version place out m place' out' committed answer
+down_silent : (core i : ℕ) (short : Bool) (s : TableState) (b version : ℕ) (place place' : ParticipantPlace) (out out' : Bool) (m : Message) (committed : Option Op) (answer : Answer) → (suc i ≡ core → ⊥) → TakesDownAt short s b version place out m place' out' committed answer
     → IsSilent (Take (suc i) 0 short) answer core
 down_silent core i short s b version place place' out out' (message.Reply d) committed answer ne h = rw h.is_answer (record { no_commit = reply_commits core; no_vote = λ n k. refl })
   where
@@ -98,7 +98,7 @@ submit_silent : (core i : ℕ) (op : Op) → IsSilent (Submit i op) Submitted co
 submit_silent zero i op = record { no_commit = refl; no_vote = λ n k. refl }
 submit_silent (suc core) i op = record { no_commit = refl; no_vote = λ n k. refl }
 
-rx_silent : (core number floor version : ℕ) (i : ℕ) (packet : Packet) (kept : List Kept) → IsSilent (Rx i number packet floor) (Delivered version kept) core
+rx_silent : (core number floor version : ℕ) (i : ℕ) (packet : CapturedPacket) (kept : List Kept) → IsSilent (Rx i number packet floor) (Delivered version kept) core
 rx_silent zero number floor version i packet kept = record { no_commit = refl; no_vote = λ n k. refl }
 rx_silent (suc core) number floor version i packet kept = record { no_commit = refl; no_vote = λ n k. refl }
 
@@ -152,7 +152,7 @@ asks_vote : (i : ℕ) (r : Request) (from txn : ℕ) (short : Bool) (v : Vote) (
 asks_vote i r from txn short v None = refl
 asks_vote i r from txn short v (Some d) = decided_same r txn d
 
-asks_up : (i j : ℕ) (r : Request) (short : Bool) (place place' : CoordinatorPlace) (requests requests' : Requests) (s : State) (m : Message) (committed : Option Op) (told : Step) (answer : Answer) → TakesUpAt s place requests j m place' requests' committed told answer
+asks_up : (i j : ℕ) (r : Request) (short : Bool) (place place' : CoordinatorPlace) (requests requests' : Requests) (s : TableState) (m : Message) (committed : Option Op) (told : Step) (answer : Answer) → TakesUpAt s place requests j m place' requests' committed told answer
     → requested (followed (suc i) r (Take 0 (suc j) short) answer) ≡ requested r
 asks_up i j r short place place' requests requests' s (message.Vote txn v) committed told answer h = ap (λ (a : Answer). requested (followed (suc i) r (Take 0 (suc j) short) a)) h.is_answer ∙ asks_vote i r (suc j) txn short v told.decided
 asks_up i j r short place place' requests requests' s (message.Ack txn) committed told answer h = ap (λ (a : Answer). requested (followed (suc i) r (Take 0 (suc j) short) a)) h.is_answer
@@ -165,7 +165,7 @@ asks_took i j r short (message.Commit txn) reply version answer t = ap (λ (a : 
 asks_took i j r short (message.Abort txn) reply version answer t = ap (λ (a : Answer). requested (followed (suc i) r (Take (suc j) 0 short) a)) t
 asks_took i j r short m reply version answer t = absurd t
 
-asks_down : (i j : ℕ) (r : Request) (short : Bool) (s : State) (b version : ℕ) (place place' : ParticipantPlace) (out out' : Bool) (m : Message) (committed : Option Op) (answer : Answer) → TakesDownAt short s b version place out m place' out' committed answer
+asks_down : (i j : ℕ) (r : Request) (short : Bool) (s : TableState) (b version : ℕ) (place place' : ParticipantPlace) (out out' : Bool) (m : Message) (committed : Option Op) (answer : Answer) → TakesDownAt short s b version place out m place' out' committed answer
     → requested (followed (suc i) r (Take (suc j) 0 short) answer) ≡ requested r
 asks_down i j r short s b version place place' out out' (message.Reply d) committed answer h = ap (λ (a : Answer). requested (followed (suc i) r (Take (suc j) 0 short) a)) h.is_answer
 asks_down i j r short s b version place place' out out' (message.Prepare txn op) committed answer h = asks_took i j r short (message.Prepare txn op) h.reply _ answer h.is_answer

@@ -4,7 +4,7 @@ use Rattle.std.specs.Prelude.{is_some, option_to_list}
 use Rattle.std.proofs.lemmas.List.Sums.{sum_by-append}
 use mathlib.Core.List.{IsPrefix}
 use Rattle.filter_table.specs.declared.operation.Op.{Op}
-use Rattle.filter_table.specs.Tables.{State, table}
+use Rattle.filter_table.specs.Tables.{TableState, table}
 use Rattle.monitor_messages.specs.declared.message.Message.{Message}
 use Rattle.monitor_messages.specs.declared.message.Message.TheVariants as message
 use Rattle.filter_table.specs.declared.decision.Vote.{Vote}
@@ -78,7 +78,7 @@ pub record GrownOther (i : ℕ) (c : Other) (event : Event) (answer : Answer) (c
   pub grown : Grown (suc i) c.log event answer c'.log
   pub held : Held c'.place
 
-took_grown : (i : ℕ) (short : Bool) (s : State) (b version : ℕ) (log : List Op) (place place' : ParticipantPlace) (m reply : Message) (answer : Answer) → Held place → Answers short s b place m place' reply → Took m reply version answer
+took_grown : (i : ℕ) (short : Bool) (s : TableState) (b version : ℕ) (log : List Op) (place place' : ParticipantPlace) (m reply : Message) (answer : Answer) → Held place → Answers short s b place m place' reply → Took m reply version answer
     → Grown (suc i) log (Take (suc i) 0 short) answer (joined log (commits place m)) × Held place'
 took_grown i short s b version log place place' (message.Prepare txn op) (message.Vote txn' v) answer held a t = rw t (
   same_log (suc i) log _ _ refl,
@@ -96,7 +96,7 @@ took_grown i short s b version log place place' (message.Abort txn) (message.Ack
 )
 took_grown i short s b version log place place' m reply answer held a t = absurd a
 
-takes_grown : (i : ℕ) (short : Bool) (s : State) (b version : ℕ) (log : List Op) (place place' : ParticipantPlace) (out out' : Bool) (m : Message) (committed : Option Op) (answer : Answer) → Held place → TakesDownAt short s b version place out m place' out' committed answer
+takes_grown : (i : ℕ) (short : Bool) (s : TableState) (b version : ℕ) (log : List Op) (place place' : ParticipantPlace) (out out' : Bool) (m : Message) (committed : Option Op) (answer : Answer) → Held place → TakesDownAt short s b version place out m place' out' committed answer
     → Grown (suc i) log (Take (suc i) 0 short) answer (joined log committed) × Held place'
 takes_grown i short s b version log place place' out out' (message.Reply d) committed answer held h = rw (h.none_committed, h.is_answer, h.same_place) (same_log (suc i) log _ _ refl, held)
 takes_grown i short s b version log place place' out out' (message.Prepare txn op) committed answer held h = rw h.is_committed (took_grown i short s b _ log place place' (message.Prepare txn op) h.reply answer held h.answers h.is_answer)

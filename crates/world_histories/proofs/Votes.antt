@@ -4,7 +4,7 @@ use Rattle.std.specs.Prelude.{◌&&◌}
 use Rattle.std.proofs.lemmas.List.{map-append}
 use mathlib.Core.List.{IsPrefix}
 use Rattle.filter_table.specs.declared.operation.Op.{Op}
-use Rattle.filter_table.specs.Tables.{State}
+use Rattle.filter_table.specs.Tables.{TableState}
 use Rattle.monitor_messages.specs.declared.message.Message.{Message}
 use Rattle.monitor_messages.specs.declared.message.Message.TheVariants as message
 use Rattle.filter_table.specs.declared.decision.Vote.{Vote}
@@ -34,7 +34,7 @@ none_said : (known : Option Vote) (v : Vote) (here : Bool) → cond (here && fal
 none_said known v true = refl
 none_said known v false = refl
 
-took_voting : (core txn to : ℕ) (short : Bool) (s : State) (b version : ℕ) (place place' : ParticipantPlace) (m reply : Message) (answer : Answer) → Answers short s b place m place' reply → Took m reply version answer → Voting core txn (Take to 0 short) answer place.last place'.last
+took_voting : (core txn to : ℕ) (short : Bool) (s : TableState) (b version : ℕ) (place place' : ParticipantPlace) (m reply : Message) (answer : Answer) → Answers short s b place m place' reply → Took m reply version answer → Voting core txn (Take to 0 short) answer place.last place'.last
 took_voting core txn to short s b version place place' (message.Prepare n op) (message.Vote n' v) answer a t = rw t (by_number (same_or_not n txn))
   where
     last_is : place'.last ≡ n
@@ -47,7 +47,7 @@ took_voting core txn to short s b version place place' (message.Commit n) (messa
 took_voting core txn to short s b version place place' (message.Abort n) (message.Ack n') answer a t = rw t (silent_vote core txn _ _ place.last place'.last (ap (λ (p : ParticipantPlace). p.last) a.2 ∙ a.1) (λ known. refl))
 took_voting core txn to short s b version place place' m reply answer a t = absurd a
 
-takes_voting : (core txn to : ℕ) (short : Bool) (s : State) (b version : ℕ) (place place' : ParticipantPlace) (out out' : Bool) (m : Message) (committed : Option Op) (answer : Answer) → TakesDownAt short s b version place out m place' out' committed answer
+takes_voting : (core txn to : ℕ) (short : Bool) (s : TableState) (b version : ℕ) (place place' : ParticipantPlace) (out out' : Bool) (m : Message) (committed : Option Op) (answer : Answer) → TakesDownAt short s b version place out m place' out' committed answer
     → Voting core txn (Take to 0 short) answer place.last place'.last
 takes_voting core txn to short s b version place place' out out' (message.Reply d) committed answer h = rw h.is_answer (silent_vote core txn _ _ place.last place'.last (ap (λ (p : ParticipantPlace). p.last) h.same_place) (λ known. refl))
 takes_voting core txn to short s b version place place' out out' (message.Prepare n op) committed answer h = took_voting core txn to short s b _ place place' (message.Prepare n op) h.reply answer h.answers h.is_answer

@@ -7,7 +7,7 @@ use Rattle.std.specs.Prelude.{◌≡◌, ◌+◌, ◌==◌, ℕ, zero, suc, Bool
 use mathlib.Core.List.{IsPrefix}
 use Rattle.filter_table.specs.declared.operation.Op.{Op}
 use Rattle.filter_table.specs.Tables.{table}
-use Rattle.pcap_reader.specs.declared.capture.Packet.{Packet}
+use Rattle.pcap_reader.specs.declared.capture.CapturedPacket.{CapturedPacket}
 use Rattle.monitor_messages.specs.declared.message.Message.{Message}
 use Rattle.monitor_2pc.specs.declared.step.Step.{Step}
 use Rattle.monitor_2pc.specs.Participants.{ParticipantPlace, at_first}
@@ -97,7 +97,7 @@ pub record Take0 (c : Core0) (stamp : ℕ) (entry : ℕ) (m : Message) (c' : Cor
   pub next : c' ≡ record { clock = stamp; place = place; requests = requests; log = joined c.log committed }
   pub sends : sent ≡ outgoing told place
 
-pub record Rx0 (c : Core0) (stamp : ℕ) (packet : Packet) (floor : ℕ) (c' : Core0) (answer : Answer) (sent : Outgoing) : Type 0 where
+pub record Rx0 (c : Core0) (stamp : ℕ) (packet : CapturedPacket) (floor : ℕ) (c' : Core0) (answer : Answer) (sent : Outgoing) : Type 0 where
   pub here : ReceivesAt (table c.log (length c.log)) (length c.log) packet floor answer
   pub next : c' ≡ record c { clock = stamp }
   pub sends : sent ≡ nothing
@@ -155,7 +155,7 @@ pub record TakeOther (budget : ℕ) (c : Other) (stamp : ℕ) (short : Bool) (m 
   pub here : TakesDownAt short (table c.log (length c.log)) budget (length c.log) c.place c.outstanding m place outstanding committed answer
   pub next : c' ≡ record { clock = stamp; place = place; outstanding = outstanding; log = joined c.log committed }
 
-pub record RxOther (c : Other) (stamp : ℕ) (packet : Packet) (floor : ℕ) (c' : Other) (answer : Answer) : Type 0 where
+pub record RxOther (c : Other) (stamp : ℕ) (packet : CapturedPacket) (floor : ℕ) (c' : Other) (answer : Answer) : Type 0 where
   pub here : ReceivesAt (table c.log (length c.log)) (length c.log) packet floor answer
   pub next : c' ≡ record c { clock = stamp }
 

@@ -2,7 +2,7 @@
 use Rattle.std.proofs.Common.{◌≡◌, ◌≢◌, ◌+◌, ◌<◌, ◌⊎◌, inl, inr, ℕ, zero, suc, Bool, Option, Some, None, List, [], ◌∷◌, length, map, slice_get, slice_set, refl, ap, sym, ◌∙◌, subst, arith, replicate}
 use Rattle.std.specs.Prelude.{option_map}
 use Rattle.filter_table.specs.declared.operation.Op.{Op}
-use Rattle.filter_table.specs.Tables.{State, table, after, instructions, Allowed}
+use Rattle.filter_table.specs.Tables.{TableState, table, after, instructions, Allowed}
 use Rattle.filter_table.specs.Staging.{AsksForMemory}
 use Rattle.monitor_messages.specs.declared.message.Message.{Message}
 use Rattle.monitor_messages.specs.declared.message.Message.TheVariants as message
@@ -122,7 +122,7 @@ cast_at log last votes op i q v at (to_abort acks v' st ph at' is) = absurd cc
 cast_at log last votes op i q v at (acked acks ph at' is) = absurd cc
 cast_at log last votes op i q v at (finished acks ph at' is) = absurd cc
 
-veto_holds : (short : Bool) (s : State) (b : ℕ) (op : Op) (v : Vote) → v ≢ vote.Yes → Casts short s b op v
+veto_holds : (short : Bool) (s : TableState) (b : ℕ) (op : Op) (v : Vote) → v ≢ vote.Yes → Casts short s b op v
     → ((v ≡ vote.NoMemory) × (veto_by v ≡ veto.NoMemory) × AsksForMemory s b op) ⊎ ((v ≡ vote.Budget) × (veto_by v ≡ veto.Budget) × (b < instructions (after s op)))
 veto_holds short s b op vote.Yes ne c = absurd (ne refl)
 veto_holds short s b op vote.Budget ne c = inr (refl, refl, c.1)

@@ -1,7 +1,7 @@
 -- Requests followed to their decisions and to the log.
 use Rattle.std.proofs.Common.{◌≡◌, ◌≢◌, ◌+◌, ◌≤◌, ◌⊎◌, ◌==◌, inl, inr, ℕ, zero, suc, Bool, true, false, cond, Option, Some, List, [], ◌∷◌, ◌++◌, length, slice_get, slice_set, refl, ap, sym, ◌∙◌, subst, arith, append_assoc}
 use Rattle.filter_table.specs.declared.operation.Op.{Op}
-use Rattle.filter_table.specs.Tables.{State, made, table}
+use Rattle.filter_table.specs.Tables.{TableState, made, table}
 use Rattle.filter_table.proofs.Tables.{table_front, table_version}
 use Rattle.monitor_messages.specs.declared.message.Message.{Message}
 use Rattle.monitor_messages.specs.declared.message.Message.TheVariants as message
@@ -93,7 +93,7 @@ same_place events w event w' answer e none = record {
   votes_on = λ votes ph. inl (votes, sym (ap (λ (p : CoordinatorPlace). p.phase) e) ∙ ph, ap (λ (p : CoordinatorPlace). p.staged) e, ap (λ (p : CoordinatorPlace). p.last) e);
 }
 
-begin_numbers : (events : List Done) (w w' : World) (event : Event) (core : ℕ) (op : Op) (others : ℕ) (s : State) (b : ℕ) (committed : Option Op) (told : Step) (answer : Answer)
+begin_numbers : (events : List Done) (w w' : World) (event : Event) (core : ℕ) (op : Op) (others : ℕ) (s : TableState) (b : ℕ) (committed : Option Op) (told : Step) (answer : Answer)
     → Begins events event core op → w.place.phase ≡ Idle → Starts others s b w.place op w'.place committed told → answer ≡ start_told told.txn told.decided → NumberMoves events w event w' answer
 begin_numbers events w w' event core op others s b committed told answer begins idle starts a = by_case starts
   where
@@ -114,7 +114,7 @@ begin_numbers events w w' event core op others s b committed told answer begins 
       votes_on = λ votes ph. inr (op, core, ap (λ (x : CoordinatorPlace). x.staged) p, is _ t ∙ ap (λ (n : ℕ). Prepared n) (sym (ap (λ (x : CoordinatorPlace). x.last) p)), begins);
     }
 
-vote_numbers : (events : List Done) (w w' : World) (event : Event) (s : State) (i txn : ℕ) (v : Vote) (requests' : Requests) (committed : Option Op) (told : Step) (answer : Answer)
+vote_numbers : (events : List Done) (w w' : World) (event : Event) (s : TableState) (i txn : ℕ) (v : Vote) (requests' : Requests) (committed : Option Op) (told : Step) (answer : Answer)
     → VoteAt s w.place w.requests i txn v w'.place requests' committed told answer → NumberMoves events w event w' answer
 vote_numbers events w w' event s i txn v requests' committed told answer h = record {
   grows = omega (arith, kept);
@@ -159,7 +159,7 @@ took_no_number (message.Commit n) reply version txn answer t e = cc
 took_no_number (message.Abort n) reply version txn answer t e = cc
 took_no_number m reply version txn answer t e = absurd t
 
-no_number_down : (short : Bool) (s : State) (b ver : ℕ) (place place' : ParticipantPlace) (out out' : Bool) (m : Message) (committed : Option Op) (answer : Answer) (txn : ℕ) → TakesDownAt short s b ver place out m place' out' committed answer → answer ≢ Prepared txn
+no_number_down : (short : Bool) (s : TableState) (b ver : ℕ) (place place' : ParticipantPlace) (out out' : Bool) (m : Message) (committed : Option Op) (answer : Answer) (txn : ℕ) → TakesDownAt short s b ver place out m place' out' committed answer → answer ≢ Prepared txn
 no_number_down short s b ver place place' out out' (message.Reply d) committed answer txn h e = let x = h.is_answer in cc
 no_number_down short s b ver place place' out out' (message.Prepare n op) committed answer txn h e = took_no_number (message.Prepare n op) h.reply _ txn answer h.is_answer e
 no_number_down short s b ver place place' out out' (message.Commit n) committed answer txn h e = took_no_number (message.Commit n) h.reply _ txn answer h.is_answer e

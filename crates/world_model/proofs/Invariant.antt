@@ -2,7 +2,7 @@
 use Rattle.std.proofs.Common.{◌≡◌, ◌+◌, ◌<◌, ◌≤◌, ◌⊎◌, inl, inr, ℕ, Bool, true, false, Option, Some, None, List, [], ◌∷◌, ◌++◌, length, slice_get, refl, ◌∙◌, ap, sym, subst, arith, length-append}
 use Rattle.std.proofs.lemmas.List.{append-nil}
 use Rattle.filter_table.specs.declared.operation.Op.{Op}
-use Rattle.filter_table.specs.Tables.{State, table, instructions, Allowed}
+use Rattle.filter_table.specs.Tables.{TableState, table, instructions, Allowed}
 use Rattle.filter_table.proofs.Tables.{table_whole, table_next, table_front, allowed_fits, instructions_opening}
 use Rattle.monitor_messages.specs.declared.message.Message.{Message}
 use Rattle.monitor_messages.specs.declared.message.Message.TheVariants as message
@@ -95,7 +95,7 @@ pair_like log place i p q ev ep eb ed eu pair = by_pair pair
     by_pair (finished acks ph at is) = finished acks ph at (like _ _ _ _ _ _ is)
 
 -- core 0 by itself: while it waits, some core's word is missing
-abbrev pub Alone : ℕ → State → ℕ → Phase → Option Op → Type 0
+abbrev pub Alone : ℕ → TableState → ℕ → Phase → Option Op → Type 0
 Alone others s budget Idle staged = staged ≡ None
 Alone others s budget (Voting votes) staged =
     (op : Op) × (i : ℕ) × (staged ≡ Some op) × Allowed s budget op None × (length votes ≡ others) × (slice_get votes i ≡ Some None)

@@ -9,7 +9,7 @@ use Rattle.filter_table.specs.declared.decision.Vote.{Vote}
 use Rattle.filter_table.specs.declared.decision.Decision.{Decision}
 use Rattle.monitor_2pc.specs.declared.step.Step.{Step}
 use Rattle.monitor_2pc.specs.Participants.{ParticipantPlace, Answers, commits}
-use Rattle.filter_table.specs.Tables.{State}
+use Rattle.filter_table.specs.Tables.{TableState}
 use Rattle.monitor_2pc.specs.Coordinators.{CoordinatorPlace, Requests, Phase, Idle, Voting, Acking, requests_at, Starts, refused, unstaged, alone, prepared, Tallies, waits, commits_all, aborts_all}
 use Rattle.world_events.specs.declared.event.Event.{Event}
 use Rattle.world_events.specs.declared.event.Event.TheVariants.{Start, Submit, StartFor, Take, Rx}
@@ -114,7 +114,7 @@ silent_start_for : (core : ℕ) (txn : ℕ) (d : Option Decision) (i : ℕ) → 
 silent_start_for core txn None i = record { no_commit = refl; no_vote = λ n k. refl }
 silent_start_for core txn (Some d) i = record { no_commit = refl; no_vote = λ n k. refl }
 
-silent_up : (i : ℕ) (short : Bool) (place place' : CoordinatorPlace) (requests requests' : Requests) (s : State) (m : Message) (committed : Option Op) (told : Step) (answer : Answer) → TakesUpAt s place requests i m place' requests' committed told answer
+silent_up : (i : ℕ) (short : Bool) (place place' : CoordinatorPlace) (requests requests' : Requests) (s : TableState) (m : Message) (committed : Option Op) (told : Step) (answer : Answer) → TakesUpAt s place requests i m place' requests' committed told answer
     → (j : ℕ) → IsSilent (Take 0 (suc i) short) answer (suc j)
 silent_up i short place place' requests requests' s (message.Vote txn v) committed told answer h j = rw h.is_answer (record { no_commit = refl; no_vote = λ n k. refl })
 silent_up i short place place' requests requests' s (message.Ack txn) committed told answer h j = rw h.is_answer (record { no_commit = refl; no_vote = λ n k. refl })
@@ -142,21 +142,21 @@ core0_event w peers place requests committed out event answer counts long h = re
   peers = matches_sent (PeerMoves event answer) w.peers peers out (moves_sent event answer) h;
 }
 
-pub counts_start : (op : Op) (others : ℕ) (s : State) (b : ℕ) (place place' : CoordinatorPlace) (o : Op) (committed : Option Op) (told : Step) → Starts others s b place o place' committed told
+pub counts_start : (op : Op) (others : ℕ) (s : TableState) (b : ℕ) (place place' : CoordinatorPlace) (o : Op) (committed : Option Op) (told : Step) → Starts others s b place o place' committed told
     → is_some committed ≡ commits_at 0 (Start op) (start_told told.txn told.decided)
 counts_start op others s b place place' o committed told (refused f a p c t) = rw (c, t) refl
 counts_start op others s b place place' o committed told (unstaged f p c t) = rw (c, t) refl
 counts_start op others s b place place' o committed told (alone a n p c t) = rw (c, t) refl
 counts_start op others s b place place' o committed told (prepared a n p c t) = rw (c, t) refl
 
-pub counts_start_for : (core others : ℕ) (s : State) (b : ℕ) (place place' : CoordinatorPlace) (o : Op) (committed : Option Op) (told : Step) → Starts others s b place o place' committed told
+pub counts_start_for : (core others : ℕ) (s : TableState) (b : ℕ) (place place' : CoordinatorPlace) (o : Op) (committed : Option Op) (told : Step) → Starts others s b place o place' committed told
     → is_some committed ≡ commits_at 0 (StartFor core) (start_told told.txn told.decided)
 counts_start_for core others s b place place' o committed told (refused f a p c t) = rw (c, t) refl
 counts_start_for core others s b place place' o committed told (unstaged f p c t) = rw (c, t) refl
 counts_start_for core others s b place place' o committed told (alone a n p c t) = rw (c, t) refl
 counts_start_for core others s b place place' o committed told (prepared a n p c t) = rw (c, t) refl
 
-pub counts_vote : (i : ℕ) (short : Bool) (s : State) (last txn : ℕ) (v : Vote) (op : Op) (votes : List (Option Vote)) (place' : CoordinatorPlace) (committed : Option Op) (told : Step) → Tallies s last op votes place' committed told
+pub counts_vote : (i : ℕ) (short : Bool) (s : TableState) (last txn : ℕ) (v : Vote) (op : Op) (votes : List (Option Vote)) (place' : CoordinatorPlace) (committed : Option Op) (told : Step) → Tallies s last op votes place' committed told
     → is_some committed ≡ commits_at 0 (Take 0 (suc i) short) (TookVote txn v told.decided)
 counts_vote i short s last txn v op votes place' committed told (waits k n p c t) = rw (c, t) refl
 counts_vote i short s last txn v op votes place' committed told (commits_all a p c t) = rw (c, t) refl
@@ -180,7 +180,7 @@ waiting_at_phase Idle r = refl
 waiting_at_phase (Voting votes) r = refl
 waiting_at_phase (Acking acks) r = refl
 
-pub up_counts : (i : ℕ) (short : Bool) (s : State) (place place' : CoordinatorPlace) (requests requests' : Requests) (m : Message) (committed : Option Op) (told : Step) (answer : Answer) → TakesUpAt s place requests i m place' requests' committed told answer
+pub up_counts : (i : ℕ) (short : Bool) (s : TableState) (place place' : CoordinatorPlace) (requests requests' : Requests) (m : Message) (committed : Option Op) (told : Step) (answer : Answer) → TakesUpAt s place requests i m place' requests' committed told answer
     → (is_some committed ≡ commits_at 0 (Take 0 (suc i) short) answer) × (length requests'.waiting ≡ length requests.waiting)
 up_counts i short s place place' requests requests' (message.Vote txn v) committed told answer h =
     (counts_vote i short s txn txn v h.hears.op _ place' committed told h.hears.tallies ∙ ap (commits_at 0 (Take 0 (suc i) short)) (sym h.is_answer), ap (λ (r : Requests). length r.waiting) h.requests_next)
@@ -219,7 +219,7 @@ silent_down i j short (message.Abort txn) reply version answer ne t = rw t (reco
 silent_down i j short m reply version answer ne t = absurd t
 
 -- the core that takes, by its message
-took_moves : (i : ℕ) (short : Bool) (s : State) (p q : Peer) (m reply : Message) (committed : Option Op) (answer : Answer) → Answers short s p.budget p.place m q.place reply → committed ≡ commits p.place m
+took_moves : (i : ℕ) (short : Bool) (s : TableState) (p q : Peer) (m reply : Message) (committed : Option Op) (answer : Answer) → Answers short s p.budget p.place m q.place reply → committed ≡ commits p.place m
     → ((txn : ℕ) → m ≡ message.Commit txn → is_some p.place.staged ≡ true) → Took m reply (raised p.version committed) answer → q.budget ≡ p.budget → q.version ≡ raised p.version committed
     → PeerMoves (Take (suc i) 0 short) answer i p q
 took_moves i short s p q (message.Prepare txn op) (message.Vote txn' v) committed answer a c has t b ver = rw t (record {

@@ -2,7 +2,7 @@
 use Rattle.std.proofs.Common.{◌≡◌, ◌≤◌, ◌⊎◌, inl, inr, ℕ, zero, suc, None, Some, List, [], ◌∷◌, length, slice_get, take, refl, ap, sym, subst, arith}
 use Rattle.std.proofs.Math.Nat.{le-suc_iff}
 use Rattle.filter_table.specs.declared.operation.Op.{Op}
-use Rattle.filter_table.specs.Tables.{State, table, after, after_all, opening, Allowed}
+use Rattle.filter_table.specs.Tables.{TableState, table, after, after_all, empty_table, Allowed}
 use Rattle.filter_table.specs.Soundness.{IsSoundTable, IdsGrow}
 use Rattle.filter_table.proofs.Soundness.{sound_next, sound_empty, ids_after, ids_stay}
 use Rattle.world_events.specs.declared.event.Done.{Done}
@@ -12,14 +12,14 @@ use Rattle.world_model.proofs.RunLaws.{run_agrees}
 use Rattle.table_replica.proofs.Shared.{get_at}
 
 -- the table of a version and of the next
-after_next : (s : State) (log : List Op) (v : ℕ) (op : Op) → slice_get log v ≡ Some op → after_all s (take (suc v) log) ≡ after (after_all s (take v log)) op
+after_next : (s : TableState) (log : List Op) (v : ℕ) (op : Op) → slice_get log v ≡ Some op → after_all s (take (suc v) log) ≡ after (after_all s (take v log)) op
 after_next s [] v op at = absurd cc
 after_next s (x ∷ log) zero op at = let e : x ≡ op = cc in ap (after s) e
 after_next s (x ∷ log) (suc v) op at = after_next (after s x) log v op at
 
 pub table_of_next : (log : List Op) (v : ℕ) (op : Op) → slice_get log v ≡ Some op → table log (suc v) ≡ after (table log v) op
 unfolding table
-table_of_next log v op at = after_next opening log v op at
+table_of_next log v op at = after_next empty_table log v op at
 
 first_sound : (log : List Op) → IsSoundTable (table log 0)
 unfolding table
@@ -34,7 +34,7 @@ sound_at budget log a (suc v) le =
     let e = get_at log v (omega (arith, le)) in
     subst IsSoundTable (sym (table_of_next log v e.0 e.1)) (sound_next (table log v) budget e.0 (a v e.0 e.1) (sound_at budget log a v (omega (arith, le))))
 
-ids_join : (a b c : State) → IdsGrow a b → IdsGrow b c → IdsGrow a c
+ids_join : (a b c : TableState) → IdsGrow a b → IdsGrow b c → IdsGrow a c
 ids_join a b c g h = record { caps = omega (arith, g.caps, h.caps); filters = omega (arith, g.filters, h.filters) }
 
 ids_at : (log : List Op) (u v : ℕ) → u ≤ v → v ≤ length log → IdsGrow (table log u) (table log v)

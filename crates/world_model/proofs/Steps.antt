@@ -4,7 +4,7 @@ use Rattle.std.proofs.lemmas.List.{length-replicate, length-map, append-nil}
 use Rattle.std.specs.List.{list_all}
 use Rattle.std.specs.Prelude.{option_to_list}
 use Rattle.filter_table.specs.declared.operation.Op.{Op}
-use Rattle.filter_table.specs.Tables.{State, table, instructions, Allowed}
+use Rattle.filter_table.specs.Tables.{TableState, table, instructions, Allowed}
 use Rattle.filter_table.proofs.Tables.{table_next}
 use Rattle.monitor_messages.specs.declared.message.Message.{Message}
 use Rattle.monitor_messages.specs.declared.message.Message.TheVariants as message
@@ -193,13 +193,13 @@ acked_down log core0 i p acks place outstanding committed rest event answer none
     })
 
 -- what Commit or Abort leads to
-commit_leads : (short : Bool) (s : State) (b txn i : ℕ) (place place' : ParticipantPlace) (version : ℕ) (answer : Answer) (reply : Message)
+commit_leads : (short : Bool) (s : TableState) (b txn i : ℕ) (place place' : ParticipantPlace) (version : ℕ) (answer : Answer) (reply : Message)
     → Answers short s b place (message.Commit txn) place' reply → Took (message.Commit txn) reply version answer
     → (place' ≡ record { last = txn; voted = None; staged = None }) × (sent_up (Take (suc i) 0 short) answer ≡ Some (message.Ack txn))
 commit_leads short s b txn i place place' version answer (message.Ack txn') a t = (a.2, rw t refl)
 commit_leads short s b txn i place place' version answer reply a t = absurd a
 
-abort_leads : (short : Bool) (s : State) (b txn i : ℕ) (place place' : ParticipantPlace) (version : ℕ) (answer : Answer) (reply : Message)
+abort_leads : (short : Bool) (s : TableState) (b txn i : ℕ) (place place' : ParticipantPlace) (version : ℕ) (answer : Answer) (reply : Message)
     → Answers short s b place (message.Abort txn) place' reply → Took (message.Abort txn) reply version answer
     → (place' ≡ record { last = txn; voted = None; staged = None }) × (sent_up (Take (suc i) 0 short) answer ≡ Some (message.Ack txn))
 abort_leads short s b txn i place place' version answer (message.Ack txn') a t = (a.2, rw t refl)
@@ -517,7 +517,7 @@ self_acked : (log : List Op) (last : ℕ) (staged : Option Op) (acks' : List Boo
 self_acked log last staged acks' i p true at is = at_rest refl is
 self_acked log last staged acks' i p false at is = finished acks' refl at is
 
-alone_acked : (others : ℕ) (s : State) (budget : ℕ) (staged : Option Op) (acks' : List Bool) (b : Bool) → list_all (λ ack. ack) acks' ≡ b → staged ≡ None → length acks' ≡ others
+alone_acked : (others : ℕ) (s : TableState) (budget : ℕ) (staged : Option Op) (acks' : List Bool) (b : Bool) → list_all (λ ack. ack) acks' ≡ b → staged ≡ None → length acks' ≡ others
     → Alone others s budget (cond b Idle (Acking acks')) staged
 alone_acked others s budget staged acks' true all st len = st
 alone_acked others s budget staged acks' false all st len = let r = some_false acks' all in (r.0, st, len, r.1)

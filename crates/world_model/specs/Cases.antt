@@ -3,9 +3,9 @@
 use Rattle.std.specs.Prelude.{◌≡◌, ◌+◌, ◌≤◌, ℕ, suc, Bool, true, false, Option, Some, None, List, [], ◌∷◌, ◌++◌}
 use Rattle.filter_table.specs.declared.operation.Op.{Op}
 use Rattle.filter_table.specs.declared.delivery.Kept.{Kept}
-use Rattle.filter_table.specs.Tables.{State, Accepting}
+use Rattle.filter_table.specs.Tables.{TableState, Accepting}
 use Rattle.bpf_insn.specs.Machine as machine
-use Rattle.pcap_reader.specs.declared.capture.Packet.{Packet}
+use Rattle.pcap_reader.specs.declared.capture.CapturedPacket.{CapturedPacket}
 use Rattle.monitor_messages.specs.declared.message.Message.{Message}
 use Rattle.monitor_messages.specs.declared.message.Message.TheVariants as message
 use Rattle.filter_table.specs.declared.decision.Vote.{Vote}
@@ -64,11 +64,11 @@ raised version (Some op) = version + 1
 -- The cases
 
 -- the packet as programs see it
-abbrev pub captured : Packet → machine.Packet
+abbrev pub captured : CapturedPacket → machine.Packet
 captured packet = record { bytes = packet.bytes; original = packet.original }
 
 -- a core at this version, with this table, receives a packet
-pub record ReceivesAt (s : State) (version : ℕ) (packet : Packet) (floor : ℕ) (answer : Answer) : Type 0 where
+pub record ReceivesAt (s : TableState) (version : ℕ) (packet : CapturedPacket) (floor : ℕ) (answer : Answer) : Type 0 where
   pub kept : List Kept
   pub above_floor : floor ≤ version
   pub accepting : Accepting s (captured packet) kept
@@ -80,13 +80,13 @@ start_told txn None = Prepared txn
 start_told txn (Some decision) = Decided decision
 
 -- core 0 starts a request
-pub record StartsAt (others : ℕ) (s : State) (budget : ℕ) (place : CoordinatorPlace) (op : Op) (place' : CoordinatorPlace) (committed : Option Op) (told : Step) (answer : Answer) : Type 0 where
+pub record StartsAt (others : ℕ) (s : TableState) (budget : ℕ) (place : CoordinatorPlace) (op : Op) (place' : CoordinatorPlace) (committed : Option Op) (told : Step) (answer : Answer) : Type 0 where
   pub can_start : CanStart place
   pub starts : Starts others s budget place op place' committed told
   pub is_answer : answer ≡ start_told told.txn told.decided
 
 -- core 0 starts the request that the core with this entry submitted
-pub record StartsForAt (others : ℕ) (s : State) (budget : ℕ) (place : CoordinatorPlace) (requests : Requests) (entry : ℕ) (place' : CoordinatorPlace) (requests' : Requests) (committed : Option Op) (told : Step) (answer : Answer) : Type 0 where
+pub record StartsForAt (others : ℕ) (s : TableState) (budget : ℕ) (place : CoordinatorPlace) (requests : Requests) (entry : ℕ) (place' : CoordinatorPlace) (requests' : Requests) (committed : Option Op) (told : Step) (answer : Answer) : Type 0 where
   pub can_start : CanStart place
   pub starts : StartsFor others s budget place requests entry place' requests' committed told
   pub is_answer : answer ≡ start_told told.txn told.decided
@@ -98,7 +98,7 @@ pub record SubmitsAt (outstanding : Bool) (outstanding' : Bool) (answer : Answer
   pub is_answer : answer ≡ Submitted
 
 -- core 0 takes a vote
-pub record VoteAt (s : State) (place : CoordinatorPlace) (requests : Requests) (entry txn : ℕ) (v : Vote) (place' : CoordinatorPlace) (requests' : Requests) (committed : Option Op) (told : Step) (answer : Answer) : Type 0 where
+pub record VoteAt (s : TableState) (place : CoordinatorPlace) (requests : Requests) (entry txn : ℕ) (v : Vote) (place' : CoordinatorPlace) (requests' : Requests) (committed : Option Op) (told : Step) (answer : Answer) : Type 0 where
   pub hears : Hears s place entry txn v place' committed told
   pub requests_next : requests' ≡ with_decided requests told.decided
   pub is_answer : answer ≡ TookVote txn v told.decided
@@ -119,7 +119,7 @@ pub record SubmitAt (place : CoordinatorPlace) (requests : Requests) (entry : �
   pub is_answer : answer ≡ TookSubmit
 
 -- core 0 takes a message of the core with this entry
-abbrev pub TakesUpAt : State → CoordinatorPlace → Requests → ℕ → Message → CoordinatorPlace → Requests → Option Op → Step → Answer → Type 0
+abbrev pub TakesUpAt : TableState → CoordinatorPlace → Requests → ℕ → Message → CoordinatorPlace → Requests → Option Op → Step → Answer → Type 0
 TakesUpAt s place requests entry (message.Vote txn v) place' requests' committed told answer = VoteAt s place requests entry txn v place' requests' committed told answer
 TakesUpAt s place requests entry (message.Ack txn) place' requests' committed told answer = AckAt place requests entry txn place' requests' committed told answer
 TakesUpAt s place requests entry (message.Submit op) place' requests' committed told answer = SubmitAt place requests entry op place' requests' committed told answer
@@ -133,7 +133,7 @@ Took (message.Abort txn) reply version answer = answer ≡ TookAbort txn version
 Took m reply version answer = ⊥
 
 -- another core, at this version, takes a message of core 0 and answers it
-pub record AnswersAt (short : Bool) (s : State) (budget version : ℕ) (place : ParticipantPlace) (outstanding : Bool) (m : Message) (place' : ParticipantPlace) (outstanding' : Bool) (committed : Option Op) (answer : Answer) : Type 0 where
+pub record AnswersAt (short : Bool) (s : TableState) (budget version : ℕ) (place : ParticipantPlace) (outstanding : Bool) (m : Message) (place' : ParticipantPlace) (outstanding' : Bool) (committed : Option Op) (answer : Answer) : Type 0 where
   pub reply : Message
   pub answers : Answers short s budget place m place' reply
   pub same_outstanding : outstanding' ≡ outstanding
@@ -149,6 +149,6 @@ pub record ReplyAt (place : ParticipantPlace) (outstanding : Bool) (decision : D
   pub is_answer : answer ≡ TookReply decision
 
 -- another core, at this version, takes a message of core 0
-abbrev pub TakesDownAt : Bool → State → ℕ → ℕ → ParticipantPlace → Bool → Message → ParticipantPlace → Bool → Option Op → Answer → Type 0
+abbrev pub TakesDownAt : Bool → TableState → ℕ → ℕ → ParticipantPlace → Bool → Message → ParticipantPlace → Bool → Option Op → Answer → Type 0
 TakesDownAt short s budget version place outstanding (message.Reply decision) place' outstanding' committed answer = ReplyAt place outstanding decision place' outstanding' committed answer
 TakesDownAt short s budget version place outstanding m place' outstanding' committed answer = AnswersAt short s budget version place outstanding m place' outstanding' committed answer

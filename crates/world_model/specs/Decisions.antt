@@ -7,7 +7,7 @@ use Rattle.filter_table.specs.declared.operation.Op.{Op}
 use Rattle.filter_table.specs.declared.delivery.Kept.{Kept}
 use Rattle.filter_table.specs.declared.operation.Made.{Made}
 use Rattle.filter_table.specs.declared.operation.StageFault.{StageFault}
-use Rattle.filter_table.specs.Tables.{State, after, made, table, instructions, Allowed, Accepting}
+use Rattle.filter_table.specs.Tables.{TableState, after, made, table, instructions, Allowed, Accepting}
 use Rattle.filter_table.specs.Staging.{AsksForMemory}
 use Rattle.monitor_messages.specs.declared.message.Message.TheVariants as message
 use Rattle.filter_table.specs.declared.decision.Vote.{Vote}
@@ -48,7 +48,7 @@ pub record IsEntryAt (log : List Op) (v : ℕ) (op : Op) (version : ℕ) (id : M
 
 -- Core 0, with this table and this budget, refuses at once: by the first refusal that stands, or since it is out of memory, where
 -- staging asks for it.
-abbrev pub HasReason : State → ℕ → Op → Veto → Type 0
+abbrev pub HasReason : TableState → ℕ → Op → Veto → Type 0
 HasReason s budget op why =
     ((why ≡ veto.NoMemory) × AsksForMemory s budget op)
     ⊎ ((fault : StageFault) × Allowed s budget op (Some fault) × (why ≡ veto_of fault))
@@ -90,7 +90,7 @@ AllVoteYes count votes = (entry : ℕ) → entry < count → votes entry ≡ Som
 
 -- Another core's veto, by the other cores' votes and budgets and the table that all have: it is the least core that did not vote Yes,
 -- and its vote gives the reason.
-pub record VetoedBy (votes : ℕ → Option Vote) (budgets : ℕ → Option ℕ) (s : State) (op : Op) (core : ℕ) (why : Veto) : Type 0 where
+pub record VetoedBy (votes : ℕ → Option Vote) (budgets : ℕ → Option ℕ) (s : TableState) (op : Op) (core : ℕ) (why : Veto) : Type 0 where
   pub entry : ℕ
   pub is_core : core ≡ suc entry
   pub yes_before : AllVoteYes entry votes

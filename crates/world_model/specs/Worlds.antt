@@ -2,8 +2,8 @@
 -- "The Multikernel", sections 3.3 and 4.4).
 use Rattle.std.specs.Prelude.{◌≡◌, ℕ, zero, suc, Bool, false, Option, Some, None, List, [], ◌∷◌, ◌++◌, length, map, slice_get, slice_set, option_map, option_to_list}
 use Rattle.filter_table.specs.declared.operation.Op.{Op}
-use Rattle.filter_table.specs.Tables.{State, table}
-use Rattle.pcap_reader.specs.declared.capture.Packet.{Packet}
+use Rattle.filter_table.specs.Tables.{TableState, table}
+use Rattle.pcap_reader.specs.declared.capture.CapturedPacket.{CapturedPacket}
 use Rattle.monitor_messages.specs.declared.message.Message.{Message}
 use Rattle.monitor_2pc.specs.declared.step.Step.{Step}
 use Rattle.monitor_2pc.specs.Participants.{ParticipantPlace, at_first}
@@ -43,7 +43,7 @@ abbrev pub boot : ℕ → List ℕ → World
 boot budget budgets = record { log = []; budget = budget; version = 0; place = idle_at_first; requests = no_requests (length budgets); peers = map new_peer budgets }
 
 -- the newest table
-abbrev pub newest : World → State
+abbrev pub newest : World → TableState
 newest w = table w.log (length w.log)
 
 abbrev pub version_at : World → ℕ → Option ℕ
@@ -143,7 +143,7 @@ pub record HappensDown (w : World) (entry : ℕ) (short : Bool) (w' : World) (an
   }
 
 -- the core receives the packet at its own version
-pub record HappensRx (w : World) (core : ℕ) (packet : Packet) (floor : ℕ) (w' : World) (answer : Answer) : Type 0 where
+pub record HappensRx (w : World) (core : ℕ) (packet : CapturedPacket) (floor : ℕ) (w' : World) (answer : Answer) : Type 0 where
   pub version : ℕ
   pub is_version : version_at w core ≡ Some version
   pub here : ReceivesAt (table w.log version) version packet floor answer

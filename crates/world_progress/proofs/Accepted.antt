@@ -10,7 +10,7 @@ use Rattle.endpoint_caps.specs.Capabilities.{cap_at}
 use Rattle.filter_table.specs.Listed.{ListedFilter}
 use Rattle.filter_table.specs.declared.delivery.Kept.{Kept}
 use Rattle.filter_table.specs.Soundness.{IsSoundTable}
-use Rattle.filter_table.specs.Tables.{State, Accepting}
+use Rattle.filter_table.specs.Tables.{TableState, Accepting}
 use Rattle.filter_table.proofs.Lists.{never, in_head, in_tail}
 use Rattle.table_replica.specs.Receiving.{raised, ReceiversSoFar, IsVerdict}
 use Rattle.table_replica.proofs.Receivers.{receivers_past, receivers_raised}
@@ -53,7 +53,7 @@ module _ (caps : List Cap) (packet : Packet) where
   found_all before (f ∷ later) found sound = subst Found (append_assoc before (f ∷ []) later)
       (found_all (before ++ f ∷ []) later (found_more before f (sound f (in_head f later)) found) (λ g at. sound g (in_tail f later g at)))
 
-pub some_accepting : (s : State) (packet : Packet) → IsSoundTable s → (kept : List Kept) × Accepting s packet kept
+pub some_accepting : (s : TableState) (packet : Packet) → IsSoundTable s → (kept : List Kept) × Accepting s packet kept
 some_accepting s packet sound =
     let found = found_all s.caps.held packet [] s.filters (none_yet s.caps.held packet) (λ f at. (sound.rightful f at).sound) in
     (found.0, found.1.are)

@@ -4,10 +4,10 @@ use Rattle.bpf_insn.specs.declared.insn.Insn.{Insn}
 use Rattle.filter_verify.proofs.Reasons.{Refuses-sound}
 use Rattle.filter_verify.proofs.OneReason.{Refuses-same}
 use Rattle.endpoint_caps.specs.Capabilities.{first}
-use Rattle.pcap_reader.specs.declared.capture.Packet.{Packet}
+use Rattle.pcap_reader.specs.declared.capture.CapturedPacket.{CapturedPacket}
 use Rattle.filter_table.specs.declared.operation.Op.{Op}
 use Rattle.filter_table.specs.declared.operation.StageFault.{StageFault}
-use Rattle.filter_table.specs.Tables.{State, table, tests, program_of, Verifies, AnswersFirst, Allowed, made}
+use Rattle.filter_table.specs.Tables.{TableState, table, tests, program_of, Verifies, AnswersFirst, Allowed, made}
 use Rattle.filter_table.proofs.Lists.{three}
 use Rattle.monitor_messages.specs.declared.message.Message.{Message}
 use Rattle.monitor_messages.specs.declared.message.Message.TheVariants as message
@@ -40,26 +40,26 @@ answers_once : (f : Option StageFault) (op : Op) (x y : Option StageFault) → A
 answers_once (Some fault) op x y a b = a ∙ sym b
 answers_once None op x y a b = verified_once (program_of op) x y a b
 
-allowed_once : (s : State) (budget : ℕ) (op : Op) (x y : Option StageFault) → Allowed s budget op x → Allowed s budget op y → x ≡ y
+allowed_once : (s : TableState) (budget : ℕ) (op : Op) (x y : Option StageFault) → Allowed s budget op x → Allowed s budget op y → x ≡ y
 unfolding Allowed
 allowed_once s budget op x y a b = answers_once (first (tests s budget op)) op x y a b
 
 -- A start
 
 -- the answer to a request that is allowed
-abbrev begins_with : ℕ → State → CoordinatorPlace → Op → Answer
+abbrev begins_with : ℕ → TableState → CoordinatorPlace → Op → Answer
 begins_with zero s place op = Decided (Committed (s.version + 1) (made s op))
 begins_with (suc n) s place op = Prepared (place.last + 1)
 
 -- what a start that had memory tells
-data StartCase (others : ℕ) (s : State) (budget : ℕ) (place : CoordinatorPlace) (op : Op) (answer : Answer) : Type 0 where
+data StartCase (others : ℕ) (s : TableState) (budget : ℕ) (place : CoordinatorPlace) (op : Op) (answer : Answer) : Type 0 where
   refuses : (fault : StageFault) → Allowed s budget op (Some fault) → answer ≡ Decided (Refused 0 (veto_of fault)) → StartCase others s budget place op answer
   allows : Allowed s budget op None → answer ≡ begins_with others s place op → StartCase others s budget place op answer
 
 told_as : (answer : Answer) (told told' : Step) → answer ≡ start_told told.txn told.decided → told ≡ told' → answer ≡ start_told told'.txn told'.decided
 told_as answer told told' a t = a ∙ ap (λ (x : Step). start_told x.txn x.decided) t
 
-start_case : (others : ℕ) (s : State) (budget : ℕ) (place place' : CoordinatorPlace) (op : Op) (committed : Option Op) (told : Step) (answer : Answer)
+start_case : (others : ℕ) (s : TableState) (budget : ℕ) (place place' : CoordinatorPlace) (op : Op) (committed : Option Op) (told : Step) (answer : Answer)
     → answer ≡ start_told told.txn told.decided → (IsRefusedForMemory answer → ⊥) → Starts others s budget place op place' committed told → StartCase others s budget place op answer
 start_case others s budget place place' op committed told answer a had (refused fault allowed p c t) = refuses fault allowed (told_as answer told _ a t)
 start_case others s budget place place' op committed told answer a had (unstaged none p c t) =
@@ -69,7 +69,7 @@ start_case (suc n) s budget place place' op committed told answer a had (alone a
 start_case zero s budget place place' op committed told answer a had (prepared allowed some p c t) = absurd (omega (arith, some))
 start_case (suc n) s budget place place' op committed told answer a had (prepared allowed some p c t) = allows allowed (told_as answer told _ a t)
 
-case_once : (others : ℕ) (s : State) (budget : ℕ) (place : CoordinatorPlace) (op : Op) (a1 a2 : Answer) → StartCase others s budget place op a1 → StartCase others s budget place op a2 → a1 ≡ a2
+case_once : (others : ℕ) (s : TableState) (budget : ℕ) (place : CoordinatorPlace) (op : Op) (a1 a2 : Answer) → StartCase others s budget place op a1 → StartCase others s budget place op a2 → a1 ≡ a2
 case_once others s budget place op a1 a2 (refuses f allowed e) (refuses f' allowed' e') =
     let same : Some f ≡ Some f' = allowed_once s budget op (Some f) (Some f') allowed allowed' in
     let is : f ≡ f' = cc in
@@ -116,7 +116,7 @@ all_yes votes core against all l = l.not_yes (let e = all l.entry (Some against)
 told_decides : (told told' : Step) (decided : Option Decision) → told ≡ told' → told'.decided ≡ decided → told.decided ≡ decided
 told_decides told told' decided t d = ap (λ (x : Step). x.decided) t ∙ d
 
-tally_once : (s : State) (last : ℕ) (op : Op) (votes : List (Option Vote)) (p1 p2 : CoordinatorPlace) (c1 c2 : Option Op) (t1 t2 : Step) → Tallies s last op votes p1 c1 t1 → Tallies s last op votes p2 c2 t2 → t1.decided ≡ t2.decided
+tally_once : (s : TableState) (last : ℕ) (op : Op) (votes : List (Option Vote)) (p1 p2 : CoordinatorPlace) (c1 c2 : Option Op) (t1 t2 : Step) → Tallies s last op votes p1 c1 t1 → Tallies s last op votes p2 c2 t2 → t1.decided ≡ t2.decided
 tally_once s last op votes p1 p2 c1 c2 t1 t2 (waits i n p c t) (waits i' n' p' c' t') = told_decides t1 _ None t refl ∙ sym (told_decides t2 _ None t' refl)
 tally_once s last op votes p1 p2 c1 c2 t1 t2 (waits i n p c t) (commits_all all p' c' t') = absurd (let e = all i None n in cc)
 tally_once s last op votes p1 p2 c1 c2 t1 t2 (waits i n p c t) (aborts_all core against l none p' c' t') = absurd (none i n)
@@ -132,7 +132,7 @@ tally_once s last op votes p1 p2 c1 c2 t1 t2 (aborts_all core against l none p c
 
 -- What core 0 takes
 
-up_case : (s : State) (place p1 p2 : CoordinatorPlace) (requests r1 r2 : Requests) (i : ℕ) (m : Message) (c1 c2 : Option Op) (t1 t2 : Step) (a1 a2 : Answer)
+up_case : (s : TableState) (place p1 p2 : CoordinatorPlace) (requests r1 r2 : Requests) (i : ℕ) (m : Message) (c1 c2 : Option Op) (t1 t2 : Step) (a1 a2 : Answer)
     → TakesUpAt s place requests i m p1 r1 c1 t1 a1 → TakesUpAt s place requests i m p2 r2 c2 t2 a2 → a1 ≡ a2
 up_case s place p1 p2 requests r1 r2 i (message.Vote txn v) c1 c2 t1 t2 a1 a2 a b =
     let votes : a.hears.votes ≡ b.hears.votes = (let x = a.hears.voting in let y = b.hears.voting in cc) in
@@ -161,7 +161,7 @@ up_answer w w1 w2 i a1 a2 a b = up_case (newest w) w.place a.place b.place w.req
 -- What another core takes
 
 -- a vote where memory isn't lacking
-casts_once : (short : Bool) (s : State) (budget : ℕ) (op : Op) (v v' : Vote) → Casts short s budget op v → Casts short s budget op v' → (v ≡ vote.NoMemory → short ≡ true) → (v' ≡ vote.NoMemory → short ≡ true) → v ≡ v'
+casts_once : (short : Bool) (s : TableState) (budget : ℕ) (op : Op) (v v' : Vote) → Casts short s budget op v → Casts short s budget op v' → (v ≡ vote.NoMemory → short ≡ true) → (v' ≡ vote.NoMemory → short ≡ true) → v ≡ v'
 casts_once short s budget op vote.Yes vote.Yes c c' had had' = refl
 casts_once short s budget op vote.Yes vote.Budget c c' had had' = absurd (omega (arith, c.1, c'.1))
 casts_once short s budget op vote.Yes vote.NoMemory c c' had had' = absurd (let e = had' refl in let f = c.2 in cc)
@@ -177,7 +177,7 @@ had_told : (short : Bool) (txn : ℕ) (v : Vote) (answer : Answer) → answer �
 had_told true txn v answer e had is = refl
 had_told false txn v answer e had is = absurd (had (refl, rw (e, is) refl))
 
-prepare_answer : (short : Bool) (s : State) (budget v1 v2 : ℕ) (place p1 p2 : ParticipantPlace) (txn : ℕ) (op : Op) (reply1 reply2 : Message) (a1 a2 : Answer)
+prepare_answer : (short : Bool) (s : TableState) (budget v1 v2 : ℕ) (place p1 p2 : ParticipantPlace) (txn : ℕ) (op : Op) (reply1 reply2 : Message) (a1 a2 : Answer)
     → Answers short s budget place (message.Prepare txn op) p1 reply1 → Took (message.Prepare txn op) reply1 v1 a1
     → Answers short s budget place (message.Prepare txn op) p2 reply2 → Took (message.Prepare txn op) reply2 v2 a2
     → ((short ≡ false) × (lacked_memory a1 ≡ true) → ⊥) → ((short ≡ false) × (lacked_memory a2 ≡ true) → ⊥) → a1 ≡ a2
@@ -186,7 +186,7 @@ prepare_answer short s budget v1 v2 place p1 p2 txn op (message.Vote n1 x) (mess
 prepare_answer short s budget v1 v2 place p1 p2 txn op (message.Vote n1 x) reply2 a1 a2 a t a' t' had1 had2 = absurd a'
 prepare_answer short s budget v1 v2 place p1 p2 txn op reply1 reply2 a1 a2 a t a' t' had1 had2 = absurd a
 
-down_case : (short : Bool) (s : State) (budget version : ℕ) (place p1 p2 : ParticipantPlace) (out o1 o2 : Bool) (m : Message) (c1 c2 : Option Op) (a1 a2 : Answer)
+down_case : (short : Bool) (s : TableState) (budget version : ℕ) (place p1 p2 : ParticipantPlace) (out o1 o2 : Bool) (m : Message) (c1 c2 : Option Op) (a1 a2 : Answer)
     → TakesDownAt short s budget version place out m p1 o1 c1 a1 → TakesDownAt short s budget version place out m p2 o2 c2 a2
     → ((short ≡ false) × (lacked_memory a1 ≡ true) → ⊥) → ((short ≡ false) × (lacked_memory a2 ≡ true) → ⊥) → a1 ≡ a2
 down_case short s budget version place p1 p2 out o1 o2 (message.Reply d) c1 c2 a1 a2 x y had1 had2 = x.is_answer ∙ sym y.is_answer
@@ -220,10 +220,10 @@ down_answer w w1 w2 i short a1 a2 a b had1 had2 =
 
 -- What a core receives
 
-receipt_once : (s : State) (version : ℕ) (packet : Packet) (floor : ℕ) (a1 a2 : Answer) → ReceivesAt s version packet floor a1 → ReceivesAt s version packet floor a2 → a1 ≡ a2
+receipt_once : (s : TableState) (version : ℕ) (packet : CapturedPacket) (floor : ℕ) (a1 a2 : Answer) → ReceivesAt s version packet floor a1 → ReceivesAt s version packet floor a2 → a1 ≡ a2
 receipt_once s version packet floor a1 a2 a b = a.is_answer ∙ (ap (Delivered version) (receivers_once s.caps.held s.filters (captured packet) a.kept b.kept a.accepting b.accepting) ∙ sym b.is_answer)
 
-rx_answer : (w w1 w2 : World) (core : ℕ) (packet : Packet) (floor : ℕ) (a1 a2 : Answer) → HappensRx w core packet floor w1 a1 → HappensRx w core packet floor w2 a2 → a1 ≡ a2
+rx_answer : (w w1 w2 : World) (core : ℕ) (packet : CapturedPacket) (floor : ℕ) (a1 a2 : Answer) → HappensRx w core packet floor w1 a1 → HappensRx w core packet floor w2 a2 → a1 ≡ a2
 rx_answer w w1 w2 core packet floor a1 a2 a b =
     let version : a.version ≡ b.version = (let x = a.is_version in let y = b.is_version in cc) in
     receipt_once (table w.log b.version) b.version packet floor a1 a2 (subst (λ (v : ℕ). ReceivesAt (table w.log v) v packet floor a1) version a.here) b.here

@@ -13,7 +13,7 @@ use Rattle.filter_table.specs.declared.operation.OpFault.{OpFault}
 use Rattle.filter_table.specs.declared.operation.OpFault.TheVariants.{BadProgram}
 use Rattle.filter_table.specs.declared.operation.StageFault.{StageFault}
 use Rattle.filter_table.specs.declared.operation.StageFault.TheVariants.{AlreadyStaged, Rule, Budget, NoMemory}
-use Rattle.filter_table.specs.Tables.{State, tests, program_of, AnswersFirst, Allowed}
+use Rattle.filter_table.specs.Tables.{TableState, tests, program_of, AnswersFirst, Allowed}
 
 -- The tests are of rules and of the budget
 
@@ -31,7 +31,7 @@ first_tested (t ∷ ts) fault all h = by_kind (is_tested t.1) refl t.0 refl (fir
     by_kind true k true e rest = let h' = rw e at h in let same : t.1 ≡ fault = cc in rw (← same) k
     by_kind true k false e rest = rest (rw k at all) (rw e at h)
 
-all_tested : (s : State) (budget : ℕ) (op : Op) → list_all (λ t. is_tested t.1) (tests s budget op) ≡ true
+all_tested : (s : TableState) (budget : ℕ) (op : Op) → list_all (λ t. is_tested t.1) (tests s budget op) ≡ true
 all_tested s budget (Create domain endpoint) = refl
 all_tested s budget (Mint domain cap to rights) = refl
 all_tested s budget (Revoke domain cap) = refl
@@ -42,12 +42,12 @@ all_tested s budget (Replace domain id program) = refl
 
 -- What becomes of an operation
 
-pub data Outcome (s : State) (budget : ℕ) (op : Op) : Type 0 where
+pub data Outcome (s : TableState) (budget : ℕ) (op : Op) : Type 0 where
   allows : Allowed s budget op None → Outcome s budget op
   breaks : (fault : OpFault) → Allowed s budget op (Some (Rule fault)) → Outcome s budget op
   exceeds : Allowed s budget op (Some Budget) → Outcome s budget op
 
-answered : (s : State) (budget : ℕ) (op : Op) (answer f : Option StageFault) → first (tests s budget op) ≡ f → AnswersFirst f op answer → Allowed s budget op answer
+answered : (s : TableState) (budget : ℕ) (op : Op) (answer f : Option StageFault) → first (tests s budget op) ≡ f → AnswersFirst f op answer → Allowed s budget op answer
 unfolding Allowed
 answered s budget op answer f e a = rw e a
 
@@ -55,7 +55,7 @@ either_way : (program : List Insn) → Sound program ⊎ ((refusal : Refusal) ×
 unfolding IsDecided
 either_way program = sound_or_refused program
 
-pub outcome : (s : State) (budget : ℕ) (op : Op) → Outcome s budget op
+pub outcome : (s : TableState) (budget : ℕ) (op : Op) → Outcome s budget op
 outcome s budget op = by_first (first (tests s budget op)) refl
   where
     by_program : (p : Option (List Insn)) → program_of op ≡ p → first (tests s budget op) ≡ None → Outcome s budget op

@@ -2,7 +2,7 @@
 use Rattle.std.proofs.Common.{◌≡◌, ◌≤◌, ℕ, zero, suc, Option, List, ap, ◌∙◌, arith}
 use Rattle.filter_table.specs.declared.operation.Op.{Op}
 use Rattle.filter_table.specs.declared.decision.Vote.{Vote}
-use Rattle.filter_table.specs.Tables.{State}
+use Rattle.filter_table.specs.Tables.{TableState}
 use Rattle.monitor_messages.specs.declared.message.Message.{Message}
 use Rattle.monitor_messages.specs.declared.message.Message.TheVariants as message
 use Rattle.monitor_2pc.specs.declared.step.Step.{Step}
@@ -15,18 +15,18 @@ use Rattle.world_model.specs.Cases.{TakesUpAt}
 use Rattle.world_model.specs.Worlds.{World, Happens, Run}
 use Rattle.world_model.proofs.Runs.{run_keeps}
 
-start_within : (others : ℕ) (s : State) (budget : ℕ) (place place' : CoordinatorPlace) (op : Op) (committed : Option Op) (told : Step) → CanStart place → Starts others s budget place op place' committed told → place'.last ≤ 18446744073709551615
+start_within : (others : ℕ) (s : TableState) (budget : ℕ) (place place' : CoordinatorPlace) (op : Op) (committed : Option Op) (told : Step) → CanStart place → Starts others s budget place op place' committed told → place'.last ≤ 18446744073709551615
 start_within others s budget place place' op committed told can (refused fault a p c t) = omega (arith, can.1, ap (λ (x : CoordinatorPlace). x.last) p)
 start_within others s budget place place' op committed told can (unstaged a p c t) = omega (arith, can.1, ap (λ (x : CoordinatorPlace). x.last) p)
 start_within others s budget place place' op committed told can (alone a n p c t) = omega (arith, can.1, ap (λ (x : CoordinatorPlace). x.last) p)
 start_within others s budget place place' op committed told can (prepared a n p c t) = omega (arith, can.1, ap (λ (x : CoordinatorPlace). x.last) p)
 
-tally_last : (s : State) (last : ℕ) (op : Op) (votes : List (Option Vote)) (place' : CoordinatorPlace) (committed : Option Op) (told : Step) → Tallies s last op votes place' committed told → place'.last ≡ last
+tally_last : (s : TableState) (last : ℕ) (op : Op) (votes : List (Option Vote)) (place' : CoordinatorPlace) (committed : Option Op) (told : Step) → Tallies s last op votes place' committed told → place'.last ≡ last
 tally_last s last op votes place' committed told (waits i n p c t) = ap (λ (x : CoordinatorPlace). x.last) p
 tally_last s last op votes place' committed told (commits_all all p c t) = ap (λ (x : CoordinatorPlace). x.last) p
 tally_last s last op votes place' committed told (aborts_all core against l all p c t) = ap (λ (x : CoordinatorPlace). x.last) p
 
-up_last : (s : State) (place place' : CoordinatorPlace) (requests requests' : Requests) (i : ℕ) (m : Message) (committed : Option Op) (told : Step) (answer : Answer) → TakesUpAt s place requests i m place' requests' committed told answer → place'.last ≡ place.last
+up_last : (s : TableState) (place place' : CoordinatorPlace) (requests requests' : Requests) (i : ℕ) (m : Message) (committed : Option Op) (told : Step) (answer : Answer) → TakesUpAt s place requests i m place' requests' committed told answer → place'.last ≡ place.last
 up_last s place place' requests requests' i (message.Vote txn v) committed told answer h = tally_last s txn _ _ place' committed told h.hears.tallies ∙ h.hears.number
 up_last s place place' requests requests' i (message.Ack txn) committed told answer h = ap (λ (x : CoordinatorPlace). x.last) h.hears.next
 up_last s place place' requests requests' i (message.Submit op) committed told answer h = ap (λ (x : CoordinatorPlace). x.last) h.same_place

@@ -4,7 +4,7 @@ use Rattle.filter_table.specs.declared.operation.Op.{Op}
 use Rattle.filter_table.specs.declared.decision.Vote.{Vote}
 use Rattle.filter_table.specs.declared.decision.Vote.TheVariants as vote
 use Rattle.filter_table.specs.declared.decision.Decision.TheVariants.{Committed, Refused}
-use Rattle.filter_table.specs.Tables.{State, made}
+use Rattle.filter_table.specs.Tables.{TableState, made}
 use Rattle.monitor_2pc.specs.declared.step.Say.TheVariants as say
 use Rattle.monitor_2pc.specs.declared.step.Step.{Step}
 use Rattle.monitor_2pc.specs.Coordinators.{CoordinatorPlace, Voting, Acking, LeastNo, Tallies, waits, commits_all, aborts_all, step, veto_by}
@@ -52,13 +52,13 @@ poll (Some vote.Yes ∷ votes) none = by_rest (poll votes (λ i e. none (suc i) 
     by_rest (one_against core against l) =
         one_against (suc core) against (record { entry = suc l.entry; is_core = ap suc l.is_core; said = l.said; not_yes = l.not_yes; yes_before = before l.entry l.yes_before })
 
-pub record Tallied (s : State) (last : ℕ) (op : Op) (votes : List (Option Vote)) : Type 0 where
+pub record Tallied (s : TableState) (last : ℕ) (op : Op) (votes : List (Option Vote)) : Type 0 where
   pub place : CoordinatorPlace
   pub committed : Option Op
   pub told : Step
   pub tallies : Tallies s last op votes place committed told
 
-pub tallied : (s : State) (last : ℕ) (op : Op) (votes : List (Option Vote)) → Tallied s last op votes
+pub tallied : (s : TableState) (last : ℕ) (op : Op) (votes : List (Option Vote)) → Tallied s last op votes
 tallied s last op votes = by_open (open_or_all votes)
   where
     by_poll : ((i : ℕ) → slice_get votes i ≢ Some None) → Poll votes → Tallied s last op votes

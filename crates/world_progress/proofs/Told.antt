@@ -2,7 +2,7 @@
 use Rattle.std.proofs.Common.{◌≡◌, ◌≢◌, ◌+◌, ◌<◌, ◌≤◌, ◌⊎◌, inl, inr, ℕ, zero, suc, Bool, true, false, Option, Some, None, List, [], ◌∷◌, ◌++◌, length, slice_get, slice_set, refl, ap, ◌∙◌, subst, arith, replicate}
 use Rattle.std.specs.Prelude.{option_map, option_and_then, option_to_list}
 use Rattle.std.proofs.lemmas.Bool.{cases_eq, cases_lt}
-use Rattle.pcap_reader.specs.declared.capture.Packet.{Packet}
+use Rattle.pcap_reader.specs.declared.capture.CapturedPacket.{CapturedPacket}
 use Rattle.filter_table.specs.declared.operation.Op.{Op}
 use Rattle.filter_table.specs.declared.operation.OpFault.{OpFault}
 use Rattle.filter_table.specs.declared.operation.StageFault.TheVariants.{Rule, Budget}
@@ -10,7 +10,7 @@ use Rattle.filter_table.specs.declared.decision.Vote.{Vote}
 use Rattle.filter_table.specs.declared.decision.Vote.TheVariants as vote
 use Rattle.filter_table.specs.declared.decision.Veto.TheVariants as veto
 use Rattle.filter_table.specs.declared.decision.Decision.TheVariants.{Committed, Refused}
-use Rattle.filter_table.specs.Tables.{State, table, made, instructions, Allowed}
+use Rattle.filter_table.specs.Tables.{TableState, table, made, instructions, Allowed}
 use Rattle.filter_table.proofs.Tables.{allowed_fits, over_budget}
 use Rattle.filter_table.proofs.Changes.{asks_allowed}
 use Rattle.monitor_messages.specs.declared.message.Message.{Message}
@@ -42,14 +42,14 @@ use Rattle.world_progress.proofs.Spending.{last_within}
 
 -- What core 0 begins
 
-record Begun (others : ℕ) (s : State) (budget : ℕ) (place : CoordinatorPlace) (op : Op) : Type 0 where
+record Begun (others : ℕ) (s : TableState) (budget : ℕ) (place : CoordinatorPlace) (op : Op) : Type 0 where
   next : CoordinatorPlace
   committed : Option Op
   told : Step
   starts : Starts others s budget place op next committed told
   had_memory : IsRefusedForMemory (start_told told.txn told.decided) → ⊥
 
-begun : (others : ℕ) (s : State) (budget : ℕ) (place : CoordinatorPlace) (op : Op) → Outcome s budget op → Begun others s budget place op
+begun : (others : ℕ) (s : TableState) (budget : ℕ) (place : CoordinatorPlace) (op : Op) → Outcome s budget op → Begun others s budget place op
 begun others s budget place op (breaks fault a) = record {
   next = place;
   committed = None;
@@ -242,12 +242,12 @@ down_done w i short p m rest place outstanding committed answer at oldest here h
 }
 
 -- a vote that the core may cast, which is NoMemory only where the event says so
-record Ballot (short : Bool) (s : State) (budget : ℕ) (op : Op) : Type 0 where
+record Ballot (short : Bool) (s : TableState) (budget : ℕ) (op : Op) : Type 0 where
   cast : Vote
   casts : Casts short s budget op cast
   had_memory : cast ≡ vote.NoMemory → short ≡ true
 
-ballot : (short : Bool) (s : State) (budget : ℕ) (op : Op) → instructions s ≤ budget → ((fault : OpFault) → Allowed s budget op (Some (Rule fault)) → ⊥) → Outcome s budget op → Ballot short s budget op
+ballot : (short : Bool) (s : TableState) (budget : ℕ) (op : Op) → instructions s ≤ budget → ((fault : OpFault) → Allowed s budget op (Some (Rule fault)) → ⊥) → Outcome s budget op → Ballot short s budget op
 ballot short s budget op fits none (breaks fault a) = absurd (none fault a)
 ballot short s budget op fits none (exceeds a) = record { cast = vote.Budget; casts = (a, over_budget s budget op a); had_memory = λ e. absurd cc }
 ballot true s budget op fits none (allows a) = record { cast = vote.NoMemory; casts = (asks_allowed s budget op a, allowed_fits s budget op a fits); had_memory = λ e. refl }
@@ -303,7 +303,7 @@ down_tells w i short inv known = by_peer (slice_get w.peers i) refl
 
 -- A core receives a packet
 
-rx_tells : (budget : ℕ) (budgets : List ℕ) (events : List Done) (w : World) (core number : ℕ) (packet : Packet) (floor : ℕ) → Run budget budgets events w → DoneOrRefused w (Rx core number packet floor)
+rx_tells : (budget : ℕ) (budgets : List ℕ) (events : List Done) (w : World) (core number : ℕ) (packet : CapturedPacket) (floor : ℕ) → Run budget budgets events w → DoneOrRefused w (Rx core number packet floor)
 rx_tells budget budgets events w core number packet floor run = by_version (version_at w core) refl
   where
     by_floor : (version : ℕ) → version_at w core ≡ Some version → (version < floor) ⊎ (floor ≤ version) → DoneOrRefused w (Rx core number packet floor)

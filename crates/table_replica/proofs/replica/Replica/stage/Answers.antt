@@ -1,5 +1,5 @@
 use Rattle.std.proofs.Common.{ap, sym, ◌∙◌, subst, ◌≤◌}
-use Rattle.filter_table.specs.Tables.{State, after, made, instructions_of}
+use Rattle.filter_table.specs.Tables.{TableState, after, made, instructions_of}
 use Rattle.filter_table.specs.Soundness.{IsSoundTable}
 use Rattle.filter_table.specs.declared.operation.Op.{Op}
 use Rattle.filter_table.proofs.Changes.{fits_after}
@@ -15,7 +15,7 @@ invariant_of-self c =
       (
         c.in_ok-next.ensures.ok ∙ ap (λ (op : Op). after c.self.inside.shown op) (sym c.of.ensures),
         c.made-made.ensures ∙ ap (λ (op : Op). made c.self.inside.shown op) (sym c.of.ensures),
-        subst (λ (s : State). instructions_of s.filters ≤ c.self.inside.budget) (sym c.in_ok-next.ensures.ok) fits,
+        subst (λ (s : TableState). instructions_of s.filters ≤ c.self.inside.budget) (sym c.in_ok-next.ensures.ok) fits,
         subst IsSoundTable (sym c.in_ok-next.ensures.ok) sound,
       ),
     )
