@@ -3,7 +3,8 @@
 
     docs/believe.py           writes docs/believed.md
     docs/believe.py --check   makes the page again and compares, counts the definitions of each root, which must have no more lines
-                              than is stated here, and those of the roots that were counted by hand
+                              than is stated here, and those of the roots that were counted by hand, and looks for definitions of
+                              the headline that share a name
 
 A line for each check that failed; the last line is `N passed, M failed`, and the status is 1 where one failed."""
 import itertools
@@ -242,7 +243,7 @@ class Page:
     def text(self):
         """The whole page."""
         self.told, self.headed = set(), set()
-        headline = [*self.shared_names(), *map(self.section, HEADLINE), *self.words()]
+        headline = [*map(self.section, HEADLINE), *self.words()]
         pieces = [INTRODUCTION, *self.tables(), *headline, *self.lists(), self.trusted()]
         return "\n\n".join(pieces) + "\n"
 
@@ -264,13 +265,8 @@ class Page:
 
     def shared_names(self):
         """The names that two of the headline's definitions have."""
-        files = {}
-        for key in self.cited(WHOLE).keys:
-            files.setdefault(key[-1], []).append(self.sources.definitions[key].file)
-        yield "## Names that several things have"
-        yield "Where a definition uses one of these, it means the one that its file has or imports."
-        shared = {name: found for name, found in sorted(files.items()) if len(found) > 1}
-        yield "\n".join(wrapped(f"- `{name}`: {', '.join(map(linked, found))}", "  ") for name, found in shared.items())
+        names = [key[-1] for key in self.cited(WHOLE).keys]
+        return sorted({name for name in names if names.count(name) > 1})
 
     def section(self, part):
         """The clauses of a part of the headline, and the definitions that they cite and no part before does."""
@@ -459,6 +455,12 @@ def check_words(page, checks):
     checks.count(True, "")
 
 
+def check_names(page, checks):
+    """Two things that the headline rests on have two names."""
+    shared = ", ".join(page.shared_names())
+    checks.count(not shared, f"two definitions of the headline have one name: {shared}")
+
+
 def check_page(page, checks):
     """The page that is stored is the one that the sources make."""
     stored = PAGE.read_text() if PAGE.exists() else ""
@@ -475,7 +477,7 @@ def main(words):
         if not words:
             PAGE.write_text(page.text())
             return 0
-        for check in (check_parts, check_by_hand, check_words, check_page):
+        for check in (check_parts, check_by_hand, check_words, check_names, check_page):
             check(page, checks)
     except Unknown as why:
         checks.count(False, str(why))
