@@ -20,14 +20,21 @@ use Rattle.pcap_reader.specs.declared.capture.CaptureFault.{CaptureFault}
 use Rattle.pcap_reader.proofs.LawLemmas.{one_reading}
 use Rattle.console.specs.Reading.{AreBytes, ShowsOne, ShowsTooLong}
 use Rattle.console.specs.Faults.{fault_status, fault_text}
+use Rattle.console.specs.Showing.{ShowsBounded}
 use Rattle.console.specs.Dumping.{ShowsDump, dump_text}
 use Rattle.console.specs.Checking.{IsFirstOut, ShowsAsm, ShowsCheck, ShowsProgram, asm_fault_line, jump_out_line}
 use Rattle.console.specs.Matching.{Answers, AnswersCaptured, ShowsBytes, ShowsGoodCode, ShowsInput, ShowsLines, Stops, bad_line, outcome_line}
 
--- An input that is too long
+-- An input whose length has a limit
 
 long_once : ShowsOne ShowsTooLong
 long_once status other text more one two = (one.0 ∙ sym two.0, one.1 ∙ sym two.1)
+
+bounded_once : (Shows : List ℕ → ℕ → List ℕ → Type 0) (input : List ℕ) → ShowsOne (Shows input) → ShowsOne (ShowsBounded Shows input)
+bounded_once Shows input once status other text more (inl one) (inl two) = once status other text more one.1 two.1
+bounded_once Shows input once status other text more (inl one) (inr two) = absurd (omega (arith, one.0, two.0))
+bounded_once Shows input once status other text more (inr one) (inl two) = absurd (omega (arith, one.0, two.0))
+bounded_once Shows input once status other text more (inr one) (inr two) = long_once status other text more one.1 two.1
 
 -- A dump
 
@@ -78,10 +85,7 @@ asm_once asm input status other text more (inr one) (inr two) =
     (one.2 ∙ sym two.2, one.3 ∙ ap asm_fault_line same ∙ sym two.3)
 
 pub check_once : (asm : Bool) (input : List ℕ) → ShowsOne (ShowsCheck asm input)
-check_once asm input status other text more (inl one) (inl two) = asm_once asm input status other text more one.1 two.1
-check_once asm input status other text more (inl one) (inr two) = absurd (omega (arith, one.0, two.0))
-check_once asm input status other text more (inr one) (inl two) = absurd (omega (arith, one.0, two.0))
-check_once asm input status other text more (inr one) (inr two) = long_once status other text more one.1 two.1
+check_once asm input = bounded_once (ShowsAsm asm) input (asm_once asm input)
 
 -- Packets
 
@@ -206,10 +210,7 @@ bytes_once program false input small = lines_once program (lines input)
 bytes_once program true input small = capture_once program input small
 
 input_once : (program : List Insn) (pcap : Bool) (input : List ℕ) → AreBytes input → ShowsOne (ShowsInput program pcap input)
-input_once program pcap input small status other text more (inl one) (inl two) = bytes_once program pcap input small status other text more one.1 two.1
-input_once program pcap input small status other text more (inl one) (inr two) = absurd (omega (arith, one.0, two.0))
-input_once program pcap input small status other text more (inr one) (inl two) = absurd (omega (arith, one.0, two.0))
-input_once program pcap input small status other text more (inr one) (inr two) = long_once status other text more one.1 two.1
+input_once program pcap input small = bounded_once (ShowsBytes program pcap) input (bytes_once program pcap input small)
 
 pub good_code_once : (code : List ℕ) (pcap : Bool) (input : List ℕ) → AreBytes input → ShowsOne (ShowsGoodCode code pcap input)
 good_code_once code pcap input small status other text more one two =

@@ -20,7 +20,7 @@ pub record WritesNothing {W : Type 0} (contents : W → Option (List ℕ)) (old 
   pub list : new.written.items ≡ old.written.items
   pub held : Keeps (contents old.inner) (contents new.inner)
 
--- these bytes were got: the list of the source grew by them, and what its reader had began with them, and lost them, where that is known
+-- these bytes were got: the source's list grew by them. The reader's contents began with them and lost them, where these are known
 pub record Gets {R : Type 0} (remaining : R → Option (List ℕ)) (old new : Source R) (bytes : List ℕ) : Type 0 where
   pub list : new.got.items ≡ old.got.items ++ bytes
   pub lost : Consumes (remaining old.inner) (remaining new.inner) bytes

@@ -7,6 +7,7 @@ pub mod Matching
 pub mod Running
 pub mod Streaming
 pub mod Dumping
+pub mod Showing
 pub mod Checking
 pub mod Stamps
 pub mod Views

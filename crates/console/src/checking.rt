@@ -12,9 +12,7 @@ ghost use Rattle.console.specs.Matching.{IsEngineFault};
 ghost use Rattle.console.specs.Reading.{GetsAtMost, IsInput, most_taken, ShowsOne};
 
 use crate::fault_words::name_of_asm_fault;
-use crate::input::{INPUT_BYTES, Input, read_bounded};
-use crate::output::write_bytes;
-use crate::too_long::refuse_long;
+use crate::showing::{Shown, show_input};
 use crate::{EngineFault, Sink, Source};
 use bpf_insn::{Insn, jumps_out, write_asm, write_ddd};
 use filter_asm::{AsmFaultKind, assemble};
@@ -48,21 +46,7 @@ pub fn run_check<R: Read, W: Write>(
     ensures most { reader.new.taken ≤ most_taken }
     ensures silent { (result ≡ Err EngineFault.ReadFailed) ⊎ (result ≡ Err EngineFault.NoMemory) → writer.new ≡ writer.old }
 {
-    match read_bounded(alloc, reader, INPUT_BYTES)? {
-        Input::TooLong => refuse_long(writer),
-        Input::Whole(input) => {
-            let shown = check_text(alloc, asm, input.as_slice())?;
-            write_bytes(writer, shown.text.as_slice())?;
-            Ok(shown.status)
-        }
-    }
-}
-
-/// What is shown of a text, and the status that goes with it.
-#[derive(Drop)]
-struct Shown {
-    text: Vec<u8>,
-    status: u8,
+    show_input(alloc, reader, writer, |text| check_text(alloc, asm, text))
 }
 
 /// What is shown of an assembler text.

@@ -1,57 +1,24 @@
 //! `match` over lines of hexadecimal digits.
 
-ghost use Rattle.std.specs.Prelude.{◌≡◌, ◌+◌, ◌<◌, ◌≤◌, ◌++◌, ◌^◌, ℕ, List, false, length, IfOk, IfErr, IsErr, IsErrOf, OnOk, MatchOption, string_bytes};
+ghost use Rattle.std.specs.Prelude.{◌≡◌, ◌+◌, ◌<◌, ◌++◌, ◌^◌, ℕ, List, false, length, IfOk, IfErr, IsErr, IsErrOf, OnOk, MatchOption, string_bytes};
 ghost use Rattle.std.specs.Str.Lines.{lines};
 ghost use Rattle.hex.specs.Hex.{decode_of};
-ghost use Rattle.console.specs.Reading.{GetsAtMost, IsInput, most_taken};
-ghost use Rattle.console.specs.Devices.{EndsEarly, EndsWell, StopsWriting, Writes};
-ghost use Rattle.console.specs.Matching.{Answers, IsEngineFault, IsPrintFault, ShowsFirst, ShowsInput, ShowsLines, ShowsRead, bad_line};
+ghost use Rattle.console.specs.Devices.{StopsWriting, Writes};
+ghost use Rattle.console.specs.Matching.{Answers, IsPrintFault, ShowsFirst, ShowsLines, bad_line};
 
-use crate::input::{INPUT_BYTES, Input, read_bounded};
 use crate::lines::first_line;
 use crate::outcome::push_outcome;
 use crate::output::{BLOCK, write_text};
-use crate::too_long::refuse_long;
-use crate::{EngineFault, Sink, Source, hexadecimal};
+use crate::{EngineFault, Sink, hexadecimal};
 use filter_verify::Verified;
 use filter_vm::{Outcome, run};
 use std::alloc::{AllocError, Global};
 use std::fmt::Write as FmtWrite;
-use std::io::{Read, Write};
+use std::io::Write;
 
-/// Reads lines, runs the filter on the packet of each, and answers the status.
-pub fn match_input<R: Read, W: Write>(
-    alloc: Global,
-    program: &Verified,
-    reader: &mut Source<R>,
-    writer: &mut Sink<W>,
-) -> Result<u8, EngineFault>
-    requires unread { reader.old.taken ≡ 0 }
-    requires open { (reader.old.ended ≡ false) × (reader.old.failed ≡ false) }
-    requires good { writer.old.failed ≡ false }
-    ensures shown { IfOk result (λ status. (text : List ℕ) × Writes W.contents writer.old writer.new text
-        × ((input : List ℕ) × IsInput R.remaining reader.old reader.new input × ShowsInput program.now false input status text)) }
-    ensures taken { IfOk result (λ _. GetsAtMost R.remaining reader.old reader.new most_taken) }
-    ensures fault { IfErr result IsEngineFault }
-    ensures well { IfOk result (λ _. EndsWell reader.new writer.new INPUT_BYTES) }
-    ensures cause { IfErr result (EndsEarly reader.new writer.new) }
-    ensures most { reader.new.taken ≤ most_taken }
-    ensures silent { IsErrOf result EngineFault.ReadFailed → writer.new ≡ writer.old }
-    ensures part { IsErrOf result EngineFault.NoMemory → (text : List ℕ)
-        × ShowsRead program.now false R.remaining reader.old reader.new text
-        × Writes W.contents writer.old writer.new text }
-{
-    match read_bounded(alloc, reader, INPUT_BYTES)? {
-        Input::TooLong => refuse_long(writer),
-        Input::Whole(input) => {
-            let status = match_lines(alloc, program, input.as_slice(), writer)?;
-            Ok(status)
-        }
-    }
-}
-
-/// Runs the filter on the packet of each line, up to the first line that spells none.
-fn match_lines<W: Write>(
+/// Runs the filter on the packet of each line, up to the first line that spells none, prints what came out, and answers
+/// the status.
+pub fn match_lines<W: Write>(
     alloc: Global,
     program: &Verified,
     input: &[u8],

@@ -6,11 +6,18 @@ ghost use Rattle.console.specs.Code.{IsGoodCode, SameButPath, ShowsBadCode};
 ghost use Rattle.console.specs.Reading.{AreBytes, GetsAtMost, IsInput, most_taken, ShowsOne};
 ghost use Rattle.console.specs.declared.input.TheConstants.{INPUT_BYTES, INPUT_READS};
 ghost use Rattle.console.specs.Devices.{EndsEarly, EndsWell, IsFresh, Writes};
-ghost use Rattle.console.specs.Matching.{IsEngineFault, ShowsGoodCode, ShowsPart};
+ghost use Rattle.console.specs.Matching.{IsEngineFault, ShowsGoodCode, ShowsInput, ShowsPart, ShowsRead};
 
 use crate::code::read_code;
+use crate::input::{INPUT_BYTES, Input, read_bounded};
+use crate::match_capture::show_capture;
+use crate::match_lines::match_lines;
 use crate::output::write_text;
-use crate::{EngineFault, Sink, Source, match_capture, match_lines};
+use crate::running::run_input;
+use crate::too_long::refuse_long;
+use crate::{EngineFault, Sink, Source};
+use filter_verify::Verified;
+use pcap_reader::Feed;
 use std::alloc::Global;
 use std::io::{Read, Write};
 
@@ -63,9 +70,42 @@ pub fn run_match<R: Read, W: Write>(
             return Ok(1);
         }
     };
-    if pcap {
-        match_capture::match_input(alloc, &program, reader, writer)
-    } else {
-        match_lines::match_input(alloc, &program, reader, writer)
+    match_input(alloc, &program, pcap, reader, writer)
+}
+
+/// Runs the filter on the packets of the input, and answers the status.
+fn match_input<R: Read, W: Write>(
+    alloc: Global,
+    program: &Verified,
+    pcap: bool,
+    reader: &mut Source<R>,
+    writer: &mut Sink<W>,
+) -> Result<u8, EngineFault>
+    requires unread { reader.old.taken ≡ 0 }
+    requires open { (reader.old.ended ≡ false) × (reader.old.failed ≡ false) }
+    requires good { writer.old.failed ≡ false }
+    ensures shown { IfOk result (λ status. (text : List ℕ) × Writes W.contents writer.old writer.new text
+        × ((input : List ℕ) × IsInput R.remaining reader.old reader.new input × ShowsInput program.now pcap input status text)) }
+    ensures taken { IfOk result (λ _. GetsAtMost R.remaining reader.old reader.new most_taken) }
+    ensures fault { IfErr result IsEngineFault }
+    ensures well { IfOk result (λ _. EndsWell reader.new writer.new INPUT_BYTES) }
+    ensures cause { IfErr result (EndsEarly reader.new writer.new) }
+    ensures most { reader.new.taken ≤ most_taken }
+    ensures silent { IsErrOf result EngineFault.ReadFailed → writer.new ≡ writer.old }
+    ensures part { IsErrOf result EngineFault.NoMemory → (text : List ℕ)
+        × ShowsRead program.now pcap R.remaining reader.old reader.new text
+        × Writes W.contents writer.old writer.new text }
+{
+    if !pcap {
+        return match read_bounded(alloc, reader, INPUT_BYTES)? {
+            Input::TooLong => refuse_long(writer),
+            Input::Whole(input) => match_lines(alloc, program, input.as_slice(), writer),
+        };
     }
+    let mut feed = Feed::new(alloc);
+    let mut outcomes = Vec::new(alloc);
+    if !run_input(program, reader, &mut feed, &mut outcomes)? {
+        return refuse_long(writer);
+    }
+    show_capture(alloc, &feed, outcomes.as_slice(), writer)
 }

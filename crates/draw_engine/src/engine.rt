@@ -1,7 +1,7 @@
 //! `draw`: the picture of a trace.
 
 ghost use Rattle.std.specs.Prelude.{◌≡◌, ◌≤◌, ◌⊎◌, ℕ, List, IfOk, IfErr, Err, false};
-ghost use Rattle.console.specs.declared.input.TheConstants.{INPUT_READS};
+ghost use Rattle.console.specs.declared.input.TheConstants.{INPUT_BYTES, INPUT_READS};
 ghost use Rattle.console.specs.Devices.{EndsEarly, EndsWell, IsFresh, Writes};
 ghost use Rattle.console.specs.Matching.{IsEngineFault};
 ghost use Rattle.console.specs.Reading.{IsInput, most_taken};
@@ -11,9 +11,7 @@ ghost use Rattle.trace_lines.specs.Traces.{trace_of};
 
 use crate::svg::svg;
 use crate::text::draw_as_text;
-use console::{
-    EngineFault, INPUT_BYTES, Input, Sink, Source, read_bounded, refuse_long, write_bytes,
-};
+use console::{EngineFault, Shown, Sink, Source, show_input};
 use std::alloc::{AllocError, Global};
 use std::io::{Read, Write};
 use trace_lines::{TraceFault, link_events, read_trace};
@@ -42,26 +40,12 @@ pub fn run_draw<R: Read, W: Write>(
     ensures most { reader.new.taken ≤ most_taken }
     ensures silent { (result ≡ Err EngineFault.ReadFailed) ⊎ (result ≡ Err EngineFault.NoMemory) → writer.new ≡ writer.old }
 {
-    match read_bounded(alloc, reader, INPUT_BYTES)? {
-        Input::TooLong => refuse_long(writer),
-        Input::Whole(input) => {
-            let drawing = draw_text(alloc, plain, input.as_slice())?;
-            write_bytes(writer, drawing.text.as_slice())?;
-            Ok(drawing.status)
-        }
-    }
-}
-
-/// What is shown of a text, and the status that goes with it.
-#[derive(Drop)]
-struct Drawing {
-    text: Vec<u8>,
-    status: u8,
+    show_input(alloc, reader, writer, |text| draw_text(alloc, plain, text))
 }
 
 /// What is shown of a trace.
-fn draw_text(alloc: Global, plain: bool, text: &[u8]) -> Result<Drawing, AllocError>
-    ensures { IfOk result (λ drawing. Shows plain (trace_of text.now) drawing.status drawing.text.items) }
+fn draw_text(alloc: Global, plain: bool, text: &[u8]) -> Result<Shown, AllocError>
+    ensures { IfOk result (λ shown. Shows plain (trace_of text.now) shown.status shown.text.items) }
 {
     match read_trace(alloc, text) {
         Ok(lines) => {
@@ -71,11 +55,11 @@ fn draw_text(alloc: Global, plain: bool, text: &[u8]) -> Result<Drawing, AllocEr
             } else {
                 svg(alloc, &picture)?
             };
-            Ok(Drawing { text, status: 0 })
+            Ok(Shown { text, status: 0 })
         }
         Err(TraceFault::BadLine(number)) => {
             let line = fault_line(alloc, number)?;
-            Ok(Drawing {
+            Ok(Shown {
                 text: line.into_bytes(),
                 status: 1,
             })

@@ -10,7 +10,7 @@ ghost use Rattle.bpf_insn.specs.Program.{form_at};
 ghost use Rattle.bpf_insn.specs.declared.insn.Insn.{Insn};
 ghost use Rattle.filter_verify.specs.Rules.{Sound};
 ghost use Rattle.console.specs.Code.{IsGoodCode, ShowsBadCode};
-ghost use Rattle.console.specs.declared.input.TheConstants.{INPUT_READS};
+ghost use Rattle.console.specs.declared.input.TheConstants.{INPUT_BYTES, INPUT_READS};
 ghost use Rattle.console.specs.Devices.{EndsEarly, EndsWell, IsFresh, Writes};
 ghost use Rattle.console.specs.Matching.{IsEngineFault};
 ghost use Rattle.console.specs.Reading.{IsInput, most_taken};
@@ -18,8 +18,8 @@ ghost use Rattle.graph_engine.specs.Explaining as spec;
 
 use bpf_insn::{Insn, push_form};
 use console::{
-    EngineFault, INPUT_BYTES, Input, Sink, Source, decode, first_line, push_bad_line, push_outcome,
-    read_bounded, read_code, write_bytes, write_text,
+    EngineFault, Shown, Sink, Source, decode, first_line, push_bad_line, push_outcome, read_code,
+    show_input, write_text,
 };
 use filter_verify::Verified;
 use filter_vm::{Outcome, Taken, trace_run};
@@ -55,10 +55,9 @@ pub fn run_explain<R: Read, W: Write>(
     ensures silent { IsErrOf result EngineFault.ReadFailed ⊎ IsErrOf result EngineFault.NoMemory → writer.new ≡ writer.old }
 {
     match read_code(alloc, code)? {
-        Ok(program) => {
-            let status = explain_input(alloc, &program, reader, writer)?;
-            Ok(status)
-        }
+        Ok(program) => show_input(alloc, reader, writer, |input| {
+            explain_lines(alloc, &program, input)
+        }),
         Err(line) => {
             write_text(writer, line.as_str())?;
             Ok(1)
@@ -66,48 +65,10 @@ pub fn run_explain<R: Read, W: Write>(
     }
 }
 
-/// Explains the runs on the packets of the input.
-fn explain_input<R: Read, W: Write>(
-    alloc: Global,
-    program: &Verified,
-    reader: &mut Source<R>,
-    writer: &mut Sink<W>,
-) -> Result<u8, EngineFault>
-    requires unread { reader.old.taken ≡ 0 }
-    requires open { (reader.old.ended ≡ false) × (reader.old.failed ≡ false) }
-    requires good { writer.old.failed ≡ false }
-    ensures shown { IfOk result (λ status. (text : List ℕ) × Writes W.contents writer.old writer.new text
-        × ((input : List ℕ) × IsInput R.remaining reader.old reader.new input × spec.ShowsInput program.now input status text)) }
-    ensures fault { IfErr result IsEngineFault }
-    ensures well { IfOk result (λ _. EndsWell reader.new writer.new INPUT_BYTES) }
-    ensures cause { IfErr result (EndsEarly reader.new writer.new) }
-    ensures most { reader.new.taken ≤ most_taken }
-    ensures silent { IsErrOf result EngineFault.ReadFailed ⊎ IsErrOf result EngineFault.NoMemory → writer.new ≡ writer.old }
-{
-    match read_bounded(alloc, reader, INPUT_BYTES)? {
-        Input::TooLong => {
-            write_text(writer, "fault InputTooLong\n")?;
-            Ok(1)
-        }
-        Input::Whole(input) => {
-            let explained = explain_lines(alloc, program, input.as_slice())?;
-            write_bytes(writer, explained.text.as_slice())?;
-            Ok(explained.status)
-        }
-    }
-}
-
-/// What is shown of lines, and the status that goes with it.
-#[derive(Drop)]
-struct Explained {
-    text: Vec<u8>,
-    status: u8,
-}
-
 /// What is shown of the lines of an input.
-fn explain_lines(alloc: Global, program: &Verified, input: &[u8]) -> Result<Explained, AllocError>
+fn explain_lines(alloc: Global, program: &Verified, input: &[u8]) -> Result<Shown, AllocError>
     requires { length input.now < 2 ^ 32 }
-    ensures { IfOk result (λ explained. spec.ShowsLines program.now (lines input.now) explained.status explained.text.items) }
+    ensures { IfOk result (λ shown. spec.ShowsLines program.now (lines input.now) shown.status shown.text.items) }
 {
     let mut text = String::new(alloc);
     let mut rest = input;
@@ -119,14 +80,14 @@ fn explain_lines(alloc: Global, program: &Verified, input: &[u8]) -> Result<Expl
             Some(packet) => push_explanation(alloc, &mut text, program, packet.as_slice())?,
             None => {
                 push_bad_line(&mut text, number)?;
-                return Ok(Explained {
+                return Ok(Shown {
                     text: text.into_bytes(),
                     status: 1,
                 });
             }
         }
     }
-    Ok(Explained {
+    Ok(Shown {
         text: text.into_bytes(),
         status: 0,
     })

@@ -1,7 +1,7 @@
 //! `check --graph`: the control flow of a filter.
 
 ghost use Rattle.std.specs.Prelude.{◌≡◌, ◌<◌, ◌≤◌, ◌^◌, ◌⊎◌, ℕ, List, length, IfOk, IfErr, Err, false};
-ghost use Rattle.console.specs.declared.input.TheConstants.{INPUT_READS};
+ghost use Rattle.console.specs.declared.input.TheConstants.{INPUT_BYTES, INPUT_READS};
 ghost use Rattle.console.specs.Devices.{EndsEarly, EndsWell, IsFresh, Writes};
 ghost use Rattle.console.specs.Matching.{IsEngineFault};
 ghost use Rattle.console.specs.Reading.{IsInput, most_taken};
@@ -9,10 +9,7 @@ ghost use Rattle.graph_engine.specs.Showing.{ShowsAsm, ShowsGraph, Verifies};
 
 use crate::graph::graph;
 use bpf_insn::Insn;
-use console::{
-    EngineFault, INPUT_BYTES, Input, Sink, Source, fault_line, read_bounded, refuse_long,
-    write_bytes,
-};
+use console::{EngineFault, Shown, Sink, Source, fault_line, show_input};
 use filter_asm::assemble;
 use filter_verify::{Refusal, verify};
 use std::alloc::{AllocError, Global};
@@ -42,40 +39,26 @@ pub fn run_graph<R: Read, W: Write>(
     ensures most { reader.new.taken ≤ most_taken }
     ensures silent { (result ≡ Err EngineFault.ReadFailed) ⊎ (result ≡ Err EngineFault.NoMemory) → writer.new ≡ writer.old }
 {
-    match read_bounded(alloc, reader, INPUT_BYTES)? {
-        Input::TooLong => refuse_long(writer),
-        Input::Whole(input) => {
-            let drawing = draw_text(alloc, input.as_slice())?;
-            write_bytes(writer, drawing.text.as_slice())?;
-            Ok(drawing.status)
-        }
-    }
-}
-
-/// What is shown of a text, and the status that goes with it.
-#[derive(Drop)]
-struct Drawing {
-    text: Vec<u8>,
-    status: u8,
+    show_input(alloc, reader, writer, |text| draw_text(alloc, text))
 }
 
 /// What is shown of an assembler text.
-fn draw_text(alloc: Global, text: &[u8]) -> Result<Drawing, AllocError>
+fn draw_text(alloc: Global, text: &[u8]) -> Result<Shown, AllocError>
     requires { length text.now < 2 ^ 32 }
-    ensures { IfOk result (λ drawing. ShowsAsm text.now drawing.status drawing.text.items) }
+    ensures { IfOk result (λ shown. ShowsAsm text.now shown.status shown.text.items) }
 {
     match assemble(alloc, text) {
         Ok(program) => {
             let refusal = refusal_of(alloc, program.as_slice())?;
             let text = graph(alloc, program.as_slice(), &refusal)?;
-            Ok(Drawing {
+            Ok(Shown {
                 text: text.into_bytes(),
                 status: 0,
             })
         }
         Err(fault) => {
             let line = fault_line(alloc, fault.line, fault.kind)?;
-            Ok(Drawing {
+            Ok(Shown {
                 text: line.into_bytes(),
                 status: 1,
             })

@@ -1,4 +1,4 @@
-use Rattle.std.proofs.Common.{[], arith, refl, inl, true, false}
+use Rattle.std.proofs.Common.{[], arith, refl, inl}
 use Rattle.console.proofs.KnownBytesLemmas.{gets-nothing}
 use Rattle.console.proofs.BadCodeLemmas.{bad_code_once, good_not_bad}
 use Rattle.console.proofs.MatchingLemmas.{shown_of, part_of}
@@ -12,17 +12,12 @@ returns-in-Err-clause-shown g c = (
   inl (rw c.in-Err.is at c.in_ok-program.ensures, refl),
 )
 
-pub returns-then-pcap-clause-shown : goal.returns-then-pcap-clause-shown
-returns-then-pcap-clause-shown g c = rw c.if-pcap.true (shown_of _ _ c.in-Ok.program true g.R.Read.remaining g.W.Write.contents c.args.reader.now c.match_input.new.reader c.args.writer.now c.match_input.new.writer (rw c.in-Ok.is at c.in_ok-program.ensures) c.match_input.ensures.shown)
-
-pub returns-then-pcap-clause-part : goal.returns-then-pcap-clause-part
-returns-then-pcap-clause-part g c = rw c.if-pcap.true (part_of _ _ c.in-Ok.program true _ _ _ _ (rw c.in-Ok.is at c.in_ok-program.ensures) c.match_input.ensures.part)
-
 pub returns-clause-shown : goal.returns-clause-shown
-returns-clause-shown g c = rw c.if-pcap.false (shown_of _ _ c.in-Ok.program false g.R.Read.remaining g.W.Write.contents c.args.reader.now c.match_input-else-pcap.new.reader c.args.writer.now c.match_input-else-pcap.new.writer (rw c.in-Ok.is at c.in_ok-program.ensures) c.match_input-else-pcap.ensures.shown)
+returns-clause-shown g c =
+    shown_of _ _ c.in-Ok.program c.args.pcap g.R.Read.remaining g.W.Write.contents c.args.reader.now c.match_input.new.reader c.args.writer.now c.match_input.new.writer (rw c.in-Ok.is at c.in_ok-program.ensures) c.match_input.ensures.shown
 
 pub returns-clause-part : goal.returns-clause-part
-returns-clause-part g c = rw c.if-pcap.false (part_of _ _ c.in-Ok.program false _ _ _ _ (rw c.in-Ok.is at c.in_ok-program.ensures) c.match_input-else-pcap.ensures.part)
+returns-clause-part g c = part_of _ _ c.in-Ok.program c.args.pcap _ _ _ _ (rw c.in-Ok.is at c.in_ok-program.ensures) c.match_input.ensures.part
 
 pub returns-in_err-program-clause-only : goal.returns-in_err-program-clause-only
 returns-in_err-program-clause-only g c = good_code_once c.args.code.now c.args.pcap
@@ -50,15 +45,6 @@ returns-in-Err-clause-bad_only g c = bad_code_once c.args.code.now
 
 pub returns-in-Err-clause-good_or_bad : goal.returns-in-Err-clause-good_or_bad
 returns-in-Err-clause-good_or_bad g c = good_not_bad c.args.code.now
-
-pub returns-then-pcap-clause-only : goal.returns-then-pcap-clause-only
-returns-then-pcap-clause-only g c = good_code_once c.args.code.now c.args.pcap
-
-pub returns-then-pcap-clause-bad_only : goal.returns-then-pcap-clause-bad_only
-returns-then-pcap-clause-bad_only g c = bad_code_once c.args.code.now
-
-pub returns-then-pcap-clause-good_or_bad : goal.returns-then-pcap-clause-good_or_bad
-returns-then-pcap-clause-good_or_bad g c = good_not_bad c.args.code.now
 
 pub returns-clause-only : goal.returns-clause-only
 returns-clause-only g c = good_code_once c.args.code.now c.args.pcap
