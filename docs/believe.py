@@ -40,8 +40,9 @@ HEADLINE = [
         "headline::threads",
         "headline::Replicas::get",
     ], 600),
+    Part("The same of cores that serve in one thread, step by step", ["headline::serve"], 600),
 ]
-WHOLE = HEADLINE[-1]
+WHOLE = Part("All parts of the headline", [root for part in HEADLINE for root in part.roots], 0)
 # What the program's own calls say beside the headline: each case of the protocol, and what rings and their ends show.
 CALLS = [
     Part("Every interleaving, one event after another", [
@@ -96,7 +97,7 @@ ROWS = {
     "world_histories": 1130,
     "core_steps": 380,
     "world_core": 1330,
-    "headline": 600,
+    "headline": 670,
     "core_loop": 1660,
     "core_join": 1820,
     "core_boot": 430,
@@ -135,10 +136,11 @@ affair. What a file is about and its source stand before its definitions, or in 
 has all of them in plain words.
 
 **Three calls say the whole headline by what can be seen alone**: `headline::filter` of filters, `headline::one_by_one`
-of a machine that does one event after another, and `headline::threads` of cores that are threads. They make the calls
-that the program makes, and their clauses cite no case of the protocol and no ring. The clauses of the program's own
-calls say more: each case of the protocol, which message is under way, and for threads also what rings and their ends
-show. What these rest on is named after the headline, and not needed for it."""
+of a machine that does one event after another, and `headline::threads` of cores that are threads. A fourth,
+`headline::serve`, says the same of cores that serve in one thread. They make the calls that the program makes, and
+their clauses cite no case of the protocol and no ring. The clauses of the program's own calls say more: each case of
+the protocol, which message is under way, and for threads also what rings and their ends show. What these rest on is
+named after the headline, and not needed for it."""
 
 NOTATION = """\
 ## The kit's words

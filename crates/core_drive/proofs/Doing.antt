@@ -12,11 +12,11 @@ use Rattle.core_loop.specs.Choosing.{NoMessageNow}
 use Rattle.core_loop.specs.Cores.{DidOne, CanReceive}
 use Rattle.core_loop.specs.Turning.{IsSpent, LacksMemory}
 use Rattle.core_join.specs.Machines.{RingCore}
-use Rattle.core_drive.specs.declared.step.Step.{Step}
-use Rattle.core_drive.specs.declared.step.Outcome.{Outcome}
+use Rattle.core_drive.specs.declared.step.CoreStep.{CoreStep}
+use Rattle.core_drive.specs.declared.step.StepOutcome.{StepOutcome}
 use Rattle.core_drive.specs.Driving.{TurnsRightly, IsDone, AreDoneInTurn}
 
-pub done_more : (steps : List Step) (outcomes : List Outcome) (s : Step) (o : Outcome) (a b c : List RingCore) → AreDoneInTurn steps outcomes a b → IsDone s o b c → AreDoneInTurn (steps ++ s ∷ []) (outcomes ++ o ∷ []) a c
+pub done_more : (steps : List CoreStep) (outcomes : List StepOutcome) (s : CoreStep) (o : StepOutcome) (a b c : List RingCore) → AreDoneInTurn steps outcomes a b → IsDone s o b c → AreDoneInTurn (steps ++ s ∷ []) (outcomes ++ o ∷ []) a c
 done_more [] [] s o a b c h k = (c, subst (λ (cores : List RingCore). IsDone s o cores c) h k, refl)
 done_more [] (p ∷ outcomes) s o a b c h k = absurd h
 done_more (r ∷ steps) [] s o a b c h k = absurd h

@@ -12,8 +12,8 @@ use Rattle.core_loop.specs.Answering.{decisions}
 use Rattle.core_join.specs.Machines.{RingCore}
 use Rattle.core_join.specs.Looking.{IsLookedAt, AreLookedAt}
 use Rattle.core_join.specs.Conclusions.{histories_of, StandsAtOther, IsIdle0, version_of_core, ShowsTable, Concludes}
-use Rattle.core_drive.specs.declared.step.Step.{Step}
-use Rattle.core_drive.specs.declared.step.Outcome.{Outcome}
+use Rattle.core_drive.specs.declared.step.CoreStep.{CoreStep}
+use Rattle.core_drive.specs.declared.step.StepOutcome.{StepOutcome}
 use Rattle.core_drive.specs.Driving.{DrivesAt, AreDriven, Conclude}
 use Rattle.core_drive.proofs.Tasks.{same_itself, same_along}
 
@@ -77,7 +77,7 @@ pub concluded : (budget : ℕ) (budgets : List ℕ) (cores : List RingCore) (c d
     → Concludes budget budgets c cs → Conclude budget budgets (d ∷ ds)
 concluded budget budgets cores c d cs ds is first rest h = concludes_along budget budgets c d cs ds first rest h
 
-pub driven_looked : (steps : List Step) (outcomes : List Outcome) (a b c : List RingCore) → AreDriven steps outcomes a b → AreLookedAt b c → AreDriven steps outcomes a c
+pub driven_looked : (steps : List CoreStep) (outcomes : List StepOutcome) (a b c : List RingCore) → AreDriven steps outcomes a b → AreLookedAt b c → AreDriven steps outcomes a c
 driven_looked steps outcomes a b c h l = record { answered = h.answered; all = l.all ∙ h.all; each = each }
   where
     each : (i : ℕ) (x z : RingCore) → slice_get a i ≡ Some x → slice_get c i ≡ Some z → DrivesAt steps outcomes i x z

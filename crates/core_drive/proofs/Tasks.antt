@@ -24,7 +24,7 @@ use Rattle.core_loop.proofs.Resting.{begun_more}
 use Rattle.core_loop.proofs.Answering.{more_from}
 use Rattle.core_join.specs.Machines.{RingCore}
 use Rattle.core_drive.specs.declared.step.Task.TheVariants as task
-use Rattle.core_drive.specs.declared.step.Outcome.TheVariants as outcome
+use Rattle.core_drive.specs.declared.step.StepOutcome.TheVariants as outcome
 use Rattle.core_drive.specs.Steps.{did, decided}
 use Rattle.core_drive.specs.Driving.{CoreDrives}
 

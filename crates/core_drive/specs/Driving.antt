@@ -18,13 +18,13 @@ use Rattle.core_loop.specs.Answering.{decisions}
 use Rattle.core_join.specs.Machines.{RingCore}
 use Rattle.core_join.specs.Looking.{AreLookedAt}
 use Rattle.core_join.specs.Conclusions.{Concludes}
-use Rattle.core_drive.specs.declared.step.Step.{Step}
+use Rattle.core_drive.specs.declared.step.CoreStep.{CoreStep}
 use Rattle.core_drive.specs.declared.step.Task.{Task}
 use Rattle.core_drive.specs.declared.step.Task.TheVariants.{Ask, Receive}
 use Rattle.core_drive.specs.declared.step.Task.TheVariants as tasks
-use Rattle.core_drive.specs.declared.step.Outcome.{Outcome}
-use Rattle.core_drive.specs.declared.step.Outcome.TheVariants.{Turned, Asked, Received, NotReceived, NoMemory}
-use Rattle.core_drive.specs.Steps.{IsOf, did, asked, decided, of_core}
+use Rattle.core_drive.specs.declared.step.StepOutcome.{StepOutcome}
+use Rattle.core_drive.specs.declared.step.StepOutcome.TheVariants.{Turned, Asked, Received, NotReceived, NoMemory}
+use Rattle.core_drive.specs.Steps.{IsOf, did, asked_op, decided, of_core}
 
 -- a request can be given to its core: that of a core other than 0 can be sent
 abbrev pub IsGivable : ℕ → Task → Type 0
@@ -32,7 +32,7 @@ IsGivable core (Ask op) = AreShort core (op ∷ [])
 IsGivable core task = Unit {0}
 
 -- a step of one of so many cores
-abbrev pub IsStep : ℕ → Step → Type 0
+abbrev pub IsStep : ℕ → CoreStep → Type 0
 IsStep cores s = (s.core < cores) × IsGivable s.core s.task
 
 -- A core before and after some steps: its history has grown by these events, what it was asked by these requests, and the decisions on its requests
@@ -44,11 +44,11 @@ pub record CoreDrives (events : List Done) (requests : List Op) (told : List Dec
   pub decisions_are : decisions new.history ≡ decisions old.history ++ told
 
 -- each core by the steps of its own
-abbrev pub DrivesAt : List Step → List Outcome → ℕ → RingCore → RingCore → Type 0
-DrivesAt steps outcomes core old new = CoreDrives (of_core (did core) core steps outcomes) (of_core asked core steps outcomes) (of_core (λ task. decided) core steps outcomes) old new
+abbrev pub DrivesAt : List CoreStep → List StepOutcome → ℕ → RingCore → RingCore → Type 0
+DrivesAt steps outcomes core old new = CoreDrives (of_core (did core) core steps outcomes) (of_core asked_op core steps outcomes) (of_core (λ task. decided) core steps outcomes) old new
 
-pub record AreDriven (steps : List Step) (outcomes : List Outcome) (old new : List RingCore) : Type 0 where
-  pub answered : AllZip (λ (s : Step) (o : Outcome). IsOf s.task o) steps outcomes
+pub record AreDriven (steps : List CoreStep) (outcomes : List StepOutcome) (old new : List RingCore) : Type 0 where
+  pub answered : AllZip (λ (s : CoreStep) (o : StepOutcome). IsOf s.task o) steps outcomes
   pub all : length new ≡ length old
   pub each : (i : ℕ) (c d : RingCore) → slice_get old i ≡ Some c → slice_get new i ≡ Some d → DrivesAt steps outcomes i c d
 
@@ -67,7 +67,7 @@ TurnsRightly rx turn.Spent old new = IsSpent old.cores old.clock old.part old.pe
 TurnsRightly rx turn.NoMemory old new = LacksMemory old.cores old.clock old.part old.pending (ring_view new.links) rx new.intake
 
 -- what came of a task is right of its core before and after it; there is room for 1,024 endpoints
-abbrev pub IsRight : Task → Outcome → RingCore → RingCore → Type 0
+abbrev pub IsRight : Task → StepOutcome → RingCore → RingCore → Type 0
 IsRight (tasks.Turn rx) (Turned answer) old new = TurnsRightly rx answer old new
 IsRight (Ask op) Asked old new = new ≡ record old { pending = old.pending ++ op ∷ [] }
 IsRight (Receive packet) (Received version kept) old new = (version ≡ version_now old) × HasReceived old new packet.bytes packet.original kept.items
@@ -76,7 +76,7 @@ IsRight task NoMemory old new = new ≡ old
 IsRight task outcome old new = ⊥
 
 -- a step on the core of its number, which alone has changed
-pub record IsDone (s : Step) (o : Outcome) (old new : List RingCore) : Type 0 where
+pub record IsDone (s : CoreStep) (o : StepOutcome) (old new : List RingCore) : Type 0 where
   pub core : RingCore
   pub becomes : RingCore
   pub there : slice_get old s.core ≡ Some core
@@ -84,13 +84,13 @@ pub record IsDone (s : Step) (o : Outcome) (old new : List RingCore) : Type 0 wh
   pub right : IsRight s.task o core becomes
 
 -- the steps were done one after another, each on the cores as those before it left them
-abbrev pub AreDoneInTurn : List Step → List Outcome → List RingCore → List RingCore → Type 0
+abbrev pub AreDoneInTurn : List CoreStep → List StepOutcome → List RingCore → List RingCore → Type 0
 AreDoneInTurn [] [] old new = new ≡ old
 AreDoneInTurn (s ∷ steps) (o ∷ outcomes) old new = (next : List RingCore) × IsDone s o old next × AreDoneInTurn steps outcomes next new
 AreDoneInTurn steps outcomes old new = ⊥
 
 -- and then the cores were looked at
-pub record AreDoneAndLookedAt (steps : List Step) (outcomes : List Outcome) (old new : List RingCore) : Type 0 where
+pub record AreDoneAndLookedAt (steps : List CoreStep) (outcomes : List StepOutcome) (old new : List RingCore) : Type 0 where
   pub last : List RingCore
   pub done : AreDoneInTurn steps outcomes old last
   pub looked : AreLookedAt last new

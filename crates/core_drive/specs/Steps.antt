@@ -6,14 +6,14 @@ use Rattle.world_events.specs.declared.event.Event.TheVariants.{Rx}
 use Rattle.world_events.specs.declared.event.Answer.TheVariants.{Delivered}
 use Rattle.world_events.specs.declared.event.Done.{Done}
 use Rattle.core_loop.specs.declared.cause.Turn.TheVariants.{Did}
-use Rattle.core_drive.specs.declared.step.Step.{Step}
+use Rattle.core_drive.specs.declared.step.CoreStep.{CoreStep}
 use Rattle.core_drive.specs.declared.step.Task.{Task}
 use Rattle.core_drive.specs.declared.step.Task.TheVariants.{Turn, Ask, Receive}
-use Rattle.core_drive.specs.declared.step.Outcome.{Outcome}
-use Rattle.core_drive.specs.declared.step.Outcome.TheVariants.{Turned, Asked, Received, NotReceived, NoMemory}
+use Rattle.core_drive.specs.declared.step.StepOutcome.{StepOutcome}
+use Rattle.core_drive.specs.declared.step.StepOutcome.TheVariants.{Turned, Asked, Received, NotReceived, NoMemory}
 
 -- the outcome is one of such a task
-abbrev pub IsOf : Task → Outcome → Type 0
+abbrev pub IsOf : Task → StepOutcome → Type 0
 IsOf (Turn rx) (Turned turn) = Unit {0}
 IsOf (Ask op) Asked = Unit {0}
 IsOf (Ask op) NoMemory = Unit {0}
@@ -23,22 +23,22 @@ IsOf (Receive packet) NoMemory = Unit {0}
 IsOf task outcome = ⊥
 
 -- the event that it did, with its answer
-abbrev pub did : ℕ → Task → Outcome → List Done
+abbrev pub did : ℕ → Task → StepOutcome → List Done
 did core task (Turned (Did s decision)) = s.done ∷ []
 did core (Receive packet) (Received version kept) = record { event = Rx core 0 packet 0; answer = Delivered version kept.items } ∷ []
 did core task outcome = []
 
 -- the request that was added to those of the core
-abbrev pub asked : Task → Outcome → List Op
-asked (Ask op) Asked = op ∷ []
-asked task outcome = []
+abbrev pub asked_op : Task → StepOutcome → List Op
+asked_op (Ask op) Asked = op ∷ []
+asked_op task outcome = []
 
 -- the decision on a request of the core's own
-abbrev pub decided : Outcome → List Decision
+abbrev pub decided : StepOutcome → List Decision
 decided (Turned (Did s decision)) = option_to_list decision
 decided outcome = []
 
 -- of the steps with these outcomes, what those of one core did, in order
-abbrev pub of_core : {T : Type 0} → (Task → Outcome → List T) → ℕ → List Step → List Outcome → List T
+abbrev pub of_core : {T : Type 0} → (Task → StepOutcome → List T) → ℕ → List CoreStep → List StepOutcome → List T
 of_core found core (s ∷ steps) (o ∷ outcomes) = (if s.core == core then found s.task o else []) ++ of_core found core steps outcomes
 of_core found core steps outcomes = []

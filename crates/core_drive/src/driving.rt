@@ -5,10 +5,10 @@ ghost use Rattle.std.specs.List.{All};
 ghost use Rattle.core_join.specs.Machines.{RingCore, IsMachine, AreSameCores};
 ghost use Rattle.core_join.specs.Looking.{AreLookedAt};
 ghost use Rattle.core_drive.specs.declared.step.Task.TheVariants as GhostTask;
-ghost use Rattle.core_drive.specs.Steps.{IsOf, did, asked, decided};
+ghost use Rattle.core_drive.specs.Steps.{IsOf, did, asked_op, decided};
 ghost use Rattle.core_drive.specs.Driving.{IsStep, IsGivable, CoreDrives, AreDriven, IsRight, IsDone, AreDoneAndLookedAt, Conclude};
 
-use crate::step::{Outcome, Step, Task};
+use crate::step::{CoreStep, StepOutcome, Task};
 use core_join::agree;
 use core_loop::{Core, RingLinks};
 use filter_table::Kept;
@@ -24,8 +24,8 @@ const MOST_KEPT: usize = 1024;
 pub fn drive(
     alloc: Global,
     cores: &mut [Core<RingLinks>],
-    steps: Vec<Step>,
-) -> Result<Vec<Outcome>, AllocError>
+    steps: Vec<CoreStep>,
+) -> Result<Vec<StepOutcome>, AllocError>
     requires machine { (budget : ℕ) × (budgets : List ℕ) × IsMachine budget budgets cores.old }
     requires steps { All (IsStep (length cores.old)) steps.items }
     ensures driven { IfOk result (λ outcomes. AreDriven steps.items outcomes.items cores.old cores.new) }
@@ -43,35 +43,35 @@ pub fn drive(
 }
 
 // Does one step.
-fn do_step(alloc: Global, cores: &mut [Core<RingLinks>], step: Step) -> Outcome
+fn do_step(alloc: Global, cores: &mut [Core<RingLinks>], step: CoreStep) -> StepOutcome
     requires step { IsStep (length cores.old) step }
     requires place { (i : ℕ) (c : RingCore) → slice_get cores.old i ≡ Some c → c.number ≡ i }
     ensures driven { AreDriven (step ∷ []) (result ∷ []) cores.old cores.new }
     ensures done { IsDone step result cores.old cores.new }
 {
-    let Step { core, task } = step;
+    let CoreStep { core, task } = step;
     do_task(alloc, &mut cores[usize::from(core)], task)
 }
 
 // Does one task of a core.
-fn do_task(alloc: Global, core: &mut Core<RingLinks>, task: Task) -> Outcome
+fn do_task(alloc: Global, core: &mut Core<RingLinks>, task: Task) -> StepOutcome
     requires { IsGivable core.old.number task }
     ensures answered { IsOf task result }
-    ensures drives { CoreDrives (did core.old.number task result) (asked task result) (decided result) core.old core.new }
+    ensures drives { CoreDrives (did core.old.number task result) (asked_op task result) (decided result) core.old core.new }
     ensures right { IsRight task result core.old core.new }
 {
     match task {
-        Task::Turn { rx } => Outcome::Turned(core.turn(rx)),
+        Task::Turn { rx } => StepOutcome::Turned(core.turn(rx)),
         Task::Ask { op } => match core.ask(op) {
-            Ok(()) => Outcome::Asked,
-            Err(AllocError) => Outcome::NoMemory,
+            Ok(()) => StepOutcome::Asked,
+            Err(AllocError) => StepOutcome::NoMemory,
         },
         Task::Receive { packet } => receive(alloc, core, packet),
     }
 }
 
 // Has a core receive a packet, in a room that is always enough.
-fn receive(alloc: Global, core: &mut Core<RingLinks>, packet: SharedPacket) -> Outcome
+fn receive(alloc: Global, core: &mut Core<RingLinks>, packet: SharedPacket) -> StepOutcome
     ensures answered { IsOf (GhostTask.Receive packet) result }
     ensures drives { CoreDrives (did core.old.number (GhostTask.Receive packet) result) [] [] core.old core.new }
     ensures right { IsRight (GhostTask.Receive packet) result core.old core.new }
@@ -81,18 +81,18 @@ fn receive(alloc: Global, core: &mut Core<RingLinks>, packet: SharedPacket) -> O
         kept: 0,
     };
     let Ok(mut room) = vec![in alloc; none; MOST_KEPT] else {
-        return Outcome::NoMemory;
+        return StepOutcome::NoMemory;
     };
     let version = core.version();
     match core.receive(packet.bytes(), packet.original(), &mut room) {
         Ok(count) => {
             room.truncate(count);
-            Outcome::Received {
+            StepOutcome::Received {
                 version,
                 kept: room,
             }
         }
-        Err(why) => Outcome::NotReceived(why),
+        Err(why) => StepOutcome::NotReceived(why),
     }
 }
 

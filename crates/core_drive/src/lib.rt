@@ -5,4 +5,4 @@ mod driving;
 mod step;
 
 pub use driving::drive;
-pub use step::{Outcome, Step, Task};
+pub use step::{CoreStep, StepOutcome, Task};

@@ -17,14 +17,14 @@ pub enum Task {
 
 /// A task, and the core that it is for.
 #[derive(Drop)]
-pub struct Step {
+pub struct CoreStep {
     pub core: u16,
     pub task: Task,
 }
 
 /// What came of a step.
 #[derive(Drop)]
-pub enum Outcome {
+pub enum StepOutcome {
     Turned(Turn),
     Asked,
     /// The endpoints that get the packet, with the bytes that each keeps, at the core's version.

@@ -27,7 +27,8 @@ use Rattle.core_join.specs.Merges.{ListsRuns}
 use Rattle.core_boot.specs.Booting.{HaveRequests, AreGivable, IsMachineOf}
 use Rattle.core_boot.specs.Lanes.{items_for}
 use Rattle.core_threads.specs.declared.halt.Halt.{Halt}
-use Rattle.core_threads.specs.Ending.{EndsRightly, IsAtEnd}
+use Rattle.core_threads.specs.declared.halt.Halt.TheVariants as halt
+use Rattle.core_threads.specs.Ending.{EndsRightly, HaltsFor, HaltsRightly, IsAtEnd}
 use Rattle.headline.specs.Headline.{log_of, ShowTables, begun_in, received_in}
 use Rattle.headline.specs.Shown.{replicas_of_cores}
 use Rattle.headline.specs.Ended.{HaveEnded}
@@ -76,6 +77,21 @@ pub have_ended : (budgets : List ℕ) (requests : List (ℕ × Op)) (jobs : List
     → HaveRequests requests machine → EndsRightly machine jobs cores left halted → ((budget : ℕ) (others : List ℕ) → IsMachine budget others machine → IsMachine budget others cores) → HaveEnded budgets requests jobs cores left
 have_ended budgets requests jobs machine cores left halted none is count have ends keeps =
     ended_whole budgets requests jobs machine cores left is count have (subst (EndsRightly machine jobs cores left) none ends) keeps
+
+-- a core that halted is one of the cores
+halts_within : (cores : List RingCore) (left : List (ℕ × Job)) (place : ℕ) (why : Halt) → HaltsFor cores left place why → place < length cores
+halts_within cores left place (halt.Cause cause) h = slice_get_within cores place h.core h.there
+halts_within cores left place halt.Spent h = slice_get_within cores place h.core h.there
+halts_within cores left place halt.NoMemory h = slice_get_within cores place h.core h.there
+halts_within cores left place halt.NoRoom h = h
+halts_within cores left place halt.Limit h = slice_get_within cores place h.core h.there
+halts_within cores left place halt.Early h = slice_get_within cores place h.core h.there
+
+pub halted_within : (budgets : List ℕ) (jobs : List (ℕ × Job)) (machine cores : List RingCore) (left : List (ℕ × Job)) (halted : Option (ℕ × Halt)) (core : ℕ) (why : Halt) → halted ≡ Some (core, why) → length machine ≡ length budgets
+    → EndsRightly machine jobs cores left halted → core < length budgets
+halted_within budgets jobs machine cores left halted core why is count ends =
+    let within : core < length cores = halts_within cores left core why (subst (HaltsRightly cores left) is ends.why) in
+    omega (arith, within, ends.all, count)
 
 -- they are a machine
 pub ended_machine : (budgets : List ℕ) (requests : List (ℕ × Op)) (jobs : List (ℕ × Job)) (cores : List RingCore) (left : List (ℕ × Job)) → HaveEnded budgets requests jobs cores left → (budget : ℕ) × (others : List ℕ) × IsMachine budget others cores

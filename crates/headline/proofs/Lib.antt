@@ -3,3 +3,5 @@ pub mod Shown
 pub mod Applying
 pub mod OneList
 pub mod Ending
+pub mod Stepping
+pub mod Ordering

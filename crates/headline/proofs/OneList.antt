@@ -156,14 +156,14 @@ received_part core (x ∷ xs) = by_core (same_or_not (core_of x.done.event) core
     by_core (inl own) rest = rw (received_own core x.done.event x.done.answer own, part_own core x xs own, rest) refl
     by_core (inr other) rest = rw (received_other core x.done.event x.done.answer other, part_other core x xs other) rest
 
+pub history_at : (cores : List RingCore) (core : ℕ) (c : RingCore) → slice_get cores core ≡ Some c → slice_get (histories_of cores) core ≡ Some c.history
+history_at [] core c at = absurd cc
+history_at (x ∷ cores) zero c at = (let e : x ≡ c = cc in rw e refl)
+history_at (x ∷ cores) (suc k) c at = history_at cores k c at
+
 of_history : (budget : ℕ) (budgets : List ℕ) (first : RingCore) (others : List RingCore) (list : List Done) → (con : Concludes budget budgets first others) → (l : ListsRun budget budgets first.history (histories_of others) con.end con.ends list)
     → (core : ℕ) (c : RingCore) → slice_get (first ∷ others) core ≡ Some c → part core l.merged ≡ c.history
-of_history budget budgets first others list con l core c at = l.is_merged.of_each core c.history (history_at (first ∷ others) core at)
-  where
-    history_at : (cs : List RingCore) (k : ℕ) → slice_get cs k ≡ Some c → slice_get (histories_of cs) k ≡ Some c.history
-    history_at [] k h = absurd cc
-    history_at (x ∷ xs) zero h = (let e : x ≡ c = cc in rw e refl)
-    history_at (x ∷ xs) (suc k) h = history_at xs k h
+of_history budget budgets first others list con l core c at = l.is_merged.of_each core c.history (history_at (first ∷ others) core c at)
 
 -- what the list has of a core is what the core's history has
 pub joined_begun : (budget : ℕ) (budgets : List ℕ) (first : RingCore) (others : List RingCore) (list : List Done) → Concludes budget budgets first others → ListsRuns (histories_of (first ∷ others)) list
@@ -180,7 +180,7 @@ joined_received budget budgets first others list con lists core c at =
 
 -- The list has no event of a core beyond them
 
-none_beyond : (core : ℕ) (events : List Stamped) → ((k : ℕ) (s : Stamped) → slice_get events k ≡ Some s → core_of s.done.event < core) → part core events ≡ []
+pub none_beyond : (core : ℕ) (events : List Stamped) → ((k : ℕ) (s : Stamped) → slice_get events k ≡ Some s → core_of s.done.event < core) → part core events ≡ []
 none_beyond core [] less = refl
 none_beyond core (x ∷ xs) less =
     let first : core_of x.done.event < core = less 0 x refl in

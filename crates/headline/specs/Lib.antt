@@ -1,3 +1,5 @@
 pub mod Headline
 pub mod Shown
 pub mod Ended
+pub mod Served
+pub mod Starts

@@ -5,7 +5,7 @@ ghost use Rattle.filter_table.specs.Tables.{HasShortProgram};
 ghost use Rattle.world_model.specs.Decisions.{Delivers};
 ghost use Rattle.rx_queue.specs.declared.job.Job.{Job as GhostJob};
 ghost use Rattle.core_boot.specs.Lanes.{items_for};
-ghost use Rattle.headline.specs.declared.fault.Fault.TheVariants.{CoreCount};
+ghost use Rattle.headline.specs.declared.fault.Fault.TheVariants.{CoreCount, Halted};
 ghost use Rattle.headline.specs.Headline.{log_of, ShowTables, AreEqualByVersion, begun_in, received_in};
 ghost use Rattle.headline.specs.Ended.{HaveEnded};
 
@@ -50,6 +50,9 @@ pub fn threads<R: Threads + Wait + Clock + Sync>(
     ensures begun { IfOk result (λ ran. (core : ℕ) → begun_in core ran.0.events.items ≡ items_for core requests.items) }
     ensures received { IfOk result (λ ran. (core : ℕ) → received_in core ran.0.events.items ++ items_for core ran.1.items ≡ items_for core jobs.items) }
     ensures left { IfOk result (λ ran. (core : ℕ) (job : GhostJob) (later : List GhostJob) → items_for core ran.1.items ≡ job ∷ later → length (log_of ran.0.events.items) < job.floor) }
+
+    // A core that halted is one of the machine's.
+    ensures halted { (core : ℕ) → result ≡ Err (Halted core) → core < length budgets.now }
 {
     let (cores, left) = run_cores(rt, alloc, budgets, requests, jobs, limit)?;
     let did = conclude_all(alloc, cores)?;
@@ -70,6 +73,7 @@ fn run_cores<R: Threads + Wait + Clock + Sync>(
     requires jobs { All (λ j. j.0 < length budgets.now) jobs.items }
     ensures count { result ≡ Err CoreCount ↔ ((length budgets.now ≡ 0) ⊎ (8 < length budgets.now)) }
     ensures ended { IfOk result (λ r. HaveEnded budgets.now requests.items jobs.items r.0.items r.1.items) }
+    ensures halted { (core : ℕ) → result ≡ Err (Halted core) → core < length budgets.now }
 {
     let machine = match boot(alloc, budgets, requests) {
         Ok(machine) => machine,

@@ -8,7 +8,7 @@ use crate::facts::{equal_at, holds};
 use crate::words::{is_step, packet};
 use bpf_insn::Insn;
 use core_boot::boot_cores;
-use core_drive::{Outcome, Step, Task, drive};
+use core_drive::{CoreStep, StepOutcome, Task, drive};
 use core_loop::Turn;
 use endpoint_caps::Rights;
 use filter_table::{Op, Program};
@@ -104,26 +104,31 @@ fn task(alloc: Global, draw: &mut Draw) -> Result<Task, AllocError> {
 }
 
 /// So many steps, each at one of so many cores.
-fn steps(alloc: Global, draw: &mut Draw, cores: u32, count: usize) -> Result<Vec<Step>, AllocError>
+fn steps(
+    alloc: Global,
+    draw: &mut Draw,
+    cores: u32,
+    count: usize,
+) -> Result<Vec<CoreStep>, AllocError>
     requires { (0 < cores) × (cores ≤ 8) }
 {
     let mut steps = Vec::new(alloc);
     for _ in 0..count {
         let core = draw.below(cores) as u16;
         let task = task(alloc, draw)?;
-        steps.push(Step { core, task })?;
+        steps.push(CoreStep { core, task })?;
     }
     Ok(steps)
 }
 
-fn are_steps(steps: &[Step], cores: usize) -> bool
+fn are_steps(steps: &[CoreStep], cores: usize) -> bool
     ensures { IsTrue result → All (IsStep cores) steps.now }
 {
     steps.iter().all(|step| is_step(step, cores))
 }
 
 /// Does the steps on a machine with these budgets.
-fn drive_machine(alloc: Global, budgets: &[u32], steps: Vec<Step>) -> Option<Vec<Outcome>> {
+fn drive_machine(alloc: Global, budgets: &[u32], steps: Vec<CoreStep>) -> Option<Vec<StepOutcome>> {
     let Ok(mut cores) = boot_cores(alloc, budgets) else {
         return None;
     };
@@ -134,7 +139,7 @@ fn drive_machine(alloc: Global, budgets: &[u32], steps: Vec<Step>) -> Option<Vec
 }
 
 /// The core of a step, and its packet, if it has one.
-fn place_of(step: &Step) -> Result<(u16, Option<SharedPacket>), AllocError> {
+fn place_of(step: &CoreStep) -> Result<(u16, Option<SharedPacket>), AllocError> {
     match &step.task {
         Task::Receive { packet } => Ok((step.core, Some(packet.clone()?))),
         _ => Ok((step.core, None)),
@@ -143,7 +148,7 @@ fn place_of(step: &Step) -> Result<(u16, Option<SharedPacket>), AllocError> {
 
 fn places_of(
     alloc: Global,
-    steps: &[Step],
+    steps: &[CoreStep],
 ) -> Result<Vec<(u16, Option<SharedPacket>)>, AllocError> {
     let mut places = Vec::new(alloc);
     for step in steps {
@@ -153,10 +158,10 @@ fn places_of(
 }
 
 /// The event of a step, if it did one.
-fn done_of(core: u16, packet: Option<SharedPacket>, outcome: Outcome) -> Option<Done> {
+fn done_of(core: u16, packet: Option<SharedPacket>, outcome: StepOutcome) -> Option<Done> {
     match outcome {
-        Outcome::Turned(Turn::Did { event, decision: _ }) => Some(event.done),
-        Outcome::Received { version, kept } => Some(Done {
+        StepOutcome::Turned(Turn::Did { event, decision: _ }) => Some(event.done),
+        StepOutcome::Received { version, kept } => Some(Done {
             event: Event::Rx {
                 core,
                 number: 0,
@@ -176,7 +181,7 @@ fn done_of(core: u16, packet: Option<SharedPacket>, outcome: Outcome) -> Option<
 fn events(
     alloc: Global,
     places: Vec<(u16, Option<SharedPacket>)>,
-    outcomes: Vec<Outcome>,
+    outcomes: Vec<StepOutcome>,
 ) -> Result<Vec<Done>, AllocError> {
     let mut list = Vec::new(alloc);
     for ((core, packet), outcome) in places.into_iter().zip(outcomes) {

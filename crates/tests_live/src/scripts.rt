@@ -6,7 +6,7 @@ ghost use Rattle.core_drive.specs.Driving.{IsStep};
 use crate::facts::{equal, equal_at};
 use crate::words::{BYTES, create, install, is_step, packet};
 use core_boot::boot_cores;
-use core_drive::{Outcome, Step, Task, drive};
+use core_drive::{CoreStep, StepOutcome, Task, drive};
 use core_loop::{NotReceived, Turn};
 use filter_table::Decision;
 use std::alloc::{AllocError, Global};
@@ -133,23 +133,23 @@ fn task(alloc: Global, say: Say) -> Result<Task, AllocError> {
     }
 }
 
-fn steps(alloc: Global, lines: &[Line]) -> Result<Vec<Step>, AllocError> {
+fn steps(alloc: Global, lines: &[Line]) -> Result<Vec<CoreStep>, AllocError> {
     let mut steps = Vec::new(alloc);
     for (core, say, _) in lines {
         let task = task(alloc, *say)?;
-        steps.push(Step { core: *core, task })?;
+        steps.push(CoreStep { core: *core, task })?;
     }
     Ok(steps)
 }
 
-fn are_steps(steps: &[Step], cores: usize) -> bool
+fn are_steps(steps: &[CoreStep], cores: usize) -> bool
     ensures { IsTrue result → All (IsStep cores) steps.now }
 {
     steps.iter().all(|step| is_step(step, cores))
 }
 
 /// Does the steps on a machine with these budgets.
-fn drive_machine(alloc: Global, budgets: &[u32], steps: Vec<Step>) -> Option<Vec<Outcome>> {
+fn drive_machine(alloc: Global, budgets: &[u32], steps: Vec<CoreStep>) -> Option<Vec<StepOutcome>> {
     let Ok(mut cores) = boot_cores(alloc, budgets) else {
         return None;
     };
@@ -159,18 +159,18 @@ fn drive_machine(alloc: Global, budgets: &[u32], steps: Vec<Step>) -> Option<Vec
     drive(alloc, &mut cores, steps).ok()
 }
 
-fn outcome_of(outcome: &Outcome) -> Came {
+fn outcome_of(outcome: &StepOutcome) -> Came {
     match outcome {
-        Outcome::Asked => Came::Asked,
-        Outcome::Turned(Turn::Did { event: _, decision }) => Came::Did(*decision),
-        Outcome::Turned(Turn::Idle) => Came::Idle,
-        Outcome::Turned(_) => Came::Halted,
-        Outcome::Received { version, kept } => match kept.first() {
+        StepOutcome::Asked => Came::Asked,
+        StepOutcome::Turned(Turn::Did { event: _, decision }) => Came::Did(*decision),
+        StepOutcome::Turned(Turn::Idle) => Came::Idle,
+        StepOutcome::Turned(_) => Came::Halted,
+        StepOutcome::Received { version, kept } => match kept.first() {
             Some(first) => Came::Received(*version, kept.len(), first.endpoint, first.kept),
             None => Came::Received(*version, 0, 0, 0),
         },
-        Outcome::NotReceived(why) => Came::NotReceived(*why),
-        Outcome::NoMemory => Came::NoMemory,
+        StepOutcome::NotReceived(why) => Came::NotReceived(*why),
+        StepOutcome::NoMemory => Came::NoMemory,
     }
 }
 

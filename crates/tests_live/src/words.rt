@@ -6,7 +6,7 @@ ghost use Rattle.core_loop.specs.Cores.{AreShort};
 ghost use Rattle.core_drive.specs.Driving.{IsStep};
 
 use bpf_insn::Insn;
-use core_drive::{Step, Task};
+use core_drive::{CoreStep, Task};
 use filter_table::{Op, Program};
 use pcap_reader::SharedPacket;
 use seq::Shared;
@@ -71,7 +71,7 @@ fn can_be_given(core: u16, op: &Op) -> bool
 }
 
 /// Whether the step is one of so many cores.
-pub(crate) fn is_step(step: &Step, cores: usize) -> bool
+pub(crate) fn is_step(step: &CoreStep, cores: usize) -> bool
     ensures { IsTrue result → IsStep cores step.now }
 {
     if usize::from(step.core) >= cores {

@@ -1,7 +1,7 @@
 use Rattle.std.proofs.Common.{◌≡◌, ◌∙◌, ◌++◌, ◌∷◌, [], List, length, ap, sym, arith, append_assoc}
 use Rattle.std.proofs.lemmas.List.{append-nil, nil_from_length}
 use Rattle.std.specs.Vec.Iter.{into_iter_items}
-use Rattle.core_drive.specs.declared.step.Step.{Step}
+use Rattle.core_drive.specs.declared.step.CoreStep.{CoreStep}
 use Rattle.core_join.proofs.Machines.{machine_ran}
 use Rattle.core_drive.proofs.Doing.{done_more}
 use Rattle.core_drive.proofs.Steps.{driven_more, driven_same, placed}
@@ -18,7 +18,7 @@ loop-step-preserved c = (
   rw c.push_reserved.ensures.items
       (driven_more c.loop-step.yielded c.loop-step.outcomes.items c.in-Some.step c.do_step.result c.args.cores.now c.loop-step.cores c.do_step.new.cores c.loop-step.invariant.0 c.do_step.ensures.driven),
   omega (arith, c.loop-step.invariant.1, c.push_reserved.ensures.len, c.push_reserved.ensures.capacity, ap length c.in-Some.ensures.steps.0),
-  c.loop-step.invariant.2 ∙ ap (λ (l : List Step). c.loop-step.yielded ++ l) c.in-Some.ensures.steps.0 ∙ sym (append_assoc c.loop-step.yielded (c.in-Some.step ∷ []) (into_iter_items c.next.new.self)),
+  c.loop-step.invariant.2 ∙ ap (λ (l : List CoreStep). c.loop-step.yielded ++ l) c.in-Some.ensures.steps.0 ∙ sym (append_assoc c.loop-step.yielded (c.in-Some.step ∷ []) (into_iter_items c.next.new.self)),
   rw c.push_reserved.ensures.items
       (done_more c.loop-step.yielded c.loop-step.outcomes.items c.in-Some.step c.do_step.result c.args.cores.now c.loop-step.cores c.do_step.new.cores c.loop-step.invariant.3 c.do_step.ensures.done),
 )
@@ -31,13 +31,13 @@ look_at-requires c =
 pub returns-clause-driven : goal.returns-clause-driven
 returns-clause-driven c =
     let none : into_iter_items c.loop-step.step-iterator ≡ [] = nil_from_length _ (sym c.loop-step.step-iterator.rest.ok.0 ∙ c.in-None.ensures.steps.0) in
-    let all : c.args.steps.items ≡ c.loop-step.yielded = c.loop-step.invariant.2 ∙ ap (λ (l : List Step). c.loop-step.yielded ++ l) none ∙ append-nil c.loop-step.yielded in
+    let all : c.args.steps.items ≡ c.loop-step.yielded = c.loop-step.invariant.2 ∙ ap (λ (l : List CoreStep). c.loop-step.yielded ++ l) none ∙ append-nil c.loop-step.yielded in
     rw all (driven_looked c.loop-step.yielded c.loop-step.outcomes.items c.args.cores.now c.loop-step.cores c.look_at.new.cores c.loop-step.invariant.0 c.look_at.ensures.looked)
 
 pub returns-clause-in_turn : goal.returns-clause-in_turn
 returns-clause-in_turn c =
     let none : into_iter_items c.loop-step.step-iterator ≡ [] = nil_from_length _ (sym c.loop-step.step-iterator.rest.ok.0 ∙ c.in-None.ensures.steps.0) in
-    let all : c.args.steps.items ≡ c.loop-step.yielded = c.loop-step.invariant.2 ∙ ap (λ (l : List Step). c.loop-step.yielded ++ l) none ∙ append-nil c.loop-step.yielded in
+    let all : c.args.steps.items ≡ c.loop-step.yielded = c.loop-step.invariant.2 ∙ ap (λ (l : List CoreStep). c.loop-step.yielded ++ l) none ∙ append-nil c.loop-step.yielded in
     rw all (record { last = c.loop-step.cores; done = c.loop-step.invariant.3; looked = c.look_at.ensures.looked })
 
 pub returns-clause-machine : goal.returns-clause-machine

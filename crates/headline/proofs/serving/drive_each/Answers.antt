@@ -1,0 +1,52 @@
+use Rattle.std.proofs.Common.{rules, ◌≡◌, ◌++◌, ◌∷◌, ◌∙◌, All, ℕ, List, [], length, ap, sym, subst, append_assoc}
+use Rattle.std.proofs.lemmas.List.{append-nil, nil_from_length}
+use Rattle.std.specs.Vec.Iter.{into_iter_items}
+use Rattle.core_drive.specs.declared.step.CoreStep.{CoreStep}
+use Rattle.core_drive.specs.declared.step.StepOutcome.{StepOutcome}
+use Rattle.core_drive.specs.Driving.{IsStep, AreDriven}
+use Rattle.headline.specs.Served.{events_of}
+use Rattle.headline.specs.Starts.{StartOneByOne}
+use Rattle.headline.proofs.Stepping.{AreDone, done_none, done_more, driven_first, no_histories, inside_front}
+use Rattle.headline.proofs.serving.drive_each.Goals as goal
+
+pub loop-step-init : goal.loop-step-init
+loop-step-init c =
+    let e = c.in_ok-outcomes.ensures in
+    let looked = subst (λ (l : List CoreStep). AreDriven l c.in_ok-outcomes.outcomes.items c.args.cores.now c.drive.new.cores) c.new.ensures.items e.driven in
+    record { done = done_none c.in_ok-outcomes.outcomes.items c.args.cores.now c.drive.new.cores c.requires.machine looked c.drive.ensures.machine e.concludes; whole = search rules }
+
+pub drive-requires-in-loop-step-clause-machine : goal.drive-requires-in-loop-step-clause-machine
+drive-requires-in-loop-step-clause-machine c = let d = c.loop-step.invariant.done in (d.budget, d.budgets, d.machine)
+
+pub loop-step-preserved : goal.loop-step-preserved
+loop-step-preserved c =
+    let e = c.in_ok-outcome.ensures in
+    let looked = subst (λ (l : List CoreStep). AreDriven l c.in_ok-outcomes.outcomes.items c.args.cores.now c.drive.new.cores) c.new.ensures.items c.in_ok-outcomes.ensures.driven in
+    let yielded = c.loop-step.yielded in
+    let whole : c.args.steps.items ≡ (yielded ++ c.in-Some.step ∷ []) ++ into_iter_items c.next.new.self =
+    c.loop-step.invariant.whole ∙ ap (λ (l : List CoreStep). yielded ++ l) c.in-Some.ensures.steps.0 ∙ sym (append_assoc yielded (c.in-Some.step ∷ []) (into_iter_items c.next.new.self)) in
+    let can = subst (λ (n : ℕ). All (IsStep n) c.args.steps.items) (sym looked.all) c.requires.steps in
+    let front = inside_front (IsStep (length c.drive.new.cores)) (yielded ++ c.in-Some.step ∷ []) (into_iter_items c.next.new.self) (subst (All (IsStep (length c.drive.new.cores))) whole can) in
+    let one = subst (λ (l : List CoreStep). AreDriven l c.in_ok-outcome.outcome.items c.loop-step.cores c.drive-in-loop-step.new.cores) c.in_ok-vec.ensures.items e.driven in
+    record {
+      done = subst (λ (os : List StepOutcome). AreDone (yielded ++ c.in-Some.step ∷ []) os c.drive.new.cores c.drive-in-loop-step.new.cores) (sym c.in_ok-append.ensures.items)
+          (done_more yielded c.loop-step.outcomes.items c.in-Some.step c.in_ok-outcome.outcome.items c.drive.new.cores c.loop-step.cores c.drive-in-loop-step.new.cores front
+          (no_histories c.in_ok-outcomes.outcomes.items c.args.cores.now c.drive.new.cores c.requires.nothing looked) c.loop-step.invariant.done one c.drive-in-loop-step.ensures.machine e.concludes);
+      whole = whole;
+    }
+
+pub returns-clause-driven : goal.returns-clause-driven
+returns-clause-driven c =
+    let none : into_iter_items c.loop-step.step-iterator ≡ [] = nil_from_length _ (sym c.loop-step.step-iterator.rest.ok.0 ∙ c.in-None.ensures.steps.0) in
+    let all : c.args.steps.items ≡ c.loop-step.yielded = c.loop-step.invariant.whole ∙ ap (λ (l : List CoreStep). c.loop-step.yielded ++ l) none ∙ append-nil c.loop-step.yielded in
+    let looked = subst (λ (l : List CoreStep). AreDriven l c.in_ok-outcomes.outcomes.items c.args.cores.now c.drive.new.cores) c.new.ensures.items c.in_ok-outcomes.ensures.driven in
+    rw all (driven_first c.loop-step.yielded c.loop-step.outcomes.items c.in_ok-outcomes.outcomes.items c.args.cores.now c.drive.new.cores c.loop-step.cores looked c.loop-step.invariant.done.driven)
+
+pub returns-clause-concludes : goal.returns-clause-concludes
+returns-clause-concludes c = let d = c.loop-step.invariant.done in (d.budget, d.budgets, d.con)
+
+pub returns-clause-order : goal.returns-clause-order
+returns-clause-order c =
+    let none : into_iter_items c.loop-step.step-iterator ≡ [] = nil_from_length _ (sym c.loop-step.step-iterator.rest.ok.0 ∙ c.in-None.ensures.steps.0) in
+    let all : c.args.steps.items ≡ c.loop-step.yielded = c.loop-step.invariant.whole ∙ ap (λ (l : List CoreStep). c.loop-step.yielded ++ l) none ∙ append-nil c.loop-step.yielded in
+    subst (λ (l : List CoreStep). StartOneByOne (events_of l c.loop-step.outcomes.items)) (sym all) c.loop-step.invariant.done.order
