@@ -3,5 +3,8 @@ pub mod Shown
 pub mod Applying
 pub mod OneList
 pub mod Ending
-pub mod Stepping
 pub mod Ordering
+pub mod Listed
+pub mod Counts
+pub mod Parts
+pub mod Stepping

@@ -1,7 +1,9 @@
 -- Events in the order of the steps that did them, and in the order of a run.
-use Rattle.std.proofs.Common.{◌≡◌, ◌==◌, ◌+◌, ◌++◌, ◌∷◌, ◌⊎◌, inl, inr, ℕ, Bool, true, false, cond, Option, Some, None, List, [], length, slice_get, refl, ap, sym, ◌∙◌, subst, arith, append_assoc}
+use Rattle.std.proofs.Common.{All, ◌≡◌, ◌==◌, ◌+◌, ◌++◌, ◌∷◌, ◌⊎◌, inl, inr, ℕ, Bool, true, false, cond, Option, Some, None, List, [], length, slice_get, refl, ap, sym, ◌∙◌, subst, arith, append_assoc}
 use Rattle.std.specs.Prelude.{fold, count_by, option_to_list, if◌then◌else◌}
 use Rattle.std.proofs.lemmas.List.{append-nil, length-append}
+use Rattle.std.specs.List.{AllZip}
+use Rattle.std.proofs.lemmas.List.Elements.{All-nil, All-cons}
 use Rattle.std.proofs.lemmas.List.Concat.{flat_map-append}
 use Rattle.std.proofs.lemmas.List.Sums.{sum_by-append}
 use Rattle.filter_table.specs.declared.operation.Op.{Op}
@@ -18,7 +20,7 @@ use Rattle.world_histories.proofs.Lists.{get_next}
 use Rattle.world_histories.proofs.Requests.{submits_by, submits_of, begins_of}
 use Rattle.core_drive.specs.declared.step.CoreStep.{CoreStep}
 use Rattle.core_drive.specs.declared.step.StepOutcome.{StepOutcome}
-use Rattle.core_drive.specs.Steps.{did, of_core}
+use Rattle.core_drive.specs.Steps.{IsOf, did, of_core}
 use Rattle.headline.specs.Headline.{Told, nothing_told, asked_op, committing, told_with, log_of, begun_by, begun_in}
 use Rattle.headline.specs.Served.{events_of}
 use Rattle.headline.specs.Starts.{events_at, started_for, submitted_by, submitted_in, StartOneByOne}
@@ -68,26 +70,41 @@ at_other : (core other : ℕ) (xs : List Done) → (other ≡ core → ⊥) → 
 at_other core other [] ne h = refl
 at_other core other (x ∷ xs) ne h = at_other_first core x xs (λ e. ne (sym h.0 ∙ e)) ∙ at_other core other xs ne h.1
 
+-- the events of the first step, where each core's are its own
+own_first : (s : CoreStep) (o : StepOutcome) (steps : List CoreStep) (outcomes : List StepOutcome) → ((c : ℕ) → AllOf c (of_core (did c) c (s ∷ steps) (o ∷ outcomes))) → AllOf s.core (did s.core s.task o)
+own_first s o steps outcomes own = all_front s.core (did s.core s.task o) (of_core (did s.core) s.core steps outcomes)
+    (subst (λ (b : Bool). AllOf s.core ((if b then did s.core s.task o else []) ++ of_core (did s.core) s.core steps outcomes)) (eq_self s.core) (own s.core))
+
+own_rest : (s : CoreStep) (o : StepOutcome) (steps : List CoreStep) (outcomes : List StepOutcome) → ((c : ℕ) → AllOf c (of_core (did c) c (s ∷ steps) (o ∷ outcomes))) → (c : ℕ) → AllOf c (of_core (did c) c steps outcomes)
+own_rest s o steps outcomes own c = all_rest c (if s.core == c then did c s.task o else []) (of_core (did c) c steps outcomes) (own c)
+
+-- each step tells events of its core
+pub steps_own : (steps : List CoreStep) (outcomes : List StepOutcome) → AllZip (λ (s : CoreStep) (o : StepOutcome). IsOf s.task o) steps outcomes → ((c : ℕ) → AllOf c (of_core (did c) c steps outcomes))
+    → AllZip (λ (s : CoreStep) (o : StepOutcome). All (λ (d : Done). core_of d.event ≡ s.core) (did s.core s.task o)) steps outcomes
+steps_own [] [] along own = tt
+steps_own [] (o ∷ outcomes) along own = absurd along
+steps_own (s ∷ steps) [] along own = absurd along
+steps_own (s ∷ steps) (o ∷ outcomes) along own = (all_of s.core (did s.core s.task o) (own_first s o steps outcomes own), steps_own steps outcomes along.1 (own_rest s o steps outcomes own))
+  where
+    all_of : (core : ℕ) (xs : List Done) → AllOf core xs → All (λ (d : Done). core_of d.event ≡ core) xs
+    all_of core [] h = All-nil (λ (d : Done). core_of d.event ≡ core)
+    all_of core (x ∷ xs) h = All-cons (λ (d : Done). core_of d.event ≡ core) x xs h.0 (all_of core xs h.1)
+
 -- the events of all steps, by core
 pub steps_at : (steps : List CoreStep) (outcomes : List StepOutcome) → ((c : ℕ) → AllOf c (of_core (did c) c steps outcomes)) → (core : ℕ) → events_at core (events_of steps outcomes) ≡ of_core (did core) core steps outcomes
 steps_at [] outcomes own core = refl
 steps_at (s ∷ steps) [] own core = refl
 steps_at (s ∷ steps) (o ∷ outcomes) own core =
-    at_more core (did s.core s.task o) (events_of steps outcomes)
-    ∙ by_core (same_or_not s.core core) (steps_at steps outcomes (λ c. all_rest c (if s.core == c then did c s.task o else []) (of_core (did c) c steps outcomes) (own c)) core)
+    at_more core (did s.core s.task o) (events_of steps outcomes) ∙ by_core (same_or_not s.core core) (steps_at steps outcomes (own_rest s o steps outcomes own) core)
   where
-    own_front : AllOf s.core (did s.core s.task o)
-    own_front = all_front s.core (did s.core s.task o) (of_core (did s.core) s.core steps outcomes)
-        (subst (λ (b : Bool). AllOf s.core ((if b then did s.core s.task o else []) ++ of_core (did s.core) s.core steps outcomes)) (eq_self s.core) (own s.core))
-
     by_core : ((s.core ≡ core) ⊎ (s.core ≡ core → ⊥)) → events_at core (events_of steps outcomes) ≡ of_core (did core) core steps outcomes
         → events_at core (did s.core s.task o) ++ events_at core (events_of steps outcomes) ≡ (if s.core == core then did core s.task o else []) ++ of_core (did core) core steps outcomes
     by_core (inl e) rest =
-        let front : events_at core (did s.core s.task o) ≡ did core s.task o = subst (λ (n : ℕ). events_at n (did s.core s.task o) ≡ did n s.task o) e (at_own s.core (did s.core s.task o) own_front) in
+        let front : events_at core (did s.core s.task o) ≡ did core s.task o = subst (λ (n : ℕ). events_at n (did s.core s.task o) ≡ did n s.task o) e (at_own s.core (did s.core s.task o) (own_first s o steps outcomes own)) in
         let test : (s.core == core) ≡ true = ap (λ (n : ℕ). n == core) e ∙ eq_self core in
         rw (front, rest, test) refl
     by_core (inr ne) rest =
-        let front : events_at core (did s.core s.task o) ≡ [] = at_other core s.core (did s.core s.task o) ne own_front in
+        let front : events_at core (did s.core s.task o) ≡ [] = at_other core s.core (did s.core s.task o) ne (own_first s o steps outcomes own) in
         let test : (s.core == core) ≡ false = eq_other s.core core ne in
         rw (front, rest, test) refl
 
