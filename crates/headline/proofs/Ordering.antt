@@ -21,7 +21,7 @@ use Rattle.world_histories.proofs.Requests.{submits_by, submits_of, begins_of}
 use Rattle.core_drive.specs.declared.step.CoreStep.{CoreStep}
 use Rattle.core_drive.specs.declared.step.StepOutcome.{StepOutcome}
 use Rattle.core_drive.specs.Steps.{IsOf, did, of_core}
-use Rattle.headline.specs.Headline.{Told, nothing_told, asked_op, committing, told_with, log_of, begun_by, begun_in}
+use Rattle.headline.specs.Headline.{Told, nothing_told, asked, committing, told_with, log_of, begun_by, begun_in}
 use Rattle.headline.specs.Served.{events_of}
 use Rattle.headline.specs.Starts.{events_at, started_for, submitted_by, submitted_in, StartOneByOne}
 
@@ -246,14 +246,14 @@ committing_committed : (b : Bool) (t : Told) → (committing b t).committed ≡ 
 committing_committed true t = refl
 committing_committed false t = refl
 
-asked_committed : (t : Told) (event : Event) → (asked_op t event).committed ≡ t.committed
+asked_committed : (t : Told) (event : Event) → (asked t event).committed ≡ t.committed
 asked_committed t (Start op) = refl
 asked_committed t (Submit from op) = refl
 asked_committed t (StartFor from) = refl
 asked_committed t (Take to from short) = refl
 asked_committed t (Rx to number packet floor) = refl
 
-asked_other : (t : Told) (event : Event) → (core_of event ≡ 0 → ⊥) → (asked_op t event).started ≡ t.started
+asked_other : (t : Told) (event : Event) → (core_of event ≡ 0 → ⊥) → (asked t event).started ≡ t.started
 asked_other t (Start op) ne = absurd (ne refl)
 asked_other t (StartFor from) ne = absurd (ne refl)
 asked_other t (Submit from op) ne = refl
@@ -266,7 +266,7 @@ Knows before t = (core n : ℕ) → length (submitted_in core before) ≡ n + 1 
 
 knows_more : (before : List Done) (t : Told) (d : Done) → Knows before t → Knows (before ++ d ∷ []) (told_with t d)
 knows_more before t d knows core n long =
-    ap (λ (f : ℕ → Option Op). f core) (committing_submitted (commits0 d) (asked_op t d.event)) ∙ (by_event d.event (subst (λ (ops : List Op). length ops ≡ n + 1) is long) ∙ ap (λ (ops : List Op). slice_get ops n) (sym is))
+    ap (λ (f : ℕ → Option Op). f core) (committing_submitted (commits0 d) (asked t d.event)) ∙ (by_event d.event (subst (λ (ops : List Op). length ops ≡ n + 1) is long) ∙ ap (λ (ops : List Op). slice_get ops n) (sym is))
   where
     is : submitted_in core (before ++ d ∷ []) ≡ submitted_in core before ++ submitted_by core d.event
     is = flat_map-append (λ (x : Done). submitted_by core x.event) before (d ∷ []) ∙ ap (λ (ops : List Op). submitted_in core before ++ ops) (append-nil (submitted_by core d.event))
@@ -274,7 +274,7 @@ knows_more before t d knows core n long =
     same : length (submitted_in core before ++ []) ≡ n + 1 → t.submitted core ≡ slice_get (submitted_in core before ++ []) n
     same l = subst (λ (ops : List Op). length ops ≡ n + 1 → t.submitted core ≡ slice_get ops n) (sym (append-nil (submitted_in core before))) (knows core n) l
 
-    by_event : (e : Event) → length (submitted_in core before ++ submitted_by core e) ≡ n + 1 → (asked_op t e).submitted core ≡ slice_get (submitted_in core before ++ submitted_by core e) n
+    by_event : (e : Event) → length (submitted_in core before ++ submitted_by core e) ≡ n + 1 → (asked t e).submitted core ≡ slice_get (submitted_in core before ++ submitted_by core e) n
     by_event (Submit from op) l = by_test (from == core) l
       where
         by_test : (b : Bool) → length (submitted_in core before ++ cond b (op ∷ []) []) ≡ n + 1 → cond b (Some op) (t.submitted core) ≡ slice_get (submitted_in core before ++ cond b (op ∷ []) []) n
@@ -308,7 +308,7 @@ log_is submits before (d ∷ rest) t all order quiet knows =
         let same : n ≡ started_for core (events_at 0 before) = count_at (λ (y : Done). begins_for core y.event) 0 before (starts_silent core before) in
         knows core n counted ∙ (x.1 ∙ (sym there ∙ ap (λ (k : ℕ). slice_get (submits core) k) same))
 
-    by_event : (e : Event) → ((core : ℕ) → e ≡ StartFor core → t.submitted core ≡ slice_get (submits core) (started_for core (events_at 0 before))) → (asked_op t e).started ≡ starts submits (events_at 0 before) t.started e
+    by_event : (e : Event) → ((core : ℕ) → e ≡ StartFor core → t.submitted core ≡ slice_get (submits core) (started_for core (events_at 0 before))) → (asked t e).started ≡ starts submits (events_at 0 before) t.started e
     by_event (Start op) there = refl
     by_event (StartFor core) there = there core refl
     by_event (Submit from op) there = refl
@@ -318,9 +318,9 @@ log_is submits before (d ∷ rest) t all order quiet knows =
     by_core : ((core_of d.event ≡ 0) ⊎ (core_of d.event ≡ 0 → ⊥))
         → log_by submits (events_at 0 (before ++ d ∷ [])) (told_with t d).started (told_with t d).committed (events_at 0 rest) ≡ log_by submits (events_at 0 before) t.started t.committed (events_at 0 (d ∷ rest))
     by_core (inl own) =
-        let started : (told_with t d).started ≡ starts submits (events_at 0 before) t.started d.event = committing_started (commits0 d) (asked_op t d.event) ∙ by_event d.event started_there in
+        let started : (told_with t d).started ≡ starts submits (events_at 0 before) t.started d.event = committing_started (commits0 d) (asked t d.event) ∙ by_event d.event started_there in
         let committed : (told_with t d).committed ≡ commits (commits0 d) (starts submits (events_at 0 before) t.started d.event) t.committed =
-        committing_committed (commits0 d) (asked_op t d.event) ∙ (ap (λ (o : Option Op). commits (commits0 d) o (asked_op t d.event).committed) (by_event d.event started_there)
+        committing_committed (commits0 d) (asked t d.event) ∙ (ap (λ (o : Option Op). commits (commits0 d) o (asked t d.event).committed) (by_event d.event started_there)
         ∙ ap (commits (commits0 d) (starts submits (events_at 0 before) t.started d.event)) (asked_committed t d.event)) in
         let front : events_at 0 (before ++ d ∷ []) ≡ events_at 0 before ++ d ∷ [] = at_more 0 before (d ∷ []) ∙ ap (λ (ds : List Done). events_at 0 before ++ ds) (at_own_first 0 d [] own) in
         ap (λ (ds : List Done). log_by submits ds (told_with t d).started (told_with t d).committed (events_at 0 rest)) front
@@ -328,8 +328,8 @@ log_is submits before (d ∷ rest) t all order quiet knows =
         ∙ (ap (λ (ops : List Op). log_by submits (events_at 0 before ++ d ∷ []) (starts submits (events_at 0 before) t.started d.event) ops (events_at 0 rest)) committed
         ∙ ap (log_by submits (events_at 0 before) t.started t.committed) (sym (at_own_first 0 d rest own))))
     by_core (inr ne) =
-        let started : (told_with t d).started ≡ t.started = committing_started (commits0 d) (asked_op t d.event) ∙ asked_other t d.event ne in
-        let committed : (told_with t d).committed ≡ t.committed = committing_committed (commits0 d) (asked_op t d.event) ∙ (ap (λ (b : Bool). commits b (asked_op t d.event).started (asked_op t d.event).committed) (quiet.0 ne) ∙ asked_committed t d.event) in
+        let started : (told_with t d).started ≡ t.started = committing_started (commits0 d) (asked t d.event) ∙ asked_other t d.event ne in
+        let committed : (told_with t d).committed ≡ t.committed = committing_committed (commits0 d) (asked t d.event) ∙ (ap (λ (b : Bool). commits b (asked t d.event).started (asked t d.event).committed) (quiet.0 ne) ∙ asked_committed t d.event) in
         let front : events_at 0 (before ++ d ∷ []) ≡ events_at 0 before = at_more 0 before (d ∷ []) ∙ (ap (λ (ds : List Done). events_at 0 before ++ ds) (at_other_first 0 d [] ne) ∙ append-nil (events_at 0 before)) in
         ap (λ (ds : List Done). log_by submits ds (told_with t d).started (told_with t d).committed (events_at 0 rest)) front
         ∙ (ap (λ (o : Option Op). log_by submits (events_at 0 before) o (told_with t d).committed (events_at 0 rest)) started
