@@ -123,6 +123,7 @@ static void runs(void)
     ending = mkdemux_run(arp, COUNT(arp), NULL, 0, 60);
     CHECK(ending.verdict == 0 && ending.steps == 1);
     CHECK(mkdemux_verdict(arp, COUNT(arp), arp_frame, 14, 60) == 262144);
+    CHECK(mkdemux_verdict(arp, COUNT(arp), arp_frame, 13, 60) == 0);
     CHECK(mkdemux_verdict(length, 2, NULL, 0, 1514) == 1514);
     ending = mkdemux_run(txa(MKDEMUX_MAX_INSNS), MKDEMUX_MAX_INSNS, NULL, 0, 0);
     CHECK(ending.verdict == 0 && ending.steps == MKDEMUX_MAX_INSNS);
@@ -184,6 +185,7 @@ static void assembles(void)
     CHECK(has_fault("ld x\n", MKDEMUX_OPERAND, 1));
     CHECK(has_fault("tax\n\nret #4294967296\n", MKDEMUX_NUMBER, 3));
     CHECK(has_fault("jmp gone\nret a\n", MKDEMUX_NO_LABEL, 1));
+    CHECK(has_fault("tax\njmp gone\n", MKDEMUX_NO_LABEL, 2));
     CHECK(has_fault("l: tax\nl: ret a\n", MKDEMUX_TWICE_LABEL, 2));
     CHECK(has_fault("l: tax\njmp l\n", MKDEMUX_BACKWARD, 2));
     for (i = 0; i < 4097; i++)

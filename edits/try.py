@@ -8,8 +8,9 @@ what `rt ci` said, which names the functions that it proved.
 
 `rt ci` would prove the whole crate for its edits once more, and again with each. This proves just the functions that edits name, and
 all edits of a crate at once: a function's proof rests on the contracts of what it calls and not on the bodies, so no edit changes
-what another comes to. What a function calls is proved already: it gets a hole for a proof, by which the prover takes its contract.
-Of two edits in one function, the second is tried after the first.
+what another comes to. What a function calls is proved already: it gets a hole for a proof, by which the prover takes its contract, and
+its body is left out, since the prover would follow its borrows all the same. Of two edits in one function, the second is tried after
+the first.
 
 The last line is `N passed, M failed`."""
 import collections
@@ -29,6 +30,8 @@ from edit import CRATES, Edit, Misfit
 PARTS = ("src", "specs", "proofs")
 # What the prover says of a proof that names what the edit took away. This tells nothing of the goal.
 LOST = re.compile(r"has no field|has no `|is not in scope")
+# How a function begins, as `rt fmt` writes it.
+BEGINS = re.compile(r'( *)(?:pub(?:\([^)]*\))? )?(?:unsafe )?(?:extern "C" )?fn (\w+)')
 # What a proof may need: so many run at once as memory has room for.
 GIGABYTES_EACH = 4
 
@@ -54,12 +57,51 @@ def is_recursive(place):
     return any(place.name in cycle.name.split("+") for cycle in place.parent.glob("+*"))
 
 
+def bodies(lines):
+    """The functions in these lines of a source, as `rt fmt` writes them: each one's name, and from which to which line its body goes."""
+    begun = None
+    for place, line in enumerate(lines):
+        if begins := BEGINS.match(line):
+            begun, indent, name, opened = place, *begins.groups(), None
+        if begun is None:
+            continue
+        if opened is None and (line == f"{indent}{{" or line.endswith(" {") and (place == begun or line.startswith(f"{indent})"))):
+            opened = place
+        elif line == f"{indent}}}" and opened is not None:
+            yield name, opened + 1, place
+            begun = None
+
+
+def source_of(folder, function):
+    """The file of a function."""
+    *modules, _ = function.split("::")
+    files = (folder.joinpath("src", *modules[:depth]).with_suffix(".rt") for depth in range(len(modules), 0, -1))
+    return next((file for file in files if file.is_file()), folder / "src/lib.rt")
+
+
+def leave_out(folder, functions, kept):
+    """Leaves out the bodies of these functions, but for those with the name of one that is kept in the same file."""
+    names = collections.defaultdict(set)
+    for function in functions:
+        names[source_of(folder, function)].add(function.split("::")[-1])
+    for function in kept:
+        names[source_of(folder, function)].discard(function.split("::")[-1])
+    for file, left in names.items():
+        lines = file.read_text(encoding="utf-8").split("\n")
+        for name, first, end in reversed(list(bodies(lines))):
+            if name in left:
+                lines[first:end] = ["unreachable!()"]
+        file.write_text("\n".join(lines), encoding="utf-8")
+
+
 def suppose(crate, folder, functions):
-    """Has the contracts of these functions taken without a proof."""
+    """Has the contracts of these functions taken without a proof; gives those for which that can be."""
+    supposed = []
     for function in functions:
         place = folder / "proofs" / function.replace("::", "/")
         if is_recursive(place):
             continue
+        supposed.append(function)
         place.mkdir(parents=True, exist_ok=True)
         for file in ("Invariants.antt", "Answers.antt"):
             (place / file).unlink(missing_ok=True)
@@ -67,6 +109,7 @@ def suppose(crate, folder, functions):
         theorem = f"{place.name}_spec"
         hole = f"use {statement} as stated\n\npub {theorem} : {{M : Type 1}} → stated.statement M\n{theorem} = ?\n"
         (place / "Proof.antt").write_text(hole, encoding="utf-8")
+    return supposed
 
 
 class Prover:
@@ -92,7 +135,8 @@ class Prover:
 
     def prove(self, crate, folder, functions, kept):
         """What the prover says of these functions of the crate in this folder. It keeps what it proved, for the next call."""
-        suppose(crate, folder, (function for function in self.proved[crate] if function not in functions))
+        supposed = suppose(crate, folder, (function for function in self.proved[crate] if function not in functions))
+        leave_out(folder, supposed, [function for function in self.proved[crate] if function not in supposed])
         only = [word for function in sorted(functions) for word in ("--only", function)]
         words = [self.kit / "bin/rattle", "check", *self.words(crate), "--jobs", "1", "--incremental", kept, "--allow-holes", *only]
         return subprocess.run(words, cwd=folder, stdin=subprocess.DEVNULL, stdout=subprocess.PIPE, stderr=subprocess.STDOUT, text=True, errors="replace")

@@ -1,5 +1,5 @@
 -- A text cut at its first separator, and a piece cut at its first blank.
-use Rattle.std.proofs.Common.{◌≡◌, ℕ, ◌+◌, ◌≤◌, ◌==◌, Bool, List, [], ◌∷◌, length, take, drop, arith, true, false, Some, None, position, filter, not, ◌∙◌, ap}
+use Rattle.std.proofs.Common.{◌≡◌, ℕ, ◌+◌, ◌≤◌, ◌==◌, Bool, List, [], ◌∷◌, length, take, drop, arith, false, Some, None, position, filter, not, ◌∙◌, ap}
 use Rattle.std.specs.List.{slice_split, position_or_len, All}
 use Rattle.std.proofs.lemmas.List.Splits.{slice_split_first, slice_split_none}
 use Rattle.std.proofs.lemmas.List.Sums.{position_or_len_is, fails_before_first}

@@ -1,5 +1,5 @@
 -- Steps one after another, each with its cores before and after.
-use Rattle.std.proofs.Common.{◌≡◌, ◌++◌, ℕ, Bool, true, Option, List, [], ◌∷◌, Some, refl, subst}
+use Rattle.std.proofs.Common.{◌≡◌, ◌++◌, Bool, true, Option, List, [], ◌∷◌, Some, refl, subst}
 use Rattle.filter_table.specs.declared.decision.Decision.{Decision}
 use Rattle.world_histories.specs.declared.history.Stamped.{Stamped}
 use Rattle.rx_queue.specs.declared.job.Job.{Job}

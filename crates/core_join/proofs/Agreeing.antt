@@ -12,7 +12,7 @@ use Rattle.core_join.specs.Conclusions.{Concludes, OfMachine}
 use Rattle.core_join.specs.Looking.{IsLookedAt, AreLookedAt, TookInOrder, EachTookInOrder}
 use Rattle.core_join.proofs.Lists.{first_same, rest_same}
 use Rattle.core_join.proofs.Machines.{joined_links}
-use Rattle.core_join.proofs.Joined.{looked_itself, looked_along, beside_at, stood}
+use Rattle.core_join.proofs.Joined.{looked_itself, beside_at, stood}
 use Rattle.core_join.proofs.Ends.{concludes}
 
 -- what two cores took once they were looked at, they took

@@ -20,7 +20,6 @@ use Rattle.world_histories.proofs.Replies.{replied}
 use Rattle.core_loop.specs.declared.part.Part.{Part}
 use Rattle.core_loop.specs.declared.part.Part.TheVariants as part
 use Rattle.core_loop.specs.Standing.{Stands0, StandsOther, AreBeside}
-use Rattle.core_loop.specs.Beginning.{HasNothingUnderWay}
 use Rattle.core_loop.specs.Keeping.{IsStanding, replica_of}
 use Rattle.core_loop.specs.Cores.{Stands}
 use Rattle.core_loop.proofs.Conclusions.{concluded}

@@ -1,24 +1,17 @@
 -- The joined cores, one after another.
-use Rattle.std.proofs.Common.{◌≡◌, ℕ, suc, List, [], ◌∷◌, ◌++◌, length, Some, slice_get, refl, sym, ap, ◌∙◌, subst, arith, inl, inr}
-use Rattle.std.proofs.lemmas.List.{map-append, append_assoc, append-nil}
+use Rattle.std.proofs.Common.{◌≡◌, ℕ, suc, List, [], refl, sym, ap, ◌∙◌, subst}
+use Rattle.std.proofs.lemmas.List.{append-nil}
 use mathlib.Core.List.{IsPrefix}
-use Rattle.core_links.specs.RingSlots.{own_of, ring_view, SameLinks, AreJoinedLinks}
+use Rattle.core_links.specs.RingSlots.{ring_view, SameLinks}
 use Rattle.core_links.specs.RingLaws.{SameLinks-itself, SameLinks-along}
 use Rattle.core_links.specs.Views.{LinkView, IsSameView}
-use Rattle.world_model.proofs.Lists.{get_more}
-use Rattle.world_histories.proofs.Lists.{get_next}
-use Rattle.world_histories.specs.declared.history.Stamped.{Stamped}
 use Rattle.core_loop.specs.Standing.{AreBeside}
 use Rattle.core_loop.specs.Keeping.{IsStanding}
 use Rattle.core_loop.specs.Carrying.{Quiet}
 use Rattle.core_loop.specs.Cores.{Stands}
 use Rattle.core_loop.proofs.Resting.{stands_quiet}
-use Rattle.core_join.specs.Machines.{RingCore, IsPeer, AreMachine}
+use Rattle.core_join.specs.Machines.{RingCore}
 use Rattle.core_join.specs.Looking.{IsLookedAt}
-use Rattle.core_join.specs.Conclusions.{histories_of}
-use Rattle.core_join.proofs.Machines.{joined_links}
-use Rattle.std.proofs.lemmas.Option.{slice_get_within}
-use Rattle.table_replica.proofs.Shared.{get_at}
 
 along_views : (u v w : LinkView) → IsSameView u v → IsSameView v w → IsSameView u w
 along_views u v w a b = record {

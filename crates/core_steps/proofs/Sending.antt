@@ -1,16 +1,15 @@
 -- What core 0 sends with a step.
-use Rattle.std.proofs.Common.{◌≡◌, ◌≢◌, ◌+◌, ◌-◌, ◌<◌, ◌∙◌, Bool, ℕ, zero, suc, Option, None, Some, List, refl, ap, sym, subst, arith}
+use Rattle.std.proofs.Common.{◌≡◌, ◌≢◌, ◌-◌, ◌∙◌, Bool, ℕ, zero, suc, Option, None, Some, List, refl, ap, subst, arith}
 use Rattle.filter_table.specs.declared.operation.Op.{Op}
 use Rattle.filter_table.specs.declared.operation.StageFault.{StageFault}
 use Rattle.filter_table.specs.Tables.{TableState}
 use Rattle.monitor_messages.specs.declared.message.Message.TheVariants as message
 use Rattle.filter_table.specs.declared.decision.Vote.{Vote}
 use Rattle.filter_table.specs.declared.decision.Decision.{Decision}
-use Rattle.filter_table.specs.declared.decision.Decision.TheVariants.{Refused}
 use Rattle.monitor_2pc.specs.declared.step.Say.{Say}
-use Rattle.monitor_2pc.specs.declared.step.Say.TheVariants.{Prepare, Commit, Abort}
+use Rattle.monitor_2pc.specs.declared.step.Say.TheVariants.{Commit, Abort}
 use Rattle.monitor_2pc.specs.declared.step.Step.{Step}
-use Rattle.monitor_2pc.specs.Coordinators.{CoordinatorPlace, Requests, StartsFor, Tallies, waits, commits_all, aborts_all, HearsAck, reply_to, veto_of}
+use Rattle.monitor_2pc.specs.Coordinators.{CoordinatorPlace, Requests, Tallies, waits, commits_all, aborts_all, HearsAck}
 use Rattle.monitor_2pc.specs.Coordinators as coordinators
 use Rattle.monitor_2pc.specs.Starting.{asked_by}
 use Rattle.world_model.specs.Cases.{Outgoing, nothing, to_all, to_one, outgoing, as_reply}

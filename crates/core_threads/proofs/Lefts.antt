@@ -1,6 +1,6 @@
 -- More jobs of a core are left.
 use Rattle.std.proofs.Common.{◌≡◌, List, [], ◌∷◌, ◌++◌, ℕ, sym, ap, ◌∙◌, append_assoc}
-use Rattle.std.proofs.lemmas.List.{append-nil, map-append}
+use Rattle.std.proofs.lemmas.List.{map-append}
 use Rattle.rx_queue.specs.declared.job.Job.{Job}
 use Rattle.core_threads.specs.Leaving.{tagged, Leaves}
 

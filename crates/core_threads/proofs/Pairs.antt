@@ -1,5 +1,5 @@
 -- Lists whose elements stand in pairs.
-use Rattle.std.proofs.Common.{◌≡◌, ℕ, zero, suc, List, [], ◌∷◌, ◌++◌, Some, slice_get, slice_set, rules}
+use Rattle.std.proofs.Common.{◌≡◌, ℕ, zero, suc, List, [], ◌∷◌, Some, slice_get, slice_set, rules}
 use Rattle.std.specs.List.{AllZip}
 
 module _ {A : Type 0} (R : A → A → Type 0) where

@@ -1,5 +1,5 @@
 -- One more line in the first pass.
-use Rattle.std.proofs.Common.{◌≡◌, ℕ, ◌+◌, List, [], ◌∷◌, ◌++◌, length, Option, Some, Ok, Err, zero-add, refl, sym, ◌∙◌}
+use Rattle.std.proofs.Common.{◌≡◌, ℕ, ◌+◌, List, [], ◌∷◌, ◌++◌, length, Option, Ok, Err, zero-add, refl, sym, ◌∙◌}
 use Rattle.std.specs.Option.{option_to_list}
 use Rattle.std.proofs.lemmas.List.{length-map}
 use Rattle.filter_asm.specs.declared.fault.AsmFaultKind.{AsmFaultKind}
@@ -7,7 +7,7 @@ use Rattle.filter_asm.specs.declared.labels.Labels.{Labels}
 use Rattle.filter_asm.specs.declared.pass.Pass.{Pass}
 use Rattle.filter_asm.specs.DraftViews as views
 use Rattle.filter_asm.specs.Passed.{Passed}
-use Rattle.filter_asm.specs.Program.{Line, Draft, line_of, labels_of, line_gives, drafts_of, definitions, instructions, instruction, instruction_of}
+use Rattle.filter_asm.specs.Program.{Line, Draft, line_of, labels_of, line_gives, drafts_of, definitions, instructions, instruction_of}
 use Rattle.filter_asm.specs.Knows.{Knows}
 use Rattle.filter_asm.specs.Defined.{at_place, Defines}
 use Rattle.filter_asm.proofs.ProgramLemmas.{drafts_from-push, definitions_from-push, length-drafts_from, line_gives-new}

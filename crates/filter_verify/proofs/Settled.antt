@@ -1,7 +1,7 @@
 -- The pass over the whole program.
 use Rattle.std.proofs.Common.{◌≡◌, ℕ, ◌+◌, ◌<◌, List, length, slice_index_or, Bool, true, false, inl, inr, arith, sym, subst, ◌∙◌, cond, eqb, ltb, rules}
 use Rattle.std.specs.Int.{bit_at}
-use Rattle.std.proofs.lemmas.Bool.{cases_eq, cases_lt}
+use Rattle.std.proofs.lemmas.Bool.{cases_lt}
 use Rattle.std.proofs.lemmas.Bool.Decides.{nat_tests}
 use Rattle.bpf_insn.specs.declared.insn.Insn.{Insn}
 use Rattle.bpf_insn.specs.declared.form.Form.{Form}
@@ -12,7 +12,7 @@ use Rattle.filter_verify.specs.declared.rules.Refusal.TheVariants.{Unwritten}
 use Rattle.filter_verify.specs.Words.{HasWord, LacksWord}
 use Rattle.filter_verify.specs.Exits.{LoadsForm}
 use Rattle.filter_verify.specs.Paths.{LoadsWord, StoresWord, Successor, Path, IsUnwritten}
-use Rattle.filter_verify.specs.Flows.{HasAt, LacksAt, Flows, IsSettled}
+use Rattle.filter_verify.specs.Flows.{HasAt, Flows, IsSettled}
 use Rattle.filter_verify.specs.Kept.{IsKept}
 use Rattle.filter_verify.specs.Rules.{IsWellShaped, Refuses}
 use Rattle.filter_verify.proofs.Forward.{LeadsTo-later}

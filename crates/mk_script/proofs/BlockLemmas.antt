@@ -1,5 +1,5 @@
 -- The lines of an `asm` block, one after another.
-use Rattle.std.proofs.Common.{◌≡◌, ℕ, ◌+◌, ◌-◌, ◌<◌, ◌≤◌, Bool, true, false, eqb, List, [], ◌∷◌, ◌++◌, length, take, append_assoc, length-append, length-drop, add-zero, refl, sym, ap, ◌∙◌, arith, get_or, add_assoc, Some, None}
+use Rattle.std.proofs.Common.{◌≡◌, ℕ, ◌+◌, ◌-◌, ◌<◌, ◌≤◌, Bool, true, false, eqb, List, [], ◌∷◌, ◌++◌, length, take, append_assoc, length-append, length-drop, refl, sym, ap, ◌∙◌, arith, get_or, add_assoc, Some, None}
 use Rattle.std.specs.List.{before_first, after_first, position_or_len}
 use Rattle.std.proofs.Math.Seq.{take-append_seam}
 use Rattle.std.proofs.lemmas.List.Sums.{split_at_first, passes_at_first}

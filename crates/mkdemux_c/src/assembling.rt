@@ -15,7 +15,7 @@ use std::alloc::Global;
 
 /// What was assembled of a text.
 #[repr(C)]
-#[derive(Clone, Copy, Debug, PartialEq, Eq)]
+#[derive(Clone, Copy)]
 pub struct Assembly {
     /// How many instructions the program has, also where there is no room for them, and 0 for a fault of the text.
     pub count: usize,

@@ -10,7 +10,5 @@ mod assembling;
 mod reading;
 mod room;
 mod running;
-#[cfg(test)]
-mod tests;
 mod verifying;
 mod writing;

@@ -9,7 +9,7 @@ use filter_vm::run_sound;
 
 /// How a run ended.
 #[repr(C)]
-#[derive(Clone, Copy, Debug, PartialEq, Eq)]
+#[derive(Clone, Copy)]
 pub struct Ending {
     /// How many bytes of the packet to keep. 0: the packet isn't accepted.
     pub verdict: u32,

@@ -16,7 +16,7 @@ use std::alloc::Global;
 
 /// Where a program is refused.
 #[repr(C)]
-#[derive(Clone, Copy, Debug, PartialEq, Eq)]
+#[derive(Clone, Copy)]
 pub struct Place {
     /// The place of the instruction, counted from 0, and 0 where no single one is refused.
     pub place: u32,

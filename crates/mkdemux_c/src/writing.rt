@@ -12,7 +12,7 @@ use std::alloc::Global;
 
 /// How a program was written.
 #[repr(C)]
-#[derive(Clone, Copy, Debug, PartialEq, Eq)]
+#[derive(Clone, Copy)]
 pub struct Writing {
     /// How many bytes the text has, also where there is no room for them, and 0 where memory ran out.
     pub length: usize,

@@ -1,5 +1,5 @@
 -- What core 0 will say is what it says.
-use Rattle.std.proofs.Common.{◌≡◌, ◌≢◌, ◌<◌, ◌≤◌, ◌-◌, cond, ℕ, suc, Bool, true, false, Option, Some, None, List, [], ◌∷◌, length, slice_get, slice_set, refl, ap, subst, ◌∙◌, arith}
+use Rattle.std.proofs.Common.{◌≡◌, ◌≢◌, ◌<◌, ◌≤◌, ◌-◌, ℕ, suc, Bool, true, false, Option, Some, None, List, [], ◌∷◌, length, slice_get, refl, ap, arith}
 use Rattle.std.specs.List.{list_all}
 use Rattle.filter_table.specs.declared.operation.Op.{Op}
 use Rattle.filter_table.specs.Tables.{TableState}
@@ -11,7 +11,7 @@ use Rattle.monitor_2pc.specs.declared.step.Step.{Step}
 use Rattle.monitor_2pc.specs.declared.coordinator.Wait.{Wait}
 use Rattle.monitor_2pc.specs.declared.coordinator.Wait.TheVariants.{Nothing, Votes, Acks}
 use Rattle.monitor_2pc.specs.Waiting.{phase_of}
-use Rattle.monitor_2pc.specs.Coordinators.{CoordinatorPlace, Requests, Idle, Voting, Acking, Tallies, waits, commits_all, aborts_all, HearsAck, reply_at, reply_of}
+use Rattle.monitor_2pc.specs.Coordinators.{CoordinatorPlace, Voting, Acking, Tallies, waits, commits_all, aborts_all}
 use Rattle.monitor_2pc.specs.Tallying.{SaysOn}
 
 -- what is said on the first so many votes, of which none is missing

@@ -7,9 +7,9 @@ use Rattle.pcap_reader.specs.declared.capture.Stop.{Stop}
 use Rattle.pcap_reader.specs.declared.capture.CaptureFault.{CaptureFault}
 use Rattle.pcap_reader.specs.declared.capture.CaptureFault.TheVariants.{BadMagic, BadVersion, TruncatedHeader, TruncatedRecord, TooLong, NoMemory}
 use Rattle.pcap_reader.specs.declared.feed.Feed.{Feed}
-use Rattle.pcap_reader.specs.Savefile.{IsPart, Reads, ReadsFront, IsLasting}
+use Rattle.pcap_reader.specs.Savefile.{IsPart, Reads, IsLasting}
 use Rattle.pcap_reader.specs.Answers.{GivesWhole, GivesFront, GivesOnly, Tells}
-use Rattle.pcap_reader.specs.Held.{Keeps, IsOpen, IsEnding, HasStopped, HoldsBehind, BehindAt, Says}
+use Rattle.pcap_reader.specs.Held.{Keeps, IsOpen, HoldsBehind, BehindAt, Says}
 use Rattle.pcap_reader.proofs.LawLemmas.{one_reading, has_fronts}
 
 pub gives_only : (bs : List ℕ) (r : Result Capture Stop) → All (λ b. b < 256) bs → GivesWhole bs r ⊎ GivesFront bs r → GivesOnly bs r

@@ -437,6 +437,7 @@ fn receivers_of_many(
     forget(verdicts, programs.len())?;
     note(hits, verdicts);
     kept.clear();
+    kept.reserve(hits.len().min(reaches.len()))?;
     for reach in reaches {
         let verdict = verdicts[reach.program];
         if verdict > 0 {

@@ -1,13 +1,13 @@
 -- Steps of a receiver.
 use Rattle.std.proofs.Common.{◌≡◌, ◌≢◌, ◌↔◌, IsTrue, ◌-◌, ◌<◌, ◌≤◌, ◌∷◌, [], ◌++◌, ℕ, Bool, true, false, List, length, take, slice_index_or, refl, arith, ap, ◌∙◌, sym, subst, length-append, Option, Some, None, is_none, nat_lt, ◌&&◌, ◌==◌, if◌then◌else◌, Vec, All, append_assoc, suc, drop}
 use Rattle.std.proofs.lemmas.List.{append-nil, take-append-drop}
-use Rattle.std.proofs.Math.Seq.{take-append_seam, take-length, take-suc, get_or-append_seam}
+use Rattle.std.proofs.Math.Seq.{take-append_seam, take-length, take-suc}
 use Rattle.ump_ring.specs.declared.fault.LineFault.{LineFault}
 use Rattle.ump_ring.specs.declared.joiner.Joiner.{Joiner}
 use Rattle.std.specs.Global.{Global}
 use mathlib.Core.List.{IsPrefix}
 use Rattle.ump_ring.specs.Lines.{messages_in, stream, IsMessage}
-use Rattle.ump_ring.specs.Reading.{HasRead, line_fault, closed, StopsAt}
+use Rattle.ump_ring.specs.Reading.{HasRead, closed}
 use Rattle.ump_ring.specs.Joiners.{AfterLines, fault_of, message_shown, shown_list}
 use Rattle.ump_ring.specs.Receiving.{IsReceiving, KeepsMessage}
 use Rattle.ump_ring.specs.Reading.{sound_lines}

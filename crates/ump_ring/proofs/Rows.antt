@@ -1,10 +1,9 @@
 -- Lines of a message that isn't whole: each but the last is full, so there are not many.
-use Rattle.std.proofs.Common.{◌≡◌, ◌≢◌, ◌↔◌, IsTrue, ℕ, zero, suc, ◌-◌, ◌+◌, ◌*◌, ◌<◌, ◌≤◌, ◌==◌, ◌&&◌, nat_lt, nat_le, min, if◌then◌else◌, Bool, true, false, List, [], ◌∷◌, ◌++◌, length, take, Option, Some, None, is_none, refl, ap, sym, ◌∙◌, subst, arith, length-append}
+use Rattle.std.proofs.Common.{◌≡◌, ◌≢◌, ◌↔◌, IsTrue, ℕ, zero, suc, ◌-◌, ◌+◌, ◌*◌, ◌<◌, ◌≤◌, ◌==◌, ◌&&◌, nat_lt, nat_le, min, if◌then◌else◌, Bool, true, false, List, ◌++◌, length, take, Option, Some, None, refl, sym, ◌∙◌, subst, arith, length-append}
 use Rattle.std.proofs.lemmas.Bool.Decides.{nat_tests}
-use Rattle.ump_ring.specs.declared.fault.LineFault.{LineFault}
 use Rattle.ump_ring.specs.declared.joiner.Joiner.{Joiner}
 use Rattle.ump_ring.specs.Lines.{length_of, payload}
-use Rattle.ump_ring.specs.Reading.{line_fault, is_open, room_for, size_with, bytes_with}
+use Rattle.ump_ring.specs.Reading.{line_fault, is_open, size_with, bytes_with}
 use Rattle.ump_ring.specs.Joiners.{IsJoined, fault_of, message_shown}
 use Rattle.ump_ring.proofs.Joining.{length-taken, sound-from}
 

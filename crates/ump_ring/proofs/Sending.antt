@@ -1,5 +1,5 @@
 -- Steps of a sender.
-use Rattle.std.proofs.Common.{◌≡◌, ◌+◌, ◌-◌, ◌%◌, ◌<◌, ◌≤◌, ◌∷◌, [], ◌++◌, ℕ, List, length, take, refl, arith, ap, ◌∙◌, sym, subst, length-append, append_assoc, All, Option, Some, None, Vec}
+use Rattle.std.proofs.Common.{◌≡◌, ◌+◌, ◌-◌, ◌%◌, ◌<◌, ◌∷◌, [], ◌++◌, ℕ, List, length, take, refl, arith, ap, ◌∙◌, sym, subst, length-append, append_assoc, All, Option, Some, None, Vec}
 use Rattle.std.specs.Global.{Global}
 use Rattle.std.proofs.lemmas.List.{append-nil}
 use Rattle.std.proofs.Math.Seq.{take-append_seam}

@@ -17,7 +17,7 @@ use Rattle.world_model.proofs.Runs.{runs_more}
 use Rattle.world_model.proofs.Agreement.{run_inv}
 use Rattle.world_core.specs.declared.home.Home.{Home}
 use Rattle.world_core.specs.declared.peer.Peer.{Peer}
-use Rattle.world_core.specs.Keeping.{seen_peer, seen_world, CoreIsKept, WorldIsKept, EachMatches, ChangesOne, Readied, IsSent, GivesUp, HasRoom, RoomAt, RoomFrom}
+use Rattle.world_core.specs.Keeping.{seen_peer, seen_world, CoreIsKept, WorldIsKept, EachMatches, ChangesOne, IsSent, GivesUp, HasRoom, RoomAt, RoomFrom}
 use Rattle.world_core.specs.Homes.{HomeMoves}
 use Rattle.world_core.specs.Sending.{IsMade, HasRoomFor, SentOut}
 use Rattle.world_core.specs.declared.sending.Ready.{Ready}
@@ -27,7 +27,7 @@ use Rattle.core_steps.specs.Core0Steps.{core0_place}
 use Rattle.core_steps.proofs.Taking.{version_commit}
 use Rattle.world_core.proofs.PeerKeeping.{map-slice_set}
 use Rattle.world_core.proofs.HomeKeeping.{Oldest, seen_gives_up}
-use Rattle.world_core.proofs.Carried.{set_at, sent_seen, readied_then}
+use Rattle.world_core.proofs.Carried.{set_at, sent_seen}
 use Rattle.world_core.proofs.WorldKeeping.{no_core}
 use Rattle.std.proofs.lemmas.Option.{slice_get_within, slice_get_past}
 use Rattle.filter_table.proofs.Lists.{map-get}

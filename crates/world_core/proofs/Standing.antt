@@ -1,16 +1,15 @@
 -- Where an event is done, none of its faults stood.
-use Rattle.std.proofs.Common.{◌≡◌, ◌≢◌, ◌∙◌, ◌<◌, ◌∷◌, [], ℕ, zero, suc, Bool, true, None, Some, List, slice_get, refl, ap, sym, subst, arith}
+use Rattle.std.proofs.Common.{◌≡◌, ◌≢◌, ◌∙◌, ◌∷◌, ℕ, zero, suc, Bool, true, None, Some, List, slice_get, ap, sym, subst, arith}
 use Rattle.std.specs.Prelude.{option_map, option_and_then, Result, Ok, Err, IfOk, OnOk}
 use Rattle.filter_table.specs.declared.operation.Op.{Op}
 use Rattle.pcap_reader.specs.declared.capture.CapturedPacket.{CapturedPacket}
 use Rattle.monitor_messages.specs.declared.message.Message.{Message}
-use Rattle.world_events.specs.declared.event.Event.{Event}
 use Rattle.world_events.specs.declared.event.Event.TheVariants.{Start, Submit, StartFor, Take, Rx}
 use Rattle.world_events.specs.declared.event.Answer.{Answer}
-use Rattle.world_model.specs.Worlds.{Peer, World, version_at, Happens, HappensStart, HappensSubmit, HappensStartFor, HappensUp, HappensDown, HappensRx}
+use Rattle.world_model.specs.Worlds.{Peer, World, Happens}
 use Rattle.world_events.specs.declared.fault.WorldFault.{WorldFault}
 use Rattle.world_events.specs.declared.fault.WorldFault.TheVariants.{NoSuchCore, Nothing, NotReady, NotIdle, Spent, Outstanding, NoneWaiting, NoMemory}
-use Rattle.world_core.specs.Refusals.{channel, waiting_at, StandsFirst, NoneStands}
+use Rattle.world_core.specs.Refusals.{channel, waiting_at, NoneStands}
 
 is_joined : (w : World) (entry : ℕ) (peer : Peer) → slice_get w.peers entry ≡ Some peer → channel w zero (suc entry) ≢ None
 is_joined w entry peer at none = let x : option_map (λ (p : Peer). p.up) (slice_get w.peers entry) ≡ Some peer.up = ap (option_map (λ (p : Peer). p.up)) at in cc

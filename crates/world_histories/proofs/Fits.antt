@@ -5,7 +5,7 @@ use Rattle.filter_table.specs.Tables.{table, instructions}
 use Rattle.filter_table.proofs.Tables.{table_front}
 use Rattle.world_events.specs.declared.event.Done.{Done}
 use Rattle.world_model.specs.Worlds.{Peer, World, boot, new_peer, version_at, Happens, Run}
-use Rattle.world_model.specs.Agreement.{Agrees, Grows}
+use Rattle.world_model.specs.Agreement.{Grows}
 use Rattle.world_model.proofs.Lists.{get_map}
 use Rattle.world_model.proofs.Runs.{run_keeps, runs_more}
 use Rattle.world_model.proofs.Known.{run_known}

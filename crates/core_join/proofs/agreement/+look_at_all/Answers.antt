@@ -1,7 +1,6 @@
-use Rattle.std.proofs.Common.{◌≡◌, ℕ, List, Some, [], ◌∷◌, length, slice_get, refl, sym, ap, ◌∙◌, subst, arith, rules}
-use Rattle.core_links.specs.RingSlots.{AreJoinedLinks}
+use Rattle.std.proofs.Common.{◌≡◌, List, ◌∷◌, length, sym, ap, subst, arith, rules}
 use Rattle.core_join.specs.Machines.{RingCore}
-use Rattle.core_join.specs.Looking.{IsLookedAt, AreLookedAt, TookInOrder, EachTookInOrder}
+use Rattle.core_join.specs.Looking.{AreLookedAt, EachTookInOrder}
 use Rattle.core_join.proofs.Joined.{looked_along}
 use Rattle.core_join.proofs.Agreeing.{first_joined, rest_joined_of, more_looked, more_took}
 use Rattle.core_join.proofs.agreement.+look_at_all.Goals as goal

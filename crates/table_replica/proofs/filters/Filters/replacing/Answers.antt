@@ -1,8 +1,8 @@
-use Rattle.std.proofs.Common.{◌==◌, ◌++◌, ◌∙◌, ap, sym, subst, filter, not, List, map, arith}
+use Rattle.std.proofs.Common.{◌==◌, ◌∙◌, ap, filter, not, map, arith}
 use Rattle.filter_table.specs.Listed.{FilterTable}
 use Rattle.filter_table.specs.Tables.{instructions_of, replaced}
 use Rattle.table_replica.specs.declared.filters.Row.{Row}
-use Rattle.table_replica.specs.Keeping.{placed_row, AreReaches}
+use Rattle.table_replica.specs.Keeping.{placed_row}
 use Rattle.table_replica.proofs.Moves.{kept_distinct, kept_placed, kept_shows, shows_ok}
 use Rattle.table_replica.proofs.Reaching.{replaced_reached}
 use Rattle.table_replica.proofs.filters.Filters.replacing.Goals as goal
