@@ -145,7 +145,7 @@ def try_file(prover, specs, file, edits):
 
 
 def main(built, *names):
-    prover = tries.Prover(pathlib.Path(built), "")
+    prover = tries.Prover(pathlib.Path(built))
     names_below, kind = prover.below[EXAMPLES]
     specs = specs_below(names_below)
     # What the copies cite, and the examples themselves do not.

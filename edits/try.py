@@ -1,10 +1,9 @@
 #!/usr/bin/env python3
 """Tries the edits of crates/*/must-fail: with each, the prover must refuse the function that the edit names, by the clause that it names.
 
-    edits/try.py BUILT PROVED [CRATE..]
+    edits/try.py BUILT [CRATE..]
 
-BUILT is a copy of the repository that `rt ci` has just proved; the libraries that the crates use are taken from there. PROVED is
-what `rt ci` said, which names the functions that it proved.
+BUILT is a copy of the repository that `rt ci` has just proved; the libraries that the crates use are taken from there.
 
 `rt ci` would prove the whole crate for its edits once more, and again with each. This proves just the functions that edits name, and
 all edits of a crate at once: a function's proof rests on the contracts of what it calls and not on the bodies, so no edit changes
@@ -43,24 +42,22 @@ def below(built):
     return {words.split()[0]: (names.split(), words.split()[1:]) for words, _, names in split}
 
 
-def proved(said):
-    """The functions that `rt ci` said are proved, by their crates. Closures and drops are left out: no file has a proof of one."""
-    functions = collections.defaultdict(list)
-    for crate, function in re.findall(r"^fn (\w+)::(\S+): proved$", said, re.MULTILINE):
-        if not re.search(r"\bfn::|\+", function):
-            functions[crate].append(function)
-    return functions
-
-
 def is_recursive(place):
     """Whether a function whose proof would be at this place is proved with others of a cycle of calls, in a folder beside it."""
     return any(place.name in cycle.name.split("+") for cycle in place.parent.glob("+*"))
 
 
 def bodies(lines):
-    """The functions in these lines of a source, as `rt fmt` writes them: each one's name, and from which to which line its body goes."""
-    begun = None
+    """The functions of a source with these lines, as `rt fmt` writes it, but those of traits and their impls: each one's type, if it
+    has one, its name, and from which to which line its body goes."""
+    owner, begun = "", None
     for place, line in enumerate(lines):
+        if line.startswith(("impl", "trait", "pub trait", "pub(crate) trait")):
+            # (methods of `Core<ListLinks>` alone have names of another kind)
+            of_type = re.match(r"impl (\w+) \{|impl<.*> (\w+)<\w+(?:, \w+)*> \{", line)
+            owner = of_type and (of_type[1] or of_type[2])
+        elif line == "}" and begun is None:
+            owner = ""
         if begins := BEGINS.match(line):
             begun, indent, name, opened = place, *begins.groups(), None
         if begun is None:
@@ -68,40 +65,43 @@ def bodies(lines):
         if opened is None and (line == f"{indent}{{" or line.endswith(" {") and (place == begun or line.startswith(f"{indent})"))):
             opened = place
         elif line == f"{indent}}}" and opened is not None:
-            yield name, opened + 1, place
+            if owner is not None:
+                yield owner, name, opened + 1, place
             begun = None
 
 
-def source_of(folder, function):
-    """The file of a function."""
-    *modules, _ = function.split("::")
-    files = (folder.joinpath("src", *modules[:depth]).with_suffix(".rt") for depth in range(len(modules), 0, -1))
-    return next((file for file in files if file.is_file()), folder / "src/lib.rt")
+class Sources:
+    """The functions of the crate in a folder that have bodies, by their full names. A method's begins with the module of its type."""
+
+    def __init__(self, folder):
+        self.lines, self.functions = {}, {}
+        types = {}
+        for file in (folder / "src").rglob("*.rt"):
+            path = file.relative_to(folder / "src").with_suffix("").parts
+            module = "" if path == ("lib",) else "::".join([*path, ""])
+            text = file.read_text(encoding="utf-8")
+            types |= {name: f"{module}{name}::" for name in re.findall(r"^(?:pub(?:\(.*?\))? )?(?:struct|enum) (\w+)", text, re.MULTILINE)}
+            self.lines[file] = (module, text.split("\n"))
+        for file, (module, lines) in self.lines.items():
+            for owner, name, first, end in bodies(lines):
+                self.functions[(types[owner] if owner else module) + name] = (file, first, end)
+
+    def leave_out(self, functions):
+        """Leaves out the bodies of these functions."""
+        for file, first, end in sorted((self.functions[function] for function in functions), reverse=True):
+            self.lines[file][1][first:end] = ["unreachable!()"]
+        for file, (_, lines) in self.lines.items():
+            file.write_text("\n".join(lines), encoding="utf-8")
 
 
-def leave_out(folder, functions, kept):
-    """Leaves out the bodies of these functions, but for those with the name of one that is kept in the same file."""
-    names = collections.defaultdict(set)
-    for function in functions:
-        names[source_of(folder, function)].add(function.split("::")[-1])
-    for function in kept:
-        names[source_of(folder, function)].discard(function.split("::")[-1])
-    for file, left in names.items():
-        lines = file.read_text(encoding="utf-8").split("\n")
-        for name, first, end in reversed(list(bodies(lines))):
-            if name in left:
-                lines[first:end] = ["unreachable!()"]
-        file.write_text("\n".join(lines), encoding="utf-8")
-
-
-def suppose(crate, folder, functions):
-    """Has the contracts of these functions taken without a proof; gives those for which that can be."""
-    supposed = []
-    for function in functions:
+def suppose(crate, folder, tried):
+    """Has the contracts of all functions but these taken without a proof. Those that call one another are left as they are."""
+    sources = Sources(folder)
+    others = sources.functions.keys() - set(tried)
+    supposed = [function for function in others if not is_recursive(folder / "proofs" / function.replace("::", "/"))]
+    sources.leave_out(supposed)
+    for function in supposed:
         place = folder / "proofs" / function.replace("::", "/")
-        if is_recursive(place):
-            continue
-        supposed.append(function)
         place.mkdir(parents=True, exist_ok=True)
         for file in ("Invariants.antt", "Answers.antt"):
             (place / file).unlink(missing_ok=True)
@@ -109,16 +109,14 @@ def suppose(crate, folder, functions):
         theorem = f"{place.name}_spec"
         hole = f"use {statement} as stated\n\npub {theorem} : {{M : Type 1}} → stated.statement M\n{theorem} = ?\n"
         (place / "Proof.antt").write_text(hole, encoding="utf-8")
-    return supposed
 
 
 class Prover:
-    def __init__(self, built, said):
+    def __init__(self, built):
         doc = subprocess.run(["rt", "doc"], check=True, capture_output=True, text=True).stdout
         self.kit = pathlib.Path(doc.strip()).parent
         self.built = built.resolve()
         self.below = below(built)
-        self.proved = proved(said)
 
     def words(self, crate):
         """What the prover is told of the crate: its libraries and the program logic, as `rt` tells it."""
@@ -135,8 +133,7 @@ class Prover:
 
     def prove(self, crate, folder, functions, kept):
         """What the prover says of these functions of the crate in this folder. It keeps what it proved, for the next call."""
-        supposed = suppose(crate, folder, (function for function in self.proved[crate] if function not in functions))
-        leave_out(folder, supposed, [function for function in self.proved[crate] if function not in supposed])
+        suppose(crate, folder, functions)
         only = [word for function in sorted(functions) for word in ("--only", function)]
         words = [self.kit / "bin/rattle", "check", *self.words(crate), "--jobs", "1", "--incremental", kept, "--allow-holes", *only]
         return subprocess.run(words, cwd=folder, stdin=subprocess.DEVNULL, stdout=subprocess.PIPE, stderr=subprocess.STDOUT, text=True, errors="replace")
@@ -236,8 +233,8 @@ def size(crate):
     return sum(file.stat().st_size for part in PARTS for file in (CRATES / crate / part).rglob("*") if file.is_file())
 
 
-def main(built, said, *names):
-    prover = Prover(pathlib.Path(built), pathlib.Path(said).read_text(encoding="utf-8", errors="replace"))
+def main(built, *names):
+    prover = Prover(pathlib.Path(built))
     # The longest first, so that none is left alone at the end.
     crates = sorted(names or prover.below, key=size, reverse=True)
     edits = {crate: found for crate in crates if (found := edits_of(crate))}
