@@ -106,6 +106,8 @@ static void verifies(void)
     CHECK(mkdemux_verify(unwritten, 4, &place, path, 6) == MKDEMUX_UNWRITTEN);
     CHECK(place.place == 2 && place.word == 3 && place.path == 2);
     CHECK(path[0] == 0 && path[1] == 2 && path[2] == 99 && path[5] == 99);
+    CHECK(mkdemux_verify(unwritten, 3, &place, path, 6) == MKDEMUX_NO_RETURN);
+    CHECK(place.place == 0 && place.word == 0 && place.path == 0);
     path[0] = path[1] = 99;
     CHECK(mkdemux_verify(unwritten, 4, &place, path, 1) == MKDEMUX_UNWRITTEN);
     CHECK(place.path == 2 && path[0] == 0 && path[1] == 99);
@@ -151,6 +153,12 @@ static void reads(void)
     CHECK(got.fault == MKDEMUX_BAD_NUMBER && got.piece == 0);
     got = mkdemux_read("2,6 0 0 0", 9, room, 5);
     CHECK(got.fault == MKDEMUX_COUNT_MISMATCH && got.piece == 0 && got.count == 0);
+    got = mkdemux_read("1\n6 0 0 one\n", 12, room, 5);
+    CHECK(got.fault == MKDEMUX_BAD_NUMBER && got.piece == 1 && got.count == 0);
+    got = mkdemux_read("2\n6 0 0 1\n", 10, room, 5);
+    CHECK(got.fault == MKDEMUX_COUNT_MISMATCH && got.piece == 0 && got.count == 0);
+    got = mkdemux_read("4097\n", 5, room, 5);
+    CHECK(got.fault == MKDEMUX_COUNT_TOO_LONG && got.piece == 0 && got.count == 0);
     got = mkdemux_read("4097", 4, room, 5);
     CHECK(got.fault == MKDEMUX_COUNT_TOO_LONG && got.piece == 0 && got.count == 0);
 }
@@ -179,6 +187,9 @@ static void assembles(void)
     CHECK(!memcmp(assembled, arp, sizeof arp) && assembled[4].code == 0x5a5a);
     got = mkdemux_assemble("tax\ntxa\n", 8, assembled, 1);
     CHECK(got.fault == MKDEMUX_NO_ROOM && got.count == 2 && assembled[0].code == 40);
+    got = assemble("tax\nret a\n");
+    CHECK(got.fault == MKDEMUX_DONE && got.count == 2 && got.line == 0);
+    CHECK(assembled[0].code == 7 && assembled[1].code == 0x16 && assembled[2].code == 0x5a5a);
     got = mkdemux_assemble(NULL, 0, NULL, 0);
     CHECK(got.fault == MKDEMUX_DONE && got.count == 0);
     CHECK(has_fault("tax\nretreat\n", MKDEMUX_MNEMONIC, 2));
