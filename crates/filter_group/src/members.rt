@@ -29,11 +29,20 @@ struct Home {
 }
 
 /// Programs in an order, which lie in chunks.
-#[derive(Drop)]
 pub(crate) struct Members {
     /// Of each program where it lies.
     homes: Vec<Home>,
     chunks: Vec<Chunk>,
+}
+
+// By hand, so that the proofs of its owners have one call and not a drop of each part.
+impl Drop for Members {
+    fn drop(self) {
+        let Members {
+            homes: _,
+            chunks: _,
+        } = self;
+    }
 }
 
 impl Model for Chunk {
