@@ -7,7 +7,6 @@ use ghost_log::Log;
 use std::io::{ErrorKind, Read};
 
 /// A reader, with a list of what was got, which only proofs read, and a record of what came of its reads. Only `read` writes them.
-#[derive(Drop)]
 pub struct Source<R> {
     inner: R,
     /// The bytes that the reads gave.
@@ -20,6 +19,20 @@ pub struct Source<R> {
     ended: bool,
     /// Whether a read failed, other than by an interruption.
     failed: bool,
+}
+
+// By hand, so that the proofs of its owners have one call and not a drop of each part.
+impl<R: Drop> Drop for Source<R> {
+    fn drop(self) {
+        let Source {
+            inner: _,
+            got: _,
+            left: _,
+            taken: _,
+            ended: _,
+            failed: _,
+        } = self;
+    }
 }
 
 /// What came of a read.

@@ -8,7 +8,6 @@ use std::alloc::{AllocError, Global};
 use ump_ring::{Busy, LineFault};
 
 /// What a core and one peer hand each other.
-#[derive(Drop)]
 pub struct ListLink {
     // What was sent to the peer, as far as it was collected.
     sent: MessageList,
@@ -16,11 +15,24 @@ pub struct ListLink {
     given: MessageList,
 }
 
+// By hand, so that the proofs of its owners have one call and not a drop of each part.
+impl Drop for ListLink {
+    fn drop(self) {
+        let ListLink { sent: _, given: _ } = self;
+    }
+}
+
 /// The links of a core that keep each message sent and each message given, at most `capacity` per peer and direction over
 /// their life.
-#[derive(Drop)]
 pub struct ListLinks {
     slots: Vec<Option<ListLink>>,
+}
+
+// By hand, so that the proofs of its owners have one call and not a drop of each part.
+impl Drop for ListLinks {
+    fn drop(self) {
+        let ListLinks { slots: _ } = self;
+    }
 }
 
 impl ListLink {

@@ -21,7 +21,6 @@ use table_replica::{Replica, Scratch};
 use world_histories::Stamped;
 
 /// A core. Its history is a list that only proofs read, so its memory doesn't grow with what it does.
-#[derive(Drop)]
 pub struct Core<L: Links> {
     pub(crate) alloc: Global,
     pub(crate) number: u16,
@@ -35,6 +34,25 @@ pub struct Core<L: Links> {
     // What a receipt writes before it is known whether there is room, and its working lists.
     pub(crate) scratch: Scratch,
     pub(crate) stopped: Option<Cause>,
+}
+
+// By hand, so that the proofs of its owners have one call and not a drop of each part.
+impl<L: Links> Drop for Core<L> {
+    fn drop(self) {
+        let Core {
+            alloc: _,
+            number: _,
+            cores: _,
+            links: _,
+            part: _,
+            clock: _,
+            requests: _,
+            intake: _,
+            history: _,
+            scratch: _,
+            stopped: _,
+        } = self;
+    }
 }
 
 impl<L: Links> Model for Core<L> {

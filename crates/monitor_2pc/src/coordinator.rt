@@ -29,7 +29,6 @@ enum Wait {
 
 /// Core 0 in the protocol: its last number, the votes or acknowledgements so far, the request that each other core has waiting,
 /// the core whose request is under way, and what was decided of it.
-#[derive(Drop)]
 pub struct Coordinator {
     last: u64,
     wait: Wait,
@@ -39,6 +38,21 @@ pub struct Coordinator {
     waiting: ArrayVec<Option<Op>, 7>,
     asker: Option<u16>,
     decided: Option<Decision>,
+}
+
+// By hand, so that the proofs of its owners have one call and not a drop of each part.
+impl Drop for Coordinator {
+    fn drop(self) {
+        let Coordinator {
+            last: _,
+            wait: _,
+            votes: _,
+            acks: _,
+            waiting: _,
+            asker: _,
+            decided: _,
+        } = self;
+    }
 }
 
 impl Model for Coordinator {

@@ -10,11 +10,21 @@ use std::marker::Model;
 use std::sync::Arc;
 
 /// Items in order, seen as their list: a window of a vector that has one owner for each such list. An equal list takes no memory.
-#[derive(Drop)]
 pub struct Shared<T: Drop> {
     whole: Arc<Vec<T>, Global>,
     start: usize,
     count: usize,
+}
+
+// By hand, so that the proofs of its owners have one call and not a drop of each part.
+impl<T: Drop> Drop for Shared<T> {
+    fn drop(self) {
+        let Shared {
+            whole: _,
+            start: _,
+            count: _,
+        } = self;
+    }
 }
 
 impl<T: Drop> Model for Shared<T> {

@@ -46,12 +46,22 @@ pub struct Filter<'a> {
 }
 
 /// Lists that are used again from packet to packet, so that a receipt takes no memory once they are long enough.
-#[derive(Drop)]
 pub struct Scratch {
     lists: Lists,
     verdicts: Vec<u32>,
     /// The endpoints that get the packet, once it is received.
     pub kept: Vec<Kept>,
+}
+
+// By hand, so that the proofs of its owners have one call and not a drop of each part.
+impl Drop for Scratch {
+    fn drop(self) {
+        let Scratch {
+            lists: _,
+            verdicts: _,
+            kept: _,
+        } = self;
+    }
 }
 
 impl Scratch {
@@ -76,7 +86,6 @@ pub(crate) struct Row {
 }
 
 /// The filters in order of installation, under the capabilities of their table. Each program is kept once.
-#[derive(Drop)]
 pub(crate) struct Filters {
     rows: Vec<Row>,
     programs: Programs,
@@ -85,6 +94,20 @@ pub(crate) struct Filters {
     chains: Chains,
     instructions: u32,
     under: Snapshot<Caps>,
+}
+
+// By hand, so that the proofs of its owners have one call and not a drop of each part.
+impl Drop for Filters {
+    fn drop(self) {
+        let Filters {
+            rows: _,
+            programs: _,
+            reaches: _,
+            chains: _,
+            instructions: _,
+            under: _,
+        } = self;
+    }
 }
 
 impl Model for Filters {

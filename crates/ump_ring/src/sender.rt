@@ -9,7 +9,6 @@ use crate::line::{Line, MESSAGE_MOST, line_at};
 use rtrb::Producer;
 
 /// The end of a ring that sends messages, one at a time.
-#[derive(Drop)]
 pub struct Sender {
     pub(crate) producer: Producer<Line>,
     // The message that goes out, or nothing.
@@ -19,6 +18,18 @@ pub struct Sender {
     // The number of the next line.
     number: u32,
     ghost sending: { IsSending message out number (sent producer) },
+}
+
+// By hand, so that the proofs of its owners have one call and not a drop of each part.
+impl Drop for Sender {
+    fn drop(self) {
+        let Sender {
+            producer: _,
+            message: _,
+            out: _,
+            number: _,
+        } = self;
+    }
 }
 
 /// A message is still going out. The new one is handed back.

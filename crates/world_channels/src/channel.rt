@@ -54,10 +54,19 @@ pub trait Channel: Drop {
 }
 
 /// A channel that keeps messages.
-#[derive(Drop)]
 pub struct Messages {
     alloc: Global,
     messages: VecDeque<Message>,
+}
+
+// By hand, so that the proofs of its owners have one call and not a drop of each part.
+impl Drop for Messages {
+    fn drop(self) {
+        let Messages {
+            alloc: _,
+            messages: _,
+        } = self;
+    }
 }
 
 impl Channel for Messages {

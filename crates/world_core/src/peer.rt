@@ -14,11 +14,21 @@ use world_channels::Channel;
 use world_events::{Answer, WorldFault};
 
 /// A core other than core 0, with its channels from and to core 0.
-#[derive(Drop)]
 pub(crate) struct Peer<C: Channel> {
     pub(crate) core: OtherCore,
     pub(crate) down: C,
     pub(crate) up: C,
+}
+
+// By hand, so that the proofs of its owners have one call and not a drop of each part.
+impl<C: Channel> Drop for Peer<C> {
+    fn drop(self) {
+        let Peer {
+            core: _,
+            down: _,
+            up: _,
+        } = self;
+    }
 }
 
 impl<C: Channel> Peer<C> {

@@ -26,11 +26,21 @@ const CORES: usize = 8;
 
 /// The world of the cores over channels of one kind, seen as the log, the place of each core in the protocol and the messages
 /// under way.
-#[derive(Drop)]
 pub struct WorldOver<C: Channel> {
     alloc: Global,
     home: Home,
     pub(crate) peers: Vec<Peer<C>>,
+}
+
+// By hand, so that the proofs of its owners have one call and not a drop of each part.
+impl<C: Channel> Drop for WorldOver<C> {
+    fn drop(self) {
+        let WorldOver {
+            alloc: _,
+            home: _,
+            peers: _,
+        } = self;
+    }
 }
 
 /// The world over channels that keep messages.
