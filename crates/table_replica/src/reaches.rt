@@ -1,5 +1,5 @@
 //! Which endpoints get what which programs accept.
-ghost use Rattle.std.specs.Prelude.{◌≡◌, ◌==◌, ◌+◌, ◌<◌, ◌≤◌, ◌++◌, [], ◌∷◌, List, length, map, filter, min, not, IsTrue, ◌↔◌, IfOk, OnOk, MatchOption, replicate, ℕ, Some, slice_get};
+ghost use Rattle.std.specs.Prelude.{◌≡◌, ◌==◌, ◌+◌, ◌<◌, ◌≤◌, ◌++◌, [], ◌∷◌, List, length, map, filter, min, not, IsTrue, ◌↔◌, IfOk, OnOk, MatchOption, replicate, take, ℕ, Some, slice_get};
 ghost use Rattle.std.specs.List.{All, Contains};
 ghost use Rattle.std.specs.List.Sorted.{IsNonDecreasingBy};
 ghost use Rattle.table_replica.specs.declared.filters.Row.{Row as GhostRow};
@@ -12,7 +12,7 @@ ghost use Rattle.bpf_insn.specs.declared.insn.Insn.{Insn};
 ghost use Rattle.bpf_insn.specs.Machine.{Packet};
 ghost use Rattle.filter_group.specs.Together.{AreHits};
 ghost use Rattle.filter_group.specs.declared.lockstep.Hit.{Hit as AnyHit};
-ghost use Rattle.table_replica.specs.Receiving.{raised, at_endpoint, Accepts, AreReached, AreReceiversOf, AreVerdictsSoFar, HasHit, HasOr};
+ghost use Rattle.table_replica.specs.Receiving.{raised, at_endpoint, Accepts, AreReached, AreReceiversOf, AreVerdicts, AreVerdictsSoFar, HasHit, HasOr};
 
 use crate::Kept;
 use crate::filters::Row;
@@ -436,22 +436,48 @@ fn receivers_of_many(
 {
     forget(verdicts, programs.len())?;
     note(hits, verdicts);
-    kept.clear();
-    kept.reserve(hits.len().min(reaches.len()))?;
+    let nothing = Kept {
+        endpoint: 0,
+        kept: 0,
+    };
+    kept.resize(reaches.len(), nothing)?;
+    let count = keep_noted(reaches, programs, bytes, original, verdicts, kept);
+    kept.truncate(count);
+    Ok(())
+}
+
+/// The endpoints that get a packet of which the verdict of each program is noted, in front of `kept`. Gives how many they are.
+// Into a slice, since where it is stays in a register; a list that grows would be looked up for each endpoint.
+fn keep_noted(
+    reaches: &[Reach],
+    programs: &Programs,
+    bytes: &[u8],
+    original: u32,
+    verdicts: &[u32],
+    kept: &mut [Kept],
+) -> usize
+    requires placed { All (λ reach. reach.program < length programs.now) reaches.now }
+    requires ordered { IsNonDecreasingBy (λ reach. reach.endpoint) reaches.now }
+    requires noted { AreVerdicts programs.now (record { bytes = bytes.now; original = original }) verdicts.now }
+    requires room { length reaches.now ≤ length kept.old }
+    ensures { AreReached programs.now reaches.now (record { bytes = bytes.now; original = original }) (take result kept.new) }
+{
+    let _programs = programs.len();
+    let mut count = 0;
     for reach in reaches {
         let verdict = verdicts[reach.program];
         if verdict > 0 {
             let most = (verdict as usize).min(bytes.len()) as u32;
-            raise(kept, reach.endpoint, most)?;
+            count = raise(kept, count, reach.endpoint, most);
         }
     }
-    Ok(())
+    count
 }
 
 /// Notes the verdicts of hits.
-fn note(hits: &[Hit], verdicts: &mut Vec<u32>)
-    requires { (i : ℕ) (hit : AnyHit) → slice_get hits.now i ≡ Some hit → (hit.member < length verdicts.old.items) × (0 < hit.verdict) }
-    ensures { (programs : List (List Insn)) → AreVerdictsSoFar programs hits.now 0 verdicts.old.items → AreVerdictsSoFar programs hits.now (length hits.now) verdicts.new.items }
+fn note(hits: &[Hit], verdicts: &mut [u32])
+    requires { (i : ℕ) (hit : AnyHit) → slice_get hits.now i ≡ Some hit → (hit.member < length verdicts.old) × (0 < hit.verdict) }
+    ensures { (programs : List (List Insn)) → AreVerdictsSoFar programs hits.now 0 verdicts.old → AreVerdictsSoFar programs hits.now (length hits.now) verdicts.new }
 {
     for hit in hits {
         verdicts[hit.member] = hit.verdict;
@@ -497,27 +523,29 @@ pub(crate) fn receivers(
     Ok(kept)
 }
 
-/// Sees that an endpoint that none of the list comes after keeps at least so many bytes.
-fn raise(kept: &mut Vec<Kept>, endpoint: u16, bytes: u32) -> Result<(), AllocError>
-    requires increasing { IsIncreasing kept.old.items }
-    requires last { All (λ other. other.endpoint ≤ endpoint) kept.old.items }
-    ensures { OnOk result (kept.new.items ≡ raised kept.old.items endpoint bytes) }
+/// Sees that an endpoint keeps at least so many bytes, where none of the first so many of a list comes after it. Gives how many
+/// there are then.
+fn raise(kept: &mut [Kept], count: usize, endpoint: u16, bytes: u32) -> usize
+    requires room { count < length kept.old }
+    requires increasing { IsIncreasing (take count kept.old) }
+    requires last { All (λ other. other.endpoint ≤ endpoint) (take count kept.old) }
+    ensures most { result ≤ count + 1 }
+    ensures raised { take result kept.new ≡ raised (take count kept.old) endpoint bytes }
 {
-    let count = kept.len();
     if count > 0 {
-        let last = kept[count - 1];
-        if last.endpoint == endpoint {
-            let most = last.kept.max(bytes);
+        // Each field is read alone: a read of what was just written in parts would wait for all of them.
+        if kept[count - 1].endpoint == endpoint {
+            let most = kept[count - 1].kept.max(bytes);
             kept[count - 1] = Kept {
                 endpoint,
                 kept: most,
             };
-            return Ok(());
+            return count;
         }
     }
-    kept.push(Kept {
+    kept[count] = Kept {
         endpoint,
         kept: bytes,
-    })?;
-    Ok(())
+    };
+    count + 1
 }

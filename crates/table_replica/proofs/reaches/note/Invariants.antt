@@ -5,6 +5,6 @@ use Rattle.table_replica.proofs.reaches.note.Given as goal
 
 abbrev pub invariant-loop-hit : goal.invariant-loop-hit
 invariant-loop-hit l = record {
-  long : length l.verdicts.items ≡ length l.initial.verdicts.items;
-  noted : (programs : List (List Insn)) → AreVerdictsSoFar programs l.hits 0 l.initial.verdicts.items → AreVerdictsSoFar programs l.hits l.hit-index l.verdicts.items;
+  long : length l.verdicts ≡ length l.initial.verdicts;
+  noted : (programs : List (List Insn)) → AreVerdictsSoFar programs l.hits 0 l.initial.verdicts → AreVerdictsSoFar programs l.hits l.hit-index l.verdicts;
 }
