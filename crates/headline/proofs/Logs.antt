@@ -15,12 +15,13 @@ use Rattle.monitor_2pc.specs.Coordinators.{CoordinatorPlace, Requests, Phase, Id
 use Rattle.world_events.specs.declared.event.Event.{Event}
 use Rattle.world_events.specs.declared.event.Event.TheVariants.{Start, Submit, StartFor, Take, Rx}
 use Rattle.world_events.specs.declared.event.Answer.{Answer}
-use Rattle.world_events.specs.declared.event.Answer.TheVariants.{Prepared, Decided, TookVote}
+use Rattle.world_events.specs.declared.event.Answer.TheVariants.{Decided, TookVote}
 use Rattle.world_events.specs.declared.event.Done.{Done}
 use Rattle.world_model.specs.Cases.{joined, start_told, TakesUpAt, TakesDownAt, Took}
 use Rattle.world_model.specs.Worlds.{World, boot, newest, Happens, Run}
-use Rattle.world_model.specs.Readings.{Request, unsent, sent, numbered, settled, begun, decided_on, followed, request_of}
+use Rattle.world_model.specs.Readings.{Request, unsent, sent, begun, followed, request_of}
 use Rattle.world_histories.specs.Answers.{requested}
+use Rattle.world_histories.proofs.Tells.{begun_same, decided_same}
 use Rattle.world_model.proofs.Runs.{run_keeps}
 use Rattle.world_model.proofs.Agreement.{run_stages}
 use Rattle.world_model.proofs.Known.{run_known}
@@ -46,19 +47,6 @@ told_more : (events : List Done) (done : Done) → told (events ++ done ∷ []) 
 told_more events done = fold-append told_with nothing_told events (done ∷ [])
 
 -- The last request of a core
-
-begun_same : (r : Request) (answer : Answer) → requested (begun r answer) ≡ requested r
-begun_same (sent op) (Prepared txn) = refl
-begun_same (sent op) (Decided d) = refl
-begun_same r answer = refl
-
-decided_same : (r : Request) (txn : ℕ) (d : Decision) → requested (decided_on r txn d) ≡ requested r
-decided_same (numbered op n) txn d = by_test (n == txn)
-  where
-    by_test : (b : Bool) → requested (cond b (settled op d) (numbered op n)) ≡ Some op
-    by_test true = refl
-    by_test false = refl
-decided_same r txn d = refl
 
 -- an answer tells nothing of what was submitted or started
 submitted_same : (t : Told) (answer : Answer) → (decided t answer).submitted ≡ t.submitted

@@ -26,7 +26,7 @@ use Rattle.sim_engine.specs.Simulations.{Tells, Quiets}
 use Rattle.sim_engine.proofs.Departing.{Compared, same, one_lacks, other_lacks, compared_as, compared_texts, compared_then}
 
 -- a fault that is told stands
-stands : (w : World) (event : Event) (fault : WorldFault) → fault ≢ NoMemory → WorldRefuses w event fault → StandsFirst w event fault
+pub stands : (w : World) (event : Event) (fault : WorldFault) → fault ≢ NoMemory → WorldRefuses w event fault → StandsFirst w event fault
 stands w event NoMemory other h = absurd (other refl)
 stands w event NoSuchCore other h = h
 stands w event Nothing other h = h

@@ -1,5 +1,5 @@
 -- Whatever a trace shows is the run, or differs first where a core is out of memory.
-use Rattle.std.proofs.Common.{◌≡◌, ◌≢◌, ◌⊎◌, inl, inr, ℕ, List, [], ◌∷◌, ◌++◌, map, refl, ap, sym, ◌∙◌, subst, append_assoc}
+use Rattle.std.proofs.Common.{◌≡◌, ◌⊎◌, inl, inr, ℕ, List, [], ◌∷◌, ◌++◌, map, refl, ap, sym, ◌∙◌, subst, append_assoc}
 use Rattle.std.specs.Prelude.{Result, Ok, Err}
 use Rattle.std.specs.List.{All, flat_map}
 use Rattle.std.proofs.lemmas.List.{append-nil}
@@ -12,8 +12,6 @@ use Rattle.world_events.specs.declared.event.Done.{Done}
 use Rattle.world_model.specs.Worlds.{World, boot, Happens, Runs, Run}
 use Rattle.world_model.proofs.Runs.{runs_more}
 use Rattle.world_events.specs.declared.fault.WorldFault.{WorldFault}
-use Rattle.world_events.specs.declared.fault.WorldFault.TheVariants.{NoSuchCore, Nothing, NotReady, NotIdle, Spent, Outstanding, NoneWaiting, NoMemory}
-use Rattle.world_core.specs.Refusals.{WorldRefuses, StandsFirst}
 use Rattle.world_progress.proofs.Once.{lacks_or_not}
 use Rattle.world_progress.proofs.NotRefused.{none_stands}
 use Rattle.world_progress.proofs.SameRuns.{happens_once}
@@ -21,6 +19,7 @@ use Rattle.sim_lines.specs.Events.{event_line, done_line}
 use Rattle.mk_script.specs.declared.script.Item.{Item}
 use Rattle.mk_script.specs.declared.script.Item.TheVariants as item
 use Rattle.sim_engine.specs.declared.requests.Request.{Request}
+use Rattle.sim_engine.proofs.Twice.{stands}
 use Rattle.sim_engine.specs.declared.way.Way.{Way}
 use Rattle.sim_engine.specs.declared.way.Way.TheVariants as way
 use Rattle.sim_engine.specs.Ways.{home_of, event_of}
@@ -43,16 +42,6 @@ had_again (StartFor core) answer had out = had out
 had_again (Take to from short) answer had out = let x = out.0 in let y = out.1 in cc
 had_again (Submit core op) answer had out = out
 had_again (Rx core number packet floor) answer had out = out
-
-stands : (w : World) (event : Event) (fault : WorldFault) → fault ≢ NoMemory → WorldRefuses w event fault → StandsFirst w event fault
-stands w event NoMemory other h = absurd (other refl)
-stands w event NoSuchCore other h = h
-stands w event Nothing other h = h
-stands w event NotReady other h = h
-stands w event NotIdle other h = h
-stands w event Spent other h = h
-stands w event Outstanding other h = h
-stands w event NoneWaiting other h = h
 
 -- the same, or out of memory
 data ToldOnce (event : Event) (answer : Answer) (mid w' : World) (told : Result Answer WorldFault) : Type 0 where

@@ -116,12 +116,12 @@ others_silent core w w' event answer ne h = absurd h
 
 -- The operation of a request
 
-begun_same : (r : Request) (answer : Answer) → requested (begun r answer) ≡ requested r
+pub begun_same : (r : Request) (answer : Answer) → requested (begun r answer) ≡ requested r
 begun_same (sent op) (Prepared txn) = refl
 begun_same (sent op) (Decided d) = refl
 begun_same r answer = refl
 
-decided_same : (r : Request) (txn : ℕ) (d : Decision) → requested (decided_on r txn d) ≡ requested r
+pub decided_same : (r : Request) (txn : ℕ) (d : Decision) → requested (decided_on r txn d) ≡ requested r
 decided_same (numbered op n) txn d = by_test (n == txn)
   where
     by_test : (b : Bool) → requested (cond b (settled op d) (numbered op n)) ≡ Some op
