@@ -95,7 +95,7 @@ static void packets(const Workload *w, const Table *t, const List *l, const char
     double runs = by_runs(l, p, len, 3 + 1000000 / (l->insns + 1));
     double peer = by_peer(receivers_grouped, t, p, len, 1 + 10000000 / (l->insns + 5000));
     /* so many rounds that making the table, which takes up to 50 ms, doesn't drown them */
-    uint32_t rounds = 200 + (uint32_t)(4e7 / (peer + 200)), want = receivers_pcap(t, p, len, len);
+    uint32_t rounds = 200 + (uint32_t)(1e8 / ((peer < runs ? peer : runs) + 200)), want = receivers_pcap(t, p, len, len);
     double time[2];
     for (int way = 0; way < 2; way++) {
         time[way] = by_table(way ? bench_many_in_place : bench_many, l, p, len, rounds, &got);
