@@ -1,6 +1,6 @@
 -- Programs that lie in chunks.
 -- No public clause cites these.
-use Rattle.std.specs.Prelude.{◌≡◌, ◌==◌, ◌&&◌, ◌-◌, ◌≤◌, ℕ, cond, ltb, Option, Some, None, List, [], length, slice_get}
+use Rattle.std.specs.Prelude.{◌≡◌, ◌==◌, ◌&&◌, ◌-◌, ◌≤◌, ℕ, cond, ltb, Option, Some, None, List, [], length, map, slice_get}
 use Rattle.bpf_insn.specs.declared.insn.Insn.{Insn}
 use Rattle.filter_group.specs.declared.members.Home.{Home}
 use Rattle.filter_group.specs.Places.{or_no_program}
@@ -20,6 +20,11 @@ program_in chunks home = or_no_program (found_in chunks home)
 pub record AreHomes (homes : List Home) (chunks : List (List (List Insn))) : Type 0 where
   pub each : (rank : ℕ) (home : Home) → slice_get homes rank ≡ Some home → (program : List Insn) × (found_in chunks home ≡ Some program)
   pub once : (i j : ℕ) (home : Home) → slice_get homes i ≡ Some home → slice_get homes j ≡ Some home → i ≡ j
+
+-- and what is said to be the first of these programs is it
+pub record AreMembers (first : Option (List Insn)) (homes : List Home) (chunks : List (List (List Insn))) : Type 0 where
+  pub lie : AreHomes homes chunks
+  pub is_first : first ≡ slice_get (map (program_in chunks) homes) 0
 
 -- the home is the first free one of a chunk, or of a new chunk
 pub record IsNext (chunks : List (List (List Insn))) (home : Home) : Type 0 where

@@ -4,7 +4,7 @@ ghost use Rattle.std.specs.Prelude.{◌≡◌, ◌<◌, ◌≤◌, ◌++◌, ◌
 ghost use Rattle.std.specs.Arc.{arc_value};
 ghost use Rattle.std.specs.List.{insert, remove};
 ghost use Rattle.bpf_insn.specs.declared.insn.Insn.{Insn as AnyInsn};
-ghost use Rattle.filter_group.specs.Homes.{HasLess, HasMore, IsNext, found_in, home_down};
+ghost use Rattle.filter_group.specs.Homes.{AreHomes, HasLess, HasMore, IsNext, found_in, home_down, program_in};
 
 use crate::shared::{Shared, copy_of};
 use std::alloc::{AllocError, Global};
@@ -30,6 +30,8 @@ struct Home {
 
 /// Programs in an order, which lie in chunks.
 pub(crate) struct Members {
+    /// The first program too, since a run of all begins with it: each step on the way to a program is a wait for memory.
+    first: Option<Shared>,
     /// Of each program where it lies.
     homes: Vec<Home>,
     chunks: Vec<Chunk>,
@@ -39,6 +41,7 @@ pub(crate) struct Members {
 impl Drop for Members {
     fn drop(self) {
         let Members {
+            first: _,
             homes: _,
             chunks: _,
         } = self;
@@ -58,13 +61,13 @@ impl Model for Chunk {
 impl Model for Members {
     ghost use Rattle.std.specs.Prelude.{List, map};
     ghost use Rattle.bpf_insn.specs.declared.insn.Insn.{Insn};
-    ghost use Rattle.filter_group.specs.Homes.{AreHomes, program_in};
+    ghost use Rattle.filter_group.specs.Homes.{AreMembers, program_in};
 
     ghost Value = { List (List Insn) };
 
     ghost view = { λ m. map (program_in m.chunks.items) m.homes.items };
 
-    ghost invariant = { λ m. AreHomes m.homes.items m.chunks.items };
+    ghost invariant = { λ m. AreMembers m.first m.homes.items m.chunks.items };
 }
 
 impl Chunk {
@@ -130,6 +133,7 @@ impl Members {
         ensures { result ≡ [] }
     {
         Members {
+            first: None,
             homes: Vec::new(alloc),
             chunks: Vec::new(alloc),
         }
@@ -148,6 +152,11 @@ impl Members {
         requires { place < length self.now }
         ensures { slice_get self.now place ≡ Some result.now }
     {
+        if place == 0 {
+            if let Some(first) = &self.first {
+                return first;
+            }
+        }
         let home = self.homes[place];
         self.chunks[home.chunk as usize].at(home.place as usize)
     }
@@ -167,7 +176,7 @@ impl Members {
         let mut homes = Vec::with_capacity(alloc, self.homes.len() + 1)?;
         homes.extend_from_slice(&self.homes)?;
         homes.insert(place, home)?;
-        Ok(Members { homes, chunks })
+        Ok(made(homes, chunks)?)
     }
 
     /// The programs but the one at a place.
@@ -178,8 +187,34 @@ impl Members {
         let old = self.homes[place];
         let chunks = chunks_without(alloc, &self.chunks, old)?;
         let homes = homes_without(alloc, &self.homes, place, old)?;
-        Ok(Members { homes, chunks })
+        Ok(made(homes, chunks)?)
     }
+}
+
+/// The programs that lie there.
+fn made(homes: Vec<Home>, chunks: Vec<Chunk>) -> Result<Members, AllocError>
+    requires { AreHomes homes.items chunks.items }
+    ensures { IfOk result (λ members. members ≡ map (program_in chunks.items) homes.items) }
+{
+    let first = first_of(&homes, &chunks)?;
+    Ok(Members {
+        first,
+        homes,
+        chunks,
+    })
+}
+
+/// The first of the programs that lie there, with one more owner, if there is one.
+fn first_of(homes: &[Home], chunks: &[Chunk]) -> Result<Option<Shared>, AllocError>
+    requires { AreHomes homes.now chunks.now }
+    ensures { IfOk result (λ first. first ≡ slice_get (map (program_in chunks.now) homes.now) 0) }
+{
+    if homes.is_empty() {
+        return Ok(None);
+    }
+    let home = homes[0];
+    let first = chunks[home.chunk as usize].at(home.place as usize).share()?;
+    Ok(Some(first))
 }
 
 /// Where a program more goes: into the first chunk that has room, or else into a new one. So a list never has more chunks than
