@@ -173,6 +173,13 @@ static Program *c_fingerprint(uint32_t i, uint32_t n)
     Insn code[3] = {I(0x00, one & 255, one >> 8 & 255, one >> 16), I(0x00, two & 255, two >> 8 & 255, two >> 16), I(0x06, 0, 0, 64)};
     return from(code, 3);
 }
+/* short programs of one shape, each of which differs from all others in its first instruction */
+static Program *c_loads(uint32_t i, uint32_t n)
+{
+    (void)n;
+    Insn code[3] = {I(0x00, 0, 0, i), I(0x00, 0, 0, 7 * i + 3), I(0x06, 0, 0, 64)};
+    return from(code, 3);
+}
 /* the longest programs, which differ in the last test alone */
 static Program *c_longest(uint32_t i, uint32_t n)
 {
@@ -210,6 +217,7 @@ static Workload workloads[] = {
     {"hard: returns", 0, c_returns, all},
     {"all accept", 0, c_all, all},
     {"hard: fingerprint", 0, c_fingerprint, all},
+    {"hard: loads", 0, c_loads, all},
     {"hard: longest", 0, c_longest, one},
 };
 
