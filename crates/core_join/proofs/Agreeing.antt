@@ -1,7 +1,7 @@
 -- Cores that are looked at one after another.
 use Rattle.std.proofs.Common.{◌≡◌, ℕ, zero, suc, List, [], ◌∷◌, length, Some, slice_get, refl, sym, ap, ◌∙◌, subst, arith}
 use mathlib.Core.List.{IsPrefix}
-use Rattle.core_links.specs.RingSlots.{own_of, ring_view, SameLinks, AreJoinedLinks}
+use Rattle.core_links.specs.RingSlots.{own_of, ring_view, AreJoinedLinks}
 use Rattle.core_links.specs.RingLaws.{SameLinks-itself}
 use Rattle.std.proofs.lemmas.Option.{slice_get_within}
 use Rattle.table_replica.proofs.Shared.{get_at}

@@ -2,7 +2,7 @@
 use Rattle.std.proofs.Common.{◌≡◌, ℕ, suc, List, [], refl, sym, ap, ◌∙◌, subst}
 use Rattle.std.proofs.lemmas.List.{append-nil}
 use mathlib.Core.List.{IsPrefix}
-use Rattle.core_links.specs.RingSlots.{ring_view, SameLinks}
+use Rattle.core_links.specs.RingSlots.{ring_view}
 use Rattle.core_links.specs.RingLaws.{SameLinks-itself, SameLinks-along}
 use Rattle.core_links.specs.Views.{LinkView, IsSameView}
 use Rattle.core_loop.specs.Standing.{AreBeside}

@@ -1,5 +1,5 @@
 -- A script's items, of whose text a front is written.
-use Rattle.std.proofs.Common.{◌≡◌, ◌+◌, zero, suc, take, drop, ℕ, Option, List, [], ◌∷◌, ◌++◌, refl, ap, sym, ◌∙◌, subst}
+use Rattle.std.proofs.Common.{◌≡◌, zero, suc, take, drop, ℕ, Option, List, [], ◌∷◌, ◌++◌, refl, ap, sym, ◌∙◌, subst}
 use Rattle.std.proofs.lemmas.List.{append_assoc, append-nil}
 use Rattle.std.specs.Prelude.{Result, Ok, Err, OnOk}
 use Rattle.world_model.specs.Worlds.{World}
