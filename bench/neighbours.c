@@ -1,0 +1,145 @@
+/* What a neighbour's filters cost. 995 filters `udp dst port N` of one domain share a table with up to 8 of another domain, which are
+ * like them but for a constant, so that they belong to the same group: in the first instruction, in each instruction in turn, in all at
+ * random. What a packet for one of the first takes: nanoseconds of processor time, the least of some rounds, and the ratio to what it
+ * takes without a neighbour. Built by neighbours.sh over the C library of cores and libpcap. */
+#include <pcap.h>
+#include <stdio.h>
+#include <stdlib.h>
+#include <string.h>
+#include <time.h>
+
+#include "mkdemux_cores.h"
+
+enum { FILTERS = 995, NEIGHBOURS = 8, FIRST_PORT = 1000, ROUNDS = 9, PACKETS = 500, LENGTH = 60, MOST_INSNS = 64 };
+
+static mkdemux_core core = {NULL};
+static uint64_t seed = 1;
+
+static uint32_t draw(void)
+{
+    seed = seed * 6364136223846793005u + 1442695040888963407u;
+    return (uint32_t)(seed >> 33);
+}
+
+static double now(void)
+{
+    struct timespec time;
+    clock_gettime(CLOCK_THREAD_CPUTIME_ID, &time);
+    return (double)time.tv_sec * 1e9 + (double)time.tv_nsec;
+}
+
+/* Turns the core until its request is decided, and gives what that made. */
+static uint32_t decided(uint32_t asked)
+{
+    mkdemux_turned turned;
+    if (asked != MKDEMUX_CORE_OK || mkdemux_turn(&core, &turned) != MKDEMUX_CORE_OK || turned.what != MKDEMUX_TURN_DECISION ||
+        turned.decision != MKDEMUX_COMMITTED) {
+        fprintf(stderr, "a request was not committed\n");
+        exit(2);
+    }
+    return turned.made;
+}
+
+/* A frame of IPv4 with UDP to this port. */
+static void make_packet(uint8_t *packet, uint32_t port)
+{
+    memset(packet, 0, LENGTH);
+    packet[12] = 8;
+    packet[14] = 0x45;
+    packet[23] = 17;
+    packet[36] = (uint8_t)(port >> 8);
+    packet[37] = (uint8_t)port;
+}
+
+/* The least time that a packet for one of the first domain's filters takes. */
+static double packet_time(void)
+{
+    double least = 1e18;
+    for (int round = 0; round < ROUNDS; round++) {
+        double begin = now();
+        for (int i = 0; i < PACKETS; i++) {
+            uint8_t packet[LENGTH];
+            struct mkdemux_kept room[FILTERS + NEIGHBOURS];
+            size_t count = 0;
+            make_packet(packet, FIRST_PORT + draw() % FILTERS);
+            mkdemux_receive(&core, packet, LENGTH, LENGTH, room, FILTERS + NEIGHBOURS, &count);
+            if (count < 1) {
+                fprintf(stderr, "a packet was lost\n");
+                exit(2);
+            }
+        }
+        double time = (now() - begin) / PACKETS;
+        if (time < least) least = time;
+    }
+    return least;
+}
+
+static struct mkdemux_insn code[MOST_INSNS];
+static size_t length;
+
+/* Makes the program of a port by libpcap's. */
+static void make_program(struct mkdemux_insn *made, uint32_t port)
+{
+    memcpy(made, code, length * sizeof *code);
+    for (size_t i = 0; i < length; i++)
+        if (made[i].k == FIRST_PORT) made[i].k = port;
+}
+
+/* Installs up to 8 filters of the neighbour that differ so, and removes them again. Gives the greatest ratio. */
+static double with_neighbours(const char *name, int place, double alone)
+{
+    double most = 0;
+    uint32_t ids[NEIGHBOURS];
+    for (int i = 0; i < NEIGHBOURS; i++) {
+        struct mkdemux_insn made[MOST_INSNS];
+        make_program(made, 9);
+        for (size_t at = 0; at < length; at++) {
+            int is_load = (made[at].code & 7) <= 1;
+            if (place == (int)at || (place < 0 && draw() % 2)) made[at].k = is_load ? (uint32_t)i : made[at].k + 1 + (uint32_t)i;
+        }
+        ids[i] = decided(mkdemux_ask_install(&core, 2, 2, made, length));
+        double ratio = packet_time() / alone;
+        if (ratio > most) most = ratio;
+        if (name) printf("and %d of another domain, %s: %.2f\n", i + 1, name, ratio);
+    }
+    for (int i = 0; i < NEIGHBOURS; i++) decided(mkdemux_ask_remove(&core, 2, ids[i]));
+    return most;
+}
+
+int main(void)
+{
+    uint32_t budget = 1u << 20;
+    struct bpf_program compiled;
+    pcap_t *pcap = pcap_open_dead(DLT_EN10MB, 262144);
+    char text[32];
+    snprintf(text, sizeof text, "udp dst port %d", FIRST_PORT);
+    if (!pcap || pcap_compile(pcap, &compiled, text, 1, PCAP_NETMASK_UNKNOWN) || compiled.bf_len > MOST_INSNS) return 2;
+    length = compiled.bf_len;
+    for (size_t i = 0; i < length; i++)
+        code[i] = (struct mkdemux_insn){compiled.bf_insns[i].code, compiled.bf_insns[i].jt, compiled.bf_insns[i].jf, compiled.bf_insns[i].k};
+    if (mkdemux_boot(&budget, 1, &core) != MKDEMUX_CORE_OK) return 2;
+    decided(mkdemux_ask_create(&core, 1, 7));
+    decided(mkdemux_ask_create(&core, 2, 8));
+    for (uint32_t i = 0; i < FILTERS; i++) {
+        struct mkdemux_insn made[MOST_INSNS];
+        make_program(made, FIRST_PORT + i);
+        decided(mkdemux_ask_install(&core, 1, 1, made, length));
+    }
+    double alone = packet_time();
+    printf("%d filters of one domain: %.0f ns a packet\n", FILTERS, alone);
+    with_neighbours("whose first load is elsewhere", 0, alone);
+    double most = 0;
+    for (size_t place = 0; place < length; place++) {
+        double ratio = with_neighbours(NULL, (int)place, alone);
+        if (ratio > most) most = ratio;
+    }
+    printf("up to 8 that differ in one instruction, each in turn: at most %.2f\n", most);
+    most = 0;
+    for (int set = 0; set < 8; set++) {
+        double ratio = with_neighbours(NULL, -1, alone);
+        if (ratio > most) most = ratio;
+    }
+    printf("up to 8 that differ in half of them at random, 8 sets: at most %.2f\n", most);
+    mkdemux_close(&core);
+    return 0;
+}
