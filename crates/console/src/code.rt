@@ -5,6 +5,7 @@ ghost use Rattle.console.specs.Code.{IsGoodCode, ShowsBadCode, code_line, refuse
 
 use crate::fault_words::{push_code_words, push_refusal_words};
 use bpf_insn::{TextFault, read_ddd};
+use filter_predecode::Predecoded;
 use filter_verify::{Refusal, Verified, verify};
 use std::alloc::{AllocError, Global};
 
@@ -18,6 +19,16 @@ pub fn read_code(alloc: Global, code: &[u8]) -> Result<Result<Verified, String>,
             Err(refusal) => Ok(Err(refused(alloc, refusal)?)),
         },
         Err(fault) => Ok(Err(code_fault(alloc, fault)?)),
+    }
+}
+
+/// The same program, predecoded, so that it runs faster.
+pub fn read_predecoded(alloc: Global, code: &[u8]) -> Result<Result<Predecoded, String>, AllocError>
+    ensures { IfOk result (λ answer. MatchResult answer (IsGoodCode code.now) (λ line. ShowsBadCode code.now (string_bytes line))) }
+{
+    match read_code(alloc, code)? {
+        Ok(program) => Ok(Ok(Predecoded::new(alloc, &program)?)),
+        Err(line) => Ok(Err(line)),
     }
 }
 

@@ -12,7 +12,7 @@ ghost use Rattle.console.specs.Streaming.{LinesEnded, LinesRan, LinesStopped};
 
 use crate::lines::{newline_at, without_return};
 use crate::match_lines::outcome_of;
-use filter_verify::Verified;
+use filter_predecode::Predecoded;
 use filter_vm::Outcome;
 use std::alloc::{AllocError, Global};
 
@@ -53,7 +53,7 @@ impl LineFeed {
     /// outcomes. True where there is such a line. A line of 2^32 bytes or more is refused as memory is.
     pub fn run_piece(
         &mut self,
-        program: &Verified,
+        program: &Predecoded,
         piece: &[u8],
         outcomes: &mut Vec<Outcome>,
     ) -> Result<bool, AllocError>
@@ -77,7 +77,7 @@ impl LineFeed {
     /// line and it spells no packet.
     pub fn finish(
         &mut self,
-        program: &Verified,
+        program: &Predecoded,
         outcomes: &mut Vec<Outcome>,
     ) -> Result<bool, AllocError>
         ensures { IfOk result (λ stopped. MatchBool stopped
@@ -103,7 +103,7 @@ impl LineFeed {
     /// spells none.
     fn run_line(
         &mut self,
-        program: &Verified,
+        program: &Predecoded,
         last: &[u8],
         outcomes: &mut Vec<Outcome>,
     ) -> Result<bool, AllocError>

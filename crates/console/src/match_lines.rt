@@ -10,8 +10,8 @@ use crate::lines::first_line;
 use crate::outcome::push_outcome;
 use crate::output::{BLOCK, write_text};
 use crate::{EngineFault, Sink, hexadecimal};
-use filter_verify::Verified;
-use filter_vm::{Outcome, run};
+use filter_predecode::Predecoded;
+use filter_vm::Outcome;
 use std::alloc::{AllocError, Global};
 use std::fmt::Write as FmtWrite;
 use std::io::Write;
@@ -20,7 +20,7 @@ use std::io::Write;
 /// the status.
 pub fn match_lines<W: Write>(
     alloc: Global,
-    program: &Verified,
+    program: &Predecoded,
     input: &[u8],
     writer: &mut Sink<W>,
 ) -> Result<u8, EngineFault>
@@ -61,7 +61,7 @@ pub fn match_lines<W: Write>(
 /// The outcome on the packet that a line spells, if it spells one. The packet is put into a buffer that is kept from
 /// line to line.
 pub fn outcome_of(
-    program: &Verified,
+    program: &Predecoded,
     line: &[u8],
     buffer: &mut Vec<u8>,
 ) -> Result<Option<Outcome>, AllocError>
@@ -74,7 +74,7 @@ pub fn outcome_of(
     }
     let packet = &mut buffer.as_mut_slice()[..length];
     if hexadecimal::decode(line, packet) {
-        Ok(Some(run(program, packet, length as u32)))
+        Ok(Some(program.run(packet, length as u32)))
     } else {
         Ok(None)
     }

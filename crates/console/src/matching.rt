@@ -8,7 +8,7 @@ ghost use Rattle.console.specs.declared.input.TheConstants.{INPUT_BYTES, INPUT_R
 ghost use Rattle.console.specs.Devices.{EndsEarly, EndsWell, IsFresh, Writes};
 ghost use Rattle.console.specs.Matching.{IsEngineFault, ShowsGoodCode, ShowsInput, ShowsPart, ShowsRead};
 
-use crate::code::read_code;
+use crate::code::read_predecoded;
 use crate::input::{INPUT_BYTES, Input, read_bounded};
 use crate::match_capture::show_capture;
 use crate::match_lines::match_lines;
@@ -16,7 +16,7 @@ use crate::output::write_text;
 use crate::running::run_input;
 use crate::too_long::refuse_long;
 use crate::{EngineFault, Sink, Source};
-use filter_verify::Verified;
+use filter_predecode::Predecoded;
 use pcap_reader::Feed;
 use std::alloc::Global;
 use std::io::{Read, Write};
@@ -63,7 +63,7 @@ pub fn run_match<R: Read, W: Write>(
         × ShowsPart code.now pcap R.remaining reader.old reader.new text
         × Writes W.contents writer.old writer.new text }
 {
-    let program = match read_code(alloc, code)? {
+    let program = match read_predecoded(alloc, code)? {
         Ok(program) => program,
         Err(line) => {
             write_text(writer, line.as_str())?;
@@ -76,7 +76,7 @@ pub fn run_match<R: Read, W: Write>(
 /// Runs the filter on the packets of the input, and answers the status.
 fn match_input<R: Read, W: Write>(
     alloc: Global,
-    program: &Verified,
+    program: &Predecoded,
     pcap: bool,
     reader: &mut Source<R>,
     writer: &mut Sink<W>,

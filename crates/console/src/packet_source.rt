@@ -15,7 +15,7 @@ use crate::ending::Ending;
 use crate::line_feed::LineFeed;
 use crate::running::{fault_behind, run_piece};
 use crate::stamped_feed::StampedFeed;
-use filter_verify::Verified;
+use filter_predecode::Predecoded;
 use filter_vm::Outcome;
 use pcap_reader::Feed;
 use std::alloc::{AllocError, Global};
@@ -53,7 +53,7 @@ impl PacketSource {
     /// stands whatever follows.
     pub fn run(
         &mut self,
-        program: &Verified,
+        program: &Predecoded,
         piece: &[u8],
         outcomes: &mut Vec<Outcome>,
         stamps: &mut Vec<Stamp>,
@@ -78,7 +78,7 @@ impl PacketSource {
     /// where there is a last line that spells no packet.
     pub fn finish(
         &mut self,
-        program: &Verified,
+        program: &Predecoded,
         outcomes: &mut Vec<Outcome>,
     ) -> Result<bool, AllocError>
         ensures runs { IfOk result (λ stopped. (stamps : List Time)

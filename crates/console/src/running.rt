@@ -12,8 +12,8 @@ ghost use Rattle.console.specs.Running.{EndsRun, HasRun, RunsInput, RunsOn};
 
 use crate::input::{BLOCK, INPUT_BYTES};
 use crate::{EngineFault, Got, Source};
-use filter_verify::Verified;
-use filter_vm::{Outcome, run};
+use filter_predecode::Predecoded;
+use filter_vm::Outcome;
 use pcap_reader::{CaptureFault, CapturedPacket, Feed};
 use std::alloc::AllocError;
 use std::io::Read;
@@ -24,7 +24,7 @@ use std::io::Read;
 /// No packet is kept, but for one that a read cut in two. After a fault of the capture it reads on without running, so that
 /// an input that is too long is reported all the same. `feed` was given nothing before, and `outcomes` is empty.
 pub fn run_input<R: Read>(
-    program: &Verified,
+    program: &Predecoded,
     reader: &mut Source<R>,
     feed: &mut Feed,
     outcomes: &mut Vec<Outcome>,
@@ -60,7 +60,7 @@ pub fn run_input<R: Read>(
 /// Feeds a piece, runs the filter on each packet that is whole then, and appends the outcomes. True where the capture has a
 /// fault that stands whatever bytes follow.
 pub fn run_piece(
-    program: &Verified,
+    program: &Predecoded,
     feed: &mut Feed,
     piece: &[u8],
     outcomes: &mut Vec<Outcome>,
@@ -80,7 +80,7 @@ pub fn run_piece(
 
 /// Runs the filter on the packets of the whole records at the front of a piece, where they lie.
 fn run_whole(
-    program: &Verified,
+    program: &Predecoded,
     feed: &mut Feed,
     rest: &mut &[u8],
     outcomes: &mut Vec<Outcome>,
@@ -88,7 +88,7 @@ fn run_whole(
     ensures { OnOk result (RunsOn program.now rest.old.now rest.new.now feed.old feed.new outcomes.old.items outcomes.new.items) }
 {
     while let Some(seen) = feed.whole(rest) {
-        outcomes.push(run(program, seen.bytes, seen.original))?;
+        outcomes.push(program.run(seen.bytes, seen.original))?;
     }
     Ok(())
 }
@@ -96,7 +96,7 @@ fn run_whole(
 /// Feeds the bytes that a header or a record lacks, and runs the filter on the packet that is whole then. True where the
 /// capture has a fault.
 fn run_cut(
-    program: &Verified,
+    program: &Predecoded,
     feed: &mut Feed,
     rest: &mut &[u8],
     outcomes: &mut Vec<Outcome>,
@@ -116,7 +116,7 @@ fn run_cut(
 
 /// Runs the filter on packets and appends the outcomes.
 fn run_packets(
-    program: &Verified,
+    program: &Predecoded,
     packets: &[CapturedPacket],
     outcomes: &mut Vec<Outcome>,
 ) -> Result<(), AllocError>
@@ -126,7 +126,7 @@ fn run_packets(
     let mut rest = packets;
     while let Some((packet, more)) = rest.split_first() {
         rest = more;
-        outcomes.push(run(program, packet.bytes.as_slice(), packet.original))?;
+        outcomes.push(program.run(packet.bytes.as_slice(), packet.original))?;
     }
     Ok(())
 }

@@ -10,8 +10,8 @@ ghost use Rattle.console.specs.Streaming.{StampTo, StampedEnded, StampedRan, Sta
 
 use crate::Stamp;
 use crate::running::run_piece;
-use filter_verify::Verified;
-use filter_vm::{Outcome, run};
+use filter_predecode::Predecoded;
+use filter_vm::Outcome;
 use pcap_reader::Feed;
 use std::alloc::{AllocError, Global};
 
@@ -70,7 +70,7 @@ impl StampedFeed {
     /// capture has a fault that stands whatever follows.
     pub fn run_piece(
         &mut self,
-        program: &Verified,
+        program: &Predecoded,
         piece: &[u8],
         outcomes: &mut Vec<Outcome>,
         stamps: &mut Vec<Stamp>,
@@ -97,7 +97,7 @@ impl StampedFeed {
     /// Feeds what is left at the end of the input, of which no packet comes.
     pub fn finish(
         &mut self,
-        program: &Verified,
+        program: &Predecoded,
         outcomes: &mut Vec<Outcome>,
     ) -> Result<(), AllocError>
         ensures { OnOk result ((stamps : List Time)
@@ -111,7 +111,7 @@ impl StampedFeed {
 
 /// Takes the file's header and whole records off the front of `rest`, and runs the filter on their packets.
 fn run_rest(
-    program: &Verified,
+    program: &Predecoded,
     feed: &mut Feed,
     begun: &mut bool,
     rest: &mut &[u8],
@@ -130,7 +130,7 @@ fn run_rest(
 
 /// Feeds the file's header, once it is all there. True where it has a fault.
 fn run_header(
-    program: &Verified,
+    program: &Predecoded,
     feed: &mut Feed,
     begun: &mut bool,
     rest: &mut &[u8],
@@ -155,7 +155,7 @@ fn run_header(
 
 /// Feeds what is at the front where it is too long for a record, so that the capture has a fault. True where it has.
 fn run_long(
-    program: &Verified,
+    program: &Predecoded,
     feed: &mut Feed,
     rest: &mut &[u8],
     outcomes: &mut Vec<Outcome>,
@@ -176,7 +176,7 @@ fn run_long(
 ///
 /// No packet comes of such bytes. What is known of a feed doesn't say so: a packet that came would be refused as memory is.
 fn feed_part(
-    program: &Verified,
+    program: &Predecoded,
     feed: &mut Feed,
     bytes: &[u8],
     outcomes: &mut Vec<Outcome>,
@@ -195,7 +195,7 @@ fn feed_part(
 
 /// Runs the filter on the packets of the whole records at the front.
 fn run_records(
-    program: &Verified,
+    program: &Predecoded,
     feed: &mut Feed,
     rest: &mut &[u8],
     outcomes: &mut Vec<Outcome>,
@@ -209,7 +209,7 @@ fn run_records(
 
 /// Runs the filter on the packet of the whole record at the front. False where there is none.
 fn run_record(
-    program: &Verified,
+    program: &Predecoded,
     feed: &mut Feed,
     rest: &mut &[u8],
     outcomes: &mut Vec<Outcome>,
@@ -227,7 +227,7 @@ fn run_record(
         Ok(header) => match feed.whole(rest) {
             None => Ok(false),
             Some(seen) => {
-                outcomes.push(run(program, seen.bytes, seen.original))?;
+                outcomes.push(program.run(seen.bytes, seen.original))?;
                 stamps.push(Stamp::read(header, record))?;
                 Ok(true)
             }

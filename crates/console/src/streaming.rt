@@ -10,13 +10,13 @@ ghost use Rattle.console.specs.Matching.{IsEngineFault};
 ghost use Rattle.console.specs.Streaming.{SourceRan, StreamLeaves, StreamShows, is_capture, is_stamped};
 ghost use Rattle.console.specs.Views.{IsFound, ShowsView, ShowsViewCode, ShowsViewPart, ViewLeaves, ViewShows, heard, shows_stamps};
 
-use crate::code::read_code;
+use crate::code::read_predecoded;
 use crate::input::BLOCK;
 use crate::output::write_text;
 use crate::packet_source::PacketSource;
 use crate::tally::Tally;
 use crate::{EngineFault, Got, Sink, Source, View};
-use filter_verify::Verified;
+use filter_predecode::Predecoded;
 use std::alloc::Global;
 use std::io::{Read, Write};
 
@@ -96,7 +96,7 @@ pub fn run_view<R: Read, W: Write>(
         × ((reader.new.ended ≡ true) ⊎ (status ≡ 1) ⊎ IsFound view status)) }
     ensures cause { IfErr result (EndsEarly reader.new writer.new) }
 {
-    let program = match read_code(alloc, code)? {
+    let program = match read_predecoded(alloc, code)? {
         Ok(program) => program,
         Err(line) => return refuse_code(view, line.as_str(), writer),
     };
@@ -133,7 +133,7 @@ fn refuse_code<W: Write>(view: View, line: &str, writer: &mut Sink<W>) -> Result
 /// Reads packets to the end of the input and shows their outcomes under a view, and answers the status.
 fn stream<R: Read, W: Write>(
     alloc: Global,
-    program: &Verified,
+    program: &Predecoded,
     source: &mut PacketSource,
     view: View,
     reader: &mut Source<R>,
