@@ -3,3 +3,4 @@ pub mod Steps
 pub mod RingPlaces
 pub mod Reading
 pub mod NewLists
+pub mod Flowing

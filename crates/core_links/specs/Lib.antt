@@ -6,3 +6,4 @@ pub mod MessageLists
 pub mod ListSlots
 pub mod ListLaws
 pub mod ListLending
+pub mod Flows

@@ -9,11 +9,13 @@
 //! them in lists that a caller fills and empties by hand, so a look shows all that was given.
 #![tactic(auto)]
 
+mod laws;
 mod links;
 mod list_links;
 mod message_list;
 mod ring_links;
 
+pub use laws::still_rings_are_empty;
 pub use links::Links;
 pub use list_links::{ListLink, ListLinks};
 pub use ring_links::{Link, RingLinks};

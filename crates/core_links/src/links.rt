@@ -8,6 +8,7 @@ pub trait Links: Drop {
     ghost use Rattle.std.specs.Prelude.{◌≡◌, ◌≢◌, ◌≤◌, [], ℕ, IsTrue, IsFalse, vec_len};
     ghost use Rattle.std.specs.Borrow.{sem};
     ghost use Rattle.ump_ring.specs.Joiners.{shown_items};
+    ghost use Rattle.core_links.specs.Flows.{Flow, FlowsOut, FlowsIn, FlowsAt};
     ghost use Rattle.core_links.specs.Views.{LinkView, first_of, AtPeer, Pulled, GivenUp, Looked, Taken, HandedOver, Pumped, LeavesSo};
 
     /// What was sent to a peer and taken from it.
@@ -15,6 +16,9 @@ pub trait Links: Drop {
 
     /// The same links, before and after a call.
     ghost same: { Self → Self → Type 0 };
+
+    /// The lines that went over the link to a peer, and those that its ends know of.
+    ghost flow: { Self → ℕ → Flow };
 
     /// Whether the link to a peer takes a message.
     fn ready(&self, peer: u16) -> bool
@@ -24,7 +28,8 @@ pub trait Links: Drop {
     /// `pull` and `shown` are `look` in two steps, for a type that holds the links and reads the message while it asks
     /// for more.
     fn pull(&mut self, peer: u16) -> Result<(), LineFault>
-        ensures pulled { AtPeer same view peer (λ v w. Pulled v w result) self.old self.new };
+        ensures pulled { AtPeer same view peer (λ v w. Pulled v w result) self.old self.new }
+        ensures lines { FlowsAt flow peer (λ v w. FlowsIn v w (view self.new peer).kept result) self.old self.new };
 
     /// The first message of a peer that is kept.
     fn shown(&self, peer: u16) -> Option<&[u8]>
@@ -34,6 +39,7 @@ pub trait Links: Drop {
     /// without the message.
     fn give_up(&mut self, peer: u16) -> bool
         ensures given { AtPeer same view peer GivenUp self.old self.new }
+        ensures lines { (p : ℕ) → flow self.new p ≡ flow self.old p }
         ensures some { IsTrue result → (view self.old peer).kept ≢ [] }
         ensures none { IsFalse result → (view self.old peer).kept ≡ [] };
 
@@ -52,12 +58,14 @@ pub trait Links: Drop {
     /// Hands a message of 1 to 32,832 bytes over to be sent. A ready link takes it, and another hands it back.
     fn send(&mut self, peer: u16, message: Vec<u8>) -> Result<(), Busy>
         requires length { (1 ≤ vec_len message) × (vec_len message ≤ 32832) }
-        ensures sent { AtPeer same view peer (λ v w. HandedOver v w message result) self.old self.new };
+        ensures sent { AtPeer same view peer (λ v w. HandedOver v w message result) self.old self.new }
+        ensures lines { (p : ℕ) → flow self.new p ≡ flow self.old p };
 
     /// Moves on what waits to be sent, as far as there is room.
     fn pump(&mut self)
         ensures links { same self.old self.new }
-        ensures pumped { (p : ℕ) → Pumped (view self.old p) (view self.new p) };
+        ensures pumped { (p : ℕ) → Pumped (view self.old p) (view self.new p) }
+        ensures lines { (p : ℕ) → FlowsOut (flow self.old p) (flow self.new p) (view self.new p).ready };
 
     ghost same_itself: { (a : Self) → same a a };
 

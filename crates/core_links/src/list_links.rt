@@ -151,7 +151,8 @@ impl ListLinks {
 }
 
 impl Links for ListLinks {
-    ghost use Rattle.std.specs.Prelude.{◌≡◌, ◌≢◌, [], IsTrue, IsFalse};
+    ghost use Rattle.std.specs.Prelude.{◌≡◌, ◌≢◌, [], ℕ, IsTrue, IsFalse};
+    ghost use Rattle.core_links.specs.Flows.{list_flow};
     ghost use Rattle.core_links.specs.Views.{first_of, last_in, AtPeer, GivenUp};
     ghost use Rattle.core_links.specs.ListSlots.{list_view, SameLists};
     ghost use Rattle.core_links.specs.ListLaws.{SameLists-itself, SameLists-along};
@@ -159,6 +160,8 @@ impl Links for ListLinks {
     ghost view = { list_view };
 
     ghost same = { SameLists };
+
+    ghost flow = { list_flow };
 
     fn ready(&self, peer: u16) -> bool {
         match self.slots.get(usize::from(peer)) {
@@ -180,6 +183,7 @@ impl Links for ListLinks {
 
     fn give_up(&mut self, peer: u16) -> bool
         ensures given { AtPeer SameLists list_view peer GivenUp self.old self.new }
+        ensures lines { (p : ℕ) → list_flow self.new p ≡ list_flow self.old p }
         ensures some { IsTrue result → (list_view self.old peer).kept ≢ [] }
         ensures none { IsFalse result → (list_view self.old peer).kept ≡ [] }
         ensures last { IsTrue result → last_in (list_view self.new peer).taken ≡ first_of (list_view self.old peer).kept }

@@ -40,6 +40,7 @@ impl RingLinks {
     ghost use mathlib.Core.List.{IsPrefix};
     ghost use Rattle.ump_ring.specs.Joiners.{shown_items};
     ghost use Rattle.core_links.specs.Views.{IsSameView};
+    ghost use Rattle.core_links.specs.Flows.{IsExactAt, AreLookedLinks};
     ghost use Rattle.core_links.specs.RingSlots.{own_of, cores_of, link_to, last_of, ring_view, SameLinks, AreJoinedLinks};
 
     /// The links of core `own` among `cores` cores, to no peer yet. The one error is that there is no memory.
@@ -76,6 +77,8 @@ impl RingLinks {
         ensures sound { ((ring_view self.new (own_of other.new)).stopped ≡ None) × ((ring_view other.new (own_of self.new)).stopped ≡ None) }
         ensures took { IsPrefix (ring_view self.new (own_of other.new)).taken (ring_view other.new (own_of self.new)).sent }
         ensures gave { IsPrefix (ring_view other.new (own_of self.new)).taken (ring_view self.new (own_of other.new)).sent }
+        ensures exact { IsExactAt self.new other.new × IsExactAt other.new self.new }
+        ensures still { AreLookedLinks self.old self.new × AreLookedLinks other.old other.new }
     {
         let (place, back) = (usize::from(other.own), usize::from(self.own));
         match (&mut self.slots[place], &mut other.slots[back]) {
@@ -100,6 +103,8 @@ impl Link {
     ghost use Rattle.std.specs.Prelude.{◌≡◌, ◌≢◌, IsTrue, IsFalse, None, []};
     ghost use Rattle.ump_ring.specs.Joiners.{shown_items};
     ghost use Rattle.ump_ring.specs.Receivers.{message_last};
+    ghost use Rattle.ump_ring.specs.Senders.{sender_capacity};
+    ghost use Rattle.core_links.specs.Flows.{FlowsOut, FlowsIn, IsExact, IsLooked, link_flow};
     ghost use Rattle.core_links.specs.Views.{first_of, IsSameView, Pulled, GivenUp, HandedOver, Pumped};
     ghost use mathlib.Core.List.{IsPrefix};
     ghost use Rattle.core_links.specs.RingSlots.{link_view, SameLink, AreJoined};
@@ -113,6 +118,7 @@ impl Link {
     fn pull(&mut self) -> Result<(), LineFault>
         ensures link { SameLink self.old self.new }
         ensures pulled { Pulled (link_view self.old) (link_view self.new) result }
+        ensures lines { FlowsIn (link_flow self.old) (link_flow self.new) (link_view self.new).kept result }
     {
         self.receiver.pull()
     }
@@ -126,6 +132,7 @@ impl Link {
     fn give_up(&mut self) -> bool
         ensures link { SameLink self.old self.new }
         ensures given { GivenUp (link_view self.old) (link_view self.new) }
+        ensures lines { link_flow self.new ≡ link_flow self.old }
         ensures some { IsTrue result → (link_view self.old).kept ≢ [] }
         ensures none { IsFalse result → (link_view self.old).kept ≡ [] }
         ensures last { IsTrue result → message_last self.new.receiver ≡ first_of (link_view self.old).kept }
@@ -143,6 +150,7 @@ impl Link {
         requires length { (1 ≤ vec_len message) × (vec_len message ≤ 32832) }
         ensures link { SameLink self.old self.new }
         ensures sent { HandedOver (link_view self.old) (link_view self.new) message result }
+        ensures lines { link_flow self.new ≡ link_flow self.old }
     {
         self.sender.offer(message)
     }
@@ -150,6 +158,7 @@ impl Link {
     fn pump(&mut self)
         ensures link { SameLink self.old self.new }
         ensures pumped { Pumped (link_view self.old) (link_view self.new) }
+        ensures lines { FlowsOut (link_flow self.old) (link_flow self.new) (link_view self.new).ready }
     {
         if !self.sender.idle() {
             let _ = self.sender.push_some();
@@ -164,6 +173,9 @@ impl Link {
         ensures sound { ((link_view self.new).stopped ≡ None) × ((link_view other.new).stopped ≡ None) }
         ensures took { IsPrefix (link_view self.new).taken (link_view other.new).sent }
         ensures gave { IsPrefix (link_view other.new).taken (link_view self.new).sent }
+        ensures exact_out { IsExact (sender_capacity self.new.sender) (link_view self.new) (link_view other.new) (link_flow self.new) (link_flow other.new) }
+        ensures exact_in { IsExact (sender_capacity other.new.sender) (link_view other.new) (link_view self.new) (link_flow other.new) (link_flow self.new) }
+        ensures still { IsLooked (link_flow self.old) (link_flow self.new) × IsLooked (link_flow other.old) (link_flow other.new) }
     {
         beside(&mut self.sender, &mut other.receiver);
         beside(&mut other.sender, &mut self.receiver);
@@ -171,7 +183,8 @@ impl Link {
 }
 
 impl Links for RingLinks {
-    ghost use Rattle.std.specs.Prelude.{◌≡◌, ◌≢◌, [], IsTrue, IsFalse};
+    ghost use Rattle.std.specs.Prelude.{◌≡◌, ◌≢◌, [], ℕ, IsTrue, IsFalse};
+    ghost use Rattle.core_links.specs.Flows.{ring_flow};
     ghost use Rattle.core_links.specs.Views.{first_of, AtPeer, GivenUp};
     ghost use Rattle.core_links.specs.RingSlots.{ring_view, link_to, last_of, SameLinks};
     ghost use Rattle.core_links.specs.RingLaws.{SameLinks-itself, SameLinks-along};
@@ -179,6 +192,8 @@ impl Links for RingLinks {
     ghost view = { ring_view };
 
     ghost same = { SameLinks };
+
+    ghost flow = { ring_flow };
 
     fn ready(&self, peer: u16) -> bool {
         match self.slots.get(usize::from(peer)) {
@@ -207,6 +222,7 @@ impl Links for RingLinks {
 
     fn give_up(&mut self, peer: u16) -> bool
         ensures given { AtPeer SameLinks ring_view peer GivenUp self.old self.new }
+        ensures lines { (p : ℕ) → ring_flow self.new p ≡ ring_flow self.old p }
         ensures some { IsTrue result → (ring_view self.old peer).kept ≢ [] }
         ensures none { IsFalse result → (ring_view self.old peer).kept ≡ [] }
         ensures last { IsTrue result → last_of (link_to self.new peer) ≡ first_of (ring_view self.old peer).kept }

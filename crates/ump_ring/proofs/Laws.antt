@@ -21,10 +21,10 @@ lines-cons size bytes before (suc count) = ap (λ t. t ++ line_at size bytes (nu
 pub length_of-head : (size number : ℕ) → number < 4294967296 → head_word size number / 4294967296 ≡ size
 length_of-head size number h = omega arith
 
-begun-short : (size : ℕ) (bytes : List ℕ) → length bytes < size → begun size bytes ≡ []
+pub begun-short : (size : ℕ) (bytes : List ℕ) → length bytes < size → begun size bytes ≡ []
 begun-short size bytes h = grind arith
 
-begun-whole : (size : ℕ) (bytes : List ℕ) → 1 ≤ size → size ≤ length bytes → begun size bytes ≡ take size bytes ∷ []
+pub begun-whole : (size : ℕ) (bytes : List ℕ) → 1 ≤ size → size ≤ length bytes → begun size bytes ≡ take size bytes ∷ []
 begun-whole size bytes h k = grind arith
 
 messages-none : (line : List ℕ) (lines : List (List ℕ)) → length_of line ≡ 0 → messages_in (line ∷ lines) ≡ messages_in lines

@@ -10,3 +10,4 @@ pub mod Receiving
 pub mod Rows
 pub mod Sending
 pub mod Windows
+pub mod Going

@@ -47,6 +47,10 @@ pub record HasRead (number size : ℕ) (bytes : List ℕ) (lines : List (List �
   pub rows : length bytes < size → (1 ≤ length bytes) × (56 * line_count (length bytes) ≡ length bytes)
   pub bytes_fit : (k : ℕ) → slice_index bytes k < 256
 
+-- no line of these has a fault
+abbrev pub AreSound : List (List ℕ) → Type 0
+AreSound lines = (number : ℕ) × (size : ℕ) × (bytes : List ℕ) × HasRead number size bytes lines
+
 -- the lines before the one with a fault, if one has
 abbrev pub sound_lines : Option LineFault → List (List ℕ) → List (List ℕ)
 sound_lines None lines = lines

@@ -33,11 +33,11 @@ impl Drop for Receiver {
 const LINES_MOST: u32 = 587;
 
 impl Receiver {
-    ghost use Rattle.std.specs.Prelude.{◌≡◌, ◌≢◌, ◌++◌, [], None, Some, Err, IsTrue, IsFalse, IfErr, OnOk};
+    ghost use Rattle.std.specs.Prelude.{◌≡◌, ◌≢◌, ◌≤◌, ◌+◌, ◌++◌, [], None, Some, Err, IsTrue, IsFalse, IfErr, OnOk, length};
     ghost use mathlib.Core.List.{IsPrefix};
     ghost use Rattle.rtrb.specs.Ring.{received};
     ghost use Rattle.ump_ring.specs.Lines.{messages_in};
-    ghost use Rattle.ump_ring.specs.Reading.{StopsAt};
+    ghost use Rattle.ump_ring.specs.Reading.{AreSound, StopsAt};
     ghost use Rattle.ump_ring.specs.Joiners.{AfterLines, shown_items, shown_list};
     ghost use Rattle.std.specs.Borrow.{sem};
     ghost use Rattle.ump_ring.specs.Lending.{LendsLook, LendsTake};
@@ -65,6 +65,7 @@ impl Receiver {
     pub fn pull(&mut self) -> Result<(), LineFault>
         ensures ring { SameReceiver self.old self.new }
         ensures lines { IsPrefix (lines_received self.old) (lines_received self.new) }
+        ensures known { length (lines_received self.old) + length (lines_known self.old) ≤ length (lines_received self.new) + length (lines_known self.new) }
         ensures taken { messages_taken self.new ≡ messages_taken self.old }
         ensures stays { stopped self.old ≢ None → stopped self.new ≡ stopped self.old }
         ensures kept { message_kept self.old ≢ None → message_kept self.new ≡ message_kept self.old }
@@ -88,6 +89,14 @@ impl Receiver {
             }
         }
         Ok(())
+    }
+
+    /// A receiver that has not stopped has received no line with a fault: whatever is wrong with a line, `pull` reports it. A law:
+    /// nothing is done.
+    pub fn receives_sound_lines(&self)
+        ensures { stopped self.now ≡ None → AreSound (lines_received self.now) }
+    {
+        let _ = &self.joiner;
     }
 
     /// The message that is kept. Takes no memory.

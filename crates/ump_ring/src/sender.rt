@@ -105,6 +105,7 @@ impl Sender {
     pub fn offer(&mut self, message: Vec<u8>) -> Result<(), Busy>
         requires length { (1 ≤ vec_len message) × (vec_len message ≤ 32832) }
         ensures ring { SameSender self.old self.new × (lines_sent self.new ≡ lines_sent self.old) }
+        ensures room { room_known self.new ≡ room_known self.old }
         ensures ok { OnOk result ((current self.old ≡ None) × (current self.new ≡ Some message) × (messages_offered self.new ≡ messages_offered self.old ++ message.items ∷ [])) }
         ensures busy { IfErr result (λ e. (e.0 ≡ message) × (current self.old ≢ None) × (current self.new ≡ current self.old) × (messages_offered self.new ≡ messages_offered self.old)) }
     {

@@ -1,7 +1,8 @@
-use Rattle.std.proofs.Common.{rules, ap, sym, ◌∙◌}
+use Rattle.std.proofs.Common.{◌≡◌, ◌<◌, ℕ, Some, length, subst, rules, ap, sym, ◌∙◌}
+use Rattle.core_links.proofs.Flowing.{link_at, exact_at, looked_at}
 use Rattle.core_links.specs.Views.{LinkView}
 use Rattle.core_links.specs.RingSlots.{link_to}
-use Rattle.core_links.proofs.RingPlaces.{StandsBeside, stands_beside, prefix_at, within_here, within_there, joined_there}
+use Rattle.core_links.proofs.RingPlaces.{StandsBeside, stands_beside, prefix_at, within_here, within_there, joined_there, with_link}
 use Rattle.core_links.proofs.ring_links.RingLinks.beside.Goals as goal
 
 pub beside-requires : goal.beside-requires
@@ -34,3 +35,24 @@ returns-clause-took c = prefix_at (sym (here c).view) (sym (there c).view) c.bes
 
 pub returns-clause-gave : goal.returns-clause-gave
 returns-clause-gave c = prefix_at (sym (there c).view) (sym (here c).view) c.beside.ensures.gave
+
+within_self : (c : goal.After-other-1) → c.from-place.result < length c.args.self.now.slots.items
+within_self c = let is : c.from-place.result ≡ c.args.other.now.own = search rules in subst (λ (n : ℕ). n < length c.args.self.now.slots.items) (sym is) (within_here c.args.self.now.slots.items c.args.other.now.own _ c.requires)
+
+within_other : (c : goal.After-other-1) → c.from-back.result < length c.args.other.now.slots.items
+within_other c = let is : c.from-back.result ≡ c.args.self.now.own = search rules in subst (λ (n : ℕ). n < length c.args.other.now.slots.items) (sym is) (within_there (link_to c.args.self.now c.args.other.now.own) c.args.other.now.slots.items c.args.self.now.own c.requires)
+
+at_self : (c : goal.After-other-1) → link_to (with_link c.args.self.now c.from-place.result c.beside.new.self) c.args.other.now.own ≡ Some c.beside.new.self
+at_self c = link_at c.args.self.now c.from-place.result c.args.other.now.own c.beside.new.self (search rules) (within_self c)
+
+at_other : (c : goal.After-other-1) → link_to (with_link c.args.other.now c.from-back.result c.beside.new.other) c.args.self.now.own ≡ Some c.beside.new.other
+at_other c = link_at c.args.other.now c.from-back.result c.args.self.now.own c.beside.new.other (search rules) (within_other c)
+
+pub returns-clause-exact : goal.returns-clause-exact
+returns-clause-exact c = (exact_at _ _ c.beside.new.self c.beside.new.other (at_self c) (at_other c) c.beside.ensures.exact_out, exact_at _ _ c.beside.new.other c.beside.new.self (at_other c) (at_self c) c.beside.ensures.exact_in)
+
+pub returns-clause-still : goal.returns-clause-still
+returns-clause-still c = (
+  looked_at c.args.self.now c.from-place.result c.args.other.now.own _ c.in-Some-Some.link c.beside.new.self (search rules) (sym c.index_mut.ensures.value ∙ c.in-Some-Some.is-0) (within_self c) c.beside.ensures.still.0,
+  looked_at c.args.other.now c.from-back.result c.args.self.now.own _ c.in-Some-Some.its c.beside.new.other (search rules) (sym c.index_mut-2.ensures.value ∙ c.in-Some-Some.is-1) (within_other c) c.beside.ensures.still.1,
+)

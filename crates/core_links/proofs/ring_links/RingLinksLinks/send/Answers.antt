@@ -1,7 +1,11 @@
 use Rattle.std.proofs.Common.{rules, sym, ◌∙◌}
 use Rattle.core_links.specs.Views.{HandedOver}
 use Rattle.core_links.proofs.RingPlaces.{at_slot}
+use Rattle.core_links.proofs.Flowing.{flows_same}
 use Rattle.core_links.proofs.ring_links.RingLinksLinks.send.Goals as goal
 
-pub returns-in-Some : goal.returns-in-Some
-returns-in-Some c = record { sent = at_slot c.args.self.now c.from-place.result c.args.peer _ c.in-Some.link c.send.new.self (λ v w. HandedOver v w c.args.message c.send.result) (search rules) (sym c.index_mut.ensures.value ∙ c.in-Some.is) (search rules) c.send.ensures.link c.send.ensures.sent }
+pub returns-in-Some-clause-sent : goal.returns-in-Some-clause-sent
+returns-in-Some-clause-sent c = at_slot c.args.self.now c.from-place.result c.args.peer _ c.in-Some.link c.send.new.self (λ v w. HandedOver v w c.args.message c.send.result) (search rules) (sym c.index_mut.ensures.value ∙ c.in-Some.is) (search rules) c.send.ensures.link c.send.ensures.sent
+
+pub returns-in-Some-clause-lines : goal.returns-in-Some-clause-lines
+returns-in-Some-clause-lines c = flows_same c.args.self.now c.from-place.result c.args.peer _ c.in-Some.link c.send.new.self (search rules) (sym c.index_mut.ensures.value ∙ c.in-Some.is) (search rules) c.send.ensures.lines

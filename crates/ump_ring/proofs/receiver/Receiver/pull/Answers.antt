@@ -1,5 +1,6 @@
-use Rattle.std.proofs.Common.{ap, sym, ◌∙◌, rules}
-use Rattle.rtrb.specs.Ring.{received}
+use Rattle.std.proofs.Common.{◌≡◌, ◌+◌, ◌≤◌, ◌++◌, ◌∷◌, [], ℕ, List, length, length-append, arith, ap, sym, ◌∙◌, rules}
+use mathlib.Core.List.{IsPrefix}
+use Rattle.rtrb.specs.Ring.{received, known_items}
 use Rattle.ump_ring.specs.Receivers.{messages_taken, messages_of}
 use Rattle.ump_ring.specs.Reading.{sound_lines}
 use Rattle.ump_ring.specs.Lines.{messages_in}
@@ -7,6 +8,10 @@ use Rattle.ump_ring.proofs.Prefixes.{prefix-more}
 use Rattle.ump_ring.proofs.Receiving.{pulled}
 use Rattle.ump_ring.proofs.Rows.{row_more}
 use Rattle.ump_ring.proofs.receiver.Receiver.pull.Goals as goal
+
+-- a line that is received was known, or is one more
+known_more : (before after known left : List (List ℕ)) (line : List ℕ) (m n : ℕ) → m + n ≤ length before + length known → after ≡ before ++ line ∷ [] → IsPrefix known (line ∷ left) → m + n ≤ length after + length left
+known_more before after known left line m n le e p = omega (arith, le, ap length e, length-append before (line ∷ []), ap length p.1, length-append known p.0)
 
 pub invariant_of-self-then-branch : goal.invariant_of-self-then-branch
 invariant_of-self-then-branch c = record {
@@ -31,6 +36,7 @@ invariant_of-self-else-branch c = record {
 pub loop-preserved : goal.loop-preserved
 loop-preserved c = record {
   ring = search rules;
+  known = known_more (received c.loop.self.consumer) (received c.pop.new.self) (known_items c.loop.self.consumer) (known_items c.pop.new.self) c.in-Ok.line _ _ c.loop.invariant.known c.in-Ok.ensures.ok.0 c.in-Ok.ensures.ok.1;
   lines = prefix-more _ _ _ _ c.loop.invariant.lines c.in-Ok.ensures.ok.0;
   none_before = c.loop.invariant.none_before;
   many = λ some. row_more c.loop.self.joiner c.line.new.self c.in-Ok.line c.loop.counter c.in_ok-line.field-0 (search rules) c.loop.invariant.sound c.in_ok-line.ensures.rule c.in_ok-line.ensures.ok.0 c.in_ok-line.ensures.ok.1 c.if-branch.false c.line.new.self.filled c.loop.invariant.many;
@@ -46,3 +52,9 @@ returns-in_err-line-clause-lines c = prefix-more _ _ _ _ c.loop.invariant.lines 
 
 pub returns-then-branch-clause-lines : goal.returns-then-branch-clause-lines
 returns-then-branch-clause-lines c = prefix-more _ _ _ _ c.loop.invariant.lines c.in-Ok.ensures.ok.0
+
+pub returns-in_err-line-clause-known : goal.returns-in_err-line-clause-known
+returns-in_err-line-clause-known c = known_more (received c.loop.self.consumer) (received c.pop.new.self) (known_items c.loop.self.consumer) (known_items c.pop.new.self) c.in-Ok.line _ _ c.loop.invariant.known c.in-Ok.ensures.ok.0 c.in-Ok.ensures.ok.1
+
+pub returns-then-branch-clause-known : goal.returns-then-branch-clause-known
+returns-then-branch-clause-known c = known_more (received c.loop.self.consumer) (received c.pop.new.self) (known_items c.loop.self.consumer) (known_items c.pop.new.self) c.in-Ok.line _ _ c.loop.invariant.known c.in-Ok.ensures.ok.0 c.in-Ok.ensures.ok.1

@@ -1,12 +1,13 @@
-use Rattle.std.proofs.Common.{◌≡◌, ◌≤◌, ◌<◌, ◌*◌, length, None, false}
+use Rattle.std.proofs.Common.{◌≡◌, ◌≤◌, ◌<◌, ◌*◌, ◌+◌, length, None, false}
 use mathlib.Core.List.{IsPrefix}
-use Rattle.ump_ring.specs.Receivers.{lines_received, messages_taken, stopped, SameReceiver}
+use Rattle.ump_ring.specs.Receivers.{lines_received, lines_known, messages_taken, stopped, SameReceiver}
 use Rattle.ump_ring.proofs.receiver.Receiver.pull.Given as goal
 
 abbrev pub invariant-loop : goal.invariant-loop
 invariant-loop l = record {
   ring : SameReceiver l.initial.self l.self;
   lines : IsPrefix (lines_received l.initial.self) (lines_received l.self);
+  known : length (lines_received l.initial.self) + length (lines_known l.initial.self) ≤ length (lines_received l.self) + length (lines_known l.self);
   taken : messages_taken l.self ≡ messages_taken l.initial.self;
   sound : stopped l.self ≡ None;
   none_kept : l.self.kept ≡ false;
