@@ -20,7 +20,7 @@ use Rattle.world_model.proofs.Runs.{runs_more}
 use Rattle.world_model.proofs.Agreement.{run_inv}
 use Rattle.world_model.proofs.Known.{run_known}
 use Rattle.world_histories.specs.declared.history.Stamped.{Stamped}
-use Rattle.world_histories.specs.Histories.{Stamping, Sending, taking, Core0, core0_first, Other, other_first, Computation}
+use Rattle.world_histories.specs.Histories.{Stamping, Sending, sent_to, sent_by, taken_from, taking, TakesInOrder, Core0, core0_first, Other, other_first, Computation}
 use Rattle.world_histories.specs.Merging.{as_short, listed, as_listed}
 use Rattle.world_histories.proofs.Clocks.{first_sent_to}
 use Rattle.world_histories.proofs.Seats.{Seat, SeatOf, Joint}
@@ -79,19 +79,19 @@ run_more budget budgets before s w w' run h =
 
 -- After an event of core 0
 
-pub record Next (budget : ℕ) (budgets : List ℕ) (before : List Stamped) (h0 : List Stamped) (hs : List (List Stamped)) (end : Core0) (ends : List Other) : Type 0 where
+pub record Next (rd ru : ℕ → List Stamping) (budget : ℕ) (budgets : List ℕ) (before : List Stamped) (h0 : List Stamped) (hs : List (List Stamped)) (end : Core0) (ends : List Other) : Type 0 where
   pub world : World
   pub core0 : Core0
-  pub joint : Joint budget budgets before world core0 h0 hs end ends
+  pub joint : Joint rd ru budget budgets before world core0 h0 hs end ends
 
-stands_at : (budget : ℕ) (budgets : List ℕ) (before : List Stamped) (w : World) (c : Core0) (h0 : List Stamped) (hs : List (List Stamped)) (end : Core0) (ends : List Other) → Joint budget budgets before w c h0 hs end ends → Stands budget budgets w c
-stands_at budget budgets before w c h0 hs end ends j =
+stands_at : (rd ru : ℕ → List Stamping) (budget : ℕ) (budgets : List ℕ) (before : List Stamped) (w : World) (c : Core0) (h0 : List Stamped) (hs : List (List Stamped)) (end : Core0) (ends : List Other) → Joint rd ru budget budgets before w c h0 hs end ends → Stands budget budgets w c
+stands_at rd ru budget budgets before w c h0 hs end ends j =
     let k = run_known budget budgets (as_listed before) w j.run in
     record { inv = run_inv budget budgets (as_listed before) w j.run; budget_is = k.budget_is; cores = k.cores; waiting_long = k.waiting_long; log_is = j.log_is; place_is = j.place_is; requests_are = j.requests_are }
 
-pub joint0 : (budget : ℕ) (budgets : List ℕ) (before : List Stamped) (w : World) (c : Core0) (s : Stamped) (r : List Stamped) (hs : List (List Stamped)) (end : Core0) (ends : List Other)
-    → Joint budget budgets before w c (s ∷ r) hs end ends → NotBefore s.stamp hs → Next budget budgets (before ++ s ∷ []) r hs end ends
-joint0 budget budgets before w c s r hs end ends j late = record {
+pub joint0 : (rd ru : ℕ → List Stamping) (budget : ℕ) (budgets : List ℕ) (before : List Stamped) (w : World) (c : Core0) (s : Stamped) (r : List Stamped) (hs : List (List Stamped)) (end : Core0) (ends : List Other)
+    → Joint rd ru budget budgets before w c (s ∷ r) hs end ends → NotBefore s.stamp hs → Next rd ru budget budgets (before ++ s ∷ []) r hs end ends
+joint0 rd ru budget budgets before w c s r hs end ends j late = record {
   world = led.world;
   core0 = j.ahead.0;
   joint = record {
@@ -107,18 +107,18 @@ joint0 budget budgets before w c s r hs end ends j late = record {
   };
 }
   where
-    seats : Seats w.log w.peers hs ends (record { stamp = s.stamp; sent = j.ahead.2 } ∷ j.ahead.3) (taking s.done.event j.ahead.1 ++ j.ahead.4)
-    seats = subst (λ (x : List (ℕ × Stamping)). Seats w.log w.peers hs ends (record { stamp = s.stamp; sent = j.ahead.2 } ∷ j.ahead.3) x) j.ahead.8
-        (subst (λ (x : List Sending). Seats w.log w.peers hs ends x j.taken) j.ahead.7 j.seats)
+    seats : Seats rd ru w.log w.peers hs ends (record { stamp = s.stamp; sent = j.ahead.2 } ∷ j.ahead.3) (taking s.done.event j.ahead.1 ++ j.ahead.4)
+    seats = subst (λ (x : List (ℕ × Stamping)). Seats rd ru w.log w.peers hs ends (record { stamp = s.stamp; sent = j.ahead.2 } ∷ j.ahead.3) x) j.ahead.8
+        (subst (λ (x : List Sending). Seats rd ru w.log w.peers hs ends x j.taken) j.ahead.7 j.seats)
 
-    led : Led w s.done.event s.done.answer j.ahead.0 hs ends j.ahead.3 j.ahead.4
-    led = core0_step budget budgets w c j.ahead.0 s j.ahead.1 j.ahead.2 hs ends j.ahead.3 j.ahead.4 (stands_at budget budgets before w c (s ∷ r) hs end ends j) j.ahead.5 seats late
+    led : Led rd ru w s.done.event s.done.answer j.ahead.0 hs ends j.ahead.3 j.ahead.4
+    led = core0_step rd ru budget budgets w c j.ahead.0 s j.ahead.1 j.ahead.2 hs ends j.ahead.3 j.ahead.4 (stands_at rd ru budget budgets before w c (s ∷ r) hs end ends j) j.ahead.5 seats late
 
 -- After an event of another core
 
-pub joint_own : (budget : ℕ) (budgets : List ℕ) (before : List Stamped) (w : World) (c : Core0) (h0 : List Stamped) (i : ℕ) (s : Stamped) (r : List Stamped) (hs : List (List Stamped)) (end : Core0) (ends : List Other)
-    → Joint budget budgets before w c h0 hs end ends → slice_get hs i ≡ Some (s ∷ r) → ((t : Stamped) (rest : List Stamped) → h0 ≡ t ∷ rest → s.stamp ≤ t.stamp) → Next budget budgets (before ++ s ∷ []) h0 (slice_set hs i r) end ends
-joint_own budget budgets before w c h0 i s r hs end ends j at_h late = record {
+pub joint_own : (rd ru : ℕ → List Stamping) (budget : ℕ) (budgets : List ℕ) (before : List Stamped) (w : World) (c : Core0) (h0 : List Stamped) (i : ℕ) (s : Stamped) (r : List Stamped) (hs : List (List Stamped)) (end : Core0) (ends : List Other)
+    → Joint rd ru budget budgets before w c h0 hs end ends → slice_get hs i ≡ Some (s ∷ r) → ((t : Stamped) (rest : List Stamped) → h0 ≡ t ∷ rest → s.stamp ≤ t.stamp) → Next rd ru budget budgets (before ++ s ∷ []) h0 (slice_set hs i r) end ends
+joint_own rd ru budget budgets before w c h0 i s r hs end ends j at_h late = record {
   world = own.moved.world;
   core0 = c;
   joint = record {
@@ -135,33 +135,33 @@ joint_own budget budgets before w c h0 i s r hs end ends j at_h late = record {
 }
   where
     st : Stands budget budgets w c
-    st = stands_at budget budgets before w c h0 hs end ends j
+    st = stands_at rd ru budget budgets before w c h0 hs end ends j
 
     at : (p : Peer) × (slice_get w.peers i ≡ Some p)
     at = get_at w.peers i (omega (arith, st.cores, j.cores, slice_get_within hs i (s ∷ r) at_h))
 
-    mine : SeatOf i w.log at.0 hs ends j.sent j.taken
+    mine : SeatOf rd ru i w.log at.0 hs ends j.sent j.taken
     mine = j.seats i at.0 at.1
 
     is_mine : mine.history ≡ s ∷ r
     is_mine = let x = mine.is_history in cc
 
-    own : Owned w i at.0 s r mine.end j.sent j.taken
-    own = own_step w i at.0 s r mine.end j.sent j.taken st.inv at.1 (subst (λ (x : List Stamped). Seat i w.log at.0 x mine.end j.sent j.taken) is_mine mine.seat)
+    own : Owned rd ru w i at.0 s r mine.end j.sent j.taken
+    own = own_step rd ru w i at.0 s r mine.end j.sent j.taken st.inv at.1 (subst (λ (x : List Stamped). Seat rd ru i w.log at.0 x mine.end j.sent j.taken) is_mine mine.seat)
         (λ m ms first before_it.
         let f = first_sent_to (length budgets) budget i c end h0 j.sent j.taken m ms j.ahead first in
         omega (arith, f.not_before, late f.first f.later f.is))
 
-    by_place : (k : ℕ) (x : Peer) → (((i ≡ k) × (x ≡ own.new)) ⊎ ((i ≡ k → ⊥) × (slice_get w.peers k ≡ Some x))) → SeatOf k own.moved.world.log x (slice_set hs i r) ends j.sent j.taken
+    by_place : (k : ℕ) (x : Peer) → (((i ≡ k) × (x ≡ own.new)) ⊎ ((i ≡ k → ⊥) × (slice_get w.peers k ≡ Some x))) → SeatOf rd ru k own.moved.world.log x (slice_set hs i r) ends j.sent j.taken
     by_place k x (inl e) =
-        subst (λ (n : ℕ). SeatOf n own.moved.world.log x (slice_set hs i r) ends j.sent j.taken) e.0
-        (subst (λ (y : Peer). SeatOf i own.moved.world.log y (slice_set hs i r) ends j.sent j.taken) (sym e.1)
+        subst (λ (n : ℕ). SeatOf rd ru n own.moved.world.log x (slice_set hs i r) ends j.sent j.taken) e.0
+        (subst (λ (y : Peer). SeatOf rd ru i own.moved.world.log y (slice_set hs i r) ends j.sent j.taken) (sym e.1)
         (record {
           history = r;
           is_history = get-set_same hs i r (s ∷ r) at_h;
           end = mine.end;
           is_end = mine.is_end;
-          seat = subst (λ (l : List Op). Seat i l own.new r mine.end j.sent j.taken) (sym own.moved.log_is) own.seat;
+          seat = subst (λ (l : List Op). Seat rd ru i l own.new r mine.end j.sent j.taken) (sym own.moved.log_is) own.seat;
         }))
     by_place k x (inr ne) =
         let o = j.seats k x ne.1 in
@@ -170,14 +170,19 @@ joint_own budget budgets before w c h0 i s r hs end ends j at_h late = record {
           is_history = get-set_other hs i k r ne.0 ∙ o.is_history;
           end = o.end;
           is_end = o.is_end;
-          seat = subst (λ (l : List Op). Seat k l x o.history o.end j.sent j.taken) (sym own.moved.log_is) o.seat;
+          seat = subst (λ (l : List Op). Seat rd ru k l x o.history o.end j.sent j.taken) (sym own.moved.log_is) o.seat;
         }
 
 -- At first
 
-pub joint_first : (budget : ℕ) (budgets : List ℕ) (core0 : List Stamped) (others : List (List Stamped)) (end : Core0) (ends : List Other) → Computation budget budgets core0 others end ends
-    → Joint budget budgets [] (boot budget budgets) (core0_first (length budgets)) core0 others end ends
-joint_first budget budgets core0 others end ends h = record {
+-- these are the rests of what is sent
+abbrev pub Rests : (ℕ → List Stamping) → (ℕ → List Stamping) → List ℕ → List (List Stamped) → List Other → List Sending → List (ℕ × Stamping) → Type 0
+Rests rd ru budgets others ends sent taken0 = (i b : ℕ) (g : List Stamped) (d : Other) → slice_get budgets i ≡ Some b → slice_get others i ≡ Some g → slice_get ends i ≡ Some d → (t : TakesInOrder i b sent taken0 g d)
+    → (t.taken ++ rd i ≡ sent_to i sent) × (taken_from i taken0 ++ ru i ≡ sent_by g)
+
+pub joint_first : (rd ru : ℕ → List Stamping) (budget : ℕ) (budgets : List ℕ) (core0 : List Stamped) (others : List (List Stamped)) (end : Core0) (ends : List Other) → (h : Computation budget budgets core0 others end ends) → Rests rd ru budgets others ends h.sent h.taken
+    → Joint rd ru budget budgets [] (boot budget budgets) (core0_first (length budgets)) core0 others end ends
+joint_first rd ru budget budgets core0 others end ends h rests = record {
   run = refl;
   log_is = refl;
   place_is = refl;
@@ -186,10 +191,10 @@ joint_first budget budgets core0 others end ends h = record {
   taken = h.taken;
   ahead = h.of_core0;
   cores = h.cores;
-  seats = λ i p at. let r = get_map new_peer budgets i p at in subst (λ (x : Peer). SeatOf i [] x others ends h.sent h.taken) (sym r.2) (seat_first i r.0 r.1);
+  seats = λ i p at. let r = get_map new_peer budgets i p at in subst (λ (x : Peer). SeatOf rd ru i [] x others ends h.sent h.taken) (sym r.2) (seat_first i r.0 r.1);
 }
   where
-    seat_first : (i b : ℕ) → slice_get budgets i ≡ Some b → SeatOf i [] (new_peer b) others ends h.sent h.taken
+    seat_first : (i b : ℕ) → slice_get budgets i ≡ Some b → SeatOf rd ru i [] (new_peer b) others ends h.sent h.taken
     seat_first i b at_b =
         let lt = slice_get_within budgets i b at_b in
         let g = get_at others i (omega (arith, h.cores, lt)) in
@@ -212,7 +217,7 @@ joint_first budget budgets core0 others end ends h = record {
             up = [];
             down_is = refl;
             up_is = refl;
-            takes = t.down;
-            gives = t.up;
+            takes = (rests i b g.0 d.0 at_b g.1 d.1 t).0;
+            gives = (rests i b g.0 d.0 at_b g.1 d.1 t).1;
           };
         }

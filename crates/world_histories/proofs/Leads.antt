@@ -1,6 +1,5 @@
 -- An event of core 0, by its history, is one of the world.
 use Rattle.std.proofs.Common.{◌≡◌, ◌<◌, ◌≤◌, ◌⊎◌, inl, inr, ℕ, zero, suc, Bool, false, cond, Option, Some, None, List, [], ◌∷◌, ◌++◌, length, slice_get, slice_set, refl, ap, sym, ◌∙◌, subst, arith}
-use mathlib.Core.List.{IsPrefix}
 use Rattle.filter_table.specs.declared.operation.Op.{Op}
 use Rattle.filter_table.specs.Tables.{table}
 use Rattle.pcap_reader.specs.declared.capture.CapturedPacket.{CapturedPacket}
@@ -18,30 +17,30 @@ use Rattle.world_model.proofs.Steps.{on_vote}
 use Rattle.world_model.proofs.Submissions.{eq_self, eq_other}
 use Rattle.world_histories.specs.declared.history.Stamped.{Stamped}
 use Rattle.world_histories.specs.Histories.{Stamping, Sending, sent_by, taking, taken_from, Core0, Take0, Step0, Other}
-use Rattle.world_histories.proofs.Lists.{front_is, set_cases}
+use Rattle.world_histories.proofs.Lists.{front_at, set_cases}
 use Rattle.world_histories.proofs.Clocks.{tick_after, first_sent_by}
 use Rattle.world_histories.proofs.Seats.{messages, Seat, SeatOf, got_out, seat_got}
 use Rattle.std.proofs.lemmas.Option.{slice_get_within}
 use Rattle.table_replica.proofs.Shared.{get_at}
 
-abbrev pub Seats : List Op → List Peer → List (List Stamped) → List Other → List Sending → List (ℕ × Stamping) → Type 0
-Seats log peers hs ends sent taken = (i : ℕ) (p : Peer) → slice_get peers i ≡ Some p → SeatOf i log p hs ends sent taken
+abbrev pub Seats : (ℕ → List Stamping) → (ℕ → List Stamping) → List Op → List Peer → List (List Stamped) → List Other → List Sending → List (ℕ × Stamping) → Type 0
+Seats rd ru log peers hs ends sent taken = (i : ℕ) (p : Peer) → slice_get peers i ≡ Some p → SeatOf rd ru i log p hs ends sent taken
 
 -- the world after an event of core 0, with the rests of the others' histories
-pub record Led (w : World) (event : Event) (answer : Answer) (mid : Core0) (hs : List (List Stamped)) (ends : List Other) (sent : List Sending) (taken : List (ℕ × Stamping)) : Type 0 where
+pub record Led (rd ru : ℕ → List Stamping) (w : World) (event : Event) (answer : Answer) (mid : Core0) (hs : List (List Stamped)) (ends : List Other) (sent : List Sending) (taken : List (ℕ × Stamping)) : Type 0 where
   pub world : World
   pub happens : Happens w event world answer
   pub log_is : world.log ≡ mid.log
   pub place_is : world.place ≡ mid.place
   pub requests_are : world.requests ≡ mid.requests
-  pub seats : Seats world.log world.peers hs ends sent taken
+  pub seats : Seats rd ru world.log world.peers hs ends sent taken
 
-seats_sent : (log : List Op) (peers : List Peer) (committed : Option Op) (stamp : ℕ) (out : Outgoing) (hs : List (List Stamped)) (ends : List Other) (sent : List Sending) (taken : List (ℕ × Stamping))
-    → Seats log peers hs ends (record { stamp = stamp; sent = out } ∷ sent) taken → Seats (joined log committed) (sent_out peers out) hs ends sent taken
-seats_sent log peers committed stamp out hs ends sent taken seats i q at =
+seats_sent : (rd ru : ℕ → List Stamping) (log : List Op) (peers : List Peer) (committed : Option Op) (stamp : ℕ) (out : Outgoing) (hs : List (List Stamped)) (ends : List Other) (sent : List Sending) (taken : List (ℕ × Stamping))
+    → Seats rd ru log peers hs ends (record { stamp = stamp; sent = out } ∷ sent) taken → Seats rd ru (joined log committed) (sent_out peers out) hs ends sent taken
+seats_sent rd ru log peers committed stamp out hs ends sent taken seats i q at =
     let g = got_out peers out i q at in
     let s = seats i g.0 g.1 in
-    record { history = s.history; is_history = s.is_history; end = s.end; is_end = s.is_end; seat = seat_got i stamp log committed out g.0 q s.history s.end sent taken g.2 s.seat }
+    record { history = s.history; is_history = s.is_history; end = s.end; is_end = s.is_end; seat = seat_got rd ru i stamp log committed out g.0 q s.history s.end sent taken g.2 s.seat }
 
 -- core 0 and the world, before an event of core 0
 pub record Stands (budget : ℕ) (budgets : List ℕ) (w : World) (c : Core0) : Type 0 where
@@ -76,29 +75,29 @@ receives_0 : (log log' : List Op) (version : ℕ) (packet : CapturedPacket) (flo
     → ReceivesAt (table log (length log)) (length log) packet floor answer → ReceivesAt (table log' version) version packet floor answer
 receives_0 log log' version packet floor answer el ev h = rw (el, ev) h
 
-abbrev Core0Event : Event → Type 0
-Core0Event event = (budget : ℕ) (budgets : List ℕ) (w : World) (c mid : Core0) (stamp : ℕ) (answer : Answer) (m : Option Stamping) (out : Outgoing) (hs : List (List Stamped)) (ends : List Other) (sent : List Sending) (taken : List (ℕ × Stamping))
-    → Stands budget budgets w c → Step0 (length budgets) budget c stamp event m mid answer out → Seats w.log w.peers hs ends (record { stamp = stamp; sent = out } ∷ sent) (taking event m ++ taken) → NotBefore stamp hs
-    → Led w event answer mid hs ends sent taken
+abbrev Core0Event : (ℕ → List Stamping) → (ℕ → List Stamping) → Event → Type 0
+Core0Event rd ru event = (budget : ℕ) (budgets : List ℕ) (w : World) (c mid : Core0) (stamp : ℕ) (answer : Answer) (m : Option Stamping) (out : Outgoing) (hs : List (List Stamped)) (ends : List Other) (sent : List Sending) (taken : List (ℕ × Stamping))
+    → Stands budget budgets w c → Step0 (length budgets) budget c stamp event m mid answer out → Seats rd ru w.log w.peers hs ends (record { stamp = stamp; sent = out } ∷ sent) (taking event m ++ taken) → NotBefore stamp hs
+    → Led rd ru w event answer mid hs ends sent taken
 
 -- the world that core 0 moves to, where the cores' messages are these
-moves_to : (w w1 : World) (event : Event) (answer : Answer) (place : CoordinatorPlace) (requests : Requests) (committed : Option Op) (stamp : ℕ) (out : Outgoing) (mid : Core0) (hs : List (List Stamped)) (ends : List Other) (sent : List Sending) (taken : List (ℕ × Stamping))
+moves_to : (rd ru : ℕ → List Stamping) (w w1 : World) (event : Event) (answer : Answer) (place : CoordinatorPlace) (requests : Requests) (committed : Option Op) (stamp : ℕ) (out : Outgoing) (mid : Core0) (hs : List (List Stamped)) (ends : List Other) (sent : List Sending) (taken : List (ℕ × Stamping))
     → Happens w event (core0_moves w1 place requests committed out) answer → mid ≡ record { clock = stamp; place = place; requests = requests; log = joined w1.log committed }
-    → Seats w1.log w1.peers hs ends (record { stamp = stamp; sent = out } ∷ sent) taken → Led w event answer mid hs ends sent taken
-moves_to w w1 event answer place requests committed stamp out mid hs ends sent taken happens next seats = record {
+    → Seats rd ru w1.log w1.peers hs ends (record { stamp = stamp; sent = out } ∷ sent) taken → Led rd ru w event answer mid hs ends sent taken
+moves_to rd ru w w1 event answer place requests committed stamp out mid hs ends sent taken happens next seats = record {
   world = core0_moves w1 place requests committed out;
   happens = happens;
   log_is = sym (ap (λ (x : Core0). x.log) next);
   place_is = sym (ap (λ (x : Core0). x.place) next);
   requests_are = sym (ap (λ (x : Core0). x.requests) next);
-  seats = seats_sent w1.log w1.peers committed stamp out hs ends sent taken seats;
+  seats = seats_sent rd ru w1.log w1.peers committed stamp out hs ends sent taken seats;
 }
 
-lead_start : (op : Op) → Core0Event (Start op)
-lead_start op budget budgets w c mid stamp answer (Some m) out hs ends sent taken st step seats late = absurd step.does
-lead_start op budget budgets w c mid stamp answer None out hs ends sent taken st step seats late =
+lead_start : (rd ru : ℕ → List Stamping) (op : Op) → Core0Event rd ru (Start op)
+lead_start rd ru op budget budgets w c mid stamp answer (Some m) out hs ends sent taken st step seats late = absurd step.does
+lead_start rd ru op budget budgets w c mid stamp answer None out hs ends sent taken st step seats late =
     let h = step.does in
-    moves_to w w (Start op) answer h.place w.requests h.committed stamp (outgoing h.told h.place) mid hs ends sent taken
+    moves_to rd ru w w (Start op) answer h.place w.requests h.committed stamp (outgoing h.told h.place) mid hs ends sent taken
     (record {
       place = h.place;
       committed = h.committed;
@@ -106,13 +105,13 @@ lead_start op budget budgets w c mid stamp answer None out hs ends sent taken st
       here = starts_at (length budgets) (length w.peers) c.log w.log budget w.budget c.place w.place h.place op h.committed h.told answer st.cores st.log_is st.budget_is st.place_is h.here;
       next = refl;
     })
-    (h.next ∙ rw (st.requests_are, st.log_is) refl) (subst (λ (x : Outgoing). Seats w.log w.peers hs ends (record { stamp = stamp; sent = x } ∷ sent) taken) h.sends seats)
+    (h.next ∙ rw (st.requests_are, st.log_is) refl) (subst (λ (x : Outgoing). Seats rd ru w.log w.peers hs ends (record { stamp = stamp; sent = x } ∷ sent) taken) h.sends seats)
 
-lead_start_for : (entry : ℕ) → Core0Event (StartFor (suc entry))
-lead_start_for entry budget budgets w c mid stamp answer (Some m) out hs ends sent taken st step seats late = absurd step.does
-lead_start_for entry budget budgets w c mid stamp answer None out hs ends sent taken st step seats late =
+lead_start_for : (rd ru : ℕ → List Stamping) (entry : ℕ) → Core0Event rd ru (StartFor (suc entry))
+lead_start_for rd ru entry budget budgets w c mid stamp answer (Some m) out hs ends sent taken st step seats late = absurd step.does
+lead_start_for rd ru entry budget budgets w c mid stamp answer None out hs ends sent taken st step seats late =
     let h = step.does in
-    moves_to w w (StartFor (suc entry)) answer h.place h.requests h.committed stamp (outgoing h.told h.place) mid hs ends sent taken
+    moves_to rd ru w w (StartFor (suc entry)) answer h.place h.requests h.committed stamp (outgoing h.told h.place) mid hs ends sent taken
     (record {
       place = h.place;
       requests = h.requests;
@@ -121,11 +120,11 @@ lead_start_for entry budget budgets w c mid stamp answer None out hs ends sent t
       here = starts_for_at (length budgets) (length w.peers) c.log w.log budget w.budget c.place w.place h.place c.requests w.requests h.requests entry h.committed h.told answer st.cores st.log_is st.budget_is st.place_is st.requests_are h.here;
       next = refl;
     })
-    (h.next ∙ rw st.log_is refl) (subst (λ (x : Outgoing). Seats w.log w.peers hs ends (record { stamp = stamp; sent = x } ∷ sent) taken) h.sends seats)
+    (h.next ∙ rw st.log_is refl) (subst (λ (x : Outgoing). Seats rd ru w.log w.peers hs ends (record { stamp = stamp; sent = x } ∷ sent) taken) h.sends seats)
 
-lead_rx : (number : ℕ) (packet : CapturedPacket) (floor : ℕ) → Core0Event (Rx 0 number packet floor)
-lead_rx number packet floor budget budgets w c mid stamp answer (Some m) out hs ends sent taken st step seats late = absurd step.does
-lead_rx number packet floor budget budgets w c mid stamp answer None out hs ends sent taken st step seats late =
+lead_rx : (rd ru : ℕ → List Stamping) (number : ℕ) (packet : CapturedPacket) (floor : ℕ) → Core0Event rd ru (Rx 0 number packet floor)
+lead_rx rd ru number packet floor budget budgets w c mid stamp answer (Some m) out hs ends sent taken st step seats late = absurd step.does
+lead_rx rd ru number packet floor budget budgets w c mid stamp answer None out hs ends sent taken st step seats late =
     let h = step.does in
     record {
       world = w;
@@ -133,7 +132,7 @@ lead_rx number packet floor budget budgets w c mid stamp answer None out hs ends
       log_is = st.log_is ∙ sym (ap (λ (x : Core0). x.log) h.next);
       place_is = st.place_is ∙ sym (ap (λ (x : Core0). x.place) h.next);
       requests_are = st.requests_are ∙ sym (ap (λ (x : Core0). x.requests) h.next);
-      seats = seats_sent w.log w.peers None stamp nothing hs ends sent taken (subst (λ (x : Outgoing). Seats w.log w.peers hs ends (record { stamp = stamp; sent = x } ∷ sent) taken) h.sends seats);
+      seats = seats_sent rd ru w.log w.peers None stamp nothing hs ends sent taken (subst (λ (x : Outgoing). Seats rd ru w.log w.peers hs ends (record { stamp = stamp; sent = x } ∷ sent) taken) h.sends seats);
     }
 
 -- core 0 takes messages of its cores alone
@@ -147,11 +146,11 @@ from_core budget budgets w c entry (message.Submit op) place requests committed 
 from_core budget budgets w c entry m place requests committed told answer st h = absurd h
 
 -- a core whose message was taken
-seat_gave : (entry : ℕ) (log : List Op) (p : Peer) (m : Stamping) (h : List Stamped) (e : Other) (sent : List Sending) (taken : List (ℕ × Stamping)) → Seat entry log p h e sent ((entry, m) ∷ taken) → ((ms : List Stamping) → sent_by h ≡ m ∷ ms → ⊥)
-    → (rest : List Stamping) × (p.up ≡ m.message ∷ messages rest) × Seat entry log (record p { up = messages rest }) h e sent taken
-seat_gave entry log p m h e sent taken s none =
-    let gives : IsPrefix (m ∷ taken_from entry taken) (s.up ++ sent_by h) = subst (λ (b : Bool). IsPrefix (cond b (m ∷ []) [] ++ taken_from entry taken) (s.up ++ sent_by h)) (eq_self entry) s.gives in
-    let box = front_is m (taken_from entry taken) s.up (sent_by h) gives none in (
+seat_gave : (rd ru : ℕ → List Stamping) (entry : ℕ) (log : List Op) (p : Peer) (m : Stamping) (h : List Stamped) (e : Other) (sent : List Sending) (taken : List (ℕ × Stamping)) → Seat rd ru entry log p h e sent ((entry, m) ∷ taken) → ((ms : List Stamping) → sent_by h ≡ m ∷ ms → ⊥)
+    → (rest : List Stamping) × (p.up ≡ m.message ∷ messages rest) × Seat rd ru entry log (record p { up = messages rest }) h e sent taken
+seat_gave rd ru entry log p m h e sent taken s none =
+    let gives : (m ∷ taken_from entry taken) ++ ru entry ≡ s.up ++ sent_by h = subst (λ (b : Bool). (cond b (m ∷ []) [] ++ taken_from entry taken) ++ ru entry ≡ s.up ++ sent_by h) (eq_self entry) s.gives in
+    let box = front_at m (taken_from entry taken) (ru entry) s.up (sent_by h) gives none in (
       box.0,
       sym s.up_is ∙ ap messages box.1,
       record {
@@ -172,8 +171,8 @@ seat_gave entry log p m h e sent taken s none =
     )
 
 -- another core
-seat_kept : (entry i : ℕ) (log : List Op) (p : Peer) (m : Stamping) (h : List Stamped) (e : Other) (sent : List Sending) (taken : List (ℕ × Stamping)) → (entry ≡ i → ⊥) → Seat i log p h e sent ((entry, m) ∷ taken) → Seat i log p h e sent taken
-seat_kept entry i log p m h e sent taken ne s = record {
+seat_kept : (rd ru : ℕ → List Stamping) (entry i : ℕ) (log : List Op) (p : Peer) (m : Stamping) (h : List Stamped) (e : Other) (sent : List Sending) (taken : List (ℕ × Stamping)) → (entry ≡ i → ⊥) → Seat rd ru i log p h e sent ((entry, m) ∷ taken) → Seat rd ru i log p h e sent taken
+seat_kept rd ru entry i log p m h e sent taken ne s = record {
   core = s.core;
   taken = s.taken;
   ahead = s.ahead;
@@ -186,13 +185,13 @@ seat_kept entry i log p m h e sent taken ne s = record {
   down_is = s.down_is;
   up_is = s.up_is;
   takes = s.takes;
-  gives = subst (λ (b : Bool). IsPrefix (cond b (m ∷ []) [] ++ taken_from i taken) (s.up ++ sent_by h)) (eq_other entry i ne) s.gives;
+  gives = subst (λ (b : Bool). (cond b (m ∷ []) [] ++ taken_from i taken) ++ ru i ≡ s.up ++ sent_by h) (eq_other entry i ne) s.gives;
 }
 
-lead_take : (entry : ℕ) (short : Bool) → Core0Event (Take 0 (suc entry) short)
-lead_take entry short budget budgets w c mid stamp answer None out hs ends sent taken st step seats late = absurd step.does
-lead_take entry short budget budgets w c mid stamp answer (Some m) out hs ends sent taken st step seats late =
-    moves_to w (gave w entry p (messages given.0)) (Take 0 (suc entry) short) answer h.place h.requests h.committed stamp (outgoing h.told h.place) mid hs ends sent taken
+lead_take : (rd ru : ℕ → List Stamping) (entry : ℕ) (short : Bool) → Core0Event rd ru (Take 0 (suc entry) short)
+lead_take rd ru entry short budget budgets w c mid stamp answer None out hs ends sent taken st step seats late = absurd step.does
+lead_take rd ru entry short budget budgets w c mid stamp answer (Some m) out hs ends sent taken st step seats late =
+    moves_to rd ru w (gave w entry p (messages given.0)) (Take 0 (suc entry) short) answer h.place h.requests h.committed stamp (outgoing h.told h.place) mid hs ends sent taken
     (record {
       peer = p;
       is_peer = at.1;
@@ -220,39 +219,39 @@ lead_take entry short budget budgets w c mid stamp answer (Some m) out hs ends s
     p : Peer
     p = at.0
 
-    known : Seats w.log w.peers hs ends (record { stamp = stamp; sent = outgoing h.told h.place } ∷ sent) ((entry, m) ∷ taken)
-    known = subst (λ (x : Outgoing). Seats w.log w.peers hs ends (record { stamp = stamp; sent = x } ∷ sent) ((entry, m) ∷ taken)) h.sends seats
+    known : Seats rd ru w.log w.peers hs ends (record { stamp = stamp; sent = outgoing h.told h.place } ∷ sent) ((entry, m) ∷ taken)
+    known = subst (λ (x : Outgoing). Seats rd ru w.log w.peers hs ends (record { stamp = stamp; sent = x } ∷ sent) ((entry, m) ∷ taken)) h.sends seats
 
-    of_p : SeatOf entry w.log p hs ends (record { stamp = stamp; sent = outgoing h.told h.place } ∷ sent) ((entry, m) ∷ taken)
+    of_p : SeatOf rd ru entry w.log p hs ends (record { stamp = stamp; sent = outgoing h.told h.place } ∷ sent) ((entry, m) ∷ taken)
     of_p = known entry p at.1
 
-    given : (rest : List Stamping) × (p.up ≡ m.message ∷ messages rest) × Seat entry w.log (record p { up = messages rest }) of_p.history of_p.end (record { stamp = stamp; sent = outgoing h.told h.place } ∷ sent) taken
-    given = seat_gave entry w.log p m of_p.history of_p.end (record { stamp = stamp; sent = outgoing h.told h.place } ∷ sent) taken of_p.seat
+    given : (rest : List Stamping) × (p.up ≡ m.message ∷ messages rest) × Seat rd ru entry w.log (record p { up = messages rest }) of_p.history of_p.end (record { stamp = stamp; sent = outgoing h.told h.place } ∷ sent) taken
+    given = seat_gave rd ru entry w.log p m of_p.history of_p.end (record { stamp = stamp; sent = outgoing h.told h.place } ∷ sent) taken of_p.seat
         (λ ms first.
         let f = first_sent_by entry p.budget of_p.seat.core of_p.end of_p.history of_p.seat.taken m ms of_p.seat.ahead first in
         omega (arith, f.not_before, late entry f.first f.later (of_p.is_history ∙ ap (λ (x : List Stamped). Some x) f.is), step.ticks, tick_after c.clock m))
 
-    left : Seats w.log (slice_set w.peers entry (record p { up = messages given.0 })) hs ends (record { stamp = stamp; sent = outgoing h.told h.place } ∷ sent) taken
+    left : Seats rd ru w.log (slice_set w.peers entry (record p { up = messages given.0 })) hs ends (record { stamp = stamp; sent = outgoing h.told h.place } ∷ sent) taken
     left i q is = by_place (set_cases w.peers entry (record p { up = messages given.0 }) p at.1 i q is)
       where
-        by_place : (((entry ≡ i) × (q ≡ record p { up = messages given.0 })) ⊎ ((entry ≡ i → ⊥) × (slice_get w.peers i ≡ Some q))) → SeatOf i w.log q hs ends (record { stamp = stamp; sent = outgoing h.told h.place } ∷ sent) taken
+        by_place : (((entry ≡ i) × (q ≡ record p { up = messages given.0 })) ⊎ ((entry ≡ i → ⊥) × (slice_get w.peers i ≡ Some q))) → SeatOf rd ru i w.log q hs ends (record { stamp = stamp; sent = outgoing h.told h.place } ∷ sent) taken
         by_place (inl e) =
-            subst (λ (k : ℕ). SeatOf k w.log q hs ends (record { stamp = stamp; sent = outgoing h.told h.place } ∷ sent) taken) e.0
-            (subst (λ (x : Peer). SeatOf entry w.log x hs ends (record { stamp = stamp; sent = outgoing h.told h.place } ∷ sent) taken) (sym e.1)
+            subst (λ (k : ℕ). SeatOf rd ru k w.log q hs ends (record { stamp = stamp; sent = outgoing h.told h.place } ∷ sent) taken) e.0
+            (subst (λ (x : Peer). SeatOf rd ru entry w.log x hs ends (record { stamp = stamp; sent = outgoing h.told h.place } ∷ sent) taken) (sym e.1)
             (record { history = of_p.history; is_history = of_p.is_history; end = of_p.end; is_end = of_p.is_end; seat = given.2 }))
         by_place (inr ne) =
             let s = known i q ne.1 in
-            record { history = s.history; is_history = s.is_history; end = s.end; is_end = s.is_end; seat = seat_kept entry i w.log q m s.history s.end (record { stamp = stamp; sent = outgoing h.told h.place } ∷ sent) taken ne.0 s.seat }
+            record { history = s.history; is_history = s.is_history; end = s.end; is_end = s.is_end; seat = seat_kept rd ru entry i w.log q m s.history s.end (record { stamp = stamp; sent = outgoing h.told h.place } ∷ sent) taken ne.0 s.seat }
 
-core0_event : (event : Event) → Core0Event event
-core0_event (Start op) budget budgets w c mid stamp answer m out hs ends sent taken st step seats late = lead_start op budget budgets w c mid stamp answer m out hs ends sent taken st step seats late
-core0_event (StartFor (suc entry)) budget budgets w c mid stamp answer m out hs ends sent taken st step seats late = lead_start_for entry budget budgets w c mid stamp answer m out hs ends sent taken st step seats late
-core0_event (Take zero (suc entry) short) budget budgets w c mid stamp answer m out hs ends sent taken st step seats late = lead_take entry short budget budgets w c mid stamp answer m out hs ends sent taken st step seats late
-core0_event (Rx zero number packet floor) budget budgets w c mid stamp answer m out hs ends sent taken st step seats late = lead_rx number packet floor budget budgets w c mid stamp answer m out hs ends sent taken st step seats late
-core0_event event budget budgets w c mid stamp answer m out hs ends sent taken st step seats late = absurd step.does
+core0_event : (rd ru : ℕ → List Stamping) (event : Event) → Core0Event rd ru event
+core0_event rd ru (Start op) budget budgets w c mid stamp answer m out hs ends sent taken st step seats late = lead_start rd ru op budget budgets w c mid stamp answer m out hs ends sent taken st step seats late
+core0_event rd ru (StartFor (suc entry)) budget budgets w c mid stamp answer m out hs ends sent taken st step seats late = lead_start_for rd ru entry budget budgets w c mid stamp answer m out hs ends sent taken st step seats late
+core0_event rd ru (Take zero (suc entry) short) budget budgets w c mid stamp answer m out hs ends sent taken st step seats late = lead_take rd ru entry short budget budgets w c mid stamp answer m out hs ends sent taken st step seats late
+core0_event rd ru (Rx zero number packet floor) budget budgets w c mid stamp answer m out hs ends sent taken st step seats late = lead_rx rd ru number packet floor budget budgets w c mid stamp answer m out hs ends sent taken st step seats late
+core0_event rd ru event budget budgets w c mid stamp answer m out hs ends sent taken st step seats late = absurd step.does
 
 -- the first event of core 0's history happens in the world, where every message that it takes has been sent
-pub core0_step : (budget : ℕ) (budgets : List ℕ) (w : World) (c mid : Core0) (s : Stamped) (m : Option Stamping) (out : Outgoing) (hs : List (List Stamped)) (ends : List Other) (sent : List Sending) (taken : List (ℕ × Stamping))
-    → Stands budget budgets w c → Step0 (length budgets) budget c s.stamp s.done.event m mid s.done.answer out → Seats w.log w.peers hs ends (record { stamp = s.stamp; sent = out } ∷ sent) (taking s.done.event m ++ taken) → NotBefore s.stamp hs
-    → Led w s.done.event s.done.answer mid hs ends sent taken
-core0_step budget budgets w c mid s m out hs ends sent taken st step seats late = core0_event s.done.event budget budgets w c mid s.stamp s.done.answer m out hs ends sent taken st step seats late
+pub core0_step : (rd ru : ℕ → List Stamping) (budget : ℕ) (budgets : List ℕ) (w : World) (c mid : Core0) (s : Stamped) (m : Option Stamping) (out : Outgoing) (hs : List (List Stamped)) (ends : List Other) (sent : List Sending) (taken : List (ℕ × Stamping))
+    → Stands budget budgets w c → Step0 (length budgets) budget c s.stamp s.done.event m mid s.done.answer out → Seats rd ru w.log w.peers hs ends (record { stamp = s.stamp; sent = out } ∷ sent) (taking s.done.event m ++ taken) → NotBefore s.stamp hs
+    → Led rd ru w s.done.event s.done.answer mid hs ends sent taken
+core0_step rd ru budget budgets w c mid s m out hs ends sent taken st step seats late = core0_event rd ru s.done.event budget budgets w c mid s.stamp s.done.answer m out hs ends sent taken st step seats late

@@ -4,6 +4,7 @@ pub mod Seats
 pub mod Owns
 pub mod Leads
 pub mod Joining
+pub mod Rests
 pub mod Merge
 pub mod Versions
 pub mod Parts

@@ -35,6 +35,14 @@ front_is {A} m taken (x ∷ rest) later p none =
     let tail : taken ++ p.0 ≡ rest ++ later = cc in
     (rest, ap (λ y. y ∷ rest) first, (p.0, tail))
 
+-- the same, with the rest
+pub front_at : {A : Type 0} (m : A) (taken left box later : List A) → (m ∷ taken) ++ left ≡ box ++ later → ((ms : List A) → later ≡ m ∷ ms → ⊥) → (rest : List A) × (box ≡ m ∷ rest) × (taken ++ left ≡ rest ++ later)
+front_at m taken left [] later e none = absurd (none (taken ++ left) (sym e))
+front_at {A} m taken left (x ∷ rest) later e none =
+    let first : x ≡ m = cc in
+    let tail : taken ++ left ≡ rest ++ later = cc in
+    (rest, ap (λ y. y ∷ rest) first, tail)
+
 pub get_next : {A : Type 0} (xs : List A) (y : A) (ys : List A) → slice_get (xs ++ y ∷ ys) (length xs) ≡ Some y
 get_next [] y ys = refl
 get_next (x ∷ xs) y ys = get_next xs y ys

@@ -21,7 +21,7 @@ use Rattle.world_model.proofs.Lists.{empty_list, get_end, same_or_not}
 use Rattle.world_model.proofs.Invariant.{Pair, at_rest, asked, voted, counted, to_commit, to_abort, acked, finished, Inv}
 use Rattle.world_histories.specs.declared.history.Stamped.{Stamped}
 use Rattle.world_histories.specs.Histories.{Stamping, Sending, sent_to, Other, SubmitOther, TakeOther, RxOther, StepOther, HistoryOther}
-use Rattle.world_histories.proofs.Lists.{front_is, set_cases}
+use Rattle.world_histories.proofs.Lists.{front_at, set_cases}
 use Rattle.world_histories.proofs.Clocks.{tick_after}
 use Rattle.world_histories.proofs.Seats.{messages, Seat, seat_own, raised_long}
 
@@ -109,10 +109,10 @@ pub record Moved (w : World) (i : ℕ) (p : Peer) (event : Event) (answer : Answ
   pub requests_are : world.requests ≡ w.requests
   pub peers : (j : ℕ) (x : Peer) → slice_get world.peers j ≡ Some x → ((i ≡ j) × (x ≡ q)) ⊎ ((i ≡ j → ⊥) × (slice_get w.peers j ≡ Some x))
 
-pub record Owned (w : World) (i : ℕ) (p : Peer) (s : Stamped) (r : List Stamped) (e : Other) (sent : List Sending) (taken0 : List (ℕ × Stamping)) : Type 0 where
+pub record Owned (rd ru : ℕ → List Stamping) (w : World) (i : ℕ) (p : Peer) (s : Stamped) (r : List Stamped) (e : Other) (sent : List Sending) (taken0 : List (ℕ × Stamping)) : Type 0 where
   pub new : Peer
   pub moved : Moved w i p s.done.event s.done.answer new
-  pub seat : Seat i w.log new r e sent taken0
+  pub seat : Seat rd ru i w.log new r e sent taken0
 
 -- what the core has committed is a front of the log, and its table is the newest where it is asked to vote
 record Fitting (log front : List Op) (committed : Option Op) (m : Message) : Type 0 where
@@ -135,11 +135,11 @@ fitting log front place i p short s b version place' out' (message.Vote txn v') 
 fitting log front place i p short s b version place' out' (message.Ack txn) rest committed answer e pair f v h = absurd h.answers
 fitting log front place i p short s b version place' out' (message.Submit op) rest committed answer e pair f v h = absurd h.answers
 
-own_take : (w : World) (i : ℕ) (p : Peer) (stamp : ℕ) (short : Bool) (answer : Answer) (m : Stamping) (r : List Stamped) (e mid : Other) (sent : List Sending) (taken0 : List (ℕ × Stamping)) (taken : List Stamping)
-    → Inv w → slice_get w.peers i ≡ Some p → (seat : Seat i w.log p (record { stamp = stamp; done = record { event = Take (suc i) 0 short; answer = answer } } ∷ r) e sent taken0)
-    → TakeOther p.budget seat.core stamp short m.message mid answer → HistoryOther i p.budget mid r e taken → IsPrefix (m ∷ taken) (seat.down ++ sent_to i sent) → ((ms : List Stamping) → sent_to i sent ≡ m ∷ ms → ⊥)
-    → Owned w i p (record { stamp = stamp; done = record { event = Take (suc i) 0 short; answer = answer } }) r e sent taken0
-own_take w i p stamp short answer m r e mid sent taken0 taken inv at seat h ahead takes there = record {
+own_take : (rd ru : ℕ → List Stamping) (w : World) (i : ℕ) (p : Peer) (stamp : ℕ) (short : Bool) (answer : Answer) (m : Stamping) (r : List Stamped) (e mid : Other) (sent : List Sending) (taken0 : List (ℕ × Stamping)) (taken : List Stamping)
+    → Inv w → slice_get w.peers i ≡ Some p → (seat : Seat rd ru i w.log p (record { stamp = stamp; done = record { event = Take (suc i) 0 short; answer = answer } } ∷ r) e sent taken0)
+    → TakeOther p.budget seat.core stamp short m.message mid answer → HistoryOther i p.budget mid r e taken → (m ∷ taken) ++ rd i ≡ seat.down ++ sent_to i sent → ((ms : List Stamping) → sent_to i sent ≡ m ∷ ms → ⊥)
+    → Owned rd ru w i p (record { stamp = stamp; done = record { event = Take (suc i) 0 short; answer = answer } }) r e sent taken0
+own_take rd ru w i p stamp short answer m r e mid sent taken0 taken inv at seat h ahead takes there = record {
   new = q;
   moved = record {
     world = record w { peers = slice_set w.peers i q };
@@ -161,7 +161,7 @@ own_take w i p stamp short answer m r e mid sent taken0 taken inv at seat h ahea
     requests_are = refl;
     peers = set_cases w.peers i q p at;
   };
-  seat = seat_own i w.log p q _ r e sent taken0 seat mid taken box.0 ahead
+  seat = seat_own rd ru i w.log p q _ r e sent taken0 seat mid taken box.0 ahead
       (ap (λ (n : ℕ). raised n h.committed) seat.version_is ∙ (raised_long d.log h.committed ∙ ap (λ (x : Other). length x.log) (sym h.next)))
       (subst (λ (x : Other). IsPrefix x.log w.log) (sym h.next) fit.still_front)
       (ap (λ (x : Other). x.place) (sym h.next)) (ap (λ (x : Other). x.outstanding) (sym h.next)) refl refl box.2;
@@ -170,8 +170,8 @@ own_take w i p stamp short answer m r e mid sent taken0 taken inv at seat h ahea
     d : Other
     d = seat.core
 
-    box : (rest : List Stamping) × (seat.down ≡ m ∷ rest) × IsPrefix taken (rest ++ sent_to i sent)
-    box = front_is m taken seat.down (sent_to i sent) takes there
+    box : (rest : List Stamping) × (seat.down ≡ m ∷ rest) × (taken ++ rd i ≡ rest ++ sent_to i sent)
+    box = front_at m taken (rd i) seat.down (sent_to i sent) takes there
 
     q : Peer
     q = record { budget = p.budget; version = raised p.version h.committed; place = h.place; outstanding = h.outstanding; down = messages box.0; up = p.up ++ option_to_list (sent_up (Take (suc i) 0 short) answer) }
@@ -185,11 +185,11 @@ own_take w i p stamp short answer m r e mid sent taken0 taken inv at seat h ahea
     fit : Fitting w.log d.log h.committed m.message
     fit = fitting w.log d.log w.place i p short (table d.log (length d.log)) p.budget p.version h.place h.outstanding m.message (messages box.0) h.committed answer oldest (inv.pairs i p at) seat.is_front seat.version_is here
 
-own_submit : (w : World) (i : ℕ) (p : Peer) (stamp : ℕ) (op : Op) (answer : Answer) (r : List Stamped) (e mid : Other) (sent : List Sending) (taken0 : List (ℕ × Stamping)) (taken : List Stamping)
-    → slice_get w.peers i ≡ Some p → (seat : Seat i w.log p (record { stamp = stamp; done = record { event = Submit (suc i) op; answer = answer } } ∷ r) e sent taken0)
-    → SubmitOther seat.core stamp mid answer → HistoryOther i p.budget mid r e taken → IsPrefix taken (seat.down ++ sent_to i sent)
-    → Owned w i p (record { stamp = stamp; done = record { event = Submit (suc i) op; answer = answer } }) r e sent taken0
-own_submit w i p stamp op answer r e mid sent taken0 taken at seat h ahead takes = record {
+own_submit : (rd ru : ℕ → List Stamping) (w : World) (i : ℕ) (p : Peer) (stamp : ℕ) (op : Op) (answer : Answer) (r : List Stamped) (e mid : Other) (sent : List Sending) (taken0 : List (ℕ × Stamping)) (taken : List Stamping)
+    → slice_get w.peers i ≡ Some p → (seat : Seat rd ru i w.log p (record { stamp = stamp; done = record { event = Submit (suc i) op; answer = answer } } ∷ r) e sent taken0)
+    → SubmitOther seat.core stamp mid answer → HistoryOther i p.budget mid r e taken → taken ++ rd i ≡ seat.down ++ sent_to i sent
+    → Owned rd ru w i p (record { stamp = stamp; done = record { event = Submit (suc i) op; answer = answer } }) r e sent taken0
+own_submit rd ru w i p stamp op answer r e mid sent taken0 taken at seat h ahead takes = record {
   new = q;
   moved = record {
     world = record w { peers = slice_set w.peers i q };
@@ -199,7 +199,7 @@ own_submit w i p stamp op answer r e mid sent taken0 taken at seat h ahead takes
     requests_are = refl;
     peers = set_cases w.peers i q p at;
   };
-  seat = seat_own i w.log p q _ r e sent taken0 seat mid taken seat.down ahead
+  seat = seat_own rd ru i w.log p q _ r e sent taken0 seat mid taken seat.down ahead
       (seat.version_is ∙ ap (λ (x : Other). length x.log) (sym h.next)) (subst (λ (x : Other). IsPrefix x.log w.log) (sym h.next) seat.is_front)
       (seat.place_is ∙ ap (λ (x : Other). x.place) (sym h.next)) (ap (λ (x : Other). x.outstanding) (sym h.next)) seat.down_is refl takes;
 }
@@ -207,11 +207,11 @@ own_submit w i p stamp op answer r e mid sent taken0 taken at seat h ahead takes
     q : Peer
     q = record p { outstanding = h.outstanding; up = p.up ++ option_to_list (sent_up (Submit (suc i) op) answer) }
 
-own_rx : (w : World) (i : ℕ) (p : Peer) (stamp number : ℕ) (packet : CapturedPacket) (floor : ℕ) (answer : Answer) (r : List Stamped) (e mid : Other) (sent : List Sending) (taken0 : List (ℕ × Stamping)) (taken : List Stamping)
-    → slice_get w.peers i ≡ Some p → (seat : Seat i w.log p (record { stamp = stamp; done = record { event = Rx (suc i) number packet floor; answer = answer } } ∷ r) e sent taken0)
-    → RxOther seat.core stamp packet floor mid answer → HistoryOther i p.budget mid r e taken → IsPrefix taken (seat.down ++ sent_to i sent)
-    → Owned w i p (record { stamp = stamp; done = record { event = Rx (suc i) number packet floor; answer = answer } }) r e sent taken0
-own_rx w i p stamp number packet floor answer r e mid sent taken0 taken at seat h ahead takes = record {
+own_rx : (rd ru : ℕ → List Stamping) (w : World) (i : ℕ) (p : Peer) (stamp number : ℕ) (packet : CapturedPacket) (floor : ℕ) (answer : Answer) (r : List Stamped) (e mid : Other) (sent : List Sending) (taken0 : List (ℕ × Stamping)) (taken : List Stamping)
+    → slice_get w.peers i ≡ Some p → (seat : Seat rd ru i w.log p (record { stamp = stamp; done = record { event = Rx (suc i) number packet floor; answer = answer } } ∷ r) e sent taken0)
+    → RxOther seat.core stamp packet floor mid answer → HistoryOther i p.budget mid r e taken → taken ++ rd i ≡ seat.down ++ sent_to i sent
+    → Owned rd ru w i p (record { stamp = stamp; done = record { event = Rx (suc i) number packet floor; answer = answer } }) r e sent taken0
+own_rx rd ru w i p stamp number packet floor answer r e mid sent taken0 taken at seat h ahead takes = record {
   new = p;
   moved = record {
     world = w;
@@ -226,7 +226,7 @@ own_rx w i p stamp number packet floor answer r e mid sent taken0 taken at seat 
     requests_are = refl;
     peers = λ j x here. same j x here (same_or_not i j);
   };
-  seat = seat_own i w.log p p _ r e sent taken0 seat mid taken seat.down ahead
+  seat = seat_own rd ru i w.log p p _ r e sent taken0 seat mid taken seat.down ahead
       (seat.version_is ∙ ap (λ (x : Other). length x.log) (sym h.next)) (subst (λ (x : Other). IsPrefix x.log w.log) (sym h.next) seat.is_front)
       (seat.place_is ∙ ap (λ (x : Other). x.place) (sym h.next)) (seat.outstanding_is ∙ ap (λ (x : Other). x.outstanding) (sym h.next)) seat.down_is
       (sym (append-nil p.up) ∙ ap (λ (a : Answer). p.up ++ option_to_list (sent_up (Rx (suc i) number packet floor) a)) (sym h.here.is_answer)) takes;
@@ -237,39 +237,39 @@ own_rx w i p stamp number packet floor answer r e mid sent taken0 taken at seat 
     same j x here (inr ne) = inr (ne, here)
 
 -- the first event of a core's history happens in the world, where every message that it takes has been sent
-abbrev OwnEvent : Event → ℕ → Type 0
-OwnEvent event i = (w : World) (p : Peer) (stamp : ℕ) (answer : Answer) (m : Option Stamping) (r : List Stamped) (e mid : Other) (sent : List Sending) (taken0 : List (ℕ × Stamping)) (taken : List Stamping) → Inv w → slice_get w.peers i ≡ Some p
-    → (seat : Seat i w.log p (record { stamp = stamp; done = record { event = event; answer = answer } } ∷ r) e sent taken0) → StepOther i p.budget seat.core stamp event m mid answer → HistoryOther i p.budget mid r e taken
-    → seat.taken ≡ option_to_list m ++ taken → ((n : Stamping) (ms : List Stamping) → sent_to i sent ≡ n ∷ ms → n.stamp < stamp → ⊥) → Owned w i p (record { stamp = stamp; done = record { event = event; answer = answer } }) r e sent taken0
+abbrev OwnEvent : (ℕ → List Stamping) → (ℕ → List Stamping) → Event → ℕ → Type 0
+OwnEvent rd ru event i = (w : World) (p : Peer) (stamp : ℕ) (answer : Answer) (m : Option Stamping) (r : List Stamped) (e mid : Other) (sent : List Sending) (taken0 : List (ℕ × Stamping)) (taken : List Stamping) → Inv w → slice_get w.peers i ≡ Some p
+    → (seat : Seat rd ru i w.log p (record { stamp = stamp; done = record { event = event; answer = answer } } ∷ r) e sent taken0) → StepOther i p.budget seat.core stamp event m mid answer → HistoryOther i p.budget mid r e taken
+    → seat.taken ≡ option_to_list m ++ taken → ((n : Stamping) (ms : List Stamping) → sent_to i sent ≡ n ∷ ms → n.stamp < stamp → ⊥) → Owned rd ru w i p (record { stamp = stamp; done = record { event = event; answer = answer } }) r e sent taken0
 
-takes_now : (i : ℕ) (log : List Op) (p : Peer) (h : List Stamped) (e : Other) (sent : List Sending) (taken0 : List (ℕ × Stamping)) (seat : Seat i log p h e sent taken0) (taken : List Stamping) → seat.taken ≡ taken → IsPrefix taken (seat.down ++ sent_to i sent)
-takes_now i log p h e sent taken0 seat taken t = subst (λ (x : List Stamping). IsPrefix x (seat.down ++ sent_to i sent)) t seat.takes
+takes_now : (rd ru : ℕ → List Stamping) (i : ℕ) (log : List Op) (p : Peer) (h : List Stamped) (e : Other) (sent : List Sending) (taken0 : List (ℕ × Stamping)) (seat : Seat rd ru i log p h e sent taken0) (taken : List Stamping) → seat.taken ≡ taken → taken ++ rd i ≡ seat.down ++ sent_to i sent
+takes_now rd ru i log p h e sent taken0 seat taken t = subst (λ (x : List Stamping). x ++ rd i ≡ seat.down ++ sent_to i sent) t seat.takes
 
-own_submits : (i : ℕ) (op : Op) → OwnEvent (Submit (suc i) op) i
-own_submits i op w p stamp answer None r e mid sent taken0 taken inv at seat h ahead t late = own_submit w i p stamp op answer r e mid sent taken0 taken at seat h.does.1 ahead (takes_now i w.log p _ e sent taken0 seat taken t)
-own_submits i op w p stamp answer (Some m) r e mid sent taken0 taken inv at seat h ahead t late = absurd h.does
+own_submits : (rd ru : ℕ → List Stamping) (i : ℕ) (op : Op) → OwnEvent rd ru (Submit (suc i) op) i
+own_submits rd ru i op w p stamp answer None r e mid sent taken0 taken inv at seat h ahead t late = own_submit rd ru w i p stamp op answer r e mid sent taken0 taken at seat h.does.1 ahead (takes_now rd ru i w.log p _ e sent taken0 seat taken t)
+own_submits rd ru i op w p stamp answer (Some m) r e mid sent taken0 taken inv at seat h ahead t late = absurd h.does
 
-own_takes : (i : ℕ) (short : Bool) → OwnEvent (Take (suc i) 0 short) i
-own_takes i short w p stamp answer None r e mid sent taken0 taken inv at seat h ahead t late = absurd h.does
-own_takes i short w p stamp answer (Some m) r e mid sent taken0 taken inv at seat h ahead t late =
-    own_take w i p stamp short answer m r e mid sent taken0 taken inv at seat h.does.1 ahead (takes_now i w.log p _ e sent taken0 seat (m ∷ taken) t)
+own_takes : (rd ru : ℕ → List Stamping) (i : ℕ) (short : Bool) → OwnEvent rd ru (Take (suc i) 0 short) i
+own_takes rd ru i short w p stamp answer None r e mid sent taken0 taken inv at seat h ahead t late = absurd h.does
+own_takes rd ru i short w p stamp answer (Some m) r e mid sent taken0 taken inv at seat h ahead t late =
+    own_take rd ru w i p stamp short answer m r e mid sent taken0 taken inv at seat h.does.1 ahead (takes_now rd ru i w.log p _ e sent taken0 seat (m ∷ taken) t)
     (λ ms first. late m ms first (omega (arith, h.ticks, tick_after seat.core.clock m)))
 
-own_receives : (i number : ℕ) (packet : CapturedPacket) (floor : ℕ) → OwnEvent (Rx (suc i) number packet floor) i
-own_receives i number packet floor w p stamp answer None r e mid sent taken0 taken inv at seat h ahead t late = own_rx w i p stamp number packet floor answer r e mid sent taken0 taken at seat h.does.1 ahead (takes_now i w.log p _ e sent taken0 seat taken t)
-own_receives i number packet floor w p stamp answer (Some m) r e mid sent taken0 taken inv at seat h ahead t late = absurd h.does
+own_receives : (rd ru : ℕ → List Stamping) (i number : ℕ) (packet : CapturedPacket) (floor : ℕ) → OwnEvent rd ru (Rx (suc i) number packet floor) i
+own_receives rd ru i number packet floor w p stamp answer None r e mid sent taken0 taken inv at seat h ahead t late = own_rx rd ru w i p stamp number packet floor answer r e mid sent taken0 taken at seat h.does.1 ahead (takes_now rd ru i w.log p _ e sent taken0 seat taken t)
+own_receives rd ru i number packet floor w p stamp answer (Some m) r e mid sent taken0 taken inv at seat h ahead t late = absurd h.does
 
-own_event : (event : Event) (i : ℕ) → OwnEvent event i
-own_event (Submit (suc core) op) i w p stamp answer None r e mid sent taken0 taken inv at seat h ahead t late =
-    subst (λ (k : ℕ). OwnEvent (Submit (suc k) op) i) (sym h.does.0) (own_submits i op) w p stamp answer None r e mid sent taken0 taken inv at seat h ahead t late
-own_event (Take (suc to) zero short) i w p stamp answer (Some m) r e mid sent taken0 taken inv at seat h ahead t late =
-    subst (λ (k : ℕ). OwnEvent (Take (suc k) 0 short) i) (sym h.does.0) (own_takes i short) w p stamp answer (Some m) r e mid sent taken0 taken inv at seat h ahead t late
-own_event (Rx (suc core) number packet floor) i w p stamp answer None r e mid sent taken0 taken inv at seat h ahead t late =
-    subst (λ (k : ℕ). OwnEvent (Rx (suc k) number packet floor) i) (sym h.does.0) (own_receives i number packet floor) w p stamp answer None r e mid sent taken0 taken inv at seat h ahead t late
-own_event event i w p stamp answer m r e mid sent taken0 taken inv at seat h ahead t late = absurd h.does
+own_event : (rd ru : ℕ → List Stamping) (event : Event) (i : ℕ) → OwnEvent rd ru event i
+own_event rd ru (Submit (suc core) op) i w p stamp answer None r e mid sent taken0 taken inv at seat h ahead t late =
+    subst (λ (k : ℕ). OwnEvent rd ru (Submit (suc k) op) i) (sym h.does.0) (own_submits rd ru i op) w p stamp answer None r e mid sent taken0 taken inv at seat h ahead t late
+own_event rd ru (Take (suc to) zero short) i w p stamp answer (Some m) r e mid sent taken0 taken inv at seat h ahead t late =
+    subst (λ (k : ℕ). OwnEvent rd ru (Take (suc k) 0 short) i) (sym h.does.0) (own_takes rd ru i short) w p stamp answer (Some m) r e mid sent taken0 taken inv at seat h ahead t late
+own_event rd ru (Rx (suc core) number packet floor) i w p stamp answer None r e mid sent taken0 taken inv at seat h ahead t late =
+    subst (λ (k : ℕ). OwnEvent rd ru (Rx (suc k) number packet floor) i) (sym h.does.0) (own_receives rd ru i number packet floor) w p stamp answer None r e mid sent taken0 taken inv at seat h ahead t late
+own_event rd ru event i w p stamp answer m r e mid sent taken0 taken inv at seat h ahead t late = absurd h.does
 
-pub own_step : (w : World) (i : ℕ) (p : Peer) (s : Stamped) (r : List Stamped) (e : Other) (sent : List Sending) (taken0 : List (ℕ × Stamping)) → Inv w → slice_get w.peers i ≡ Some p
-    → Seat i w.log p (s ∷ r) e sent taken0 → ((m : Stamping) (ms : List Stamping) → sent_to i sent ≡ m ∷ ms → m.stamp < s.stamp → ⊥) → Owned w i p s r e sent taken0
-own_step w i p s r e sent taken0 inv at seat late =
+pub own_step : (rd ru : ℕ → List Stamping) (w : World) (i : ℕ) (p : Peer) (s : Stamped) (r : List Stamped) (e : Other) (sent : List Sending) (taken0 : List (ℕ × Stamping)) → Inv w → slice_get w.peers i ≡ Some p
+    → Seat rd ru i w.log p (s ∷ r) e sent taken0 → ((m : Stamping) (ms : List Stamping) → sent_to i sent ≡ m ∷ ms → m.stamp < s.stamp → ⊥) → Owned rd ru w i p s r e sent taken0
+own_step rd ru w i p s r e sent taken0 inv at seat late =
     let h = seat.ahead in
-    own_event s.done.event i w p s.stamp s.done.answer h.1 r e h.0 sent taken0 h.2 inv at seat h.3 h.4 h.5 late
+    own_event rd ru s.done.event i w p s.stamp s.done.answer h.1 r e h.0 sent taken0 h.2 inv at seat h.3 h.4 h.5 late

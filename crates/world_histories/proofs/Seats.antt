@@ -24,8 +24,9 @@ messages_stamped stamp (m ∷ ms) = ap (λ (xs : List Message). m ∷ xs) (messa
 pub messages_more : (xs : List Stamping) (stamp : ℕ) (ms known : List Message) → messages xs ≡ known → messages (xs ++ with_stamp stamp ms) ≡ known ++ ms
 messages_more xs stamp ms known e = map-append (λ m. m.message) xs (with_stamp stamp ms) ∙ rw (e, messages_stamped stamp ms) refl
 
--- A core of the world, the rest of its history, and the messages under way with their stamps. Core 0 will send and take these.
-pub record Seat (i : ℕ) (log : List Op) (p : Peer) (h : List Stamped) (e : Other) (sent : List Sending) (taken0 : List (ℕ × Stamping)) : Type 0 where
+-- A core of the world, the rest of its history, and the messages under way with their stamps. Core 0 will send and take these, and the rest
+-- of what is sent is taken by none.
+pub record Seat (rd ru : ℕ → List Stamping) (i : ℕ) (log : List Op) (p : Peer) (h : List Stamped) (e : Other) (sent : List Sending) (taken0 : List (ℕ × Stamping)) : Type 0 where
   pub core : Other
   pub taken : List Stamping
   pub ahead : HistoryOther i p.budget core h e taken
@@ -37,19 +38,19 @@ pub record Seat (i : ℕ) (log : List Op) (p : Peer) (h : List Stamped) (e : Oth
   pub up : List Stamping
   pub down_is : messages down ≡ p.down
   pub up_is : messages up ≡ p.up
-  pub takes : IsPrefix taken (down ++ sent_to i sent)
-  pub gives : IsPrefix (taken_from i taken0) (up ++ sent_by h)
+  pub takes : taken ++ rd i ≡ down ++ sent_to i sent
+  pub gives : taken_from i taken0 ++ ru i ≡ up ++ sent_by h
 
 -- with its history and its end
-pub record SeatOf (i : ℕ) (log : List Op) (p : Peer) (hs : List (List Stamped)) (ends : List Other) (sent : List Sending) (taken0 : List (ℕ × Stamping)) : Type 0 where
+pub record SeatOf (rd ru : ℕ → List Stamping) (i : ℕ) (log : List Op) (p : Peer) (hs : List (List Stamped)) (ends : List Other) (sent : List Sending) (taken0 : List (ℕ × Stamping)) : Type 0 where
   pub history : List Stamped
   pub is_history : slice_get hs i ≡ Some history
   pub end : Other
   pub is_end : slice_get ends i ≡ Some end
-  pub seat : Seat i log p history end sent taken0
+  pub seat : Seat rd ru i log p history end sent taken0
 
 -- a world that a run leads to, and the rests of all histories from there on
-pub record Joint (budget : ℕ) (budgets : List ℕ) (before : List Stamped) (w : World) (c : Core0) (h0 : List Stamped) (hs : List (List Stamped)) (end : Core0) (ends : List Other) : Type 0 where
+pub record Joint (rd ru : ℕ → List Stamping) (budget : ℕ) (budgets : List ℕ) (before : List Stamped) (w : World) (c : Core0) (h0 : List Stamped) (hs : List (List Stamped)) (end : Core0) (ends : List Other) : Type 0 where
   pub run : Run budget budgets (as_listed before) w
   pub log_is : w.log ≡ c.log
   pub place_is : w.place ≡ c.place
@@ -58,7 +59,7 @@ pub record Joint (budget : ℕ) (budgets : List ℕ) (before : List Stamped) (w 
   pub taken : List (ℕ × Stamping)
   pub ahead : History0 (length budgets) budget c h0 end sent taken
   pub cores : length hs ≡ length budgets
-  pub seats : (i : ℕ) (p : Peer) → slice_get w.peers i ≡ Some p → SeatOf i w.log p hs ends sent taken
+  pub seats : (i : ℕ) (p : Peer) → slice_get w.peers i ≡ Some p → SeatOf rd ru i w.log p hs ends sent taken
 
 -- What core 0 sends reaches the cores
 
@@ -110,9 +111,9 @@ raised_long log None = refl
 raised_long log (Some op) = omega (arith, length-append log (op ∷ []))
 
 -- after an event of core 0 that sent this
-pub seat_got : (i stamp : ℕ) (log : List Op) (committed : Option Op) (out : Outgoing) (p q : Peer) (h : List Stamped) (e : Other) (sent : List Sending) (taken0 : List (ℕ × Stamping))
-    → Got p q (for_entry i out) → Seat i log p h e (record { stamp = stamp; sent = out } ∷ sent) taken0 → Seat i (joined log committed) q h e sent taken0
-seat_got i stamp log committed out p q h e sent taken0 g s = record {
+pub seat_got : (rd ru : ℕ → List Stamping) (i stamp : ℕ) (log : List Op) (committed : Option Op) (out : Outgoing) (p q : Peer) (h : List Stamped) (e : Other) (sent : List Sending) (taken0 : List (ℕ × Stamping))
+    → Got p q (for_entry i out) → Seat rd ru i log p h e (record { stamp = stamp; sent = out } ∷ sent) taken0 → Seat rd ru i (joined log committed) q h e sent taken0
+seat_got rd ru i stamp log committed out p q h e sent taken0 g s = record {
   core = s.core;
   taken = s.taken;
   ahead = rw g.budget_is s.ahead;
@@ -131,10 +132,10 @@ seat_got i stamp log committed out p q h e sent taken0 g s = record {
 -- A core's own event
 
 -- the core has done the first event of its history
-pub seat_own : (i : ℕ) (log : List Op) (p q : Peer) (s : Stamped) (r : List Stamped) (e : Other) (sent : List Sending) (taken0 : List (ℕ × Stamping)) (seat : Seat i log p (s ∷ r) e sent taken0)
+pub seat_own : (rd ru : ℕ → List Stamping) (i : ℕ) (log : List Op) (p q : Peer) (s : Stamped) (r : List Stamped) (e : Other) (sent : List Sending) (taken0 : List (ℕ × Stamping)) (seat : Seat rd ru i log p (s ∷ r) e sent taken0)
     (d : Other) (taken down : List Stamping) → HistoryOther i q.budget d r e taken → q.version ≡ length d.log → IsPrefix d.log log → q.place ≡ d.place → q.outstanding ≡ d.outstanding
-    → messages down ≡ q.down → q.up ≡ p.up ++ option_to_list (sent_up s.done.event s.done.answer) → IsPrefix taken (down ++ sent_to i sent) → Seat i log q r e sent taken0
-seat_own i log p q s r e sent taken0 seat d taken down ahead version front place outstanding down_is up takes = record {
+    → messages down ≡ q.down → q.up ≡ p.up ++ option_to_list (sent_up s.done.event s.done.answer) → taken ++ rd i ≡ down ++ sent_to i sent → Seat rd ru i log q r e sent taken0
+seat_own rd ru i log p q s r e sent taken0 seat d taken down ahead version front place outstanding down_is up takes = record {
   core = d;
   taken = taken;
   ahead = ahead;
