@@ -6,6 +6,10 @@ pub mod Carrying
 pub mod Acting
 pub mod Resting
 pub mod Order
+pub mod InTurn
+pub mod Passing
+pub mod Stopped
 pub mod Silent
 pub mod Answering
 pub mod Receipting
+pub mod Flowing

@@ -61,14 +61,14 @@ not_ready_waits cores clock peer (part.Other core) m seen f c = (c.0, λ n g. su
 -- What comes next
 
 -- the next request, where no message can be taken
-pub request_next : (cores : ℕ) (x : Part) (requests : List Op) (seen : ℕ → LinkView) (e : Event) → NoMessageNow cores x seen → IsNextRequest cores x e → IsNext cores x requests seen e
-request_next cores x requests seen (Start op) n r = (n, r)
-request_next cores x requests seen (StartFor core) n r = (n, r)
-request_next cores x requests seen (Submit core op) n r = (n, r)
-request_next cores (part.First core) requests seen (Take to from short) n r = absurd r
-request_next cores (part.Other core) requests seen (Take to from short) n r = absurd r
-request_next cores (part.First core) requests seen (Rx number job packet floor) n r = absurd r
-request_next cores (part.Other core) requests seen (Rx number job packet floor) n r = absurd r
+pub request_next : (cores last : ℕ) (x : Part) (requests : List Op) (seen : ℕ → LinkView) (e : Event) → NoMessageNow cores x seen → IsNextRequest cores last x requests e → IsNext cores last x requests seen e
+request_next cores last x requests seen (Start op) n r = (n, r)
+request_next cores last x requests seen (StartFor core) n r = (n, r)
+request_next cores last x requests seen (Submit core op) n r = (n, r)
+request_next cores last (part.First core) requests seen (Take to from short) n r = absurd r
+request_next cores last (part.Other core) requests seen (Take to from short) n r = absurd r
+request_next cores last (part.First core) requests seen (Rx number job packet floor) n r = absurd r
+request_next cores last (part.Other core) requests seen (Rx number job packet floor) n r = absurd r
 
 -- What is seen of the links
 
@@ -85,8 +85,8 @@ up_to_here peer new before here p lt = by_place (same_or_not p peer)
 
 -- What comes after a look
 
-pub acts_first : {E : Type 0} (number cores clock : ℕ) (requests : List Op) (old seen new : ℕ → LinkView) (x y : Part) (r : Result (Option Stamped) E)
-    → ((p : ℕ) → Quiet (old p) (seen p)) → OnEvent r (λ s. IsNext cores x requests seen s.done.event) → OnEvent r (Acts number cores clock seen new x y) → OnEvent r (ActsFirst number cores clock requests old new x y)
-acts_first number cores clock requests old seen new x y (Ok (Some s)) q n a = record { seen = seen; looks = q; next = n; acts = a }
-acts_first number cores clock requests old seen new x y (Ok None) q n a = tt
-acts_first number cores clock requests old seen new x y (Err e) q n a = tt
+pub acts_first : {E : Type 0} (number cores clock last : ℕ) (requests : List Op) (old seen new : ℕ → LinkView) (x y : Part) (r : Result (Option Stamped) E)
+    → ((p : ℕ) → Quiet (old p) (seen p)) → OnEvent r (λ s. IsNext cores last x requests seen s.done.event) → OnEvent r (Acts number cores clock seen new x y) → OnEvent r (ActsFirst number cores clock last requests old new x y)
+acts_first number cores clock last requests old seen new x y (Ok (Some s)) q n a = record { seen = seen; looks = q; next = n; acts = a }
+acts_first number cores clock last requests old seen new x y (Ok None) q n a = tt
+acts_first number cores clock last requests old seen new x y (Err e) q n a = tt

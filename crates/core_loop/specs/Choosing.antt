@@ -14,7 +14,8 @@ use Rattle.core_loop.specs.declared.part.Part.TheVariants as part
 use Rattle.core_loop.specs.declared.refusal.Refusal.TheVariants as refusal
 use Rattle.core_loop.specs.Carrying.{IsFirst}
 use Rattle.core_loop.specs.Events.{IsAnswered, CannotTake0}
-use Rattle.core_loop.specs.Beginning.{SomeWaits, CanBeginNext}
+use Rattle.core_loop.specs.Beginning.{CanBeginNext}
+use Rattle.core_loop.specs.InTurn.{BeginsInTurn}
 
 -- a peer has shown neither a message nor a fault
 pub record ShowsNothing (v : LinkView) : Type 0 where
@@ -42,23 +43,18 @@ IsKnownAnswered (part.Other core) bytes = (stamp : ℕ) (m : Message) → Coded 
 abbrev pub NoMessageNow : ℕ → Part → (ℕ → LinkView) → Type 0
 NoMessageNow cores x seen = ((p : ℕ) → p < cores → ShowsNothing (seen p)) ⊎ ((peer : ℕ) × IsLeastShowing cores seen peer × MustWait cores x peer seen)
 
--- core 0 begins the request of the least core that has one waiting, and its own where none waits
-abbrev pub IsLeastRequest : ℕ → First → Event → Type 0
-IsLeastRequest others core (Start op) = SomeWaits others core → ⊥
-IsLeastRequest others core (StartFor from) = (entry : ℕ) (op : Op) → suc entry < from → slice_get core.coordinator.requests.waiting entry ≡ Some (Some op) → ⊥
-IsLeastRequest others core event = ⊥
-
 -- another core submits its own
 abbrev pub IsSubmission : Event → Type 0
 IsSubmission (Submit core op) = Unit {0}
 IsSubmission event = ⊥
 
-abbrev pub IsNextRequest : ℕ → Part → Event → Type 0
-IsNextRequest cores (part.First core) event = IsLeastRequest (cores - 1) core event
-IsNextRequest cores (part.Other core) event = IsSubmission event
+-- core 0 begins the request of the core that is next after the one whose request it began last
+abbrev pub IsNextRequest : ℕ → ℕ → Part → List Op → Event → Type 0
+IsNextRequest cores last (part.First core) requests event = BeginsInTurn (cores - 1) last core requests event
+IsNextRequest cores last (part.Other core) requests event = IsSubmission event
 
 -- the event is the first that can be done
-abbrev pub IsNext : ℕ → Part → List Op → (ℕ → LinkView) → Event → Type 0
-IsNext cores x requests seen (Take to from short) = IsLeastShowing cores seen from
-IsNext cores x requests seen (Rx core number packet floor) = NoMessageNow cores x seen × (CanBeginNext cores x requests seen → ⊥)
-IsNext cores x requests seen event = NoMessageNow cores x seen × IsNextRequest cores x event
+abbrev pub IsNext : ℕ → ℕ → Part → List Op → (ℕ → LinkView) → Event → Type 0
+IsNext cores last x requests seen (Take to from short) = IsLeastShowing cores seen from
+IsNext cores last x requests seen (Rx core number packet floor) = NoMessageNow cores x seen × (CanBeginNext cores x requests seen → ⊥)
+IsNext cores last x requests seen event = NoMessageNow cores x seen × IsNextRequest cores last x requests event

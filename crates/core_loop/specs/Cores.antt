@@ -14,6 +14,7 @@ use Rattle.core_loop.specs.declared.part.Part.{Part}
 use Rattle.core_loop.specs.declared.cause.Cause.{Cause}
 use Rattle.core_loop.specs.Receipts.{receives, IsReceivable}
 use Rattle.core_loop.specs.Carrying.{Quiet}
+use Rattle.core_loop.specs.InTurn.{last_begun}
 use Rattle.core_loop.specs.Turning.{IsUnshortened, ActsFirst}
 use Rattle.core_loop.specs.Keeping.{IsStanding, replica_of}
 
@@ -76,7 +77,7 @@ pub record NothingDone {L : Type 0} (view : L → ℕ → LinkView) (old new : C
 pub record DidOne {L : Type 0} (view : L → ℕ → LinkView) (old new : CoreState L) (s : Stamped) : Type 0 where
   pub history : new.history ≡ old.history ++ s ∷ []
   pub clock : new.clock ≡ s.stamp
-  pub acts : ActsFirst old.number old.cores old.clock old.pending (view old.links) (view new.links) old.part new.part s
+  pub acts : ActsFirst old.number old.cores old.clock (last_begun old.history) old.pending (view old.links) (view new.links) old.part new.part s
   pub pending : old.pending ≡ begins s.done.event ++ new.pending
   pub jobs : jobs_taken new.intake ≡ jobs_taken old.intake ++ receives s.done.event
   -- a job that was seen before is the one received, or seen still

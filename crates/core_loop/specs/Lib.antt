@@ -7,10 +7,12 @@ pub mod Events
 pub mod Outcomes
 pub mod Beginning
 pub mod Taking
+pub mod InTurn
 pub mod Choosing
 pub mod Turning
 pub mod Receipts
 pub mod Cores
+pub mod Passing
 pub mod Receiving
 pub mod Answering
 pub mod Owning

@@ -1,5 +1,5 @@
 -- What one turn comes to.
-use Rattle.std.specs.Prelude.{◌≡◌, ◌≢◌, ◌⊎◌, ◌<◌, ◌≤◌, ◌-◌, [], ℕ, Bool, true, false, List}
+use Rattle.std.specs.Prelude.{◌≡◌, ◌≢◌, ◌⊎◌, ◌<◌, ◌≤◌, ◌-◌, [], ℕ, Bool, true, false, Option, None, Some, List}
 use Rattle.filter_table.specs.declared.operation.Op.{Op}
 use Rattle.rx_queue.specs.declared.job.Job.{Job}
 use Rattle.rx_queue.specs.declared.intake.Intake.{Intake}
@@ -27,10 +27,10 @@ IsUnshortened (Take to from short) = short ≡ false
 IsUnshortened event = Unit {0}
 
 -- the core looked at its links, and did the first event that can be done by what they showed
-pub record ActsFirst (number cores clock : ℕ) (requests : List Op) (old new : ℕ → LinkView) (x y : Part) (s : Stamped) : Type 0 where
+pub record ActsFirst (number cores clock last : ℕ) (requests : List Op) (old new : ℕ → LinkView) (x y : Part) (s : Stamped) : Type 0 where
   pub seen : ℕ → LinkView
   pub looks : (p : ℕ) → Quiet (old p) (seen p)
-  pub next : IsNext cores x requests seen s.done.event
+  pub next : IsNext cores last x requests seen s.done.event
   pub acts : Acts number cores clock seen new x y s
 
 -- a job may be received, and can be
@@ -67,6 +67,11 @@ pub record StopsFirst (cores clock : ℕ) (x : Part) (seen : ℕ → LinkView) (
   pub inside : peer < cores
   pub before : (p : ℕ) → p < peer → ShowsNothing (seen p)
   pub stops : StopsAt cores clock peer x seen cause
+
+-- what a core that has stopped stopped for, by what its links show
+abbrev pub HasStopped : ℕ → ℕ → Part → (ℕ → LinkView) → Option Cause → Type 0
+HasStopped cores clock x view None = Unit {0}
+HasStopped cores clock x view (Some cause) = (peer : ℕ) × (peer < cores) × StopsAt cores clock peer x view cause
 
 -- why a turn with something to do ends without an event
 abbrev pub HaltsFor : ℕ → ℕ → Part → List Op → (ℕ → LinkView) → Bool → Intake → Halt → Type 0

@@ -38,7 +38,7 @@ pub(crate) fn begin<L: Links>(
     requires fits { IsFitting context.number context.cores part.old }
     requires short { AreShort context.number requests.old.items }
     ensures acts { OnEvent result (Acts context.number context.cores context.clock (L.view links.old) (L.view links.new) part.old part.new) }
-    ensures least { OnEvent result (λ s. IsNextRequest context.cores part.old s.done.event) }
+    ensures in_turn { OnEvent result (λ s. IsNextRequest context.cores context.begun_last part.old requests.old.items s.done.event) }
     ensures requests { OnEvent result (λ s. requests.old.items ≡ begins s.done.event ++ requests.new.items) }
     ensures jobs { OnEvent result (λ s. receives s.done.event ≡ []) }
     ensures whole { OnEvent result (λ s. IsUnshortened s.done.event) }
@@ -53,9 +53,18 @@ pub(crate) fn begin<L: Links>(
         number,
         cores,
         clock,
+        begun_last,
     } = context;
     match part {
-        Part::First(core) => first::begin(core, links, alloc, cores - 1, clock, requests),
+        Part::First(core) => first::begin(
+            core,
+            links,
+            alloc,
+            cores - 1,
+            clock,
+            begun_last,
+            requests,
+        ),
         Part::Other(core) => other::begin(core, links, alloc, number, clock, requests),
     }
 }
@@ -83,6 +92,7 @@ pub(crate) fn take<L: Links>(
         number,
         cores,
         clock,
+        begun_last: _,
     } = context;
     match part {
         Part::First(core) => first::take(core, links, alloc, cores - 1, clock, peer, sent, message),
@@ -160,7 +170,7 @@ pub(crate) fn begin_or_receive<L: Links>(
     requires short { AreShort context.number requests.old.items }
     requires no_message { NoMessageNow context.cores part.old (L.view links.old) }
     ensures acts { OnEvent result (Acts context.number context.cores context.clock (L.view links.old) (L.view links.new) part.old part.new) }
-    ensures next { OnEvent result (λ s. IsNext context.cores part.old requests.old.items (L.view links.old) s.done.event) }
+    ensures next { OnEvent result (λ s. IsNext context.cores context.begun_last part.old requests.old.items (L.view links.old) s.done.event) }
     ensures requests { OnEvent result (λ s. requests.old.items ≡ begins s.done.event ++ requests.new.items) }
     ensures jobs { OnEvent result (λ s. jobs_taken intake.new ≡ jobs_taken intake.old ++ receives s.done.event) }
     ensures front { OnEvent result (λ s. IsPrefix (jobs_seen intake.old) (receives s.done.event ++ jobs_seen intake.new)) }
@@ -210,7 +220,7 @@ pub(crate) fn first_event<L: Links>(
     requires least { IfSome shown (IsLeastShowing context.cores (L.view links.old)) }
     requires none { IfNone shown ((p : ℕ) → p < context.cores → ShowsNothing (L.view links.old p)) }
     ensures acts { OnEvent result (Acts context.number context.cores context.clock (L.view links.old) (L.view links.new) part.old part.new) }
-    ensures next { OnEvent result (λ s. IsNext context.cores part.old requests.old.items (L.view links.old) s.done.event) }
+    ensures next { OnEvent result (λ s. IsNext context.cores context.begun_last part.old requests.old.items (L.view links.old) s.done.event) }
     ensures requests { OnEvent result (λ s. requests.old.items ≡ begins s.done.event ++ requests.new.items) }
     ensures jobs { OnEvent result (λ s. jobs_taken intake.new ≡ jobs_taken intake.old ++ receives s.done.event) }
     ensures front { OnEvent result (λ s. IsPrefix (jobs_seen intake.old) (receives s.done.event ++ jobs_seen intake.new)) }

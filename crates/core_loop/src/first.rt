@@ -14,7 +14,7 @@ ghost use Rattle.core_loop.specs.Turning.{IsUnshortened};
 ghost use Rattle.core_loop.specs.Cores.{begins};
 ghost use Rattle.core_loop.specs.Receipts.{receives};
 ghost use Rattle.core_loop.specs.Beginning.{CanBegin0};
-ghost use Rattle.core_loop.specs.Choosing.{IsLeastRequest};
+ghost use Rattle.core_loop.specs.InTurn.{Asks, BeginsInTurn, IsNextInTurn};
 
 use crate::refusal::{Refusal, next_stamp};
 use crate::sending::{Ready, all_ready, can_carry, make_ready, send};
@@ -247,14 +247,15 @@ fn ready_start_for(
     make_ready(alloc, stamp, others, &outgoing)
 }
 
-/// Begins the next request, where core 0 is idle and the links to its others take messages: the request of the least core
-/// that has one waiting, else the first of its own.
+/// Begins the next request, where core 0 is idle and the links to its others take messages: that of the next core that has one,
+/// going round after the core `last`, whose request it began last. So no core that keeps asking holds up another.
 pub(crate) fn begin<L: Links>(
     core: &mut Core0,
     links: &mut L,
     alloc: Global,
     others: u16,
     clock: u64,
+    last: u16,
     requests: &mut VecDeque<Op>,
 ) -> Result<Option<Stamped>, Refusal>
     requires between { BetweenSteps core.old }
@@ -264,7 +265,7 @@ pub(crate) fn begin<L: Links>(
     ensures jobs { OnEvent result (λ s. receives s.done.event ≡ []) }
     ensures whole { OnEvent result (λ s. IsUnshortened s.done.event) }
     ensures links { OnEvent result (λ s. L.same links.old links.new) }
-    ensures least { OnEvent result (λ s. IsLeastRequest others core.old s.done.event) }
+    ensures in_turn { OnEvent result (λ s. BeginsInTurn others last core.old requests.old.items s.done.event) }
     ensures between { BetweenSteps core.new }
     ensures idle { OnIdle result (CanBegin0 others core.old requests.old.items (L.view links.old) → ⊥) }
     ensures can { OnErr result (CanBegin0 others core.old requests.old.items (L.view links.old)) }
@@ -278,25 +279,44 @@ pub(crate) fn begin<L: Links>(
     if !all_ready(links, others) {
         return Ok(None);
     }
-    match least_waiting(core, others) {
-        Some(from) => Ok(Some(start_for(core, links, alloc, others, clock, from)?)),
-        None => {
-            if requests.is_empty() {
-                return Ok(None);
+    match next_in_turn(core, others, last, requests) {
+        None => Ok(None),
+        Some(from) => {
+            if from == 0 {
+                Ok(Some(start(core, links, alloc, others, clock, requests)?))
+            } else {
+                Ok(Some(start_for(core, links, alloc, others, clock, from)?))
             }
-            Ok(Some(start(core, links, alloc, others, clock, requests)?))
         }
     }
 }
 
-/// The least of the others that has a request waiting.
-pub(crate) fn least_waiting(core: &Core0, others: u16) -> Option<u16>
-    ensures some { IfSome result (λ from. (entry : ℕ) × (op : GhostOp) × HasWaiting core.now from entry op) }
-    ensures inside { IfSome result (λ from. from ≤ others) }
-    ensures least { IfSome result (λ from. (entry : ℕ) (op : GhostOp) → suc entry < from → slice_get core.now.coordinator.requests.waiting entry ≡ Some (Some op) → ⊥) }
-    ensures none { IfNone result ((entry : ℕ) (op : GhostOp) → entry < others → slice_get core.now.coordinator.requests.waiting entry ≡ Some (Some op) → ⊥) }
+// The next core that has a request, going round after the core `last`: core 0 one of its own, another one that waits.
+fn next_in_turn(core: &Core0, others: u16, last: u16, requests: &VecDeque<Op>) -> Option<u16>
+    requires { core.now.coordinator.others ≡ others }
+    ensures asks { IfSome result (Asks others core.now requests.now.items) }
+    ensures next { IfSome result (IsNextInTurn others last core.now requests.now.items) }
+    ensures none { IfNone result ((from : ℕ) → Asks others core.now requests.now.items from → ⊥) }
 {
-    for entry in 0..others {
+    if let Some(from) = waiting_after(core, last, others) {
+        return Some(from);
+    }
+    if !requests.is_empty() {
+        return Some(0);
+    }
+    waiting_after(core, 0, last)
+}
+
+/// The least core above this one, and at most another, that has a request waiting.
+pub(crate) fn waiting_after(core: &Core0, after: u16, most: u16) -> Option<u16>
+    ensures above { IfSome result (λ from. after < from) }
+    ensures most { IfSome result (λ from. from ≤ most) }
+    ensures inside { IfSome result (λ from. from ≤ core.now.coordinator.others) }
+    ensures some { IfSome result (λ from. (entry : ℕ) × (op : GhostOp) × HasWaiting core.now from entry op) }
+    ensures least { IfSome result (λ from. (entry : ℕ) (op : GhostOp) → after ≤ entry → suc entry < from → slice_get core.now.coordinator.requests.waiting entry ≡ Some (Some op) → ⊥) }
+    ensures none { IfNone result ((entry : ℕ) (op : GhostOp) → after ≤ entry → entry < most → slice_get core.now.coordinator.requests.waiting entry ≡ Some (Some op) → ⊥) }
+{
+    for entry in after..most {
         if let Some(_) = core.coordinator.waiting(entry + 1) {
             return Some(entry + 1);
         }

@@ -1,15 +1,16 @@
 //! What a core sees before it does anything.
 
-ghost use Rattle.std.specs.Prelude.{◌≡◌, ◌≢◌, ◌<◌, ◌≤◌, ◌∷◌, [], ℕ, Some, true, IfOk, IfErr, IfSome, IfNone, IsTrue, IsFalse};
+ghost use Rattle.std.specs.Prelude.{◌≡◌, ◌≢◌, ◌<◌, ◌≤◌, ◌∷◌, [], ℕ, Some, true, false, IfOk, IfErr, IfSome, IfNone, IsTrue, IsFalse};
 ghost use mathlib.Core.List.{IsPrefix};
 ghost use Rattle.rx_queue.specs.declared.job.Job.{Job as GhostJob};
 ghost use Rattle.rx_queue.specs.Queue.{jobs_seen, jobs_taken, SameIntake};
+ghost use Rattle.core_links.specs.Flows.{FlowsOn};
 ghost use Rattle.core_loop.specs.Carrying.{Quiet};
 ghost use Rattle.core_loop.specs.Receipts.{IsReceivable};
 ghost use Rattle.core_loop.specs.Turning.{HasRequest};
 ghost use Rattle.core_loop.specs.Choosing.{ShowsNothing, IsLeastShowing};
 
-use crate::first::least_waiting;
+use crate::first::waiting_after;
 use crate::part::Part;
 use core_links::{LineFault, Links};
 use filter_table::Op;
@@ -22,6 +23,9 @@ pub(crate) fn least_showing<L: Links>(links: &mut L, cores: u16) -> Result<Optio
     ensures quiet { (p : ℕ) → Quiet (L.view links.old p) (L.view links.new p) }
     ensures least { IfOk result (λ shown. IfSome shown (IsLeastShowing cores (L.view links.new))) }
     ensures none { IfOk result (λ shown. IfNone shown ((p : ℕ) → p < cores → ShowsNothing (L.view links.new p))) }
+    ensures lines { (p : ℕ) → FlowsOn (L.flow links.old p) (L.flow links.new p) }
+    ensures full { ((p : ℕ) → (L.view links.old p).ready ≡ false → (L.flow links.old p).room ≡ 0) → (p : ℕ) → (L.view links.new p).ready ≡ false → (L.flow links.new p).room ≡ 0 }
+    ensures dry { IfOk result (λ shown. IfNone shown ((p : ℕ) → p < cores → (L.flow links.new p).known ≡ 0)) }
     ensures fault { IfErr result (λ fault. (peer : ℕ) × (peer < cores) × ((p : ℕ) → p < peer → ShowsNothing (L.view links.new p)) × ((L.view links.new peer).stopped ≡ Some fault)) }
 {
     for peer in 0..cores {
@@ -50,7 +54,7 @@ pub(crate) fn has_request(part: &Part, cores: u16, requests: &VecDeque<Op>) -> b
         return true;
     }
     match part {
-        Part::First(core) => least_waiting(core, cores - 1).is_some(),
+        Part::First(core) => waiting_after(core, 0, cores - 1).is_some(),
         Part::Other(_) => false,
     }
 }

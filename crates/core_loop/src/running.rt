@@ -5,7 +5,7 @@ ghost use Rattle.std.specs.Prelude.{◌≡◌, ◌<◌, ◌≤◌, ℕ};
 use crate::cause::{Cause, Turn};
 use crate::context::Context;
 use crate::deciding::decision_of;
-use crate::noting::noted;
+use crate::noting::{last_begun_with, noted};
 use crate::part::Part;
 use crate::refusal::Halt;
 use crate::sending::all_ready;
@@ -31,6 +31,8 @@ pub struct Core<L: Links> {
     pub(crate) requests: VecDeque<Op>,
     pub(crate) intake: Intake,
     pub(crate) history: Log<Stamped>,
+    // The core whose request core 0 began last.
+    pub(crate) begun_last: u16,
     // What a receipt writes before it is known whether there is room, and its working lists.
     pub(crate) scratch: Scratch,
     pub(crate) stopped: Option<Cause>,
@@ -49,6 +51,7 @@ impl<L: Links> Drop for Core<L> {
             requests: _,
             intake: _,
             history: _,
+            begun_last: _,
             scratch: _,
             stopped: _,
         } = self;
@@ -56,29 +59,33 @@ impl<L: Links> Drop for Core<L> {
 }
 
 impl<L: Links> Model for Core<L> {
-    ghost use Rattle.std.specs.Prelude.{◌<◌, ◌≤◌};
+    ghost use Rattle.std.specs.Prelude.{◌≡◌, ◌<◌, ◌≤◌};
     ghost use Rattle.core_loop.specs.Cores.{CoreState, AreShort};
     ghost use Rattle.core_loop.specs.Keeping.{IsStanding};
+    ghost use Rattle.core_loop.specs.InTurn.{last_begun};
+    ghost use Rattle.core_loop.specs.Turning.{HasStopped};
 
     ghost Value = { CoreState L };
 
     ghost view = { λ c. record { number = c.number; cores = c.cores; links = c.links; part = c.part; clock = c.clock; pending = c.requests.items; intake = c.intake; history = c.history.items; stopped = c.stopped } };
 
-    ghost invariant = { λ c. (c.number < c.cores) × (c.cores ≤ 8) × IsStanding c.part c.number c.cores c.clock c.history.items (L.view c.links) × AreShort c.number c.requests.items };
+    ghost invariant = { λ c. (c.number < c.cores) × (c.cores ≤ 8) × IsStanding c.part c.number c.cores c.clock c.history.items (L.view c.links) × AreShort c.number c.requests.items × (c.begun_last ≡ last_begun c.history.items) × HasStopped c.cores c.clock c.part (L.view c.links) c.stopped };
 }
 
 impl<L: Links> Core<L> {
-    ghost use Rattle.std.specs.Prelude.{◌≡◌, ◌≢◌, ◌<◌, ◌≤◌, ◌↔◌, ◌++◌, ◌∷◌, ℕ, Option, option_to_list, [], length, true, false, Some, None, IfOk, IfSome, IfNone, IsTrue, MatchOption};
+    ghost use Rattle.std.specs.Prelude.{◌≡◌, ◌≢◌, ◌<◌, ◌≤◌, ◌↔◌, ◌++◌, ◌∷◌, ℕ, List, Option, option_to_list, [], length, true, false, Some, None, IfOk, IfSome, IfNone, IsTrue, MatchOption};
     ghost use mathlib.Core.List.{IsPrefix};
     ghost use Rattle.rx_queue.specs.Queue.{jobs_put, jobs_seen, jobs_taken, AreEnds, SamePort, SameIntake};
     ghost use Rattle.rx_queue.specs.declared.job.Job.{Job as GhostJob};
     ghost use Rattle.world_histories.specs.declared.history.Stamped.{Stamped as GhostStamped};
     ghost use Rattle.core_loop.specs.declared.cause.Cause.{Cause as GhostCause};
     ghost use Rattle.core_loop.specs.declared.cause.Turn.TheVariants.{Did, Idle, Stopped, Spent, NoMemory};
-    ghost use Rattle.core_loop.specs.Cores.{Stands, AreShort, SameCore, NothingDone, DidOne, CanReceive, begun};
+    ghost use Rattle.core_loop.specs.Passing.{PassesOver, IsOnceEach};
+    ghost use Rattle.core_loop.specs.Cores.{CoreState, Stands, AreShort, SameCore, NothingDone, DidOne, CanReceive, begun};
     ghost use Rattle.core_loop.specs.Beginning.{CanBeginNext, HasNothingUnderWay};
-    ghost use Rattle.core_loop.specs.Choosing.{NoMessageNow};
-    ghost use Rattle.core_loop.specs.Turning.{StopsFirst, IsSpent, LacksMemory, HasWork};
+    ghost use Rattle.core_links.specs.Flows.{FlowsOn};
+    ghost use Rattle.core_loop.specs.Choosing.{ShowsNothing, NoMessageNow};
+    ghost use Rattle.core_loop.specs.Turning.{StopsFirst, HasStopped, IsSpent, LacksMemory, HasWork};
     ghost use Rattle.core_loop.specs.Receipts.{receives};
     ghost use Rattle.core_loop.specs.Answering.{decisions};
     ghost use Rattle.filter_table.specs.declared.decision.Decision.{Decision as GhostDecision};
@@ -118,6 +125,7 @@ impl<L: Links> Core<L> {
             requests,
             intake,
             history: Log::new(),
+            begun_last: 0,
             scratch: Scratch::new(alloc),
             stopped: None,
         })
@@ -130,8 +138,16 @@ impl<L: Links> Core<L> {
         let _ = &self.part;
     }
 
+    /// Why the core has stopped, if it has, by what its links show. A law: nothing is done.
+    pub fn has_stopped(&self)
+        ensures { HasStopped self.now.cores self.now.clock self.now.part (L.view self.now.links) self.now.stopped }
+    {
+        let _ = &self.stopped;
+    }
+
     /// Does one event at most, without waiting: it takes the next message of the least peer that has one, where the links that
-    /// its answer needs take messages; else it begins the next request; else it receives the front job where `rx` is true.
+    /// its answer needs take messages; else it begins the next request; else it receives the front job where `rx` is true. Core 0
+    /// begins the request of the next core that has one, going round after the core whose request it began last.
     /// After `Stopped` every turn answers the same. It takes no memory where there is no message, no request and no job that
     /// it can receive.
     pub fn turn(&mut self, rx: bool) -> Turn
@@ -150,6 +166,9 @@ impl<L: Links> Core<L> {
         ensures no_memory { result ≡ NoMemory → HasWork self.old.cores self.old.part self.old.pending (L.view self.new.links) rx self.new.intake }
         ensures idle_message { result ≡ Idle → NoMessageNow self.new.cores self.new.part (L.view self.new.links) }
         ensures idle { result ≡ Idle → CanBeginNext self.new.cores self.new.part self.new.pending (L.view self.new.links) → ⊥ }
+        ensures lines { result ≡ Idle → (p : ℕ) → FlowsOn (L.flow self.old.links p) (L.flow self.new.links p) }
+        ensures full { result ≡ Idle → (p : ℕ) → (L.view self.new.links p).ready ≡ false → (L.flow self.new.links p).room ≡ 0 }
+        ensures dry { result ≡ Idle → ((p : ℕ) → p < self.new.cores → ShowsNothing (L.view self.new.links p)) → (p : ℕ) → p < self.new.cores → (L.flow self.new.links p).known ≡ 0 }
         ensures idle_job { result ≡ Idle → rx ≡ true → (job : GhostJob) → CanReceive self.new job → ⊥ }
     {
         if let Some(cause) = self.stopped {
@@ -160,6 +179,7 @@ impl<L: Links> Core<L> {
             number: self.number,
             cores: self.cores,
             clock: self.clock,
+            begun_last: self.begun_last,
         };
         match next_event(
             &mut self.part,
@@ -173,6 +193,7 @@ impl<L: Links> Core<L> {
             Ok(Some(stamped)) => {
                 self.clock = stamped.stamp;
                 self.history = noted(&self.history, &stamped);
+                self.begun_last = last_begun_with(self.begun_last, &stamped.done.event);
                 Turn::Did {
                     decision: decision_of(&self.part, &stamped.done),
                     event: stamped,
@@ -186,6 +207,12 @@ impl<L: Links> Core<L> {
             }
         }
     }
+
+    /// While a core's request waits at core 0, core 0 begins at most one request of each other core, and one of its own, before it. A
+    /// law of core 0's turns, whatever else happens between them: nothing is done.
+    pub fn passes_each_once()
+        ensures { (core : ℕ) (cores : List ℕ) (old : CoreState L) → PassesOver L.view core cores old → IsOnceEach cores }
+    {}
 
     /// The core's number.
     pub fn number(&self) -> u16

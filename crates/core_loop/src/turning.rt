@@ -1,15 +1,16 @@
 //! The next event of a core.
 
-ghost use Rattle.std.specs.Prelude.{◌≡◌, ◌≤◌, ◌⊎◌, ◌++◌, ℕ, [], false, None, IfErr, IsSome, IsTrue, IsFalse};
+ghost use Rattle.std.specs.Prelude.{◌≡◌, ◌<◌, ◌≤◌, ◌⊎◌, ◌++◌, ℕ, [], false, None, IfErr, IsSome, IsTrue, IsFalse};
 ghost use mathlib.Core.List.{IsPrefix};
 ghost use Rattle.rx_queue.specs.Queue.{jobs_seen, jobs_taken, SameIntake};
 ghost use Rattle.core_loop.specs.declared.refusal.Halt.TheVariants.{NoMemory};
+ghost use Rattle.core_links.specs.Flows.{FlowsOn};
 ghost use Rattle.core_loop.specs.Carrying.{Quiet};
 ghost use Rattle.core_loop.specs.Cores.{begins, AreShort};
 ghost use Rattle.core_loop.specs.Receipts.{receives};
 ghost use Rattle.core_loop.specs.Outcomes.{OnEvent, OnNone, OnIdle};
 ghost use Rattle.core_loop.specs.Beginning.{CanBeginNext, IsFitting};
-ghost use Rattle.core_loop.specs.Choosing.{NoMessageNow};
+ghost use Rattle.core_loop.specs.Choosing.{ShowsNothing, NoMessageNow};
 ghost use Rattle.core_loop.specs.Turning.{IsUnshortened, ActsFirst, MayReceive, HasRequest, HasWork, HaltsFor};
 
 use crate::cause::Cause;
@@ -37,7 +38,7 @@ pub(crate) fn next_event<L: Links>(
     requires cores { 1 ≤ context.cores }
     requires fits { IsFitting context.number context.cores part.old }
     requires short { AreShort context.number requests.old.items }
-    ensures acts { OnEvent result (ActsFirst context.number context.cores context.clock requests.old.items (L.view links.old) (L.view links.new) part.old part.new) }
+    ensures acts { OnEvent result (ActsFirst context.number context.cores context.clock context.begun_last requests.old.items (L.view links.old) (L.view links.new) part.old part.new) }
     ensures requests { OnEvent result (λ s. requests.old.items ≡ begins s.done.event ++ requests.new.items) }
     ensures jobs { OnEvent result (λ s. jobs_taken intake.new ≡ jobs_taken intake.old ++ receives s.done.event) }
     ensures front { OnEvent result (λ s. IsPrefix (jobs_seen intake.old) (receives s.done.event ++ jobs_seen intake.new)) }
@@ -52,6 +53,9 @@ pub(crate) fn next_event<L: Links>(
     ensures idle_message { OnIdle result (NoMessageNow context.cores part.old (L.view links.new)) }
     ensures idle { OnIdle result (CanBeginNext context.cores part.old requests.old.items (L.view links.new) → ⊥) }
     ensures idle_job { OnIdle result (MayReceive part.old rx intake.new → ⊥) }
+    ensures lines { OnIdle result ((p : ℕ) → FlowsOn (L.flow links.old p) (L.flow links.new p)) }
+    ensures full { OnIdle result ((p : ℕ) → (L.view links.new p).ready ≡ false → (L.flow links.new p).room ≡ 0) }
+    ensures dry { OnIdle result (((p : ℕ) → p < context.cores → ShowsNothing (L.view links.new p)) → (p : ℕ) → p < context.cores → (L.flow links.new p).known ≡ 0) }
     ensures why { IfErr result (HaltsFor context.cores context.clock part.old requests.old.items (L.view links.new) rx intake.new) }
     ensures memory { IfErr result (λ halt. halt ≡ NoMemory → HasWork context.cores part.old requests.old.items (L.view links.new) rx intake.new) }
 {

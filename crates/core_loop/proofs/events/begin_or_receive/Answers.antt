@@ -11,7 +11,7 @@ use Rattle.core_loop.proofs.events.begin_or_receive.Goals as goal
 
 pub returns-in-Ok-Some-clause-next : goal.returns-in-Ok-Some-clause-next
 returns-in-Ok-Some-clause-next g c =
-    request_next c.args.context.cores c.args.part.now c.args.requests.now.items (g.L.Links.view c.args.links.now) c.in-Ok-Some.stamped.done.event c.requires.no_message (rw c.in-Ok-Some.field-0-is at c.in-Ok-Some.ensures.least)
+    request_next c.args.context.cores c.args.context.begun_last c.args.part.now c.args.requests.now.items (g.L.Links.view c.args.links.now) c.in-Ok-Some.stamped.done.event c.requires.no_message (rw c.in-Ok-Some.field-0-is at c.in-Ok-Some.ensures.in_turn)
 
 pub returns-in-Err-Spent-clause-why : goal.returns-in-Err-Spent-clause-why
 returns-in-Err-Spent-clause-why g c =

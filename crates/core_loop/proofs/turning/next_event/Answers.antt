@@ -1,10 +1,14 @@
-use Rattle.std.proofs.Common.{◌≡◌, ◌++◌, ◌∙◌, inl, List, sym, ap, subst}
+use Rattle.std.proofs.Common.{◌≡◌, ◌<◌, ◌++◌, ◌∙◌, inl, ℕ, false, List, Option, None, Some, sym, ap, subst}
+use Rattle.std.specs.Prelude.{IfSome, IfNone}
+use Rattle.core_links.specs.Views.{LinkView}
+use Rattle.core_links.specs.Flows.{Flow, FlowsOn}
+use Rattle.core_loop.proofs.Flowing.{on_along, out_on}
 use Rattle.rx_queue.specs.declared.job.Job.{Job}
 use Rattle.rx_queue.specs.Queue.{jobs_seen, jobs_taken}
 use Rattle.world_histories.proofs.Lists.{prefix_then}
 use Rattle.core_loop.proofs.Carrying.{quiet_along, same_quiet, pumped_quiet}
 use Rattle.core_loop.specs.Beginning.{CanBeginNext}
-use Rattle.core_loop.specs.Choosing.{NoMessageNow}
+use Rattle.core_loop.specs.Choosing.{ShowsNothing, IsLeastShowing, NoMessageNow}
 use Rattle.core_loop.specs.Outcomes.{OnEvent}
 use Rattle.core_loop.specs.Receipts.{receives}
 use Rattle.core_loop.specs.Turning.{HasWork, HaltsFor}
@@ -21,7 +25,7 @@ returns-then-not-has_work-clause-quiet g c = λ p. quiet_along _ _ _ (pumped_qui
 pub returns-clause-acts : goal.returns-clause-acts
 returns-clause-acts g c =
     let view = g.L.Links.view in
-    acts_first c.args.context.number c.args.context.cores c.args.context.clock c.args.requests.now.items (view c.args.links.now) (view c.least_showing.new.links) (view c.first_event.new.links) c.args.part.now c.first_event.new.part c.first_event.result
+    acts_first c.args.context.number c.args.context.cores c.args.context.clock c.args.context.begun_last c.args.requests.now.items (view c.args.links.now) (view c.least_showing.new.links) (view c.first_event.new.links) c.args.part.now c.first_event.new.part c.first_event.result
     (λ p. quiet_along _ _ _ (pumped_quiet _ _ (c.pump.ensures.pumped p)) (c.least_showing.ensures.quiet p)) c.first_event.ensures.next c.first_event.ensures.acts
 
 pub returns-clause-quiet : goal.returns-clause-quiet
@@ -106,3 +110,36 @@ first_event-requires-clause-least g c = c.in-Ok.ensures.least
 
 pub first_event-requires-clause-none : goal.first_event-requires-clause-none
 first_event-requires-clause-none g c = c.in-Ok.ensures.none
+
+-- where the least peer that shows a message shows none, there is none
+dry_of : (cores : ℕ) (view : ℕ → LinkView) (flow : ℕ → Flow) (shown : Option ℕ) → IfSome shown (IsLeastShowing cores view) → IfNone shown ((p : ℕ) → p < cores → (flow p).known ≡ 0)
+    → ((p : ℕ) → p < cores → ShowsNothing (view p)) → (p : ℕ) → p < cores → (flow p).known ≡ 0
+dry_of cores view flow None least dry none = dry
+dry_of cores view flow (Some peer) least dry none = absurd (least.shows (none peer least.inside).no_message)
+
+pub returns-then-not-has_work-clause-lines : goal.returns-then-not-has_work-clause-lines
+returns-then-not-has_work-clause-lines g c = λ p. on_along _ _ _ (out_on _ _ _ (c.pump.ensures.lines p)) (c.least_showing.ensures.lines p)
+
+pub returns-then-not-has_work-clause-full : goal.returns-then-not-has_work-clause-full
+returns-then-not-has_work-clause-full g c = c.least_showing.ensures.full (λ p. (c.pump.ensures.lines p).full)
+
+pub returns-then-not-has_work-clause-dry : goal.returns-then-not-has_work-clause-dry
+returns-then-not-has_work-clause-dry g c = dry_of c.args.context.cores (g.L.Links.view c.least_showing.new.links) (g.L.Links.flow c.least_showing.new.links) c.in-Ok.shown c.in-Ok.ensures.least c.in-Ok.ensures.dry
+
+pub returns-clause-lines : goal.returns-clause-lines
+returns-clause-lines g c =
+    let flow = g.L.Links.flow in
+    on_idle_both c.first_event.result (λ n e p. subst (λ (l : g.row.L.Denot). FlowsOn (flow c.args.links.now p) (flow l p)) (sym e.1) (on_along _ _ _ (out_on _ _ _ (c.pump.ensures.lines p)) (c.least_showing.ensures.lines p))) c.first_event.ensures.idle_message c.first_event.ensures.same
+
+pub returns-clause-full : goal.returns-clause-full
+returns-clause-full g c =
+    let view = g.L.Links.view in
+    let flow = g.L.Links.flow in
+    on_idle_both c.first_event.result (λ n e. subst (λ (l : g.row.L.Denot). (p : ℕ) → (view l p).ready ≡ false → (flow l p).room ≡ 0) (sym e.1) (c.least_showing.ensures.full (λ p. (c.pump.ensures.lines p).full))) c.first_event.ensures.idle_message c.first_event.ensures.same
+
+pub returns-clause-dry : goal.returns-clause-dry
+returns-clause-dry g c =
+    let view = g.L.Links.view in
+    let flow = g.L.Links.flow in
+    on_idle_both c.first_event.result (λ n e. subst (λ (l : g.row.L.Denot). ((p : ℕ) → p < c.args.context.cores → ShowsNothing (view l p)) → (p : ℕ) → p < c.args.context.cores → (flow l p).known ≡ 0) (sym e.1)
+    (dry_of c.args.context.cores (view c.least_showing.new.links) (flow c.least_showing.new.links) c.in-Ok.shown c.in-Ok.ensures.least c.in-Ok.ensures.dry)) c.first_event.ensures.idle_message c.first_event.ensures.same

@@ -3,6 +3,7 @@ use Rattle.std.specs.Prelude.{IsTrue, IsFalse}
 use Rattle.core_links.specs.Views.{LinkView}
 use Rattle.core_links.specs.ListSlots.{list_view}
 use Rattle.core_loop.proofs.Resting.{stands_same}
+use Rattle.core_loop.proofs.Stopped.{same_stopped}
 use Rattle.core_loop.proofs.listed.Core+ListLinks.mark_collected.Goals as goal
 
 -- the views are as they were, whether there was a message or not
@@ -20,4 +21,6 @@ invariant_of-self c =
       v.1,
       stands_same i.part i.number i.cores i.clock i.history.items (list_view i.links) (list_view c.mark_collected.new.self) v.2 (λ p. (ap (λ (w : LinkView). w.sent) (same p), ap (λ (w : LinkView). w.taken) (same p))),
       v.3,
+      v.4,
+      same_stopped i.cores i.clock i.part (list_view i.links) (list_view c.mark_collected.new.self) i.stopped same v.5,
     )

@@ -20,4 +20,6 @@ invariant_of-self g c =
       v.2,
       short_more c.self.inside.number _ c.self.inside.requests.items c.push_back.new.self.items c.args.op c.push_back.ensures.items v.3
           (subst (λ (s : CoreState g.row.L.Denot). AreShort s.number (c.args.op ∷ [])) (sym c.self.view_is) c.requires.short),
+      v.4,
+      v.5,
     )

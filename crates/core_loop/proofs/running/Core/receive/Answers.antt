@@ -4,6 +4,8 @@ use Rattle.table_replica.specs.Shown.{ReplicaState}
 use Rattle.filter_table.specs.Tables.{Accepting}
 use Rattle.core_loop.specs.Keeping.{IsStanding}
 use Rattle.core_loop.proofs.Receipting.{receipt_stands}
+use Rattle.core_loop.proofs.InTurn.{begun_more}
+use Rattle.core_loop.proofs.Stopped.{not_stopped}
 use Rattle.core_loop.proofs.running.Core.receive.Goals as goal
 
 pub invariant_of-self : goal.invariant_of-self
@@ -21,4 +23,6 @@ invariant_of-self-2 g c =
       subst (λ (l : List Stamped). IsStanding i.part i.number i.cores stamp l (view i.links)) (sym c.noted_receipt-self-inside.ensures)
           (receipt_stands i.number i.cores i.clock stamp c.version-version.result i.part c.args.bytes.now c.args.original _ i.history.items (view i.links) v.2 (omega (arith, c.in-Some-next_stamp.ensures.some)) (c.version-version.ensures ∙ ap (λ (r : ReplicaState). r.shown.version) c.replica-replica.ensures) here),
       v.3,
+      begun_more i.begun_last i.history.items c.noted_receipt-self-inside.result.items _ v.4 c.noted_receipt-self-inside.ensures,
+      not_stopped i.cores stamp i.part (view i.links) i.stopped c.in_default.is,
     )

@@ -1,4 +1,5 @@
-use Rattle.std.proofs.Common.{◌≡◌, ◌∙◌, ◌++◌, List, refl, sym, ap, subst}
+use Rattle.std.proofs.Common.{◌≡◌, ◌∙◌, ◌++◌, ℕ, List, refl, sym, ap, subst}
+use Rattle.core_links.specs.Flows.{FlowsOn}
 use Rattle.world_histories.specs.declared.history.Stamped.{Stamped}
 use Rattle.core_loop.specs.declared.part.Part.{Part}
 use Rattle.core_loop.specs.Keeping.{IsStanding, replica_of}
@@ -8,9 +9,12 @@ use Rattle.core_loop.specs.Receipts.{IsReceivable}
 use Rattle.std.specs.Prelude.{option_to_list}
 use Rattle.filter_table.specs.declared.decision.Decision.{Decision}
 use Rattle.core_loop.specs.Answering.{decisions}
-use Rattle.core_loop.specs.Turning.{HasWork, IsSpent, LacksMemory}
+use Rattle.core_loop.specs.Turning.{ActsFirst, HasWork, IsSpent, LacksMemory}
 use Rattle.core_loop.proofs.Acting.{acts_stand, acts_budget}
 use Rattle.core_loop.proofs.Answering.{decides_next}
+use Rattle.core_loop.proofs.InTurn.{begun_more as last_more}
+use Rattle.core_loop.proofs.Stopped.{not_stopped, stopped_now}
+use Rattle.core_loop.specs.InTurn.{last_begun}
 use Rattle.core_loop.proofs.Resting.{did_is, stands_quiet, rest_stands, short_rest, begun_more, was_running, seen_same, seen_idle, seen_done}
 use Rattle.core_loop.proofs.running.Core.turn.Goals as goal
 
@@ -27,7 +31,7 @@ invariant_of-self g c =
     let view = g.L.Links.view in
     let same = rw c.in-Ok-None.field-0-is at c.in-Ok-None.ensures.same in
     let quiet = rw c.in-Ok-None.field-0-is at c.in-Ok-None.ensures.quiet in
-    (v.0, v.1, rest_stands i.part c.next_event.new.part i.number i.cores i.clock i.history.items i.history.items (view i.links) (view c.next_event.new.links) v.2 same.0 refl quiet, rw same.1 v.3)
+    (v.0, v.1, rest_stands i.part c.next_event.new.part i.number i.cores i.clock i.history.items i.history.items (view i.links) (view c.next_event.new.links) v.2 same.0 refl quiet, rw same.1 v.3, v.4, not_stopped i.cores i.clock c.next_event.new.part (view c.next_event.new.links) i.stopped c.in_default.is)
 
 pub invariant_of-self-in-Err-Spent : goal.invariant_of-self-in-Err-Spent
 invariant_of-self-in-Err-Spent g c =
@@ -35,7 +39,7 @@ invariant_of-self-in-Err-Spent g c =
     let v = c.self.invariant in
     let view = g.L.Links.view in
     let h = c.in-Err-Spent.ensures in
-    (v.0, v.1, rest_stands i.part c.next_event.new.part i.number i.cores i.clock i.history.items i.history.items (view i.links) (view c.next_event.new.links) v.2 h.same.0 refl h.quiet, rw h.same.1 v.3)
+    (v.0, v.1, rest_stands i.part c.next_event.new.part i.number i.cores i.clock i.history.items i.history.items (view i.links) (view c.next_event.new.links) v.2 h.same.0 refl h.quiet, rw h.same.1 v.3, v.4, not_stopped i.cores i.clock c.next_event.new.part (view c.next_event.new.links) i.stopped c.in_default.is)
 
 pub invariant_of-self-in-Err-NoMemory : goal.invariant_of-self-in-Err-NoMemory
 invariant_of-self-in-Err-NoMemory g c =
@@ -43,7 +47,7 @@ invariant_of-self-in-Err-NoMemory g c =
     let v = c.self.invariant in
     let view = g.L.Links.view in
     let h = c.in-Err-NoMemory.ensures in
-    (v.0, v.1, rest_stands i.part c.next_event.new.part i.number i.cores i.clock i.history.items i.history.items (view i.links) (view c.next_event.new.links) v.2 h.same.0 refl h.quiet, rw h.same.1 v.3)
+    (v.0, v.1, rest_stands i.part c.next_event.new.part i.number i.cores i.clock i.history.items i.history.items (view i.links) (view c.next_event.new.links) v.2 h.same.0 refl h.quiet, rw h.same.1 v.3, v.4, not_stopped i.cores i.clock c.next_event.new.part (view c.next_event.new.links) i.stopped c.in_default.is)
 
 pub invariant_of-self-in-Err-Stopped : goal.invariant_of-self-in-Err-Stopped
 invariant_of-self-in-Err-Stopped g c =
@@ -51,7 +55,7 @@ invariant_of-self-in-Err-Stopped g c =
     let v = c.self.invariant in
     let view = g.L.Links.view in
     let h = c.in-Err-Stopped.ensures in
-    (v.0, v.1, rest_stands i.part c.next_event.new.part i.number i.cores i.clock i.history.items i.history.items (view i.links) (view c.next_event.new.links) v.2 h.same.0 refl h.quiet, rw h.same.1 v.3)
+    (v.0, v.1, rest_stands i.part c.next_event.new.part i.number i.cores i.clock i.history.items i.history.items (view i.links) (view c.next_event.new.links) v.2 h.same.0 refl h.quiet, rw h.same.1 v.3, v.4, stopped_now i.cores i.clock i.part c.next_event.new.part (view c.next_event.new.links) c.in-Err-Stopped.cause h.same.0 (rw c.in-Err-Stopped.field-0-is at h.why))
 
 pub invariant_of-self-in-Ok-Some : goal.invariant_of-self-in-Ok-Some
 invariant_of-self-in-Ok-Some g c =
@@ -67,6 +71,8 @@ invariant_of-self-in-Ok-Some g c =
       subst (λ (l : List Stamped). IsStanding c.next_event.new.part i.number i.cores s.stamp l (view c.next_event.new.links)) (sym kept)
           (acts_stand i.part c.next_event.new.part i.number i.cores i.clock i.history.items s a.seen (view c.next_event.new.links) (stands_quiet i.part i.number i.cores i.clock i.history.items (view i.links) a.seen v.2 a.looks) a.acts),
       short_rest i.number i.requests.items (begins s.done.event) c.next_event.new.requests.items requests v.3,
+      c.last_begun_with-self-inside.ensures ∙ last_more i.begun_last i.history.items c.noted-self-inside.result.items s v.4 kept,
+      not_stopped i.cores s.stamp c.next_event.new.part (view c.next_event.new.links) i.stopped c.in_default.is,
     )
 
 pub returns-in-Ok-None-clause-idle_message : goal.returns-in-Ok-None-clause-idle_message
@@ -96,7 +102,9 @@ returns-in-Ok-Some-clause-did g c = λ t d is.
     let front = rw c.in-Ok-Some.field-0-is at c.in-Ok-Some.ensures.front in
     let whole = rw c.in-Ok-Some.field-0-is at c.in-Ok-Some.ensures.whole in
     let kept = c.noted-self-inside.ensures in
-    seen_done g.L.Links.view _ _ _ s t (did_is s t _ d is).0 c.self.view_is (record { history = kept; clock = refl; acts = acts; pending = requests; jobs = jobs; seen = front; unshortened = whole })
+    let i = c.self.inside in
+    let last = subst (λ (n : ℕ). ActsFirst i.number i.cores i.clock n i.requests.items (g.L.Links.view i.links) (g.L.Links.view c.next_event.new.links) i.part c.next_event.new.part s) c.self.invariant.4 acts in
+    seen_done g.L.Links.view _ _ _ s t (did_is s t _ d is).0 c.self.view_is (record { history = kept; clock = refl; acts = last; pending = requests; jobs = jobs; seen = front; unshortened = whole })
 
 pub returns-in-Ok-None-clause-core : goal.returns-in-Ok-None-clause-core
 returns-in-Ok-None-clause-core g c =
@@ -209,3 +217,14 @@ pub returns-in-Err-NoMemory-clause-lacks : goal.returns-in-Err-NoMemory-clause-l
 returns-in-Err-NoMemory-clause-lacks g c = λ _.
     let why = rw c.in-Err-NoMemory.field-0-is at c.in-Err-NoMemory.ensures.why in
     subst (λ (s : CoreState g.row.L.Denot). LacksMemory s.cores s.clock s.part s.pending (g.L.Links.view c.next_event.new.links) c.args.rx c.next_event.new.intake) c.self.view_is why
+
+pub returns-in-Ok-None-clause-lines : goal.returns-in-Ok-None-clause-lines
+returns-in-Ok-None-clause-lines g c = λ _.
+    let lines : (p : ℕ) → FlowsOn (g.L.Links.flow c.self.inside.links p) (g.L.Links.flow c.next_event.new.links p) = rw c.in-Ok-None.field-0-is at c.in-Ok-None.ensures.lines in
+    subst (λ (l : g.row.L.Denot). (p : ℕ) → FlowsOn (g.L.Links.flow l p) (g.L.Links.flow c.next_event.new.links p)) (ap (λ (x : CoreState g.row.L.Denot). x.links) c.self.view_is) lines
+
+pub returns-in-Ok-None-clause-full : goal.returns-in-Ok-None-clause-full
+returns-in-Ok-None-clause-full g c = λ _. rw c.in-Ok-None.field-0-is at c.in-Ok-None.ensures.full
+
+pub returns-in-Ok-None-clause-dry : goal.returns-in-Ok-None-clause-dry
+returns-in-Ok-None-clause-dry g c = λ _. rw c.in-Ok-None.field-0-is at c.in-Ok-None.ensures.dry

@@ -1,0 +1,30 @@
+use Rattle.core_links.specs.RingSlots.{ring_view}
+use Rattle.core_loop.proofs.Resting.{stands_same}
+use Rattle.core_loop.proofs.Stopped.{seen_stopped}
+use Rattle.core_loop.proofs.joined.Core+RingLinks.beside.Goals as goal
+
+pub invariant_of-self : goal.invariant_of-self
+invariant_of-self c =
+    let i = c.self.inside in
+    let v = c.self.invariant in
+    let same = c.beside.ensures.here in (
+      v.0,
+      v.1,
+      stands_same i.part i.number i.cores i.clock i.history.items (ring_view i.links) (ring_view c.beside.new.self) v.2 (λ p. ((same p).sent, (same p).taken)),
+      v.3,
+      v.4,
+      seen_stopped i.cores i.clock i.part (ring_view i.links) (ring_view c.beside.new.self) i.stopped same v.5,
+    )
+
+pub invariant_of-other : goal.invariant_of-other
+invariant_of-other c =
+    let i = c.other.inside in
+    let v = c.other.invariant in
+    let same = c.beside.ensures.there in (
+      v.0,
+      v.1,
+      stands_same i.part i.number i.cores i.clock i.history.items (ring_view i.links) (ring_view c.beside.new.other) v.2 (λ p. ((same p).sent, (same p).taken)),
+      v.3,
+      v.4,
+      seen_stopped i.cores i.clock i.part (ring_view i.links) (ring_view c.beside.new.other) i.stopped same v.5,
+    )
