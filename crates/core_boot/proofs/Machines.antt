@@ -1,5 +1,5 @@
 -- The cores that have come up are those of one machine.
-use Rattle.std.proofs.Common.{All, ◌≡◌, ◌<◌, ◌⊎◌, inl, inr, ℕ, zero, suc, List, [], ◌∷◌, ◌==◌, Some, slice_get, get_or, length, refl, sym, ap, ◌∙◌, subst, arith, rules, if◌then◌else◌}
+use Rattle.std.proofs.Common.{All, ◌≡◌, ◌<◌, ◌⊎◌, inl, inr, ℕ, zero, suc, List, [], ◌∷◌, ◌==◌, None, Some, slice_get, get_or, length, refl, sym, ap, ◌∙◌, subst, arith, rules, if◌then◌else◌}
 use Rattle.std.specs.Global.{Global}
 use Rattle.std.specs.declared.collections.VecDeque.{VecDeque}
 use Rattle.std.proofs.lemmas.Grind.{common_steps}
@@ -10,7 +10,7 @@ use Rattle.filter_table.specs.declared.operation.Op.{Op}
 use Rattle.filter_table.specs.Tables.{HasShortProgram}
 use Rattle.rx_queue.specs.declared.port.Port.{Port}
 use Rattle.core_links.specs.declared.ring_links.RingLinks.{RingLinks}
-use Rattle.core_links.specs.RingSlots.{own_of, AreJoinedLinks}
+use Rattle.core_links.specs.RingSlots.{own_of, link_to, AreJoinedLinks}
 use Rattle.core_loop.specs.Cores.{AreShort}
 use Rattle.core_join.specs.Machines.{RingCore, HasPlace, IsMachine}
 use Rattle.core_boot.specs.Booted.{IsBooted, AreBooted, HasDoneNothing}
@@ -112,6 +112,7 @@ is_machine (b ∷ bs) lanes (first ∷ others) (c ∷ cs) ports some wired long_
     record {
       place = place_of 0 (suc (length bs)) b f0.link f0.lane.items c f0.port up0 own0;
       all = (let e = up.all in omega (arith, e, long));
+      no_itself = subst (λ (x : RingLinks). link_to x 0 ≡ None) links0 wired.no_itself;
       peers = λ i b' d at_b at_d.
           let f = from (length (b ∷ bs)) lanes (c ∷ cs) ports (b ∷ bs) (first ∷ others) up long long_lanes (suc i) d at_d in
           let is_b' : f.budget ≡ b' = (let g = f.at_budget in cc) in
@@ -120,6 +121,7 @@ is_machine (b ∷ bs) lanes (first ∷ others) (c ∷ cs) ports some wired long_
           record {
             place = place_of (suc i) (suc (length bs)) b' f.link f.lane.items d f.port up' w.own;
             joined = subst (λ (x : RingLinks). AreJoinedLinks x d.links) links0 (subst (λ (x : RingLinks). AreJoinedLinks first x) (sym f.up.links_are) w.joined);
+            no_other = λ entry. subst (λ (x : RingLinks). link_to x (suc entry) ≡ None) (sym f.up.links_are) (w.no_other entry);
           };
     }
 

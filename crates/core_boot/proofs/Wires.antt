@@ -17,6 +17,7 @@ wired_first cores first others own room empty none = record {
   count = ap (λ (l : List RingLinks). length l + 1) none;
   silent = λ p. subst (λ (o : Option Link). IsSilent (place_view link_view o)) (sym (empty p)) (refl, refl);
   free = λ p _. empty p;
+  no_itself = empty 0;
   each = λ i l at. absurd (let e = ap (λ (l : List RingLinks). slice_get l i) none in cc);
 }
 
@@ -28,8 +29,8 @@ still_joined first first' other own same joined =
 
 pub wired_more : (cores peer : ℕ) (first first' other : RingLinks) (others others' : List RingLinks) → AreWired cores peer first others
     → own_of first' ≡ own_of first → cores_of first' ≡ cores_of first → ((p : ℕ) → p ≢ peer → link_to first' p ≡ link_to first p) → IsSilent (ring_view first' peer)
-    → own_of other ≡ peer → AreSilent other → AreJoinedLinks first' other → others' ≡ others ++ other ∷ [] → AreWired cores (peer + 1) first' others'
-wired_more cores peer first first' other others others' was own room same silent its_own its_silent joined pushed = record {
+    → own_of other ≡ peer → AreSilent other → AreJoinedLinks first' other → ((entry : ℕ) → link_to other (suc entry) ≡ None) → others' ≡ others ++ other ∷ [] → AreWired cores (peer + 1) first' others'
+wired_more cores peer first first' other others others' was own room same silent its_own its_silent joined no_other pushed = record {
   own = own ∙ was.own;
   room = room ∙ was.room;
   count = ap (λ (l : List RingLinks). length l + 1) pushed ∙ omega (arith, length-append others (other ∷ []), was.count);
@@ -38,18 +39,20 @@ wired_more cores peer first first' other others others' was own room same silent
     | inr apart ↦ subst (λ (o : Option Link). IsSilent (place_view link_view o)) (sym (same p apart)) (was.silent p)
   ];
   free = λ p after. same p (λ e. absurd (omega (arith, e))) ∙ was.free p (omega arith);
+  no_itself = same 0 (λ e. absurd (omega (arith, e, was.count))) ∙ was.no_itself;
   each = λ i l at. each_more i l (subst (λ (x : List RingLinks). slice_get x i ≡ Some l) pushed at);
 }
   where
     each_more : (i : ℕ) (l : RingLinks) → slice_get (others ++ other ∷ []) i ≡ Some l → IsWired i first' l
     each_more i l at = elim (get_more others other l i at) [
       | inl last ↦ (let place : own_of other ≡ suc i = its_own ∙ omega (arith, was.count, last.0) in
-          subst (λ (x : RingLinks). IsWired i first' x) (sym last.1) (record { own = place; silent = its_silent; joined = joined }))
+          subst (λ (x : RingLinks). IsWired i first' x) (sym last.1) (record { own = place; silent = its_silent; joined = joined; no_other = no_other }))
       | inr old ↦ (let w = was.each i l old.1 in
           record {
             own = w.own;
             silent = w.silent;
             joined = still_joined first first' l own (same (own_of l) (λ e. absurd (omega (arith, e, w.own, was.count, old.0)))) w.joined;
+            no_other = w.no_other;
           })
     ]
 
@@ -62,3 +65,7 @@ silent_alone old new peer empty others silent p = elim (same_or_not p peer) [
   | inl e ↦ subst (λ (n : ℕ). IsSilent (ring_view new n)) (sym e) silent
   | inr apart ↦ subst (λ (o : Option Link). IsSilent (place_view link_view o)) (sym (others p apart ∙ empty p)) (refl, refl)
 ]
+
+-- links that only the one to core 0 was joined to have no other
+pub alone : (old new : RingLinks) → ((p : ℕ) → link_to old p ≡ None) → ((p : ℕ) → p ≢ 0 → link_to new p ≡ link_to old p) → (entry : ℕ) → link_to new (suc entry) ≡ None
+alone old new empty others entry = others (suc entry) (λ e. absurd (omega (arith, e))) ∙ empty (suc entry)

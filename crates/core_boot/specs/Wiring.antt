@@ -13,6 +13,7 @@ pub record IsWired (entry : ℕ) (first other : RingLinks) : Type 0 where
   pub own : own_of other ≡ suc entry
   pub silent : AreSilent other
   pub joined : AreJoinedLinks first other
+  pub no_other : (entry : ℕ) → link_to other (suc entry) ≡ None
 
 -- the links of core 0 among so many cores, joined to those of the other cores below this number
 pub record AreWired (cores peer : ℕ) (first : RingLinks) (others : List RingLinks) : Type 0 where
@@ -21,6 +22,7 @@ pub record AreWired (cores peer : ℕ) (first : RingLinks) (others : List RingLi
   pub count : length others + 1 ≡ peer
   pub silent : AreSilent first
   pub free : (p : ℕ) → peer ≤ p → link_to first p ≡ None
+  pub no_itself : link_to first 0 ≡ None
   pub each : (i : ℕ) (l : RingLinks) → slice_get others i ≡ Some l → IsWired i first l
 
 -- the links of so many cores, in the order of their numbers

@@ -1,6 +1,6 @@
 //! The rings between core 0 and each other core.
 
-ghost use Rattle.std.specs.Prelude.{◌≡◌, ◌≢◌, ◌<◌, ◌≤◌, ℕ, None, IfOk};
+ghost use Rattle.std.specs.Prelude.{◌≡◌, ◌≢◌, ◌<◌, ◌≤◌, ℕ, suc, None, IfOk};
 ghost use Rattle.core_links.specs.RingSlots.{own_of, cores_of, link_to, ring_view, AreJoinedLinks};
 ghost use Rattle.core_loop.specs.Standing.{IsSilent};
 ghost use Rattle.core_boot.specs.Wiring.{AreSilent, IsWiring};
@@ -26,6 +26,7 @@ fn join_peer(
     ensures others { (p : ℕ) → p ≢ peer → link_to first.new p ≡ link_to first.old p }
     ensures silent { IfOk result (λ links. IsSilent (ring_view first.new peer) × AreSilent links) }
     ensures joined { IfOk result (λ links. (own_of links ≡ peer) × AreJoinedLinks first.new links) }
+    ensures no_other { IfOk result (λ links. (entry : ℕ) → link_to links (suc entry) ≡ None) }
 {
     let (to_peer, from_first) = ring(alloc, RING_LINES)?;
     let (to_first, from_peer) = ring(alloc, RING_LINES)?;

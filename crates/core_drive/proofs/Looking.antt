@@ -11,7 +11,7 @@ use Rattle.core_loop.specs.Cores.{SameCore, begun}
 use Rattle.core_loop.specs.Answering.{decisions}
 use Rattle.core_join.specs.Machines.{RingCore}
 use Rattle.core_join.specs.Looking.{IsLookedAt, AreLookedAt}
-use Rattle.core_join.specs.Conclusions.{histories_of, StandsAtOther, IsIdle0, version_of_core, ShowsTable, Concludes}
+use Rattle.core_join.specs.Conclusions.{histories_of, StandsAtOther, IsIdle0, version_of_core, ShowsTable, AreRunning, Concludes}
 use Rattle.core_drive.specs.declared.step.CoreStep.{CoreStep}
 use Rattle.core_drive.specs.declared.step.StepOutcome.{StepOutcome}
 use Rattle.core_drive.specs.Driving.{DrivesAt, AreDriven, Conclude}
@@ -52,6 +52,9 @@ concludes_along budget budgets c d cs ds first rest h = record {
   settled = λ idle i y at.
       let x = get_at (c ∷ cs) i (omega (arith, slice_get_within (d ∷ ds) i y at, rest.all)) in
       version (look_of i x.0 y x.1 at) ∙ h.settled (subst IsIdle0 (part first) idle) i x.0 x.1;
+  running = λ i y at.
+      let x = get_at (c ∷ cs) i (omega (arith, slice_get_within (d ∷ ds) i y at, rest.all)) in
+      stopped (look_of i x.0 y x.1 at) ∙ h.running i x.0 x.1;
 }
   where
     history : {x y : RingCore} → IsLookedAt x y → y.history ≡ x.history
@@ -62,6 +65,9 @@ concludes_along budget budgets c d cs ds first rest h = record {
 
     clock : {x y : RingCore} → IsLookedAt x y → y.clock ≡ x.clock
     clock {x} {y} l = ap (λ (z : RingCore). z.clock) l.core
+
+    stopped : {x y : RingCore} → IsLookedAt x y → y.stopped ≡ x.stopped
+    stopped {x} {y} l = ap (λ (z : RingCore). z.stopped) l.core
 
     version : {x y : RingCore} → IsLookedAt x y → version_of_core y ≡ version_of_core x
     version {x} {y} l = ap version_of_core l.core
@@ -90,3 +96,10 @@ driven_looked steps outcomes a b c h l = record { answered = h.answered; all = l
           requests_are = ap (λ (w : RingCore). begun w.history ++ w.pending) m.core ∙ k.requests_are;
           decisions_are = ap (λ (w : RingCore). decisions w.history) m.core ∙ k.decisions_are;
         }
+
+-- cores that are running once they were looked at were running before
+pub ran_before : (budget : ℕ) (budgets : List ℕ) (old new : List RingCore) → AreLookedAt old new → Conclude budget budgets new → AreRunning old
+ran_before budget budgets old [] l h i c at = absurd h
+ran_before budget budgets old (first ∷ others) l h i c at =
+    let d = get_at (first ∷ others) i (omega (arith, slice_get_within old i c at, l.all)) in
+    sym (ap (λ (x : RingCore). x.stopped) (l.each i c d.0 at d.1).core) ∙ h.running i d.0 d.1

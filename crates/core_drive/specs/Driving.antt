@@ -9,6 +9,7 @@ use Rattle.rx_queue.specs.declared.job.Job.{Job}
 use Rattle.core_links.specs.RingSlots.{SameLinks, ring_view}
 use Rattle.core_loop.specs.declared.cause.Turn.{Turn}
 use Rattle.core_loop.specs.declared.cause.Turn.TheVariants as turn
+use Rattle.core_loop.specs.declared.live.NotReceived.TheVariants as no
 use Rattle.core_loop.specs.Beginning.{CanBeginNext}
 use Rattle.core_loop.specs.Choosing.{NoMessageNow}
 use Rattle.core_loop.specs.Cores.{SameCore, DidOne, CanReceive, AreShort, begun}
@@ -65,6 +66,12 @@ TurnsRightly rx turn.Idle old new = HasNothingToDo rx new
 TurnsRightly rx (turn.Stopped cause) old new = new.stopped ≡ Some cause
 TurnsRightly rx turn.Spent old new = IsSpent old.cores old.clock old.part old.pending (ring_view new.links) rx new.intake
 TurnsRightly rx turn.NoMemory old new = LacksMemory old.cores old.clock old.part old.pending (ring_view new.links) rx new.intake
+
+-- an answer of a core that has not stopped
+abbrev pub IsRunning : StepOutcome → Type 0
+IsRunning (Turned (turn.Stopped cause)) = ⊥
+IsRunning (NotReceived (no.Stopped cause)) = ⊥
+IsRunning outcome = Unit {0}
 
 -- what came of a task is right of its core before and after it; there is room for 1,024 endpoints
 abbrev pub IsRight : Task → StepOutcome → RingCore → RingCore → Type 0

@@ -1,12 +1,13 @@
 //! Steps that are done.
 
-ghost use Rattle.std.specs.Prelude.{◌≡◌, ◌<◌, ◌∷◌, [], ℕ, List, Some, length, slice_get, IfOk, OnOk, OnErr};
+ghost use Rattle.std.specs.Prelude.{◌≡◌, ◌<◌, ◌∷◌, [], ℕ, List, None, Some, length, slice_get, IfOk, OnOk, OnErr};
 ghost use Rattle.std.specs.List.{All};
 ghost use Rattle.core_join.specs.Machines.{RingCore, IsMachine, AreSameCores};
+ghost use Rattle.core_join.specs.Conclusions.{AreRunning};
 ghost use Rattle.core_join.specs.Looking.{AreLookedAt};
 ghost use Rattle.core_drive.specs.declared.step.Task.TheVariants as GhostTask;
 ghost use Rattle.core_drive.specs.Steps.{IsOf, did, asked_op, decided};
-ghost use Rattle.core_drive.specs.Driving.{IsStep, IsGivable, CoreDrives, AreDriven, IsRight, IsDone, AreDoneAndLookedAt, Conclude};
+ghost use Rattle.core_drive.specs.Driving.{IsStep, IsGivable, CoreDrives, AreDriven, IsRunning, IsRight, IsDone, AreDoneAndLookedAt, Conclude};
 
 use crate::step::{CoreStep, StepOutcome, Task};
 use core_join::agree;
@@ -19,8 +20,8 @@ use std::alloc::{AllocError, Global};
 const MOST_KEPT: usize = 1024;
 
 /// Does these steps on the cores of a machine, in this order, and gives what came of each. At the end no core is in a call, so all
-/// that holds of a machine's histories holds of these. The one error is that there is no memory for the list of the outcomes;
-/// nothing is done then.
+/// that holds of a machine's histories holds of these. No core of a machine ever stops, so no outcome says that one has. The one error
+/// is that there is no memory for the list of the outcomes; nothing is done then.
 pub fn drive(
     alloc: Global,
     cores: &mut [Core<RingLinks>],
@@ -30,6 +31,7 @@ pub fn drive(
     requires steps { All (IsStep (length cores.old)) steps.items }
     ensures driven { IfOk result (λ outcomes. AreDriven steps.items outcomes.items cores.old cores.new) }
     ensures in_turn { IfOk result (λ outcomes. AreDoneAndLookedAt steps.items outcomes.items cores.old cores.new) }
+    ensures running { IfOk result (λ outcomes. All IsRunning outcomes.items) }
     ensures machine { AreSameCores cores.old cores.new }
     ensures concludes { (budget : ℕ) (budgets : List ℕ) → IsMachine budget budgets cores.old → OnOk result (Conclude budget budgets cores.new) }
     ensures err { OnErr result (cores.new ≡ cores.old) }
@@ -48,6 +50,7 @@ fn do_step(alloc: Global, cores: &mut [Core<RingLinks>], step: CoreStep) -> Step
     requires place { (i : ℕ) (c : RingCore) → slice_get cores.old i ≡ Some c → c.number ≡ i }
     ensures driven { AreDriven (step ∷ []) (result ∷ []) cores.old cores.new }
     ensures done { IsDone step result cores.old cores.new }
+    ensures running { AreRunning cores.new → AreRunning cores.old × IsRunning result }
 {
     let CoreStep { core, task } = step;
     do_task(alloc, &mut cores[usize::from(core)], task)
@@ -59,6 +62,7 @@ fn do_task(alloc: Global, core: &mut Core<RingLinks>, task: Task) -> StepOutcome
     ensures answered { IsOf task result }
     ensures drives { CoreDrives (did core.old.number task result) (asked_op task result) (decided result) core.old core.new }
     ensures right { IsRight task result core.old core.new }
+    ensures running { core.new.stopped ≡ None → (core.old.stopped ≡ None) × IsRunning result }
 {
     match task {
         Task::Turn { rx } => StepOutcome::Turned(core.turn(rx)),
@@ -75,6 +79,7 @@ fn receive(alloc: Global, core: &mut Core<RingLinks>, packet: SharedPacket) -> S
     ensures answered { IsOf (GhostTask.Receive packet) result }
     ensures drives { CoreDrives (did core.old.number (GhostTask.Receive packet) result) [] [] core.old core.new }
     ensures right { IsRight (GhostTask.Receive packet) result core.old core.new }
+    ensures running { core.new.stopped ≡ None → (core.old.stopped ≡ None) × IsRunning result }
 {
     let none = Kept {
         endpoint: 0,

@@ -6,21 +6,46 @@ use Rattle.core_links.specs.RingLaws.{SameLinks-itself}
 use Rattle.std.proofs.lemmas.Option.{slice_get_within}
 use Rattle.table_replica.proofs.Shared.{get_at}
 use Rattle.core_loop.specs.Cores.{Stands}
+use Rattle.core_links.specs.Views.{LinkView, IsSameView}
 use Rattle.core_loop.specs.Standing.{AreBeside}
+use Rattle.core_loop.specs.Turning.{HasStopped}
+use Rattle.core_loop.proofs.Stopped.{same_stopped}
 use Rattle.core_join.specs.Machines.{RingCore, IsPeer, AreMachine}
 use Rattle.core_join.specs.Conclusions.{Concludes, OfMachine}
-use Rattle.core_join.specs.Looking.{IsLookedAt, AreLookedAt, TookInOrder, EachTookInOrder}
+use Rattle.core_join.specs.Looking.{IsLookedAt, AreLookedAt, IsExactRing, TookInOrder, EachTookInOrder}
 use Rattle.core_join.proofs.Lists.{first_same, rest_same}
 use Rattle.core_join.proofs.Machines.{joined_links}
 use Rattle.core_join.proofs.Joined.{looked_itself, beside_at, stood}
 use Rattle.core_join.proofs.Ends.{concludes}
+use Rattle.core_join.proofs.Unstopped.{IsExactCore}
+
+-- a view that was looked at is the view
+same_view : (v w : LinkView) → IsSameView v w → w ≡ v
+same_view v w s =
+    let a : w ≡ record { sent = w.sent; taken = w.taken; kept = w.kept; stopped = w.stopped; ready = w.ready; told = w.told } = refl in
+    let b : record { sent = v.sent; taken = v.taken; kept = v.kept; stopped = v.stopped; ready = v.ready; told = v.told } ≡ v = refl in
+    a ∙ (rw (s.sent, s.taken, s.kept, s.stopped, s.ready, s.told) b)
+
+exact_before : (i j i' j' : ℕ) (from from' to to' : RingCore) → i ≡ i' → j ≡ j' → IsLookedAt from from' → IsLookedAt to to' → IsExactRing (ring_view from'.links i') (ring_view to'.links j') → IsExactRing (ring_view from.links i) (ring_view to.links j)
+exact_before i j i' j' from from' to to' e f l m x =
+    rw (e, f) (subst (λ (v : LinkView). IsExactRing v (ring_view to.links j')) (same_view (ring_view from.links i') (ring_view from'.links i') (l.views i'))
+    (subst (λ (v : LinkView). IsExactRing (ring_view from'.links i') v) (same_view (ring_view to.links j') (ring_view to'.links j') (m.views j')) x))
+
+-- what stopped it once it was looked at had stopped it
+stopped_before : (old new : RingCore) → IsLookedAt old new → HasStopped new.cores new.clock new.part (ring_view new.links) new.stopped → HasStopped old.cores old.clock old.part (ring_view old.links) old.stopped
+stopped_before old new l h =
+    let there = same_stopped new.cores new.clock new.part (ring_view new.links) (ring_view old.links) new.stopped (λ p. sym (same_view (ring_view old.links p) (ring_view new.links p) (l.views p))) h in
+    subst (λ (x : RingCore). HasStopped x.cores x.clock x.part (ring_view old.links) x.stopped) l.core there
 
 -- what two cores took once they were looked at, they took
 pub took_before : (first first' other other' : RingCore) → IsLookedAt first first' → IsLookedAt other other' → TookInOrder first' other' → TookInOrder first other
 took_before first first' other other' l m t = record {
   up = before (own_of other.links) (own_of first.links) (own_of other'.links) (own_of first'.links) (sym m.links.own) (sym l.links.own) t.up;
   down = after (own_of other.links) (own_of first.links) (own_of other'.links) (own_of first'.links) (sym m.links.own) (sym l.links.own) t.down;
+  exact_up = exact_before (own_of first.links) (own_of other.links) (own_of first'.links) (own_of other'.links) other other' first first' (sym l.links.own) (sym m.links.own) m l t.exact_up;
+  exact_down = exact_before (own_of other.links) (own_of first.links) (own_of other'.links) (own_of first'.links) first first' other other' (sym m.links.own) (sym l.links.own) l m t.exact_down;
   stands = stood other other' m t.stands;
+  stopped = stopped_before other other' m t.stopped;
 }
   where
     before : (i j i' j' : ℕ) → i ≡ i' → j ≡ j' → IsPrefix (ring_view first'.links i').taken (ring_view other'.links j').sent → IsPrefix (ring_view first.links i).taken (ring_view other.links j).sent
@@ -66,10 +91,22 @@ pub all_joined : (budget : ℕ) (budgets : List ℕ) (first : RingCore) (others 
 all_joined budget budgets first others machine k c at = (peer budget budgets first others k c machine at).1.joined
 
 pub agrees : (budget : ℕ) (budgets : List ℕ) (first first' : RingCore) (others : List RingCore) → AreMachine budget budgets first others → IsLookedAt first first' → Stands ring_view first'
-    → EachTookInOrder first others → Concludes budget budgets first others
-agrees budget budgets first first' others machine looked stands took =
-    concludes budget budgets first others machine (stood first first' looked stands) (λ k c at. (took k c at).stands) (λ k c at. beside k c at)
+    → HasStopped first'.cores first'.clock first'.part (ring_view first'.links) first'.stopped → EachTookInOrder first others → Concludes budget budgets first others
+agrees budget budgets first first' others machine looked stands stopped took =
+    concludes budget budgets first others machine (stood first first' looked stands) (λ k c at. (took k c at).stands) (λ k c at. beside k c at) (stopped_before first first' looked stopped) (λ k c at. exact k c at)
   where
+    exact : (k : ℕ) (c : RingCore) → slice_get others k ≡ Some c → IsExactCore k first c
+    exact k c at =
+        let p = (peer budget budgets first others k c machine at).1 in
+        let t = took k c at in
+        let own : own_of c.links ≡ suc k = p.place.links_are in
+        let own0 : own_of first.links ≡ 0 = machine.place.links_are in
+        record {
+          up = subst (λ (n : ℕ). IsExactRing (ring_view c.links 0) (ring_view first.links n)) own (subst (λ (n : ℕ). IsExactRing (ring_view c.links n) (ring_view first.links (own_of c.links))) own0 t.exact_up);
+          down = subst (λ (n : ℕ). IsExactRing (ring_view first.links n) (ring_view c.links 0)) own (subst (λ (n : ℕ). IsExactRing (ring_view first.links (own_of c.links)) (ring_view c.links n)) own0 t.exact_down);
+          stopped = t.stopped;
+        }
+
     beside : (k : ℕ) (c : RingCore) → slice_get others k ≡ Some c → AreBeside k (ring_view first.links) (ring_view c.links)
     beside k c at =
         let p = (peer budget budgets first others k c machine at).1 in

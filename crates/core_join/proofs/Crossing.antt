@@ -82,10 +82,13 @@ inside_send =
                     (
                       search (sendable, log.the_send, stamped.the_send) depth 14,
                       (
-                        scratch.the_field_send,
+                        search sendable depth 14,
                         (
-                          search (sendable, cause.the_send) depth 14,
-                          tt,
+                          scratch.the_field_send,
+                          (
+                            search (sendable, cause.the_send) depth 14,
+                            tt,
+                          ),
                         ),
                       ),
                     ),

@@ -22,10 +22,12 @@ use Rattle.core_loop.specs.declared.part.Part.TheVariants as part
 use Rattle.core_loop.specs.Standing.{Stands0, StandsOther, AreBeside}
 use Rattle.core_loop.specs.Keeping.{IsStanding, replica_of}
 use Rattle.core_loop.specs.Cores.{Stands}
+use Rattle.core_loop.specs.Turning.{HasStopped}
 use Rattle.core_loop.proofs.Conclusions.{concluded}
 use Rattle.core_join.specs.Machines.{RingCore, AreMachine}
 use Rattle.core_join.specs.Conclusions.{histories_of, StandsAt0, StandsAtOther, IsIdle0, version_of_core, ShowsTable, IsRight, Concludes}
 use Rattle.core_join.proofs.Lists.{choose, same_some}
+use Rattle.core_join.proofs.Unstopped.{IsExactCore, stand_beside, all_run}
 use Rattle.std.proofs.lemmas.Option.{slice_get_within}
 use Rattle.table_replica.proofs.Shared.{get_at}
 
@@ -145,8 +147,9 @@ shows_at budget budgets core0 hs end ends i b c d agree at_b at_d s =
 
 -- what there is to conclude
 pub concludes : (budget : ℕ) (budgets : List ℕ) (start : RingCore) (others : List RingCore) → AreMachine budget budgets start others → Stands ring_view start
-    → ((k : ℕ) (c : RingCore) → slice_get others k ≡ Some c → Stands ring_view c) → ((k : ℕ) (c : RingCore) → slice_get others k ≡ Some c → AreBeside k (ring_view start.links) (ring_view c.links)) → Concludes budget budgets start others
-concludes budget budgets start others machine stands stand beside = record {
+    → ((k : ℕ) (c : RingCore) → slice_get others k ≡ Some c → Stands ring_view c) → ((k : ℕ) (c : RingCore) → slice_get others k ≡ Some c → AreBeside k (ring_view start.links) (ring_view c.links))
+    → HasStopped start.cores start.clock start.part (ring_view start.links) start.stopped → ((k : ℕ) (c : RingCore) → slice_get others k ≡ Some c → IsExactCore k start c) → Concludes budget budgets start others
+concludes budget budgets start others machine stands stand beside stopped exact = record {
   end = e.end;
   ends = o.ends;
   computation = computation;
@@ -156,6 +159,7 @@ concludes budget budgets start others machine stands stand beside = record {
   tables = tables;
   newest = newest;
   settled = settled;
+  running = all_run budget budgets start others machine e.end o.ends o.all (stand_beside budget budgets start others machine e.end o.ends e.stands o.all o.stand beside) e.is_at o.are_at stopped exact;
 }
   where
     e : Ends0 (length budgets) budget start.part start.clock start.history (ring_view start.links)

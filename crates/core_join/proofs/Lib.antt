@@ -1,6 +1,7 @@
 pub mod Lists
 pub mod Machines
 pub mod Joined
+pub mod Unstopped
 pub mod Ends
 pub mod Agreeing
 pub mod Least

@@ -4,7 +4,7 @@ use Rattle.core_links.specs.declared.ring_links.Link.{Link}
 use Rattle.core_links.specs.declared.ring_links.RingLinks.{RingLinks}
 use Rattle.core_links.specs.RingSlots.{own_of, link_to, SameSlot, SameLinks, AreJoinedSlots, AreJoinedLinks}
 use Rattle.core_loop.specs.Cores.{SameCore}
-use Rattle.core_join.specs.Machines.{RingCore, HasPlace, IsPeer, IsMachine, AreSameCores}
+use Rattle.core_join.specs.Machines.{RingCore, HasPlace, IsMachine, AreSameCores}
 use Rattle.std.proofs.lemmas.Option.{slice_get_within}
 use Rattle.table_replica.proofs.Shared.{get_at}
 
@@ -23,6 +23,12 @@ joined_links a b c d same other joined =
     let to_b : AreJoinedSlots (link_to b (own_of c)) (link_to d (own_of b)) = subst (λ (n : ℕ). AreJoinedSlots (link_to b (own_of c)) (link_to d n)) (sym same.own) here in
     subst (λ (n : ℕ). AreJoinedSlots (link_to b n) (link_to d (own_of b))) (sym other.own) to_b
 
+-- where there was no link there is none
+no_link_still : (a b : Option Link) → SameSlot a b → a ≡ None → b ≡ None
+no_link_still None None same none = refl
+no_link_still None (Some b) same none = absurd same
+no_link_still (Some a) b same none = absurd cc
+
 same_place : (number cores budget : ℕ) (c d : RingCore) → HasPlace number cores budget c → SameCore SameLinks c d → HasPlace number cores budget d
 same_place number cores budget c d p same = record {
   number_is = same.number ∙ p.number_is;
@@ -40,6 +46,7 @@ machine_ran budget budgets (first ∷ others) (again ∷ others_again) machine s
     record {
       place = same_place 0 (suc (length budgets)) budget first again machine.place ran0;
       all = long ∙ machine.all;
+      no_itself = no_link_still (link_to first.links 0) (link_to again.links 0) (ran0.links.each 0) machine.no_itself;
       peers = λ i b d at_b at_d.
           let c = get_at others i (omega (arith, slice_get_within budgets i b at_b, machine.all)) in
           let p = machine.peers i b c.0 at_b c.1 in
@@ -47,6 +54,7 @@ machine_ran budget budgets (first ∷ others) (again ∷ others_again) machine s
           record {
             place = same_place (suc i) (suc (length budgets)) b c.0 d p.place ran;
             joined = joined_links first.links again.links c.0.links d.links ran0.links ran.links p.joined;
+            no_other = λ entry. no_link_still (link_to c.0.links (suc entry)) (link_to d.links (suc entry)) (ran.links.each (suc entry)) (p.no_other entry);
           };
     }
 
@@ -60,18 +68,3 @@ same_more c d cs ds first rest = record { all = ap suc rest.all; each = at_each 
     at_each : (i : ℕ) (x y : RingCore) → slice_get (c ∷ cs) i ≡ Some x → slice_get (d ∷ ds) i ≡ Some y → SameCore SameLinks x y
     at_each zero x y e f = let is_x : c ≡ x = cc in let is_y : d ≡ y = cc in subst (λ (z : RingCore). SameCore SameLinks z y) is_x (subst (λ (z : RingCore). SameCore SameLinks c z) is_y first)
     at_each (suc i) x y e f = rest.each i x y e f
-
--- a machine of one core
-pub one_core : (budget : ℕ) (first : RingCore) → HasPlace 0 1 budget first → IsMachine budget [] (first ∷ [])
-one_core budget first place = record { place = place; all = refl; peers = λ i b c at. absurd (cc) }
-
--- and of two
-pub two_cores : (budget budget' : ℕ) (first second : RingCore) → HasPlace 0 2 budget first → HasPlace 1 2 budget' second → AreJoinedLinks first.links second.links → IsMachine budget (budget' ∷ []) (first ∷ second ∷ [])
-two_cores budget budget' first second place place' joined = record { place = place; all = refl; peers = at_each }
-  where
-    at_each : (i b : ℕ) (c : RingCore) → slice_get (budget' ∷ []) i ≡ Some b → slice_get (second ∷ []) i ≡ Some c → IsPeer 1 i b first c
-    at_each zero b c at_b at_c =
-        let is_b : budget' ≡ b = cc in
-        let is_c : second ≡ c = cc in
-        subst (λ (x : ℕ). IsPeer 1 0 x first c) is_b (subst (λ (x : RingCore). IsPeer 1 0 budget' first x) is_c (record { place = place'; joined = joined }))
-    at_each (suc i) b c at_b at_c = absurd (cc)

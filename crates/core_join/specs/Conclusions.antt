@@ -1,5 +1,5 @@
 -- What the joined cores of one machine did.
-use Rattle.std.specs.Prelude.{◌≡◌, ◌++◌, ℕ, List, ◌∷◌, length, map, Some, slice_get, Vec}
+use Rattle.std.specs.Prelude.{◌≡◌, ◌++◌, ℕ, List, ◌∷◌, length, map, None, Some, slice_get, Vec}
 use Rattle.std.specs.Global.{Global}
 use Rattle.filter_table.specs.declared.operation.Op.{Op}
 use Rattle.filter_table.specs.Tables.{table}
@@ -62,8 +62,12 @@ pub record IsRight (budget : ℕ) (budgets : List ℕ) (core0 : List Stamped) (o
   -- the histories tell where they end
   pub one_end : (again : Core0) (ends_again : List Other) → Computation budget budgets core0 others again ends_again → (again ≡ end) × (ends_again ≡ ends)
 
+-- no core has stopped
+abbrev pub AreRunning : List RingCore → Type 0
+AreRunning cores = (i : ℕ) (c : RingCore) → slice_get cores i ≡ Some c → c.stopped ≡ None
+
 -- The histories of these cores are a computation under these budgets. Each core stands at its end, with the table of the log at its
--- version; core 0's version is the log's length, and so is every core's where core 0 is idle.
+-- version; core 0's version is the log's length, and so is every core's where core 0 is idle. No core has stopped.
 pub record Concludes (budget : ℕ) (budgets : List ℕ) (first : RingCore) (others : List RingCore) : Type 0 where
   pub end : Core0
   pub ends : List Other
@@ -74,6 +78,7 @@ pub record Concludes (budget : ℕ) (budgets : List ℕ) (first : RingCore) (oth
   pub tables : (i : ℕ) (c : RingCore) → slice_get (first ∷ others) i ≡ Some c → ShowsTable end.log c
   pub newest : version_of_core first ≡ length end.log
   pub settled : IsIdle0 first.part → (i : ℕ) (c : RingCore) → slice_get (first ∷ others) i ≡ Some c → version_of_core c ≡ length end.log
+  pub running : AreRunning (first ∷ others)
 
 -- whatever budgets make these cores a machine
 abbrev pub OfMachine : List RingCore → (ℕ → List ℕ → RingCore → List RingCore → Type 0) → Type 0

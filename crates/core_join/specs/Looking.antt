@@ -2,8 +2,10 @@
 use Rattle.std.specs.Prelude.{◌≡◌, ℕ, List, length, Some, slice_get}
 use mathlib.Core.List.{IsPrefix}
 use Rattle.core_links.specs.RingSlots.{own_of, ring_view, SameLinks}
-use Rattle.core_links.specs.Views.{IsSameView}
+use Rattle.core_links.specs.Views.{LinkView, IsSameView}
+use Rattle.core_links.specs.Flows.{Flow, IsExact}
 use Rattle.core_loop.specs.Cores.{Stands}
+use Rattle.core_loop.specs.Turning.{HasStopped}
 use Rattle.core_join.specs.Machines.{RingCore}
 
 -- only the links were looked at, and show what they showed
@@ -16,11 +18,22 @@ pub record AreLookedAt (old new : List RingCore) : Type 0 where
   pub all : length new ≡ length old
   pub each : (i : ℕ) (c d : RingCore) → slice_get old i ≡ Some c → slice_get new i ≡ Some d → IsLookedAt c d
 
--- the other core stands where its history leads, and what it and core 0 took from each other begins what the other sent
+-- the ring over which these two views are joined was looked at from both its ends
+pub record IsExactRing (from to : LinkView) : Type 0 where
+  pub capacity : ℕ
+  pub out : Flow
+  pub come : Flow
+  pub exact : IsExact capacity from to out come
+
+-- The other core stands where its history leads, what it and core 0 took from each other begins what the other sent, and what each keeps of the
+-- other follows that. If the other has stopped, its links show why.
 pub record TookInOrder (first other : RingCore) : Type 0 where
   pub up : IsPrefix (ring_view first.links (own_of other.links)).taken (ring_view other.links (own_of first.links)).sent
   pub down : IsPrefix (ring_view other.links (own_of first.links)).taken (ring_view first.links (own_of other.links)).sent
+  pub exact_up : IsExactRing (ring_view other.links (own_of first.links)) (ring_view first.links (own_of other.links))
+  pub exact_down : IsExactRing (ring_view first.links (own_of other.links)) (ring_view other.links (own_of first.links))
   pub stands : Stands ring_view other
+  pub stopped : HasStopped other.cores other.clock other.part (ring_view other.links) other.stopped
 
 abbrev pub EachTookInOrder : RingCore → List RingCore → Type 0
 EachTookInOrder first others = (k : ℕ) (c : RingCore) → slice_get others k ≡ Some c → TookInOrder first c

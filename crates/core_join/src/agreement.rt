@@ -11,7 +11,8 @@ ghost use Rattle.core_join.specs.Looking.{IsLookedAt, AreLookedAt, TookInOrder, 
 use core_loop::{Core, RingLinks};
 
 /// The cores of one machine, as they stand: their histories are one computation, whatever the order in time was, and each core has the table
-/// of the log at its version. Nothing is joined or ended, no event is done, and what is read of each core stays as it was.
+/// of the log at its version. No core of a machine ever stops. Nothing is joined or ended, no event is done, and what is read of each
+/// core stays as it was.
 pub fn agree(first: &mut Core<RingLinks>, others: &mut [Core<RingLinks>])
     requires { (budget : ℕ) × (budgets : List ℕ) × AreMachine budget budgets first.old others.old }
     ensures first { IsLookedAt first.old first.new }
@@ -20,6 +21,7 @@ pub fn agree(first: &mut Core<RingLinks>, others: &mut [Core<RingLinks>])
 {
     look_at_all(first, others);
     first.stands();
+    first.has_stopped();
 }
 
 // Looks at each of these cores beside core 0.
@@ -47,4 +49,5 @@ fn look_at(first: &mut Core<RingLinks>, other: &mut Core<RingLinks>)
 {
     first.beside(other);
     other.stands();
+    other.has_stopped();
 }

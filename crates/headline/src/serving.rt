@@ -11,7 +11,7 @@ ghost use Rattle.core_join.specs.Machines.{IsMachine};
 ghost use Rattle.core_boot.specs.Booted.{HasDoneNothing};
 ghost use Rattle.core_drive.specs.declared.step.Task.TheVariants.{Ask};
 ghost use Rattle.core_drive.specs.Steps.{IsOf, did, asked_op, of_core};
-ghost use Rattle.core_drive.specs.Driving.{IsStep, AreDriven, Conclude};
+ghost use Rattle.core_drive.specs.Driving.{IsStep, IsRunning, AreDriven, Conclude};
 ghost use Rattle.headline.specs.declared.fault.Fault.TheVariants.{CoreCount, NoMemory};
 ghost use Rattle.headline.specs.Headline.{log_of, ShowTables, AreEqualByVersion, begun_in};
 ghost use Rattle.headline.specs.Served.{events_of};
@@ -50,6 +50,9 @@ pub fn serve(alloc: Global, budgets: &[u32], steps: Vec<CoreStep>) -> Result<Ser
     ensures answered { IfOk result (λ served. AllZip (λ step outcome. IsOf step.task outcome) steps.items served.outcomes.items) }
     ensures own { IfOk result (λ served. AllZip (λ step outcome. All (λ done. core_of done.event ≡ step.core) (did step.core step.task outcome)) steps.items served.outcomes.items) }
 
+    // No core stops.
+    ensures running { IfOk result (λ served. All IsRunning served.outcomes.items) }
+
     // What a core begins are the requests that it was asked, in the order of the steps.
     ensures begun { IfOk result (λ served. (core : ℕ) → IsPrefix (begun_in core (events_of steps.items served.outcomes.items)) (of_core asked_op core steps.items served.outcomes.items)) }
 {
@@ -85,6 +88,7 @@ fn drive_each(
     ensures driven { IfOk result (λ outcomes. AreDriven steps.items outcomes.items cores.old cores.new) }
     ensures concludes { OnOk result ((budget : ℕ) × (budgets : List ℕ) × Conclude budget budgets cores.new) }
     ensures order { IfOk result (λ outcomes. StartOneByOne (events_of steps.items outcomes.items)) }
+    ensures running { IfOk result (λ outcomes. All IsRunning outcomes.items) }
 {
     let mut outcomes = drive(alloc, cores, Vec::new(alloc))?;
     for step in steps {

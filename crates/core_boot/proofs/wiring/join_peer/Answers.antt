@@ -1,4 +1,4 @@
-use Rattle.core_boot.proofs.Wires.{silent_link, silent_alone}
+use Rattle.core_boot.proofs.Wires.{silent_link, silent_alone, alone}
 use Rattle.core_boot.proofs.wiring.join_peer.Goals as goal
 
 pub returns-clause-silent : goal.returns-clause-silent
@@ -11,3 +11,6 @@ returns-clause-silent c =
       silent_alone c.in_ok-links.links links 0 c.in_ok-links.ensures.empty c.join-2.ensures.others
           (silent_link links 0 (record { sender = up.to_first; receiver = down.from_first }) c.join-2.ensures.joined up.ensures.sender.0 down.ensures.receiver.0),
     )
+
+pub returns-clause-no_other : goal.returns-clause-no_other
+returns-clause-no_other c = alone c.in_ok-links.links c.join-2.new.self c.in_ok-links.ensures.empty c.join-2.ensures.others

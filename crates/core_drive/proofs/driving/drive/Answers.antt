@@ -1,4 +1,4 @@
-use Rattle.std.proofs.Common.{◌≡◌, ◌∙◌, ◌++◌, ◌∷◌, [], List, length, ap, sym, arith, append_assoc}
+use Rattle.std.proofs.Common.{All, ◌≡◌, ◌∙◌, ◌++◌, ◌∷◌, [], List, length, ap, sym, arith, append_assoc, rules}
 use Rattle.std.proofs.lemmas.List.{append-nil, nil_from_length}
 use Rattle.std.specs.Vec.Iter.{into_iter_items}
 use Rattle.core_drive.specs.declared.step.CoreStep.{CoreStep}
@@ -6,7 +6,16 @@ use Rattle.core_join.proofs.Machines.{machine_ran}
 use Rattle.core_drive.proofs.Doing.{done_more}
 use Rattle.core_drive.proofs.Steps.{driven_more, driven_same, placed}
 use Rattle.core_drive.proofs.Looking.{driven_looked}
+use Rattle.std.proofs.lemmas.List.Elements.{All-append}
+use Rattle.core_join.specs.Machines.{RingCore}
+use Rattle.core_join.specs.Conclusions.{AreRunning}
+use Rattle.core_drive.specs.declared.step.StepOutcome.{StepOutcome}
+use Rattle.core_drive.specs.Driving.{IsRunning, Conclude}
+use Rattle.core_drive.proofs.Looking.{ran_before}
 use Rattle.core_drive.proofs.driving.drive.Goals as goal
+
+one_running : (o : StepOutcome) → IsRunning o → All IsRunning (o ∷ [])
+one_running o is = search rules
 
 pub do_step-requires-clause-place : goal.do_step-requires-clause-place
 do_step-requires-clause-place c =
@@ -21,6 +30,7 @@ loop-step-preserved c = (
   c.loop-step.invariant.2 ∙ ap (λ (l : List CoreStep). c.loop-step.yielded ++ l) c.in-Some.ensures.steps.0 ∙ sym (append_assoc c.loop-step.yielded (c.in-Some.step ∷ []) (into_iter_items c.next.new.self)),
   rw c.push_reserved.ensures.items
       (done_more c.loop-step.yielded c.loop-step.outcomes.items c.in-Some.step c.do_step.result c.args.cores.now c.loop-step.cores c.do_step.new.cores c.loop-step.invariant.3 c.do_step.ensures.done),
+  rw c.push_reserved.ensures.items (λ run. let r = c.do_step.ensures.running run in All-append IsRunning c.loop-step.outcomes.items (c.do_step.result ∷ []) (c.loop-step.invariant.4 r.0) (one_running c.do_step.result r.1)),
 )
 
 pub look_at-requires : goal.look_at-requires
@@ -49,3 +59,9 @@ pub returns-clause-concludes : goal.returns-clause-concludes
 returns-clause-concludes c = λ budget budgets machine.
     c.look_at.ensures.concludes budget budgets
     (machine_ran budget budgets c.args.cores.now c.loop-step.cores machine (driven_same c.loop-step.yielded c.loop-step.outcomes.items c.args.cores.now c.loop-step.cores c.loop-step.invariant.0))
+
+pub returns-clause-running : goal.returns-clause-running
+returns-clause-running c =
+    let m = c.requires.machine in
+    let same = machine_ran m.0 m.1 c.args.cores.now c.loop-step.cores m.2 (driven_same c.loop-step.yielded c.loop-step.outcomes.items c.args.cores.now c.loop-step.cores c.loop-step.invariant.0) in
+    c.loop-step.invariant.4 (ran_before m.0 m.1 c.loop-step.cores c.look_at.new.cores c.look_at.ensures.looked (c.look_at.ensures.concludes m.0 m.1 same))

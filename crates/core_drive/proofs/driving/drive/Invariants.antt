@@ -1,7 +1,9 @@
 use Rattle.std.proofs.Common.{◌≡◌, ◌+◌, ◌++◌, ◌≤◌, length}
 use Rattle.std.specs.Prelude.{vec_len, vec_capacity}
 use Rattle.std.specs.Vec.Iter.{into_iter_items}
-use Rattle.core_drive.specs.Driving.{AreDriven, AreDoneInTurn}
+use Rattle.std.specs.List.{All}
+use Rattle.core_join.specs.Conclusions.{AreRunning}
+use Rattle.core_drive.specs.Driving.{AreDriven, AreDoneInTurn, IsRunning}
 use Rattle.core_drive.proofs.driving.drive.Given as goal
 
 abbrev pub invariant-loop-step : goal.invariant-loop-step
@@ -10,3 +12,4 @@ invariant-loop-step l =
     × (vec_len l.outcomes + length (into_iter_items l.step-iterator) ≤ vec_capacity l.outcomes)
     × (l.fn.steps.items ≡ l.yielded ++ into_iter_items l.step-iterator)
     × AreDoneInTurn l.yielded l.outcomes.items l.initial.cores l.cores
+    × (AreRunning l.cores → All IsRunning l.outcomes.items)

@@ -3,6 +3,7 @@ use Rattle.std.proofs.lemmas.List.{take-take, take-append-le}
 use Rattle.filter_table.specs.declared.delivery.Kept.{Kept}
 use Rattle.core_loop.specs.Receiving.{HasReceived}
 use Rattle.core_drive.proofs.Tasks.{received, drives_none}
+use Rattle.core_drive.proofs.Running.{refused_running}
 use Rattle.core_drive.proofs.driving.receive.Goals as goal
 
 pub returns-in-Ok-receive-clause-drives : goal.returns-in-Ok-receive-clause-drives
@@ -34,3 +35,9 @@ returns-in-Ok-receive-clause-right c =
       subst (λ (n : ℕ). HasReceived c.args.core.now c.receive.new.self c.args.packet.bytes n c.truncate.new.self.items) c.original.ensures
           (subst (λ (l : List ℕ). HasReceived c.args.core.now c.receive.new.self l c.original.result c.truncate.new.self.items) c.bytes.ensures h),
     )
+
+pub returns-in-Ok-receive-clause-running : goal.returns-in-Ok-receive-clause-running
+returns-in-Ok-receive-clause-running c = λ none. (c.in-Ok-receive.ensures.ok.1.running, tt)
+
+pub returns-clause-running : goal.returns-clause-running
+returns-clause-running c = refused_running c.in-Err.why c.args.core.now c.receive.new.self c.bytes.result.now c.original.result _ c.in-Err.ensures.why c.in-Err.ensures.err

@@ -5,4 +5,4 @@ pub look_at_all-requires : goal.look_at_all-requires
 look_at_all-requires c = all_joined c.requires.0 c.requires.1 c.args.first.now c.args.others.now c.requires.2
 
 pub returns-clause-agree : goal.returns-clause-agree
-returns-clause-agree c = λ budget budgets machine. agrees budget budgets c.args.first.now c.look_at_all.new.first c.args.others.now machine c.look_at_all.ensures.first c.stands.ensures c.look_at_all.ensures.each
+returns-clause-agree c = λ budget budgets machine. agrees budget budgets c.args.first.now c.look_at_all.new.first c.args.others.now machine c.look_at_all.ensures.first c.stands.ensures c.has_stopped.ensures c.look_at_all.ensures.each

@@ -3,7 +3,8 @@ use Rattle.std.proofs.lemmas.List.{append-nil, nil_from_length}
 use Rattle.std.specs.Vec.Iter.{into_iter_items}
 use Rattle.core_drive.specs.declared.step.CoreStep.{CoreStep}
 use Rattle.core_drive.specs.declared.step.StepOutcome.{StepOutcome}
-use Rattle.core_drive.specs.Driving.{IsStep, AreDriven}
+use Rattle.std.proofs.lemmas.List.Elements.{All-append}
+use Rattle.core_drive.specs.Driving.{IsStep, IsRunning, AreDriven}
 use Rattle.headline.specs.Served.{events_of}
 use Rattle.headline.specs.Starts.{StartOneByOne}
 use Rattle.headline.proofs.Stepping.{AreDone, done_none, done_more, driven_first, no_histories, inside_front}
@@ -13,7 +14,7 @@ pub loop-step-init : goal.loop-step-init
 loop-step-init c =
     let e = c.in_ok-outcomes.ensures in
     let looked = subst (λ (l : List CoreStep). AreDriven l c.in_ok-outcomes.outcomes.items c.args.cores.now c.drive.new.cores) c.new.ensures.items e.driven in
-    record { done = done_none c.in_ok-outcomes.outcomes.items c.args.cores.now c.drive.new.cores c.requires.machine looked c.drive.ensures.machine e.concludes; whole = search rules }
+    record { done = done_none c.in_ok-outcomes.outcomes.items c.args.cores.now c.drive.new.cores c.requires.machine looked c.drive.ensures.machine e.concludes; whole = search rules; running = e.running }
 
 pub drive-requires-in-loop-step-clause-machine : goal.drive-requires-in-loop-step-clause-machine
 drive-requires-in-loop-step-clause-machine c = let d = c.loop-step.invariant.done in (d.budget, d.budgets, d.machine)
@@ -33,6 +34,7 @@ loop-step-preserved c =
           (done_more yielded c.loop-step.outcomes.items c.in-Some.step c.in_ok-outcome.outcome.items c.drive.new.cores c.loop-step.cores c.drive-in-loop-step.new.cores front
           (no_histories c.in_ok-outcomes.outcomes.items c.args.cores.now c.drive.new.cores c.requires.nothing looked) c.loop-step.invariant.done one c.drive-in-loop-step.ensures.machine e.concludes);
       whole = whole;
+      running = rw c.in_ok-append.ensures.items (All-append IsRunning c.loop-step.outcomes.items c.in_ok-outcome.outcome.items c.loop-step.invariant.running e.running);
     }
 
 pub returns-clause-driven : goal.returns-clause-driven

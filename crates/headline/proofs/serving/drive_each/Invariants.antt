@@ -1,5 +1,6 @@
-use Rattle.std.proofs.Common.{◌≡◌, ◌++◌}
+use Rattle.std.proofs.Common.{All, ◌≡◌, ◌++◌}
 use Rattle.std.specs.Vec.Iter.{into_iter_items}
+use Rattle.core_drive.specs.Driving.{IsRunning}
 use Rattle.headline.proofs.Stepping.{AreDone}
 use Rattle.headline.proofs.serving.drive_each.Given as goal
 
@@ -7,4 +8,5 @@ abbrev pub invariant-loop-step : goal.invariant-loop-step
 invariant-loop-step l = record {
   done : AreDone l.yielded l.outcomes.items l.initial.cores l.cores;
   whole : l.fn.steps.items ≡ l.yielded ++ into_iter_items l.step-iterator;
+  running : All IsRunning l.outcomes.items;
 }
