@@ -1,0 +1,9 @@
+pub mod Blocks
+pub mod Options
+pub mod Times
+pub mod Grammar
+pub mod Packets
+pub mod Sections
+pub mod Answers
+pub mod Held
+pub mod Growth

@@ -1,0 +1,37 @@
+//! Why a capture ends early.
+
+use crate::block::BlockError;
+use std::alloc::{AllocError, AllocFailed};
+
+/// Why a capture ends early.
+#[derive(Clone, Copy, Debug, PartialEq, Eq)]
+pub enum CaptureFault {
+    /// Something is wrong with a block, whose first byte has this place in the capture.
+    BadBlock(BlockError, u64),
+    /// The bytes end within a block, whose first byte has this place in the capture; or there are none.
+    Truncated(u64),
+    /// Memory was refused.
+    NoMemory,
+}
+
+impl From<AllocError> for CaptureFault {
+    ghost use Rattle.std.specs.Prelude.{◌≡◌};
+    ghost use Rattle.pcapng_reader.specs.declared.fault.CaptureFault.TheVariants.{NoMemory};
+
+    ghost from_gives = { λ _ f. f ≡ NoMemory };
+
+    fn from(_error: AllocError) -> CaptureFault {
+        CaptureFault::NoMemory
+    }
+}
+
+impl<T: Drop> From<AllocFailed<T>> for CaptureFault {
+    ghost use Rattle.std.specs.Prelude.{◌≡◌};
+    ghost use Rattle.pcapng_reader.specs.declared.fault.CaptureFault.TheVariants.{NoMemory};
+
+    ghost from_gives = { λ _ f. f ≡ NoMemory };
+
+    fn from(_error: AllocFailed<T>) -> CaptureFault {
+        CaptureFault::NoMemory
+    }
+}

@@ -1,0 +1,9 @@
+//! Tests of captures in pcapng by their public calls: whole, in pieces, cut, and changed.
+#![tactic(auto)]
+
+#[cfg(test)]
+mod blocks;
+#[cfg(test)]
+mod facts;
+#[cfg(test)]
+mod stamps;
