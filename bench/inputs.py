@@ -42,7 +42,7 @@ lines("lines400.hex", 200, 60_000_000)
 lines("lines120.hex", 60, 60_000_000)
 capture("packets60.pcap", 60, total=60_000_000)
 capture("packets1500.pcap", 1500, total=60_000_000)
-for size in (60, 100, 200):
+for size in (60, 100, 200, 1500):
     capture(f"many{size}.pcap", size, count=200_000)
 
 # Assembler texts: 4,096 instructions with a label each, a jump to the next label every fourth, and a comment of 60 MB.

@@ -1,5 +1,5 @@
-/* Runs a program with a file as its standard input and /dev/null as its standard output. Prints wall time and processor time
- * in microseconds, and peak memory in kilobytes. It is small, since the peak of a process is at least that of the process that
+/* Runs a program with a file as its standard input, and as its standard output the file that OUT names in the environment, or
+ * /dev/null. Prints wall time and processor time in microseconds, and peak memory in kilobytes. It is small, since the peak of a process is at least that of the process that
  * it was forked from. Usage: programs INPUT PROGRAM [WORD].. */
 #define _GNU_SOURCE
 #include <fcntl.h>
@@ -19,7 +19,9 @@ int main(int argc, char **argv) {
   pid_t child = fork();
   if (child < 0) return 2;
   if (child == 0) {
-    int in = open(argv[1], O_RDONLY), out = open("/dev/null", O_WRONLY);
+    const char *name = getenv("OUT");
+    int in = open(argv[1], O_RDONLY);
+    int out = name ? open(name, O_WRONLY | O_CREAT | O_TRUNC, 0644) : open("/dev/null", O_WRONLY);
     if (in < 0 || out < 0 || dup2(in, 0) < 0 || dup2(out, 1) < 0) _exit(127);
     execv(argv[2], argv + 2);
     _exit(127);

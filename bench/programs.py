@@ -14,10 +14,11 @@ rounds = int(sys.argv[3]) if len(sys.argv) > 3 else 11
 ARP = "4,40 0 0 12,21 0 1 2054,6 0 0 4294967295,6 0 0 0"
 
 
-def run(words, name):
-    """Wall time and processor time in seconds, and peak memory in MB."""
+def run(words, name, out):
+    """Wall time and processor time in seconds, and peak memory in MB. Standard output is this file, if one is given."""
     words = [f"{folder}/programs", f"{folder}/{name}", *words]
-    told = subprocess.run(words, check=True, capture_output=True, text=True).stdout.split()
+    where = {**os.environ, "OUT": out} if out else None
+    told = subprocess.run(words, check=True, capture_output=True, text=True, env=where).stdout.split()
     return float(told[0]) / 1e6, float(told[1]) / 1e6, float(told[2]) / 1e3
 
 
@@ -25,8 +26,8 @@ def spread(ratios):
     return f"{statistics.median(ratios):.2f} ({min(ratios):.2f} to {max(ratios):.2f})"
 
 
-def compare(what, name, ours, peer):
-    pairs = [(run(ours, name), run(peer, name)) for _ in range(rounds)]
+def compare(what, name, ours, peer, out=None):
+    pairs = [(run(ours, name, out), run(peer, name, None)) for _ in range(rounds)]
     wall = [statistics.median(pair[side][0] for pair in pairs) for side in (0, 1)]
     peak = [max(pair[side][2] for pair in pairs) for side in (0, 1)]
     ratios = [spread([pair[0][kind] / pair[1][kind] for pair in pairs]) for kind in (0, 1)]
@@ -56,5 +57,14 @@ for what, name in [(f"200,000 packets of {size} bytes", f"many{size}.pcap") for 
     if tcpdump:
         theirs = [tcpdump, "-r", f"{folder}/{name}", "-w", "/dev/null", "arp"]
         compare("`match --pcap`, the same, to `tcpdump -r FILE -w /dev/null arp`", name, ours, theirs)
+if tcpdump:
+    for size in (60, 200, 1500):
+        name, kept = f"many{size}.pcap", f"{folder}/kept.pcap"
+        for what, code, words in (("ARP by type", ARP, ["arp"]), ("every packet", "1,6 0 0 1", [])):
+            # As root, tcpdump would write as a user of its own, who may not write here.
+            root = ["-Z", "root"] if os.geteuid() == 0 else []
+            theirs = [tcpdump, *root, "-r", f"{folder}/{name}", "-w", f"{folder}/kept-by-tcpdump.pcap", *words]
+            what = f"`keep` to a file, 200,000 packets of {size:,} bytes, {what}, to `tcpdump -r IN -w OUT`"
+            compare(what, name, [mkdemux, "keep", code], theirs, kept)
 compare("`check`, a comment of 60 MB", "comment.asm", [mkdemux, "check"], [f"{folder}/text_peer"])
 compare("`check`, 4,096 instructions and labels", "labels.asm", [mkdemux, "check"], [f"{folder}/text_peer"])

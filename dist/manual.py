@@ -114,8 +114,9 @@ def page_of(top, helps, version):
     lines += section("SYNOPSIS", [line for usage in usages for line in (usage, ".br")][:-1])
     lines += section("DESCRIPTION", paragraphs([
         top.details[0] + ".",
-        "Each command reads standard input and writes standard output. It verifies a filter before it runs it, and opens "
-        "no file but a FILE of `sim` and `run`.",
+        "Each command reads the FILE that is named after its words, or standard input, and writes standard output; `sim` "
+        "and `run` read a script from standard input, and then each FILE. A filter is verified before it runs, and no "
+        "other file is opened.",
     ]))
     lines += [".SH COMMANDS"]
     for name, help in helps.items():
@@ -197,10 +198,11 @@ def zsh_of(top, helps):
     arms = []
     for name, help in helps.items():
         words = [f"'{flag}[{zsh_text(said)}]'" for flag, said in flags_of(help)]
+        first = joined(help.arguments)[0][0] if help.arguments else ""
+        if first.startswith("<"):
+            words.append(f"'1:{first.strip('<>')}: '")
         if takes_files(help):
             words.append("'*:FILE:_files'")
-        elif help.arguments:
-            words.append(f"'1:{joined(help.arguments)[0][0].strip('<>')}: '")
         arms.append(f"        {name}) _arguments {(' ' + chr(92) + chr(10) + '            ').join(words)} ;;")
     top_flags = [f"'(- *){flag}[{zsh_text(said)}]'" for flag, said in flags_of(top)]
     return f"""#compdef mkdemux
@@ -275,8 +277,8 @@ FISH_ASKS = "source $argv[1]; complete -C $argv[2] | string replace -r '\\t.*' '
 def checks():
     """Each check that can be made here: its name, the command that it needs, what it says and what it must say."""
     page, bash, zsh, fish = (str(SHARE / name) for name in (PAGE, BASH, ZSH, FISH))
-    words = ["match", "--p"], ["sim", "examples/frames.p"], ["dr"]
-    wanted = "--pcap\n", "examples/frames.pcap\n", "draw\n"
+    words = ["match", "--p"], ["sim", "examples/frames.p"], ["keep", "1,6 0 0 1", "examples/frames.p"], ["dr"]
+    wanted = "--pcap\n", "examples/frames.pcap\n", "examples/frames.pcap\n", "draw\n"
     yield "the page by mandoc -T lint", "mandoc", ["mandoc", "-T", "lint", page], ""
     yield "the page by groff -ww", "groff", ["groff", "-ww", "-man", "-Tutf8", "-z", page], ""
     for asked, answer in zip(words, wanted):

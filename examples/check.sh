@@ -1,6 +1,7 @@
 #!/bin/sh
 # Runs each example script and the commands of the pages, and compares what they print. A line for each script and page, then
 # `N passed, M failed`; status 1 where one failed.
+unset CDPATH
 cd "$(dirname "$0")" || exit 2
 made=$(mktemp -d) || exit 2
 trap 'rm -rf "$made"' EXIT
@@ -91,6 +92,24 @@ misses() {
     count "$missing" $?
 }
 
+# FILTER EXPRESSION FILE..: of each capture `keep` gives what tcpdump writes for this expression, where tcpdump is there; kept or
+# left out, each record goes to one of the two; and a filter that accepts all gives the capture.
+keeps() {
+    filter=$(cat "$1.ddd")
+    expression=$2
+    name=$1
+    shift 2
+    for capture in "$@"; do
+        ../mkdemux keep "$filter" "$capture" > "$made/kept" || return 1
+        ../mkdemux keep '1,6 0 0 1' "$capture" | cmp -s - "$capture" || return 1
+        ../mkdemux keep --not "$filter" "$capture" > "$made/left" || return 1
+        both=$(($(wc -c < "$made/kept") + $(wc -c < "$made/left") - 24))
+        [ "$both" -eq "$(wc -c < "$capture")" ] || return 1
+        command -v tcpdump > /dev/null || continue
+        tcpdump -r "$capture" -w - "$expression" 2> /dev/null > "$made/theirs" && cmp -s "$made/kept" "$made/theirs" || return 1
+    done
+}
+
 prints two-phase two-phase
 prints revoked revoked
 prints replay replay frames.pcap
@@ -115,6 +134,10 @@ draws replay
 draws veto
 draws home
 graphs web-or-dns
+keeps arp arp frames.pcap two.pcap
+count arp-kept $?
+keeps tcp-port-80 'tcp port 80' frames.pcap two.pcap
+count tcp-port-80-kept $?
 misses files missing.pcap frames.pcap missing.pcap
 
 # An output that nobody reads any more ends the program with status 3, and without a word.
@@ -145,7 +168,7 @@ conflicts() {
 
 # The words that the help of the commands lists are those that docs/messages.md explains.
 words() {
-    for command in match check dump sim run; do
+    for command in match check dump keep sim run; do
         ../mkdemux "$command" --help | sed '1,/^docs\/messages.md/d' | tr ' ' '\n' | grep -x '[A-Z][A-Za-z]*'
     done | sort -u > "$made/listed"
     sed -n 's/^### //p' ../docs/messages.md | sort -u | cmp -s - "$made/listed"
@@ -162,7 +185,9 @@ unread() {
 # An output that takes no byte is reported.
 full() {
     ../mkdemux dump < two.pcap > /dev/full 2> "$made/said"
-    [ $? -eq 3 ] && [ "$(cat "$made/said")" = "mkdemux: the output can't be written" ]
+    [ $? -eq 3 ] && [ "$(cat "$made/said")" = "mkdemux: the output can't be written" ] &&
+        ! ../mkdemux keep '1,6 0 0 1' two.pcap > /dev/full 2> "$made/said" &&
+        [ "$(cat "$made/said")" = "mkdemux: the output can't be written" ]
     count full-output $?
 }
 

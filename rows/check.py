@@ -1,5 +1,6 @@
 #!/usr/bin/env python3
-"""Runs each row of this folder, and compares its status and all that it prints, byte for byte. README.md says what a row is.
+"""Runs each row of this folder, and compares its status and all that it prints, byte for byte, and where the row says what
+stands on standard error that too. README.md says what a row is.
 
     rows/check.py [PROGRAM]     PROGRAM is ./mkdemux, if none is given
 
@@ -38,6 +39,7 @@ class Row:
         self.name, self.args, self.status, self.is_unread, self.is_end = name, [], 0, False, False
         self.inputs = {"": b""}
         self.outputs = [b""]
+        self.told = None
 
     def add(self, mark, rest):
         """Takes a line that begins with this mark."""
@@ -52,6 +54,12 @@ class Row:
             self.inputs[rest] = b""
         elif mark == ">":
             self.outputs[-1] += line_of(rest)
+        elif mark == ">x":
+            self.outputs[-1] += bytes.fromhex(rest)
+        elif mark == "!":
+            self.told = (self.told or b"") + line_of(rest)
+        elif mark == "silent":
+            self.told = b""
         elif mark == "or":
             self.outputs.append(b"")
         elif mark == "=":
@@ -74,6 +82,8 @@ class Row:
             return f"status {ran.returncode} in place of {self.status}: {ran.stderr.decode(errors='replace')}"
         if not any(ran.stdout.endswith(wanted) if self.is_end else ran.stdout == wanted for wanted in self.outputs):
             return f"it printed\n{ran.stdout.decode(errors='replace')}"
+        if self.told is not None and ran.stderr != self.told:
+            return f"on standard error it printed\n{ran.stderr.decode(errors='replace')}"
         if self.is_unread and left != 0:
             return f"{left} bytes of standard input were read"
         return None

@@ -4,10 +4,10 @@ use Rattle.std.specs.Prelude.{codes, unwrap_or}
 use Rattle.std.specs.List.{Contains}
 use Rattle.clap.specs.Words.{Row, Text, first_of, one_of}
 use Rattle.command_line.specs.declared.request.Request.{Request}
-use Rattle.command_line.specs.declared.request.Request.TheVariants.{Match, View as Viewed, Explain, Check, Graph, Dump, Sim, Run, Draw}
+use Rattle.command_line.specs.declared.request.Request.TheVariants.{Match, View as Viewed, Explain, Keep, Check, Graph, Dump, Sim, Run, Draw}
 use Rattle.command_line.specs.declared.request.View.{View}
 use Rattle.command_line.specs.declared.request.View.TheVariants.{Numbers, Count, Quiet}
-use Rattle.command_line.specs.Requests.{Asks, IsExplain, IsFlag, IsMatch, IsView, IsViewed, command_names}
+use Rattle.command_line.specs.Requests.{Asks, IsExplain, IsFlag, IsKeep, IsMatch, IsView, IsViewed, command_names}
 
 abbrev pub truth : Bool → Text
 truth true = codes "true"
@@ -75,6 +75,7 @@ only_match name rows (Some (Viewed code given view)) is h text pcap stream is_co
 only_match name rows (Some Graph) is h text pcap stream is_code is_explain is_pcap is_stream none = apart name (codes "check") (codes "match") h.0 is (λ (same : 610 ≡ 651). absurd (omega arith))
 only_match name rows (Some Dump) is h text pcap stream is_code is_explain is_pcap is_stream none = apart name (codes "dump") (codes "match") h is (λ (same : 661 ≡ 651). absurd (omega arith))
 only_match name rows (Some (Sim files)) is h text pcap stream is_code is_explain is_pcap is_stream none = apart name (codes "sim") (codes "match") h.0 is (λ (same : 652 ≡ 651). absurd (omega arith))
+only_match name rows (Some (Keep kept inverted)) is h text pcap stream is_code is_explain is_pcap is_stream none = apart name (codes "keep") (codes "match") h.0 is (λ (same : 612 ≡ 651). absurd (omega arith))
 only_match name rows (Some (Run files)) is h text pcap stream is_code is_explain is_pcap is_stream none = apart name (codes "run") (codes "match") h.0 is (λ (same : 678 ≡ 651). absurd (omega arith))
 only_match name rows (Some (Draw words)) is h text pcap stream is_code is_explain is_pcap is_stream none = apart name (codes "draw") (codes "match") h.0 is (λ (same : 619 ≡ 651). absurd (omega arith))
 only_match name rows None is h text pcap stream is_code is_explain is_pcap is_stream none = absurd (subst (λ t. Contains command_names t → ⊥) is h (0, omega arith, refl))
@@ -91,6 +92,7 @@ only_view name rows (Some (Check asm)) is h text pcap view is_code is_explain is
 only_view name rows (Some Graph) is h text pcap view is_code is_explain is_pcap is_view = apart name (codes "check") (codes "match") h.0 is (λ (same : 610 ≡ 651). absurd (omega arith))
 only_view name rows (Some Dump) is h text pcap view is_code is_explain is_pcap is_view = apart name (codes "dump") (codes "match") h is (λ (same : 661 ≡ 651). absurd (omega arith))
 only_view name rows (Some (Sim files)) is h text pcap view is_code is_explain is_pcap is_view = apart name (codes "sim") (codes "match") h.0 is (λ (same : 652 ≡ 651). absurd (omega arith))
+only_view name rows (Some (Keep kept inverted)) is h text pcap view is_code is_explain is_pcap is_view = apart name (codes "keep") (codes "match") h.0 is (λ (same : 612 ≡ 651). absurd (omega arith))
 only_view name rows (Some (Run files)) is h text pcap view is_code is_explain is_pcap is_view = apart name (codes "run") (codes "match") h.0 is (λ (same : 678 ≡ 651). absurd (omega arith))
 only_view name rows (Some (Draw words)) is h text pcap view is_code is_explain is_pcap is_view = apart name (codes "draw") (codes "match") h.0 is (λ (same : 619 ≡ 651). absurd (omega arith))
 only_view name rows None is h text pcap view is_code is_explain is_pcap is_view = absurd (subst (λ t. Contains command_names t → ⊥) is h (0, omega arith, refl))
@@ -106,6 +108,7 @@ only_explain name rows (Some (Check asm)) is h text is_code is_explain = apart n
 only_explain name rows (Some Graph) is h text is_code is_explain = apart name (codes "check") (codes "match") h.0 is (λ (same : 610 ≡ 651). absurd (omega arith))
 only_explain name rows (Some Dump) is h text is_code is_explain = apart name (codes "dump") (codes "match") h is (λ (same : 661 ≡ 651). absurd (omega arith))
 only_explain name rows (Some (Sim files)) is h text is_code is_explain = apart name (codes "sim") (codes "match") h.0 is (λ (same : 652 ≡ 651). absurd (omega arith))
+only_explain name rows (Some (Keep kept inverted)) is h text is_code is_explain = apart name (codes "keep") (codes "match") h.0 is (λ (same : 612 ≡ 651). absurd (omega arith))
 only_explain name rows (Some (Run files)) is h text is_code is_explain = apart name (codes "run") (codes "match") h.0 is (λ (same : 678 ≡ 651). absurd (omega arith))
 only_explain name rows (Some (Draw words)) is h text is_code is_explain = apart name (codes "draw") (codes "match") h.0 is (λ (same : 619 ≡ 651). absurd (omega arith))
 only_explain name rows None is h text is_code is_explain = absurd (subst (λ t. Contains command_names t → ⊥) is h (0, omega arith, refl))
@@ -119,6 +122,7 @@ only_check name rows (Some (Viewed code pcap view)) is h asm is_graph is_asm = a
 only_check name rows (Some (Explain code)) is h asm is_graph is_asm = apart name (codes "match") (codes "check") h.0 is (λ (same : 651 ≡ 610). absurd (omega arith))
 only_check name rows (Some Dump) is h asm is_graph is_asm = apart name (codes "dump") (codes "check") h is (λ (same : 661 ≡ 610). absurd (omega arith))
 only_check name rows (Some (Sim files)) is h asm is_graph is_asm = apart name (codes "sim") (codes "check") h.0 is (λ (same : 652 ≡ 610). absurd (omega arith))
+only_check name rows (Some (Keep kept inverted)) is h asm is_graph is_asm = apart name (codes "keep") (codes "check") h.0 is (λ (same : 612 ≡ 610). absurd (omega arith))
 only_check name rows (Some (Run files)) is h asm is_graph is_asm = apart name (codes "run") (codes "check") h.0 is (λ (same : 678 ≡ 610). absurd (omega arith))
 only_check name rows (Some (Draw text)) is h asm is_graph is_asm = apart name (codes "draw") (codes "check") h.0 is (λ (same : 619 ≡ 610). absurd (omega arith))
 only_check name rows None is h asm is_graph is_asm = absurd (subst (λ t. Contains command_names t → ⊥) is h (1, omega arith, refl))
@@ -132,6 +136,7 @@ only_graph name rows (Some (Viewed code pcap view)) is h is_graph = apart name (
 only_graph name rows (Some (Explain code)) is h is_graph = apart name (codes "match") (codes "check") h.0 is (λ (same : 651 ≡ 610). absurd (omega arith))
 only_graph name rows (Some Dump) is h is_graph = apart name (codes "dump") (codes "check") h is (λ (same : 661 ≡ 610). absurd (omega arith))
 only_graph name rows (Some (Sim files)) is h is_graph = apart name (codes "sim") (codes "check") h.0 is (λ (same : 652 ≡ 610). absurd (omega arith))
+only_graph name rows (Some (Keep kept inverted)) is h is_graph = apart name (codes "keep") (codes "check") h.0 is (λ (same : 612 ≡ 610). absurd (omega arith))
 only_graph name rows (Some (Run files)) is h is_graph = apart name (codes "run") (codes "check") h.0 is (λ (same : 678 ≡ 610). absurd (omega arith))
 only_graph name rows (Some (Draw text)) is h is_graph = apart name (codes "draw") (codes "check") h.0 is (λ (same : 619 ≡ 610). absurd (omega arith))
 only_graph name rows None is h is_graph = absurd (subst (λ t. Contains command_names t → ⊥) is h (1, omega arith, refl))
@@ -144,6 +149,7 @@ only_dump name rows (Some (Explain code)) is h = apart name (codes "match") (cod
 only_dump name rows (Some (Check asm)) is h = apart name (codes "check") (codes "dump") h.0 is (λ (same : 610 ≡ 661). absurd (omega arith))
 only_dump name rows (Some Graph) is h = apart name (codes "check") (codes "dump") h.0 is (λ (same : 610 ≡ 661). absurd (omega arith))
 only_dump name rows (Some (Sim files)) is h = apart name (codes "sim") (codes "dump") h.0 is (λ (same : 652 ≡ 661). absurd (omega arith))
+only_dump name rows (Some (Keep kept inverted)) is h = apart name (codes "keep") (codes "dump") h.0 is (λ (same : 612 ≡ 661). absurd (omega arith))
 only_dump name rows (Some (Run files)) is h = apart name (codes "run") (codes "dump") h.0 is (λ (same : 678 ≡ 661). absurd (omega arith))
 only_dump name rows (Some (Draw text)) is h = apart name (codes "draw") (codes "dump") h.0 is (λ (same : 619 ≡ 661). absurd (omega arith))
 only_dump name rows None is h = absurd (subst (λ t. Contains command_names t → ⊥) is h (2, omega arith, refl))
@@ -158,5 +164,20 @@ only_draw name rows (Some (Check asm)) is h plain is_plain = apart name (codes "
 only_draw name rows (Some Graph) is h plain is_plain = apart name (codes "check") (codes "draw") h.0 is (λ (same : 610 ≡ 619). absurd (omega arith))
 only_draw name rows (Some Dump) is h plain is_plain = apart name (codes "dump") (codes "draw") h is (λ (same : 661 ≡ 619). absurd (omega arith))
 only_draw name rows (Some (Sim files)) is h plain is_plain = apart name (codes "sim") (codes "draw") h.0 is (λ (same : 652 ≡ 619). absurd (omega arith))
+only_draw name rows (Some (Keep kept inverted)) is h plain is_plain = apart name (codes "keep") (codes "draw") h.0 is (λ (same : 612 ≡ 619). absurd (omega arith))
 only_draw name rows (Some (Run files)) is h plain is_plain = apart name (codes "run") (codes "draw") h.0 is (λ (same : 678 ≡ 619). absurd (omega arith))
 only_draw name rows None is h plain is_plain = absurd (subst (λ t. Contains command_names t → ⊥) is h (5, omega arith, refl))
+
+pub only_keep : (name : Text) (rows : List Row) (r : Option Request) → name ≡ codes "keep" → Asks name rows r
+    → (text : Text) (inverted : Bool) → unwrap_or (first_of (codes "code") rows) [] ≡ text → one_of (codes "not") rows ≡ Some (truth inverted) → IsKeep text inverted r
+only_keep name rows (Some (Keep code given)) is h text inverted is_code is_not = (code, ap (λ n. Some (Keep code n)) (flag_is (codes "not") rows given inverted h.2 is_not), h.1 ∙ is_code)
+only_keep name rows (Some (Match code pcap stream)) is h text inverted is_code is_not = apart name (codes "match") (codes "keep") h.0 is (λ (same : 651 ≡ 612). absurd (omega arith))
+only_keep name rows (Some (Viewed code pcap view)) is h text inverted is_code is_not = apart name (codes "match") (codes "keep") h.0 is (λ (same : 651 ≡ 612). absurd (omega arith))
+only_keep name rows (Some (Explain code)) is h text inverted is_code is_not = apart name (codes "match") (codes "keep") h.0 is (λ (same : 651 ≡ 612). absurd (omega arith))
+only_keep name rows (Some (Check asm)) is h text inverted is_code is_not = apart name (codes "check") (codes "keep") h.0 is (λ (same : 610 ≡ 612). absurd (omega arith))
+only_keep name rows (Some Graph) is h text inverted is_code is_not = apart name (codes "check") (codes "keep") h.0 is (λ (same : 610 ≡ 612). absurd (omega arith))
+only_keep name rows (Some Dump) is h text inverted is_code is_not = apart name (codes "dump") (codes "keep") h is (λ (same : 661 ≡ 612). absurd (omega arith))
+only_keep name rows (Some (Sim files)) is h text inverted is_code is_not = apart name (codes "sim") (codes "keep") h.0 is (λ (same : 652 ≡ 612). absurd (omega arith))
+only_keep name rows (Some (Run files)) is h text inverted is_code is_not = apart name (codes "run") (codes "keep") h.0 is (λ (same : 678 ≡ 612). absurd (omega arith))
+only_keep name rows (Some (Draw plain)) is h text inverted is_code is_not = apart name (codes "draw") (codes "keep") h.0 is (λ (same : 619 ≡ 612). absurd (omega arith))
+only_keep name rows None is h text inverted is_code is_not = absurd (subst (λ t. Contains command_names t → ⊥) is h (6, omega arith, refl))

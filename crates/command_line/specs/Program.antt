@@ -18,6 +18,10 @@ lone_flag name = record (flag name) { is_free = false }
 abbrev pub code : Rule
 code = record (new_rule (codes "code")) { value_names = 1; required = true }
 
+-- `FILE`, which may be given
+abbrev pub file : Rule
+file = record (new_rule (codes "file")) { value_names = 1 }
+
 -- `[FILE]...`
 abbrev pub files : Rule
 files = record (new_rule (codes "files")) { value_names = 1; range = Some (record { start_inclusive = 0; end_inclusive = usize_max }) }
@@ -29,12 +33,13 @@ abbrev pub program : App
 program = record {
   top = record (new_shape (codes "mkdemux")) { has_version = true; subcommand_required = true; is_leaf = false };
   subs = command (codes "match") (code ∷ flag (codes "pcap") ∷ flag (codes "stream") ∷ flag (codes "number")
-      ∷ lone_flag (codes "count") ∷ lone_flag (codes "quiet") ∷ lone_flag (codes "explain") ∷ [])
-      ∷ command (codes "check") (flag (codes "asm") ∷ lone_flag (codes "graph") ∷ [])
-      ∷ command (codes "dump") []
+      ∷ lone_flag (codes "count") ∷ lone_flag (codes "quiet") ∷ lone_flag (codes "explain") ∷ file ∷ [])
+      ∷ command (codes "check") (flag (codes "asm") ∷ lone_flag (codes "graph") ∷ file ∷ [])
+      ∷ command (codes "dump") (file ∷ [])
+      ∷ command (codes "keep") (code ∷ flag (codes "not") ∷ file ∷ [])
       ∷ command (codes "sim") (files ∷ [])
       ∷ command (codes "run") (files ∷ [])
-      ∷ command (codes "draw") (flag (codes "text") ∷ [])
+      ∷ command (codes "draw") (flag (codes "text") ∷ file ∷ [])
       ∷ [];
 }
 

@@ -1,10 +1,11 @@
 -- What the words of the command line ask for.
 use denote.Ref.{Bor}
-use Rattle.std.specs.Prelude.{◌≡◌, ◌++◌, ℕ, Bool, true, false, List, [], ◌∷◌, map, Option, Some, None, unwrap_or, codes}
+use Rattle.std.specs.Prelude.{◌≡◌, ◌++◌, ℕ, Bool, true, false, List, [], ◌∷◌, map, Option, Some, None, unwrap_or, codes, ◌≢◌, ◌⊎◌}
 use Rattle.std.specs.List.{Contains}
 use Rattle.clap.specs.Words.{Row, Text, all_of, first_of, one_of}
+use Rattle.command_line.specs.declared.request.Invocation.{Invocation}
 use Rattle.command_line.specs.declared.request.Request.{Request}
-use Rattle.command_line.specs.declared.request.Request.TheVariants.{Match, View as Viewed, Explain, Check, Graph, Dump, Sim, Run, Draw}
+use Rattle.command_line.specs.declared.request.Request.TheVariants.{Match, View as Viewed, Explain, Keep, Check, Graph, Dump, Sim, Run, Draw}
 use Rattle.command_line.specs.declared.request.View.{View}
 use Rattle.command_line.specs.declared.request.View.TheVariants.{Numbers, Count, Quiet}
 
@@ -23,6 +24,11 @@ IsView rows None = IsFlag (codes "quiet") rows false × IsFlag (codes "count") r
 abbrev pub IsFiles : List Row → List (Bor Text) → Type 0
 IsFiles rows files = map (λ f. f.now) files ≡ unwrap_or (all_of (codes "files") rows) []
 
+-- the file that is the input: none where none is given, or where its name is `-`, for standard input
+abbrev pub IsInput : List Row → Option (Bor Text) → Type 0
+IsInput rows None = (first_of (codes "file") rows ≡ None) ⊎ (first_of (codes "file") rows ≡ Some (codes "-"))
+IsInput rows (Some name) = (first_of (codes "file") rows ≡ Some name.now) × (name.now ≢ codes "-")
+
 -- the captures that a request names
 abbrev pub captures_of : Request → List Text
 captures_of (Sim files) = map (λ f. f.now) files.items
@@ -30,7 +36,7 @@ captures_of (Run files) = map (λ f. f.now) files.items
 captures_of request = []
 
 abbrev pub command_names : List Text
-command_names = codes "match" ∷ codes "check" ∷ codes "dump" ∷ codes "sim" ∷ codes "run" ∷ codes "draw" ∷ []
+command_names = codes "match" ∷ codes "check" ∷ codes "dump" ∷ codes "sim" ∷ codes "run" ∷ codes "draw" ∷ codes "keep" ∷ []
 
 -- what a command of this name asks for, with the rows of its arguments
 abbrev pub Asks : Text → List Row → Option Request → Type 0
@@ -39,6 +45,7 @@ Asks name rows (Some (Match code pcap stream)) = (name ≡ codes "match") × (co
 Asks name rows (Some (Viewed code pcap view)) = (name ≡ codes "match") × (code.now ≡ unwrap_or (first_of (codes "code") rows) [])
     × IsFlag (codes "explain") rows false × IsFlag (codes "pcap") rows pcap × IsView rows (Some view)
 Asks name rows (Some (Explain code)) = (name ≡ codes "match") × (code.now ≡ unwrap_or (first_of (codes "code") rows) []) × IsFlag (codes "explain") rows true
+Asks name rows (Some (Keep code inverted)) = (name ≡ codes "keep") × (code.now ≡ unwrap_or (first_of (codes "code") rows) []) × IsFlag (codes "not") rows inverted
 Asks name rows (Some (Check asm)) = (name ≡ codes "check") × IsFlag (codes "graph") rows false × IsFlag (codes "asm") rows asm
 Asks name rows (Some Graph) = (name ≡ codes "check") × IsFlag (codes "graph") rows true
 Asks name rows (Some Dump) = name ≡ codes "dump"
@@ -47,10 +54,20 @@ Asks name rows (Some (Run files)) = (name ≡ codes "run") × IsFiles rows files
 Asks name rows (Some (Draw text)) = (name ≡ codes "draw") × IsFlag (codes "text") rows text
 Asks name rows None = Contains command_names name → ⊥
 
+-- the same, with the file that is the input
+abbrev pub AsksWith : Text → List Row → Option Invocation → Type 0
+AsksWith name rows (Some invocation) = Asks name rows (Some invocation.request) × IsInput rows invocation.input
+AsksWith name rows None = Asks name rows None
+
 -- what the command that was found asks for
-abbrev pub AsksBy : Option (Text × List Row) → Option Request → Type 0
-AsksBy (Some found) request = Asks found.0 found.1 request
-AsksBy None request = request ≡ None
+abbrev pub AsksBy : Option (Text × List Row) → Option Invocation → Type 0
+AsksBy (Some found) invocation = AsksWith found.0 found.1 invocation
+AsksBy None invocation = invocation ≡ None
+
+-- the request is such a one, and its input is standard input
+abbrev pub FromStandardInput : (Option Request → Type 0) → Option Invocation → Type 0
+FromStandardInput P (Some invocation) = P (Some invocation.request) × (invocation.input ≡ None)
+FromStandardInput P None = P None
 
 -- The words of the commands, after the program's name
 
@@ -77,6 +94,9 @@ view_words code pcap view = codes "match" ∷ code ∷ flag_word (codes "--pcap"
 abbrev pub explain_words : Text → List Text
 explain_words code = codes "match" ∷ code ∷ codes "--explain" ∷ []
 
+abbrev pub keep_words : Text → Bool → List Text
+keep_words code inverted = codes "keep" ∷ code ∷ flag_word (codes "--not") inverted
+
 abbrev pub check_words : Bool → List Text
 check_words asm = codes "check" ∷ flag_word (codes "--asm") asm
 
@@ -97,3 +117,7 @@ IsViewed text pcap view request = (code : Bor Text) × (request ≡ Some (Viewed
 -- a `match --explain` of this CODE
 abbrev pub IsExplain : Text → Option Request → Type 0
 IsExplain text request = (code : Bor Text) × (request ≡ Some (Explain code)) × (code.now ≡ text)
+
+-- a `keep` of this CODE
+abbrev pub IsKeep : Text → Bool → Option Request → Type 0
+IsKeep text inverted request = (code : Bor Text) × (request ≡ Some (Keep code inverted)) × (code.now ≡ text)

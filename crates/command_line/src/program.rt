@@ -2,14 +2,15 @@
 
 ghost use Rattle.std.specs.Prelude.{◌≡◌, List, [], ◌∷◌, IfOk, codes, false};
 ghost use Rattle.clap.specs.Words.{Rule, Text, app_of, rule_of, with_rule, with_subcommand};
-ghost use Rattle.command_line.specs.Program.{IsCommand, code, command, files, flag, lone_flag, program};
+ghost use Rattle.command_line.specs.Program.{IsCommand, code, command, file, files, flag, lone_flag, program};
 
 use crate::texts::{
-    ABOUT, ASM_HELP, CHECK_ABOUT, CHECK_DETAILS, CHECK_EXAMPLE, CODE_HELP, COUNT_HELP, DRAW_ABOUT,
-    DRAW_DETAILS, DRAW_EXAMPLE, DUMP_ABOUT, DUMP_DETAILS, DUMP_EXAMPLE, EXIT_STATUS, EXPLAIN_HELP,
-    FILES_HELP, GRAPH_HELP, MATCH_ABOUT, MATCH_DETAILS, MATCH_EXAMPLE, NUMBER_HELP, PCAP_HELP,
-    QUIET_HELP, RUN_ABOUT, RUN_DETAILS, RUN_EXAMPLE, SIM_ABOUT, SIM_DETAILS, SIM_EXAMPLE,
-    STREAM_HELP, TEXT_HELP, VERSION,
+    ABOUT, ASM_HELP, CAPTURE_HELP, CHECK_ABOUT, CHECK_DETAILS, CHECK_EXAMPLE, CODE_HELP,
+    COUNT_HELP, DRAW_ABOUT, DRAW_DETAILS, DRAW_EXAMPLE, DUMP_ABOUT, DUMP_DETAILS, DUMP_EXAMPLE,
+    EXIT_STATUS, EXPLAIN_HELP, FILES_HELP, FILTER_HELP, GRAPH_HELP, KEEP_ABOUT, KEEP_DETAILS,
+    KEEP_EXAMPLE, MATCH_ABOUT, MATCH_DETAILS, MATCH_EXAMPLE, NOT_HELP, NUMBER_HELP, PACKETS_HELP,
+    PCAP_HELP, QUIET_HELP, RUN_ABOUT, RUN_DETAILS, RUN_EXAMPLE, SIM_ABOUT, SIM_DETAILS,
+    SIM_EXAMPLE, STREAM_HELP, TEXT_HELP, TRACE_HELP, VERSION,
 };
 use clap::{Arg, ArgAction, Command};
 use std::alloc::{AllocError, Global};
@@ -25,7 +26,8 @@ pub(crate) fn command<'a>(alloc: Global) -> Result<Command<'a>, AllocError>
         .subcommand_required(true);
     let command = with_command(command, matching(alloc))?;
     let command = with_command(command, checking(alloc))?;
-    let command = with_command(command, Ok(dumping(alloc)))?;
+    let command = with_command(command, dumping(alloc))?;
+    let command = with_command(command, keeping(alloc))?;
     let command = with_command(command, simulating(alloc))?;
     let command = with_command(command, running(alloc))?;
     with_command(command, drawing(alloc))
@@ -48,10 +50,10 @@ fn with_command<'a>(
     }
 }
 
-// `match CODE [--pcap] [--stream] [--number | --count | --quiet]`, `match CODE --explain`
+// `match CODE [--pcap] [--stream] [--number | --count | --quiet] [FILE]`, `match CODE --explain [FILE]`
 fn matching<'a>(alloc: Global) -> Result<Command<'a>, AllocError>
     ensures { IfOk result (IsCommand (codes "match") (code ∷ flag (codes "pcap") ∷ flag (codes "stream") ∷ flag (codes "number")
-        ∷ lone_flag (codes "count") ∷ lone_flag (codes "quiet") ∷ lone_flag (codes "explain") ∷ [])) }
+        ∷ lone_flag (codes "count") ∷ lone_flag (codes "quiet") ∷ lone_flag (codes "explain") ∷ file ∷ [])) }
 {
     let command = described(alloc, "match", MATCH_ABOUT, MATCH_DETAILS, MATCH_EXAMPLE)
         .arg(code(alloc))?
@@ -60,17 +62,18 @@ fn matching<'a>(alloc: Global) -> Result<Command<'a>, AllocError>
         .arg(flag(alloc, "number", NUMBER_HELP))?;
     let command = with_argument(command, count(alloc))?;
     let command = with_argument(command, quiet(alloc))?;
-    with_argument(command, explain(alloc))
+    with_argument(command, explain(alloc))?.arg(file(alloc, PACKETS_HELP))
 }
 
-// `check [--asm]`, `check --graph`
+// `check [--asm] [FILE]`, `check --graph [FILE]`
 fn checking<'a>(alloc: Global) -> Result<Command<'a>, AllocError>
-    ensures { IfOk result (IsCommand (codes "check") (flag (codes "asm") ∷ lone_flag (codes "graph") ∷ [])) }
+    ensures { IfOk result (IsCommand (codes "check") (flag (codes "asm") ∷ lone_flag (codes "graph") ∷ file ∷ [])) }
 {
     let command = described(alloc, "check", CHECK_ABOUT, CHECK_DETAILS, CHECK_EXAMPLE).arg(flag(
         alloc, "asm", ASM_HELP,
     ))?;
-    with_argument(command, lone_flag(alloc, "graph", GRAPH_HELP, "asm"))
+    let command = with_argument(command, lone_flag(alloc, "graph", GRAPH_HELP, "asm"))?;
+    command.arg(file(alloc, FILTER_HELP))
 }
 
 // A command with the texts of its help, and no argument yet.
@@ -106,11 +109,21 @@ fn with_argument<'a>(
     }
 }
 
-// `dump`
-fn dumping<'a>(alloc: Global) -> Command<'a>
-    ensures { IsCommand (codes "dump") [] result }
+// `dump [FILE]`
+fn dumping<'a>(alloc: Global) -> Result<Command<'a>, AllocError>
+    ensures { IfOk result (IsCommand (codes "dump") (file ∷ [])) }
 {
-    described(alloc, "dump", DUMP_ABOUT, DUMP_DETAILS, DUMP_EXAMPLE)
+    described(alloc, "dump", DUMP_ABOUT, DUMP_DETAILS, DUMP_EXAMPLE).arg(file(alloc, CAPTURE_HELP))
+}
+
+// `keep CODE [--not] [FILE]`
+fn keeping<'a>(alloc: Global) -> Result<Command<'a>, AllocError>
+    ensures { IfOk result (IsCommand (codes "keep") (code ∷ flag (codes "not") ∷ file ∷ [])) }
+{
+    described(alloc, "keep", KEEP_ABOUT, KEEP_DETAILS, KEEP_EXAMPLE)
+        .arg(code(alloc))?
+        .arg(flag(alloc, "not", NOT_HELP))?
+        .arg(file(alloc, CAPTURE_HELP))
 }
 
 // `sim [FILE]...`
@@ -127,13 +140,13 @@ fn running<'a>(alloc: Global) -> Result<Command<'a>, AllocError>
     described(alloc, "run", RUN_ABOUT, RUN_DETAILS, RUN_EXAMPLE).arg(files(alloc))
 }
 
-// `draw [--text]`
+// `draw [--text] [FILE]`
 fn drawing<'a>(alloc: Global) -> Result<Command<'a>, AllocError>
-    ensures { IfOk result (IsCommand (codes "draw") (flag (codes "text") ∷ [])) }
+    ensures { IfOk result (IsCommand (codes "draw") (flag (codes "text") ∷ file ∷ [])) }
 {
-    described(alloc, "draw", DRAW_ABOUT, DRAW_DETAILS, DRAW_EXAMPLE).arg(flag(
-        alloc, "text", TEXT_HELP,
-    ))
+    described(alloc, "draw", DRAW_ABOUT, DRAW_DETAILS, DRAW_EXAMPLE)
+        .arg(flag(alloc, "text", TEXT_HELP))?
+        .arg(file(alloc, TRACE_HELP))
 }
 
 // `CODE`, which must be given.
@@ -209,6 +222,14 @@ fn lone_flag<'a>(
     ensures local { IfOk result (λ a. a.global ≡ false) }
 {
     flag(alloc, name, help).conflicts_with(other)
+}
+
+// `FILE`, which is read in place of standard input.
+fn file<'a>(alloc: Global, help: &'a str) -> Arg<'a>
+    ensures rule { rule_of result ≡ file }
+    ensures local { result.global ≡ false }
+{
+    Arg::new(alloc, "file").value_name("FILE").help(help)
 }
 
 // The captures of a script.

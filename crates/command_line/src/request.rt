@@ -5,8 +5,8 @@ ghost use Rattle.clap.specs.Words.{Text, found_of, kind_of, rows_of, subcommand_
 ghost use Rattle.clap.specs.declared.error.kind.ErrorKind.{ErrorKind};
 ghost use Rattle.command_line.specs.Program.{program};
 ghost use Rattle.command_line.specs.declared.request.View.{View as Shown};
-ghost use Rattle.command_line.specs.Requests.{Asks, AsksBy, BeginsWithDigit, IsExplain, IsFiles, IsMatch, IsView, IsViewed, Spells};
-ghost use Rattle.command_line.specs.Requests.{captures_of, check_words, draw_words, explain_words, match_words, view_words};
+ghost use Rattle.command_line.specs.Requests.{Asks, AsksBy, AsksWith, BeginsWithDigit, IsExplain, FromStandardInput, IsFiles, IsInput, IsKeep, IsMatch, IsView, IsViewed, Spells};
+ghost use Rattle.command_line.specs.Requests.{captures_of, check_words, draw_words, explain_words, keep_words, match_words, view_words};
 
 use crate::program::command;
 use clap::{ArgMatches, Error};
@@ -50,6 +50,13 @@ pub enum Request<'a> {
         /// The filter in decimal text.
         code: &'a str,
     },
+    /// To copy a capture, but of its packets only those that a filter accepts.
+    Keep {
+        /// The filter in decimal text.
+        code: &'a str,
+        /// Whether the packets are copied that the filter doesn't accept, in place of these.
+        inverted: bool,
+    },
     /// To assemble a filter.
     Check {
         /// Whether it is printed as assembler text; else as decimal text.
@@ -86,26 +93,40 @@ impl<'a> Request<'a> {
     }
 }
 
+/// A request, and where its input is.
+#[derive(Drop)]
+pub struct Invocation<'a> {
+    /// What the program is asked for.
+    pub request: Request<'a>,
+    /// The name of the file that is the input, in place of standard input.
+    pub input: Option<&'a str>,
+}
+
 /// What these words ask for, of which the first is the program's name; none where they name no command of the program. An error has
 /// the text that is to be shown: help, the version, or what is wrong with the words.
-pub fn request_of<'a, S: AsStr>(alloc: Global, words: &'a [S]) -> Result<Option<Request<'a>>, Error>
+pub fn request_of<'a, S: AsStr>(
+    alloc: Global,
+    words: &'a [S],
+) -> Result<Option<Invocation<'a>>, Error>
     ensures asked { IfOk result (AsksBy (subcommand_of program (map S.text words.entry.now))) }
     ensures taken { IfErr result (λ e. takes program (map S.text words.entry.now) ≡ true → kind_of e ≡ ErrorKind.OutOfMemory) }
     ensures matched { (code : Text) (pcap stream : Bool) → Spells (map S.text words.entry.now) (match_words code pcap stream) → BeginsWithDigit code
-        → IfOk result (IsMatch code pcap stream) }
+        → IfOk result (FromStandardInput (IsMatch code pcap stream)) }
     ensures viewed { (code : Text) (pcap : Bool) (view : Shown) → Spells (map S.text words.entry.now) (view_words code pcap view) → BeginsWithDigit code
-        → IfOk result (IsViewed code pcap view) }
-    ensures explained { (code : Text) → Spells (map S.text words.entry.now) (explain_words code) → BeginsWithDigit code → IfOk result (IsExplain code) }
-    ensures checked { (asm : Bool) → Spells (map S.text words.entry.now) (check_words asm) → IfOk result (λ r. r ≡ Some (Request.Check asm)) }
-    ensures graphed { Spells (map S.text words.entry.now) (codes "check" ∷ codes "--graph" ∷ []) → IfOk result (λ r. r ≡ Some Request.Graph) }
-    ensures dumped { Spells (map S.text words.entry.now) (codes "dump" ∷ []) → IfOk result (λ r. r ≡ Some Request.Dump) }
-    ensures drawn { (text : Bool) → Spells (map S.text words.entry.now) (draw_words text) → IfOk result (λ r. r ≡ Some (Request.Draw text)) }
+        → IfOk result (FromStandardInput (IsViewed code pcap view)) }
+    ensures explained { (code : Text) → Spells (map S.text words.entry.now) (explain_words code) → BeginsWithDigit code → IfOk result (FromStandardInput (IsExplain code)) }
+    ensures kept { (code : Text) (inverted : Bool) → Spells (map S.text words.entry.now) (keep_words code inverted) → BeginsWithDigit code
+        → IfOk result (FromStandardInput (IsKeep code inverted)) }
+    ensures checked { (asm : Bool) → Spells (map S.text words.entry.now) (check_words asm) → IfOk result (FromStandardInput (λ r. r ≡ Some (Request.Check asm))) }
+    ensures graphed { Spells (map S.text words.entry.now) (codes "check" ∷ codes "--graph" ∷ []) → IfOk result (FromStandardInput (λ r. r ≡ Some Request.Graph)) }
+    ensures dumped { Spells (map S.text words.entry.now) (codes "dump" ∷ []) → IfOk result (FromStandardInput (λ r. r ≡ Some Request.Dump)) }
+    ensures drawn { (text : Bool) → Spells (map S.text words.entry.now) (draw_words text) → IfOk result (FromStandardInput (λ r. r ≡ Some (Request.Draw text))) }
 {
     parsed(alloc, words)
 }
 
 // What these words ask for.
-fn parsed<'a, S: AsStr>(alloc: Global, words: &'a [S]) -> Result<Option<Request<'a>>, Error>
+fn parsed<'a, S: AsStr>(alloc: Global, words: &'a [S]) -> Result<Option<Invocation<'a>>, Error>
     ensures asked { IfOk result (AsksBy (subcommand_of program (map S.text words.entry.now))) }
     ensures taken { IfErr result (λ e. takes program (map S.text words.entry.now) ≡ true → kind_of e ≡ ErrorKind.OutOfMemory) }
 {
@@ -120,12 +141,42 @@ fn parsed<'a, S: AsStr>(alloc: Global, words: &'a [S]) -> Result<Option<Request<
 }
 
 // What the command among these words asks for.
-fn chosen<'a>(alloc: Global, matches: &ArgMatches<'a>) -> Result<Option<Request<'a>>, AllocError>
+fn chosen<'a>(alloc: Global, matches: &ArgMatches<'a>) -> Result<Option<Invocation<'a>>, AllocError>
     ensures { IfOk result (AsksBy (subcommand_rows_of matches.now)) }
 {
     match matches.subcommand() {
-        Some((name, found)) => asked(alloc, name, found),
+        Some((name, found)) => invoked(alloc, name, found),
         None => Ok(None),
+    }
+}
+
+// What a command of this name and these arguments asks for, and where its input is.
+fn invoked<'a>(
+    alloc: Global,
+    name: &str,
+    found: &ArgMatches<'a>,
+) -> Result<Option<Invocation<'a>>, AllocError>
+    ensures { IfOk result (AsksWith name.now (rows_of (found_of found.now))) }
+{
+    match asked(alloc, name, found)? {
+        Some(request) => Ok(Some(Invocation {
+            request,
+            input: input_of(found),
+        })),
+        None => Ok(None),
+    }
+}
+
+// The file that is the input; none where it is standard input, which `-` names too.
+fn input_of<'a>(found: &ArgMatches<'a>) -> Option<&'a str>
+    ensures { IsInput (rows_of (found_of found.now)) result }
+{
+    match found.get_str("file") {
+        None => None,
+        Some(name) => match name {
+            "-" => None,
+            _ => Some(name),
+        },
     }
 }
 
@@ -153,6 +204,10 @@ fn asked<'a>(
                 },
             }
         }
+        "keep" => Request::Keep {
+            code: found.get_str("code").unwrap_or(""),
+            inverted: found.get_flag("not"),
+        },
         "check" => {
             if found.get_flag("graph") {
                 return Ok(Some(Request::Graph));

@@ -10,7 +10,7 @@ pub(crate) const ABOUT: &str =
 pub(crate) const EXIT_STATUS: &str = "\
 Exit status:
   0  done
-  1  a refused input: its line is on standard output
+  1  a refused input: its line is on standard output, but for `keep`, whose line is on standard error
   2  a fault of the command line
   3  out of memory, a FILE that can't be opened, a device that failed, or a run that halted: one line is on standard
      error, unless nobody reads the output any more
@@ -18,10 +18,10 @@ Exit status:
 
 docs/messages.md has each word that is printed, with its meaning and its cure.";
 
-pub(crate) const MATCH_ABOUT: &str = "Run a filter on the packets of standard input";
+pub(crate) const MATCH_ABOUT: &str = "Run a filter on packets";
 
 pub(crate) const MATCH_DETAILS: &str = "\
-Run a filter on the packets of standard input.
+Run a filter on the packets of FILE, or of standard input.
 
 A packet is a line with an even number of hexadecimal digits of either case, two for each byte; an empty line is an
 empty packet. For each packet one line is printed:
@@ -31,7 +31,7 @@ empty packet. For each packet one line is printed:
 the number of bytes that the filter keeps (0: not accepted) and the number of instructions that ran. At the first line
 that is no packet, `line N: BadHex` is printed and the command ends with status 1.
 
-With --pcap standard input is a capture: a classic pcap savefile, version 2.4, of either byte order, with micro- or
+With --pcap the input is a capture: a classic pcap savefile, version 2.4, of either byte order, with micro- or
 nanoseconds. The packets before a fault of the capture are run, then `fault NAME` is printed, with the fault's place in the
 file where it has one, and the status is 1.
 
@@ -119,10 +119,56 @@ pub(crate) const QUIET_HELP: &str =
 pub(crate) const EXPLAIN_HELP: &str =
     "Print each instruction that ran, with the registers after it";
 
+pub(crate) const PACKETS_HELP: &str = "The file with the packets; `-`, or none, is standard input";
+
+pub(crate) const FILTER_HELP: &str = "The file with the filter; `-`, or none, is standard input";
+
+pub(crate) const CAPTURE_HELP: &str = "The capture; `-`, or none, is standard input";
+
+pub(crate) const TRACE_HELP: &str = "The file with the trace; `-`, or none, is standard input";
+
+pub(crate) const KEEP_ABOUT: &str = "Copy the packets of a capture that a filter accepts";
+
+pub(crate) const KEEP_DETAILS: &str = "\
+Copy the capture in FILE, or on standard input, to standard output, but of its packets only those that the filter accepts:
+with a verdict above 0. With --not it copies those that the filter doesn't accept.
+
+All else stays as it is, byte for byte and in order: the file's header, and of each packet that is kept its time stamp, its
+two lengths and its bytes. A filter that accepts every packet gives the capture itself.
+
+The capture is a classic pcap savefile, version 2.4, of either byte order, with micro- or nanoseconds. It may be of any length
+and come over any time: each packet is written as soon as it is whole and what has been read is handled, and it takes memory
+for the longest packet only.
+
+Standard output is a capture, so each line about what is wrong is on standard error. What was whole before a fault of the
+capture is written, then `fault NAME` is printed, with the fault's place in the file where it has one, and the status is 1.
+For a CODE that is no filter, or that the verifier refuses, one line says why, with status 1, and nothing is read or written.
+The status is 0 where no packet was kept, too.";
+
+pub(crate) const KEEP_EXAMPLE: &str = "\
+Example: the ARP packets of a capture, and the others
+
+    $ mkdemux keep \"$(tcpdump -ddd -y EN10MB arp)\" packets.pcap > arp.pcap
+    $ mkdemux keep --not \"$(tcpdump -ddd -y EN10MB arp)\" packets.pcap > others.pcap
+
+Packets of a device, while they come:
+
+    # tcpdump -U -w - | mkdemux keep \"$(tcpdump -ddd -y EN10MB arp)\" > arp.pcap
+
+Exit status: 0 done; 1 a refused CODE or capture, whose line is on standard error; 2 a fault of the command line; 3 out of
+memory, a FILE that can't be opened or a device that failed, with one line on standard error.
+
+docs/messages.md has the meaning and the cure of each word that is printed:
+  after `code`     BadNumber CountMismatch TooLong
+  after `refused`  Ancillary BadCode BadShift BadWord Empty JumpOut NoReturn Unwritten ZeroDivisor
+  after `fault`    BadMagic BadVersion TooLong TruncatedHeader TruncatedRecord";
+
+pub(crate) const NOT_HELP: &str = "Keep the packets that the filter doesn't accept";
+
 pub(crate) const CHECK_ABOUT: &str = "Assemble a filter";
 
 pub(crate) const CHECK_DETAILS: &str = "\
-Assemble the filter on standard input, and print it as the decimal text that `match` takes.
+Assemble the filter in FILE, or on standard input, and print it as the decimal text that `match` takes.
 
 The filter is written in the mnemonics of Linux's bpf_asm: a line has any number of labels, `name:`, and one instruction at
 most; `;` begins a comment. At the first fault `line N: NAME` is printed, with status 1:
@@ -179,7 +225,7 @@ pub(crate) const GRAPH_HELP: &str =
 pub(crate) const DUMP_ABOUT: &str = "Print the header and the packets of a capture";
 
 pub(crate) const DUMP_DETAILS: &str = "\
-Print the header and the packets of the capture on standard input.
+Print the header and the packets of the capture in FILE, or on standard input.
 
 A capture is a classic pcap savefile, version 2.4, of either byte order, with micro- or nanoseconds. Its header and each
 packet are a line, and a fault, if there is one, is the last line, with status 1:
@@ -339,7 +385,7 @@ docs/messages.md has the meaning and the cure of each word that is printed:
 pub(crate) const DRAW_ABOUT: &str = "Draw what sim or run printed";
 
 pub(crate) const DRAW_DETAILS: &str = "\
-Draw the trace on standard input, which is what `sim` or `run` printed, as a message sequence diagram: an SVG file.
+Draw the trace in FILE, or on standard input, which is what `sim` or `run` printed, as a message sequence diagram: an SVG file.
 
 A column is a core, and a row an event, with its line. An arrow leads from the event that sent a message to the event that
 took it; between two cores that is first in, first out. A message that is still under way is a dashed arrow to a row below

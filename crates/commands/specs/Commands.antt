@@ -1,8 +1,8 @@
 -- What the program shows for each request: the text and the status of the engine of its command.
-use Rattle.std.specs.Prelude.{◌≡◌, ◌⊎◌, ⊤, ℕ, Bool, true, false, List, Option}
+use Rattle.std.specs.Prelude.{◌≡◌, ◌⊎◌, ⊤, ℕ, Bool, true, false, List, [], Option}
 use Rattle.std.specs.Io.KnownBytes.{IsAtEnd}
 use Rattle.command_line.specs.declared.request.Request.{Request}
-use Rattle.command_line.specs.declared.request.Request.TheVariants.{Match, View as Viewed, Explain, Check, Graph, Dump, Sim, Run, Draw}
+use Rattle.command_line.specs.declared.request.Request.TheVariants.{Match, View as Viewed, Explain, Keep, Check, Graph, Dump, Sim, Run, Draw}
 use Rattle.command_line.specs.declared.request.View.{View}
 use Rattle.command_line.specs.declared.request.View.TheVariants as asked
 use Rattle.console.specs.Checking.{ShowsCheck}
@@ -22,6 +22,7 @@ use Rattle.console.specs.declared.fault.EngineFault.{EngineFault}
 use Rattle.draw_engine.specs.Drawing.{ShowsDraw}
 use Rattle.graph_engine.specs.Explaining.{ShowsExplained}
 use Rattle.graph_engine.specs.Showing.{ShowsGraph}
+use Rattle.keep_engine.specs.Keeping.{KeepsGoodCode}
 use Rattle.run_engine.specs.Showing.{Shows as ShowsRunScript}
 use Rattle.run_engine.specs.declared.engine.RunFailure.{RunFailure}
 use Rattle.run_engine.specs.declared.engine.RunFailure.TheVariants.{Engine}
@@ -53,25 +54,37 @@ abbrev pub ShowsExplain : {R : Type 0} → List ℕ → (R → Option (List ℕ)
 ShowsExplain code remaining old new status text =
     (ShowsBadCode code text × (status ≡ 1)) ⊎ ((input : List ℕ) × IsInput remaining old new input × ShowsExplained code input status text)
 
--- what is shown for a request that takes no captures, by what was got of the source
-abbrev pub ShowsAlone : {R : Type 0} → Request → (R → Option (List ℕ)) → Source R → Source R → ℕ → List ℕ → Type 0
-ShowsAlone (Match code pcap stream) remaining old new status text = ShowsMatch code.now pcap stream remaining old new status text
-ShowsAlone (Viewed code pcap view) remaining old new status text = ShowsViewed (shown_as view) code.now pcap remaining old new status text
-ShowsAlone (Explain code) remaining old new status text = ShowsExplain code.now remaining old new status text
-ShowsAlone (Check asm) remaining old new status text = (input : List ℕ) × IsInput remaining old new input × ShowsCheck asm input status text
-ShowsAlone Graph remaining old new status text = (input : List ℕ) × IsInput remaining old new input × ShowsGraph input status text
-ShowsAlone Dump remaining old new status text = (input : List ℕ) × IsInput remaining old new input × ShowsDump input status text
-ShowsAlone (Draw plain) remaining old new status text = (input : List ℕ) × IsInput remaining old new input × ShowsDraw plain input status text
-ShowsAlone (Sim files) remaining old new status text = ⊥
-ShowsAlone (Run files) remaining old new status text = ⊥
+-- `keep`: a capture, and the line about what is wrong, which stands on standard error
+abbrev pub ShowsKept : {R : Type 0} → List ℕ → Bool → (R → Option (List ℕ)) → Source R → Source R → ℕ → List ℕ → List ℕ → Type 0
+ShowsKept code inverted remaining old new status text line =
+    (ShowsBadCode code line × (status ≡ 1) × (text ≡ []))
+    ⊎ ((input : List ℕ) × Gets remaining old new input × KeepsGoodCode code inverted input status line text × (IsAtEnd (remaining new.inner) ⊎ (status ≡ 1)))
+
+-- what is shown for a request whose text is all that is shown, by what was got of the source
+abbrev pub ShowsText : {R : Type 0} → Request → (R → Option (List ℕ)) → Source R → Source R → ℕ → List ℕ → Type 0
+ShowsText (Match code pcap stream) remaining old new status text = ShowsMatch code.now pcap stream remaining old new status text
+ShowsText (Viewed code pcap view) remaining old new status text = ShowsViewed (shown_as view) code.now pcap remaining old new status text
+ShowsText (Explain code) remaining old new status text = ShowsExplain code.now remaining old new status text
+ShowsText (Check asm) remaining old new status text = (input : List ℕ) × IsInput remaining old new input × ShowsCheck asm input status text
+ShowsText Graph remaining old new status text = (input : List ℕ) × IsInput remaining old new input × ShowsGraph input status text
+ShowsText Dump remaining old new status text = (input : List ℕ) × IsInput remaining old new input × ShowsDump input status text
+ShowsText (Draw plain) remaining old new status text = (input : List ℕ) × IsInput remaining old new input × ShowsDraw plain input status text
+ShowsText (Keep code inverted) remaining old new status text = ⊥
+ShowsText (Sim files) remaining old new status text = ⊥
+ShowsText (Run files) remaining old new status text = ⊥
+
+-- what is shown for a request that takes no captures, with the line on standard error, which only `keep` has
+abbrev pub ShowsAlone : {R : Type 0} → Request → (R → Option (List ℕ)) → Source R → Source R → ℕ → List ℕ → List ℕ → Type 0
+ShowsAlone (Keep code inverted) remaining old new status text line = ShowsKept code.now inverted remaining old new status text line
+ShowsAlone request remaining old new status text line = (line ≡ []) × ShowsText request remaining old new status text
 
 -- what is shown for a request, by what was got of the source and of the captures
-abbrev pub Shows : {R F : Type 0} → Request → (R → Option (List ℕ)) → Source R → Source R → (F → Option (List ℕ)) → List (Source F) → List (Source F) → ℕ → List ℕ → Type 0
-Shows (Sim files) remaining old new left captures captures' status text =
-    (input : List ℕ) × (inputs : List (List ℕ)) × AreScriptInputs remaining old new left captures captures' input inputs × ShowsSim inputs input status text
-Shows (Run files) remaining old new left captures captures' status text =
-    (input : List ℕ) × (inputs : List (List ℕ)) × AreScriptInputs remaining old new left captures captures' input inputs × ShowsRunScript inputs input status text
-Shows request remaining old new left captures captures' status text = ShowsAlone request remaining old new status text
+abbrev pub Shows : {R F : Type 0} → Request → (R → Option (List ℕ)) → Source R → Source R → (F → Option (List ℕ)) → List (Source F) → List (Source F) → ℕ → List ℕ → List ℕ → Type 0
+Shows (Sim files) remaining old new left captures captures' status text line = (line ≡ [])
+    × ((input : List ℕ) × (inputs : List (List ℕ)) × AreScriptInputs remaining old new left captures captures' input inputs × ShowsSim inputs input status text)
+Shows (Run files) remaining old new left captures captures' status text line = (line ≡ [])
+    × ((input : List ℕ) × (inputs : List (List ℕ)) × AreScriptInputs remaining old new left captures captures' input inputs × ShowsRunScript inputs input status text)
+Shows request remaining old new left captures captures' status text line = ShowsAlone request remaining old new status text line
 
 -- only `run` halts, or can't start a thread
 abbrev pub IsFailure : Request → RunFailure → Type 0
@@ -82,6 +95,7 @@ IsFailure request failure = (fault : EngineFault) × (failure ≡ Engine fault)
 abbrev pub is_stream : Request → Bool
 is_stream (Match code pcap stream) = stream
 is_stream (Viewed code pcap view) = true
+is_stream (Keep code inverted) = true
 is_stream request = false
 
 -- the most reads of the input: of one that is read to its end, and of a stream

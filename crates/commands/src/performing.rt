@@ -1,6 +1,6 @@
 //! Each request by its engine.
 
-ghost use Rattle.std.specs.Prelude.{◌≡◌, ◌⊎◌, ℕ, List, true, false, IfErr, IfOk, IsErrOf};
+ghost use Rattle.std.specs.Prelude.{◌≡◌, ◌⊎◌, ◌++◌, ℕ, List, [], true, false, IfErr, IfOk, IsErrOf, string_bytes};
 ghost use Rattle.console.specs.Devices.{EndsEarly, IsFresh, Writes};
 ghost use Rattle.run_engine.specs.Failing.{RunEndsEarly};
 ghost use Rattle.script_input.specs.Inputs.{AllFresh, AreReadInOrder};
@@ -14,6 +14,7 @@ use console::{
 use core_threads::Gate;
 use draw_engine::run_draw;
 use graph_engine::{run_explain, run_graph};
+use keep_engine::run_keep;
 use run_engine::{RunFailure, run_run};
 use sim_engine::run_sim;
 use std::alloc::Global;
@@ -27,14 +28,16 @@ pub fn most_reads(request: &Request) -> u64
     ensures { result ≡ reads_of request.now }
 {
     match request {
-        Request::Match { stream: true, .. } | Request::View { .. } => STREAM_READS,
+        Request::Match { stream: true, .. } | Request::View { .. } | Request::Keep { .. } => {
+            STREAM_READS
+        }
         _ => INPUT_READS,
     }
 }
 
 /// Does what was asked for with the input and these captures, and answers the exit status: 0, 1 where an input was refused, or 4 where
-/// `match --quiet` accepted no packet. What it
-/// writes is the text of the command for what it read.
+/// `match --quiet` accepted no packet. What it writes is the text of the command for what it read. Of `keep` that is a capture, so
+/// the line about what is wrong is appended to `complaint`; no other request appends anything.
 ///
 /// Only `sim` and `run` take captures, which they read after the input and in order, and only `run` starts threads, whose receipts
 /// ask the gate. After a failure a front of the text may have been written; where a read failed, only by a stream. The records of
@@ -47,12 +50,14 @@ pub fn perform<T: Threads + Wait + Clock + Sync, G: Gate + Sync, R: Read, F: Rea
     captures: &mut [Source<F>],
     reader: &mut Source<R>,
     writer: &mut Sink<W>,
+    complaint: &mut String,
 ) -> Result<u8, RunFailure>
     requires fresh { IsFresh reader.old (reads_of request.now) }
     requires fresh_captures { AllFresh captures.old }
     requires good { writer.old.failed ≡ false }
     ensures shown { IfOk result (λ status. (text : List ℕ) × Writes W.contents writer.old writer.new text
-        × Shows request.now R.remaining reader.old reader.new F.remaining captures.old captures.new status text) }
+        × (line : List ℕ) × (string_bytes complaint.new ≡ string_bytes complaint.old ++ line)
+        × Shows request.now R.remaining reader.old reader.new F.remaining captures.old captures.new status text line) }
     ensures alone { takes_captures request.now ≡ false → captures.new ≡ captures.old }
     ensures input_first { (reader.new.ended ≡ true) ⊎ (captures.new ≡ captures.old) }
     ensures order { AreReadInOrder captures.old captures.new }
@@ -63,7 +68,7 @@ pub fn perform<T: Threads + Wait + Clock + Sync, G: Gate + Sync, R: Read, F: Rea
     match request {
         Request::Sim { .. } => Ok(run_sim(alloc, captures, reader, writer)?),
         Request::Run { .. } => run_run(rt, alloc, gate, captures, reader, writer),
-        _ => Ok(perform_alone(alloc, request, reader, writer)?),
+        _ => Ok(perform_alone(alloc, request, reader, writer, complaint)?),
     }
 }
 
@@ -73,12 +78,14 @@ fn perform_alone<R: Read, W: Write>(
     request: &Request,
     reader: &mut Source<R>,
     writer: &mut Sink<W>,
+    complaint: &mut String,
 ) -> Result<u8, EngineFault>
     requires alone { takes_captures request.now ≡ false }
     requires fresh { IsFresh reader.old (reads_of request.now) }
     requires good { writer.old.failed ≡ false }
     ensures shown { IfOk result (λ status. (text : List ℕ) × Writes W.contents writer.old writer.new text
-        × ShowsAlone request.now R.remaining reader.old reader.new status text) }
+        × (line : List ℕ) × (string_bytes complaint.new ≡ string_bytes complaint.old ++ line)
+        × ShowsAlone request.now R.remaining reader.old reader.new status text line) }
     ensures cause { IfErr result (EndsEarly reader.new writer.new) }
     ensures silent { IsErrOf result EngineFault.ReadFailed → is_stream request.now ≡ false → writer.new ≡ writer.old }
 {
@@ -89,6 +96,14 @@ fn perform_alone<R: Read, W: Write>(
         Request::View { code, pcap, view } => {
             run_view(alloc, code.as_bytes(), *pcap, shown(*view), reader, writer)
         }
+        Request::Keep { code, inverted } => run_keep(
+            alloc,
+            code.as_bytes(),
+            *inverted,
+            reader,
+            writer,
+            complaint,
+        ),
         Request::Explain { code } => run_explain(alloc, code.as_bytes(), reader, writer),
         Request::Check { asm } => run_check(alloc, *asm, reader, writer),
         Request::Graph => run_graph(alloc, reader, writer),

@@ -1,21 +1,51 @@
-//! Standard input and output, each of which keeps why it failed.
+//! The input and standard output, each of which keeps why it failed.
 
+use std::fs::File;
 use std::io::{self, ErrorKind, Read, Stdin, Stdout, Write};
 
-/// Standard input, and why its last failed read failed.
+/// How many bytes of its front an input keeps.
+const FRONT: usize = 4;
+
+/// Where an input is.
+#[derive(Drop)]
+enum Place {
+    /// Standard input.
+    Standard(Stdin),
+    /// A file, in its place.
+    Named(File),
+}
+
+/// The input, its first bytes, and why its last failed read failed.
 #[derive(Drop)]
 pub struct Input {
-    inner: Stdin,
+    place: Place,
+    front: [u8; FRONT],
+    /// How many of the first bytes were read.
+    filled: usize,
     fault: Option<ErrorKind>,
 }
 
 impl Input {
     /// Standard input, of which nothing has been read.
-    pub fn new(inner: Stdin) -> Input {
-        Input { inner, fault: None }
+    pub fn standard(stdin: Stdin) -> Input {
+        Input::new(Place::Standard(stdin))
     }
 
-    /// What to say where an input could not be read.
+    /// A file, of which nothing has been read.
+    pub fn named(file: File) -> Input {
+        Input::new(Place::Named(file))
+    }
+
+    fn new(place: Place) -> Input {
+        Input {
+            place,
+            front: [0; FRONT],
+            filled: 0,
+            fault: None,
+        }
+    }
+
+    /// What to say where standard input could not be read.
     pub fn complaint(&self) -> &'static str {
         match self.fault {
             Some(ErrorKind::IsADirectory) => "standard input is a directory",
@@ -23,13 +53,40 @@ impl Input {
             None => "an input can't be read",
         }
     }
+
+    /// The first four bytes, where so many were read.
+    pub fn front(&self) -> Option<[u8; FRONT]> {
+        if self.filled < FRONT {
+            return None;
+        }
+        Some(self.front)
+    }
+
+    /// Keeps those of some bytes that are among the first ones.
+    fn keep(&mut self, bytes: &[u8]) {
+        for byte in bytes {
+            if self.filled >= FRONT {
+                return;
+            }
+            self.front[self.filled] = *byte;
+            self.filled += 1;
+        }
+    }
 }
 
 impl Read for Input {
     fn read(&mut self, buffer: &mut [u8]) -> io::Result<usize> {
-        let answer = self.inner.read(buffer);
-        if let Err(error) = &answer {
-            self.fault = Some(error.kind());
+        let answer = match &mut self.place {
+            Place::Standard(stdin) => stdin.read(buffer),
+            Place::Named(file) => file.read(buffer),
+        };
+        match &answer {
+            Ok(count) => {
+                if let Some(bytes) = buffer.get(..*count) {
+                    self.keep(bytes);
+                }
+            }
+            Err(error) => self.fault = Some(error.kind()),
         }
         answer
     }

@@ -1,6 +1,6 @@
 //! `mkdemux`: runs classic BPF filters on packets, and scripts on cores that replicate a table of filters.
 //!
-//! The exit status is 0; 1 for a refused input, whose line is on standard output; 2 for a fault of the command line; 3
+//! The exit status is 0; 1 for a refused input, whose line is on standard output, or for `keep` on standard error; 2 for a fault of the command line; 3
 //! for memory, a file that can't be opened, a device, or a run that halted; and 4 where `match --quiet` accepted no packet. Statuses 2 and 3 have a line on standard error, except
 //! where nobody reads the output any more.
 #![tactic(auto)]
@@ -11,17 +11,19 @@ ghost use Rattle.commands.specs.Commands.{reads_of};
 ghost use Rattle.script_input.specs.Inputs.{AllFresh};
 
 mod devices;
+mod hints;
 mod progress;
 mod usage;
 
 use clap::Error;
 use clap::error::ErrorKind;
-use command_line::{Request, request_of};
+use command_line::{Invocation, Request, request_of};
 use commands::{most_reads, perform};
 use console::{EngineFault, INPUT_READS, Sink, Source};
 use core_loop::Cause;
 use core_threads::{Free, Halt};
 use devices::{Input, Output};
+use hints::hint;
 use progress::Progress;
 use run_engine::RunFailure;
 use std::fs::File;
@@ -30,6 +32,9 @@ use std::process::ExitCode;
 use std::sync::Wait;
 use std::thread::Threads;
 use std::time::Clock;
+
+/// The exit status for a refused input.
+const REFUSED: u8 = 1;
 
 /// The exit status for a fault of the command line.
 const USAGE: u8 = 2;
@@ -48,8 +53,8 @@ fn status<T: Threads + Wait + Clock + Sync>(rt: &HostRuntime, threads: &T) -> u8
         Err(error) if error.kind() == io::ErrorKind::InvalidData => return not_utf8(rt),
         Err(_) => return failed(rt, "out of memory"),
     };
-    match request_of(rt.alloc(), words.as_slice()) {
-        Ok(Some(request)) => answer(rt, threads, &request),
+    match request_of(rt.alloc(), without_flag(words.as_slice())) {
+        Ok(Some(invocation)) => answer(rt, threads, &invocation),
         Ok(None) => USAGE,
         Err(error) => not_a_request(rt, &error),
     }
@@ -60,46 +65,101 @@ fn words(rt: &HostRuntime) -> io::Result<Vec<String>> {
     Ok(std::env::args(rt)?.collect(rt.alloc())?)
 }
 
-/// Opens the captures of a request in order, then performs it on standard input.
+/// The words without the flag of `help --help`, which is `help`.
+fn without_flag(words: &[String]) -> &[String] {
+    if let [_, command, flag] = words {
+        if command.as_str() == "help" && matches!(flag.as_str(), "--help" | "-h") {
+            return &words[..2];
+        }
+    }
+    words
+}
+
+/// Opens the captures of a request in order, and its input, then performs it.
 fn answer<T: Threads + Wait + Clock + Sync>(
     rt: &HostRuntime,
     threads: &T,
-    request: &Request,
+    invocation: &Invocation,
 ) -> u8 {
-    match open_files(rt, request.captures()) {
-        Ok(files) => answer_with(rt, threads, request, files),
+    match open_files(rt, invocation.request.captures()) {
+        Ok(files) => answer_on(rt, threads, invocation, files),
         Err(fault) => not_opened(rt, fault),
     }
 }
 
-/// Performs a request on standard input and these captures.
+/// Opens the input of a request, then performs it on that and these captures.
+fn answer_on<T: Threads + Wait + Clock + Sync>(
+    rt: &HostRuntime,
+    threads: &T,
+    invocation: &Invocation,
+    files: Vec<Source<File>>,
+) -> u8
+    requires { AllFresh files.items }
+{
+    match open_input(rt, invocation) {
+        Ok(input) => answer_with(rt, threads, invocation, input, files),
+        Err(fault) => not_opened(rt, fault),
+    }
+}
+
+/// Opens the file that is the input, or takes standard input.
+fn open_input<'a>(rt: &HostRuntime, invocation: &Invocation<'a>) -> Result<Input, OpenFault<'a>> {
+    match invocation.input {
+        Some(name) => Ok(Input::named(open_file(rt, name)?)),
+        None => {
+            invite(rt, &invocation.request);
+            Ok(Input::standard(rt.stdin()))
+        }
+    }
+}
+
+/// Performs a request on this input and these captures.
 fn answer_with<T: Threads + Wait + Clock + Sync>(
     rt: &HostRuntime,
     threads: &T,
-    request: &Request,
+    invocation: &Invocation,
+    input: Input,
     mut files: Vec<Source<File>>,
 ) -> u8
     requires { AllFresh files.items }
 {
-    invite(rt, request);
-    let mut source = Source::new(Input::new(rt.stdin()), most_reads(request));
+    let request = &invocation.request;
+    let reads = most_reads(request);
+    let mut source = Source::new(input, reads);
     let mut sink = Sink::new(Output::new(rt.stdout()));
-    match performed(rt, threads, request, &mut files, &mut source, &mut sink) {
-        Ok(status) => status,
-        Err(RunFailure::Engine(EngineFault::ReadFailed)) => not_read(
-            rt,
-            source.inner(),
-            request.captures(),
-            files.as_slice(),
-        ),
+    let mut complaint = String::new(rt.alloc());
+    match performed(
+        rt,
+        threads,
+        request,
+        &mut files,
+        &mut source,
+        &mut sink,
+        &mut complaint,
+    ) {
+        Ok(status) => {
+            complain(rt, complaint.as_str());
+            if status == REFUSED {
+                explain(rt, request, &source, source.left() == reads);
+            }
+            status
+        }
+        Err(RunFailure::Engine(EngineFault::ReadFailed)) => {
+            not_read(rt, source.inner(), invocation, files.as_slice())
+        }
         Err(RunFailure::Engine(EngineFault::WriteFailed)) if sink.inner().is_closed() => FAILED,
-        Err(RunFailure::Engine(EngineFault::WriteFailed)) => failed(
-            rt,
-            "the output can't be written",
-        ),
-        Err(RunFailure::Engine(EngineFault::NoMemory)) => failed(rt, "out of memory"),
-        Err(RunFailure::Spawn) => failed(rt, "a thread can't be started"),
-        Err(RunFailure::Halted(core, why)) => halted(rt, core, why),
+        Err(failure) => not_done(rt, failure),
+    }
+}
+
+/// Says on standard error why a request could not be done, where its input could be read.
+fn not_done(rt: &HostRuntime, failure: RunFailure) -> u8 {
+    match failure {
+        RunFailure::Engine(EngineFault::WriteFailed) => failed(rt, "the output can't be written"),
+        RunFailure::Engine(EngineFault::ReadFailed) => failed(rt, "an input can't be read"),
+        RunFailure::Engine(EngineFault::NoMemory) => failed(rt, "out of memory"),
+        RunFailure::Spawn => failed(rt, "a thread can't be started"),
+        RunFailure::Halted(core, why) => halted(rt, core, why),
     }
 }
 
@@ -111,18 +171,51 @@ fn performed<T: Threads + Wait + Clock + Sync>(
     files: &mut [Source<File>],
     source: &mut Source<Input>,
     sink: &mut Sink<Output>,
+    complaint: &mut String,
 ) -> Result<u8, RunFailure>
     requires fresh { IsFresh source.old (reads_of request.now) }
     requires fresh_files { AllFresh files.old }
     requires good { sink.old.failed ≡ false }
 {
     if !matches!(request, Request::Run { .. }) || !rt.stderr().is_terminal() {
-        return perform(threads, rt.alloc(), &Free, request, files, source, sink);
+        return perform(
+            threads,
+            rt.alloc(),
+            &Free,
+            request,
+            files,
+            source,
+            sink,
+            complaint,
+        );
     }
     let progress = Progress::new(rt);
-    let answer = perform(threads, rt.alloc(), &progress, request, files, source, sink);
+    let answer = perform(
+        threads,
+        rt.alloc(),
+        &progress,
+        request,
+        files,
+        source,
+        sink,
+        complaint,
+    );
     progress.end();
     answer
+}
+
+/// Says on standard error what is wrong, where that doesn't stand on standard output.
+fn complain(rt: &HostRuntime, complaint: &str) {
+    if !complaint.is_empty() {
+        let _ = eprint!(rt; "{complaint}");
+    }
+}
+
+/// Says on standard error what else is known of an input that was refused.
+fn explain(rt: &HostRuntime, request: &Request, source: &Source<Input>, is_unread: bool) {
+    if let Some(hint) = hint(request, source, is_unread) {
+        let _ = eprintln!(rt; "mkdemux: {hint}");
+    }
 }
 
 /// Says on standard error which core halted, and why.
@@ -150,9 +243,10 @@ fn cause_words(cause: Cause) -> &'static str {
 /// Says on standard error what is awaited, where standard input is a terminal.
 fn invite(rt: &HostRuntime, request: &Request) {
     let awaited = match request {
-        Request::Match { pcap: true, .. } | Request::View { pcap: true, .. } | Request::Dump => {
-            "a capture"
-        }
+        Request::Match { pcap: true, .. }
+        | Request::View { pcap: true, .. }
+        | Request::Keep { .. }
+        | Request::Dump => "a capture",
         Request::Match { .. } | Request::View { .. } | Request::Explain { .. } => {
             "packets, a line of hexadecimal digits each"
         }
@@ -236,13 +330,22 @@ fn not_utf8(rt: &HostRuntime) -> u8 {
     USAGE
 }
 
-/// Says on standard error which input could not be read: one of these files, or standard input.
-fn not_read(rt: &HostRuntime, input: &Input, names: &[&str], files: &[Source<File>]) -> u8 {
-    for (name, file) in names.iter().zip(files.iter()) {
+/// Says on standard error which input could not be read: one of these captures, the file that is the input, or standard input.
+fn not_read(
+    rt: &HostRuntime,
+    input: &Input,
+    invocation: &Invocation,
+    files: &[Source<File>],
+) -> u8 {
+    for (name, file) in invocation.request.captures().iter().zip(files.iter()) {
         if file.has_failed() {
             let _ = eprintln!(rt; "mkdemux: {name:?} can't be read");
             return FAILED;
         }
+    }
+    if let Some(name) = invocation.input {
+        let _ = eprintln!(rt; "mkdemux: {name:?} can't be read");
+        return FAILED;
     }
     failed(rt, input.complaint())
 }

@@ -1,10 +1,11 @@
-//! Usage lines that show standard input.
+//! Usage lines that show the standard input of a script.
 
 use clap::Error;
 use std::alloc::{AllocError, Global};
 use std::fmt::Write;
 
-/// The text of help or of a fault of the command line. Its usage line says what the command reads from standard input.
+/// The text of help or of a fault of the command line. The usage line of a command that takes a script says that it is on
+/// standard input.
 pub fn with_input(alloc: Global, error: &Error) -> Result<String, AllocError> {
     let mut text = String::new(alloc);
     write!(text, "{error}")?;
@@ -29,10 +30,6 @@ fn parts(text: &str) -> Option<(&str, &str)> {
 fn input_of(text: &str) -> &'static str {
     let (_, usage) = text.rsplit_once("Usage: ").unwrap_or(("", ""));
     match usage.split(' ').nth(1) {
-        Some("match") => " < PACKETS",
-        Some("check") => " < FILTER",
-        Some("dump") => " < CAPTURE",
-        Some("draw") => " < TRACE",
         Some("sim" | "run") => " < SCRIPT",
         _ => "",
     }

@@ -18,6 +18,7 @@ returns c =
     let one = c.in_ok-command.ensures _ _ c.matching.ensures ∙ ap₂ with_subcommand top refl in
     let two = c.in_ok-command-2.ensures _ _ c.checking.ensures ∙ ap₂ with_subcommand one refl in
     let three = c.in_ok-command-3.ensures _ _ c.dumping.ensures ∙ ap₂ with_subcommand two refl in
-    let four = c.in_ok-command-4.ensures _ _ c.simulating.ensures ∙ ap₂ with_subcommand three refl in
-    let five = c.in_ok-command-5.ensures _ _ c.running.ensures ∙ ap₂ with_subcommand four refl in
-    IfOk-weaker c.with_command-6.result _ _ (λ r is. is ∙ ap₂ with_subcommand five refl) (c.with_command-6.ensures _ _ c.drawing.ensures)
+    let four = c.in_ok-command-4.ensures _ _ c.keeping.ensures ∙ ap₂ with_subcommand three refl in
+    let five = c.in_ok-command-5.ensures _ _ c.simulating.ensures ∙ ap₂ with_subcommand four refl in
+    let six = c.in_ok-command-6.ensures _ _ c.running.ensures ∙ ap₂ with_subcommand five refl in
+    IfOk-weaker c.with_command-7.result _ _ (λ r is. is ∙ ap₂ with_subcommand six refl) (c.with_command-7.ensures _ _ c.drawing.ensures)

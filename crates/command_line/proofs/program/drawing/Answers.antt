@@ -5,4 +5,5 @@ use Rattle.command_line.proofs.program.drawing.Goals as goal
 
 pub returns : goal.returns
 returns c =
-    IfOk-weaker c.arg.result _ _ (λ r h. h.shape (search rules) ∙ ap₂ with_rule c.described.ensures c.flag.ensures.rule) c.arg.ensures
+    let with_text = c.in_ok-arg.ensures.shape (search rules) ∙ ap₂ with_rule c.described.ensures c.flag.ensures.rule in
+    IfOk-weaker c.arg-2.result _ _ (λ r h. h.shape (search rules) ∙ ap₂ with_rule with_text c.file.ensures.rule) c.arg-2.ensures

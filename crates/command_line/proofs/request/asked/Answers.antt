@@ -5,7 +5,7 @@ use Rattle.clap.specs.Words.{first_of, found_of, rows_of}
 use Rattle.clap.proofs.WalkLemmas.{first_value-rows}
 use Rattle.command_line.specs.Requests.{IsFlag}
 use Rattle.command_line.proofs.Readings.{is_flag, or_else}
-use Rattle.command_line.proofs.request.asked.Goals.{in-match+else-get_flag+in-Some, in-match+else-get_flag+in-None, in-check+else-get_flag-2, in-dump, in-sim+in_ok-files-in-sim, in-run+in_ok-files-in-run, in-draw}
+use Rattle.command_line.proofs.request.asked.Goals.{in-match+else-get_flag+in-Some, in-match+else-get_flag+in-None, in-keep, in-check+else-get_flag-2, in-dump, in-sim+in_ok-files-in-sim, in-run+in_ok-files-in-run, in-draw}
 use Rattle.command_line.proofs.request.asked.Goals as goal
 
 abbrev text : Bor (List ℕ) → List ℕ
@@ -50,6 +50,15 @@ returns c = elim c.match-name.branch [
         is_flag c.args.found.now (codes "pcap") w.get_flag-pcap.result w.get_flag-pcap.ensures.value w.get_flag-pcap.ensures.other,
         is_flag c.args.found.now (codes "stream") w.get_flag-in-None.result w.get_flag-in-None.ensures.value w.get_flag-in-None.ensures.other,
         w.in-None.ensures,
+      )
+  | in-keep w ↦
+      let code : text w.unwrap_or.result ≡ unwrap_or (first_of (codes "code") (rows_of (found_of c.args.found.now))) [] =
+      ap text w.unwrap_or.ensures ∙ or_else text w.get_str-in-keep.result _
+      ∙ ap (λ found. unwrap_or found []) (w.get_str-in-keep.ensures ∙ first_value-rows (found_of c.args.found.now) (codes "code")) in
+      rw w.result-is (
+        search rules,
+        code,
+        is_flag c.args.found.now (codes "not") w.get_flag-in-keep.result w.get_flag-in-keep.ensures.value w.get_flag-in-keep.ensures.other,
       )
   | in-check+else-get_flag-2 w ↦
       let graph = is_flag c.args.found.now (codes "graph") w.get_flag-in-check.result w.get_flag-in-check.ensures.value w.get_flag-in-check.ensures.other in

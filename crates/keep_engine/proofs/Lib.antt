@@ -1,0 +1,4 @@
+pub mod HeaderLemmas
+pub mod RecordLemmas
+pub mod SieveLemmas
+pub mod CopyLemmas

@@ -1,0 +1,61 @@
+-- Whole records, one after the other.
+use Rattle.std.proofs.Common.{◌≡◌, ℕ, ◌+◌, Bool, List, [], ◌∷◌, ◌++◌, take, drop, refl, ap, sym, ◌∙◌, append_assoc}
+use Rattle.std.specs.Prelude.{if◌then◌else◌}
+use Rattle.std.specs.List.{AllZip, concat}
+use Rattle.std.proofs.lemmas.List.{append-nil, take-append-drop, drop-drop}
+use Rattle.std.proofs.lemmas.List.Folds.{concat-append}
+use Rattle.bpf_insn.specs.declared.insn.Insn.{Insn}
+use Rattle.filter_vm.specs.declared.machine.Outcome.{Outcome}
+use Rattle.pcap_reader.specs.declared.capture.CapturedPacket.{CapturedPacket}
+use Rattle.pcap_reader.specs.declared.feed.Seen.{Seen}
+use Rattle.pcap_reader.specs.Held.{seen_packet}
+use Rattle.pcap_reader.specs.Savefile.{IsRecord}
+use Rattle.console.specs.Matching.{AnswersCaptured}
+use Rattle.console.proofs.RunningLemmas.{AllZip-append}
+use Rattle.keep_engine.specs.Keeping.{is_kept, kept}
+use Rattle.keep_engine.specs.Sieving.{KeepsOne, TakesRecords}
+
+-- some records and then others
+pub kept-append : (inverted big : Bool) (program : List Insn) (records records' : List (List ℕ)) (packets : List CapturedPacket) (outcomes outcomes' : List Outcome)
+    → AllZip (IsRecord big) records packets → AllZip (AnswersCaptured program) packets outcomes
+    → kept inverted (records ++ records') (outcomes ++ outcomes') ≡ kept inverted records outcomes ++ kept inverted records' outcomes'
+kept-append inverted big program [] records' [] [] outcomes' each ran = refl
+kept-append inverted big program [] records' [] (o ∷ outcomes) outcomes' each ran = absurd ran
+kept-append inverted big program [] records' (p ∷ packets) outcomes outcomes' each ran = absurd each
+kept-append inverted big program (r ∷ records) records' [] outcomes outcomes' each ran = absurd each
+kept-append inverted big program (r ∷ records) records' (p ∷ packets) [] outcomes' each ran = absurd ran
+kept-append inverted big program (r ∷ records) records' (p ∷ packets) (o ∷ outcomes) outcomes' each ran =
+    ap (λ t. (if is_kept inverted o then r else []) ++ t) (kept-append inverted big program records records' packets outcomes outcomes' each.1 ran.1)
+    ∙ sym (append_assoc (if is_kept inverted o then r else []) (kept inverted records outcomes) (kept inverted records' outcomes'))
+
+pub takes_none : (program : List Insn) (inverted big : Bool) (bytes before : List ℕ) → TakesRecords program inverted big bytes bytes before before
+takes_none program inverted big bytes before = record {
+  records = [];
+  packets = [];
+  outcomes = [];
+  parts = refl;
+  each = tt;
+  ran = tt;
+  pushed = sym (append-nil before);
+}
+
+-- one record more
+pub takes_next : (program : List Insn) (inverted big : Bool) (bytes rest rest' front before between after : List ℕ) (packet : Seen)
+    → TakesRecords program inverted big bytes rest before between → rest ≡ front ++ rest' → IsRecord big front (seen_packet packet) → KeepsOne program inverted packet front between after
+    → TakesRecords program inverted big bytes rest' before after
+takes_next program inverted big bytes rest rest' front before between after packet so parts is one = record {
+  records = so.records ++ front ∷ [];
+  packets = so.packets ++ seen_packet packet ∷ [];
+  outcomes = so.outcomes ++ one.0 ∷ [];
+  parts = so.parts ∙ ap (λ t. concat so.records ++ t) parts ∙ sym (append_assoc (concat so.records) front rest')
+      ∙ ap (λ t. t ++ rest') (ap (λ t. concat so.records ++ t) (sym (append-nil front)) ∙ sym (concat-append so.records (front ∷ [])));
+  each = AllZip-append (IsRecord big) so.records (front ∷ []) so.packets (seen_packet packet ∷ []) so.each (is, tt);
+  ran = AllZip-append (AnswersCaptured program) so.packets (seen_packet packet ∷ []) so.outcomes (one.0 ∷ []) so.ran (one.1, tt);
+  pushed = one.2 ∙ ap (λ t. t ++ (if is_kept inverted one.0 then front else [])) so.pushed ∙ append_assoc before (kept inverted so.records so.outcomes) (if is_kept inverted one.0 then front else [])
+      ∙ ap (λ t. before ++ t) (ap (λ t. kept inverted so.records so.outcomes ++ t) (sym (append-nil (if is_kept inverted one.0 then front else [])))
+      ∙ sym (kept-append inverted big program so.records (front ∷ []) so.packets so.outcomes (one.0 ∷ []) so.each so.ran));
+}
+
+-- bytes from a place on, in two parts
+pub from_place : (bytes : List ℕ) (count length_of : ℕ) → drop count bytes ≡ take length_of (drop count bytes) ++ drop (count + length_of) bytes
+from_place bytes count length_of = sym (take-append-drop length_of (drop count bytes)) ∙ ap (λ t. take length_of (drop count bytes) ++ t) (drop-drop length_of count bytes)

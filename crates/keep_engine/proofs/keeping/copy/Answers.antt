@@ -1,0 +1,64 @@
+use Rattle.std.proofs.Common.{arith, inl, inr, length-take-le}
+use Rattle.console.proofs.KnownBytesLemmas.{gets-end}
+use Rattle.console.proofs.StreamLemmas.{keeps_itself}
+use Rattle.keep_engine.proofs.CopyLemmas.{copied_kept, copied_next, left_kept, left_read, left_wrote}
+use Rattle.keep_engine.proofs.keeping.copy.Goals.{in-Bytes+in_ok-piece-in-Bytes+in_ok-write_bytes-in-Bytes+else-has_stopped, in-Again}
+use Rattle.keep_engine.proofs.keeping.copy.Goals as goal
+
+pub returns-in-End-clause-kept : goal.returns-in-End-clause-kept
+returns-in-End-clause-kept g c =
+    let so = c.loop-turn.invariant.so in (
+      so.input,
+      gets-end _ _ _ so.input so.lost c.in-End.ensures.1,
+      so.text,
+      so.appended,
+      c.ending.ensures.keeps c.args.program.now c.args.inverted so.input so.text so.has (omega (arith, c.taken.ensures, c.in-End.ensures.0.1, so.count)),
+      inl c.in-End.ensures.2,
+    )
+
+pub returns-in_err-piece-in-Bytes-clause-left : goal.returns-in_err-piece-in-Bytes-clause-left
+returns-in_err-piece-in-Bytes-clause-left g c = left_read c.from_residual.result _ _ _ _ _ _ _ _ _ c.loop-turn.invariant.so c.in-Bytes.ensures.3
+
+pub returns-in_err-write_bytes-in-Bytes-clause-left : goal.returns-in_err-write_bytes-in-Bytes-clause-left
+returns-in_err-write_bytes-in-Bytes-clause-left g c =
+    left_wrote c.from_residual-in_err-write_bytes-in-Bytes.result _ _ _ _ _ _ _ _ _ _ _ c.loop-turn.kept.items c.piece.new.kept.items c.loop-turn.invariant.so c.in-Bytes.ensures.3 c.loop-turn.invariant.none c.in_ok-piece-in-Bytes.ensures
+    (rw c.as_slice.ensures.value at c.in_err-write_bytes-in-Bytes.ensures.front)
+
+pub returns-then-has_stopped-clause-kept : goal.returns-then-has_stopped-clause-kept
+returns-then-has_stopped-clause-kept g c =
+    let so = copied_next _ _ _ _ _ _ _ _ _ _ _ c.loop-turn.kept.items c.piece.new.kept.items c.in-Bytes.count c.loop-turn.invariant.so c.in-Bytes.ensures.3 c.in-Bytes.ensures.0.1
+    (length-take-le c.in-Bytes.count c.read.new.buffer c.in-Bytes.ensures.2) c.loop-turn.invariant.none c.in_ok-piece-in-Bytes.ensures (rw c.as_slice.ensures.value at c.in_ok-write_bytes-in-Bytes.ensures.written) in (
+      so.input,
+      so.lost,
+      so.text,
+      so.appended,
+      c.ending-then-has_stopped.ensures.keeps c.args.program.now c.args.inverted so.input so.text so.has (omega (arith, c.taken-then-has_stopped.ensures, so.count)),
+      inr (c.ending-then-has_stopped.ensures.stopped (c.has_stopped.ensures c.if-has_stopped.true)),
+    )
+
+pub returns-in-Failed-clause-left : goal.returns-in-Failed-clause-left
+returns-in-Failed-clause-left g c = left_kept _ _ _ _ _ _ _ _ c.loop-turn.invariant.so c.in-Failed.ensures.1
+
+pub loop-turn-preserved : goal.loop-turn-preserved
+loop-turn-preserved g c = elim c.match-read.branch [
+  | in-Bytes+in_ok-piece-in-Bytes+in_ok-write_bytes-in-Bytes+else-has_stopped w ↦ rw (w.writer-is, w.sieve-is, w.kept-is) (record {
+    so = copied_next _ _ _ _ _ _ _ _ _ _ _ c.loop-turn.kept.items w.piece.new.kept.items w.in-Bytes.count c.loop-turn.invariant.so w.in-Bytes.ensures.3 w.in-Bytes.ensures.0.1
+        (length-take-le w.in-Bytes.count c.read.new.buffer w.in-Bytes.ensures.2) c.loop-turn.invariant.none w.in_ok-piece-in-Bytes.ensures (rw w.as_slice.ensures.value at w.in_ok-write_bytes-in-Bytes.ensures.written);
+    left = omega (arith, w.in-Bytes.ensures.0.0, c.loop-turn.invariant.left);
+    few = omega (arith, w.in-Bytes.ensures.0.1, w.in-Bytes.ensures.2, c.loop-turn.invariant.few);
+    open_end = (w.in-Bytes.ensures.0.2, w.in-Bytes.ensures.0.3);
+    good = w.in_ok-write_bytes-in-Bytes.ensures.good;
+    none = w.clear.ensures.items;
+  })
+  | in-Again w ↦ rw (w.writer-is, w.sieve-is, w.kept-is) (record {
+    so = copied_kept _ _ _ _ _ _ _ _ c.loop-turn.invariant.so w.in-Again.ensures.1 w.in-Again.ensures.0.1;
+    left = omega (arith, w.in-Again.ensures.0.0, c.loop-turn.invariant.left);
+    few = omega (arith, w.in-Again.ensures.0.1, c.loop-turn.invariant.few);
+    open_end = (w.in-Again.ensures.0.2, w.in-Again.ensures.0.3);
+    good = c.loop-turn.invariant.good;
+    none = c.loop-turn.invariant.none;
+  })
+]
+
+pub returns-clause-left : goal.returns-clause-left
+returns-clause-left g c = left_kept _ _ _ _ _ _ _ _ c.loop-turn.invariant.so (keeps_itself _)

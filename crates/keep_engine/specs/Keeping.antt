@@ -1,0 +1,57 @@
+-- What `keep` gives of a capture: its header, and the records whose packets the filter accepts, byte for byte and in order
+-- (pcap-savefile(5) of libpcap, whose grammar is `HasRecords`; what a filter answers is `Ends` of the machine).
+use Rattle.std.specs.Prelude.{◌≡◌, ℕ, ◌⊎◌, List, [], ◌∷◌, ◌++◌, Option, Some, None, Bool, true, false, if◌then◌else◌, nat_lt, ◌==◌}
+use Rattle.std.specs.List.{AllZip}
+use Rattle.bpf_insn.specs.declared.insn.Insn.{Insn}
+use Rattle.filter_vm.specs.declared.machine.Outcome.{Outcome}
+use Rattle.pcap_reader.specs.declared.capture.Header.{Header}
+use Rattle.pcap_reader.specs.declared.capture.CapturedPacket.{CapturedPacket}
+use Rattle.pcap_reader.specs.declared.capture.CaptureFault.{CaptureFault}
+use Rattle.pcap_reader.specs.Savefile.{HasNoHeader, HasRecords}
+use Rattle.console.specs.Code.{IsGoodCode}
+use Rattle.console.specs.Faults.{fault_status, fault_text}
+use Rattle.console.specs.Matching.{AnswersCaptured}
+use Rattle.console.specs.Reading.{BeginsWith}
+
+-- whether a packet with this outcome is kept: where the verdict is above 0, or, inverted, where it is 0
+abbrev pub is_kept : Bool → Outcome → Bool
+is_kept false outcome = nat_lt 0 outcome.verdict
+is_kept true outcome = outcome.verdict == 0
+
+-- of records, whose packets have these outcomes, those that are kept, one after the other
+abbrev pub kept : Bool → List (List ℕ) → List Outcome → List ℕ
+kept inverted [] outcomes = []
+kept inverted (bytes ∷ records) [] = []
+kept inverted (bytes ∷ records) (outcome ∷ outcomes) = (if is_kept inverted outcome then bytes else []) ++ kept inverted records outcomes
+
+-- text is the header of a capture and the records of it that are kept; its fault is what follows its whole records
+pub record KeepsRecords (program : List Insn) (inverted : Bool) (input : List ℕ) (h : Header) (fault : Option CaptureFault) (text : List ℕ) : Type 0 where
+  pub packets : List CapturedPacket
+  pub capture : HasRecords input h packets fault
+  pub outcomes : List Outcome
+  pub ran : AllZip (AnswersCaptured program) packets outcomes
+  pub is : text ≡ capture.head ++ kept inverted capture.records outcomes
+
+-- text is what is kept of an input with this fault: of one that has no header nothing
+abbrev pub Keeps : List Insn → Bool → List ℕ → Option CaptureFault → List ℕ → Type 0
+Keeps program inverted input fault text =
+    ((h : Header) × KeepsRecords program inverted input h fault text)
+    ⊎ ((wrong : CaptureFault) × (fault ≡ Some wrong) × HasNoHeader input wrong × (text ≡ []))
+
+-- text begins what is kept of a front of the input that is a header and whole records, or it is nothing
+abbrev pub KeepsFront : List Insn → Bool → List ℕ → List ℕ → Type 0
+KeepsFront program inverted input text = (text ≡ [])
+    ⊎ ((front : List ℕ) × (rest : List ℕ) × (whole : List ℕ) × (input ≡ front ++ rest) × Keeps program inverted front None whole × BeginsWith text whole)
+
+-- the status and the line that go with a fault
+abbrev pub Says : Option CaptureFault → ℕ → List ℕ → Type 0
+Says fault status line = (status ≡ fault_status fault) × (line ≡ fault_text fault)
+
+-- what `keep` gives of a good code and an input, and the line for its fault
+abbrev pub KeepsGoodCode : List ℕ → Bool → List ℕ → ℕ → List ℕ → List ℕ → Type 0
+KeepsGoodCode code inverted input status line text = (program : List Insn) × IsGoodCode code program
+    × (fault : Option CaptureFault) × Keeps program inverted input fault text × Says fault status line
+
+-- what it has given of an input where it failed
+abbrev pub KeepsPart : List ℕ → Bool → List ℕ → List ℕ → Type 0
+KeepsPart code inverted input text = (text ≡ []) ⊎ ((program : List Insn) × IsGoodCode code program × KeepsFront program inverted input text)

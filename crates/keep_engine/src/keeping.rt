@@ -1,0 +1,123 @@
+//! `keep`: keeps the packets of a capture that a filter accepts.
+
+ghost use Rattle.std.specs.Prelude.{◌≡◌, ◌⊎◌, ◌++◌, ℕ, List, [], IfOk, IfErr, OnErr, IsSome, false, true, string_bytes};
+ghost use Rattle.std.specs.Io.KnownBytes.{IsAtEnd};
+ghost use Rattle.bpf_insn.specs.declared.insn.Insn.{Insn};
+ghost use Rattle.console.specs.Code.{IsGoodCode, ShowsBadCode};
+ghost use Rattle.console.specs.Devices.{EndsEarly, Gets, IsFresh, Writes};
+ghost use Rattle.console.specs.Matching.{IsEngineFault};
+ghost use Rattle.keep_engine.specs.Keeping.{KeepsGoodCode, KeepsFront, KeepsPart, Keeps, Says};
+
+use crate::sieve::Sieve;
+use console::{
+    BLOCK, EngineFault, Got, STREAM_READS, Sink, Source, push_capture_words, read_code, write_bytes,
+};
+use filter_predecode::Predecoded;
+use pcap_reader::CaptureFault;
+use std::alloc::{AllocError, Global};
+use std::io::{Read, Write};
+
+/// Copies a capture of any length, but of its packets only those that the filter accepts which `code` spells, in decimal text; or,
+/// `inverted`, only those that it doesn't accept. Answers the status.
+///
+/// A packet is accepted where the verdict is above 0. The file's header and each record that is kept are written as they are, byte
+/// for byte and in order, and what a read completed before the next read.
+///
+/// At a fault of the capture that stands whatever follows it ends without reading on. A record that isn't whole is a fault where
+/// the input ends. What was whole before a fault is written; the fault's line is appended to `complaint`, and the status is 1. For
+/// a code that is no program, or that the verifier refuses, it reads and writes nothing, appends the line that says why, and
+/// answers status 1. Else the status is 0, and nothing is appended.
+///
+/// It holds the longest record at most, and what one read completed. `writer` is never flushed.
+///
+/// Answers `ReadFailed` where a read fails, or after 2^48 - 1 reads of at most 65,536 bytes; `WriteFailed`; and `NoMemory`. A
+/// front of what is kept was written then.
+pub fn run_keep<R: Read, W: Write>(
+    alloc: Global,
+    code: &[u8],
+    inverted: bool,
+    reader: &mut Source<R>,
+    writer: &mut Sink<W>,
+    complaint: &mut String,
+) -> Result<u8, EngineFault>
+    requires fresh { IsFresh reader.old STREAM_READS }
+    requires good { writer.old.failed ≡ false }
+    ensures kept { IfOk result (λ status. (text : List ℕ) × Writes W.contents writer.old writer.new text
+        × (line : List ℕ) × (string_bytes complaint.new ≡ string_bytes complaint.old ++ line)
+        × ((ShowsBadCode code.now line × (status ≡ 1) × (text ≡ []))
+        ⊎ ((input : List ℕ) × Gets R.remaining reader.old reader.new input
+        × KeepsGoodCode code.now inverted input status line text × (IsAtEnd (R.remaining reader.new.inner) ⊎ (status ≡ 1))))) }
+    ensures unread { ((program : List Insn) → IsGoodCode code.now program → ⊥) → reader.new ≡ reader.old }
+    ensures left { OnErr result ((input : List ℕ) × Gets R.remaining reader.old reader.new input
+        × (text : List ℕ) × Writes W.contents writer.old writer.new text × KeepsPart code.now inverted input text) }
+    ensures fault { IfErr result IsEngineFault }
+    ensures well { IfOk result (λ status. (writer.new.failed ≡ false) × (reader.new.failed ≡ false) × ((reader.new.ended ≡ true) ⊎ (status ≡ 1))) }
+    ensures cause { IfErr result (EndsEarly reader.new writer.new) }
+{
+    match read_code(alloc, code)? {
+        Ok(program) => {
+            let predecoded = Predecoded::new(alloc, &program)?;
+            let fault = copy(alloc, &predecoded, inverted, reader, writer)?;
+            Ok(say(fault, complaint)?)
+        }
+        Err(line) => {
+            complaint.push_str(line.as_str())?;
+            Ok(1)
+        }
+    }
+}
+
+/// Appends the line of a fault, if there is one, and answers the status.
+fn say(fault: Option<CaptureFault>, complaint: &mut String) -> Result<u8, AllocError>
+    ensures { IfOk result (λ status. (line : List ℕ) × (string_bytes complaint.new ≡ string_bytes complaint.old ++ line) × Says fault status line) }
+{
+    match fault {
+        None => Ok(0),
+        Some(fault) => {
+            complaint.push_str("fault ")?;
+            push_capture_words(complaint, fault)?;
+            complaint.push_str("\n")?;
+            Ok(1)
+        }
+    }
+}
+
+/// Reads to the end of the capture and writes what is kept, and answers the capture's fault, if it has one.
+fn copy<R: Read, W: Write>(
+    alloc: Global,
+    program: &Predecoded,
+    inverted: bool,
+    reader: &mut Source<R>,
+    writer: &mut Sink<W>,
+) -> Result<Option<CaptureFault>, EngineFault>
+    requires fresh { IsFresh reader.old STREAM_READS }
+    requires good { writer.old.failed ≡ false }
+    ensures kept { IfOk result (λ fault. (input : List ℕ) × Gets R.remaining reader.old reader.new input
+        × (text : List ℕ) × Writes W.contents writer.old writer.new text
+        × Keeps program.now inverted input fault text × (IsAtEnd (R.remaining reader.new.inner) ⊎ IsSome fault)) }
+    ensures left { OnErr result ((input : List ℕ) × Gets R.remaining reader.old reader.new input
+        × (text : List ℕ) × Writes W.contents writer.old writer.new text × KeepsFront program.now inverted input text) }
+    ensures fault { IfErr result IsEngineFault }
+    ensures well { IfOk result (λ fault. (writer.new.failed ≡ false) × (reader.new.failed ≡ false) × ((reader.new.ended ≡ true) ⊎ IsSome fault)) }
+    ensures cause { IfErr result (EndsEarly reader.new writer.new) }
+{
+    let mut sieve = Sieve::new(alloc);
+    let mut kept = Vec::new(alloc);
+    let mut block = [0u8; BLOCK];
+    for _turn in 0..STREAM_READS {
+        match reader.read(&mut block) {
+            Got::End => return Ok(sieve.ending(reader.taken())),
+            Got::Bytes(count) => {
+                sieve.piece(program, inverted, &block[..count], &mut kept)?;
+                write_bytes(writer, kept.as_slice())?;
+                kept.clear();
+                if sieve.has_stopped() {
+                    return Ok(sieve.ending(reader.taken()));
+                }
+            }
+            Got::Again => {}
+            Got::Failed => return Err(EngineFault::ReadFailed),
+        }
+    }
+    Err(EngineFault::ReadFailed)
+}

@@ -1,0 +1,69 @@
+//! What else to say of an input that was refused: what it is, or what reads it.
+
+use crate::devices::Input;
+use command_line::{Request, View};
+use console::{INPUT_BYTES, Source};
+
+/// What to say of the input of a request whose status is 1, after the line that says what is wrong.
+pub fn hint(request: &Request, source: &Source<Input>, is_unread: bool) -> Option<&'static str> {
+    if let Request::View {
+        view: View::Quiet,
+        pcap,
+        ..
+    } = request
+    {
+        return Some(why_quiet(*pcap, source, is_unread));
+    }
+    if let Request::Match { stream: false, .. } = request {
+        if source.taken() > INPUT_BYTES {
+            return Some("with --stream an input may be of any length");
+        }
+    }
+    if !reads_capture(request) || is_unread {
+        return None;
+    }
+    kind_of(source.inner())
+}
+
+/// Why `match --quiet` has status 1.
+fn why_quiet(pcap: bool, source: &Source<Input>, is_unread: bool) -> &'static str {
+    if is_unread {
+        return "the CODE is no filter, or is refused: without --quiet a line says why";
+    }
+    if !pcap {
+        return "a line is no packet: with --count in place of --quiet its number is printed";
+    }
+    match kind_of(source.inner()) {
+        Some(kind) => kind,
+        None => "the capture has a fault: with --count in place of --quiet it is printed",
+    }
+}
+
+/// Whether the input of a request is a capture.
+fn reads_capture(request: &Request) -> bool {
+    matches!(
+        request,
+        Request::Match { pcap: true, .. }
+            | Request::View { pcap: true, .. }
+            | Request::Dump
+            | Request::Keep { .. }
+    )
+}
+
+/// What an input is that is no savefile, by its first four bytes, if that is known.
+fn kind_of(input: &Input) -> Option<&'static str> {
+    match u32::from_be_bytes(input.front()?) {
+        0x1f8b_0000..=0x1f8b_ffff => Some(
+            "the input is compressed: gzip -dc makes a capture of it",
+        ),
+        0x28b5_2ffd => Some("the input is compressed: zstd -dc makes a capture of it"),
+        0x0422_4d18 => Some("the input is compressed: lz4 -dc makes a capture of it"),
+        0xa1b2_cd34 | 0x34cd_b2a1 => Some(
+            "the input is a modified pcap file: editcap -F pcap makes a capture of it that is read",
+        ),
+        0x0a0d_0d0a => Some(
+            "the input is a pcapng file: editcap -F pcap, or tcpdump -r with -w, makes a capture of it that is read",
+        ),
+        _ => None,
+    }
+}
