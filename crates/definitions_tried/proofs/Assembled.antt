@@ -1,14 +1,14 @@
 -- An assembler text, cut into its tokens.
-use Rattle.std.proofs.Common.{◌≡◌, ℕ, Bool, true, List, [], ◌∷◌, ◌++◌, refl, codes}
+use Rattle.std.proofs.Common.{◌≡◌, ℕ, Bool, true, Ok, List, [], ◌∷◌, ◌++◌, refl, codes}
 use Rattle.std.specs.List.{list_all, AllPass}
 use Rattle.std.proofs.lemmas.List.Sums.{AllPass-from_list_all}
 use Rattle.bpf_insn.specs.Texts.{is_blank}
 use Rattle.filter_asm.specs.Mnemonics.{mnemonic_of}
 use Rattle.filter_asm.specs.Number.{magnitude, number}
 use Rattle.filter_asm.specs.Operands.{operands_at}
-use Rattle.filter_asm.specs.Program.{Asm, Line, Spells, instruction}
+use Rattle.filter_asm.specs.Program.{Asm, Line, Spells, assembled, instruction}
 use Rattle.filter_asm.specs.Token.{TokenAt, IsToken, EndsBefore, continues}
-use Rattle.definitions_tried.specs.Texts.{arp_all, arp_assembler}
+use Rattle.definitions_tried.specs.Texts.{arp_all, arp_assembler, jumping_insns, jumping_lines}
 
 pass : (p : ℕ → Bool) (bytes : List ℕ) → list_all p bytes ≡ true → AllPass p bytes
 pass p bytes e = AllPass-from_list_all p bytes e
@@ -43,3 +43,7 @@ line_4-spelled = (codes "drop" ∷ codes ":" ∷ codes "ret" ∷ codes "#" ∷ c
 pub assembled_arp : Asm arp_assembler arp_all
 unfolding instruction operands_at number magnitude mnemonic_of
 assembled_arp = (line_1 ∷ line_2 ∷ line_3 ∷ line_4 ∷ [], (line_1-spelled, (line_2-spelled, (line_3-spelled, (line_4-spelled, tt)))), refl)
+
+pub jumps : assembled jumping_lines ≡ Ok jumping_insns
+unfolding instruction operands_at number magnitude mnemonic_of
+jumps = refl

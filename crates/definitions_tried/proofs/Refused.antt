@@ -1,5 +1,5 @@
 -- Programs that are refused.
-use Rattle.std.proofs.Common.{◌≡◌, ℕ, zero, suc, ◌+◌, ◌<◌, List, [], ◌∷◌, ◌++◌, replicate, inl, inr, refl, lit<, lit≤, arith, subst, sym}
+use Rattle.std.proofs.Common.{◌≡◌, ℕ, zero, suc, ◌+◌, ◌<◌, ◌≤◌, List, [], ◌∷◌, ◌++◌, replicate, inl, inr, refl, lit<, lit≤, arith, subst, sym}
 use Rattle.std.proofs.lemmas.List.{length-replicate}
 use Rattle.bpf_insn.specs.declared.insn.Insn.{Insn}
 use Rattle.bpf_insn.specs.declared.insn.TheConstants.{MAX_INSNS}
@@ -12,7 +12,7 @@ use Rattle.bpf_insn.proofs.Places.{FormAt-same}
 use Rattle.filter_verify.specs.declared.rules.Refusal.TheVariants.{Empty, TooLong, BadCode, ZeroDivisor, BadShift, BadWord, JumpOut, Ancillary, NoReturn, Unwritten}
 use Rattle.filter_verify.specs.Paths.{IsStoredOn, LoadsWord, StoresWord}
 use Rattle.filter_verify.proofs.Reasons.{Refuses-sound}
-use Rattle.filter_verify.specs.Rules.{Refuses, Sound, IsFine, IsFirst, IsReturn, EndsInReturn}
+use Rattle.filter_verify.specs.Rules.{Refuses, Sound, IsFine, IsFirst, IsReturn, IsSized, EndsInReturn}
 use Rattle.definitions_tried.specs.Codes.{BPF_LD, BPF_LDX, BPF_STX, BPF_ALU, BPF_JMP, BPF_RET, BPF_W, BPF_ABS, BPF_IMM, BPF_MEM, BPF_DIV, BPF_MOD, BPF_LSH, BPF_RSH, BPF_JEQ, BPF_JA, BPF_K, BPF_X, BPF_STMT, BPF_JUMP}
 use Rattle.definitions_tried.specs.Verdicts.{IsRefused, return_0, store_on_one_path}
 use Rattle.definitions_tried.proofs.Kept.{fine}
@@ -76,6 +76,16 @@ arm = ((((lit< tt, lit≤ tt), lit< tt, λ q below. absurd (omega arith)), (refl
 pub ancillary : IsRefused (BPF_STMT (BPF_LD + BPF_W + BPF_ABS) 0xfffff000 ∷ []) (Ancillary 0) 8 0
 unfolding form_at form_of
 ancillary = ((first _, (refl, (Word, 0xfffff000, lit≤ tt, refl))), refl, refl)
+
+pub first_ancillary : IsRefused (BPF_STMT (BPF_LD + BPF_W + BPF_ABS) 0x80000000 ∷ []) (Ancillary 0) 8 0
+unfolding form_at form_of
+first_ancillary = ((first _, (refl, (Word, 0x80000000, lit≤ tt, refl))), refl, refl)
+
+pub longest : IsSized (replicate 4096 return_0)
+longest = (
+  subst (λ n. 0 < n) (sym (length-replicate 4096 return_0)) (lit< tt),
+  subst (λ n. n ≤ MAX_INSNS) (sym (length-replicate 4096 return_0)) (lit≤ tt),
+)
 
 load_fine : (q : ℕ) → q < 1 → IsFine (BPF_STMT (BPF_LD + BPF_IMM) 1 ∷ []) q
 unfolding form_at form_of

@@ -1,16 +1,17 @@
 //! Capabilities, logs of operations, and the endpoints that a packet goes to.
 
 ghost use Rattle.std.specs.Prelude.{◌≡◌, [], ◌∷◌, Some, None, length};
-ghost use Rattle.endpoint_caps.specs.declared.CapFault.TheVariants.{NoCap, NotHolder, NoRight, RightsExceed, EndpointTaken};
+ghost use Rattle.endpoint_caps.specs.declared.CapFault.TheVariants.{NoCap, NotHolder, NoRight, RightsExceed, EndpointTaken, CapsFull};
 ghost use Rattle.endpoint_caps.specs.declared.Right.TheVariants.{Receive, Mint};
 ghost use Rattle.endpoint_caps.specs.declared.Rights.TheVariants.{R, M, Rm};
 ghost use Rattle.endpoint_caps.specs.Capabilities.{Under, created, create_tests, dropped, first, is_within, mint_tests, no_caps, revoked, right_tests};
 ghost use Rattle.filter_table.specs.declared.operation.Made.TheVariants.{Cap, Filter};
 ghost use Rattle.filter_table.specs.declared.operation.Op.TheVariants.{Create, Install, Replace};
-ghost use Rattle.filter_table.specs.declared.operation.StageFault.TheVariants.{Budget};
+ghost use Rattle.filter_table.specs.declared.operation.OpFault.TheVariants as op_fault;
+ghost use Rattle.filter_table.specs.declared.operation.StageFault.TheVariants.{Budget, Rule};
 ghost use Rattle.filter_table.specs.Tables.{Accepting, Allowed, made, table};
 ghost use Rattle.definitions_tried.specs.Filters.{arp, arp_request, ip_datagram};
-ghost use Rattle.definitions_tried.specs.Tables.{ids, keeps, log, minted_once, minted_twice};
+ghost use Rattle.definitions_tried.specs.Tables.{filter_ids, ids, keeps, log, minted_once, minted_twice, removal, with_filters, with_others};
 
 /// Derivation and revocation as in seL4's Reference Manual, "Capability derivation": to revoke a capability removes all that were
 /// derived from it, whatever the number of mints, and leaves it; a right can be handed on by its holder alone, and no right is
@@ -33,6 +34,10 @@ pub fn capabilities()
     ensures no_more_rights { first (mint_tests minted_twice 2 3 R) ≡ Some RightsExceed }
     ensures the_same_rights { first (mint_tests minted_twice 2 3 M) ≡ None }
     ensures no_receiving_by_a_right_to_mint { first (right_tests minted_twice.held 2 3 Receive) ≡ Some NoRight }
+    ensures the_holder_before_the_right { first (mint_tests minted_once 1 2 R) ≡ Some NotHolder }
+    ensures one_more_of_1024 { first (create_tests (with_others 1019) 8) ≡ None }
+    ensures none_more_than_1024 { first (create_tests (with_others 1020) 8) ≡ Some CapsFull }
+    ensures the_rights_before_the_room { first (mint_tests (with_others 1020) 2 3 R) ≡ Some RightsExceed }
 {}
 
 /// The table is a function of its log (Schneider 1990, "Implementing fault-tolerant services using the state machine approach"): the
@@ -45,6 +50,17 @@ pub fn logs()
     ensures none_is_held { ids (table log 3).caps ≡ [] }
     ensures filter_stays { length (table log 3).filters ≡ 1 }
     ensures next_cap { made (table log 3) (Create 1 8) ≡ Cap 2 }
+{}
+
+/// What bounds a table, whatever the budget: 1,024 filters, and versions below 2^64. A filter is replaced by who still has its
+/// capability, and removed alone.
+pub fn bounds()
+    ensures one_more_of_1024 { Allowed (with_filters 9 1023) 9000 (Install 1 1 arp) None }
+    ensures none_more_than_1024 { Allowed (with_filters 9 1024) 9000 (Install 1 1 arp) (Some (Rule op_fault.TableFull)) }
+    ensures the_last_version { Allowed (with_filters 18446744073709551614 0) 9000 (Create 1 8) None }
+    ensures no_version_after_it { Allowed (with_filters 18446744073709551615 0) 9000 (Create 1 8) (Some (Rule op_fault.VersionsSpent)) }
+    ensures not_replaced_without_its_capability { Allowed (table log 3) 9000 (Replace 1 1 arp) (Some (Rule op_fault.NoCap)) }
+    ensures removed_alone { filter_ids (table removal 4) ≡ 2 ∷ [] }
 {}
 
 /// A budget bounds the instructions of all filters, the new one included, and a replaced one not.

@@ -2,7 +2,7 @@
 
 ghost use Rattle.std.specs.Prelude.{ℕ, ◌+◌, [], ◌∷◌, replicate};
 ghost use Rattle.filter_verify.specs.declared.rules.Refusal.TheVariants.{Empty, TooLong, BadCode, ZeroDivisor, BadShift, BadWord, JumpOut, Ancillary, NoReturn, Unwritten};
-ghost use Rattle.filter_verify.specs.Rules.{Refuses, Sound};
+ghost use Rattle.filter_verify.specs.Rules.{IsSized, Refuses, Sound};
 ghost use Rattle.definitions_tried.specs.Codes.{BPF_LD, BPF_LDX, BPF_ST, BPF_STX, BPF_ALU, BPF_JMP, BPF_RET, BPF_W, BPF_ABS, BPF_B, BPF_MSH, BPF_IMM, BPF_MEM, BPF_DIV, BPF_MOD, BPF_LSH, BPF_RSH, BPF_JEQ, BPF_JA, BPF_K, BPF_X, BPF_STMT, BPF_JUMP};
 ghost use Rattle.definitions_tried.specs.Filters.{arp};
 ghost use Rattle.definitions_tried.specs.Verdicts.{IsRefused, return_0, store_load, store_on_one_path, unreached_load};
@@ -14,6 +14,7 @@ pub fn sound_programs()
     ensures filter_for_arp { Sound arp }
     ensures a_word_that_was_stored { Sound store_load }
     ensures a_load_that_no_path_reaches { Sound unreached_load }
+    ensures the_longest { IsSized (replicate 4096 return_0) }
 {}
 
 /// The least programs that break each rule of Linux' `bpf_check_classic` and `check_load_and_stores`, and why they are refused: the
@@ -33,6 +34,7 @@ pub fn refused_programs()
     ensures jump_to_the_end { IsRefused (BPF_STMT (BPF_JMP + BPF_JA) 0 ∷ []) (JumpOut 0) 7 0 }
     ensures other_arm_to_the_end { IsRefused (BPF_JUMP (BPF_JMP + BPF_JEQ + BPF_K) 7 0 1 ∷ return_0 ∷ []) (JumpOut 0) 7 0 }
     ensures ancillary_load { IsRefused (BPF_STMT (BPF_LD + BPF_W + BPF_ABS) 0xfffff000 ∷ []) (Ancillary 0) 8 0 }
+    ensures first_ancillary_place { IsRefused (BPF_STMT (BPF_LD + BPF_W + BPF_ABS) 0x80000000 ∷ []) (Ancillary 0) 8 0 }
     ensures no_return { IsRefused (BPF_STMT (BPF_LD + BPF_IMM) 1 ∷ []) NoReturn 9 0 }
     ensures unwritten_word { IsRefused (BPF_STMT (BPF_LDX + BPF_MEM) 3 ∷ return_0 ∷ []) (Unwritten 0 3 (0 ∷ [])) 10 0 }
     ensures unwritten_on_one_path { IsRefused store_on_one_path (Unwritten 2 3 (0 ∷ 2 ∷ [])) 10 2 }

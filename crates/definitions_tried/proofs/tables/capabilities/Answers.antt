@@ -52,3 +52,15 @@ returns-clause-the_same_rights c = refl
 
 pub returns-clause-no_receiving_by_a_right_to_mint : goal.returns-clause-no_receiving_by_a_right_to_mint
 returns-clause-no_receiving_by_a_right_to_mint c = refl
+
+pub returns-clause-the_holder_before_the_right : goal.returns-clause-the_holder_before_the_right
+returns-clause-the_holder_before_the_right c = refl
+
+pub returns-clause-one_more_of_1024 : goal.returns-clause-one_more_of_1024
+returns-clause-one_more_of_1024 c = refl
+
+pub returns-clause-none_more_than_1024 : goal.returns-clause-none_more_than_1024
+returns-clause-none_more_than_1024 c = refl
+
+pub returns-clause-the_rights_before_the_room : goal.returns-clause-the_rights_before_the_room
+returns-clause-the_rights_before_the_room c = refl

@@ -1,7 +1,7 @@
 use Rattle.std.proofs.Common.{refl}
 use Rattle.std.specs.Fmt.{digits}
 use Rattle.bpf_insn.specs.Table.{form_of}
-use Rattle.definitions_tried.proofs.Assembled.{assembled_arp}
+use Rattle.definitions_tried.proofs.Assembled.{assembled_arp, jumps}
 use Rattle.definitions_tried.proofs.texts.assembler_texts.Goals as goal
 
 pub returns-clause-of_linux : goal.returns-clause-of_linux
@@ -10,3 +10,6 @@ returns-clause-of_linux c = assembled_arp
 pub returns-clause-written : goal.returns-clause-written
 unfolding digits form_of
 returns-clause-written c = refl
+
+pub returns-clause-jumps : goal.returns-clause-jumps
+returns-clause-jumps c = jumps

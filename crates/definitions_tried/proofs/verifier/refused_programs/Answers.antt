@@ -1,4 +1,4 @@
-use Rattle.definitions_tried.proofs.Refused.{no_instruction, too_many, no_code, no_return_of_x, division, remainder, shift_left, shift_right, word_stored, word_loaded, jump, arm, ancillary, no_return, unwritten, on_one_path, not_sound_without_return, not_sound_with_a_jump_to_the_end, not_sound_on_one_path, other_path}
+use Rattle.definitions_tried.proofs.Refused.{no_instruction, too_many, no_code, no_return_of_x, division, remainder, shift_left, shift_right, word_stored, word_loaded, jump, arm, ancillary, first_ancillary, no_return, unwritten, on_one_path, not_sound_without_return, not_sound_with_a_jump_to_the_end, not_sound_on_one_path, other_path}
 use Rattle.definitions_tried.proofs.verifier.refused_programs.Goals as goal
 
 pub returns-clause-no_instruction : goal.returns-clause-no_instruction
@@ -39,6 +39,9 @@ returns-clause-other_arm_to_the_end c = arm
 
 pub returns-clause-ancillary_load : goal.returns-clause-ancillary_load
 returns-clause-ancillary_load c = ancillary
+
+pub returns-clause-first_ancillary_place : goal.returns-clause-first_ancillary_place
+returns-clause-first_ancillary_place c = first_ancillary
 
 pub returns-clause-no_return : goal.returns-clause-no_return
 returns-clause-no_return c = no_return
