@@ -9,6 +9,7 @@
 #   allocations   for each packet and each change
 # FOLDER has the library, as ./libmkdemux --cores FOLDER makes it, by default dist/. WRAP="chrt -r 5" is put before each command. Needs a
 # C compiler and libpcap.
+unset CDPATH
 set -e
 here=$(cd "$(dirname "$0")" && pwd)
 rounds=7

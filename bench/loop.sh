@@ -4,6 +4,7 @@
 # of neighbouring runs the 10th and the 90th percentile.
 # Usage: bench/loop.sh [FOLDER]. FOLDER, by default a new one, is where it builds; it keeps what was proved for the next run, and takes
 # what the repository's own checks have kept. Needs rt, clang and git on the path.
+unset CDPATH
 set -e
 here=$(cd "$(dirname "$0")" && pwd)
 work=${1:-$(mktemp -d)}

@@ -2,6 +2,7 @@
 # Builds the proved crates into a static library, links it and libpcap into one C program, and runs it.
 # Usage: bench/machine.sh [FOLDER]. FOLDER, by default a new one, is where it builds; it keeps what was proved for the next run.
 # Needs rt, clang and git on the path, and libpcap's header and static library (Debian: libpcap-dev).
+unset CDPATH
 set -e
 here=$(cd "$(dirname "$0")" && pwd)
 work=${1:-$(mktemp -d)}

@@ -3,6 +3,7 @@
 # passed and how many ended because a test's own preparation was refused. Any other end is a failure, and the status is then 1.
 # Usage: bench/memory.sh [CRATE]... By default all crates that have such tests. It takes the tests that `rt test` has built, and builds
 # those that are missing, after their proofs. Needs rt and a C compiler on the path.
+unset CDPATH
 set -e
 here=$(cd "$(dirname "$0")" && pwd)
 work=$(mktemp -d)

@@ -2,6 +2,7 @@
 # Builds the proved ring into a program, and the C11 ring beside it, and runs both. The machine is otherwise idle.
 # Usage: bench/ring.sh [FOLDER]. FOLDER, by default a new one, is where it builds; it keeps what was proved for the next run.
 # Needs rt, clang and git on the path.
+unset CDPATH
 set -e
 here=$(cd "$(dirname "$0")" && pwd)
 work=${1:-$(mktemp -d)}

@@ -6,6 +6,7 @@
 # Usage: bench/soak.sh [FOLDER [RUNS [FIRST]]]. 10,000 runs, unless said otherwise; FIRST is the number of the first, which says what its work is. FOLDER,
 # by default a new one, is where it builds; it keeps what was proved for the next run, and takes what the repository's own checks have kept.
 # Needs rt, clang and git on the path.
+unset CDPATH
 set -e
 here=$(cd "$(dirname "$0")" && pwd)
 work=${1:-$(mktemp -d)}

@@ -4,6 +4,7 @@
 # Usage: bench/table.sh [FOLDER [WORKLOAD]]. FOLDER, by default a new one, is where it builds; it keeps what was proved for the next run.
 # With WORKLOAD, just the workloads of groups.c that begin so are run.
 # Needs rt, clang and git on the path, and libpcap with its header (Debian: libpcap-dev).
+unset CDPATH
 set -e
 here=$(cd "$(dirname "$0")" && pwd)
 work=${1:-$(mktemp -d)}

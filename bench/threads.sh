@@ -5,6 +5,7 @@
 # Usage: bench/threads.sh [FOLDER [ROUNDS [WORD]..]]. FOLDER, by default a new one, is where it builds; it keeps what was proved for the next run, and
 # takes what the repository's own checks have kept. The words are put before each command, as `chrt -r 5` on a busy machine. Needs rt, clang, git and
 # python3 on the path.
+unset CDPATH
 set -e
 here=$(cd "$(dirname "$0")" && pwd)
 work=${1:-$(mktemp -d)}

@@ -2,6 +2,7 @@
 # Builds a program over the machine of cores as one list of events, runs it nine times, and prints the median of each of its times.
 # Usage: bench/world.sh [FOLDER]. FOLDER, by default a new one, is where it builds; it keeps what was proved for the next run, and takes
 # what the repository's own checks have kept. From nothing, half an hour of proofs comes first. Needs rt, clang and git on the path.
+unset CDPATH
 set -e
 here=$(cd "$(dirname "$0")" && pwd)
 work=${1:-$(mktemp -d)}

@@ -5,6 +5,7 @@
 #        c/check.sh --built [FOLDER]   takes the libraries of a folder, by default dist/, and proves nothing
 # It needs a C compiler (CC, by default cc); libpcap's header and library for most programs; a C++ compiler (CXX), pkg-config,
 # valgrind, the compiler's sanitizers and `unshare` are used where they are there.
+unset CDPATH
 from=$PWD
 cd "$(dirname "$0")" || exit 2
 made=$(mktemp -d) || exit 2
@@ -84,11 +85,9 @@ accepts() {
     compiler=$2
     words=$3
     shift 3
-    archives=
     {
         for header; do
             echo "#include <$header.h>"
-            archives="$archives $folder/lib/lib$header.a"
         done
         for header; do
             echo "#include <$header.h>"
@@ -106,7 +105,11 @@ accepts() {
         echo '    return 0;'
         echo '}'
     } > "$made/header.$language"
-    "$compiler" $words -D_DEFAULT_SOURCE -Wall -Wextra -pedantic -Werror "$headers" -o "$made/header" "$made/header.$language" $archives &&
+    for header; do
+        shift
+        set -- "$@" "$folder/lib/lib$header.a"
+    done
+    "$compiler" $words -D_DEFAULT_SOURCE -Wall -Wextra -pedantic -Werror "$headers" -o "$made/header" "$made/header.$language" "$@" &&
         "$made/header"
 }
 
@@ -120,11 +123,12 @@ accepts_both() {
     fi
 }
 
-# NAME: a program that is linked by the words of pkg-config, from where it was cloned, and from a copy of it.
+# NAME: a program that is linked by the words of pkg-config, from where it was cloned, and from a copy of it. The shell reads the words, in
+# which pkg-config writes a backslash before each space of a path.
 finds() {
     cp -R "$folder/include" "$folder/lib" "$made/" && for at in "$folder" "$made"; do
         words=$(PKG_CONFIG_PATH=$at/lib/pkgconfig pkg-config --cflags --libs "$1") &&
-            $cc -o "$made/found" "$made/header.c" $words && "$made/found" || return 1
+            eval "$cc -o \"\$made/found\" \"\$made/header.c\" $words" && "$made/found" || return 1
     done
 }
 
@@ -251,6 +255,8 @@ try_cores() {
     try "core_calls.c without a warning" build core_calls mkdemux_cores -Wl,--wrap=malloc,--wrap=realloc
     try "each call of cores, and each allocation refused" "$made/core_calls"
     [ -z "$watch" ] || try "core_calls under valgrind" $watch "$made/core_calls"
+    try "fair.c without a warning" build fair mkdemux_cores
+    try "busy cores starve nobody" "$made/fair"
     try "the second program of docs/c-library.md" shows_cores
     if [ -n "$pcap" ]; then
         try_live

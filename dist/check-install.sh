@@ -1,6 +1,7 @@
 #!/bin/sh
 # Installs dist/ under a folder that is gone afterwards, and looks for what must be there; and runs ./mkdemux through symbolic links.
 # A line for each check; the last line is `N passed, M failed`.
+unset CDPATH
 top=$(cd "$(dirname "$0")/.." && pwd) || exit 2
 made=$(mktemp -d) || exit 2
 trap 'rm -rf "$made"' EXIT
@@ -51,7 +52,34 @@ runs_by_link() {
         (cd / && PATH=$made/one/two:$PATH mkdemux --version)
 }
 
+# Through a link, with a CDPATH in the environment, it installs the same files.
+installs_by_link() {
+    ln -s "$top/dist/install.sh" "$made/install" && mkdir -p "$made/a b" && (cd "$made/a b" && CDPATH=/ "$made/install" again) &&
+        diff -r "$made/prefix" "$made/a b/again"
+}
+
+# DESTDIR is put before each file, and stands in none.
+installs_below() {
+    DESTDIR=$made/root "$top/dist/install.sh" /usr && diff -r "$made/prefix" "$made/root/usr"
+}
+
+# --uninstall leaves nothing, and takes nothing else.
+uninstalls() {
+    touch "$made/prefix/bin/other" && "$top/dist/install.sh" --uninstall "$made/prefix" &&
+        [ "$(find "$made/prefix" -type f)" = "$made/prefix/bin/other" ] && [ "$(ls "$made/prefix")" = bin ]
+}
+
+# The pages that the manual page and --help name are there.
+has_docs() {
+    cmp "$top/docs/messages.md" "$made/prefix/share/doc/mkdemux/docs/messages.md" &&
+        cmp "$top/examples/two-phase.script" "$made/prefix/share/doc/mkdemux/examples/two-phase.script"
+}
+
 try "dist/install.sh" "$top/dist/install.sh" "$made/prefix"
+try "dist/install.sh --help" "$top/dist/install.sh" --help
+try "dist/install.sh through a link" installs_by_link
+try "dist/install.sh with DESTDIR" installs_below
+try "docs and examples" has_docs
 try "mkdemux from any folder" runs
 try "pages and completions" has_pages
 if command -v man > /dev/null; then
@@ -73,5 +101,6 @@ if [ "$("$top/dist/digest.sh")" = "$(cat "$top/dist/sources")" ] || [ -x "$top/c
 else
     echo "skipped: ./mkdemux by links: it would build the program first"
 fi
+try "dist/install.sh --uninstall" uninstalls
 echo "$passed passed, $failed failed"
 [ "$failed" -eq 0 ]

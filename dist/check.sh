@@ -6,6 +6,7 @@
 #                                   dist/include has the headers of c/
 #   dist/check.sh --built           takes and compares nothing: dist/mkdemux must say by --version that it is of these sources, and so
 #                                   must the .pc files of the C libraries that are there
+unset CDPATH
 cd "$(dirname "$0")/.." || exit 2
 passed=0
 failed=0

@@ -3,6 +3,7 @@
 # them, and each file of src/, specs/ and proofs/ of each crate but those of tests alone, in the order of their names.
 #   dist/digest.sh CRATE   the same of a static library: of its line of crates.txt, HANDLES, dist/KIT, what packs the archive, and the
 #                          files of its crate and those that the line names
+unset CDPATH
 cd "$(dirname "$0")/.." || exit 2
 
 # The files of crates, by the names of their folders.

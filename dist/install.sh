@@ -1,10 +1,14 @@
 #!/bin/sh
-# Installs what dist/ has under a prefix: the program, the manual page, the completions for bash, zsh and fish, and the C libraries
-# with their headers and pkg-config files where dist/ has them. It builds nothing, and needs no kit.
+# Installs what dist/ has under a prefix: the program, the manual page, the completions for bash, zsh and fish, the C libraries with
+# their headers and pkg-config files where dist/ has them, and the pages of docs/ and the files of examples/ that they name. It builds
+# nothing, and needs no kit.
 #
-#   dist/install.sh [PREFIX]   PREFIX is ~/.local, if none is given
+#   dist/install.sh [PREFIX]               PREFIX is ~/.local, if none is given
+#   dist/install.sh --uninstall [PREFIX]   removes the files that it would install there, and the folders that are empty then
 #
+# With DESTDIR in the environment all files are written below that folder, for a package: nothing in them names it.
 # A line for each file says where it is now. It replaces files of these names, and touches no other.
+unset CDPATH
 say() {
     echo "install: $1"
 }
@@ -15,14 +19,49 @@ refuse() {
     exit 1
 }
 
-[ $# -le 1 ] || refuse "usage: dist/install.sh [PREFIX]"
+usage='usage: dist/install.sh [--uninstall] [PREFIX]; DESTDIR in the environment is put before PREFIX'
+act=put
 case ${1-} in
--*) refuse "usage: dist/install.sh [PREFIX]" ;;
+--help)
+    echo "$usage"
+    exit 0
+    ;;
+--uninstall)
+    act=take
+    shift
+    ;;
+esac
+[ $# -le 1 ] || refuse "$usage"
+case ${1-} in
+-*) refuse "$usage" ;;
 esac
 [ -n "${1-}" ] || [ -n "${HOME-}" ] || refuse "there is no HOME; give a PREFIX"
-mkdir -p "${1:-$HOME/.local}" || exit 1
-prefix=$(cd "${1:-$HOME/.local}" && pwd) || exit 1
-cd "$(dirname "$0")" || exit 1
+
+# The folder of this file, which symbolic links may lead to.
+self=$0
+while [ -h "$self" ]; do
+    link=$(readlink "$self") || exit 1
+    case $link in
+    /*) self=$link ;;
+    *) self=$(dirname "$self")/$link ;;
+    esac
+done
+
+prefix=${1:-$HOME/.local}
+if [ -n "${DESTDIR-}" ]; then
+    case $prefix in
+    /*) ;;
+    *) refuse "with DESTDIR, PREFIX is an absolute path" ;;
+    esac
+    mkdir -p "$DESTDIR" && root=$(cd "$DESTDIR" && pwd) || exit 1
+else
+    root=
+    case $prefix in
+    /*) ;;
+    *) prefix=$(pwd)/$prefix ;;
+    esac
+fi
+cd "$(dirname "$self")" || exit 1
 
 # The program that is to be installed: that of dist/, or the one that ./mkdemux built.
 find_program() {
@@ -41,25 +80,40 @@ find_program() {
 # MODE FILE PLACE: puts a file there. It is written beside its place and then moved, so a program that runs is not disturbed.
 put() {
     place=$prefix/$3
-    mkdir -p "${place%/*}" && cp "$2" "$place.new" && chmod "$1" "$place.new" && mv -f "$place.new" "$place" ||
-        refuse "can't write $place"
-    say "$place"
+    mkdir -p "$root${place%/*}" && cp "$2" "$root$place.new" && chmod "$1" "$root$place.new" && mv -f "$root$place.new" "$root$place" ||
+        refuse "can't write $root$place"
+    say "$root$place"
 }
 
-# FOLDER PATTERN: puts each file of a folder of dist/ whose name fits at the same place under the prefix.
-put_all() {
+# MODE FILE PLACE: removes the file that is there, and its folders as far as they are empty.
+take() {
+    place=$root$prefix/$3
+    [ -f "$place" ] || return 0
+    rm "$place" || refuse "can't remove $place"
+    say "removed $place"
+    (cd "$root$prefix" && rmdir -p "${3%/*}" 2> /dev/null) || true
+}
+
+# FOLDER PATTERN [PLACE]: each file below a folder whose name fits, at the same place under the prefix, or under this one.
+each_of() {
     [ -d "$1" ] || return 0
-    for file in $(find "$1" -type f -name "$2" | LC_ALL=C sort); do
-        put 644 "$file" "$file"
-    done
+    list=$(cd "$1" && find . -type f -name "$2" | sed 's|^\./||' | LC_ALL=C sort)
+    while read -r file; do
+        [ -z "$file" ] || $act 644 "$1/$file" "${3:-$1}/$file"
+    done <<LIST
+$list
+LIST
 }
 
-find_program
-put 755 "$program" bin/mkdemux
-put_all share '*mkdemux*'
-put_all include '*.h'
-put_all lib '*.a'
-put_all lib '*.pc'
+[ $act = take ] || find_program
+$act 755 "${program-}" bin/mkdemux
+each_of share '*mkdemux*'
+each_of include '*.h'
+each_of lib '*.a'
+each_of lib '*.pc'
+each_of ../docs '*.md' share/doc/mkdemux/docs
+each_of ../examples '*' share/doc/mkdemux/examples
+[ $act = put ] || exit 0
 case :$PATH: in
 *:"$prefix/bin":*) say "mkdemux is on PATH: try mkdemux --help, man mkdemux" ;;
 *) say "put $prefix/bin on PATH; then try mkdemux --help, man mkdemux" ;;
