@@ -1,3 +1,4 @@
+use Rattle.std.proofs.Common.{suc, ◌∙◌, arith}
 use Rattle.core_loop.proofs.Silent.{silent_empty, silent_more}
 use Rattle.tests_machines.proofs.joined.joined_links.Goals as goal
 
@@ -5,4 +6,10 @@ pub returns-clause-silent : goal.returns-clause-silent
 returns-clause-silent c = (
   silent_more c.in_ok-first.first c.join.new.self 1 c.in_ok-to_second.to_second c.in_ok-to_first.from_second (silent_empty c.in_ok-first.first c.in_ok-first.ensures.empty) c.join.ensures.joined c.join.ensures.others c.in_ok-to_second.ensures.sender.0 c.in_ok-to_first.ensures.receiver.0,
   silent_more c.in_ok-second.second c.join-2.new.self 0 c.in_ok-to_first.to_first c.in_ok-to_second.from_first (silent_empty c.in_ok-second.second c.in_ok-second.ensures.empty) c.join-2.ensures.joined c.join-2.ensures.others c.in_ok-to_first.ensures.sender.0 c.in_ok-to_second.ensures.receiver.0,
+)
+
+pub returns-clause-alone : goal.returns-clause-alone
+returns-clause-alone c = (
+  c.join.ensures.others 0 (λ e. absurd (omega (arith, e))) ∙ c.in_ok-first.ensures.empty 0,
+  λ entry. c.join-2.ensures.others (suc entry) (λ e. absurd (omega (arith, e))) ∙ c.in_ok-second.ensures.empty (suc entry),
 )
