@@ -2,7 +2,7 @@
 # Prints the digest of the sources: sha256 of the list of the sha256 of crates.txt, HANDLES, dist/KIT, which names the kit that builds
 # them, and each file of src/, specs/ and proofs/ of each crate but those of tests alone, in the order of their names.
 #   dist/digest.sh CRATE   the same of a static library: of its line of crates.txt, HANDLES, dist/KIT, what packs the archive, and the
-#                          files of its crate and those that the line names
+#                          files of its crate and of all crates below it
 unset CDPATH
 cd "$(dirname "$0")/.." || exit 2
 
@@ -11,9 +11,21 @@ files_in() {
     find "$@" \( -path '*/out' -o -path 'crates/tests_*' \) -prune -o -type f \( -name '*.rt' -o -name '*.antt' \) -print
 }
 
-# CRATE: its folder and those below it.
+# CRATE..: these and the crates that their lines name.
+with_named() {
+    for crate in "$@"; do
+        echo "$crate"
+        sed -n "s/^$crate\( [^:]*\)\{0,1\}://p" crates.txt | tr ' ' '\n'
+    done | LC_ALL=C sort -u
+}
+
+# CRATE: its folder and those of all crates below it.
 folders_of() {
-    for crate in "$1" $(sed -n "s/^$1 staticlib://p" crates.txt); do
+    below=$1
+    until named=$(with_named $below) && [ "$named" = "$below" ]; do
+        below=$named
+    done
+    for crate in $below; do
         [ ! -d "crates/$crate" ] || echo "crates/$crate"
     done
 }

@@ -92,8 +92,8 @@ enum mkdemux_core_answer {
     MKDEMUX_CORE_TOO_LONG = 5,   /* of requests: a program of more than 4,096 instructions, which no message
                                     holds. Core 0 needs no message: it takes the request, and refuses it as
                                     BAD_PROGRAM + 2, or vetoes it if it has no budget for it */
-    MKDEMUX_CORE_STOPPED = 6,    /* the core took a message that no core sends: something else has written to
-                                    its memory. It stays stopped */
+    MKDEMUX_CORE_STOPPED = 6,    /* the core took a message that no core sends. No core of a machine does (that is
+                                    proved): something else has written to its memory. It stays stopped */
     MKDEMUX_CORE_SPENT = 7,      /* a number that only grows is at its end, 2^64 - 1 */
     MKDEMUX_CORE_IDLE = 8,       /* of mkdemux_turn: no message was complete, and no request could begin */
     MKDEMUX_CORE_OPEN = 9,       /* of mkdemux_boot: one of the cores is open already */
