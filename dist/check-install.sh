@@ -1,5 +1,6 @@
 #!/bin/sh
-# Installs dist/ under a folder that is gone afterwards, and looks for what must be there; and runs ./mkdemux through symbolic links.
+# Installs dist/ under a folder that is gone afterwards, and looks for what must be there; copies crates there; and runs ./mkdemux
+# through symbolic links.
 # A line for each check; the last line is `N passed, M failed`.
 unset CDPATH
 top=$(cd "$(dirname "$0")/.." && pwd) || exit 2
@@ -52,6 +53,14 @@ runs_by_link() {
         (cd / && PATH=$made/one/two:$PATH mkdemux --version)
 }
 
+# dist/crates.sh copies the crates that are named and those below them, with a line for each, once; other lines stay.
+copies_crates() {
+    mkdir -p "$made/a b/mine" && echo 'mine: filter_vm' > "$made/a b/mine/crates.txt" &&
+        "$top/dist/crates.sh" "$made/a b/mine" filter_vm && "$top/dist/crates.sh" "$made/a b/mine" filter_asm filter_vm &&
+        [ "$(cut -d ':' -f 1 "$made/a b/mine/crates.txt" | sort | tr '\n' ' ')" = "bpf_insn filter_asm filter_verify filter_vm mine seq " ] &&
+        [ "$(cd "$made/a b/mine/crates" && echo */src/lib.rt | wc -w)" -eq 5 ] && diff -r "$top/crates/filter_vm/src" "$made/a b/mine/crates/filter_vm/src"
+}
+
 # Through a link, with a CDPATH in the environment, it installs the same files.
 installs_by_link() {
     ln -s "$top/dist/install.sh" "$made/install" && mkdir -p "$made/a b" && (cd "$made/a b" && CDPATH=/ "$made/install" again) &&
@@ -101,6 +110,7 @@ if [ "$("$top/dist/digest.sh")" = "$(cat "$top/dist/sources")" ] || [ -x "$top/c
 else
     echo "skipped: ./mkdemux by links: it would build the program first"
 fi
+try "dist/crates.sh" copies_crates
 try "dist/install.sh --uninstall" uninstalls
 echo "$passed passed, $failed failed"
 [ "$failed" -eq 0 ]
