@@ -204,5 +204,7 @@ for page in README.md docs/messages.md docs/recipes.md docs/scripts.md docs/run.
     ./blocks.py "$page"
     count "$page" $?
 done
+./excerpts.py
+count README-excerpts $?
 echo "$passed passed, $failed failed"
 [ "$failed" -eq 0 ]
