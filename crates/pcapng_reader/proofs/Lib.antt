@@ -1,6 +1,7 @@
 pub mod OptionLemmas
 pub mod TimeLemmas
 pub mod FrontLemmas
+pub mod SkimLemmas
 pub mod LawLemmas
 pub mod FeedLemmas
 pub mod PacketLemmas

@@ -1,5 +1,5 @@
 -- Each packet is of its section.
-use Rattle.std.proofs.Common.{◌≡◌, ℕ, ◌+◌, ◌-◌, ◌==◌, ◌||◌, ◌%◌, not, nat_lt, Bool, true, false, if◌then◌else◌, List, [], ◌∷◌, ◌++◌, length, take, drop, slice_get, arith, refl, ap, sym, ◌∙◌, inl, inr, append_assoc, subst, Option, Some, None, Result, Ok, Err}
+use Rattle.std.proofs.Common.{◌≡◌, ℕ, ◌<◌, ◌+◌, ◌-◌, ◌==◌, ◌||◌, ◌%◌, not, nat_lt, Bool, true, false, if◌then◌else◌, List, [], ◌∷◌, ◌++◌, length, take, drop, slice_get, arith, refl, ap, sym, ◌∙◌, inl, inr, append_assoc, subst, Option, Some, None, Result, Ok, Err}
 use Rattle.std.proofs.lemmas.List.{append-nil}
 use Rattle.pcap_reader.specs.Savefile.{number}
 use Rattle.pcapng_reader.specs.declared.frame.Frame.{Frame}
@@ -225,6 +225,12 @@ first_section b (Section h) n e is = section_begins [] (place_after start (Secti
 first_section b (Interface i) n e is = absurd (cc)
 first_section b (Packet k) n e is = absurd (cc)
 first_section b Other n e is = absurd (cc)
+
+-- after a block there is a section
+pub section_begun : (b : WholeBlock) (bs : List WholeBlock) (q : Place) → Follow start (b ∷ bs) q → 0 < q.sections
+section_begun b bs q follow =
+    let has = section_follows (b ∷ []) bs (place_after start b.content (length b.bytes)) q (first_section b b.content (length b.bytes) refl (first_header b follow.0)) follow.1 in
+    omega (arith, has.sections)
 
 follow_split : (p q : Place) (before after : List WholeBlock) (block : WholeBlock) → Follow p (before ++ block ∷ after) q → (mid : Place) × Follow p before mid × IsBlock mid block
 follow_split p q [] after block follow = (p, refl, follow.0)

@@ -1,5 +1,5 @@
 -- The blocks of a capture in pcapng (draft-ietf-opsawg-pcapng, "Block Definitions"), one by one.
-use Rattle.std.specs.Prelude.{◌≡◌, ℕ, ◌+◌, ◌-◌, ◌*◌, ◌%◌, ◌≤◌, ◌==◌, ◌||◌, not, nat_lt, min, if◌then◌else◌, Bool, true, false, List, length, take, drop, slice_get, Option, Some, None, Result, Ok, Err}
+use Rattle.std.specs.Prelude.{◌≡◌, ℕ, ◌+◌, ◌-◌, ◌*◌, ◌%◌, ◌≤◌, ◌==◌, ◌||◌, ◌&&◌, not, nat_lt, min, if◌then◌else◌, Bool, true, false, List, length, take, drop, slice_get, Option, Some, None, Result, Ok, Err}
 use Rattle.pcap_reader.specs.Savefile.{number}
 use Rattle.pcapng_reader.specs.Options.{resolution_in, offset_in}
 use Rattle.pcapng_reader.specs.declared.frame.Frame.{Frame}
@@ -9,6 +9,10 @@ use Rattle.pcapng_reader.specs.declared.block.Content.{Content}
 use Rattle.pcapng_reader.specs.declared.block.Content.TheVariants.{Section, Interface, Packet, Other}
 use Rattle.pcapng_reader.specs.declared.block.BlockError.{BlockError}
 use Rattle.pcapng_reader.specs.declared.block.BlockError.TheVariants.{NoSection, BadByteOrder, BadLength, LengthNotRepeated, BadVersion, NoInterface, BadCaptured, TooLong, TooManyInterfaces}
+
+-- bytes begin with a section header block, as a capture in pcapng does: its type reads the same in both byte orders
+abbrev pub is_pcapng : List ℕ → Bool
+is_pcapng bytes = not (nat_lt (length bytes) 4) && number true 4 bytes == 0x0a0d0d0a
 
 -- how many bytes a block of a type has at least: those of its fields, its type and its two total lengths
 abbrev pub least_of : ℕ → ℕ

@@ -4,13 +4,16 @@ use Rattle.pcapng_reader.specs.Blocks.{frame_in, is_needed}
 use Rattle.pcapng_reader.specs.Grammar.{WholeBlock, Place, start, front_at, Follow, bytes_of, Reads, ReadsFront, IsLasting}
 use Rattle.pcapng_reader.specs.declared.frame.Frame.{Frame}
 use Rattle.pcapng_reader.specs.declared.front.Front.TheVariants.{Short}
-use Rattle.pcapng_reader.specs.declared.block.Content.TheVariants.{Other}
+use Rattle.pcapng_reader.specs.declared.block.Content.TheVariants.{Other, Packet}
 use Rattle.pcapng_reader.specs.declared.fault.CaptureFault.{CaptureFault}
 use Rattle.pcapng_reader.specs.declared.fault.CaptureFault.TheVariants.{NoMemory}
 use Rattle.pcapng_reader.specs.declared.feed.BlockFeed.{BlockFeed}
 use Rattle.pcapng_reader.specs.declared.feed.Passing.{Passing}
 use Rattle.pcapng_reader.specs.declared.feed.Held.{Held as HeldBlock}
 use Rattle.pcapng_reader.specs.declared.seen.Block.{Block as SeenBlock}
+use Rattle.pcapng_reader.specs.declared.seen.Skimmed.{Skimmed}
+use Rattle.pcapng_reader.specs.declared.block.PacketEntry.{PacketEntry}
+use Rattle.pcapng_reader.specs.Packets.{captured_in}
 use Rattle.pcapng_reader.specs.declared.feed.Step.{Step}
 use Rattle.pcapng_reader.specs.declared.feed.Step.TheVariants.{Block, Held, Passed, More}
 
@@ -116,6 +119,16 @@ IsFrugalAt copies place None None part =
 
 abbrev pub IsFrugal : BlockFeed → Type 0
 IsFrugal feed = IsFrugalAt feed.copies (place_of feed) feed.passing feed.held feed.part.items
+
+-- the next block was taken, which lies in the bytes and has this packet
+pub record Skims (bytes rest : List ℕ) (old new : BlockFeed) (seen : Skimmed) : Type 0 where
+  pub entry : PacketEntry
+  pub takes : Takes bytes rest old new (Block (record { offset = (place_of old).offset; bytes = seen.block; content = Packet entry }))
+  pub captured : seen.bytes.now ≡ captured_in entry seen.block.now
+  pub original : seen.original ≡ entry.original
+  pub going : (held_fault old ≡ None) × (held_fault new ≡ None)
+  pub copies : copies_all new ≡ copies_all old
+  pub shorter : length rest < length bytes
 
 -- a feed was given nothing
 abbrev pub IsFresh : Bool → BlockFeed → Type 0

@@ -35,6 +35,7 @@ pub struct SectionHeader {
 }
 
 /// What a section says of an interface.
+#[repr(C)]
 #[derive(Clone, Copy, Debug, PartialEq, Eq)]
 pub struct InterfaceDescription {
     /// The link type of its packets, as 1 for Ethernet. Any number is taken.

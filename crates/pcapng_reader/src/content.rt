@@ -1,7 +1,8 @@
 //! What a whole block says.
 
-ghost use Rattle.std.specs.Prelude.{◌≡◌, ◌≤◌, length};
+ghost use Rattle.std.specs.Prelude.{◌≡◌, ◌≤◌, length, IfSome};
 ghost use Rattle.pcapng_reader.specs.Blocks.{IsFrame, content_in, described_in, enhanced_in, fitting, header_in, interface_in, obsolete_in, packet_in, simple_captured, simple_in};
+ghost use Rattle.pcapng_reader.specs.Growth.{IsSkimmed};
 
 use crate::block::{BlockError, Content, InterfaceDescription, PacketEntry, SectionHeader};
 use crate::fields::{short_at, word_at};
@@ -108,6 +109,34 @@ fn enhanced_of(
 {
     let interface = word_at(big, &block[8..]);
     packet_of(sections, interfaces, interface, big, block)
+}
+
+/// The lengths of a packet.
+#[derive(Clone, Copy, Debug)]
+pub struct Lengths {
+    /// How many bytes of it were captured.
+    pub captured: u32,
+    /// Its length in bytes when it was seen.
+    pub original: u32,
+}
+
+/// The lengths of the packet of an enhanced packet block, if nothing is wrong with it.
+pub fn lengths_of(interfaces: &[InterfaceDescription], big: bool, block: &[u8]) -> Option<Lengths>
+    requires { (32 ≤ length block.now) × (length block.now ≤ 16777216) }
+    ensures { IfSome result (IsSkimmed interfaces.now big block.now) }
+{
+    let interface = word_at(big, &block[8..]);
+    if interface as usize >= interfaces.len() {
+        return None;
+    }
+    let captured = word_at(big, &block[20..]);
+    match fits(block, PACKET_START, captured) {
+        Ok(()) => Some(Lengths {
+            captured,
+            original: word_at(big, &block[24..]),
+        }),
+        Err(_) => None,
+    }
 }
 
 /// What an obsolete packet block says.

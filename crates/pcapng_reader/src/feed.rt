@@ -6,12 +6,15 @@ use crate::block::{BlockError, Content, InterfaceDescription};
 use crate::fault::CaptureFault;
 use crate::fields::word_at;
 use crate::frame::{FRAME, Frame, frame_of, needs};
-use crate::front::{Front, front_of};
-use crate::seen::Block;
+use crate::front::{Front, front_of, packet_front};
+use crate::seen::{Block, Skimmed};
 use std::alloc::{AllocError, Global};
 
 /// The length of the total length at the end of a block.
 const TRAILER: usize = 4;
+
+/// Where the bytes of a packet begin in an enhanced packet block.
+const PACKET: usize = 28;
 
 /// A capture that comes in pieces, cut anywhere, and is taken block by block.
 ///
@@ -68,11 +71,13 @@ pub enum Step<'b> {
 }
 
 impl BlockFeed {
-    ghost use Rattle.std.specs.Prelude.{◌≡◌, ◌≢◌, ◌<◌, ◌≤◌, ◌^◌, ◌++◌, [], ℕ, List, Option, Some, None, Err, length, IfOk, OnOk, MatchOption, MatchResult, ◌⊎◌, true, false};
+    ghost use Rattle.std.specs.Prelude.{◌≡◌, ◌≢◌, ◌<◌, ◌≤◌, ◌^◌, ◌++◌, [], ℕ, List, Option, Some, None, Err, length, IfOk, IsTrue, OnOk, MatchOption, MatchResult, ◌⊎◌, true, false};
     ghost use Rattle.std.specs.Bool.{MatchBool};
     ghost use Rattle.pcapng_reader.specs.declared.block.Content.{Content as Says};
+    ghost use Rattle.pcapng_reader.specs.declared.block.Content.TheVariants.{Packet};
+    ghost use Rattle.pcapng_reader.specs.declared.block.PacketEntry.{PacketEntry};
     ghost use Rattle.pcapng_reader.specs.Grammar.{EndsWith, WholeBlock, front_at};
-    ghost use Rattle.pcapng_reader.specs.Held.{Advances, Ends, HasBytes, HoldsAfter, IsFresh, IsFrugal, IsShorter, IsTold, copies_all, held_block, held_fault, open_part, place_of, seen_block};
+    ghost use Rattle.pcapng_reader.specs.Held.{Advances, Ends, HasBytes, HoldsAfter, IsFresh, IsFrugal, IsShorter, IsTold, Skims, copies_all, held_block, held_fault, open_part, place_of, seen_block};
     ghost use Rattle.pcapng_reader.specs.Growth.{Enters, GoesOn, GrowsFrugally, IsApart, IsBetween, IsGrown, IsLetGo, IsPassed, IsWanted, IsWithin, KeepsOrPasses, TakesBlock};
 
     /// A feed that was given nothing, and passes over the blocks that nobody needs. Takes no memory.
@@ -136,6 +141,46 @@ impl BlockFeed {
                 Err(fault)
             }
         }
+    }
+
+    /// Takes the next block off the front of `rest`, where it is an enhanced packet block, lies whole there and has nothing wrong.
+    ///
+    /// Where it takes nothing, which it may do at any block, `next` goes on. It is for callers who need no time and no interface, and
+    /// does less than `next`.
+    pub fn skim<'b>(&mut self, rest: &mut &'b [u8]) -> Option<Skimmed<'b>>
+        ensures skims { MatchOption result ((self.new ≡ self.old) × (rest.new.now ≡ rest.old.now)) (Skims rest.old.now rest.new.now self.old self.new) }
+        ensures frugal { IsFrugal self.old → IsFrugal self.new }
+    {
+        if !self.is_at_a_block() {
+            return None;
+        }
+        let bytes = *rest;
+        let front = packet_front(self.sections, self.big, self.interfaces.as_slice(), bytes)?;
+        let (block, more) = bytes.split_at(front.total as usize);
+        self.pass_packet(front.total);
+        *rest = more;
+        Some(Skimmed {
+            block,
+            bytes: &block[PACKET..PACKET + front.packet.captured as usize],
+            original: front.packet.original,
+        })
+    }
+
+    /// Whether it has no fault, and nothing of the next block.
+    fn is_at_a_block(&self) -> bool
+        ensures { IsTrue result → (self.now.fault ≡ None) × (self.now.held ≡ None) × (self.now.passing ≡ None) × (self.now.part.items ≡ []) }
+    {
+        self.fault.is_none()
+            && self.held.is_none()
+            && self.passing.is_none()
+            && self.part.is_empty()
+    }
+
+    /// Takes in that there was a packet block of so many bytes.
+    fn pass_packet(&mut self, total: u32)
+        ensures { (entry : PacketEntry) → Enters self.old self.new (Packet entry) total }
+    {
+        self.offset = self.offset.saturating_add(u64::from(total));
     }
 
     /// The block that is held, after `Step::Held`.

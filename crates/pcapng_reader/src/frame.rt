@@ -1,7 +1,7 @@
 //! The front of a block: its byte order, its type and its length.
 
 ghost use Rattle.std.specs.Prelude.{◌≡◌, ◌≤◌, ◌%◌, length, IfOk};
-ghost use Rattle.pcapng_reader.specs.Blocks.{IsFrame, frame_in, is_needed, least_of, measure_of, order_in};
+ghost use Rattle.pcapng_reader.specs.Blocks.{IsFrame, frame_in, is_needed, is_pcapng, least_of, measure_of, order_in};
 
 use crate::block::BlockError;
 use crate::fields::word_at;
@@ -24,6 +24,9 @@ pub const SIMPLE: u32 = 3;
 /// The type of an enhanced packet block.
 pub const ENHANCED: u32 = 6;
 
+/// How many bytes tell the format of a capture.
+const MAGIC: usize = 4;
+
 /// The byte-order magic of a section header.
 const ORDER: u32 = 0x1a2b_3c4d;
 
@@ -39,6 +42,13 @@ pub struct Frame {
     pub kind: u32,
     /// The block's length in bytes.
     pub total: u32,
+}
+
+/// Whether bytes begin with a section header block, as a capture in pcapng does.
+pub fn is_pcapng(bytes: &[u8]) -> bool
+    ensures { result ≡ is_pcapng bytes.now }
+{
+    bytes.len() >= MAGIC && word_at(true, bytes) == SECTION
 }
 
 /// The front of a block after so many section headers, the last of which had this byte order.

@@ -1,12 +1,14 @@
 //! What the bytes at some place of a capture begin with.
 
-ghost use Rattle.std.specs.Prelude.{◌≡◌, Ok};
+ghost use Rattle.std.specs.Prelude.{◌≡◌, Ok, IfSome};
 ghost use Rattle.pcapng_reader.specs.Blocks.{IsFrame};
 ghost use Rattle.pcapng_reader.specs.Grammar.{framed_in, front_in};
+ghost use Rattle.pcapng_reader.specs.Growth.{IsFramedPacket, IsPacketFront};
 
 use crate::block::{BlockError, Content, InterfaceDescription};
-use crate::content::content_of;
-use crate::frame::{FRAME, Frame, frame_of};
+use crate::content::{Lengths, content_of, lengths_of};
+use crate::fields::word_at;
+use crate::frame::{ENHANCED, FRAME, Frame, frame_of};
 
 /// What bytes begin with.
 #[derive(Clone, Copy, Debug)]
@@ -17,6 +19,15 @@ pub enum Front {
     Wrong(BlockError),
     /// A whole block of so many bytes, and what it says.
     Whole(u32, Content),
+}
+
+/// The enhanced packet block that bytes begin with.
+#[derive(Clone, Copy, Debug)]
+pub struct PacketFront {
+    /// How many bytes the block has.
+    pub total: u32,
+    /// The lengths of its packet.
+    pub packet: Lengths,
 }
 
 /// What bytes begin with, after so many section headers; the last section had this byte order, and has described these
@@ -52,4 +63,42 @@ fn whole_of(sections: u64, interfaces: &[InterfaceDescription], frame: Frame, by
         Ok(content) => Front::Whole(frame.total, content),
         Err(error) => Front::Wrong(error),
     }
+}
+
+/// The enhanced packet block that bytes begin with, where one lies whole in them that has nothing wrong.
+pub fn packet_front(
+    sections: u64,
+    big: bool,
+    interfaces: &[InterfaceDescription],
+    bytes: &[u8],
+) -> Option<PacketFront>
+    ensures { IfSome result (IsPacketFront sections big interfaces.now bytes.now) }
+{
+    if bytes.len() < FRAME {
+        return None;
+    }
+    match frame_of(sections, big, bytes) {
+        Ok(frame) => packet_in(interfaces, frame, bytes),
+        Err(_) => None,
+    }
+}
+
+/// The same of bytes that have this front.
+fn packet_in(interfaces: &[InterfaceDescription], frame: Frame, bytes: &[u8]) -> Option<PacketFront>
+    requires { IsFrame frame }
+    ensures { IfSome result (IsFramedPacket interfaces.now frame bytes.now) }
+{
+    let total = frame.total as usize;
+    if frame.kind != ENHANCED || bytes.len() < total {
+        return None;
+    }
+    let block = &bytes[..total];
+    if word_at(frame.big, &block[total - 4..]) != frame.total {
+        return None;
+    }
+    let packet = lengths_of(interfaces, frame.big, block)?;
+    Some(PacketFront {
+        total: frame.total,
+        packet,
+    })
 }

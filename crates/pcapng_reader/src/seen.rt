@@ -16,6 +16,17 @@ pub struct Block<'b> {
     pub content: Content,
 }
 
+/// A whole enhanced packet block, without what it says of its interface and its time.
+#[derive(Clone, Copy, Debug)]
+pub struct Skimmed<'b> {
+    /// Its bytes, from its type to the total length at its end.
+    pub block: &'b [u8],
+    /// The captured bytes of its packet.
+    pub bytes: &'b [u8],
+    /// The packet's length in bytes when it was seen.
+    pub original: u32,
+}
+
 impl<'b> Block<'b> {
     /// The packet of the block, if it has one: what the block says of it, and its captured bytes.
     pub fn packet(&self) -> Option<(PacketEntry, &'b [u8])>

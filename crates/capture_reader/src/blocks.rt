@@ -1,0 +1,108 @@
+//! Captures in pcapng that come in pieces, entry by entry.
+
+ghost use Rattle.std.specs.Prelude.{◌≡◌, ◌<◌, [], Some, None, length, IfOk, IfErr, IsSome, MatchOption};
+ghost use Rattle.pcapng_reader.specs.Held.{held_block, held_fault};
+ghost use Rattle.capture_reader.specs.Entries.{block_entry, block_info, time_of};
+ghost use Rattle.capture_reader.specs.Holding.{HoldsPcapng, StopsPcapng, entry_of};
+ghost use Rattle.capture_reader.specs.Steps.{AdvancesBy, IsShorter, seen_item};
+
+use crate::entry::{Entry, Found, Item, PacketInfo, PacketTime};
+use pcapng_reader::{Block, BlockFeed, CaptureFault, Content, PacketEntry, Step, Time};
+use std::alloc::Global;
+
+/// A feed that was given the first bytes of a capture, fewer than a block has.
+pub(crate) fn begun(alloc: Global, first: &[u8]) -> Result<BlockFeed, CaptureFault>
+    requires { length first.now < 12 }
+    ensures holds { IfOk result (λ feed. HoldsPcapng feed [] first.now) }
+    ensures stops { IfErr result (StopsPcapng [] first.now) }
+{
+    let mut feed = BlockFeed::new(alloc);
+    let mut rest = first;
+    while !rest.is_empty() {
+        feed.next(&mut rest)?;
+    }
+    Ok(feed)
+}
+
+/// Takes bytes off the front of `rest`, up to the end of a block at most, and says what they are.
+pub(crate) fn next_block<'b>(
+    feed: &mut BlockFeed,
+    rest: &mut &'b [u8],
+) -> Result<Found<'b>, CaptureFault>
+    ensures advances { AdvancesBy (HoldsPcapng feed.old) (HoldsPcapng feed.new) StopsPcapng (entry_of (held_block feed.new)) rest.old.now rest.new.now result }
+    ensures shorter { IfOk result (λ _. IsShorter rest.old.now rest.new.now) }
+{
+    match feed.next(rest)? {
+        Step::Block(block) => Ok(found(item_of(block))),
+        Step::Held => Ok(held(feed)),
+        Step::Passed | Step::More => Ok(Found::Nothing),
+    }
+}
+
+/// An item that was seen, if there is one.
+fn found<'b>(item: Option<Item<'b>>) -> Found<'b>
+    ensures { MatchOption item.entry (result ≡ Found.Nothing) (λ i. result ≡ Found.Item i) }
+{
+    match item {
+        Some(item) => Found::Item(item),
+        None => Found::Nothing,
+    }
+}
+
+/// Whether the block that a feed holds has an entry.
+fn held<'b>(feed: &BlockFeed) -> Found<'b>
+    ensures held { IsSome (entry_of (held_block feed.now)) → result ≡ Found.Held }
+    ensures nothing { entry_of (held_block feed.now) ≡ None → result ≡ Found.Nothing }
+{
+    match feed.held() {
+        Some(block) if item_of(block).is_some() => Found::Held,
+        _ => Found::Nothing,
+    }
+}
+
+/// What a block says, and the captured bytes of its packet, if it is looked at.
+pub(crate) fn item_of<'b>(block: Block<'b>) -> Option<Item<'b>>
+    ensures { MatchOption result (block_entry block.entry.content block.entry.bytes.now ≡ None) (λ item. block_entry block.entry.content block.entry.bytes.now ≡ Some (seen_item item)) }
+{
+    match block.content {
+        Content::Section(header) => Some(Item {
+            entry: Entry::Section(header),
+            bytes: &[],
+        }),
+        Content::Interface(described) => Some(Item {
+            entry: Entry::Interface(described),
+            bytes: &[],
+        }),
+        Content::Packet(_) => {
+            let (entry, bytes) = block.packet()?;
+            Some(Item {
+                entry: Entry::Packet(info_of(entry)),
+                bytes,
+            })
+        }
+        Content::Other => None,
+    }
+}
+
+/// What a block says of its packet.
+fn info_of(entry: PacketEntry) -> PacketInfo
+    ensures { result ≡ block_info entry }
+{
+    PacketInfo {
+        section: entry.section,
+        interface: entry.interface,
+        link: u32::from(entry.link),
+        time: time_of(entry.time),
+        original: entry.original,
+    }
+}
+
+/// When the packet of a block was seen.
+fn time_of(time: Option<Time>) -> PacketTime
+    ensures { result ≡ time_of time }
+{
+    match time {
+        Some(time) => PacketTime::Units(time),
+        None => PacketTime::Unknown,
+    }
+}

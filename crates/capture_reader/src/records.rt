@@ -1,0 +1,252 @@
+//! Savefiles that come in pieces, record by record.
+
+ghost use Rattle.std.specs.Prelude.{◌≡◌, ◌≤◌, ◌<◌, ◌^◌, length};
+ghost use Rattle.pcap_reader.specs.Savefile.{number};
+ghost use Rattle.capture_reader.specs.Recording.{IsNext, IsWanted};
+ghost use Rattle.capture_reader.specs.Entries.{record_info};
+
+use crate::entry::{Entry, Found, Item, PacketInfo, PacketTime};
+use crate::header::{FILE_HEADER, header_of};
+use byteorder::{BigEndian, ByteOrder, LittleEndian};
+use pcap_reader::{CaptureFault, Header};
+use std::alloc::Global;
+
+/// The length of a record's header.
+const RECORD_HEADER: usize = 16;
+
+/// The most captured bytes of a record.
+const MOST_CAPTURED: u32 = 262_144;
+
+/// A savefile that comes in pieces, cut anywhere, and is taken record by record.
+#[derive(Drop)]
+pub struct RecordFeed {
+    alloc: Global,
+    header: Option<Header>,
+    /// Where the next record begins, once there is a header.
+    offset: u64,
+    /// The bytes of the file's header or of a record that isn't whole yet, or of the record that is held.
+    part: Vec<u8>,
+    /// What the record that is held says of its packet, if one is.
+    held: Option<PacketInfo>,
+}
+
+/// What bytes begin with.
+#[derive(Clone, Copy, Debug)]
+pub enum NextRecord {
+    /// A whole record of so many bytes.
+    Whole(usize),
+    /// A part of a record, or nothing.
+    Part,
+    /// The header of a record that is too long.
+    TooLong,
+}
+
+impl RecordFeed {
+    ghost use Rattle.std.specs.Prelude.{◌≡◌, ◌≢◌, ◌<◌, ◌≤◌, ◌^◌, ◌++◌, [], ℕ, List, Option, Some, None, length, IfOk, IfErr, OnOk, MatchOption};
+    ghost use Rattle.capture_reader.specs.Entries.{EntryBytes};
+    ghost use Rattle.capture_reader.specs.Recording.{EndsRecords, HasGrown, HoldsRecords, IsApart, Looks, StopsRecords, held_record, open_part};
+    ghost use Rattle.capture_reader.specs.Steps.{Adds, AdvancesBy, IsShorter, seen_item};
+
+    /// A feed that was given the first bytes of a savefile, fewer than its header has.
+    pub fn begun(alloc: Global, first: &[u8]) -> Result<RecordFeed, CaptureFault>
+        requires { length first.now < FILE_HEADER }
+        ensures holds { IfOk result (λ feed. HoldsRecords feed [] first.now) }
+        ensures stops { IfErr result (StopsRecords [] first.now) }
+    {
+        let _ = header_of(alloc, first)?;
+        Ok(RecordFeed {
+            alloc,
+            header: None,
+            offset: FILE_HEADER as u64,
+            part: Vec::from_slice(alloc, first)?,
+            held: None,
+        })
+    }
+
+    /// Takes bytes off the front of `rest`, up to the end of the header or of a record at most, and says what they are.
+    pub fn next<'b>(&mut self, rest: &mut &'b [u8]) -> Result<Found<'b>, CaptureFault>
+        ensures advances { AdvancesBy (HoldsRecords self.old) (HoldsRecords self.new) StopsRecords (held_record self.new) rest.old.now rest.new.now result }
+        ensures shorter { IfOk result (λ _. IsShorter rest.old.now rest.new.now) }
+    {
+        self.let_go();
+        match self.header {
+            None => self.begin(rest),
+            Some(header) if self.part.is_empty() => self.take(header, rest),
+            Some(header) => self.fill(header, rest),
+        }
+    }
+
+    /// The record that is held, after `Found::Held`.
+    pub fn held(&self) -> Option<Item<'_>>
+        ensures { MatchOption result (held_record self.now ≡ None) (λ item. held_record self.now ≡ Some (seen_item item)) }
+    {
+        let info = self.held?;
+        let part = self.part.as_slice();
+        Some(Item {
+            entry: Entry::Packet(info),
+            bytes: &part[part.len().min(RECORD_HEADER)..],
+        })
+    }
+
+    /// How the savefile ends if nothing follows: well, or with its fault.
+    pub fn ending(&self) -> Result<(), CaptureFault>
+        ensures { (given : List EntryBytes) (fed : List ℕ) → HoldsRecords self.now given fed → EndsRecords given fed result }
+    {
+        match (self.header, self.held) {
+            (None, _) => Err(CaptureFault::TruncatedHeader),
+            (Some(_), Some(_)) => Ok(()),
+            (Some(_), None) if self.part.is_empty() => Ok(()),
+            (Some(_), None) => Err(CaptureFault::TruncatedRecord(self.offset)),
+        }
+    }
+
+    /// Lets the record go that is held.
+    fn let_go(&mut self)
+        ensures { (self.new.held ≡ None) × (self.new.part.items ≡ open_part self.old.held self.old.part.items) × (self.new.header ≡ self.old.header) × (self.new.offset ≡ self.old.offset) }
+    {
+        if self.held.is_some() {
+            self.held = None;
+            self.part.clear();
+        }
+    }
+
+    /// Takes bytes of the file's header.
+    fn begin<'b>(&mut self, rest: &mut &'b [u8]) -> Result<Found<'b>, CaptureFault>
+        requires { (self.old.held ≡ None) × (self.old.header ≡ None) }
+        ensures advances { AdvancesBy (HoldsRecords self.old) (HoldsRecords self.new) StopsRecords (held_record self.new) rest.old.now rest.new.now result }
+        ensures shorter { IfOk result (λ _. IsShorter rest.old.now rest.new.now) }
+    {
+        let bytes = *rest;
+        let count = FILE_HEADER
+            .saturating_sub(self.part.len())
+            .max(1)
+            .min(bytes.len());
+        self.part.extend_from_slice(&bytes[..count])?;
+        *rest = &bytes[count..];
+        let front = self.part.len().min(FILE_HEADER);
+        match header_of(self.alloc, &self.part[..front])? {
+            None => Ok(Found::Nothing),
+            Some(header) => {
+                self.header = Some(header);
+                self.part.clear();
+                Ok(Found::Item(Item {
+                    entry: Entry::Savefile(header),
+                    bytes: &[],
+                }))
+            }
+        }
+    }
+
+    /// Takes the record that some bytes begin with, or the part of one.
+    fn take<'b>(&mut self, header: Header, rest: &mut &'b [u8]) -> Result<Found<'b>, CaptureFault>
+        requires between { (self.old.held ≡ None) × (self.old.header ≡ Some header) × (self.old.part.items ≡ []) }
+        ensures advances { AdvancesBy (HoldsRecords self.old) (HoldsRecords self.new) StopsRecords (held_record self.new) rest.old.now rest.new.now result }
+        ensures shorter { IfOk result (λ _. IsShorter rest.old.now rest.new.now) }
+    {
+        let bytes = *rest;
+        match next_record(header.big, bytes) {
+            NextRecord::Whole(length) => {
+                let (whole, more) = bytes.split_at(length);
+                *rest = more;
+                self.offset = self.offset.saturating_add(length as u64);
+                Ok(Found::Item(Item {
+                    entry: Entry::Packet(info_of(header, whole)),
+                    bytes: &whole[RECORD_HEADER..],
+                }))
+            }
+            NextRecord::Part => self.fill(header, rest),
+            NextRecord::TooLong => Err(CaptureFault::TooLong(self.offset)),
+        }
+    }
+
+    /// Takes bytes that a record lacks that isn't whole yet.
+    fn fill<'b>(&mut self, header: Header, rest: &mut &'b [u8]) -> Result<Found<'b>, CaptureFault>
+        requires between { (self.old.held ≡ None) × (self.old.header ≡ Some header) }
+        ensures advances { AdvancesBy (HoldsRecords self.old) (HoldsRecords self.new) StopsRecords (held_record self.new) rest.old.now rest.new.now result }
+        ensures shorter { IfOk result (λ _. IsShorter rest.old.now rest.new.now) }
+    {
+        let bytes = *rest;
+        let count = wanted(header.big, self.part.as_slice())
+            .max(1)
+            .min(bytes.len());
+        self.part.extend_from_slice(&bytes[..count])?;
+        *rest = &bytes[count..];
+        self.look(header)
+    }
+
+    /// Looks at a part that has grown.
+    fn look<'b>(&mut self, header: Header) -> Result<Found<'b>, CaptureFault>
+        requires between { (self.old.held ≡ None) × (self.old.header ≡ Some header) }
+        ensures looks { (given : List EntryBytes) (fed : List ℕ) → HasGrown given fed header self.old → length fed < 2 ^ 64 → Looks given fed self.new result }
+        ensures apart { IfOk result IsApart }
+    {
+        match next_record(header.big, self.part.as_slice()) {
+            NextRecord::Whole(length) => {
+                self.offset = self.offset.saturating_add(length as u64);
+                self.held = Some(info_of(header, self.part.as_slice()));
+                Ok(Found::Held)
+            }
+            NextRecord::Part => Ok(Found::Nothing),
+            NextRecord::TooLong => Err(CaptureFault::TooLong(self.offset)),
+        }
+    }
+}
+
+/// What bytes begin with that follow a header or a record.
+fn next_record(big: bool, bytes: &[u8]) -> NextRecord
+    ensures { IsNext big bytes.now result }
+{
+    if bytes.len() < RECORD_HEADER {
+        return NextRecord::Part;
+    }
+    let captured = word_at(big, &bytes[8..]);
+    if captured > MOST_CAPTURED {
+        return NextRecord::TooLong;
+    }
+    let length = RECORD_HEADER + captured as usize;
+    if bytes.len() < length {
+        return NextRecord::Part;
+    }
+    NextRecord::Whole(length)
+}
+
+/// How many bytes a part lacks to be looked at again.
+fn wanted(big: bool, part: &[u8]) -> usize
+    requires { length part.now < 2 ^ 63 }
+    ensures { IsWanted big part.now result }
+{
+    if part.len() < RECORD_HEADER {
+        return RECORD_HEADER - part.len();
+    }
+    (RECORD_HEADER + word_at(big, &part[8..]) as usize).saturating_sub(part.len())
+}
+
+/// What the header of a record says of its packet.
+fn info_of(header: Header, bytes: &[u8]) -> PacketInfo
+    requires { 16 ≤ length bytes.now }
+    ensures { result ≡ record_info header bytes.now }
+{
+    PacketInfo {
+        section: 0,
+        interface: 0,
+        link: header.network,
+        time: PacketTime::Seconds {
+            seconds: word_at(header.big, bytes),
+            fraction: word_at(header.big, &bytes[4..]),
+            nano: header.nano,
+        },
+        original: word_at(header.big, &bytes[12..]),
+    }
+}
+
+/// The number in the first four bytes.
+fn word_at(big: bool, bytes: &[u8]) -> u32
+    requires { 4 ≤ length bytes.now }
+    ensures { result ≡ number big 4 bytes.now }
+{
+    if big {
+        BigEndian::read_u32(bytes)
+    } else {
+        LittleEndian::read_u32(bytes)
+    }
+}
