@@ -31,12 +31,11 @@ empty packet. For each packet one line is printed:
 the number of bytes that the filter keeps (0: not accepted) and the number of instructions that ran. At the first line
 that is no packet, `line N: BadHex` is printed and the command ends with status 1.
 
-With --pcap the input is a capture: a classic pcap savefile, version 2.4, of either byte order, with micro- or
-nanoseconds. The packets before a fault of the capture are run, then `fault NAME` is printed, with the fault's place in the
-file where it has one, and the status is 1.
+With --pcap the input is a capture: a pcap savefile or pcapng, of either byte order. The packets before a fault of the
+capture are run, then `fault NAME` is printed, with the fault's place in the file where it has one, and the status is 1.
 
 With --number each line begins with its packet's number and a blank, and with --pcap the packet's time stamp and a blank come
-next: the seconds since 1970, and micro- or nanoseconds after a point, as the file has them. --count prints `N of M` at the end
+next: the seconds since 1970, and micro- or nanoseconds after a point, or `-` where it has none. --count prints `N of M` at the end
 in place of the lines: so many packets were accepted, of so many that were run; --quiet prints nothing and ends at the first
 packet that is accepted, with status 0. Where none is, its status is 4, or 1 for a refused CODE or input.
 
@@ -97,7 +96,8 @@ docs/messages.md has the meaning and the cure of each word that is printed:
   after `code`     BadNumber CountMismatch TooLong
   after `refused`  Ancillary BadCode BadShift BadWord Empty JumpOut NoReturn Unwritten ZeroDivisor
   after `line N:`  BadHex
-  after `fault`    BadMagic BadVersion InputTooLong TooLong TruncatedHeader TruncatedRecord";
+  after `fault`    BadByteOrder BadCaptured BadLength BadMagic BadVersion InputTooLong LengthNotRepeated NoInterface
+                   TooLong TooManyInterfaces Truncated TruncatedHeader TruncatedRecord";
 
 pub(crate) const CODE_HELP: &str =
     "The filter in decimal text: the number of instructions, then CODE JT JF K for each, parted by commas or newlines";
@@ -133,12 +133,11 @@ pub(crate) const KEEP_DETAILS: &str = "\
 Copy the capture in FILE, or on standard input, to standard output, but of its packets only those that the filter accepts:
 with a verdict above 0. With --not it copies those that the filter doesn't accept.
 
-All else stays as it is, byte for byte and in order: the file's header, and of each packet that is kept its time stamp, its
-two lengths and its bytes. A filter that accepts every packet gives the capture itself.
+All else stays as it is, byte for byte and in order: of a pcap savefile its header and the records that are kept, of pcapng
+each block that is no packet or whose packet is kept. A filter that accepts every packet gives the capture itself.
 
-The capture is a classic pcap savefile, version 2.4, of either byte order, with micro- or nanoseconds. It may be of any length
-and come over any time: each packet is written as soon as it is whole and what has been read is handled, and it takes memory
-for the longest packet only.
+The capture may be of any length and come over any time: each packet is written as soon as it is whole and what has been
+read is handled, and it takes memory for the longest packet or block only.
 
 Standard output is a capture, so each line about what is wrong is on standard error. What was whole before a fault of the
 capture is written, then `fault NAME` is printed, with the fault's place in the file where it has one, and the status is 1.
@@ -161,7 +160,8 @@ memory, a FILE that can't be opened or a device that failed, with one line on st
 docs/messages.md has the meaning and the cure of each word that is printed:
   after `code`     BadNumber CountMismatch TooLong
   after `refused`  Ancillary BadCode BadShift BadWord Empty JumpOut NoReturn Unwritten ZeroDivisor
-  after `fault`    BadMagic BadVersion TooLong TruncatedHeader TruncatedRecord";
+  after `fault`    BadByteOrder BadCaptured BadLength BadMagic BadVersion LengthNotRepeated NoInterface TooLong
+                   TooManyInterfaces Truncated TruncatedHeader TruncatedRecord";
 
 pub(crate) const NOT_HELP: &str = "Keep the packets that the filter doesn't accept";
 
@@ -227,11 +227,13 @@ pub(crate) const DUMP_ABOUT: &str = "Print the header and the packets of a captu
 pub(crate) const DUMP_DETAILS: &str = "\
 Print the header and the packets of the capture in FILE, or on standard input.
 
-A capture is a classic pcap savefile, version 2.4, of either byte order, with micro- or nanoseconds. Its header and each
-packet are a line, and a fault, if there is one, is the last line, with status 1:
+A capture is a pcap savefile, version 2.4, or pcapng, of either byte order. The header of a savefile, each section and
+interface of pcapng and each packet are a line, and a fault, if there is one, is the last line, with status 1:
 
     pcap little|big micro|nano snaplen N network N
-    N captured C original O HEX
+    pcapng little|big version 1.N
+    interface N snaplen N network N resolution 10^-N|2^-N offset N
+    N [interface I] captured C original O HEX
     fault NAME [PLACE]
 
 A packet's HEX is what `match` reads; it is `-` where no bytes were captured. A capture of more than 64 MiB prints
@@ -246,7 +248,8 @@ Exit status: 0 done; 1 a refused capture, whose line is on standard output; 2 a 
 or a device that failed, with one line on standard error.
 
 docs/messages.md has the meaning and the cure of each word that is printed:
-  after `fault`  BadMagic BadVersion InputTooLong TooLong TruncatedHeader TruncatedRecord";
+  after `fault`  BadByteOrder BadCaptured BadLength BadMagic BadVersion InputTooLong LengthNotRepeated NoInterface
+                 TooLong TooManyInterfaces Truncated TruncatedHeader TruncatedRecord";
 
 pub(crate) const SIM_ABOUT: &str = "Run a script on the model of the cores";
 
@@ -257,23 +260,28 @@ A script says how many cores there are, which filters and packets, what domains 
 taken and packets received. FILEs are captures: `capture NAME N` in the script is the N-th, from 1. They are opened in order,
 before the script is read. A line of a script that is empty, or whose first word begins with `#`, is skipped.
 
-    cores B0 B1 ..                  1 to 8 cores, each with a budget of instructions; the first line
-    asm NAME .. end, ddd NAME TEXT  a filter
-    packet NAME HEX [ORIGINAL]      a packet; HEX is `-` for no bytes
-    capture NAME N                  the packets of a FILE
-    home D C                        requests of domain D enter at core C, not at core 0
+    cores B0 B1 ..        1 to 8 cores, each with its budget; the first line
+    asm NAME .. end,
+    ddd NAME TEXT         a filter
+    packet NAME HEX [N]   a packet, of N bytes before it was cut; HEX is `-`
+                          for no bytes
+    capture NAME N        the packets of a FILE
+    home D C              requests of domain D enter at core C, not at core 0
     create D E, mint D CAP TO r|m|rm, revoke D CAP, drop D CAP,
     install D CAP NAME, remove D FILTER, replace D FILTER NAME
-                                    a request
-    start                           begin the first request that entered at core 0
-    submit C, startfor C            send core 0 the first request that entered at core C, and begin it there
-    take TO FROM [short]            take the oldest message (short: out of memory meanwhile)
-    rx CORE NAME [FLOOR]            receive a packet; NAME is a packet's, or `C.I` for packet I, from 1, of capture C
-    replay NAME [FLOOR]             receive the packets of a capture, at the cores by turns
-    settle                          take every message, and begin every request
-    show CORE                       print a core's table
-    trace                           events follow as `sim` prints them, and are done again; before it are only names,
-                                    requests, and rx and replay, whose packets the events `rx CORE N:` name
+                          a request
+    start                 begin the first request that entered at core 0
+    submit C              send core 0 the first one that entered at core C
+    startfor C            begin it there
+    take TO FROM [short]  take the oldest message (short: out of memory)
+    rx CORE NAME [FLOOR]  receive a packet; `C.I` is packet I, from 1, of
+                          capture C
+    replay NAME [FLOOR]   receive the packets of a capture, core by core
+    settle                take every message, and begin every request
+    show CORE             print a core's table
+    trace                 events follow as `sim` prints them, and are done
+                          again; before it are only names, requests, and rx
+                          and replay, whose packets the events name
 
 A request that is not allowed prints `refused NAME` and leaves the tables as they are; an event that can't be done prints
 `fault NAME` and changes nothing. The status is 0 then too.

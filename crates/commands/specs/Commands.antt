@@ -1,5 +1,5 @@
 -- What the program shows for each request: the text and the status of the engine of its command.
-use Rattle.std.specs.Prelude.{◌≡◌, ◌⊎◌, ⊤, ℕ, Bool, true, false, List, [], Option}
+use Rattle.std.specs.Prelude.{◌≡◌, ◌⊎◌, ⊤, ℕ, Bool, true, false, List, [], Option, None}
 use Rattle.std.specs.Io.KnownBytes.{IsAtEnd}
 use Rattle.command_line.specs.declared.request.Request.{Request}
 use Rattle.command_line.specs.declared.request.Request.TheVariants.{Match, View as Viewed, Explain, Keep, Check, Graph, Dump, Sim, Run, Draw}
@@ -14,6 +14,8 @@ use Rattle.console.specs.Reading.{IsInput}
 use Rattle.console.specs.Streaming.{StreamShows}
 use Rattle.console.specs.Views.{IsFound, ShowsViewCode, ViewShows}
 use Rattle.console.specs.declared.source.Source.{Source}
+use Rattle.console.specs.declared.form.PacketForm.{PacketForm}
+use Rattle.console.specs.declared.form.PacketForm.TheVariants.{Digits, Capture}
 use Rattle.console.specs.declared.view.View.{View as Shown}
 use Rattle.console.specs.declared.view.View.TheVariants as shown
 use Rattle.console.specs.declared.input.TheConstants.{INPUT_READS}
@@ -29,13 +31,18 @@ use Rattle.run_engine.specs.declared.engine.RunFailure.TheVariants.{Engine}
 use Rattle.script_input.specs.Inputs.{AreScriptInputs}
 use Rattle.sim_engine.specs.Showing.{ShowsSim}
 
+-- what the packets of an input are
+abbrev pub form_of : Bool → PacketForm
+form_of false = Digits
+form_of true = Capture None
+
 -- `match`, and `match --stream`, which reads to the end unless it stops at a fault: by what was got of the source
 abbrev pub ShowsMatch : {R : Type 0} → List ℕ → Bool → Bool → (R → Option (List ℕ)) → Source R → Source R → ℕ → List ℕ → Type 0
 ShowsMatch code pcap false remaining old new status text =
-    (ShowsBadCode code text × (status ≡ 1)) ⊎ ((input : List ℕ) × IsInput remaining old new input × ShowsGoodCode code pcap input status text)
+    (ShowsBadCode code text × (status ≡ 1)) ⊎ ((input : List ℕ) × IsInput remaining old new input × ShowsGoodCode code (form_of pcap) input status text)
 ShowsMatch code pcap true remaining old new status text =
     (ShowsBadCode code text × (status ≡ 1))
-    ⊎ ((input : List ℕ) × Gets remaining old new input × StreamShows code pcap input status text × (IsAtEnd (remaining new.inner) ⊎ (status ≡ 1)))
+    ⊎ ((input : List ℕ) × Gets remaining old new input × StreamShows code (form_of pcap) input status text × (IsAtEnd (remaining new.inner) ⊎ (status ≡ 1)))
 
 -- the view of the engine
 abbrev pub shown_as : View → Shown
@@ -47,7 +54,7 @@ shown_as asked.Quiet = shown.Quiet
 abbrev pub ShowsViewed : {R : Type 0} → Shown → List ℕ → Bool → (R → Option (List ℕ)) → Source R → Source R → ℕ → List ℕ → Type 0
 ShowsViewed view code pcap remaining old new status text =
     (ShowsViewCode view code text × (status ≡ 1))
-    ⊎ ((input : List ℕ) × Gets remaining old new input × ViewShows view code pcap input status text × (IsAtEnd (remaining new.inner) ⊎ (status ≡ 1) ⊎ IsFound view status))
+    ⊎ ((input : List ℕ) × Gets remaining old new input × ViewShows view code (form_of pcap) input status text × (IsAtEnd (remaining new.inner) ⊎ (status ≡ 1) ⊎ IsFound view status))
 
 -- `match --explain`
 abbrev pub ShowsExplain : {R : Type 0} → List ℕ → (R → Option (List ℕ)) → Source R → Source R → ℕ → List ℕ → Type 0
@@ -67,7 +74,7 @@ ShowsText (Viewed code pcap view) remaining old new status text = ShowsViewed (s
 ShowsText (Explain code) remaining old new status text = ShowsExplain code.now remaining old new status text
 ShowsText (Check asm) remaining old new status text = (input : List ℕ) × IsInput remaining old new input × ShowsCheck asm input status text
 ShowsText Graph remaining old new status text = (input : List ℕ) × IsInput remaining old new input × ShowsGraph input status text
-ShowsText Dump remaining old new status text = (input : List ℕ) × IsInput remaining old new input × ShowsDump input status text
+ShowsText Dump remaining old new status text = (input : List ℕ) × IsInput remaining old new input × ShowsDump None input status text
 ShowsText (Draw plain) remaining old new status text = (input : List ℕ) × IsInput remaining old new input × ShowsDraw plain input status text
 ShowsText (Keep code inverted) remaining old new status text = ⊥
 ShowsText (Sim files) remaining old new status text = ⊥

@@ -4,12 +4,12 @@ ghost use Rattle.std.specs.Prelude.{◌≡◌, ◌⊎◌, ◌++◌, ℕ, List, [
 ghost use Rattle.console.specs.Devices.{EndsEarly, IsFresh, Writes};
 ghost use Rattle.run_engine.specs.Failing.{RunEndsEarly};
 ghost use Rattle.script_input.specs.Inputs.{AllFresh, AreReadInOrder};
-ghost use Rattle.commands.specs.Commands.{IsFailure, Shows, ShowsAlone, ShowsMatch, is_stream, reads_at, reads_of, shown_as, takes_captures};
+ghost use Rattle.commands.specs.Commands.{IsFailure, Shows, ShowsAlone, ShowsMatch, form_of, is_stream, reads_at, reads_of, shown_as, takes_captures};
 
 use command_line::{Request, View};
 use console::{
-    EngineFault, INPUT_READS, STREAM_READS, Sink, Source, run_check, run_dump, run_match,
-    run_stream, run_view,
+    EngineFault, INPUT_READS, PacketForm, STREAM_READS, Sink, Source, run_check, run_dump,
+    run_match, run_stream, run_view,
 };
 use core_threads::Gate;
 use draw_engine::run_draw;
@@ -94,7 +94,14 @@ fn perform_alone<R: Read, W: Write>(
             perform_match(alloc, code, *pcap, *stream, reader, writer)
         }
         Request::View { code, pcap, view } => {
-            run_view(alloc, code.as_bytes(), *pcap, shown(*view), reader, writer)
+            run_view(
+                alloc,
+                code.as_bytes(),
+                form(*pcap),
+                shown(*view),
+                reader,
+                writer,
+            )
         }
         Request::Keep { code, inverted } => run_keep(
             alloc,
@@ -107,7 +114,7 @@ fn perform_alone<R: Read, W: Write>(
         Request::Explain { code } => run_explain(alloc, code.as_bytes(), reader, writer),
         Request::Check { asm } => run_check(alloc, *asm, reader, writer),
         Request::Graph => run_graph(alloc, reader, writer),
-        Request::Dump => run_dump(alloc, reader, writer),
+        Request::Dump => run_dump(alloc, None, reader, writer),
         Request::Draw { text } => run_draw(alloc, *text, reader, writer),
         Request::Sim { .. } | Request::Run { .. } => Err(EngineFault::NoMemory),
     }
@@ -121,6 +128,17 @@ fn shown(view: View) -> console::View
         View::Numbers => console::View::Numbers,
         View::Count => console::View::Count,
         View::Quiet => console::View::Quiet,
+    }
+}
+
+/// What the packets of an input are.
+fn form(pcap: bool) -> PacketForm
+    ensures { result ≡ form_of pcap }
+{
+    if pcap {
+        PacketForm::Capture(None)
+    } else {
+        PacketForm::Digits
     }
 }
 
@@ -141,8 +159,8 @@ fn perform_match<R: Read, W: Write>(
     ensures silent { IsErrOf result EngineFault.ReadFailed → stream ≡ false → writer.new ≡ writer.old }
 {
     if stream {
-        run_stream(alloc, code.as_bytes(), pcap, reader, writer)
+        run_stream(alloc, code.as_bytes(), form(pcap), reader, writer)
     } else {
-        run_match(alloc, code.as_bytes(), pcap, reader, writer)
+        run_match(alloc, code.as_bytes(), form(pcap), reader, writer)
     }
 }

@@ -2,7 +2,6 @@ pub mod KnownBytesLemmas
 pub mod DeviceLemmas
 pub mod LineLemmas
 pub mod LineFeedLemmas
-pub mod StampLemmas
 pub mod ViewLemmas
 pub mod StreamingLemmas
 pub mod StreamLemmas

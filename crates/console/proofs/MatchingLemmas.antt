@@ -1,5 +1,5 @@
 -- What `match` has shown after some of its lines.
-use Rattle.std.proofs.Common.{Result, Ok, Err, IfOk, ◌⊎◌, Bool, ◌≡◌, ℕ, ◌+◌, List, [], ◌∷◌, ◌++◌, ◌<◌, length, Option, Some, None, refl, ap, sym, ◌∙◌, append_assoc, arith, length-append, inl, inr, IsErr, flat_map}
+use Rattle.std.proofs.Common.{Result, Ok, Err, IfOk, ◌⊎◌, ◌≡◌, ℕ, ◌+◌, List, [], ◌∷◌, ◌++◌, ◌<◌, length, Option, Some, None, refl, ap, sym, ◌∙◌, append_assoc, arith, length-append, inl, inr, IsErr, flat_map}
 use Rattle.std.specs.List.{AllZip}
 use Rattle.std.specs.Io.KnownBytes.{Consumes, IsAtEnd}
 use Rattle.std.proofs.lemmas.List.{append-nil}
@@ -13,9 +13,11 @@ use Rattle.console.specs.Code.{IsGoodCode, ShowsBadCode}
 use Rattle.console.specs.declared.input.TheConstants.{INPUT_BYTES}
 use Rattle.console.specs.declared.source.Source.{Source}
 use Rattle.console.specs.declared.sink.Sink.{Sink}
+use Rattle.console.specs.declared.form.PacketForm.{PacketForm}
 use Rattle.console.specs.Devices.{Gets, Writes}
 use Rattle.console.specs.Reading.{BeginsWith, GotTooMany, IsInput, IsKnown, too_long_line}
-use Rattle.console.specs.Matching.{Answers, ShowsLines, ShowsGoodCode, ShowsInput, ShowsPart, ShowsRead, outcome_line, bad_line}
+use Rattle.console.specs.declared.form.PacketForm.TheVariants.{Capture}
+use Rattle.console.specs.Matching.{Answers, ShowsBytes, ShowsLines, ShowsPackets, ShowsGoodCode, ShowsInput, ShowsPart, ShowsRead, outcome_line, bad_line}
 use Rattle.console.proofs.WholeLemmas.{packets_front}
 use Rattle.console.proofs.KnownBytesLemmas.{writes-then, writes-nothing}
 use Rattle.pcap_reader.proofs.FeedLemmas.{AllZip-push}
@@ -139,28 +141,35 @@ pub whole_input : {R : Type 0} {remaining : R → Option (List ℕ)} (old new : 
 whole_input old new held got end = (known_whole _ _ held got.lost end, (held, got, inl refl))
 
 -- what is shown of a good code is what is shown of its program
-pub shown_of : (r : Result ℕ EngineFault) (code : List ℕ) (program : List Insn) (pcap : Bool) {R W : Type 0} (remaining : R → Option (List ℕ)) (contents : W → Option (List ℕ)) (known lost : Source R) (old new : Sink W) → IsGoodCode code program
-    → IfOk r (λ status. (text : List ℕ) × Writes contents old new text × ((input : List ℕ) × IsInput remaining known lost input × ShowsInput program pcap input status text))
+pub shown_of : (r : Result ℕ EngineFault) (code : List ℕ) (program : List Insn) (form : PacketForm) {R W : Type 0} (remaining : R → Option (List ℕ)) (contents : W → Option (List ℕ)) (known lost : Source R) (old new : Sink W) → IsGoodCode code program
+    → IfOk r (λ status. (text : List ℕ) × Writes contents old new text × ((input : List ℕ) × IsInput remaining known lost input × ShowsInput program form input status text))
     → IfOk r (λ status. (text : List ℕ) × Writes contents old new text
-    × ((ShowsBadCode code text × (status ≡ 1)) ⊎ ((input : List ℕ) × IsInput remaining known lost input × ShowsGoodCode code pcap input status text)))
-shown_of (Ok status) code program pcap remaining contents known lost old new good s = (s.0, s.1, inr (s.2.0, s.2.1, (program, good, s.2.2)))
-shown_of (Err fault) code program pcap remaining contents known lost old new good s = tt
+    × ((ShowsBadCode code text × (status ≡ 1)) ⊎ ((input : List ℕ) × IsInput remaining known lost input × ShowsGoodCode code form input status text)))
+shown_of (Ok status) code program form remaining contents known lost old new good s = (s.0, s.1, inr (s.2.0, s.2.1, (program, good, s.2.2)))
+shown_of (Err fault) code program form remaining contents known lost old new good s = tt
 
-part_by : (code : List ℕ) (program : List Insn) (pcap : Bool) {R : Type 0} {remaining : R → Option (List ℕ)} (known left : Source R) (text : List ℕ) → IsGoodCode code program → ShowsRead program pcap remaining known left text
-    → ShowsPart code pcap remaining known left text
-part_by code program pcap known left text good (inl nothing) = inl nothing
-part_by code program pcap known left text good (inr read) = inr (record {
+part_by : (code : List ℕ) (program : List Insn) (form : PacketForm) {R : Type 0} {remaining : R → Option (List ℕ)} (known left : Source R) (text : List ℕ) → IsGoodCode code program → ShowsRead program form remaining known left text
+    → ShowsPart code form remaining known left text
+part_by code program form known left text good (inl nothing) = inl nothing
+part_by code program form known left text good (inr read) = inr (record {
   program = program;
   good = good;
   input = read.0;
   got = read.1;
   is = read.2;
   short = read.3;
-  front = packets_front program good.1 pcap read.0 text read.4;
+  front = packets_front program good.1 form read.0 text read.4;
   packets = read.4;
 })
 
-pub part_of : (r : Result ℕ EngineFault) (code : List ℕ) (program : List Insn) (pcap : Bool) {R W : Type 0} {remaining : R → Option (List ℕ)} {contents : W → Option (List ℕ)} (known left : Source R) (old new : Sink W) → IsGoodCode code program
-    → (IsErrOf r NoMemory → (text : List ℕ) × ShowsRead program pcap remaining known left text × Writes contents old new text)
-    → IsErrOf r NoMemory → (text : List ℕ) × ShowsPart code pcap remaining known left text × Writes contents old new text
-part_of r code program pcap known left old new good part = λ memory. let p = part memory in (p.0, part_by code program pcap known left p.0 good p.1, p.2)
+pub part_of : (r : Result ℕ EngineFault) (code : List ℕ) (program : List Insn) (form : PacketForm) {R W : Type 0} {remaining : R → Option (List ℕ)} {contents : W → Option (List ℕ)} (known left : Source R) (old new : Sink W) → IsGoodCode code program
+    → (IsErrOf r NoMemory → (text : List ℕ) × ShowsRead program form remaining known left text × Writes contents old new text)
+    → IsErrOf r NoMemory → (text : List ℕ) × ShowsPart code form remaining known left text × Writes contents old new text
+part_of r code program form known left old new good part = λ memory. let p = part memory in (p.0, part_by code program form known left p.0 good p.1, p.2)
+
+-- the same link type
+pub bytes_of_link : (program : List Insn) (link link' : Option ℕ) (input : List ℕ) (status : ℕ) (text : List ℕ) → link' ≡ link → ShowsBytes program (Capture link') input status text → ShowsBytes program (Capture link) input status text
+bytes_of_link program link link' input status text same shows = rw same at shows
+
+pub packets_of_link : (program : List Insn) (link link' : Option ℕ) (input text : List ℕ) → link' ≡ link → ShowsPackets program (Capture link') input text → ShowsPackets program (Capture link) input text
+packets_of_link program link link' input text same shows = rw same at shows

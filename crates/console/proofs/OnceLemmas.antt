@@ -14,10 +14,13 @@ use Rattle.filter_asm.proofs.LawLemmas.{none_stands_for_two}
 use Rattle.filter_vm.specs.declared.machine.Outcome.{Outcome}
 use Rattle.bpf_insn.specs.Machine.{Packet, Ends}
 use Rattle.filter_vm.proofs.Unique.{Ends-same}
-use Rattle.pcap_reader.specs.declared.capture.Header.{Header}
 use Rattle.pcap_reader.specs.declared.capture.CapturedPacket.{CapturedPacket}
-use Rattle.pcap_reader.specs.declared.capture.CaptureFault.{CaptureFault}
-use Rattle.pcap_reader.proofs.LawLemmas.{one_reading}
+use Rattle.capture_reader.specs.declared.fault.ReadFault.{ReadFault}
+use Rattle.capture_reader.specs.Entries.{EntryBytes, packets_in}
+use Rattle.capture_reader.proofs.LawLemmas.{one_reading}
+use Rattle.console.specs.declared.form.PacketForm.{PacketForm}
+use Rattle.console.specs.declared.form.PacketForm.TheVariants.{Digits, Capture}
+use Rattle.console.specs.Choosing.{chosen}
 use Rattle.console.specs.Reading.{AreBytes, ShowsOne, ShowsTooLong}
 use Rattle.console.specs.Faults.{fault_status, fault_text}
 use Rattle.console.specs.Showing.{ShowsBounded}
@@ -38,16 +41,16 @@ bounded_once Shows input once status other text more (inr one) (inr two) = long_
 
 -- A dump
 
-dump_same : (h h' : Option Header) (ks ks' : List CapturedPacket) (f f' : Option CaptureFault) → h ≡ h' → ks ≡ ks' → f ≡ f' → dump_text h ks f ≡ dump_text h' ks' f'
-dump_same h h' ks ks' f f' a b c = rw (a, b, c) refl
+dump_same : (link : Option ℕ) (es es' : List EntryBytes) (f f' : Option ReadFault) → es ≡ es' → f ≡ f' → dump_text link es f ≡ dump_text link es' f'
+dump_same link es es' f f' a b = rw (a, b) refl
 
-pub dump_once : (input : List ℕ) → AreBytes input → ShowsOne (ShowsDump input)
-dump_once input small status other text more (inl one) (inl two) =
-    let same = one_reading input small one.1 two.1 one.2 two.2 one.3 two.3 one.4 two.4 in
-    (one.6 ∙ ap fault_status same.2 ∙ sym two.6, one.5 ∙ dump_same one.1 two.1 one.2 two.2 one.3 two.3 same.0 same.1 same.2 ∙ sym two.5)
-dump_once input small status other text more (inl one) (inr two) = absurd (omega (arith, one.0, two.0))
-dump_once input small status other text more (inr one) (inl two) = absurd (omega (arith, one.0, two.0))
-dump_once input small status other text more (inr one) (inr two) = long_once status other text more one.1 two.1
+pub dump_once : (link : Option ℕ) (input : List ℕ) → AreBytes input → ShowsOne (ShowsDump link input)
+dump_once link input small status other text more (inl one) (inl two) =
+    let same = one_reading input small one.1 two.1 one.2 two.2 one.3 two.3 in
+    (one.5 ∙ ap fault_status same.1 ∙ sym two.5, one.4 ∙ dump_same link one.1 two.1 one.2 two.2 same.0 same.1 ∙ sym two.4)
+dump_once link input small status other text more (inl one) (inr two) = absurd (omega (arith, one.0, two.0))
+dump_once link input small status other text more (inr one) (inl two) = absurd (omega (arith, one.0, two.0))
+dump_once link input small status other text more (inr one) (inr two) = long_once status other text more one.1 two.1
 
 -- An assembler text
 
@@ -196,23 +199,23 @@ lines_once program all status other text more one two =
 
 -- Captures
 
-capture_once : (program : List Insn) (input : List ℕ) → AreBytes input → ShowsOne (ShowsBytes program true input)
-capture_once program input small status other text more (h, ks, f, reads, shown, done) (h', ks', f', reads', shown', done') =
-    let same = one_reading input small h h' ks ks' f f' reads reads' in
-    let ran : AllZip (AnswersCaptured program) ks' shown.outcomes = rw same.1 at shown.ran in
-    let outcomes : shown.outcomes ≡ shown'.outcomes = AllZip-same (AnswersCaptured program) (captured_same program) ks' shown.outcomes shown'.outcomes ran shown'.ran in (
-      done ∙ ap fault_status same.2 ∙ sym done',
-      shown.printed ∙ ap (λ o. flat_map outcome_line o ++ fault_text f) outcomes ∙ ap (λ g. flat_map outcome_line shown'.outcomes ++ fault_text g) same.2 ∙ sym shown'.printed,
+capture_once : (program : List Insn) (link : Option ℕ) (input : List ℕ) → AreBytes input → ShowsOne (ShowsBytes program (Capture link) input)
+capture_once program link input small status other text more (es, f, reads, shown, done) (es', f', reads', shown', done') =
+    let same = one_reading input small es es' f f' reads reads' in
+    let ran : AllZip (AnswersCaptured program) (packets_in (chosen link es')) shown.outcomes = rw same.0 at shown.ran in
+    let outcomes : shown.outcomes ≡ shown'.outcomes = AllZip-same (AnswersCaptured program) (captured_same program) (packets_in (chosen link es')) shown.outcomes shown'.outcomes ran shown'.ran in (
+      done ∙ ap fault_status same.1 ∙ sym done',
+      shown.printed ∙ ap (λ o. flat_map outcome_line o ++ fault_text f) outcomes ∙ ap (λ g. flat_map outcome_line shown'.outcomes ++ fault_text g) same.1 ∙ sym shown'.printed,
     )
 
-bytes_once : (program : List Insn) (pcap : Bool) (input : List ℕ) → AreBytes input → ShowsOne (ShowsBytes program pcap input)
-bytes_once program false input small = lines_once program (lines input)
-bytes_once program true input small = capture_once program input small
+bytes_once : (program : List Insn) (form : PacketForm) (input : List ℕ) → AreBytes input → ShowsOne (ShowsBytes program form input)
+bytes_once program Digits input small = lines_once program (lines input)
+bytes_once program (Capture link) input small = capture_once program link input small
 
-input_once : (program : List Insn) (pcap : Bool) (input : List ℕ) → AreBytes input → ShowsOne (ShowsInput program pcap input)
-input_once program pcap input small = bounded_once (ShowsBytes program pcap) input (bytes_once program pcap input small)
+input_once : (program : List Insn) (form : PacketForm) (input : List ℕ) → AreBytes input → ShowsOne (ShowsInput program form input)
+input_once program form input small = bounded_once (ShowsBytes program form) input (bytes_once program form input small)
 
-pub good_code_once : (code : List ℕ) (pcap : Bool) (input : List ℕ) → AreBytes input → ShowsOne (ShowsGoodCode code pcap input)
-good_code_once code pcap input small status other text more one two =
+pub good_code_once : (code : List ℕ) (form : PacketForm) (input : List ℕ) → AreBytes input → ShowsOne (ShowsGoodCode code form input)
+good_code_once code form input small status other text more one two =
     let same : one.0 ≡ two.0 = one_program code one.0 two.0 one.1.0 two.1.0 in
-    input_once two.0 pcap input small status other text more (rw same at one.2) two.2
+    input_once two.0 form input small status other text more (rw same at one.2) two.2

@@ -1,13 +1,16 @@
 -- A text that is printed bit by bit: what is written, what is kept back, and what is left to print.
-use Rattle.std.proofs.Common.{◌≡◌, ℕ, ◌+◌, List, [], ◌∷◌, ◌++◌, Option, ap, sym, ◌∙◌, append_assoc}
+use Rattle.std.proofs.Common.{◌≡◌, ℕ, List, [], ◌∷◌, ◌++◌, Option, ap, sym, ◌∙◌, append_assoc, refl, true, false}
 use Rattle.std.specs.Prelude.{Result, Ok, Err, OnErr}
-use Rattle.pcap_reader.specs.declared.capture.CapturedPacket.{CapturedPacket}
-use Rattle.pcap_reader.specs.declared.capture.CaptureFault.{CaptureFault}
+use Rattle.std.proofs.lemmas.List.{append-nil}
+use Rattle.capture_reader.specs.declared.fault.ReadFault.{ReadFault}
+use Rattle.console.specs.declared.captured.KeptEntry.{KeptEntry}
+use Rattle.console.specs.declared.dumping.Place.{Place}
+use Rattle.console.specs.Choosing.{chosen, is_chosen}
 use Rattle.console.specs.declared.sink.Sink.{Sink}
 use Rattle.console.specs.Devices.{Writes}
-use Rattle.console.specs.Reading.{BeginsWith}
+use Rattle.console.specs.Reading.{BeginsWith, entries_of}
 use Rattle.console.specs.Faults.{fault_text}
-use Rattle.console.specs.Dumping.{packet_line, packet_lines}
+use Rattle.console.specs.Dumping.{PrintsEntry, entry_line, entry_lines, interfaces_after, packets_after}
 use Rattle.console.proofs.KnownBytesLemmas.{writes-then}
 
 pub record Printing {W : Type 0} (whole left : List ℕ) (contents : W → Option (List ℕ)) (old new : Sink W) (kept : List ℕ) : Type 0 where
@@ -50,9 +53,26 @@ on_err (Ok v) P p = tt
 on_err (Err e) P p = p
 
 -- the lines that are left of a dump
-abbrev pub left_lines : ℕ → List CapturedPacket → Option CaptureFault → List ℕ
-left_lines number rest fault = packet_lines (number + 1) rest ++ fault_text fault
+abbrev pub left_lines : Option ℕ → Place → List KeptEntry → Option ReadFault → List ℕ
+left_lines link place rest fault = entry_lines place.packets place.interfaces (chosen link (entries_of rest)) ++ fault_text fault
 
-pub left_first : (number : ℕ) (rest more : List CapturedPacket) (p : CapturedPacket) (fault : Option CaptureFault) → rest ≡ p ∷ more
-    → left_lines number rest fault ≡ packet_line (number + 1) p ++ left_lines (number + 1) more fault
-left_first number rest more p fault first = ap (λ r. left_lines number r fault) first ∙ append_assoc (packet_line (number + 1) p) (packet_lines (number + 1 + 1) more) (fault_text fault)
+pub left_first : (link : Option ℕ) (place next : Place) (rest more : List KeptEntry) (kept : KeptEntry) (fault : Option ReadFault) (before after : List ℕ) → rest ≡ kept ∷ more → (prints : PrintsEntry link kept place next before after)
+    → left_lines link place rest fault ≡ prints.shown ++ left_lines link next more fault
+left_first link place next rest more kept fault before after first prints =
+    ap (λ r. left_lines link place r fault) first ∙ ap (λ t. t ++ fault_text fault) (prints.rest (entries_of more)) ∙ append_assoc prints.shown (entry_lines next.packets next.interfaces (chosen link (entries_of more))) (fault_text fault)
+
+-- the line for an entry that is shown, or none
+pub prints_shown : (link : Option ℕ) (kept : KeptEntry) (old new : Place) (before after : List ℕ) → is_chosen link kept.entry ≡ true → after ≡ before ++ entry_line old.packets old.interfaces kept.entry kept.bytes
+    → new.packets ≡ packets_after old.packets kept.entry → new.interfaces ≡ interfaces_after old.interfaces kept.entry → PrintsEntry link kept old new before after
+prints_shown link kept old new before after is printed packets interfaces = record {
+  shown = entry_line old.packets old.interfaces kept.entry kept.bytes;
+  printed = printed;
+  rest = λ more. rw (is, packets, interfaces) refl;
+}
+
+pub prints_none : (link : Option ℕ) (kept : KeptEntry) (place : Place) (before : List ℕ) → is_chosen link kept.entry ≡ false → PrintsEntry link kept place place before before
+prints_none link kept place before is = record {
+  shown = [];
+  printed = sym (append-nil before);
+  rest = λ more. rw is refl;
+}

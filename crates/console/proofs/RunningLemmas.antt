@@ -1,24 +1,27 @@
 -- How packets are run while a capture is read.
-use Rattle.std.proofs.Common.{◌≡◌, ◌≢◌, ℕ, ◌+◌, ◌<◌, List, [], ◌∷◌, ◌++◌, length, drop, All, Option, Some, Result, Err, arith, refl, ap, sym, ◌∙◌, append_assoc, length-append, slice_index, subst}
+use Rattle.std.proofs.Common.{◌≡◌, ℕ, ◌+◌, ◌<◌, List, [], ◌∷◌, ◌++◌, length, drop, take, All, Bool, true, false, if◌then◌else◌, Option, None, Some, Ok, Err, arith, refl, ap, sym, ◌∙◌, append_assoc, length-append}
 use Rattle.std.specs.List.{AllZip}
 use Rattle.std.proofs.lemmas.List.{append-nil}
-use Rattle.std.proofs.lemmas.List.Elements.{All-drop}
-use Rattle.std.proofs.Math.Seq.{drop-append_seam}
+use Rattle.std.proofs.lemmas.List.Elements.{All-append, All-drop, All-take}
+use Rattle.std.proofs.Math.Seq.{drop-append_seam, take-append_seam}
 use Rattle.bpf_insn.specs.declared.insn.Insn.{Insn}
 use Rattle.filter_vm.specs.declared.machine.Outcome.{Outcome}
-use Rattle.pcap_reader.specs.declared.feed.Feed.{Feed}
-use Rattle.pcap_reader.specs.declared.capture.CapturedPacket.{CapturedPacket}
-use Rattle.pcap_reader.specs.declared.capture.Header.{Header}
-use Rattle.pcap_reader.specs.declared.capture.CaptureFault.{CaptureFault}
-use Rattle.pcap_reader.specs.declared.capture.CaptureFault.TheVariants.{NoMemory}
-use Rattle.pcap_reader.specs.Savefile.{Reads}
-use Rattle.pcap_reader.specs.Held.{HoldsBehind, TakesFront, TakesWhole, held_packets}
-use Rattle.pcap_reader.proofs.FeedLemmas.{holds-on, are_bytes}
+use Rattle.capture_reader.specs.declared.entry.PacketTime.{PacketTime}
+use Rattle.capture_reader.specs.declared.entry.Item.{Item}
+use Rattle.capture_reader.specs.declared.entry.Found.{Found}
+use Rattle.capture_reader.specs.declared.entry.Found.TheVariants.{Item as Seen, Held, Nothing}
+use Rattle.capture_reader.specs.declared.fault.ReadFault.{ReadFault}
+use Rattle.capture_reader.specs.declared.feed.CaptureFeed.{CaptureFeed}
+use Rattle.capture_reader.specs.Entries.{EntryBytes, packets_in}
+use Rattle.capture_reader.specs.Steps.{Adds, seen_item}
+use Rattle.capture_reader.specs.Holding.{Advances, HoldsAfter, held_entry, held_fault}
+use Rattle.capture_reader.proofs.LawLemmas.{packets_in-append}
+use Rattle.console.specs.declared.capture_run.CaptureRun.{CaptureRun}
+use Rattle.console.specs.Choosing.{chosen, entry_times, is_chosen, times_in}
 use Rattle.console.specs.declared.source.Source.{Source}
 use Rattle.console.specs.Devices.{Gets, GetsNothing}
 use Rattle.console.specs.Matching.{AnswersCaptured}
-use Rattle.console.specs.Reading.{HasStopped}
-use Rattle.console.specs.Running.{HasRun, RunsOn, RunsTo}
+use Rattle.console.specs.Running.{HasRun, RunsItem, RunsOn, RunsTo, item_entries, times_shown}
 use Rattle.console.proofs.KnownBytesLemmas.{gets-kept, gets-then}
 
 -- nothing was taken
@@ -32,9 +35,9 @@ runs_none Ran bytes feed before = record {
 }
 
 -- one front and then another
-pub runs_then : {S : Type 0} (From Mid To : List ℕ → S → List Outcome → Type 0) (bytes mid rest : List ℕ) (old then new : S) (before between after : List Outcome)
-    → RunsTo From Mid bytes mid old then before between → RunsTo Mid To mid rest then new between after → RunsTo From To bytes rest old new before after
-runs_then From Mid To bytes mid rest old then new before between after first next = record {
+pub runs_then : {S : Type 0} (From Mid To : List ℕ → S → List Outcome → Type 0) (bytes mid rest : List ℕ) (old amid new : S) (before between after : List Outcome)
+    → RunsTo From Mid bytes mid old amid before between → RunsTo Mid To mid rest amid new between after → RunsTo From To bytes rest old new before after
+runs_then From Mid To bytes mid rest old amid new before between after first next = record {
   front = first.front ++ next.front;
   parts = first.parts ∙ ap (λ t. first.front ++ t) next.parts ∙ sym (append_assoc first.front next.front rest);
   more = first.more ++ next.more;
@@ -52,96 +55,150 @@ AllZip-append R [] xs' (b ∷ ys) ys' first next = absurd first
 AllZip-append R (a ∷ xs) xs' [] ys' first next = absurd first
 AllZip-append R (a ∷ xs) xs' (b ∷ ys) ys' first next = (first.0, AllZip-append R xs xs' ys ys' first.1 next)
 
--- one packet that was seen in place
-pub runs_whole : (program : List Insn) (bytes rest : List ℕ) (old new : Feed) (packet : CapturedPacket) (o : Outcome) (before after : List Outcome)
-    → TakesWhole bytes rest old new packet → (held_packets old ≡ [] → held_packets new ≡ []) → AnswersCaptured program packet o → after ≡ before ++ o ∷ []
-    → RunsOn program bytes rest old new before after
-runs_whole program bytes rest old new packet o before after takes none ran pushed = record {
-  front = takes.front;
-  parts = takes.parts;
-  more = o ∷ [];
-  pushed = pushed;
-  runs = λ fed outcomes has short. record {
-    packets = has.packets ++ packet ∷ [];
-    holds = takes.holds has.packets fed has.holds short;
-    none = none has.none;
-    ran = AllZip-append (AnswersCaptured program) has.packets (packet ∷ []) outcomes (o ∷ []) has.ran (ran, tt);
-  };
+-- Packets of a capture
+
+-- the entry that was found
+abbrev pub IsFound : CaptureFeed → Found → Option Item → Type 0
+IsFound feed (Seen item) found = found ≡ Some item
+IsFound feed Held None = held_entry feed ≡ None
+IsFound feed Held (Some item) = held_entry feed ≡ Some (seen_item item)
+IsFound feed Nothing found = found ≡ None
+
+pub adds_item : (given : List EntryBytes) (fed : List ℕ) (feed : CaptureFeed) (found : Found) (item : Option Item) → IsFound feed found item → Adds (HoldsAfter feed) (held_entry feed) given fed found → HoldsAfter feed (given ++ item_entries item) fed
+adds_item given fed feed (Seen i) item is adds = rw is adds
+adds_item given fed feed Nothing item is adds = rw (is, append-nil given) adds
+adds_item given fed feed Held None is adds = absurd (never is adds.1)
+  where
+    never : held_entry feed ≡ None → held_entry feed ≡ Some adds.0 → ⊥
+    never none some = cc
+adds_item given fed feed Held (Some i) is adds = let same : adds.0 ≡ seen_item i = one adds.0 (seen_item i) (sym adds.1 ∙ is) in rw same at adds.2
+  where
+    one : (x y : EntryBytes) → Some x ≡ Some y → x ≡ y
+    one x y e = cc
+
+-- nothing was taken
+pub run_none : (program : List Insn) (bytes : List ℕ) (run : CaptureRun) (before : List Outcome) (since : List PacketTime) → RunsOn program bytes bytes run run before before since since
+run_none program bytes run before since = record {
+  front = [];
+  parts = refl;
+  more = [];
+  times = [];
+  pushed = sym (append-nil before);
+  pushed_times = sym (append-nil since);
+  runs = λ fed outcomes stamps has small short. rw (append-nil fed, append-nil outcomes, append-nil stamps) has;
 }
 
--- a front that was fed, after which the packets that were whole were given up
-pub runs_cut : (program : List Insn) (bytes rest : List ℕ) (old mid new : Feed) (packets : List CapturedPacket) (more before after : List Outcome)
-    → TakesFront bytes rest old mid → ((given : List CapturedPacket) (fed : List ℕ) → HoldsBehind given fed mid → HoldsBehind (given ++ packets) fed new) → held_packets new ≡ []
-    → AllZip (AnswersCaptured program) packets more → after ≡ before ++ more → RunsOn program bytes rest old new before after
-runs_cut program bytes rest old mid new packets more before after takes given none ran pushed = record {
-  front = takes.front;
-  parts = takes.parts;
-  more = more;
-  pushed = pushed;
-  runs = λ fed outcomes has short. record {
-    packets = has.packets ++ packets;
-    holds = given has.packets (fed ++ takes.front) (takes.holds has.packets fed has.holds short);
-    none = none;
-    ran = AllZip-append (AnswersCaptured program) has.packets packets outcomes more has.ran ran;
-  };
-}
-
-All-rest : (bytes front rest : List ℕ) → All (λ b. b < 256) bytes → bytes ≡ front ++ rest → All (λ b. b < 256) rest
-All-rest bytes front rest small parts =
+small_rest : (bytes front rest : List ℕ) → All (λ b. b < 256) bytes → bytes ≡ front ++ rest → All (λ b. b < 256) rest
+small_rest bytes front rest small parts =
     let e : drop (length front) bytes ≡ rest = ap (drop (length front)) parts ∙ drop-append_seam front rest in rw e at (All-drop (λ b. b < 256) (length front) bytes small)
 
--- a capture with a fault stays as it is, whatever follows
-pub runs_stopped : (program : List Insn) (bytes rest : List ℕ) (old new : Feed) (before after : List Outcome) → ((i : ℕ) → slice_index bytes i < 256) → HasStopped new
-    → RunsOn program bytes rest old new before after → RunsOn program bytes [] old new before after
-runs_stopped program bytes rest old new before after small stopped runs = record {
-  front = bytes;
-  parts = sym (append-nil bytes);
-  more = runs.more;
-  pushed = runs.pushed;
-  runs = λ fed outcomes has short.
-      let same : (fed ++ runs.front) ++ rest ≡ fed ++ bytes = append_assoc fed runs.front rest ∙ ap (λ t. fed ++ t) (sym runs.parts) in
-      let one = runs.runs fed outcomes has (omega (arith, ap length same, length-append (fed ++ runs.front) rest, short)) in
-      record {
-        packets = one.packets;
-        holds = let P : List ℕ → Type 0 = λ t. HoldsBehind one.packets t new in subst P same (holds-on one.packets (fed ++ runs.front) rest new stopped.0 (All-rest bytes runs.front rest (are_bytes bytes small) runs.parts) stopped.1 one.holds);
-        none = one.none;
-        ran = one.ran;
-      };
+-- one front and then another
+pub run_then : (program : List Insn) (bytes mid rest : List ℕ) (old other new : CaptureRun) (before between after : List Outcome) (since amid upto : List PacketTime)
+    → RunsOn program bytes mid old other before between since amid → RunsOn program mid rest other new between after amid upto → RunsOn program bytes rest old new before after since upto
+run_then program bytes mid rest old other new before between after since amid upto first next = record {
+  front = first.front ++ next.front;
+  parts = first.parts ∙ ap (λ t. first.front ++ t) next.parts ∙ sym (append_assoc first.front next.front rest);
+  more = first.more ++ next.more;
+  times = first.times ++ next.times;
+  pushed = next.pushed ∙ ap (λ t. t ++ next.more) first.pushed ∙ append_assoc before first.more next.more;
+  pushed_times = next.pushed_times ∙ ap (λ t. t ++ next.times) first.pushed_times ∙ append_assoc since first.times next.times;
+  runs = λ fed outcomes stamps has small short.
+      let all : (fed ++ first.front) ++ next.front ≡ fed ++ (first.front ++ next.front) = append_assoc fed first.front next.front in
+      let one = first.runs fed outcomes stamps has small (omega (arith, ap length all, length-append (fed ++ first.front) next.front, short)) in
+      let two = next.runs (fed ++ first.front) (outcomes ++ first.more) (stamps ++ first.times) one (small_rest bytes first.front mid small first.parts) (omega (arith, ap length all, short)) in
+      rw (sym all, sym (append_assoc outcomes first.more next.more), sym (append_assoc stamps first.times next.times)) two;
 }
 
--- some of the bytes were taken, where there were any
-pub shorter_by : (bytes rest : List ℕ) (old new : Feed) → TakesFront bytes rest old new → bytes ≢ [] → length rest < length bytes
-shorter_by bytes rest old new takes any = omega (arith, takes.some any, ap length takes.parts, length-append takes.front rest)
+pub chosen-append : (one : Option ℕ) (entries more : List EntryBytes) → chosen one (entries ++ more) ≡ chosen one entries ++ chosen one more
+chosen-append one [] more = refl
+chosen-append one (e ∷ entries) more = ap (λ t. (if is_chosen one e.0 then e ∷ [] else []) ++ t) (chosen-append one entries more) ∙ sym (append_assoc (if is_chosen one e.0 then e ∷ [] else []) (chosen one entries) (chosen one more))
 
--- where another fault is answered, memory was not refused
-pub other_fault : (held : Option CaptureFault) (fault : CaptureFault) (answer : Result Header CaptureFault) → answer ≡ Err fault → fault ≢ NoMemory → (held ≡ Some NoMemory → answer ≡ Err NoMemory)
-    → held ≢ Some NoMemory
-other_fault held fault answer is other refused memory = let e = refused memory in let same : fault ≡ NoMemory = cc in other same
+pub times_in-append : (entries more : List EntryBytes) → times_in (entries ++ more) ≡ times_in entries ++ times_in more
+times_in-append [] more = refl
+times_in-append (e ∷ entries) more = ap (λ t. entry_times e.0 ++ t) (times_in-append entries more) ∙ sym (append_assoc (entry_times e.0) (times_in entries) (times_in more))
 
--- with no packet held, what was given up is all
-pub reads_given : (bytes : List ℕ) (header : Option Header) (packets held : List CapturedPacket) (fault : Option CaptureFault) → held ≡ [] → Reads bytes header (packets ++ held) fault → Reads bytes header packets fault
-reads_given bytes header packets held fault none reads = rw (ap (λ t. packets ++ t) none ∙ append-nil packets) at reads
+times_shown-append : (stamped : Bool) (entries more : List EntryBytes) → times_shown stamped (entries ++ more) ≡ times_shown stamped entries ++ times_shown stamped more
+times_shown-append true entries more = times_in-append entries more
+times_shown-append false entries more = refl
+
+small_front : (bytes front rest : List ℕ) → All (λ b. b < 256) bytes → bytes ≡ front ++ rest → All (λ b. b < 256) front
+small_front bytes front rest small parts =
+    let e : take (length front) bytes ≡ front = ap (take (length front)) parts ∙ take-append_seam front rest in rw e at (All-take (λ b. b < 256) (length front) bytes small)
+
+-- the packet of an entry that was added
+runs_added : (program : List Insn) (fed front : List ℕ) (old new : CaptureRun) (outcomes more : List Outcome) (stamps times : List PacketTime) (entries added : List EntryBytes)
+    → (has : HasRun program fed old outcomes stamps) → has.entries ≡ entries → new.link ≡ old.link → new.stamped ≡ old.stamped → All (λ b. b < 256) front → HoldsAfter new.feed (entries ++ added) (fed ++ front)
+    → AllZip (AnswersCaptured program) (packets_in (chosen old.link added)) more → times ≡ times_shown old.stamped (chosen old.link added)
+    → HasRun program (fed ++ front) new (outcomes ++ more) (stamps ++ times)
+runs_added program fed front old new outcomes more stamps times entries added has is link stamped small holds ran seen = record {
+  entries = entries ++ added;
+  holds = holds;
+  small = All-append (λ b. b < 256) fed front has.small small;
+  ran = rw (link, chosen-append old.link entries added, packets_in-append (chosen old.link entries) (chosen old.link added))
+      (AllZip-append (AnswersCaptured program) (packets_in (chosen old.link entries)) (packets_in (chosen old.link added)) outcomes more (rw is at has.ran) ran);
+  times = rw (link, stamped, chosen-append old.link entries added, times_shown-append old.stamped (chosen old.link entries) (chosen old.link added))
+      (ap (λ t. t ++ times) (has.times ∙ ap (λ e. times_shown old.stamped (chosen old.link e)) is) ∙ ap (λ t. times_shown old.stamped (chosen old.link entries) ++ t) seen);
+}
+
+-- an entry that was seen in place, or is held, or none
+pub run_item : (program : List Insn) (bytes rest : List ℕ) (old new : CaptureRun) (found : Found) (item : Option Item) (before after : List Outcome) (since upto : List PacketTime)
+    → Advances bytes rest old.feed new.feed (Ok found) → IsFound new.feed found item → new.link ≡ old.link → new.stamped ≡ old.stamped → RunsItem program old.link old.stamped item before after since upto
+    → RunsOn program bytes rest old new before after since upto
+run_item program bytes rest old new found item before after since upto takes is link stamped ran = record {
+  front = takes.front;
+  parts = takes.parts;
+  more = ran.more;
+  times = ran.times;
+  pushed = ran.pushed;
+  pushed_times = ran.pushed_times;
+  runs = λ fed outcomes stamps has small short.
+      runs_added program fed takes.front old new outcomes ran.more stamps ran.times has.entries (item_entries item) has refl link stamped (small_front bytes takes.front rest small takes.parts)
+      (adds_item has.entries (fed ++ takes.front) new.feed found item is (takes.adds has.entries fed has.holds short)) ran.ran ran.seen;
+}
+
+-- no packet was run
+pub none_run : (program : List Insn) (link : Option ℕ) (stamped : Bool) (outcomes : List Outcome) (stamps : List PacketTime) → RunsItem program link stamped None outcomes outcomes stamps stamps
+none_run program link true outcomes stamps = record { more = []; times = []; pushed = sym (append-nil outcomes); pushed_times = sym (append-nil stamps); ran = tt; seen = refl }
+none_run program link false outcomes stamps = record { more = []; times = []; pushed = sym (append-nil outcomes); pushed_times = sym (append-nil stamps); ran = tt; seen = refl }
+
+-- a capture with a fault
+pub run_stopped : (program : List Insn) (bytes rest : List ℕ) (old new : CaptureRun) (before : List Outcome) (since : List PacketTime) (fault : ReadFault) → new.link ≡ old.link → new.stamped ≡ old.stamped
+    → held_fault new.feed ≡ Some fault → Advances bytes rest old.feed new.feed (Err fault) → RunsOn program bytes [] old new before before since since
+run_stopped program bytes rest old new before since fault link stamped says advances = record {
+  front = bytes;
+  parts = sym (append-nil bytes);
+  more = [];
+  times = [];
+  pushed = sym (append-nil before);
+  pushed_times = sym (append-nil since);
+  runs = λ fed outcomes stamps has small short.
+      runs_added program fed bytes old new outcomes [] stamps [] has.entries [] has refl link stamped small (rw (says, append-nil has.entries) (advances has.entries fed has.holds short)) tt (sym (none_shown old.stamped));
+}
+  where
+    none_shown : (stamped : Bool) → times_shown stamped [] ≡ []
+    none_shown true = refl
+    none_shown false = refl
 
 -- a source got these bytes, whose whole packets were run
-pub record SoRun {R : Type 0} (program : List Insn) (remaining : R → Option (List ℕ)) (old new : Source R) (feed : Feed) (outcomes : List Outcome) (taken : ℕ) : Type 0 where
+pub record SoRun {R : Type 0} (program : List Insn) (remaining : R → Option (List ℕ)) (old new : Source R) (run : CaptureRun) (outcomes : List Outcome) (stamps : List PacketTime) (taken : ℕ) : Type 0 where
   pub given : List ℕ
   pub lost : Gets remaining old new given
-  pub has : HasRun program given feed outcomes
+  pub has : HasRun program given run outcomes stamps
   pub count : taken ≡ length given
 
-pub so_run_next : (program : List Insn) {R : Type 0} {remaining : R → Option (List ℕ)} (old mid new : Source R) (feed feed' : Feed) (before after : List Outcome) (taken taken' : ℕ) (piece : List ℕ)
-    → SoRun program remaining old mid feed before taken → Gets remaining mid new piece → taken' ≡ taken + length piece → taken' < 18446744073709551616
-    → RunsOn program piece [] feed feed' before after → SoRun program remaining old new feed' after taken'
-so_run_next program old mid new feed feed' before after taken taken' piece so next count short runs =
+pub so_run_next : (program : List Insn) {R : Type 0} {remaining : R → Option (List ℕ)} (old mid new : Source R) (run run' : CaptureRun) (before after : List Outcome) (since upto : List PacketTime) (taken taken' : ℕ) (piece : List ℕ)
+    → SoRun program remaining old mid run before since taken → Gets remaining mid new piece → taken' ≡ taken + length piece → taken' < 18446744073709551616
+    → RunsOn program piece [] run run' before after since upto → All (λ b. b < 256) piece → SoRun program remaining old new run' after upto taken'
+so_run_next program old mid new run run' before after since upto taken taken' piece so next count short runs small =
     let all : piece ≡ runs.front = runs.parts ∙ append-nil runs.front in
     record {
       given = so.given ++ piece;
       lost = gets-then old mid new so.given piece so.lost next;
-      has = rw (all, runs.pushed) (runs.runs so.given before so.has (omega (arith, length-append so.given runs.front, ap length all, so.count)));
+      has = rw (all, runs.pushed, runs.pushed_times) (runs.runs so.given before since so.has small (omega (arith, length-append so.given runs.front, ap length all, so.count)));
       count = omega (arith, length-append so.given piece, so.count);
     }
 
 -- a read that failed and took nothing
-pub so_run_kept : (program : List Insn) {R : Type 0} {remaining : R → Option (List ℕ)} (old mid new : Source R) (feed : Feed) (outcomes : List Outcome) (taken taken' : ℕ) → SoRun program remaining old mid feed outcomes taken → GetsNothing remaining mid new → taken' ≡ taken
-    → SoRun program remaining old new feed outcomes taken'
-so_run_kept program old mid new feed outcomes taken taken' so kept same = record { given = so.given; lost = gets-kept old mid new so.given so.lost kept; has = so.has; count = same ∙ so.count }
+pub so_run_kept : (program : List Insn) {R : Type 0} {remaining : R → Option (List ℕ)} (old mid new : Source R) (run : CaptureRun) (outcomes : List Outcome) (stamps : List PacketTime) (taken taken' : ℕ) → SoRun program remaining old mid run outcomes stamps taken → GetsNothing remaining mid new → taken' ≡ taken
+    → SoRun program remaining old new run outcomes stamps taken'
+so_run_kept program old mid new run outcomes stamps taken taken' so kept same = record { given = so.given; lost = gets-kept old mid new so.given so.lost kept; has = so.has; count = same ∙ so.count }

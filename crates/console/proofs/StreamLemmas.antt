@@ -8,17 +8,18 @@ use Rattle.bpf_insn.specs.declared.insn.Insn.{Insn}
 use Rattle.filter_vm.specs.declared.machine.Outcome.{Outcome}
 use Rattle.console.specs.declared.source.Source.{Source}
 use Rattle.console.specs.declared.sink.Sink.{Sink}
+use Rattle.console.specs.declared.form.PacketForm.{PacketForm}
 use Rattle.console.specs.Devices.{Gets, GetsNothing, Writes}
 use Rattle.console.specs.declared.ending.Ending.{Ending}
 use Rattle.console.specs.declared.packet_source.PacketSource.{PacketSource}
-use Rattle.console.specs.declared.stamp.Stamp.{Stamp}
+use Rattle.capture_reader.specs.declared.entry.PacketTime.{PacketTime}
 use Rattle.console.specs.declared.tally.Tally.{Tally}
 use Rattle.console.specs.declared.view.View.{View}
 use Rattle.console.specs.declared.view.View.TheVariants.{Lines, Numbers, Count, Quiet}
 use Rattle.console.specs.declared.fault.EngineFault.{EngineFault}
 use Rattle.console.specs.Reading.{BeginsWith}
 use Rattle.console.specs.Code.{IsGoodCode, ShowsBadCode}
-use Rattle.console.specs.Streaming.{SourceEnded, SourceRan, StampTo, StreamLeaves, StreamShows, is_capture, is_stamped}
+use Rattle.console.specs.Streaming.{SourceEnded, SourceRan, StampTo, StreamLeaves, StreamShows, form_of, is_stamped}
 use Rattle.console.specs.Views.{AreShown, HasCounted, IsFound, RanAll, RanFirst, ShowsEnd, ShowsView, ShowsViewCode, ShowsViewPart, ViewLeaves, ViewShows, accepted, ending_status, ending_text, other_stamps, shown_at_once, shows_stamps}
 use Rattle.console.proofs.WholeLemmas.{some_front}
 use Rattle.console.proofs.KnownBytesLemmas.{gets-kept, gets-then, keeps-itself, writes-then}
@@ -26,30 +27,30 @@ use Rattle.console.proofs.StreamingLemmas.{Ends, EndsAtOne, Streamed, begins_its
 use Rattle.console.proofs.ViewLemmas.{lines_part, lines_shows, shown-append}
 
 -- what is left where what was read isn't run
-pub left_read : {T E : Type 0} (r : Result T E) (view : View) (program : List Insn) (pcap : Bool) {R W : Type 0} {remaining : R → Option (List ℕ)} {contents : W → Option (List ℕ)} (from at at' : Source R) (old new : Sink W) (source : PacketSource) (tally : Tally) (turns : ℕ) (piece : List ℕ)
-    → Streamed view program pcap remaining from at contents old new source tally turns → Gets remaining at at' piece → All (λ b. b < 256) piece
-    → OnErr r ((input : List ℕ) × Gets remaining from at' input × ((text : List ℕ) × Writes contents old new text × ShowsViewPart view program pcap input text))
-left_read (Ok v) view program pcap from at at' old new source tally turns piece so lost small = tt
-left_read (Err e) view program pcap from at at' old new source tally turns piece so lost small = (
+pub left_read : {T E : Type 0} (r : Result T E) (view : View) (program : List Insn) (form : PacketForm) {R W : Type 0} {remaining : R → Option (List ℕ)} {contents : W → Option (List ℕ)} (from at at' : Source R) (old new : Sink W) (source : PacketSource) (tally : Tally) (turns : ℕ) (piece : List ℕ)
+    → Streamed view program form remaining from at contents old new source tally turns → Gets remaining at at' piece → All (λ b. b < 256) piece
+    → OnErr r ((input : List ℕ) × Gets remaining from at' input × ((text : List ℕ) × Writes contents old new text × ShowsViewPart view program form input text))
+left_read (Ok v) view program form from at at' old new source tally turns piece so lost small = tt
+left_read (Err e) view program form from at at' old new source tally turns piece so lost small = (
   so.input ++ piece,
   gets-then from at at' so.input piece so.lost lost,
   (
     shown_at_once view 0 so.stamps so.shown,
     so.appended,
-    inl (so.shown, rw so.kind at (ran_first program so.input piece source so.shown so.stamps so.ran small), so.stamps, rw so.stamped at (ran_stamps program so.input piece source so.shown so.stamps so.ran), begins_itself (shown_at_once view 0 so.stamps so.shown)),
+    inl (so.shown, rw so.kind at (ran_first program so.input piece source so.shown so.stamps so.ran small), so.stamps, rw (so.stamped, so.kind) at (ran_stamps program so.input piece source so.shown so.stamps so.ran small), begins_itself (shown_at_once view 0 so.stamps so.shown)),
   ),
 )
 
 -- and where a read failed
-pub left_kept : (view : View) (program : List Insn) (pcap : Bool) {R W : Type 0} {remaining : R → Option (List ℕ)} {contents : W → Option (List ℕ)} (from at at' : Source R) (old new : Sink W) (source : PacketSource) (tally : Tally) (turns : ℕ) → Streamed view program pcap remaining from at contents old new source tally turns → GetsNothing remaining at at'
-    → (input : List ℕ) × Gets remaining from at' input × ((text : List ℕ) × Writes contents old new text × ShowsViewPart view program pcap input text)
-left_kept view program pcap from at at' old new source tally turns so kept = (
+pub left_kept : (view : View) (program : List Insn) (form : PacketForm) {R W : Type 0} {remaining : R → Option (List ℕ)} {contents : W → Option (List ℕ)} (from at at' : Source R) (old new : Sink W) (source : PacketSource) (tally : Tally) (turns : ℕ) → Streamed view program form remaining from at contents old new source tally turns → GetsNothing remaining at at'
+    → (input : List ℕ) × Gets remaining from at' input × ((text : List ℕ) × Writes contents old new text × ShowsViewPart view program form input text)
+left_kept view program form from at at' old new source tally turns so kept = (
   so.input,
   gets-kept from at at' so.input so.lost kept,
   (
     shown_at_once view 0 so.stamps so.shown,
     so.appended,
-    inl (so.shown, rw (so.kind, append-nil so.input) at (ran_first program so.input [] source so.shown so.stamps so.ran no_bytes), so.stamps, rw (so.stamped, append-nil so.input) at (ran_stamps program so.input [] source so.shown so.stamps so.ran), begins_itself (shown_at_once view 0 so.stamps so.shown)),
+    inl (so.shown, rw (so.kind, append-nil so.input) at (ran_first program so.input [] source so.shown so.stamps so.ran no_bytes), so.stamps, rw (so.stamped, so.kind, append-nil so.input) at (ran_stamps program so.input [] source so.shown so.stamps so.ran no_bytes), begins_itself (shown_at_once view 0 so.stamps so.shown)),
   ),
 )
 
@@ -57,9 +58,9 @@ pub keeps_itself : {R : Type 0} {remaining : R → Option (List ℕ)} (source : 
 keeps_itself source = record { list = refl; left = keeps-itself _ }
 
 -- a read that was interrupted
-pub streamed_kept : (view : View) (program : List Insn) (pcap : Bool) {R W : Type 0} {remaining : R → Option (List ℕ)} {contents : W → Option (List ℕ)} (from at at' : Source R) (old new : Sink W) (source : PacketSource) (tally : Tally) (turns : ℕ) → Streamed view program pcap remaining from at contents old new source tally turns → GetsNothing remaining at at'
-    → Streamed view program pcap remaining from at' contents old new source tally (turns + 1)
-streamed_kept view program pcap from at at' old new source tally turns so kept = record {
+pub streamed_kept : (view : View) (program : List Insn) (form : PacketForm) {R W : Type 0} {remaining : R → Option (List ℕ)} {contents : W → Option (List ℕ)} (from at at' : Source R) (old new : Sink W) (source : PacketSource) (tally : Tally) (turns : ℕ) → Streamed view program form remaining from at contents old new source tally turns → GetsNothing remaining at at'
+    → Streamed view program form remaining from at' contents old new source tally (turns + 1)
+streamed_kept view program form from at at' old new source tally turns so kept = record {
   input = so.input;
   shown = so.shown;
   stamps = so.stamps;
@@ -73,31 +74,31 @@ streamed_kept view program pcap from at at' old new source tally turns so kept =
 }
 
 -- what was read was run, but isn't shown yet
-pub record Took {R W : Type 0} (view : View) (To : List ℕ → List Outcome → List Stamp → Type 0) (pcap : Bool) (remaining : R → Option (List ℕ)) (from at : Source R) (contents : W → Option (List ℕ)) (old new : Sink W) (source : PacketSource) (tally : Tally) (outcomes : List Outcome) (times : List Stamp) (turns : ℕ) : Type 0 where
+pub record Took {R W : Type 0} (view : View) (To : List ℕ → List Outcome → List PacketTime → Type 0) (form : PacketForm) (remaining : R → Option (List ℕ)) (from at : Source R) (contents : W → Option (List ℕ)) (old new : Sink W) (source : PacketSource) (tally : Tally) (outcomes : List Outcome) (times : List PacketTime) (turns : ℕ) : Type 0 where
   pub input : List ℕ
   pub shown : List Outcome
-  pub stamps : List Stamp
+  pub stamps : List PacketTime
   pub lost : Gets remaining from at input
   pub has : To input (shown ++ outcomes) (stamps ++ times)
   pub aligned : (length stamps ≡ length shown) ⊎ ((stamps ≡ []) × (times ≡ []))
   pub counted : HasCounted view tally shown
   pub appended : Writes contents old new (shown_at_once view 0 stamps shown)
-  pub kind : is_capture source ≡ pcap
-  pub stamped : is_stamped source ≡ shows_stamps view pcap
+  pub kind : form_of source ≡ form
+  pub stamped : is_stamped source ≡ shows_stamps view form
   pub short : length input ≤ 65536 * turns
 
-align : (program : List Insn) (fed : List ℕ) (source : PacketSource) (outcomes : List Outcome) (stamps since upto : List Stamp) → SourceRan program fed source outcomes stamps → since ≡ [] → (is_stamped source ≡ false → upto ≡ since)
+align : (program : List Insn) (fed : List ℕ) (source : PacketSource) (outcomes : List Outcome) (stamps since upto : List PacketTime) → SourceRan program fed source outcomes stamps → since ≡ [] → (is_stamped source ≡ false → upto ≡ since)
     → (length stamps ≡ length outcomes) ⊎ ((stamps ≡ []) × (upto ≡ []))
 align program fed source outcomes stamps since upto ran none plain = elim (ran_aligned program fed source outcomes stamps ran) [
   | inl same ↦ inl same
   | inr apart ↦ inr (apart.1, plain apart.0 ∙ none)
 ]
 
-pub took : (view : View) (To : List ℕ → PacketSource → List Outcome → List Stamp → Type 0) (program : List Insn) (pcap : Bool) {R W : Type 0} {remaining : R → Option (List ℕ)} {contents : W → Option (List ℕ)} (from at at' : Source R) (old new : Sink W) (source source' : PacketSource) (tally : Tally) (turns : ℕ) (piece : List ℕ) (before after : List Outcome) (since upto : List Stamp)
-    → Streamed view program pcap remaining from at contents old new source tally turns → Gets remaining at at' piece → length piece ≤ 65536 → turns < 281474976710655 → before ≡ [] → since ≡ [] → (is_stamped source ≡ false → upto ≡ since)
-    → StampTo (SourceRan program) To piece source source' before after since upto → is_capture source' ≡ is_capture source → is_stamped source' ≡ is_stamped source
-    → Took view (λ input outcomes stamps. To input source' outcomes stamps) pcap remaining from at' contents old new source' tally after upto (turns + 1)
-took view To program pcap from at at' old new source source' tally turns piece before after since upto so lost few limit none no_times plain runs kind stamped =
+pub took : (view : View) (To : List ℕ → PacketSource → List Outcome → List PacketTime → Type 0) (program : List Insn) (form : PacketForm) {R W : Type 0} {remaining : R → Option (List ℕ)} {contents : W → Option (List ℕ)} (from at at' : Source R) (old new : Sink W) (source source' : PacketSource) (tally : Tally) (turns : ℕ) (piece : List ℕ) (before after : List Outcome) (since upto : List PacketTime)
+    → Streamed view program form remaining from at contents old new source tally turns → Gets remaining at at' piece → length piece ≤ 65536 → turns < 281474976710655 → before ≡ [] → since ≡ [] → (is_stamped source ≡ false → upto ≡ since)
+    → StampTo (SourceRan program) To piece source source' before after since upto → form_of source' ≡ form_of source → is_stamped source' ≡ is_stamped source
+    → Took view (λ input outcomes stamps. To input source' outcomes stamps) form remaining from at' contents old new source' tally after upto (turns + 1)
+took view To program form from at at' old new source source' tally turns piece before after since upto so lost few limit none no_times plain runs kind stamped =
     let pushed : after ≡ runs.more = runs.pushed ∙ ap (λ t. t ++ runs.more) none in
     let timed : upto ≡ runs.times = runs.pushed_times ∙ ap (λ t. t ++ runs.times) no_times in
     record {
@@ -115,41 +116,41 @@ took view To program pcap from at at' old new source source' tally turns piece b
     }
 
 -- a run of what was read, whether it stopped or not
-abbrev pub RanOrStopped : List Insn → Bool → List ℕ → PacketSource → List Outcome → List Stamp → Type 0
+abbrev pub RanOrStopped : List Insn → Bool → List ℕ → PacketSource → List Outcome → List PacketTime → Type 0
 RanOrStopped program stopped taken source outcomes stamps = MatchBool stopped (SourceEnded program true taken source outcomes stamps) (SourceRan program taken source outcomes stamps)
 
-pub either_run : (program : List Insn) (stopped : Bool) (piece : List ℕ) (old new : PacketSource) (before after : List Outcome) (since upto : List Stamp)
+pub either_run : (program : List Insn) (stopped : Bool) (piece : List ℕ) (old new : PacketSource) (before after : List Outcome) (since upto : List PacketTime)
     → MatchBool stopped (StampTo (SourceRan program) (SourceEnded program true) piece old new before after since upto) (StampTo (SourceRan program) (SourceRan program) piece old new before after since upto)
     → StampTo (SourceRan program) (RanOrStopped program stopped) piece old new before after since upto
 either_run program true piece old new before after since upto r = record { more = r.more; times = r.times; pushed = r.pushed; pushed_times = r.pushed_times; runs = λ fed outcomes stamps has short. r.runs fed outcomes stamps has short }
 either_run program false piece old new before after since upto r = record { more = r.more; times = r.times; pushed = r.pushed; pushed_times = r.pushed_times; runs = λ fed outcomes stamps has short. r.runs fed outcomes stamps has short }
 
 -- the first packets that were run, with their time stamps
-abbrev pub FirstShown : List Insn → PacketSource → List ℕ → List Outcome → List Stamp → Type 0
-FirstShown program source input outcomes stamps = RanFirst program (is_capture source) input outcomes × AreShown (is_stamped source) input (length outcomes) stamps
+abbrev pub FirstShown : List Insn → PacketSource → List ℕ → List Outcome → List PacketTime → Type 0
+FirstShown program source input outcomes stamps = RanFirst program (form_of source) input outcomes × AreShown (is_stamped source) (form_of source) input (length outcomes) stamps
 
-pub ended_shown : (program : List Insn) (stopped : Bool) (taken : List ℕ) (source : PacketSource) (outcomes : List Outcome) (stamps : List Stamp) → SourceEnded program stopped taken source outcomes stamps → FirstShown program source taken outcomes stamps
+pub ended_shown : (program : List Insn) (stopped : Bool) (taken : List ℕ) (source : PacketSource) (outcomes : List Outcome) (stamps : List PacketTime) → SourceEnded program stopped taken source outcomes stamps → FirstShown program source taken outcomes stamps
 ended_shown program stopped taken source outcomes stamps has = (ended_first program stopped taken source outcomes stamps has, ended_stamps program stopped taken source outcomes stamps has)
 
-pub either_shown : (program : List Insn) (stopped : Bool) (taken : List ℕ) (source : PacketSource) (outcomes : List Outcome) (stamps : List Stamp) → RanOrStopped program stopped taken source outcomes stamps
+pub either_shown : (program : List Insn) (stopped : Bool) (taken : List ℕ) (source : PacketSource) (outcomes : List Outcome) (stamps : List PacketTime) → RanOrStopped program stopped taken source outcomes stamps
     → FirstShown program source taken outcomes stamps
 either_shown program true taken source outcomes stamps has = ended_shown program true taken source outcomes stamps has
 either_shown program false taken source outcomes stamps has =
-    (rw (append-nil taken) at (ran_first program taken [] source outcomes stamps has no_bytes), rw (append-nil taken) at (ran_stamps program taken [] source outcomes stamps has))
+    (rw (append-nil taken) at (ran_first program taken [] source outcomes stamps has no_bytes), rw (append-nil taken) at (ran_stamps program taken [] source outcomes stamps has no_bytes))
 
 -- what is shown of outcomes after others that were counted
-shown_then : (view : View) (tally : Tally) (stamps times : List Stamp) (shown more : List Outcome) → HasCounted view tally shown → (length stamps ≡ length shown) ⊎ ((stamps ≡ []) × (times ≡ []))
+shown_then : (view : View) (tally : Tally) (stamps times : List PacketTime) (shown more : List Outcome) → HasCounted view tally shown → (length stamps ≡ length shown) ⊎ ((stamps ≡ []) × (times ≡ []))
     → shown_at_once view 0 (stamps ++ times) (shown ++ more) ≡ shown_at_once view 0 stamps shown ++ shown_at_once tally.view tally.total times more
 shown_then view tally stamps times shown more counted aligned = rw (counted.0, counted.1) (rw zero-add at (shown-append view 0 stamps times shown more aligned))
 
 -- what is left where the outcomes couldn't be written
-pub left_took : {T E : Type 0} (r : Result T E) (view : View) (To : List ℕ → List Outcome → List Stamp → Type 0) (program : List Insn) (pcap : Bool) {R W : Type 0} {remaining : R → Option (List ℕ)} {contents : W → Option (List ℕ)} (from at : Source R) (old new last : Sink W) (source : PacketSource) (tally : Tally) (outcomes : List Outcome) (times : List Stamp) (turns : ℕ)
-    → Took view To pcap remaining from at contents old new source tally outcomes times turns
-    → ((input : List ℕ) (outcomes : List Outcome) (stamps : List Stamp) → To input outcomes stamps → FirstShown program source input outcomes stamps)
+pub left_took : {T E : Type 0} (r : Result T E) (view : View) (To : List ℕ → List Outcome → List PacketTime → Type 0) (program : List Insn) (form : PacketForm) {R W : Type 0} {remaining : R → Option (List ℕ)} {contents : W → Option (List ℕ)} (from at : Source R) (old new last : Sink W) (source : PacketSource) (tally : Tally) (outcomes : List Outcome) (times : List PacketTime) (turns : ℕ)
+    → Took view To form remaining from at contents old new source tally outcomes times turns
+    → ((input : List ℕ) (outcomes : List Outcome) (stamps : List PacketTime) → To input outcomes stamps → FirstShown program source input outcomes stamps)
     → (front : List ℕ) × BeginsWith front (shown_at_once tally.view tally.total times outcomes) × Writes contents new last front
-    → OnErr r ((input : List ℕ) × Gets remaining from at input × ((text : List ℕ) × Writes contents old last text × ShowsViewPart view program pcap input text))
-left_took (Ok v) view To program pcap from at old new last source tally outcomes times turns so firsts failed = tt
-left_took (Err e) view To program pcap from at old new last source tally outcomes times turns so firsts failed =
+    → OnErr r ((input : List ℕ) × Gets remaining from at input × ((text : List ℕ) × Writes contents old last text × ShowsViewPart view program form input text))
+left_took (Ok v) view To program form from at old new last source tally outcomes times turns so firsts failed = tt
+left_took (Err e) view To program form from at old new last source tally outcomes times turns so firsts failed =
     let lines : List ℕ = shown_at_once view 0 so.stamps so.shown in
     let shown = firsts so.input (so.shown ++ outcomes) (so.stamps ++ times) so.has in
     let all : shown_at_once view 0 (so.stamps ++ times) (so.shown ++ outcomes) ≡ (lines ++ failed.0) ++ failed.1.0 =
@@ -159,28 +160,28 @@ left_took (Err e) view To program pcap from at old new last source tally outcome
       (
         lines ++ failed.0,
         writes-then old new last lines failed.0 so.appended failed.2,
-        inl (so.shown ++ outcomes, rw so.kind at shown.0, so.stamps ++ times, rw so.stamped at shown.1, (failed.1.0, all)),
+        inl (so.shown ++ outcomes, rw so.kind at shown.0, so.stamps ++ times, rw (so.stamped, so.kind) at shown.1, (failed.1.0, all)),
       ),
     )
 
 -- the outcomes were shown
-pub record Showed {R W : Type 0} (view : View) (To : List ℕ → List Outcome → List Stamp → Type 0) (pcap : Bool) (remaining : R → Option (List ℕ)) (from at : Source R) (contents : W → Option (List ℕ)) (old new : Sink W) (source : PacketSource) (tally : Tally) (turns : ℕ) : Type 0 where
+pub record Showed {R W : Type 0} (view : View) (To : List ℕ → List Outcome → List PacketTime → Type 0) (form : PacketForm) (remaining : R → Option (List ℕ)) (from at : Source R) (contents : W → Option (List ℕ)) (old new : Sink W) (source : PacketSource) (tally : Tally) (turns : ℕ) : Type 0 where
   pub input : List ℕ
   pub outcomes : List Outcome
-  pub stamps : List Stamp
+  pub stamps : List PacketTime
   pub lost : Gets remaining from at input
   pub has : To input outcomes stamps
-  pub stamped : is_stamped source ≡ shows_stamps view pcap
+  pub stamped : is_stamped source ≡ shows_stamps view form
   pub counted : HasCounted view tally outcomes
   pub appended : Writes contents old new (shown_at_once view 0 stamps outcomes)
-  pub kind : is_capture source ≡ pcap
+  pub kind : form_of source ≡ form
   pub short : length input ≤ 65536 * turns
 
-pub showed : (view : View) (To : List ℕ → List Outcome → List Stamp → Type 0) (pcap : Bool) {R W : Type 0} {remaining : R → Option (List ℕ)} {contents : W → Option (List ℕ)} (from at : Source R) (old new last : Sink W) (source : PacketSource) (tally tally' : Tally) (outcomes : List Outcome) (times : List Stamp) (turns : ℕ)
-    → Took view To pcap remaining from at contents old new source tally outcomes times turns → Writes contents new last (shown_at_once tally.view tally.total times outcomes)
+pub showed : (view : View) (To : List ℕ → List Outcome → List PacketTime → Type 0) (form : PacketForm) {R W : Type 0} {remaining : R → Option (List ℕ)} {contents : W → Option (List ℕ)} (from at : Source R) (old new last : Sink W) (source : PacketSource) (tally tally' : Tally) (outcomes : List Outcome) (times : List PacketTime) (turns : ℕ)
+    → Took view To form remaining from at contents old new source tally outcomes times turns → Writes contents new last (shown_at_once tally.view tally.total times outcomes)
     → ((view : View) (before : List Outcome) → HasCounted view tally before → HasCounted view tally' (before ++ outcomes))
-    → Showed view To pcap remaining from at contents old last source tally' turns
-showed view To pcap from at old new last source tally tally' outcomes times turns so more counts = record {
+    → Showed view To form remaining from at contents old last source tally' turns
+showed view To form from at old new last source tally tally' outcomes times turns so more counts = record {
   input = so.input;
   outcomes = so.shown ++ outcomes;
   stamps = so.stamps ++ times;
@@ -194,9 +195,9 @@ showed view To pcap from at old new last source tally tally' outcomes times turn
 }
 
 -- and there is more to read
-pub streamed_next : (view : View) (program : List Insn) (pcap : Bool) {R W : Type 0} {remaining : R → Option (List ℕ)} {contents : W → Option (List ℕ)} (from at : Source R) (old new : Sink W) (source : PacketSource) (tally : Tally) (turns : ℕ)
-    → Showed view (λ input outcomes stamps. RanOrStopped program false input source outcomes stamps) pcap remaining from at contents old new source tally turns → Streamed view program pcap remaining from at contents old new source tally turns
-streamed_next view program pcap from at old new source tally turns so = record {
+pub streamed_next : (view : View) (program : List Insn) (form : PacketForm) {R W : Type 0} {remaining : R → Option (List ℕ)} {contents : W → Option (List ℕ)} (from at : Source R) (old new : Sink W) (source : PacketSource) (tally : Tally) (turns : ℕ)
+    → Showed view (λ input outcomes stamps. RanOrStopped program false input source outcomes stamps) form remaining from at contents old new source tally turns → Streamed view program form remaining from at contents old new source tally turns
+streamed_next view program form from at old new source tally turns so = record {
   input = so.input;
   shown = so.outcomes;
   stamps = so.stamps;
@@ -214,33 +215,33 @@ short_input : (input turns : ℕ) → input ≤ 65536 * turns → turns ≤ 2814
 short_input input turns short limit = omega arith
 
 -- what is left where nothing came after the outcomes
-pub left_showed : {T E : Type 0} (r : Result T E) (view : View) (To : List ℕ → List Outcome → List Stamp → Type 0) (program : List Insn) (pcap : Bool) {R W : Type 0} {remaining : R → Option (List ℕ)} {contents : W → Option (List ℕ)} (from at : Source R) (old new : Sink W) (source : PacketSource) (tally : Tally) (turns : ℕ)
-    → Showed view To pcap remaining from at contents old new source tally turns
-    → ((input : List ℕ) (outcomes : List Outcome) (stamps : List Stamp) → To input outcomes stamps → FirstShown program source input outcomes stamps)
-    → OnErr r ((input : List ℕ) × Gets remaining from at input × ((text : List ℕ) × Writes contents old new text × ShowsViewPart view program pcap input text))
-left_showed (Ok v) view To program pcap from at old new source tally turns so firsts = tt
-left_showed (Err e) view To program pcap from at old new source tally turns so firsts = (
+pub left_showed : {T E : Type 0} (r : Result T E) (view : View) (To : List ℕ → List Outcome → List PacketTime → Type 0) (program : List Insn) (form : PacketForm) {R W : Type 0} {remaining : R → Option (List ℕ)} {contents : W → Option (List ℕ)} (from at : Source R) (old new : Sink W) (source : PacketSource) (tally : Tally) (turns : ℕ)
+    → Showed view To form remaining from at contents old new source tally turns
+    → ((input : List ℕ) (outcomes : List Outcome) (stamps : List PacketTime) → To input outcomes stamps → FirstShown program source input outcomes stamps)
+    → OnErr r ((input : List ℕ) × Gets remaining from at input × ((text : List ℕ) × Writes contents old new text × ShowsViewPart view program form input text))
+left_showed (Ok v) view To program form from at old new source tally turns so firsts = tt
+left_showed (Err e) view To program form from at old new source tally turns so firsts = (
   so.input,
   so.lost,
   (
     shown_at_once view 0 so.stamps so.outcomes,
     so.appended,
-    inl (so.outcomes, rw so.kind at (firsts so.input so.outcomes so.stamps so.has).0, so.stamps, rw so.stamped at (firsts so.input so.outcomes so.stamps so.has).1, begins_itself (shown_at_once view 0 so.stamps so.outcomes)),
+    inl (so.outcomes, rw so.kind at (firsts so.input so.outcomes so.stamps so.has).0, so.stamps, rw (so.stamped, so.kind) at (firsts so.input so.outcomes so.stamps so.has).1, begins_itself (shown_at_once view 0 so.stamps so.outcomes)),
   ),
 )
 
-nothing_shown : (n : ℕ) (stamps : List Stamp) (outcomes : List Outcome) → shown_at_once Quiet n stamps outcomes ≡ []
+nothing_shown : (n : ℕ) (stamps : List PacketTime) (outcomes : List Outcome) → shown_at_once Quiet n stamps outcomes ≡ []
 nothing_shown n stamps [] = refl
 nothing_shown n stamps (o ∷ outcomes) = nothing_shown (n + 1) (other_stamps stamps) outcomes
 
 -- a text and a status of outcomes and of what comes after them
-view_end : (view : View) (program : List Insn) (pcap : Bool) (input : List ℕ) (outcomes : List Outcome) (stamps : List Stamp) (ending : Ending) (status : ℕ) (text : List ℕ)
-    → RanFirst program pcap input outcomes → AreShown (shows_stamps view pcap) input (length outcomes) stamps → RanAll program pcap input outcomes (ending_status ending) (ending_text ending)
-    → ShowsEnd view (accepted outcomes) (length outcomes) ending status text → ShowsView view program pcap input status (shown_at_once view 0 stamps outcomes ++ text)
-view_end Lines program pcap input outcomes stamps ending status text first times all shows = (outcomes, ending_status ending, ending_text ending, all, stamps, times, (shows.0, ap (λ t. shown_at_once Lines 0 stamps outcomes ++ t) shows.1))
-view_end Numbers program pcap input outcomes stamps ending status text first times all shows = (outcomes, ending_status ending, ending_text ending, all, stamps, times, (shows.0, ap (λ t. shown_at_once Numbers 0 stamps outcomes ++ t) shows.1))
-view_end Count program pcap input outcomes stamps ending status text first times all shows = (outcomes, ending_status ending, ending_text ending, all, stamps, times, (shows.0, ap (λ t. shown_at_once Count 0 stamps outcomes ++ t) shows.1))
-view_end Quiet program pcap input outcomes stamps ending status text first times all shows = (
+view_end : (view : View) (program : List Insn) (form : PacketForm) (input : List ℕ) (outcomes : List Outcome) (stamps : List PacketTime) (ending : Ending) (status : ℕ) (text : List ℕ)
+    → RanFirst program form input outcomes → AreShown (shows_stamps view form) form input (length outcomes) stamps → RanAll program form input outcomes (ending_status ending) (ending_text ending)
+    → ShowsEnd view (accepted outcomes) (length outcomes) ending status text → ShowsView view program form input status (shown_at_once view 0 stamps outcomes ++ text)
+view_end Lines program form input outcomes stamps ending status text first times all shows = (outcomes, ending_status ending, ending_text ending, all, stamps, times, (shows.0, ap (λ t. shown_at_once Lines 0 stamps outcomes ++ t) shows.1))
+view_end Numbers program form input outcomes stamps ending status text first times all shows = (outcomes, ending_status ending, ending_text ending, all, stamps, times, (shows.0, ap (λ t. shown_at_once Numbers 0 stamps outcomes ++ t) shows.1))
+view_end Count program form input outcomes stamps ending status text first times all shows = (outcomes, ending_status ending, ending_text ending, all, stamps, times, (shows.0, ap (λ t. shown_at_once Count 0 stamps outcomes ++ t) shows.1))
+view_end Quiet program form input outcomes stamps ending status text first times all shows = (
   ap (λ t. shown_at_once Quiet 0 stamps outcomes ++ t) shows.0 ∙ append-nil (shown_at_once Quiet 0 stamps outcomes) ∙ nothing_shown 0 stamps outcomes,
   elim (shows.1) [
     | inl some ↦ inl (outcomes, first, some.0, some.1)
@@ -248,13 +249,13 @@ view_end Quiet program pcap input outcomes stamps ending status text first times
   ],
 )
 
-ended_view : (view : View) (program : List Insn) (stopped pcap : Bool) {R W : Type 0} {remaining : R → Option (List ℕ)} {contents : W → Option (List ℕ)} (from at : Source R) (old new : Sink W) (source : PacketSource) (tally : Tally) (turns : ℕ) (ending : Ending) (status : ℕ) (text : List ℕ)
-    → (so : Showed view (λ input outcomes stamps. SourceEnded program stopped input source outcomes stamps) pcap remaining from at contents old new source tally turns) → turns ≤ 281474976710655
+ended_view : (view : View) (program : List Insn) (stopped : Bool) (form : PacketForm) {R W : Type 0} {remaining : R → Option (List ℕ)} {contents : W → Option (List ℕ)} (from at : Source R) (old new : Sink W) (source : PacketSource) (tally : Tally) (turns : ℕ) (ending : Ending) (status : ℕ) (text : List ℕ)
+    → (so : Showed view (λ input outcomes stamps. SourceEnded program stopped input source outcomes stamps) form remaining from at contents old new source tally turns) → turns ≤ 281474976710655
     → Ends source stopped ending → ShowsEnd tally.view tally.accepted tally.total ending status text
-    → ShowsView view program pcap so.input status (shown_at_once view 0 so.stamps so.outcomes ++ text)
-ended_view view program stopped pcap from at old new source tally turns ending status text so limit ends shows =
-    view_end view program pcap so.input so.outcomes so.stamps ending status text (rw so.kind at (ended_first program stopped so.input source so.outcomes so.stamps so.has))
-    (rw so.stamped at (ended_stamps program stopped so.input source so.outcomes so.stamps so.has))
+    → ShowsView view program form so.input status (shown_at_once view 0 so.stamps so.outcomes ++ text)
+ended_view view program stopped form from at old new source tally turns ending status text so limit ends shows =
+    view_end view program form so.input so.outcomes so.stamps ending status text (rw so.kind at (ended_first program stopped so.input source so.outcomes so.stamps so.has))
+    (rw (so.stamped, so.kind) at (ended_stamps program stopped so.input source so.outcomes so.stamps so.has))
     (rw so.kind at (ends program so.input so.outcomes so.stamps (short_input (length so.input) turns so.short limit) so.has))
     (rw (so.counted.0, so.counted.1, so.counted.2) at shows)
 
@@ -269,22 +270,22 @@ status_of Quiet some all ending status text shows one = elim (shows.1) [
 ]
 
 -- what is shown at the end
-pub end_shown : (r : Result ℕ EngineFault) (view : View) (program : List Insn) (stopped pcap : Bool) {R W : Type 0} {remaining : R → Option (List ℕ)} {contents : W → Option (List ℕ)} (from at : Source R) (old new last : Sink W) (source : PacketSource) (tally : Tally) (turns : ℕ) (ending : Ending)
-    → Showed view (λ input outcomes stamps. SourceEnded program stopped input source outcomes stamps) pcap remaining from at contents old new source tally turns → turns ≤ 281474976710655
+pub end_shown : (r : Result ℕ EngineFault) (view : View) (program : List Insn) (stopped : Bool) (form : PacketForm) {R W : Type 0} {remaining : R → Option (List ℕ)} {contents : W → Option (List ℕ)} (from at : Source R) (old new last : Sink W) (source : PacketSource) (tally : Tally) (turns : ℕ) (ending : Ending)
+    → Showed view (λ input outcomes stamps. SourceEnded program stopped input source outcomes stamps) form remaining from at contents old new source tally turns → turns ≤ 281474976710655
     → (IsAtEnd (remaining at.inner) ⊎ IsTrue stopped)
     → Ends source stopped ending
     → EndsAtOne source stopped ending
     → IfOk r (λ status. (text : List ℕ) × Writes contents new last text × ShowsEnd tally.view tally.accepted tally.total ending status text)
-    → IfOk r (λ status. (input : List ℕ) × Gets remaining from at input × ((text : List ℕ) × Writes contents old last text × ShowsView view program pcap input status text)
+    → IfOk r (λ status. (input : List ℕ) × Gets remaining from at input × ((text : List ℕ) × Writes contents old last text × ShowsView view program form input status text)
     × (IsAtEnd (remaining at.inner) ⊎ (status ≡ 1) ⊎ IsFound view status))
-end_shown (Err e) view program stopped pcap from at old new last source tally turns ending so limit at_end ends is_one shows = tt
-end_shown (Ok status) view program stopped pcap from at old new last source tally turns ending so limit at_end ends is_one shows = (
+end_shown (Err e) view program stopped form from at old new last source tally turns ending so limit at_end ends is_one shows = tt
+end_shown (Ok status) view program stopped form from at old new last source tally turns ending so limit at_end ends is_one shows = (
   so.input,
   so.lost,
   (
     shown_at_once view 0 so.stamps so.outcomes ++ shows.0,
     writes-then old new last (shown_at_once view 0 so.stamps so.outcomes) shows.0 so.appended shows.1,
-    ended_view view program stopped pcap from at old new source tally turns ending status shows.0 so limit ends shows.2,
+    ended_view view program stopped form from at old new source tally turns ending status shows.0 so limit ends shows.2,
   ),
   elim at_end [
     | inl end ↦ inl end
@@ -293,24 +294,24 @@ end_shown (Ok status) view program stopped pcap from at old new last source tall
 )
 
 -- where nothing that follows is looked at, the status says so
-pub end_well : (r : Result ℕ EngineFault) (view : View) (program : List Insn) (pcap : Bool) {R W : Type 0} {remaining : R → Option (List ℕ)} {contents : W → Option (List ℕ)} (from at : Source R) (old new last : Sink W) (source : PacketSource) (tally : Tally) (turns : ℕ) (ending : Ending) (written read ended : Bool)
-    → Showed view (λ input outcomes stamps. SourceEnded program true input source outcomes stamps) pcap remaining from at contents old new source tally turns
+pub end_well : (r : Result ℕ EngineFault) (view : View) (program : List Insn) (form : PacketForm) {R W : Type 0} {remaining : R → Option (List ℕ)} {contents : W → Option (List ℕ)} (from at : Source R) (old new last : Sink W) (source : PacketSource) (tally : Tally) (turns : ℕ) (ending : Ending) (written read ended : Bool)
+    → Showed view (λ input outcomes stamps. SourceEnded program true input source outcomes stamps) form remaining from at contents old new source tally turns
     → EndsAtOne source true ending
     → IfOk r (λ status. (text : List ℕ) × Writes contents new last text × ShowsEnd tally.view tally.accepted tally.total ending status text)
     → OnOk r (written ≡ false) → read ≡ false
     → IfOk r (λ status. (written ≡ false) × (read ≡ false) × ((ended ≡ true) ⊎ (status ≡ 1) ⊎ IsFound view status))
-end_well (Err e) view program pcap from at old new last source tally turns ending written read ended so is_one shows good well = tt
-end_well (Ok status) view program pcap from at old new last source tally turns ending written read ended so is_one shows good well =
+end_well (Err e) view program form from at old new last source tally turns ending written read ended so is_one shows good well = tt
+end_well (Ok status) view program form from at old new last source tally turns ending written read ended so is_one shows good well =
     (good, well, inr (rw so.counted.0 at (status_of tally.view tally.accepted tally.total ending status shows.0 shows.2 (is_one program so.input so.outcomes so.stamps so.has refl))))
 
 -- and left, where it couldn't be written
-pub end_left : (r : Result ℕ EngineFault) (view : View) (program : List Insn) (stopped pcap : Bool) {R W : Type 0} {remaining : R → Option (List ℕ)} {contents : W → Option (List ℕ)} (from at : Source R) (old new last : Sink W) (source : PacketSource) (tally : Tally) (turns : ℕ) (ending : Ending)
-    → Showed view (λ input outcomes stamps. SourceEnded program stopped input source outcomes stamps) pcap remaining from at contents old new source tally turns → turns ≤ 281474976710655
+pub end_left : (r : Result ℕ EngineFault) (view : View) (program : List Insn) (stopped : Bool) (form : PacketForm) {R W : Type 0} {remaining : R → Option (List ℕ)} {contents : W → Option (List ℕ)} (from at : Source R) (old new last : Sink W) (source : PacketSource) (tally : Tally) (turns : ℕ) (ending : Ending)
+    → Showed view (λ input outcomes stamps. SourceEnded program stopped input source outcomes stamps) form remaining from at contents old new source tally turns → turns ≤ 281474976710655
     → Ends source stopped ending
     → OnErr r ((text : List ℕ) × Writes contents new last text × ((status : ℕ) × (whole : List ℕ) × ShowsEnd tally.view tally.accepted tally.total ending status whole × BeginsWith text whole))
-    → OnErr r ((input : List ℕ) × Gets remaining from at input × ((text : List ℕ) × Writes contents old last text × ShowsViewPart view program pcap input text))
-end_left (Ok v) view program stopped pcap from at old new last source tally turns ending so limit ends failed = tt
-end_left (Err e) view program stopped pcap from at old new last source tally turns ending so limit ends failed =
+    → OnErr r ((input : List ℕ) × Gets remaining from at input × ((text : List ℕ) × Writes contents old last text × ShowsViewPart view program form input text))
+end_left (Ok v) view program stopped form from at old new last source tally turns ending so limit ends failed = tt
+end_left (Err e) view program stopped form from at old new last source tally turns ending so limit ends failed =
     let lines : List ℕ = shown_at_once view 0 so.stamps so.outcomes in
     let text : List ℕ = failed.0 in
     let part = failed.2 in (
@@ -322,17 +323,17 @@ end_left (Err e) view program stopped pcap from at old new last source tally tur
         inr (
           part.0,
           lines ++ part.1,
-          ended_view view program stopped pcap from at old new source tally turns ending part.0 part.1 so limit ends part.2,
+          ended_view view program stopped form from at old new source tally turns ending part.0 part.1 so limit ends part.2,
           (part.3.0, ap (λ t. lines ++ t) part.3.1 ∙ sym (append_assoc lines text part.3.0)),
         ),
       ),
     )
 
 -- a packet was accepted, and nothing else matters
-pub found_shown : (view : View) (program : List Insn) (pcap : Bool) {R W : Type 0} {remaining : R → Option (List ℕ)} {contents : W → Option (List ℕ)} (from at : Source R) (old new : Sink W) (source : PacketSource) (tally : Tally) (turns : ℕ) (stopped : Bool)
-    → Showed view (λ input outcomes stamps. RanOrStopped program stopped input source outcomes stamps) pcap remaining from at contents old new source tally turns → (tally.view ≡ Quiet) × (0 < tally.accepted)
-    → (input : List ℕ) × Gets remaining from at input × ((text : List ℕ) × Writes contents old new text × ShowsView view program pcap input 0 text) × (IsAtEnd (remaining at.inner) ⊎ (◌≡◌ {A = ℕ} 0 1) ⊎ IsFound view 0)
-found_shown view program pcap from at old new source tally turns stopped so found =
+pub found_shown : (view : View) (program : List Insn) (form : PacketForm) {R W : Type 0} {remaining : R → Option (List ℕ)} {contents : W → Option (List ℕ)} (from at : Source R) (old new : Sink W) (source : PacketSource) (tally : Tally) (turns : ℕ) (stopped : Bool)
+    → Showed view (λ input outcomes stamps. RanOrStopped program stopped input source outcomes stamps) form remaining from at contents old new source tally turns → (tally.view ≡ Quiet) × (0 < tally.accepted)
+    → (input : List ℕ) × Gets remaining from at input × ((text : List ℕ) × Writes contents old new text × ShowsView view program form input 0 text) × (IsAtEnd (remaining at.inner) ⊎ (◌≡◌ {A = ℕ} 0 1) ⊎ IsFound view 0)
+found_shown view program form from at old new source tally turns stopped so found =
     let quiet : view ≡ Quiet = sym so.counted.0 ∙ found.0 in (
       so.input,
       so.lost,
@@ -349,41 +350,41 @@ pub taken_bytes : (count : ℕ) (block : List ℕ) → count ≤ length block �
 taken_bytes count block within room = omega (arith, length-take-le count block within)
 
 -- what is shown of a good code
-pub shown_of_code : (r : Result ℕ EngineFault) (view : View) (code : List ℕ) (program : List Insn) (pcap kind : Bool) {R W : Type 0} (remaining : R → Option (List ℕ)) (contents : W → Option (List ℕ)) (from at : Source R) (old new : Sink W) → IsGoodCode code program → kind ≡ pcap
+pub shown_of_code : (r : Result ℕ EngineFault) (view : View) (code : List ℕ) (program : List Insn) (form kind : PacketForm) {R W : Type 0} (remaining : R → Option (List ℕ)) (contents : W → Option (List ℕ)) (from at : Source R) (old new : Sink W) → IsGoodCode code program → kind ≡ form
     → IfOk r (λ status. (input : List ℕ) × Gets remaining from at input × ((text : List ℕ) × Writes contents old new text × ShowsView view program kind input status text) × (IsAtEnd (remaining at.inner) ⊎ (status ≡ 1) ⊎ IsFound view status))
     → IfOk r (λ status. (text : List ℕ) × Writes contents old new text × ((ShowsViewCode view code text × (status ≡ 1))
-    ⊎ ((input : List ℕ) × Gets remaining from at input × ViewShows view code pcap input status text × (IsAtEnd (remaining at.inner) ⊎ (status ≡ 1) ⊎ IsFound view status))))
-shown_of_code (Err e) view code program pcap kind remaining contents from at old new good same shown = tt
-shown_of_code (Ok status) view code program pcap kind remaining contents from at old new good same shown = (shown.2.0, shown.2.1, inr (shown.0, shown.1, (program, good, rw same at shown.2.2), shown.3))
+    ⊎ ((input : List ℕ) × Gets remaining from at input × ViewShows view code form input status text × (IsAtEnd (remaining at.inner) ⊎ (status ≡ 1) ⊎ IsFound view status))))
+shown_of_code (Err e) view code program form kind remaining contents from at old new good same shown = tt
+shown_of_code (Ok status) view code program form kind remaining contents from at old new good same shown = (shown.2.0, shown.2.1, inr (shown.0, shown.1, (program, good, rw same at shown.2.2), shown.3))
 
-pub left_of_code : (r : Result ℕ EngineFault) (view : View) (code : List ℕ) (program : List Insn) (pcap kind : Bool) {R W : Type 0} (remaining : R → Option (List ℕ)) (contents : W → Option (List ℕ)) (from at : Source R) (old new : Sink W) → IsGoodCode code program → kind ≡ pcap
+pub left_of_code : (r : Result ℕ EngineFault) (view : View) (code : List ℕ) (program : List Insn) (form kind : PacketForm) {R W : Type 0} (remaining : R → Option (List ℕ)) (contents : W → Option (List ℕ)) (from at : Source R) (old new : Sink W) → IsGoodCode code program → kind ≡ form
     → OnErr r ((input : List ℕ) × Gets remaining from at input × ((text : List ℕ) × Writes contents old new text × ShowsViewPart view program kind input text))
     → OnErr r ((text : List ℕ) × Writes contents old new text × ((text ≡ []) ⊎ (((whole : List ℕ) × ShowsBadCode code whole × BeginsWith text whole)
-    ⊎ ((input : List ℕ) × Gets remaining from at input × ViewLeaves view code pcap input text))))
-left_of_code (Ok v) view code program pcap kind remaining contents from at old new good same left = tt
-left_of_code (Err e) view code program pcap kind remaining contents from at old new good same left = (left.2.0, left.2.1, inr (inr (left.0, left.1, (program, good, rw same at left.2.2))))
+    ⊎ ((input : List ℕ) × Gets remaining from at input × ViewLeaves view code form input text))))
+left_of_code (Ok v) view code program form kind remaining contents from at old new good same left = tt
+left_of_code (Err e) view code program form kind remaining contents from at old new good same left = (left.2.0, left.2.1, inr (inr (left.0, left.1, (program, good, rw same at left.2.2))))
 
 -- where the line of a bad code couldn't be written
-pub bad_code_left : {T E : Type 0} (r : Result T E) (view : View) (code line : List ℕ) (pcap : Bool) {R W : Type 0} (remaining : R → Option (List ℕ)) {contents : W → Option (List ℕ)} (from at : Source R) (old new : Sink W) → ShowsBadCode code line → (front : List ℕ) × BeginsWith front line × Writes contents old new front
+pub bad_code_left : {T E : Type 0} (r : Result T E) (view : View) (code line : List ℕ) (form : PacketForm) {R W : Type 0} (remaining : R → Option (List ℕ)) {contents : W → Option (List ℕ)} (from at : Source R) (old new : Sink W) → ShowsBadCode code line → (front : List ℕ) × BeginsWith front line × Writes contents old new front
     → OnErr r ((text : List ℕ) × Writes contents old new text × ((text ≡ []) ⊎ (((whole : List ℕ) × ShowsBadCode code whole × BeginsWith text whole)
-    ⊎ ((input : List ℕ) × Gets remaining from at input × ViewLeaves view code pcap input text))))
-bad_code_left (Ok v) view code line pcap remaining from at old new bad failed = tt
-bad_code_left (Err e) view code line pcap remaining from at old new bad failed = (failed.0, failed.2, inr (inl (line, bad, failed.1)))
+    ⊎ ((input : List ℕ) × Gets remaining from at input × ViewLeaves view code form input text))))
+bad_code_left (Ok v) view code line form remaining from at old new bad failed = tt
+bad_code_left (Err e) view code line form remaining from at old new bad failed = (failed.0, failed.2, inr (inl (line, bad, failed.1)))
 
 -- A stream of lines
 
-pub lines_of_view : (r : Result ℕ EngineFault) (code : List ℕ) (pcap : Bool) {R W : Type 0} (remaining : R → Option (List ℕ)) (contents : W → Option (List ℕ)) (from at : Source R) (old new : Sink W)
+pub lines_of_view : (r : Result ℕ EngineFault) (code : List ℕ) (form : PacketForm) {R W : Type 0} (remaining : R → Option (List ℕ)) (contents : W → Option (List ℕ)) (from at : Source R) (old new : Sink W)
     → IfOk r (λ status. (text : List ℕ) × Writes contents old new text × ((ShowsViewCode Lines code text × (status ≡ 1))
-    ⊎ ((input : List ℕ) × Gets remaining from at input × ViewShows Lines code pcap input status text × (IsAtEnd (remaining at.inner) ⊎ (status ≡ 1) ⊎ IsFound Lines status))))
+    ⊎ ((input : List ℕ) × Gets remaining from at input × ViewShows Lines code form input status text × (IsAtEnd (remaining at.inner) ⊎ (status ≡ 1) ⊎ IsFound Lines status))))
     → IfOk r (λ status. (text : List ℕ) × Writes contents old new text × ((ShowsBadCode code text × (status ≡ 1))
-    ⊎ ((input : List ℕ) × Gets remaining from at input × StreamShows code pcap input status text × (IsAtEnd (remaining at.inner) ⊎ (status ≡ 1)))))
-lines_of_view (Err e) code pcap remaining contents from at old new shown = tt
-lines_of_view (Ok status) code pcap remaining contents from at old new shown = (
+    ⊎ ((input : List ℕ) × Gets remaining from at input × StreamShows code form input status text × (IsAtEnd (remaining at.inner) ⊎ (status ≡ 1)))))
+lines_of_view (Err e) code form remaining contents from at old new shown = tt
+lines_of_view (Ok status) code form remaining contents from at old new shown = (
   shown.0,
   shown.1,
   elim (shown.2) [
     | inl bad ↦ inl (rw bad.0.2 bad.0.1, bad.1)
-    | inr s ↦ inr (s.0, s.1, (s.2.0, s.2.1, lines_shows s.2.0 pcap s.0 status shown.0 s.2.2), no_find _ status s.3)
+    | inr s ↦ inr (s.0, s.1, (s.2.0, s.2.1, lines_shows s.2.0 form s.0 status shown.0 s.2.2), no_find _ status s.3)
   ],
 )
   where
@@ -392,17 +393,17 @@ lines_of_view (Ok status) code pcap remaining contents from at old new shown = (
     no_find P status (inr (inl one)) = inr one
     no_find P status (inr (inr found)) = let never = found.0 in absurd (cc)
 
-view_left : (code : List ℕ) (pcap : Bool) {R : Type 0} {remaining : R → Option (List ℕ)} (from at : Source R) (text : List ℕ)
-    → (text ≡ []) ⊎ (((whole : List ℕ) × ShowsBadCode code whole × BeginsWith text whole) ⊎ ((input : List ℕ) × Gets remaining from at input × ViewLeaves Lines code pcap input text))
-    → (text ≡ []) ⊎ (((whole : List ℕ) × ShowsBadCode code whole × BeginsWith text whole) ⊎ ((input : List ℕ) × Gets remaining from at input × StreamLeaves code pcap input text))
-view_left code pcap from at text (inl none) = inl none
-view_left code pcap from at text (inr (inl bad)) = inr (inl bad)
-view_left code pcap from at text (inr (inr s)) = inr (inr (s.0, s.1, (s.2.0, s.2.1, some_front s.2.0 s.2.1.1 pcap s.0 text (lines_part s.2.0 pcap s.0 text s.2.2))))
+view_left : (code : List ℕ) (form : PacketForm) {R : Type 0} {remaining : R → Option (List ℕ)} (from at : Source R) (text : List ℕ)
+    → (text ≡ []) ⊎ (((whole : List ℕ) × ShowsBadCode code whole × BeginsWith text whole) ⊎ ((input : List ℕ) × Gets remaining from at input × ViewLeaves Lines code form input text))
+    → (text ≡ []) ⊎ (((whole : List ℕ) × ShowsBadCode code whole × BeginsWith text whole) ⊎ ((input : List ℕ) × Gets remaining from at input × StreamLeaves code form input text))
+view_left code form from at text (inl none) = inl none
+view_left code form from at text (inr (inl bad)) = inr (inl bad)
+view_left code form from at text (inr (inr s)) = inr (inr (s.0, s.1, (s.2.0, s.2.1, some_front s.2.0 s.2.1.1 form s.0 text (lines_part s.2.0 form s.0 text s.2.2))))
 
-pub left_of_view : {T E : Type 0} (r : Result T E) (code : List ℕ) (pcap : Bool) {R W : Type 0} (remaining : R → Option (List ℕ)) (contents : W → Option (List ℕ)) (from at : Source R) (old new : Sink W)
+pub left_of_view : {T E : Type 0} (r : Result T E) (code : List ℕ) (form : PacketForm) {R W : Type 0} (remaining : R → Option (List ℕ)) (contents : W → Option (List ℕ)) (from at : Source R) (old new : Sink W)
     → OnErr r ((text : List ℕ) × Writes contents old new text × ((text ≡ []) ⊎ (((whole : List ℕ) × ShowsBadCode code whole × BeginsWith text whole)
-    ⊎ ((input : List ℕ) × Gets remaining from at input × ViewLeaves Lines code pcap input text))))
+    ⊎ ((input : List ℕ) × Gets remaining from at input × ViewLeaves Lines code form input text))))
     → OnErr r ((text : List ℕ) × Writes contents old new text × ((text ≡ []) ⊎ (((whole : List ℕ) × ShowsBadCode code whole × BeginsWith text whole)
-    ⊎ ((input : List ℕ) × Gets remaining from at input × StreamLeaves code pcap input text))))
-left_of_view (Ok v) code pcap remaining contents from at old new left = tt
-left_of_view (Err e) code pcap remaining contents from at old new left = (left.0, left.1, view_left code pcap from at left.0 left.2)
+    ⊎ ((input : List ℕ) × Gets remaining from at input × StreamLeaves code form input text))))
+left_of_view (Ok v) code form remaining contents from at old new left = tt
+left_of_view (Err e) code form remaining contents from at old new left = (left.0, left.1, view_left code form from at left.0 left.2)

@@ -1,113 +1,125 @@
 -- What a stream has shown.
-use Rattle.std.proofs.Common.{◌≡◌, ℕ, ◌*◌, ◌<◌, ◌≤◌, ◌⊎◌, inl, inr, List, [], ◌∷◌, ◌++◌, length, All, Bool, true, false, Option, None, Some, Result, Ok, Err, IfOk, arith, refl, sym, ap, ◌∙◌, append_assoc}
+use Rattle.std.proofs.Common.{◌≡◌, ℕ, ◌*◌, ◌<◌, ◌≤◌, ◌⊎◌, inl, inr, List, [], ◌∷◌, ◌++◌, length, take, suc, All, Bool, true, false, Option, Result, Ok, Err, IfOk, arith, refl, sym, ap, ◌∙◌, append_assoc}
 use Rattle.std.specs.Prelude.{IsTrue}
 use Rattle.std.specs.Str.Lines.{lines}
 use Rattle.std.proofs.lemmas.List.{append-nil}
 use Rattle.std.proofs.lemmas.List.Elements.{All-append}
 use Rattle.bpf_insn.specs.declared.insn.Insn.{Insn}
 use Rattle.filter_vm.specs.declared.machine.Outcome.{Outcome}
-use Rattle.pcap_reader.specs.declared.feed.Feed.{Feed}
-use Rattle.pcap_reader.specs.declared.capture.Header.{Header}
-use Rattle.pcap_reader.specs.declared.capture.CapturedPacket.{CapturedPacket}
-use Rattle.pcap_reader.specs.declared.capture.CaptureFault.{CaptureFault}
-use Rattle.pcap_reader.specs.Savefile.{Reads, ReadsFront}
-use Rattle.pcap_reader.specs.Held.{BehindAt}
-use Rattle.pcap_reader.proofs.FeedLemmas.{open_front}
-use Rattle.pcap_reader.proofs.Fronts.{front-lasts, reads-lasts}
-use Rattle.pcap_reader.proofs.LawLemmas.{has_fronts, one_reading}
-use Rattle.pcap_reader.proofs.ReadingLemmas.{has_reading}
+use Rattle.std.proofs.Math.Seq.{take-append_seam}
+use Rattle.std.proofs.lemmas.Slice.Zip.{AllZip-long}
+use Rattle.capture_reader.specs.declared.entry.PacketTime.{PacketTime}
+use Rattle.capture_reader.specs.declared.entry.Entry.TheVariants.{Savefile, Section, Interface, Packet}
+use Rattle.capture_reader.specs.declared.fault.ReadFault.{ReadFault}
+use Rattle.capture_reader.specs.Entries.{EntryBytes, packets_in}
+use Rattle.capture_reader.proofs.LawLemmas.{given_first, has_reading, packets_in-append}
+use Rattle.console.specs.declared.capture_run.CaptureRun.{CaptureRun}
+use Rattle.console.specs.declared.form.PacketForm.{PacketForm}
+use Rattle.console.specs.declared.form.PacketForm.TheVariants.{Capture}
+use Rattle.console.specs.Choosing.{chosen, times_in}
+use Rattle.console.specs.Matching.{AnswersCaptured}
+use Rattle.console.specs.Stamps.{AreStamps}
+use Rattle.console.proofs.RunningLemmas.{chosen-append, times_in-append}
 use Rattle.console.specs.declared.source.Source.{Source}
 use Rattle.console.specs.declared.sink.Sink.{Sink}
 use Rattle.console.specs.Devices.{Gets, Writes}
 use Rattle.console.specs.declared.packet_source.PacketSource.{PacketSource}
-use Rattle.console.specs.declared.packet_source.PacketSource.TheVariants.{Lines, Capture, Stamped}
+use Rattle.console.specs.declared.packet_source.PacketSource.TheVariants.{Lines, Capture as Captured}
 use Rattle.console.specs.declared.ending.Ending.{Ending}
-use Rattle.console.specs.declared.stamp.Stamp.{Stamp}
-use Rattle.console.specs.declared.stamped_feed.StampedFeed.{StampedFeed}
-use Rattle.console.specs.Reading.{BeginsWith, HasStopped}
+use Rattle.console.specs.Reading.{BeginsWith}
 use Rattle.console.specs.Faults.{fault_status, fault_text}
-use Rattle.console.specs.Running.{EndsRun, HasRun}
-use Rattle.console.specs.Streaming.{SourceEnded, SourceRan, is_capture, is_stamped}
+use Rattle.console.specs.Running.{EndsRun, HasRun, IsStopped, times_shown}
+use Rattle.console.specs.Streaming.{SourceEnded, SourceRan, form_of, is_stamped}
 use Rattle.console.specs.declared.tally.Tally.{Tally}
 use Rattle.console.specs.declared.view.View.{View}
 use Rattle.console.specs.Views.{AreShown, HasCounted, RanAll, RanFirst, ending_status, ending_text, shown_at_once, shows_stamps}
 
--- the packets of a front come first in any reading
-front_first : (bytes : List ℕ) (header header' : Option Header) (packets all : List CapturedPacket) (fault : Option CaptureFault) → All (λ b. b < 256) bytes → ReadsFront bytes header packets → Reads bytes header' all fault
-    → (more : List CapturedPacket) × (all ≡ packets ++ more)
-front_first bytes header header' packets all fault small front reads = let both = has_fronts bytes small header header' packets all fault front reads in (both.1, both.2)
-
--- so do those that a feed has read of fewer bytes
-behind_first : (fed rest : List ℕ) (packets all : List CapturedPacket) (feed : Feed) (held : Option CaptureFault) (header : Option Header) (fault : Option CaptureFault) → All (λ b. b < 256) (fed ++ rest)
-    → BehindAt packets fed feed held → Reads (fed ++ rest) header all fault → (more : List CapturedPacket) × (all ≡ (packets ++ feed.packets.items) ++ more)
-behind_first fed rest packets all feed None header fault small behind reads =
-    front_first (fed ++ rest) feed.header header (packets ++ feed.packets.items) all fault small (front-lasts fed rest feed.header (packets ++ feed.packets.items) (open_front fed feed.header (packets ++ feed.packets.items) feed.offset feed.part.items behind)) reads
-behind_first fed rest packets all feed (Some f) header fault small (inl stood) reads =
-    let one = one_reading (fed ++ rest) small feed.header header (packets ++ feed.packets.items) all (Some f) fault (reads-lasts fed rest feed.header (packets ++ feed.packets.items) f stood.0 stood.1) reads in
-    ([], sym one.1 ∙ sym (append-nil (packets ++ feed.packets.items)))
-behind_first fed rest packets all feed (Some f) header fault small (inr refused) reads =
-    front_first (fed ++ rest) feed.header header (packets ++ feed.packets.items) all fault small (front-lasts fed rest feed.header (packets ++ feed.packets.items) refused.1) reads
-
 -- the packets that were run come first
-run_first : (program : List Insn) (fed rest : List ℕ) (feed : Feed) (outcomes : List Outcome) → HasRun program fed feed outcomes → All (λ b. b < 256) rest → RanFirst program true (fed ++ rest) outcomes
-run_first program fed rest feed outcomes has small =
-    let all = All-append (λ b. b < 256) fed rest has.holds.0 small in
+run_first : (program : List Insn) (fed rest : List ℕ) (run : CaptureRun) (outcomes : List Outcome) (stamps : List PacketTime) → HasRun program fed run outcomes stamps → All (λ b. b < 256) rest
+    → RanFirst program (Capture run.link) (fed ++ rest) outcomes
+run_first program fed rest run outcomes stamps has small =
     let reading = has_reading (fed ++ rest) in
-    let first = behind_first fed rest has.packets reading.1 feed feed.fault reading.0 reading.2 all has.holds.1 reading.3 in
-    let given : has.packets ++ feed.packets.items ≡ has.packets = ap (λ t. has.packets ++ t) has.none ∙ append-nil has.packets in
-    (reading.0, reading.1, reading.2, reading.3, has.packets, first.0, first.1 ∙ ap (λ t. t ++ first.0) given, has.ran)
+    let first = given_first has.entries reading.0 fed rest run.feed reading.1 (All-append (λ b. b < 256) fed rest has.small small) has.holds reading.2 in (
+      reading.0,
+      reading.1,
+      reading.2,
+      packets_in (chosen run.link has.entries),
+      packets_in (chosen run.link first.0),
+      ap (λ e. packets_in (chosen run.link e)) first.1 ∙ ap packets_in (chosen-append run.link has.entries first.0) ∙ packets_in-append (chosen run.link has.entries) (chosen run.link first.0),
+      has.ran,
+    )
+
+-- each packet has a time
+times_length : (entries : List EntryBytes) → length (times_in entries) ≡ length (packets_in entries)
+times_length [] = refl
+times_length ((Savefile h, bytes) ∷ entries) = times_length entries
+times_length ((Section s, bytes) ∷ entries) = times_length entries
+times_length ((Interface i, bytes) ∷ entries) = times_length entries
+times_length ((Packet info, bytes) ∷ entries) = ap (λ n. suc n) (times_length entries)
+
+run_times : (program : List Insn) (fed rest : List ℕ) (run : CaptureRun) (outcomes : List Outcome) (stamps : List PacketTime) → HasRun program fed run outcomes stamps → All (λ b. b < 256) rest
+    → AreShown run.stamped (Capture run.link) (fed ++ rest) (length outcomes) stamps
+run_times program fed rest run outcomes stamps has small = shown_by run.stamped has.times
+  where
+    few : length (times_in (chosen run.link has.entries)) ≡ length outcomes
+    few = times_length (chosen run.link has.entries) ∙ sym (AllZip-long (AnswersCaptured program) (packets_in (chosen run.link has.entries)) outcomes has.ran)
+
+    are_first : stamps ≡ times_in (chosen run.link has.entries) → AreStamps run.link (fed ++ rest) (length outcomes) stamps
+    are_first times =
+        let reading = has_reading (fed ++ rest) in
+        let first = given_first has.entries reading.0 fed rest run.feed reading.1 (All-append (λ b. b < 256) fed rest has.small small) has.holds reading.2 in
+        let all : times_in (chosen run.link reading.0) ≡ times_in (chosen run.link has.entries) ++ times_in (chosen run.link first.0) =
+        ap (λ e. times_in (chosen run.link e)) first.1 ∙ ap times_in (chosen-append run.link has.entries first.0) ∙ times_in-append (chosen run.link has.entries) (chosen run.link first.0) in
+        (reading.0, reading.1, reading.2, times ∙ sym (ap (take (length outcomes)) all ∙ ap (λ n. take n (times_in (chosen run.link has.entries) ++ times_in (chosen run.link first.0))) (sym few) ∙ take-append_seam (times_in (chosen run.link has.entries)) (times_in (chosen run.link first.0))))
+
+    shown_by : (stamped : Bool) → stamps ≡ times_shown stamped (chosen run.link has.entries) → AreShown stamped (Capture run.link) (fed ++ rest) (length outcomes) stamps
+    shown_by true times = (ap length times ∙ few, are_first times)
+    shown_by false times = times
 
 -- the same of what a source took, and of more
-pub ran_first : (program : List Insn) (fed rest : List ℕ) (source : PacketSource) (outcomes : List Outcome) (stamps : List Stamp) → SourceRan program fed source outcomes stamps → All (λ b. b < 256) rest
-    → RanFirst program (is_capture source) (fed ++ rest) outcomes
+pub ran_first : (program : List Insn) (fed rest : List ℕ) (source : PacketSource) (outcomes : List Outcome) (stamps : List PacketTime) → SourceRan program fed source outcomes stamps → All (λ b. b < 256) rest
+    → RanFirst program (form_of source) (fed ++ rest) outcomes
 ran_first program fed rest (Lines feed) outcomes stamps has small = (
   has.0.good,
   lines (feed.part.items ++ rest),
   ap (λ t. lines (t ++ rest)) has.0.parts ∙ ap lines (append_assoc has.0.done feed.part.items rest) ∙ has.0.whole (feed.part.items ++ rest),
   has.0.ran,
 )
-ran_first program fed rest (Capture feed) outcomes stamps has small = run_first program fed rest feed outcomes has.0 small
-ran_first program fed rest (Stamped s) outcomes stamps has small =
-    let whole : fed ++ rest ≡ has.0 ++ (s.part.items ++ rest) = ap (λ t. t ++ rest) has.1 ∙ append_assoc has.0 s.part.items rest in
-    rw whole (run_first program has.0 (s.part.items ++ rest) s.feed outcomes has.2.ran (All-append (λ b. b < 256) s.part.items rest has.2.small small))
+ran_first program fed rest (Captured run) outcomes stamps has small = run_first program fed rest run outcomes stamps has small
 
 pub no_bytes : All (λ b. b < 256) []
 no_bytes = λ k d within. absurd (omega arith)
 
 -- and of all that a source took
-pub ended_first : (program : List Insn) (stopped : Bool) (taken : List ℕ) (source : PacketSource) (outcomes : List Outcome) (stamps : List Stamp) → SourceEnded program stopped taken source outcomes stamps
-    → RanFirst program (is_capture source) taken outcomes
+pub ended_first : (program : List Insn) (stopped : Bool) (taken : List ℕ) (source : PacketSource) (outcomes : List Outcome) (stamps : List PacketTime) → SourceEnded program stopped taken source outcomes stamps
+    → RanFirst program (form_of source) taken outcomes
 ended_first program false taken (Lines feed) outcomes stamps has = (lines taken, [], sym (append-nil (lines taken)), has.0)
 ended_first program true taken (Lines feed) outcomes stamps has = (has.0.good, has.0.bad ∷ has.0.more, has.0.parts, has.0.ran)
-ended_first program false taken (Capture feed) outcomes stamps has = rw (append-nil taken) at (run_first program taken [] feed outcomes has.0 no_bytes)
-ended_first program true taken (Capture feed) outcomes stamps has = rw (append-nil taken) at (run_first program taken [] feed outcomes has.0 no_bytes)
-ended_first program false taken (Stamped s) outcomes stamps has = rw (append-nil taken) at (run_first program taken [] s.feed outcomes has.ran no_bytes)
-ended_first program true taken (Stamped s) outcomes stamps has = rw (append-nil taken) at (run_first program taken [] s.feed outcomes has.0.ran no_bytes)
+ended_first program false taken (Captured run) outcomes stamps has = rw (append-nil taken) at (run_first program taken [] run outcomes stamps has no_bytes)
+ended_first program true taken (Captured run) outcomes stamps has = rw (append-nil taken) at (run_first program taken [] run outcomes stamps has.0 no_bytes)
 
 -- the time stamps of what was run
-pub ran_stamps : (program : List Insn) (fed rest : List ℕ) (source : PacketSource) (outcomes : List Outcome) (stamps : List Stamp) → SourceRan program fed source outcomes stamps
-    → AreShown (is_stamped source) (fed ++ rest) (length outcomes) stamps
-ran_stamps program fed rest (Lines feed) outcomes stamps has = has.1
-ran_stamps program fed rest (Capture feed) outcomes stamps has = has.1
-ran_stamps program fed rest (Stamped s) outcomes stamps has =
-    let whole : fed ++ rest ≡ has.0 ++ (s.part.items ++ rest) = ap (λ t. t ++ rest) has.1 ∙ append_assoc has.0 s.part.items rest in
-    (has.2.same, rw whole (has.2.times rest))
+pub ran_stamps : (program : List Insn) (fed rest : List ℕ) (source : PacketSource) (outcomes : List Outcome) (stamps : List PacketTime) → SourceRan program fed source outcomes stamps → All (λ b. b < 256) rest
+    → AreShown (is_stamped source) (form_of source) (fed ++ rest) (length outcomes) stamps
+ran_stamps program fed rest (Lines feed) outcomes stamps has small = has.1
+ran_stamps program fed rest (Captured run) outcomes stamps has small = run_times program fed rest run outcomes stamps has small
 
-pub ended_stamps : (program : List Insn) (stopped : Bool) (taken : List ℕ) (source : PacketSource) (outcomes : List Outcome) (stamps : List Stamp) → SourceEnded program stopped taken source outcomes stamps
-    → AreShown (is_stamped source) taken (length outcomes) stamps
+pub ended_stamps : (program : List Insn) (stopped : Bool) (taken : List ℕ) (source : PacketSource) (outcomes : List Outcome) (stamps : List PacketTime) → SourceEnded program stopped taken source outcomes stamps
+    → AreShown (is_stamped source) (form_of source) taken (length outcomes) stamps
 ended_stamps program false taken (Lines feed) outcomes stamps has = has.1
 ended_stamps program true taken (Lines feed) outcomes stamps has = has.1
-ended_stamps program false taken (Capture feed) outcomes stamps has = has.1
-ended_stamps program true taken (Capture feed) outcomes stamps has = has.2
-ended_stamps program false taken (Stamped s) outcomes stamps has = (has.same, rw (append-nil taken) at (has.times []))
-ended_stamps program true taken (Stamped s) outcomes stamps has = (has.0.same, rw (append-nil taken) at (has.0.times []))
+ended_stamps program false taken (Captured run) outcomes stamps has = rw (append-nil taken) at (run_times program taken [] run outcomes stamps has no_bytes)
+ended_stamps program true taken (Captured run) outcomes stamps has = rw (append-nil taken) at (run_times program taken [] run outcomes stamps has.0 no_bytes)
 
 -- each packet that was run has its time stamp, or none has
-pub ran_aligned : (program : List Insn) (fed : List ℕ) (source : PacketSource) (outcomes : List Outcome) (stamps : List Stamp) → SourceRan program fed source outcomes stamps
+pub ran_aligned : (program : List Insn) (fed : List ℕ) (source : PacketSource) (outcomes : List Outcome) (stamps : List PacketTime) → SourceRan program fed source outcomes stamps
     → (length stamps ≡ length outcomes) ⊎ ((is_stamped source ≡ false) × (stamps ≡ []))
 ran_aligned program fed (Lines feed) outcomes stamps has = inr (refl, has.1)
-ran_aligned program fed (Capture feed) outcomes stamps has = inr (refl, has.1)
-ran_aligned program fed (Stamped s) outcomes stamps has = inl has.2.same
+ran_aligned program fed (Captured run) outcomes stamps has = aligned run.stamped has.times
+  where
+    aligned : (stamped : Bool) → stamps ≡ times_shown stamped (chosen run.link has.entries) → (length stamps ≡ length outcomes) ⊎ ((stamped ≡ false) × (stamps ≡ []))
+    aligned true times = inl (ap length times ∙ times_length (chosen run.link has.entries) ∙ sym (AllZip-long (AnswersCaptured program) (packets_in (chosen run.link has.entries)) outcomes has.ran))
+    aligned false times = inr (refl, times)
 
 -- a text begins itself
 pub begins_itself : (text : List ℕ) → BeginsWith text text
@@ -115,50 +127,40 @@ begins_itself text = ([], sym (append-nil text))
 
 -- What comes after the last packet
 
-pub capture_ran : (program : List Insn) (taken : List ℕ) (outcomes : List Outcome) (fault : Option CaptureFault) → EndsRun program taken outcomes fault → RanAll program true taken outcomes (fault_status fault) (fault_text fault)
-capture_ran program taken outcomes fault run = (run.0, run.1, fault, run.2, run.3, refl, refl)
+pub capture_ran : (program : List Insn) (link : Option ℕ) (taken : List ℕ) (outcomes : List Outcome) (fault : Option ReadFault) → EndsRun program link taken outcomes fault → RanAll program (Capture link) taken outcomes (fault_status fault) (fault_text fault)
+capture_ran program link taken outcomes fault run = (run.0, fault, run.1, run.2, refl, refl)
 
 abbrev pub Ends : PacketSource → Bool → Ending → Type 0
-Ends source stopped ending = (program : List Insn) (taken : List ℕ) (outcomes : List Outcome) (stamps : List Stamp) → length taken < 18446744073709551616
-    → SourceEnded program stopped taken source outcomes stamps → RanAll program (is_capture source) taken outcomes (ending_status ending) (ending_text ending)
+Ends source stopped ending = (program : List Insn) (taken : List ℕ) (outcomes : List Outcome) (stamps : List PacketTime) → length taken < 18446744073709551616
+    → SourceEnded program stopped taken source outcomes stamps → RanAll program (form_of source) taken outcomes (ending_status ending) (ending_text ending)
 
-abbrev pub EndsFeed : Feed → Ending → Type 0
-EndsFeed feed ending = (program : List Insn) (fed : List ℕ) (outcomes : List Outcome) → HasRun program fed feed outcomes → RanAll program true fed outcomes (ending_status ending) (ending_text ending)
+abbrev pub EndsCapture : CaptureRun → Ending → Type 0
+EndsCapture run ending = (program : List Insn) (fed : List ℕ) (outcomes : List Outcome) (stamps : List PacketTime) → HasRun program fed run outcomes stamps → RanAll program (Capture run.link) fed outcomes (ending_status ending) (ending_text ending)
 
 -- how a capture ends is how its source does
-pub ending_capture : {E : Type 0} (r : Result Ending E) (source : PacketSource) (feed : Feed) (stopped : Bool) → source ≡ Capture feed → IfOk r (EndsFeed feed) → IfOk r (Ends source stopped)
-ending_capture (Err e) source feed stopped is ends = tt
-ending_capture (Ok ending) source feed true is ends = rw is (λ program taken outcomes stamps short ended. ends program taken outcomes ended.0)
-ending_capture (Ok ending) source feed false is ends = rw is (λ program taken outcomes stamps short ended. ends program taken outcomes ended.0)
-
-pub ending_stamped : {E : Type 0} (r : Result Ending E) (source : PacketSource) (s : StampedFeed) (feed : Feed) (stopped : Bool) → source ≡ Stamped s → feed ≡ s.feed → IfOk r (EndsFeed feed) → IfOk r (Ends source stopped)
-ending_stamped (Err e) source s feed stopped is same ends = tt
-ending_stamped (Ok ending) source s feed true is same ends = rw is (λ program taken outcomes stamps short ended. ends program taken outcomes (rw same ended.0.ran))
-ending_stamped (Ok ending) source s feed false is same ends = rw is (λ program taken outcomes stamps short ended. ends program taken outcomes (rw same ended.ran))
+pub ending_capture : {E : Type 0} (r : Result Ending E) (source : PacketSource) (run : CaptureRun) (stopped : Bool) → source ≡ Captured run → IfOk r (EndsCapture run) → IfOk r (Ends source stopped)
+ending_capture (Err e) source run stopped is ends = tt
+ending_capture (Ok ending) source run true is ends = rw is (λ program taken outcomes stamps short ended. ends program taken outcomes stamps ended.0)
+ending_capture (Ok ending) source run false is ends = rw is (λ program taken outcomes stamps short ended. ends program taken outcomes stamps ended)
 
 abbrev pub EndsAtOne : PacketSource → Bool → Ending → Type 0
-EndsAtOne source stopped ending = (program : List Insn) (taken : List ℕ) (outcomes : List Outcome) (stamps : List Stamp)
+EndsAtOne source stopped ending = (program : List Insn) (taken : List ℕ) (outcomes : List Outcome) (stamps : List PacketTime)
     → SourceEnded program stopped taken source outcomes stamps → IsTrue stopped → ending_status ending ≡ 1
 
-pub one_capture : {E : Type 0} (r : Result Ending E) (source : PacketSource) (feed : Feed) (stopped : Bool) → source ≡ Capture feed → (HasStopped feed → IfOk r (λ ending. ending_status ending ≡ 1)) → IfOk r (EndsAtOne source stopped)
-one_capture (Err e) source feed stopped is one = tt
-one_capture (Ok ending) source feed true is one = rw is (λ program taken outcomes stamps ended at. one ended.1)
-one_capture (Ok ending) source feed false is one = λ program taken outcomes stamps ended at. absurd (cc)
-
-pub one_stamped : {E : Type 0} (r : Result Ending E) (source : PacketSource) (s : StampedFeed) (feed : Feed) (stopped : Bool) → source ≡ Stamped s → feed ≡ s.feed → (HasStopped feed → IfOk r (λ ending. ending_status ending ≡ 1)) → IfOk r (EndsAtOne source stopped)
-one_stamped (Err e) source s feed stopped is same one = tt
-one_stamped (Ok ending) source s feed true is same one = rw is (λ program taken outcomes stamps ended at. one (rw same ended.1))
-one_stamped (Ok ending) source s feed false is same one = λ program taken outcomes stamps ended at. absurd (cc)
+pub one_capture : {E : Type 0} (r : Result Ending E) (source : PacketSource) (run : CaptureRun) (stopped : Bool) → source ≡ Captured run → (IsStopped run → IfOk r (λ ending. ending_status ending ≡ 1)) → IfOk r (EndsAtOne source stopped)
+one_capture (Err e) source run stopped is one = tt
+one_capture (Ok ending) source run true is one = rw is (λ program taken outcomes stamps ended at. one ended.1)
+one_capture (Ok ending) source run false is one = λ program taken outcomes stamps ended at. absurd (cc)
 
 -- what a stream has read, run and shown
-pub record Streamed {R W : Type 0} (view : View) (program : List Insn) (pcap : Bool) (remaining : R → Option (List ℕ)) (from at : Source R) (contents : W → Option (List ℕ)) (old new : Sink W) (source : PacketSource) (tally : Tally) (turns : ℕ) : Type 0 where
+pub record Streamed {R W : Type 0} (view : View) (program : List Insn) (form : PacketForm) (remaining : R → Option (List ℕ)) (from at : Source R) (contents : W → Option (List ℕ)) (old new : Sink W) (source : PacketSource) (tally : Tally) (turns : ℕ) : Type 0 where
   pub input : List ℕ
   pub shown : List Outcome
   pub lost : Gets remaining from at input
-  pub stamps : List Stamp
+  pub stamps : List PacketTime
   pub ran : SourceRan program input source shown stamps
   pub counted : HasCounted view tally shown
   pub appended : Writes contents old new (shown_at_once view 0 stamps shown)
-  pub stamped : is_stamped source ≡ shows_stamps view pcap
-  pub kind : is_capture source ≡ pcap
+  pub stamped : is_stamped source ≡ shows_stamps view form
+  pub kind : form_of source ≡ form
   pub short : length input ≤ 65536 * turns

@@ -1,5 +1,5 @@
 -- What a view shows of some outcomes and of more.
-use Rattle.std.proofs.Common.{◌≡◌, ℕ, zero, suc, ◌+◌, ◌⊎◌, inl, inr, List, [], ◌∷◌, ◌++◌, length, flat_map, Bool, true, false, Option, None, Some, refl, sym, ap, ◌∙◌, append_assoc, add-zero, arith}
+use Rattle.std.proofs.Common.{◌≡◌, ℕ, zero, suc, ◌+◌, ◌⊎◌, inl, inr, List, [], ◌∷◌, ◌++◌, length, flat_map, Option, None, Some, refl, sym, ap, ◌∙◌, append_assoc, add-zero, arith}
 use Rattle.std.specs.Prelude.{Result, Ok, Err, OnErr}
 use Rattle.console.specs.declared.sink.Sink.{Sink}
 use Rattle.console.specs.Devices.{Writes}
@@ -9,7 +9,9 @@ use Rattle.bpf_insn.specs.declared.insn.Insn.{Insn}
 use Rattle.filter_vm.specs.declared.machine.Outcome.{Outcome}
 use Rattle.console.specs.declared.ending.Ending.{Ending}
 use Rattle.console.specs.declared.ending.Ending.TheVariants.{Done, BadLine, Fault}
-use Rattle.console.specs.declared.stamp.Stamp.{Stamp}
+use Rattle.capture_reader.specs.declared.entry.PacketTime.{PacketTime}
+use Rattle.console.specs.declared.form.PacketForm.{PacketForm}
+use Rattle.console.specs.declared.form.PacketForm.TheVariants.{Digits, Capture}
 use Rattle.console.specs.declared.view.View.{View}
 use Rattle.console.specs.declared.view.View.TheVariants.{Lines, Numbers, Count, Quiet}
 use Rattle.console.specs.Faults.{fault_text}
@@ -25,7 +27,7 @@ plain-append view n (o ∷ first) more =
     ap (λ t. shown_line view (n + 1) None o ++ t) (plain-append view (n + 1) first more ∙ ap (λ k. shown_at_once view (n + 1) [] first ++ shown_at_once view k [] more) next)
     ∙ sym (append_assoc (shown_line view (n + 1) None o) (shown_at_once view (n + 1) [] first) (shown_at_once view (n + length (o ∷ first)) [] more))
 
-stamped-append : (view : View) (n : ℕ) (ss ts : List Stamp) (first more : List Outcome) → length ss ≡ length first
+stamped-append : (view : View) (n : ℕ) (ss ts : List PacketTime) (first more : List Outcome) → length ss ≡ length first
     → shown_at_once view n (ss ++ ts) (first ++ more) ≡ shown_at_once view n ss first ++ shown_at_once view (n + length first) ts more
 stamped-append view n [] ts [] more same = ap (λ k. shown_at_once view k ts more) (sym (add-zero n))
 stamped-append view n (s ∷ ss) ts [] more same = absurd (omega (arith, same))
@@ -36,13 +38,13 @@ stamped-append view n (s ∷ ss) ts (o ∷ first) more same =
     ap (λ t. shown_line view (n + 1) (Some s) o ++ t) (stamped-append view (n + 1) ss ts first more shorter ∙ ap (λ k. shown_at_once view (n + 1) ss first ++ shown_at_once view k ts more) next)
     ∙ sym (append_assoc (shown_line view (n + 1) (Some s) o) (shown_at_once view (n + 1) ss first) (shown_at_once view (n + length (o ∷ first)) ts more))
 
-pub shown-append : (view : View) (n : ℕ) (ss ts : List Stamp) (first more : List Outcome) → (length ss ≡ length first) ⊎ ((ss ≡ []) × (ts ≡ []))
+pub shown-append : (view : View) (n : ℕ) (ss ts : List PacketTime) (first more : List Outcome) → (length ss ≡ length first) ⊎ ((ss ≡ []) × (ts ≡ []))
     → shown_at_once view n (ss ++ ts) (first ++ more) ≡ shown_at_once view n ss first ++ shown_at_once view (n + length first) ts more
 shown-append view n ss ts first more (inl same) = stamped-append view n ss ts first more same
 shown-append view n ss ts first more (inr none) = rw (none.0, none.1) (plain-append view n first more)
 
 -- lines without numbers
-pub lines_flat : (n : ℕ) (stamps : List Stamp) (outcomes : List Outcome) → shown_at_once Lines n stamps outcomes ≡ flat_map outcome_line outcomes
+pub lines_flat : (n : ℕ) (stamps : List PacketTime) (outcomes : List Outcome) → shown_at_once Lines n stamps outcomes ≡ flat_map outcome_line outcomes
 lines_flat n stamps [] = refl
 lines_flat n stamps (o ∷ outcomes) = ap (λ t. outcome_line o ++ t) (lines_flat (n + 1) (other_stamps stamps) outcomes)
 
@@ -50,8 +52,8 @@ pub accepted-append : (first more : List Outcome) → accepted (first ++ more) �
 accepted-append first more = sum_by-append _ first more
 
 -- what is shown under `Lines` is what `match` shows
-pub lines_shows : (program : List Insn) (pcap : Bool) (input : List ℕ) (status : ℕ) (text : List ℕ) → ShowsView Lines program pcap input status text → ShowsBytes program pcap input status text
-lines_shows program false input status text s = record {
+pub lines_shows : (program : List Insn) (form : PacketForm) (input : List ℕ) (status : ℕ) (text : List ℕ) → ShowsView Lines program form input status text → ShowsBytes program form input status text
+lines_shows program Digits input status text s = record {
   good = s.3.0;
   outcomes = s.0;
   complaint = s.2;
@@ -59,22 +61,21 @@ lines_shows program false input status text s = record {
   stops = rw s.6.0 (s.3.2);
   printed = s.6.1 ∙ ap (λ t. t ++ s.2) (lines_flat 0 s.4 s.0);
 }
-lines_shows program true input status text s = (
+lines_shows program (Capture link) input status text s = (
   s.3.0,
   s.3.1,
   s.3.2,
-  s.3.3,
   record {
     outcomes = s.0;
-    ran = s.3.4;
-    printed = s.6.1 ∙ ap (λ t. shown_at_once Lines 0 s.4 s.0 ++ t) s.3.6 ∙ ap (λ t. t ++ fault_text s.3.2) (lines_flat 0 s.4 s.0);
+    ran = s.3.3;
+    printed = s.6.1 ∙ ap (λ t. shown_at_once Lines 0 s.4 s.0 ++ t) s.3.5 ∙ ap (λ t. t ++ fault_text s.3.1) (lines_flat 0 s.4 s.0);
   },
-  s.6.0 ∙ s.3.5,
+  s.6.0 ∙ s.3.4,
 )
 
-lines_packets : (program : List Insn) (pcap : Bool) (input text : List ℕ) (outcomes : List Outcome) (stamps : List Stamp) → RanFirst program pcap input outcomes → BeginsWith text (shown_at_once Lines 0 stamps outcomes)
-    → ShowsPackets program pcap input text
-lines_packets program false input text outcomes stamps ran begins = record {
+lines_packets : (program : List Insn) (form : PacketForm) (input text : List ℕ) (outcomes : List Outcome) (stamps : List PacketTime) → RanFirst program form input outcomes → BeginsWith text (shown_at_once Lines 0 stamps outcomes)
+    → ShowsPackets program form input text
+lines_packets program Digits input text outcomes stamps ran begins = record {
   good = ran.0;
   left = ran.1;
   outcomes = outcomes;
@@ -83,25 +84,24 @@ lines_packets program false input text outcomes stamps ran begins = record {
   ran = ran.3;
   printed = sym begins.1 ∙ lines_flat 0 stamps outcomes;
 }
-lines_packets program true input text outcomes stamps ran begins = (
+lines_packets program (Capture link) input text outcomes stamps ran begins = (
   ran.0,
   ran.1,
   ran.2,
-  ran.3,
   record {
-    good = ran.4;
-    left = ran.5;
+    good = ran.3;
+    left = ran.4;
     outcomes = outcomes;
     more = begins.0;
-    front = ran.6;
-    ran = ran.7;
+    front = ran.5;
+    ran = ran.6;
     printed = sym begins.1 ∙ lines_flat 0 stamps outcomes;
   },
 )
 
-pub lines_part : (program : List Insn) (pcap : Bool) (input text : List ℕ) → ShowsViewPart Lines program pcap input text → ShowsSome program pcap input text
-lines_part program pcap input text (inl first) = inl (lines_packets program pcap input text first.0 first.2 first.1 first.4)
-lines_part program pcap input text (inr all) = inr (all.0, all.1, lines_shows program pcap input all.0 all.1 all.2, all.3)
+pub lines_part : (program : List Insn) (form : PacketForm) (input text : List ℕ) → ShowsViewPart Lines program form input text → ShowsSome program form input text
+lines_part program form input text (inl first) = inl (lines_packets program form input text first.0 first.2 first.1 first.4)
+lines_part program form input text (inr all) = inr (all.0, all.1, lines_shows program form input all.0 all.1 all.2, all.3)
 
 -- something is shown at the end
 some_end : (view : View) (some all : ℕ) (ending : Ending) → (status : ℕ) × (whole : List ℕ) × ShowsEnd view some all ending status whole

@@ -1,5 +1,5 @@
 -- Each input has a whole text, since each packet has an outcome.
-use Rattle.std.proofs.Common.{◌≡◌, ℕ, ◌+◌, ◌⊎◌, inl, inr, List, [], ◌∷◌, ◌++◌, length, flat_map, Bool, true, false, Result, Ok, Err, refl, sym, ap, ◌∙◌, append_assoc, IsErr}
+use Rattle.std.proofs.Common.{◌≡◌, ℕ, ◌+◌, ◌⊎◌, inl, inr, List, [], ◌∷◌, ◌++◌, length, flat_map, Result, Ok, Err, refl, sym, ap, ◌∙◌, append_assoc, IsErr}
 use Rattle.std.specs.List.{AllZip}
 use Rattle.std.specs.Str.Lines.{lines}
 use Rattle.std.proofs.lemmas.Grind.{flat_map-append}
@@ -10,6 +10,8 @@ use Rattle.filter_vm.specs.declared.machine.Outcome.{Outcome}
 use Rattle.bpf_insn.specs.Machine.{Packet}
 use Rattle.filter_vm.proofs.Totality.{has_end}
 use Rattle.pcap_reader.specs.declared.capture.CapturedPacket.{CapturedPacket}
+use Rattle.console.specs.declared.form.PacketForm.{PacketForm}
+use Rattle.console.specs.declared.form.PacketForm.TheVariants.{Digits, Capture}
 use Rattle.console.specs.Reading.{BeginsWith}
 use Rattle.console.specs.Faults.{fault_status, fault_text}
 use Rattle.console.specs.Matching.{Answers, AnswersCaptured, ShowsFirst, ShowsFront, ShowsLines, ShowsPackets, bad_line, outcome_line}
@@ -102,15 +104,14 @@ module _ (program : List Insn) (sound : Sound program) where
       (record { verdict = ends.0; steps = ends.1 } ∷ rest.0, (ends.2, rest.1))
 
   -- what is shown of the first packets begins what is shown of all
-  pub packets_front : (pcap : Bool) (input text : List ℕ) → ShowsPackets program pcap input text → ShowsFront program pcap input text
-  packets_front false input text first = lines_front (lines input) text first
-  packets_front true input text (header, packets, fault, reads, first) =
+  pub packets_front : (form : PacketForm) (input text : List ℕ) → ShowsPackets program form input text → ShowsFront program form input text
+  packets_front Digits input text first = lines_front (lines input) text first
+  packets_front (Capture link) input text (entries, fault, reads, first) =
       let rest = captured first.left in (
         fault_status fault,
         flat_map outcome_line (first.outcomes ++ rest.0) ++ fault_text fault,
         (
-          header,
-          packets,
+          entries,
           fault,
           reads,
           record {
@@ -123,6 +124,6 @@ module _ (program : List Insn) (sound : Sound program) where
         begins_more text first.more first.outcomes rest.0 (fault_text fault) first.printed,
       )
 
-  pub some_front : (pcap : Bool) (input text : List ℕ) → ShowsSome program pcap input text → ShowsFront program pcap input text
-  some_front pcap input text (inl packets) = packets_front pcap input text packets
-  some_front pcap input text (inr front) = front
+  pub some_front : (form : PacketForm) (input text : List ℕ) → ShowsSome program form input text → ShowsFront program form input text
+  some_front form input text (inl packets) = packets_front form input text packets
+  some_front form input text (inr front) = front

@@ -1,3 +1,4 @@
+pub mod Choosing
 pub mod Words
 pub mod Devices
 pub mod Reading

@@ -5,13 +5,16 @@ use Rattle.std.specs.Fmt.{decimal}
 use Rattle.std.specs.Str.Lines.{lines}
 use Rattle.bpf_insn.specs.declared.insn.Insn.{Insn}
 use Rattle.filter_vm.specs.declared.machine.Outcome.{Outcome}
-use Rattle.pcap_reader.specs.declared.capture.Header.{Header}
 use Rattle.pcap_reader.specs.declared.capture.CapturedPacket.{CapturedPacket}
-use Rattle.pcap_reader.specs.declared.capture.CaptureFault.{CaptureFault}
-use Rattle.pcap_reader.specs.Savefile.{Reads}
+use Rattle.capture_reader.specs.declared.fault.ReadFault.{ReadFault}
+use Rattle.capture_reader.specs.Entries.{EntryBytes, packets_in}
+use Rattle.capture_reader.specs.Captures.{HasEntries}
+use Rattle.console.specs.declared.form.PacketForm.{PacketForm}
+use Rattle.console.specs.declared.form.PacketForm.TheVariants.{Digits, Capture}
+use Rattle.console.specs.Choosing.{chosen, is_capture}
 use Rattle.console.specs.declared.ending.Ending.{Ending}
 use Rattle.console.specs.declared.ending.Ending.TheVariants.{Done, BadLine, Fault}
-use Rattle.console.specs.declared.stamp.Stamp.{Stamp}
+use Rattle.capture_reader.specs.declared.entry.PacketTime.{PacketTime}
 use Rattle.console.specs.declared.tally.Tally.{Tally}
 use Rattle.console.specs.declared.view.View.{View}
 use Rattle.console.specs.declared.view.View.TheVariants.{Lines, Numbers, Count, Quiet}
@@ -30,28 +33,28 @@ abbrev pub tally_line : ℕ → ℕ → List ℕ
 tally_line some all = decimal some ++ codes " of " ++ decimal all ++ codes "\n"
 
 -- a time stamp, and a blank after it
-abbrev pub mark : Option Stamp → List ℕ
+abbrev pub mark : Option PacketTime → List ℕ
 mark None = []
 mark (Some stamp) = stamp_text stamp ++ codes " "
 
 -- the first of some time stamps, and the others
-abbrev pub first_stamp : List Stamp → Option Stamp
+abbrev pub first_stamp : List PacketTime → Option PacketTime
 first_stamp [] = None
 first_stamp (stamp ∷ others) = Some stamp
 
-abbrev pub other_stamps : List Stamp → List Stamp
+abbrev pub other_stamps : List PacketTime → List PacketTime
 other_stamps [] = []
 other_stamps (stamp ∷ others) = others
 
 -- the line for an outcome: with its packet's number n, from 1, and its time stamp if it has one, where numbers are shown
-abbrev pub shown_line : View → ℕ → Option Stamp → Outcome → List ℕ
+abbrev pub shown_line : View → ℕ → Option PacketTime → Outcome → List ℕ
 shown_line Lines n stamp outcome = outcome_line outcome
 shown_line Numbers n stamp outcome = decimal n ++ codes " " ++ mark stamp ++ outcome_line outcome
 shown_line Count n stamp outcome = []
 shown_line Quiet n stamp outcome = []
 
 -- what is shown of outcomes as soon as they are there, with the time stamps of their packets; there were n packets before
-abbrev pub shown_at_once : View → ℕ → List Stamp → List Outcome → List ℕ
+abbrev pub shown_at_once : View → ℕ → List PacketTime → List Outcome → List ℕ
 shown_at_once view n stamps [] = []
 shown_at_once view n stamps (outcome ∷ more) = shown_line view (n + 1) (first_stamp stamps) outcome ++ shown_at_once view (n + 1) (other_stamps stamps) more
 
@@ -74,32 +77,32 @@ ending_status (BadLine number) = 1
 ending_status (Fault fault) = 1
 
 -- the packets of bytes, in order, ended with these outcomes, and this line and status come after them
-abbrev pub RanAll : List Insn → Bool → List ℕ → List Outcome → ℕ → List ℕ → Type 0
-RanAll program false input outcomes status ending =
+abbrev pub RanAll : List Insn → PacketForm → List ℕ → List Outcome → ℕ → List ℕ → Type 0
+RanAll program Digits input outcomes status ending =
     (good : List (List ℕ)) × AllZip (Answers program) good outcomes × Stops (lines input) good status ending
-RanAll program true input outcomes status ending =
-    (header : Option Header) × (packets : List CapturedPacket) × (fault : Option CaptureFault)
-    × Reads input header packets fault × AllZip (AnswersCaptured program) packets outcomes × (status ≡ fault_status fault) × (ending ≡ fault_text fault)
+RanAll program (Capture link) input outcomes status ending =
+    (entries : List EntryBytes) × (fault : Option ReadFault)
+    × HasEntries input entries fault × AllZip (AnswersCaptured program) (packets_in (chosen link entries)) outcomes × (status ≡ fault_status fault) × (ending ≡ fault_text fault)
 
 -- the first packets of bytes ended with these outcomes
-abbrev pub RanFirst : List Insn → Bool → List ℕ → List Outcome → Type 0
-RanFirst program false input outcomes =
+abbrev pub RanFirst : List Insn → PacketForm → List ℕ → List Outcome → Type 0
+RanFirst program Digits input outcomes =
     (good : List (List ℕ)) × (left : List (List ℕ)) × (lines input ≡ good ++ left) × AllZip (Answers program) good outcomes
-RanFirst program true input outcomes =
-    (header : Option Header) × (packets : List CapturedPacket) × (fault : Option CaptureFault) × Reads input header packets fault
-    × (good : List CapturedPacket) × (left : List CapturedPacket) × (packets ≡ good ++ left) × AllZip (AnswersCaptured program) good outcomes
+RanFirst program (Capture link) input outcomes =
+    (entries : List EntryBytes) × (fault : Option ReadFault) × HasEntries input entries fault
+    × (good : List CapturedPacket) × (left : List CapturedPacket) × (packets_in (chosen link entries) ≡ good ++ left) × AllZip (AnswersCaptured program) good outcomes
 
 -- the time stamps that a view shows of so many packets: those of a capture, where numbers are shown
-abbrev pub AreShown : Bool → List ℕ → ℕ → List Stamp → Type 0
-AreShown true input n stamps = (length stamps ≡ n) × AreStamps input n stamps
-AreShown false input n stamps = stamps ≡ []
+abbrev pub AreShown : Bool → PacketForm → List ℕ → ℕ → List PacketTime → Type 0
+AreShown true (Capture link) input n stamps = (length stamps ≡ n) × AreStamps link input n stamps
+AreShown stamped form input n stamps = stamps ≡ []
 
-abbrev pub shows_stamps : View → Bool → Bool
-shows_stamps Numbers pcap = pcap
-shows_stamps view pcap = false
+abbrev pub shows_stamps : View → PacketForm → Bool
+shows_stamps Numbers form = is_capture form
+shows_stamps view form = false
 
 -- a text and a status of outcomes and of the line after them
-abbrev pub ShowsOutcomes : View → List Stamp → List Outcome → ℕ → List ℕ → ℕ → List ℕ → Type 0
+abbrev pub ShowsOutcomes : View → List PacketTime → List Outcome → ℕ → List ℕ → ℕ → List ℕ → Type 0
 ShowsOutcomes view stamps outcomes ended ending status text =
     (status ≡ ended) × (text ≡ shown_at_once view 0 stamps outcomes ++ (shown_after view (accepted outcomes) (length outcomes) ++ ending))
 
@@ -122,21 +125,21 @@ abbrev pub HasCounted : View → Tally → List Outcome → Type 0
 HasCounted view tally outcomes = (tally.view ≡ view) × (tally.total ≡ length outcomes) × (tally.accepted ≡ accepted outcomes)
 
 -- what is shown of bytes under a view. `Quiet`: nothing, and status 0 where one of the first packets was accepted, whatever follows
-abbrev pub ShowsView : View → List Insn → Bool → List ℕ → ℕ → List ℕ → Type 0
-ShowsView Quiet program pcap input status text = (text ≡ [])
-    × (((outcomes : List Outcome) × RanFirst program pcap input outcomes × (0 < accepted outcomes) × (status ≡ 0))
-    ⊎ ((outcomes : List Outcome) × (ended : ℕ) × (ending : List ℕ) × RanAll program pcap input outcomes ended ending
+abbrev pub ShowsView : View → List Insn → PacketForm → List ℕ → ℕ → List ℕ → Type 0
+ShowsView Quiet program form input status text = (text ≡ [])
+    × (((outcomes : List Outcome) × RanFirst program form input outcomes × (0 < accepted outcomes) × (status ≡ 0))
+    ⊎ ((outcomes : List Outcome) × (ended : ℕ) × (ending : List ℕ) × RanAll program form input outcomes ended ending
     × (accepted outcomes ≡ 0) × IsNoneStatus ended status))
-ShowsView view program pcap input status text =
-    (outcomes : List Outcome) × (ended : ℕ) × (ending : List ℕ) × RanAll program pcap input outcomes ended ending
-    × (stamps : List Stamp) × AreShown (shows_stamps view pcap) input (length outcomes) stamps × ShowsOutcomes view stamps outcomes ended ending status text
+ShowsView view program form input status text =
+    (outcomes : List Outcome) × (ended : ℕ) × (ending : List ℕ) × RanAll program form input outcomes ended ending
+    × (stamps : List PacketTime) × AreShown (shows_stamps view form) form input (length outcomes) stamps × ShowsOutcomes view stamps outcomes ended ending status text
 
 -- text is a front of what is shown at once of the first packets of bytes, or of all that is shown
-abbrev pub ShowsViewPart : View → List Insn → Bool → List ℕ → List ℕ → Type 0
-ShowsViewPart view program pcap input text =
-    ((outcomes : List Outcome) × RanFirst program pcap input outcomes
-    × (stamps : List Stamp) × AreShown (shows_stamps view pcap) input (length outcomes) stamps × BeginsWith text (shown_at_once view 0 stamps outcomes))
-    ⊎ ((status : ℕ) × (whole : List ℕ) × ShowsView view program pcap input status whole × BeginsWith text whole)
+abbrev pub ShowsViewPart : View → List Insn → PacketForm → List ℕ → List ℕ → Type 0
+ShowsViewPart view program form input text =
+    ((outcomes : List Outcome) × RanFirst program form input outcomes
+    × (stamps : List PacketTime) × AreShown (shows_stamps view form) form input (length outcomes) stamps × BeginsWith text (shown_at_once view 0 stamps outcomes))
+    ⊎ ((status : ℕ) × (whole : List ℕ) × ShowsView view program form input status whole × BeginsWith text whole)
 
 -- a line, where the view shows any
 abbrev pub heard : View → List ℕ → List ℕ
@@ -148,9 +151,9 @@ abbrev pub ShowsViewCode : View → List ℕ → List ℕ → Type 0
 ShowsViewCode view code text = (line : List ℕ) × ShowsBadCode code line × (text ≡ heard view line)
 
 -- what a view shows of a code and of the bytes that were read
-abbrev pub ViewShows : View → List ℕ → Bool → List ℕ → ℕ → List ℕ → Type 0
-ViewShows view code pcap input status text = (program : List Insn) × IsGoodCode code program × ShowsView view program pcap input status text
+abbrev pub ViewShows : View → List ℕ → PacketForm → List ℕ → ℕ → List ℕ → Type 0
+ViewShows view code form input status text = (program : List Insn) × IsGoodCode code program × ShowsView view program form input status text
 
 -- and what it has shown where it failed
-abbrev pub ViewLeaves : View → List ℕ → Bool → List ℕ → List ℕ → Type 0
-ViewLeaves view code pcap input text = (program : List Insn) × IsGoodCode code program × ShowsViewPart view program pcap input text
+abbrev pub ViewLeaves : View → List ℕ → PacketForm → List ℕ → List ℕ → Type 0
+ViewLeaves view code form input text = (program : List Insn) × IsGoodCode code program × ShowsViewPart view program form input text

@@ -6,17 +6,17 @@ ghost use Rattle.console.specs.Faults.{fault_line, fault_status, fault_text};
 ghost use Rattle.console.specs.Matching.{IsPrintFault};
 ghost use Rattle.console.specs.Reading.{BeginsWith};
 
-use crate::fault_words::push_capture_words;
+use crate::fault_words::push_read_words;
 use crate::output::write_text;
 use crate::{EngineFault, Sink};
-use pcap_reader::CaptureFault;
+use capture_reader::ReadFault;
 use std::alloc::AllocError;
 use std::io::Write;
 
 /// Writes what was kept back of a text, and the line for the fault after it if there is one, and answers the status.
 pub fn write_ending<W: Write>(
     mut text: String,
-    fault: Option<CaptureFault>,
+    fault: Option<ReadFault>,
     writer: &mut Sink<W>,
 ) -> Result<u8, EngineFault>
     requires { writer.old.failed ≡ false }
@@ -35,7 +35,7 @@ pub fn write_ending<W: Write>(
 }
 
 /// Prints the line for a fault if there is one, and answers the status.
-fn push_ending(text: &mut String, fault: Option<CaptureFault>) -> Result<u8, AllocError>
+fn push_ending(text: &mut String, fault: Option<ReadFault>) -> Result<u8, AllocError>
     ensures status { IfOk result (λ status. status ≡ fault_status fault) }
     ensures printed { OnOk result (string_bytes text.new ≡ string_bytes text.old ++ fault_text fault) }
 {
@@ -49,10 +49,10 @@ fn push_ending(text: &mut String, fault: Option<CaptureFault>) -> Result<u8, All
 }
 
 /// Prints the line for a fault.
-pub fn push_fault(text: &mut String, fault: CaptureFault) -> Result<(), AllocError>
+pub fn push_fault(text: &mut String, fault: ReadFault) -> Result<(), AllocError>
     ensures { OnOk result (string_bytes text.new ≡ string_bytes text.old ++ fault_line fault) }
 {
     text.push_str("fault ")?;
-    push_capture_words(text, fault)?;
+    push_read_words(text, fault)?;
     text.push_str("\n")
 }

@@ -5,7 +5,7 @@ ghost use Rattle.console.specs.Views.{ending_status, ending_text};
 
 use crate::capture_fault::push_fault;
 use crate::match_lines::push_bad_line;
-use pcap_reader::CaptureFault;
+use capture_reader::ReadFault;
 use std::alloc::AllocError;
 
 /// What comes after the last packet that was run.
@@ -16,7 +16,7 @@ pub enum Ending {
     /// The line of this number, which is no packet.
     BadLine(u64),
     /// A fault of the capture.
-    Fault(CaptureFault),
+    Fault(ReadFault),
 }
 
 impl Ending {

@@ -4,12 +4,14 @@
 ghost use Rattle.std.specs.Prelude.{◌≡◌, ◌≢◌, ◌++◌, MatchOption, OnOk, codes, string_bytes};
 ghost use Rattle.std.specs.Fmt.{decimal};
 ghost use Rattle.console.specs.Code.{commas, refusal_words};
-ghost use Rattle.console.specs.Words.{asm_fault_name, capture_words, code_words};
+ghost use Rattle.console.specs.Words.{asm_fault_name, block_words, capture_words, code_words, error_name, read_words};
 
 use bpf_insn::TextFault;
+use capture_reader::ReadFault;
 use filter_asm::AsmFaultKind;
 use filter_verify::Refusal;
 use pcap_reader::CaptureFault;
+use pcapng_reader::{BlockError, CaptureFault as PcapngFault};
 use std::alloc::AllocError;
 use std::fmt::Write;
 
@@ -36,6 +38,44 @@ pub fn push_capture_words(text: &mut String, fault: CaptureFault) -> Result<(), 
         CaptureFault::TruncatedRecord(place) => write!(text, "TruncatedRecord {place}"),
         CaptureFault::TooLong(place) => write!(text, "TooLong {place}"),
         CaptureFault::NoMemory => Err(AllocError),
+    }
+}
+
+/// Appends the name of a fault of a capture of either format, with its place if it has one.
+pub fn push_read_words(text: &mut String, fault: ReadFault) -> Result<(), AllocError>
+    ensures { OnOk result (string_bytes text.new ≡ string_bytes text.old ++ read_words fault) }
+{
+    match fault {
+        ReadFault::Savefile(fault) => push_capture_words(text, fault),
+        ReadFault::Pcapng(fault) => push_block_words(text, fault),
+    }
+}
+
+/// Appends the name of a fault of a capture in pcapng, with the place of its block.
+fn push_block_words(text: &mut String, fault: PcapngFault) -> Result<(), AllocError>
+    ensures { OnOk result (string_bytes text.new ≡ string_bytes text.old ++ block_words fault) }
+{
+    match fault {
+        PcapngFault::BadBlock(error, place) => write!(text, "{} {place}", name_of_error(error)),
+        PcapngFault::Truncated(place) => write!(text, "Truncated {place}"),
+        PcapngFault::NoMemory => Err(AllocError),
+    }
+}
+
+/// The name of what is wrong with a block.
+fn name_of_error(error: BlockError) -> &'static str
+    ensures { result.now ≡ error_name error }
+{
+    match error {
+        BlockError::NoSection => "NoSection",
+        BlockError::BadByteOrder => "BadByteOrder",
+        BlockError::BadLength => "BadLength",
+        BlockError::LengthNotRepeated => "LengthNotRepeated",
+        BlockError::BadVersion => "BadVersion",
+        BlockError::NoInterface => "NoInterface",
+        BlockError::BadCaptured => "BadCaptured",
+        BlockError::TooManyInterfaces => "TooManyInterfaces",
+        BlockError::TooLong => "TooLong",
     }
 }
 

@@ -2,6 +2,7 @@
 #![tactic(auto)]
 
 mod capture_fault;
+mod capture_run;
 mod captured;
 mod checking;
 mod code;
@@ -9,8 +10,10 @@ mod dumping;
 mod ending;
 mod fault;
 mod fault_words;
+mod form;
 mod hexadecimal;
 mod input;
+mod laws;
 mod line_feed;
 mod lines;
 mod match_capture;
@@ -20,12 +23,10 @@ mod outcome;
 mod output;
 mod packet_source;
 mod remembering;
-mod running;
 mod showing;
 mod sink;
 mod source;
 mod stamp;
-mod stamped_feed;
 mod streaming;
 mod tally;
 mod too_long;
@@ -35,9 +36,13 @@ pub use checking::{fault_line, run_check};
 pub use code::read_code;
 pub use dumping::run_dump;
 pub use fault::EngineFault;
-pub use fault_words::{name_of_asm_fault, push_capture_words, push_code_words, push_refusal_words};
+pub use fault_words::{
+    name_of_asm_fault, push_capture_words, push_code_words, push_read_words, push_refusal_words,
+};
+pub use form::PacketForm;
 pub use hexadecimal::decode;
 pub use input::{INPUT_BYTES, INPUT_READS, Input, feed_bounded, read_bounded};
+pub use laws::inputs_have_limits;
 pub use lines::first_line;
 pub use match_lines::push_bad_line;
 pub use matching::run_match;
@@ -46,7 +51,6 @@ pub use output::{BLOCK, write_bytes, write_text};
 pub use showing::{Shown, show_input};
 pub use sink::Sink;
 pub use source::{Got, Source};
-pub use stamp::Stamp;
 pub use streaming::{STREAM_READS, run_stream, run_view};
 pub use tally::NONE_ACCEPTED;
 pub use too_long::refuse_long;

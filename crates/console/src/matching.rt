@@ -8,16 +8,15 @@ ghost use Rattle.console.specs.declared.input.TheConstants.{INPUT_BYTES, INPUT_R
 ghost use Rattle.console.specs.Devices.{EndsEarly, EndsWell, IsFresh, Writes};
 ghost use Rattle.console.specs.Matching.{IsEngineFault, ShowsGoodCode, ShowsInput, ShowsPart, ShowsRead};
 
+use crate::capture_run::{CaptureRun, run_input};
 use crate::code::read_predecoded;
 use crate::input::{INPUT_BYTES, Input, read_bounded};
 use crate::match_capture::show_capture;
 use crate::match_lines::match_lines;
 use crate::output::write_text;
-use crate::running::run_input;
 use crate::too_long::refuse_long;
-use crate::{EngineFault, Sink, Source};
+use crate::{EngineFault, PacketForm, Sink, Source};
 use filter_predecode::Predecoded;
-use pcap_reader::Feed;
 use std::alloc::Global;
 use std::io::{Read, Write};
 
@@ -25,10 +24,11 @@ use std::io::{Read, Write};
 ///
 /// For each packet it writes the verdict and the number of instructions that ran, as `VERDICT STEPS`, with status 0.
 ///
-/// - Where `pcap` is false a packet is a line with an even number of hexadecimal digits of either case. At the first line
-///   that is no packet it writes `line N: BadHex`, N counting from 1, and ends with status 1.
-/// - Where `pcap` is true the input is a capture. What stands before a fault of the capture is written, then
-///   `fault NAME`, with the fault's offset where it has one, and the status is 1.
+/// - `PacketForm::Digits`: a packet is a line with an even number of hexadecimal digits of either case. At the first line that
+///   is no packet it writes `line N: BadHex`, N counting from 1, and ends with status 1.
+/// - `PacketForm::Capture`: the input is a capture, in pcapng or a savefile. Where a link type is named, only packets of that
+///   are run. What stands before a fault of the capture is written, then `fault NAME`, with the fault's offset where it has
+///   one, and the status is 1.
 ///
 /// Of an input of more than 64 MiB only `fault InputTooLong` is shown, status 1. For a code that is no program, or that the
 /// verifier refuses, it writes one line that says why, with status 1, and reads nothing.
@@ -40,7 +40,7 @@ use std::io::{Read, Write};
 pub fn run_match<R: Read, W: Write>(
     alloc: Global,
     code: &[u8],
-    pcap: bool,
+    form: PacketForm,
     reader: &mut Source<R>,
     writer: &mut Sink<W>,
 ) -> Result<u8, EngineFault>
@@ -48,9 +48,9 @@ pub fn run_match<R: Read, W: Write>(
     requires good { writer.old.failed ≡ false }
     ensures shown { IfOk result (λ status. (text : List ℕ) × Writes W.contents writer.old writer.new text
         × ((ShowsBadCode code.now text × (status ≡ 1))
-        ⊎ ((input : List ℕ) × IsInput R.remaining reader.old reader.new input × ShowsGoodCode code.now pcap input status text))) }
+        ⊎ ((input : List ℕ) × IsInput R.remaining reader.old reader.new input × ShowsGoodCode code.now form input status text))) }
     ensures taken { IfOk result (λ _. GetsAtMost R.remaining reader.old reader.new most_taken) }
-    ensures only { (input : List ℕ) → AreBytes input → ShowsOne (ShowsGoodCode code.now pcap input) }
+    ensures only { (input : List ℕ) → AreBytes input → ShowsOne (ShowsGoodCode code.now form input) }
     ensures bad_only { (text other : List ℕ) → ShowsBadCode code.now text → ShowsBadCode code.now other → SameButPath text other }
     ensures good_or_bad { (program : List Insn) (text : List ℕ) → IsGoodCode code.now program → ShowsBadCode code.now text → ⊥ }
     ensures unread { ((program : List Insn) → IsGoodCode code.now program → ⊥) → reader.new ≡ reader.old }
@@ -60,7 +60,7 @@ pub fn run_match<R: Read, W: Write>(
     ensures most { reader.new.taken ≤ most_taken }
     ensures silent { IsErrOf result EngineFault.ReadFailed → writer.new ≡ writer.old }
     ensures part { IsErrOf result EngineFault.NoMemory → (text : List ℕ)
-        × ShowsPart code.now pcap R.remaining reader.old reader.new text
+        × ShowsPart code.now form R.remaining reader.old reader.new text
         × Writes W.contents writer.old writer.new text }
 {
     let program = match read_predecoded(alloc, code)? {
@@ -70,14 +70,14 @@ pub fn run_match<R: Read, W: Write>(
             return Ok(1);
         }
     };
-    match_input(alloc, &program, pcap, reader, writer)
+    match_input(alloc, &program, form, reader, writer)
 }
 
 /// Runs the filter on the packets of the input, and answers the status.
 fn match_input<R: Read, W: Write>(
     alloc: Global,
     program: &Predecoded,
-    pcap: bool,
+    form: PacketForm,
     reader: &mut Source<R>,
     writer: &mut Sink<W>,
 ) -> Result<u8, EngineFault>
@@ -85,7 +85,7 @@ fn match_input<R: Read, W: Write>(
     requires open { (reader.old.ended ≡ false) × (reader.old.failed ≡ false) }
     requires good { writer.old.failed ≡ false }
     ensures shown { IfOk result (λ status. (text : List ℕ) × Writes W.contents writer.old writer.new text
-        × ((input : List ℕ) × IsInput R.remaining reader.old reader.new input × ShowsInput program.now pcap input status text)) }
+        × ((input : List ℕ) × IsInput R.remaining reader.old reader.new input × ShowsInput program.now form input status text)) }
     ensures taken { IfOk result (λ _. GetsAtMost R.remaining reader.old reader.new most_taken) }
     ensures fault { IfErr result IsEngineFault }
     ensures well { IfOk result (λ _. EndsWell reader.new writer.new INPUT_BYTES) }
@@ -93,19 +93,20 @@ fn match_input<R: Read, W: Write>(
     ensures most { reader.new.taken ≤ most_taken }
     ensures silent { IsErrOf result EngineFault.ReadFailed → writer.new ≡ writer.old }
     ensures part { IsErrOf result EngineFault.NoMemory → (text : List ℕ)
-        × ShowsRead program.now pcap R.remaining reader.old reader.new text
+        × ShowsRead program.now form R.remaining reader.old reader.new text
         × Writes W.contents writer.old writer.new text }
 {
-    if !pcap {
+    let PacketForm::Capture(link) = form else {
         return match read_bounded(alloc, reader, INPUT_BYTES)? {
             Input::TooLong => refuse_long(writer),
             Input::Whole(input) => match_lines(alloc, program, input.as_slice(), writer),
         };
-    }
-    let mut feed = Feed::new(alloc);
+    };
+    let mut run = CaptureRun::new(alloc, link, false);
     let mut outcomes = Vec::new(alloc);
-    if !run_input(program, reader, &mut feed, &mut outcomes)? {
+    let mut stamps = Vec::new(alloc);
+    if !run_input(program, reader, &mut run, &mut outcomes, &mut stamps)? {
         return refuse_long(writer);
     }
-    show_capture(alloc, &feed, outcomes.as_slice(), writer)
+    show_capture(alloc, &run, outcomes.as_slice(), writer)
 }

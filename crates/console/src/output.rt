@@ -7,7 +7,8 @@ ghost use Rattle.console.specs.Matching.{IsPrintFault};
 ghost use Rattle.console.specs.Views.{shown_at_once};
 
 use crate::view::{next_stamp, push_line};
-use crate::{EngineFault, Sink, Stamp, View};
+use crate::{EngineFault, Sink, View};
+use capture_reader::PacketTime;
 use filter_vm::Outcome;
 use std::io::Write;
 
@@ -52,7 +53,7 @@ pub fn write_outcomes<W: Write>(
     view: View,
     before: u64,
     outcomes: &[Outcome],
-    stamps: &[Stamp],
+    stamps: &[PacketTime],
     writer: &mut Sink<W>,
 ) -> Result<(), EngineFault>
     requires empty { string_bytes text.old ≡ [] }

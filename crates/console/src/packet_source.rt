@@ -4,20 +4,20 @@ ghost use Rattle.std.specs.Prelude.{◌≡◌, ◌<◌, ◌≤◌, ◌^◌, ℕ,
 ghost use Rattle.std.specs.Bool.{MatchBool};
 ghost use Rattle.bpf_insn.specs.declared.insn.Insn.{Insn};
 ghost use Rattle.filter_vm.specs.declared.machine.Outcome.{Outcome as Ended};
-ghost use Rattle.console.specs.declared.stamp.Stamp.{Stamp as Time};
-ghost use Rattle.console.specs.Reading.{HasStopped};
-ghost use Rattle.console.specs.Running.{HasRun};
-ghost use Rattle.console.specs.Streaming.{SourceEnded, SourceRan, StampTo, is_capture, is_stamped};
+ghost use Rattle.capture_reader.specs.declared.entry.PacketTime.{PacketTime as Time};
+ghost use Rattle.console.specs.declared.form.PacketForm.{PacketForm as Form};
+ghost use Rattle.console.specs.Choosing.{is_capture};
+ghost use Rattle.console.specs.Running.{HasRun, IsStopped};
+ghost use Rattle.console.specs.Streaming.{SourceEnded, SourceRan, StampTo, form_of, is_stamped};
 ghost use Rattle.console.specs.Views.{RanAll, ending_status, ending_text};
 
-use crate::Stamp;
+use crate::PacketForm;
+use crate::capture_run::CaptureRun;
 use crate::ending::Ending;
 use crate::line_feed::LineFeed;
-use crate::running::{fault_behind, run_piece};
-use crate::stamped_feed::StampedFeed;
+use capture_reader::PacketTime;
 use filter_predecode::Predecoded;
 use filter_vm::Outcome;
-use pcap_reader::Feed;
 use std::alloc::{AllocError, Global};
 
 /// An input whose packets are run while it is read.
@@ -26,25 +26,22 @@ pub enum PacketSource {
     /// Lines of hexadecimal digits.
     Lines(LineFeed),
     /// A capture.
-    Capture(Feed),
-    /// A capture whose time stamps are shown.
-    Stamped(StampedFeed),
+    Capture(CaptureRun),
 }
 
 impl PacketSource {
-    /// A source that was given nothing: a capture, with time stamps or without, or lines. Takes no memory.
-    pub fn new(alloc: Global, pcap: bool, stamped: bool) -> PacketSource
-        requires { stamped ≡ true → pcap ≡ true }
+    /// A source that was given nothing, of such packets. Of a capture's the times are given, if `stamped`. Takes no memory.
+    pub fn new(alloc: Global, form: PacketForm, stamped: bool) -> PacketSource
+        requires { stamped ≡ true → is_capture form ≡ true }
         ensures ran { (program : List Insn) → SourceRan program [] result [] [] }
-        ensures kind { is_capture result ≡ pcap }
+        ensures form { form_of result ≡ form }
         ensures stamped { is_stamped result ≡ stamped }
     {
-        if stamped {
-            PacketSource::Stamped(StampedFeed::new(alloc))
-        } else if pcap {
-            PacketSource::Capture(Feed::new(alloc))
-        } else {
-            PacketSource::Lines(LineFeed::new(alloc))
+        match form {
+            PacketForm::Digits => PacketSource::Lines(LineFeed::new(alloc)),
+            PacketForm::Capture(link) => {
+                PacketSource::Capture(CaptureRun::new(alloc, link, stamped))
+            }
         }
     }
 
@@ -56,21 +53,20 @@ impl PacketSource {
         program: &Predecoded,
         piece: &[u8],
         outcomes: &mut Vec<Outcome>,
-        stamps: &mut Vec<Stamp>,
+        stamps: &mut Vec<PacketTime>,
     ) -> Result<bool, AllocError>
         requires { length piece.now ≤ 65536 }
         ensures runs { IfOk result (λ stopped. MatchBool stopped
             (StampTo (SourceRan program.now) (SourceEnded program.now true) piece.now self.old self.new outcomes.old.items outcomes.new.items stamps.old.items stamps.new.items)
             (StampTo (SourceRan program.now) (SourceRan program.now) piece.now self.old self.new outcomes.old.items outcomes.new.items stamps.old.items stamps.new.items)) }
-        ensures kind { is_capture self.new ≡ is_capture self.old }
+        ensures form { form_of self.new ≡ form_of self.old }
         ensures stamped { is_stamped self.new ≡ is_stamped self.old }
         ensures plain { is_stamped self.old ≡ false → stamps.new.items ≡ stamps.old.items }
         ensures bytes { All (λ byte. byte < 256) piece.now }
     {
         match self {
             PacketSource::Lines(lines) => lines.run_piece(program, piece, outcomes),
-            PacketSource::Capture(feed) => run_piece(program, feed, piece, outcomes),
-            PacketSource::Stamped(feed) => feed.run_piece(program, piece, outcomes, stamps),
+            PacketSource::Capture(capture) => capture.run_piece(program, piece, outcomes, stamps),
         }
     }
 
@@ -83,16 +79,12 @@ impl PacketSource {
     ) -> Result<bool, AllocError>
         ensures runs { IfOk result (λ stopped. (stamps : List Time)
             → StampTo (SourceRan program.now) (SourceEnded program.now stopped) [] self.old self.new outcomes.old.items outcomes.new.items stamps stamps) }
-        ensures kind { is_capture self.new ≡ is_capture self.old }
+        ensures form { form_of self.new ≡ form_of self.old }
         ensures stamped { is_stamped self.new ≡ is_stamped self.old }
     {
         match self {
             PacketSource::Lines(lines) => lines.finish(program, outcomes),
             PacketSource::Capture(_) => Ok(false),
-            PacketSource::Stamped(feed) => {
-                feed.finish(program, outcomes)?;
-                Ok(false)
-            }
         }
     }
 
@@ -100,7 +92,7 @@ impl PacketSource {
     pub fn ending(&self, stopped: bool) -> Result<Ending, AllocError>
         ensures ends { IfOk result (λ ending. (program : List Insn) (taken : List ℕ) (outcomes : List Ended) (stamps : List Time) → length taken < 2 ^ 64
             → SourceEnded program stopped taken self.now outcomes stamps
-            → RanAll program (is_capture self.now) taken outcomes (ending_status ending) (ending_text ending)) }
+            → RanAll program (form_of self.now) taken outcomes (ending_status ending) (ending_text ending)) }
         ensures status { IfOk result (λ ending. (program : List Insn) (taken : List ℕ) (outcomes : List Ended) (stamps : List Time)
             → SourceEnded program stopped taken self.now outcomes stamps → IsTrue stopped → ending_status ending ≡ 1) }
     {
@@ -111,19 +103,18 @@ impl PacketSource {
                 }
                 Ok(Ending::BadLine(lines.number().saturating_add(1)))
             }
-            PacketSource::Capture(feed) => feed_ending(feed),
-            PacketSource::Stamped(stamped) => feed_ending(stamped.feed()),
+            PacketSource::Capture(capture) => run_ending(capture),
         }
     }
 }
 
-/// What comes after the last packet of a capture that was fed.
-fn feed_ending(feed: &Feed) -> Result<Ending, AllocError>
-    ensures ends { IfOk result (λ ending. (program : List Insn) (fed : List ℕ) (outcomes : List Ended) → HasRun program fed feed.now outcomes
-        → RanAll program true fed outcomes (ending_status ending) (ending_text ending)) }
-    ensures stopped { HasStopped feed.now → IfOk result (λ ending. ending_status ending ≡ 1) }
+/// What comes after the last packet of a capture that was run.
+fn run_ending(run: &CaptureRun) -> Result<Ending, AllocError>
+    ensures ends { IfOk result (λ ending. (program : List Insn) (fed : List ℕ) (outcomes : List Ended) (stamps : List Time) → HasRun program fed run.now outcomes stamps
+        → RanAll program (Form.Capture run.now.link) fed outcomes (ending_status ending) (ending_text ending)) }
+    ensures stopped { IsStopped run.now → IfOk result (λ ending. ending_status ending ≡ 1) }
 {
-    match fault_behind(feed)? {
+    match run.fault()? {
         Some(fault) => Ok(Ending::Fault(fault)),
         None => Ok(Ending::Done),
     }

@@ -1,59 +1,90 @@
-//! The time stamps of packets.
+//! How the times of packets are shown.
 
-ghost use Rattle.std.specs.Prelude.{◌≡◌, ◌≤◌, ◌++◌, OnOk, length, string_bytes};
-ghost use Rattle.pcap_reader.specs.Savefile.{number};
-ghost use Rattle.console.specs.Stamps.{padded, stamp_in, stamp_text};
+ghost use Rattle.std.specs.Prelude.{◌≡◌, ◌<◌, ◌≤◌, ◌++◌, ◌^◌, OnOk, string_bytes};
+ghost use Rattle.console.specs.Stamps.{padded, parts_text, seconds_text, signed_text, stamp_text, units_text};
 
-use byteorder::{BigEndian, ByteOrder, LittleEndian};
+use capture_reader::PacketTime;
 use itoa::Buffer;
-use pcap_reader::Header;
+use pcapng_reader::Time;
 use std::alloc::AllocError;
 
-/// When a packet was seen, as its record in the capture says.
-#[derive(Clone, Copy, PartialEq, Eq, Debug)]
-pub struct Stamp {
-    /// Seconds since the beginning of 1970.
-    pub seconds: u32,
-    /// Parts of the second after these.
-    pub fraction: u32,
-    /// Whether the parts are nanoseconds; else they are microseconds.
-    pub nano: bool,
-}
+/// The digits of nanoseconds.
+const MOST_DIGITS: u8 = 9;
 
-impl Stamp {
-    /// The time stamp in the header of a record.
-    pub fn read(header: Header, bytes: &[u8]) -> Stamp
-        requires { 8 ≤ length bytes.now }
-        ensures { result ≡ stamp_in header.big header.nano bytes.now }
-    {
-        Stamp {
-            seconds: word_at(header.big, bytes),
-            fraction: word_at(header.big, &bytes[4..]),
-            nano: header.nano,
-        }
-    }
-
-    /// Prints the seconds, and their parts with 6 digits or 9.
-    pub fn push(self, text: &mut String) -> Result<(), AllocError>
-        ensures { OnOk result (string_bytes text.new ≡ string_bytes text.old ++ stamp_text self) }
-    {
-        let mut digits = Buffer::new();
-        text.push_str(digits.format(self.seconds))?;
-        text.push_str(".")?;
-        push_padded(text, if self.nano { 9 } else { 6 }, self.fraction)
-    }
-}
-
-/// The number in the first four bytes.
-fn word_at(big: bool, bytes: &[u8]) -> u32
-    requires { 4 ≤ length bytes.now }
-    ensures { result ≡ number big 4 bytes.now }
+/// Prints when a packet was seen: seconds, and their parts with as many digits as the capture has. Where it isn't known it is `-`.
+pub fn push_time(text: &mut String, time: PacketTime) -> Result<(), AllocError>
+    ensures { OnOk result (string_bytes text.new ≡ string_bytes text.old ++ stamp_text time) }
 {
-    if big {
-        BigEndian::read_u32(bytes)
-    } else {
-        LittleEndian::read_u32(bytes)
+    match time {
+        PacketTime::Seconds {
+            seconds,
+            fraction,
+            nano,
+        } => push_seconds(
+            text,
+            u64::from(seconds),
+            if nano { MOST_DIGITS } else { 6 },
+            fraction,
+        ),
+        PacketTime::Units(time) => push_units(text, time),
+        PacketTime::Unknown => text.push_str("-"),
     }
+}
+
+/// Prints a time in units of an interface's resolution.
+fn push_units(text: &mut String, time: Time) -> Result<(), AllocError>
+    ensures { OnOk result (string_bytes text.new ≡ string_bytes text.old ++ units_text time) }
+{
+    let digits = time.resolution.min(MOST_DIGITS);
+    let stamp = time.stamp();
+    let parts = stamp.nanoseconds / power_of_ten(MOST_DIGITS - digits);
+    push_signed(text, stamp.seconds, digits, parts)
+}
+
+/// Prints seconds and the parts after them as one number.
+fn push_signed(text: &mut String, seconds: i64, digits: u8, parts: u32) -> Result<(), AllocError>
+    requires { digits ≤ MOST_DIGITS }
+    ensures { OnOk result (string_bytes text.new ≡ string_bytes text.old ++ signed_text seconds digits parts) }
+{
+    let whole = seconds.unsigned_abs();
+    if seconds >= 0 {
+        return push_seconds(text, whole, digits, parts);
+    }
+    text.push_str("-")?;
+    if parts == 0 {
+        return push_seconds(text, whole, digits, 0);
+    }
+    let left = power_of_ten(digits).saturating_sub(parts);
+    push_seconds(text, whole.saturating_sub(1), digits, left)
+}
+
+/// Prints seconds and their parts.
+fn push_seconds(text: &mut String, seconds: u64, digits: u8, parts: u32) -> Result<(), AllocError>
+    ensures { OnOk result (string_bytes text.new ≡ string_bytes text.old ++ seconds_text seconds digits parts) }
+{
+    let mut shown = Buffer::new();
+    text.push_str(shown.format(seconds))?;
+    push_parts(text, digits, parts)
+}
+
+/// Prints parts of a second with so many digits, if any, and a point before them.
+fn push_parts(text: &mut String, digits: u8, parts: u32) -> Result<(), AllocError>
+    ensures { OnOk result (string_bytes text.new ≡ string_bytes text.old ++ parts_text digits parts) }
+{
+    if digits == 0 {
+        return Ok(());
+    }
+    text.push_str(".")?;
+    push_padded(text, usize::from(digits), parts)
+}
+
+/// So many tens, multiplied.
+fn power_of_ten(count: u8) -> u32
+    requires { count ≤ MOST_DIGITS }
+    ensures is { result ≡ 10 ^ count }
+    ensures some { 0 < result }
+{
+    10u32.pow(u32::from(count))
 }
 
 /// Prints a number with zeros before it, up to a width.

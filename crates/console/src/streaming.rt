@@ -7,7 +7,7 @@ ghost use Rattle.console.specs.Code.{IsGoodCode, ShowsBadCode};
 ghost use Rattle.console.specs.Reading.{BeginsWith};
 ghost use Rattle.console.specs.Devices.{EndsEarly, Gets, IsFresh, StopsWriting, Writes};
 ghost use Rattle.console.specs.Matching.{IsEngineFault};
-ghost use Rattle.console.specs.Streaming.{SourceRan, StreamLeaves, StreamShows, is_capture, is_stamped};
+ghost use Rattle.console.specs.Streaming.{SourceRan, StreamLeaves, StreamShows, form_of, is_stamped};
 ghost use Rattle.console.specs.Views.{IsFound, ShowsView, ShowsViewCode, ShowsViewPart, ViewLeaves, ViewShows, heard, shows_stamps};
 
 use crate::code::read_predecoded;
@@ -15,7 +15,7 @@ use crate::input::BLOCK;
 use crate::output::write_text;
 use crate::packet_source::PacketSource;
 use crate::tally::Tally;
-use crate::{EngineFault, Got, Sink, Source, View};
+use crate::{EngineFault, Got, PacketForm, Sink, Source, View};
 use filter_predecode::Predecoded;
 use std::alloc::Global;
 use std::io::{Read, Write};
@@ -38,7 +38,7 @@ pub const STREAM_READS: u64 = 281_474_976_710_655;
 pub fn run_stream<R: Read, W: Write>(
     alloc: Global,
     code: &[u8],
-    pcap: bool,
+    form: PacketForm,
     reader: &mut Source<R>,
     writer: &mut Sink<W>,
 ) -> Result<u8, EngineFault>
@@ -47,16 +47,16 @@ pub fn run_stream<R: Read, W: Write>(
     ensures shown { IfOk result (λ status. (text : List ℕ) × Writes W.contents writer.old writer.new text
         × ((ShowsBadCode code.now text × (status ≡ 1))
         ⊎ ((input : List ℕ) × Gets R.remaining reader.old reader.new input
-        × StreamShows code.now pcap input status text × (IsAtEnd (R.remaining reader.new.inner) ⊎ (status ≡ 1))))) }
+        × StreamShows code.now form input status text × (IsAtEnd (R.remaining reader.new.inner) ⊎ (status ≡ 1))))) }
     ensures unread { ((program : List Insn) → IsGoodCode code.now program → ⊥) → reader.new ≡ reader.old }
     ensures left { OnErr result ((text : List ℕ) × Writes W.contents writer.old writer.new text
         × ((text ≡ []) ⊎ (((whole : List ℕ) × ShowsBadCode code.now whole × BeginsWith text whole)
-        ⊎ ((input : List ℕ) × Gets R.remaining reader.old reader.new input × StreamLeaves code.now pcap input text)))) }
+        ⊎ ((input : List ℕ) × Gets R.remaining reader.old reader.new input × StreamLeaves code.now form input text)))) }
     ensures fault { IfErr result IsEngineFault }
     ensures well { IfOk result (λ status. (writer.new.failed ≡ false) × (reader.new.failed ≡ false) × ((reader.new.ended ≡ true) ⊎ (status ≡ 1))) }
     ensures cause { IfErr result (EndsEarly reader.new writer.new) }
 {
-    run_view(alloc, code, pcap, View::Lines, reader, writer)
+    run_view(alloc, code, form, View::Lines, reader, writer)
 }
 
 /// Runs the filter that `code` spells, in decimal text, on packets of an input of any length, shows their outcomes under a
@@ -76,7 +76,7 @@ pub fn run_stream<R: Read, W: Write>(
 pub fn run_view<R: Read, W: Write>(
     alloc: Global,
     code: &[u8],
-    pcap: bool,
+    form: PacketForm,
     view: View,
     reader: &mut Source<R>,
     writer: &mut Sink<W>,
@@ -86,11 +86,11 @@ pub fn run_view<R: Read, W: Write>(
     ensures shown { IfOk result (λ status. (text : List ℕ) × Writes W.contents writer.old writer.new text
         × ((ShowsViewCode view code.now text × (status ≡ 1))
         ⊎ ((input : List ℕ) × Gets R.remaining reader.old reader.new input
-        × ViewShows view code.now pcap input status text × (IsAtEnd (R.remaining reader.new.inner) ⊎ (status ≡ 1) ⊎ IsFound view status)))) }
+        × ViewShows view code.now form input status text × (IsAtEnd (R.remaining reader.new.inner) ⊎ (status ≡ 1) ⊎ IsFound view status)))) }
     ensures unread { ((program : List Insn) → IsGoodCode code.now program → ⊥) → reader.new ≡ reader.old }
     ensures left { OnErr result ((text : List ℕ) × Writes W.contents writer.old writer.new text
         × ((text ≡ []) ⊎ (((whole : List ℕ) × ShowsBadCode code.now whole × BeginsWith text whole)
-        ⊎ ((input : List ℕ) × Gets R.remaining reader.old reader.new input × ViewLeaves view code.now pcap input text)))) }
+        ⊎ ((input : List ℕ) × Gets R.remaining reader.old reader.new input × ViewLeaves view code.now form input text)))) }
     ensures fault { IfErr result IsEngineFault }
     ensures well { IfOk result (λ status. (writer.new.failed ≡ false) × (reader.new.failed ≡ false)
         × ((reader.new.ended ≡ true) ⊎ (status ≡ 1) ⊎ IsFound view status)) }
@@ -100,16 +100,16 @@ pub fn run_view<R: Read, W: Write>(
         Ok(program) => program,
         Err(line) => return refuse_code(view, line.as_str(), writer),
     };
-    let mut source = PacketSource::new(alloc, pcap, shows_stamps(view, pcap));
+    let mut source = PacketSource::new(alloc, form, shows_stamps(view, form));
     stream(alloc, &program, &mut source, view, reader, writer)
 }
 
 /// Whether a view shows time stamps.
-fn shows_stamps(view: View, pcap: bool) -> bool
-    ensures { result ≡ shows_stamps view pcap }
+fn shows_stamps(view: View, form: PacketForm) -> bool
+    ensures { result ≡ shows_stamps view form }
 {
     match view {
-        View::Numbers => pcap,
+        View::Numbers => matches!(form, PacketForm::Capture(_)),
         View::Lines | View::Count | View::Quiet => false,
     }
 }
@@ -140,14 +140,14 @@ fn stream<R: Read, W: Write>(
     writer: &mut Sink<W>,
 ) -> Result<u8, EngineFault>
     requires nothing { SourceRan program.now [] source.old [] [] }
-    requires stamped { is_stamped source.old ≡ shows_stamps view (is_capture source.old) }
+    requires stamped { is_stamped source.old ≡ shows_stamps view (form_of source.old) }
     requires fresh { IsFresh reader.old STREAM_READS }
     requires good { writer.old.failed ≡ false }
     ensures shown { IfOk result (λ status. (input : List ℕ) × Gets R.remaining reader.old reader.new input
-        × ((text : List ℕ) × Writes W.contents writer.old writer.new text × ShowsView view program.now (is_capture source.old) input status text)
+        × ((text : List ℕ) × Writes W.contents writer.old writer.new text × ShowsView view program.now (form_of source.old) input status text)
         × (IsAtEnd (R.remaining reader.new.inner) ⊎ (status ≡ 1) ⊎ IsFound view status)) }
     ensures left { OnErr result ((input : List ℕ) × Gets R.remaining reader.old reader.new input
-        × ((text : List ℕ) × Writes W.contents writer.old writer.new text × ShowsViewPart view program.now (is_capture source.old) input text)) }
+        × ((text : List ℕ) × Writes W.contents writer.old writer.new text × ShowsViewPart view program.now (form_of source.old) input text)) }
     ensures fault { IfErr result IsEngineFault }
     ensures well { IfOk result (λ status. (writer.new.failed ≡ false) × (reader.new.failed ≡ false)
         × ((reader.new.ended ≡ true) ⊎ (status ≡ 1) ⊎ IsFound view status)) }

@@ -11,7 +11,8 @@ ghost use Rattle.console.specs.Views.{HasCounted, IsNoneStatus, ShowsEnd, accept
 use crate::ending::Ending;
 use crate::output::{write_outcomes, write_text};
 use crate::view::push_after;
-use crate::{EngineFault, Sink, Stamp, View};
+use crate::{EngineFault, Sink, View};
+use capture_reader::PacketTime;
 use filter_vm::Outcome;
 use std::alloc::{AllocError, Global};
 use std::io::Write;
@@ -49,7 +50,7 @@ impl Tally {
     pub fn show<W: Write>(
         &mut self,
         outcomes: &[Outcome],
-        stamps: &[Stamp],
+        stamps: &[PacketTime],
         writer: &mut Sink<W>,
     ) -> Result<(), EngineFault>
         requires empty { string_bytes self.old.text ≡ [] }

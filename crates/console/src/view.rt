@@ -3,8 +3,9 @@
 ghost use Rattle.std.specs.Prelude.{◌≡◌, ◌++◌, OnOk, string_bytes};
 ghost use Rattle.console.specs.Views.{first_stamp, mark, other_stamps, shown_after, shown_line, tally_line};
 
-use crate::Stamp;
 use crate::outcome::push_outcome;
+use crate::stamp::push_time;
+use capture_reader::PacketTime;
 use filter_vm::Outcome;
 use itoa::Buffer;
 use std::alloc::AllocError;
@@ -27,7 +28,7 @@ pub fn push_line(
     text: &mut String,
     view: View,
     number: u64,
-    stamp: Option<Stamp>,
+    stamp: Option<PacketTime>,
     outcome: Outcome,
 ) -> Result<(), AllocError>
     ensures { OnOk result (string_bytes text.new ≡ string_bytes text.old ++ shown_line view number stamp outcome) }
@@ -46,20 +47,20 @@ pub fn push_line(
 }
 
 /// Prints a time stamp and a blank, if there is one.
-fn push_mark(text: &mut String, stamp: Option<Stamp>) -> Result<(), AllocError>
+fn push_mark(text: &mut String, stamp: Option<PacketTime>) -> Result<(), AllocError>
     ensures { OnOk result (string_bytes text.new ≡ string_bytes text.old ++ mark stamp) }
 {
     match stamp {
         None => Ok(()),
         Some(stamp) => {
-            stamp.push(text)?;
+            push_time(text, stamp)?;
             text.push_str(" ")
         }
     }
 }
 
 /// Takes the first time stamp, if there is one.
-pub fn next_stamp(stamps: &mut &[Stamp]) -> Option<Stamp>
+pub fn next_stamp(stamps: &mut &[PacketTime]) -> Option<PacketTime>
     ensures taken { result ≡ first_stamp stamps.old.now }
     ensures left { stamps.new.now ≡ other_stamps stamps.old.now }
 {

@@ -6,7 +6,7 @@ use Rattle.bpf_insn.proofs.DddLaws.{one_program, spelled_or_faulty, one_fault}
 use Rattle.filter_asm.specs.declared.fault.AsmFault.{AsmFault}
 use Rattle.filter_asm.specs.Faults.{fault_of}
 use Rattle.filter_asm.proofs.LawLemmas.{none_stands_for_two}
-use Rattle.pcap_reader.proofs.LawLemmas.{one_reading}
+use Rattle.capture_reader.proofs.LawLemmas.{one_reading}
 use Rattle.mk_script.specs.declared.fault.BodyFault.TheVariants as body
 use Rattle.mk_script.specs.declared.fault.ScriptFault.{ScriptFault}
 use Rattle.mk_script.specs.declared.fault.ScriptFaultKind.{ScriptFaultKind}
@@ -38,10 +38,10 @@ decimal_one name text a b (inr x) (inl y) = absurd (spelled_or_faulty text y.0 x
 decimal_one name text a b (inr x) (inr y) = let same = one_fault text x.0 y.0 x.1 y.1 in let xe = x.2 in let ye = y.2 in cc
 
 captured_one : (name bytes : List ℕ) → All (λ b. b < 256) bytes → (a b : Result Meaning ScriptFaultKind) → MeansCaptured name bytes a → MeansCaptured name bytes b → a ≡ b
-captured_one name bytes small a b (inl x) (inl y) = let same = (one_reading bytes small x.0 y.0 x.1 y.1 None None x.2 y.2).1 in let xe = x.3 in let ye = y.3 in cc
-captured_one name bytes small a b (inl x) (inr y) = let same = (one_reading bytes small x.0 y.0 x.1 y.1 None (Some y.2) x.2 y.3).2 in absurd (cc)
-captured_one name bytes small a b (inr x) (inl y) = let same = (one_reading bytes small x.0 y.0 x.1 y.1 (Some x.2) None x.3 y.2).2 in absurd (cc)
-captured_one name bytes small a b (inr x) (inr y) = let same = (one_reading bytes small x.0 y.0 x.1 y.1 (Some x.2) (Some y.2) x.3 y.3).2 in let faults : x.2 ≡ y.2 = cc in let xe = x.4 in let ye = y.4 in cc
+captured_one name bytes small a b (inl x) (inl y) = let same = (one_reading bytes small x.0 y.0 None None x.1 y.1).0 in let xe = x.2 in let ye = y.2 in cc
+captured_one name bytes small a b (inl x) (inr y) = let same = (one_reading bytes small x.0 y.0 None (Some y.1) x.1 y.2).1 in absurd (cc)
+captured_one name bytes small a b (inr x) (inl y) = let same = (one_reading bytes small x.0 y.0 (Some x.1) None x.2 y.1).1 in absurd (cc)
+captured_one name bytes small a b (inr x) (inr y) = let same = (one_reading bytes small x.0 y.0 (Some x.1) (Some y.1) x.2 y.2).1 in let faults : x.1 ≡ y.1 = cc in let xe = x.3 in let ye = y.3 in cc
 
 drafted_one : (d : Result Draft ScriptFaultKind) → BringsBytes d → (a b : Result Meaning ScriptFaultKind) → DraftedMeans d a → DraftedMeans d b → a ≡ b
 drafted_one (Err fault) small a b x y = x ∙ sym y

@@ -2,7 +2,7 @@
 use Rattle.std.proofs.Common.{◌≡◌, ℕ, zero, suc, ◌+◌, ◌-◌, ◌^◌, ◌≤◌, ◌<◌, eqb, Bool, true, false, not, if◌then◌else◌, List, [], ◌∷◌, ◌++◌, length, drop, Option, Some, None, Result, Ok, Err, refl, sym, ap, ◌∙◌, subst, inl, inr, arith, length-append, length-drop, append-nil, slice_get}
 use Rattle.std.specs.Prelude.{map, IfOk, codes, nat_lt, option_and_then, unwrap_or, ◌||◌}
 use Rattle.std.specs.Option.{ok_or}
-use Rattle.std.specs.List.{AllByRecursion, AllZip, flat_map, list_any, before_first, after_first}
+use Rattle.std.specs.List.{AllByRecursion, flat_map, list_any, before_first, after_first}
 use Rattle.std.specs.Str.{bytes_eq}
 use Rattle.std.proofs.lemmas.Bool.{cases_Bool}
 use Rattle.std.proofs.lemmas.Bool.Decides.{nat_tests}
@@ -15,9 +15,10 @@ use Rattle.filter_asm.specs.Program.{text_lines}
 use Rattle.hex.specs.Hex.{decode_of}
 use Rattle.hex.specs.declared.error.FromHexError.{FromHexError}
 use Rattle.hex.proofs.HexLemmas.{decode_of-ok}
-use Rattle.pcap_reader.specs.declared.capture.Header.{Header}
 use Rattle.pcap_reader.specs.declared.capture.CapturedPacket.{CapturedPacket}
-use Rattle.pcap_reader.specs.Savefile.{IsRecord, Reads}
+use Rattle.capture_reader.specs.Entries.{packets_in as found_in}
+use Rattle.capture_reader.specs.Captures.{AllFew}
+use Rattle.capture_reader.proofs.LawLemmas.{few_captured}
 use Rattle.filter_table.specs.Tables.{HasShortProgram}
 use Rattle.filter_table.specs.declared.operation.Op.{Op}
 use Rattle.filter_table.specs.declared.operation.Op.TheVariants.{Create, Mint, Revoke, DropCap, Install, Remove, Replace}
@@ -410,19 +411,13 @@ decimal_within : (k : Known) (name text : List ℕ) (m : Meaning) → MeansDecim
 decimal_within k name text m (inl x) = let same = sym (same_ok m (NamedProgram name x.0) x.2) in subst (λ (m : Meaning). IsWithin m × IsFirst k m) same (x.1.short, tt)
 decimal_within k name text m (inr x) = let never = x.2 in absurd (cc)
 
-record_short : (big : Bool) (records : List (List ℕ)) (packets : List CapturedPacket) → AllZip (IsRecord big) records packets → AllByRecursion IsShortPacket packets
-record_short big [] [] each = cc
-record_short big [] (packet ∷ packets) each = absurd each
-record_short big (r ∷ records) [] each = absurd each
-record_short big (r ∷ records) (packet ∷ packets) each = (omega (arith, each.0.length_is, each.0.short), record_short big records packets each.1)
-
-reads_short : (bytes : List ℕ) (header : Option Header) (packets : List CapturedPacket) → Reads bytes header packets None → AllByRecursion IsShortPacket packets
-reads_short bytes None packets reads = absurd reads
-reads_short bytes (Some header) packets reads = record_short header.big reads.records packets reads.each
+captured_short : (packets : List CapturedPacket) → AllFew packets → AllByRecursion IsShortPacket packets
+captured_short [] few = cc
+captured_short (packet ∷ packets) few = (omega (arith, few.0), captured_short packets few.1)
 
 captured_within : (k : Known) (name bytes : List ℕ) (m : Meaning) → MeansCaptured name bytes (Ok m) → IsWithin m × IsFirst k m
-captured_within k name bytes m (inl x) = let same = sym (same_ok m (NamedCapture name x.1) x.3) in subst (λ (m : Meaning). IsWithin m × IsFirst k m) same (reads_short bytes x.0 x.1 x.2, tt)
-captured_within k name bytes m (inr x) = let never = x.4 in absurd (cc)
+captured_within k name bytes m (inl x) = let same = sym (same_ok m (NamedCapture name (found_in x.0)) x.2) in subst (λ (m : Meaning). IsWithin m × IsFirst k m) same (captured_short (found_in x.0) (few_captured bytes x.0 None x.1), tt)
+captured_within k name bytes m (inr x) = let never = x.3 in absurd (cc)
 
 means_within : (k : Known) (d : Draft) (m : Meaning) → IsDraftWithin k d → DraftMeans d (Ok m) → IsWithin m × IsFirst k m
 means_within k (Whole meaning) m within e = subst (λ (m : Meaning). IsWithin m × IsFirst k m) (sym (same_ok m meaning e)) within

@@ -14,10 +14,9 @@ use Rattle.bpf_insn.proofs.DddLaws.{spelled_or_faulty}
 use Rattle.filter_asm.specs.Faults.{fault_of}
 use Rattle.filter_asm.specs.Program.{Asm}
 use Rattle.filter_asm.proofs.LawLemmas.{none_stands_for_two}
-use Rattle.pcap_reader.specs.Savefile.{Reads}
-use Rattle.pcap_reader.specs.declared.capture.Header.{Header}
-use Rattle.pcap_reader.specs.declared.capture.CapturedPacket.{CapturedPacket}
-use Rattle.pcap_reader.proofs.LawLemmas.{one_reading}
+use Rattle.capture_reader.specs.Entries.{EntryBytes}
+use Rattle.capture_reader.specs.Captures.{HasEntries}
+use Rattle.capture_reader.proofs.LawLemmas.{one_reading}
 use Rattle.filter_table.specs.declared.operation.Op.TheVariants.{Revoke, DropCap, Install, Remove, Replace}
 use Rattle.world_events.specs.declared.event.Event.{Event}
 use Rattle.world_events.specs.declared.event.Event.TheVariants.{Rx}
@@ -488,15 +487,15 @@ decimals_say name text (Ok m) (inr x) = let never = x.2 in absurd (cc)
 decimals_say name text (Err kind) (inl x) = let never = x.2 in absurd (cc)
 decimals_say name text (Err kind) (inr x) = (fault.Ddd x.0, same_err kind (fault.Ddd x.0) x.2, x.1)
 
-file_bad : (bytes : List ℕ) → All (λ b. b < 256) bytes → (header : Option Header) (packets : List CapturedPacket) (why : BodyFault) → Reads bytes header packets None → HasBadBody (File bytes) why → ⊥
-file_bad bytes small header packets (fault.Capture f) reads bad = let same = (one_reading bytes small header bad.0 packets bad.1 None (Some f) reads bad.2).2 in absurd (cc)
-file_bad bytes small header packets why reads bad = bad
+file_bad : (bytes : List ℕ) → All (λ b. b < 256) bytes → (entries : List EntryBytes) (why : BodyFault) → HasEntries bytes entries None → HasBadBody (File bytes) why → ⊥
+file_bad bytes small entries (fault.Capture f) has bad = let same = (one_reading bytes small entries bad.0 None (Some f) has bad.1).1 in absurd (cc)
+file_bad bytes small entries why has bad = bad
 
 file_says : (name bytes : List ℕ) → All (λ b. b < 256) bytes → (outcome : Result Meaning ScriptFaultKind) → MeansCaptured name bytes outcome → Says (File bytes) outcome
-file_says name bytes small (Ok m) (inl x) = λ why bad. file_bad bytes small x.0 x.1 why x.2 bad
-file_says name bytes small (Ok m) (inr x) = let never = x.4 in absurd (cc)
-file_says name bytes small (Err kind) (inl x) = let never = x.3 in absurd (cc)
-file_says name bytes small (Err kind) (inr x) = (fault.Capture x.2, same_err kind (fault.Capture x.2) x.4, (x.0, x.1, x.3))
+file_says name bytes small (Ok m) (inl x) = λ why bad. file_bad bytes small x.0 why x.1 bad
+file_says name bytes small (Ok m) (inr x) = let never = x.3 in absurd (cc)
+file_says name bytes small (Err kind) (inl x) = let never = x.2 in absurd (cc)
+file_says name bytes small (Err kind) (inr x) = (fault.Capture x.1, same_err kind (fault.Capture x.1) x.3, (x.0, x.2))
 
 body_says : (body : Body) → HasBytes body → (d : Draft) (outcome : Result Meaning ScriptFaultKind) → hex_fault body ≡ None → Brings body d → DraftMeans d outcome → Says body outcome
 body_says NoBody small (Whole m) outcome good brings means = no_body m outcome means

@@ -9,6 +9,7 @@ use Rattle.std.proofs.lemmas.Grind.{flat_map-append}
 use Rattle.std.proofs.lemmas.List.Elements.{All-from_recursion}
 use Rattle.bpf_insn.specs.Texts.{words_of}
 use Rattle.pcap_reader.specs.declared.capture.CapturedPacket.{CapturedPacket}
+use Rattle.capture_reader.specs.Entries.{packets_in as found_in}
 use Rattle.world_events.specs.declared.event.Event.{Event}
 use Rattle.world_events.specs.declared.event.Event.TheVariants.{Rx}
 use Rattle.mk_script.specs.declared.fault.ScriptFault.{ScriptFault}
@@ -254,8 +255,8 @@ decimal_suited k before name text m (inl x) = subst (SuitsIn k before) (sym (sam
 decimal_suited k before name text m (inr x) = let never = x.2 in absurd (cc)
 
 captured_suited : (k : Known) (before : ℕ) (name bytes : List ℕ) (m : Meaning) → MeansCaptured name bytes (Ok m) → SuitsIn k before m
-captured_suited k before name bytes m (inl x) = subst (SuitsIn k before) (sym (same_ok m (NamedCapture name x.1) x.3)) tt
-captured_suited k before name bytes m (inr x) = let never = x.4 in absurd (cc)
+captured_suited k before name bytes m (inl x) = subst (SuitsIn k before) (sym (same_ok m (NamedCapture name (found_in x.0)) x.2)) tt
+captured_suited k before name bytes m (inr x) = let never = x.3 in absurd (cc)
 
 means_suited : (k : Known) (before : ℕ) (d : Draft) (m : Meaning) → IsDraftSuited k before d → DraftMeans d (Ok m) → SuitsIn k before m
 means_suited k before (Whole meaning) m suited e = subst (SuitsIn k before) (sym (same_ok m meaning e)) suited

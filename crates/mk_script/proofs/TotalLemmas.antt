@@ -5,11 +5,10 @@ use Rattle.bpf_insn.specs.declared.insn.Insn.{Insn}
 use Rattle.filter_asm.specs.declared.fault.AsmFault.{AsmFault}
 use Rattle.filter_asm.specs.Program.{Fault, Assembles}
 use Rattle.filter_asm.proofs.LawLemmas.{each_stands_for_some}
-use Rattle.pcap_reader.specs.declared.capture.Header.{Header}
-use Rattle.pcap_reader.specs.declared.capture.CapturedPacket.{CapturedPacket}
-use Rattle.pcap_reader.specs.declared.capture.CaptureFault.{CaptureFault}
-use Rattle.pcap_reader.specs.Savefile.{Reads}
-use Rattle.pcap_reader.proofs.ReadingLemmas.{has_reading}
+use Rattle.capture_reader.specs.declared.fault.ReadFault.{ReadFault}
+use Rattle.capture_reader.specs.Entries.{EntryBytes, packets_in}
+use Rattle.capture_reader.specs.Captures.{HasEntries}
+use Rattle.capture_reader.proofs.LawLemmas.{has_reading}
 use Rattle.mk_script.specs.declared.fault.BodyFault.TheVariants as body
 use Rattle.mk_script.specs.declared.fault.ScriptFault.{ScriptFault}
 use Rattle.mk_script.specs.declared.fault.ScriptFaultKind.{ScriptFaultKind}
@@ -40,12 +39,12 @@ decimal_some name text = elim (spelled_or_fault text) [
   | inr fault ↦ inr (BadBody (body.Ddd fault.0), inr (fault.0, fault.1, refl))
 ]
 
-captured_by : (name bytes : List ℕ) (header : Option Header) (packets : List CapturedPacket) (fault : Option CaptureFault) → Reads bytes header packets fault → Some_ (MeansCaptured name bytes)
-captured_by name bytes header packets None reads = inl (NamedCapture name packets, inl (header, packets, reads, refl))
-captured_by name bytes header packets (Some fault) reads = inr (BadBody (body.Capture fault), inr (header, packets, fault, reads, refl))
+captured_by : (name bytes : List ℕ) (entries : List EntryBytes) (fault : Option ReadFault) → HasEntries bytes entries fault → Some_ (MeansCaptured name bytes)
+captured_by name bytes entries None has = inl (NamedCapture name (packets_in entries), inl (entries, has, refl))
+captured_by name bytes entries (Some fault) has = inr (BadBody (body.Capture fault), inr (entries, fault, has, refl))
 
 captured_some : (name bytes : List ℕ) → Some_ (MeansCaptured name bytes)
-captured_some name bytes = let found = has_reading bytes in captured_by name bytes found.0 found.1 found.2 found.3
+captured_some name bytes = let found = has_reading bytes in captured_by name bytes found.0 found.1 found.2
 
 drafted_some : (d : Result Draft ScriptFaultKind) → Some_ (DraftedMeans d)
 drafted_some (Err fault) = inr (fault, refl)

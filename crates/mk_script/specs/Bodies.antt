@@ -1,15 +1,14 @@
 -- What a statement means once its body is read: the program of an assembler or a decimal text, the packets of a capture.
-use Rattle.std.specs.Prelude.{◌≡◌, ◌⊎◌, ℕ, List, Option, Some, None, Result, Ok, Err}
+use Rattle.std.specs.Prelude.{◌≡◌, ◌⊎◌, ℕ, List, Some, None, Result, Ok, Err}
 use Rattle.bpf_insn.specs.Ddd.{Ddd, Faults}
 use Rattle.bpf_insn.specs.declared.insn.Insn.{Insn}
 use Rattle.bpf_insn.specs.declared.ddd.TextFault.{TextFault}
 use Rattle.filter_asm.specs.Program.{Asm, Assembles}
 use Rattle.filter_asm.specs.Faults.{fault_of}
 use Rattle.filter_asm.specs.declared.fault.AsmFault.{AsmFault}
-use Rattle.pcap_reader.specs.Savefile.{Reads}
-use Rattle.pcap_reader.specs.declared.capture.Header.{Header}
-use Rattle.pcap_reader.specs.declared.capture.CapturedPacket.{CapturedPacket}
-use Rattle.pcap_reader.specs.declared.capture.CaptureFault.{CaptureFault}
+use Rattle.capture_reader.specs.declared.fault.ReadFault.{ReadFault}
+use Rattle.capture_reader.specs.Entries.{EntryBytes, packets_in}
+use Rattle.capture_reader.specs.Captures.{HasEntries}
 use Rattle.mk_script.specs.declared.fault.BodyFault.TheVariants as body
 use Rattle.mk_script.specs.declared.fault.ScriptFaultKind.{ScriptFaultKind}
 use Rattle.mk_script.specs.declared.fault.ScriptFaultKind.TheVariants.{BadBody}
@@ -30,8 +29,8 @@ MeansDecimal name text outcome =
 
 abbrev pub MeansCaptured : List ℕ → List ℕ → Result Meaning ScriptFaultKind → Type 0
 MeansCaptured name bytes outcome =
-    ((header : Option Header) × (packets : List CapturedPacket) × Reads bytes header packets None × (outcome ≡ Ok (NamedCapture name packets)))
-    ⊎ ((header : Option Header) × (packets : List CapturedPacket) × (fault : CaptureFault) × Reads bytes header packets (Some fault) × (outcome ≡ Err (BadBody (body.Capture fault))))
+    ((entries : List EntryBytes) × HasEntries bytes entries None × (outcome ≡ Ok (NamedCapture name (packets_in entries))))
+    ⊎ ((entries : List EntryBytes) × (fault : ReadFault) × HasEntries bytes entries (Some fault) × (outcome ≡ Err (BadBody (body.Capture fault))))
 
 abbrev pub DraftMeans : Draft → Result Meaning ScriptFaultKind → Type 0
 DraftMeans (Whole meaning) outcome = outcome ≡ Ok meaning

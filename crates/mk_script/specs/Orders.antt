@@ -9,9 +9,8 @@ use Rattle.bpf_insn.specs.Ddd.{Faults}
 use Rattle.bpf_insn.specs.Texts.{words_of, number_of}
 use Rattle.filter_asm.specs.Program.{Assembles}
 use Rattle.filter_asm.specs.Faults.{fault_of}
-use Rattle.pcap_reader.specs.Savefile.{Reads}
-use Rattle.pcap_reader.specs.declared.capture.Header.{Header}
-use Rattle.pcap_reader.specs.declared.capture.CapturedPacket.{CapturedPacket}
+use Rattle.capture_reader.specs.Entries.{EntryBytes}
+use Rattle.capture_reader.specs.Captures.{HasEntries}
 use Rattle.world_events.specs.declared.event.Event.{Event}
 use Rattle.mk_script.specs.declared.fault.BodyFault.{BodyFault}
 use Rattle.mk_script.specs.declared.fault.BodyFault.TheVariants as fault
@@ -143,7 +142,7 @@ abbrev pub HasBadBody : Body → BodyFault → Type 0
 HasBadBody (Digits word) fault.Hex = is_hex word ≡ false
 HasBadBody (Block text) (fault.Asm why) = Assembles text (Err (fault_of why))
 HasBadBody (Decimals text) (fault.Ddd why) = Faults text why
-HasBadBody (File bytes) (fault.Capture why) = (header : Option Header) × (packets : List CapturedPacket) × Reads bytes header packets (Some why)
+HasBadBody (File bytes) (fault.Capture why) = (entries : List EntryBytes) × HasEntries bytes entries (Some why)
 HasBadBody body why = ⊥
 
 -- what is asked of a line

@@ -12,9 +12,9 @@ ghost use Rattle.mk_script.specs.declared.fault.ScriptFaultKind.TheVariants.{NoM
 use crate::fault::{BodyFault, ScriptFaultKind};
 use crate::meaning::{Draft, Meaning};
 use bpf_insn::{TextFault, read_ddd};
+use capture_reader::share_packets;
 use filter_asm::{AsmFaultKind, assemble};
 use filter_table::Program;
-use pcap_reader::{CaptureFault, share_capture};
 use seq::Shared;
 use std::alloc::Global;
 
@@ -58,13 +58,16 @@ fn captured<'a>(
     ensures err { IfErr result (λ fault. (fault ≡ NoMemory) ⊎ spec.MeansCaptured name.now file.now (Err fault)) }
     ensures named { IfOk result (λ m. IsNamedCapture name.now m) }
 {
-    match share_capture(alloc, file) {
+    match share_packets(alloc, file) {
         Ok(packets) => {
             let packets = Shared::from_vec(alloc, packets.into_vec())?;
             Ok(Meaning::NamedCapture(name, packets))
         }
-        Err(CaptureFault::NoMemory) => Err(ScriptFaultKind::NoMemory),
-        Err(fault) => Err(ScriptFaultKind::BadBody(BodyFault::Capture(fault))),
+        Err(fault) => Err(if fault.is_refusal() {
+            ScriptFaultKind::NoMemory
+        } else {
+            ScriptFaultKind::BadBody(BodyFault::Capture(fault))
+        }),
     }
 }
 

@@ -4,8 +4,8 @@ ghost use Rattle.std.specs.Prelude.{◌≡◌};
 ghost use Rattle.mk_script.specs.declared.fault.ScriptFaultKind.TheVariants.{NoMemory};
 
 use bpf_insn::TextFault;
+use capture_reader::ReadFault;
 use filter_asm::AsmFault;
-use pcap_reader::CaptureFault;
 use std::alloc::{AllocError, AllocFailed};
 
 /// Why a body can't be read.
@@ -18,7 +18,7 @@ pub enum BodyFault {
     /// A decimal text spells no program.
     Ddd(TextFault),
     /// A file is no whole capture.
-    Capture(CaptureFault),
+    Capture(ReadFault),
 }
 
 /// What is wrong with a line, in the order in which it is looked for.

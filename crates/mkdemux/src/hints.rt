@@ -50,7 +50,7 @@ fn reads_capture(request: &Request) -> bool {
     )
 }
 
-/// What an input is that is no savefile, by its first four bytes, if that is known.
+/// What an input is that is no capture, by its first four bytes, if that is known.
 fn kind_of(input: &Input) -> Option<&'static str> {
     match u32::from_be_bytes(input.front()?) {
         0x1f8b_0000..=0x1f8b_ffff => Some(
@@ -60,9 +60,6 @@ fn kind_of(input: &Input) -> Option<&'static str> {
         0x0422_4d18 => Some("the input is compressed: lz4 -dc makes a capture of it"),
         0xa1b2_cd34 | 0x34cd_b2a1 => Some(
             "the input is a modified pcap file: editcap -F pcap makes a capture of it that is read",
-        ),
-        0x0a0d_0d0a => Some(
-            "the input is a pcapng file: editcap -F pcap, or tcpdump -r with -w, makes a capture of it that is read",
         ),
         _ => None,
     }

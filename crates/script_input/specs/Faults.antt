@@ -1,7 +1,7 @@
 -- The line for the first fault of a script.
 use Rattle.std.specs.Prelude.{ℕ, List, [], ◌++◌, codes}
 use Rattle.std.specs.Fmt.{decimal}
-use Rattle.console.specs.Words.{asm_fault_name, capture_words, code_words}
+use Rattle.console.specs.Words.{asm_fault_name, read_words, code_words}
 use Rattle.mk_script.specs.declared.fault.BodyFault.{BodyFault}
 use Rattle.mk_script.specs.declared.fault.BodyFault.TheVariants.{Hex, Asm, Ddd, Capture}
 use Rattle.mk_script.specs.declared.fault.ScriptFault.{ScriptFault}
@@ -13,7 +13,7 @@ abbrev pub body_words : BodyFault → List ℕ
 body_words Hex = codes "hex"
 body_words (Asm fault) = codes "asm " ++ decimal fault.line ++ codes " " ++ asm_fault_name fault.kind
 body_words (Ddd fault) = codes "ddd " ++ code_words fault
-body_words (Capture fault) = codes "capture " ++ capture_words fault
+body_words (Capture fault) = codes "capture " ++ read_words fault
 
 abbrev pub kind_words : ScriptFaultKind → List ℕ
 kind_words BadLine = codes "BadLine"

@@ -3,7 +3,7 @@
 ghost use Rattle.std.specs.Prelude.{◌≡◌, ◌++◌, IfOk, OnOk, string_bytes};
 ghost use Rattle.script_input.specs.Faults.{body_words, kind_words, script_fault_line};
 
-use console::{name_of_asm_fault, push_capture_words, push_code_words};
+use console::{name_of_asm_fault, push_code_words, push_read_words};
 use mk_script::{BodyFault, ScriptFault, ScriptFaultKind};
 use std::alloc::{AllocError, Global};
 use std::fmt::Write;
@@ -52,7 +52,7 @@ fn push_body(line: &mut String, fault: BodyFault) -> Result<(), AllocError>
         }
         BodyFault::Capture(fault) => {
             line.push_str("capture ")?;
-            push_capture_words(line, fault)
+            push_read_words(line, fault)
         }
     }
 }

@@ -4,8 +4,8 @@ ghost use Rattle.std.specs.Prelude.{IfOk};
 ghost use Rattle.script_input.specs.Inputs.{AllFresh};
 
 use console::{
-    EngineFault, INPUT_READS, STREAM_READS, Sink, Source, View, run_check, run_dump, run_match,
-    run_stream, run_view,
+    EngineFault, INPUT_READS, PacketForm, STREAM_READS, Sink, Source, View, run_check, run_dump,
+    run_match, run_stream, run_view,
 };
 use core_threads::Free;
 use draw_engine::run_draw;
@@ -41,22 +41,38 @@ pub fn run<R: Read, W: Write>(
     let mut sink = Sink::new(writer);
     if let Command::Stream(code, pcap) = command {
         let mut source = Source::new(reader, STREAM_READS);
-        return run_stream(alloc, code.as_bytes(), pcap, &mut source, &mut sink);
+        return run_stream(alloc, code.as_bytes(), form(pcap), &mut source, &mut sink);
     }
     if let Command::View(code, pcap, view) = command {
         let mut source = Source::new(reader, STREAM_READS);
-        return run_view(alloc, code.as_bytes(), pcap, view, &mut source, &mut sink);
+        return run_view(
+            alloc,
+            code.as_bytes(),
+            form(pcap),
+            view,
+            &mut source,
+            &mut sink,
+        );
     }
     let mut source = Source::new(reader, INPUT_READS);
     match command {
         Command::Match(code, pcap) | Command::Stream(code, pcap) | Command::View(code, pcap, _) => {
-            run_match(alloc, code.as_bytes(), pcap, &mut source, &mut sink)
+            run_match(alloc, code.as_bytes(), form(pcap), &mut source, &mut sink)
         }
         Command::Explain(code) => run_explain(alloc, code.as_bytes(), &mut source, &mut sink),
         Command::Check(asm) => run_check(alloc, asm, &mut source, &mut sink),
         Command::Graph => run_graph(alloc, &mut source, &mut sink),
-        Command::Dump => run_dump(alloc, &mut source, &mut sink),
+        Command::Dump => run_dump(alloc, None, &mut source, &mut sink),
         Command::Draw => run_draw(alloc, false, &mut source, &mut sink),
+    }
+}
+
+/// What the packets are.
+fn form(pcap: bool) -> PacketForm {
+    if pcap {
+        PacketForm::Capture(None)
+    } else {
+        PacketForm::Digits
     }
 }
 

@@ -5,7 +5,7 @@ pub returns-in-Match-clause-shown : goal.returns-in-Match-clause-shown
 returns-in-Match-clause-shown g c = shows_text c.perform_match.result c.args.request.now _ _ _ _ _ _ _ (rw c.in-Match.is c.perform_match.ensures.shown)
 
 pub returns-in-View-clause-shown : goal.returns-in-View-clause-shown
-returns-in-View-clause-shown g c = shows_text c.run_view.result c.args.request.now _ _ _ _ _ _ _ (rw c.in-View.is (rw (c.as_bytes.ensures.value, c.shown.ensures) at c.run_view.ensures.shown))
+returns-in-View-clause-shown g c = shows_text c.run_view.result c.args.request.now _ _ _ _ _ _ _ (rw c.in-View.is (rw (c.as_bytes.ensures.value, c.form.ensures, c.shown.ensures) at c.run_view.ensures.shown))
 
 pub returns-in-Keep-clause-shown : goal.returns-in-Keep-clause-shown
 returns-in-Keep-clause-shown g c = rw c.in-Keep.is (rw c.as_bytes-in-Keep.ensures.value at c.run_keep.ensures.kept)

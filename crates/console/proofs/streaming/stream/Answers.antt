@@ -13,7 +13,7 @@ returns-in_err-stopped-in-End-clause-left g c =
 pub returns-in_err-show-in-End-clause-left : goal.returns-in_err-show-in-End-clause-left
 returns-in_err-show-in-End-clause-left g c =
     let so = took c.args.view (SourceEnded c.args.program.now c.in_ok-stopped-in-End.stopped) _ _ _ _ _ _ _ _ _ _ _ [] _ _ c.loop-turn.stamps.items c.loop-turn.stamps.items c.loop-turn.invariant.so c.in-End.ensures.1
-    (omega arith) c.loop-turn-test.true c.loop-turn.invariant.none c.loop-turn.invariant.no_times (λ _. refl) (c.in_ok-stopped-in-End.ensures.runs c.loop-turn.stamps.items) c.finish.ensures.kind c.finish.ensures.stamped in
+    (omega arith) c.loop-turn-test.true c.loop-turn.invariant.none c.loop-turn.invariant.no_times (λ _. refl) (c.in_ok-stopped-in-End.ensures.runs c.loop-turn.stamps.items) c.finish.ensures.form c.finish.ensures.stamped in
     left_took c.from_residual-in_err-show-in-End.result c.args.view _ c.args.program.now _ _ _ _ _ _ _ _ _ _ _ so
     (λ input outcomes stamps has. ended_shown c.args.program.now c.in_ok-stopped-in-End.stopped input _ outcomes stamps has)
     (rw (c.as_slice.ensures.value, c.as_slice-in-End.ensures.value) at c.in_err-show-in-End.ensures.front)
@@ -21,7 +21,7 @@ returns-in_err-show-in-End-clause-left g c =
 pub returns-in_err-ending-in-End-clause-left : goal.returns-in_err-ending-in-End-clause-left
 returns-in_err-ending-in-End-clause-left g c =
     let so = took c.args.view (SourceEnded c.args.program.now c.in_ok-stopped-in-End.stopped) _ _ _ _ _ _ _ _ _ _ _ [] _ _ c.loop-turn.stamps.items c.loop-turn.stamps.items c.loop-turn.invariant.so c.in-End.ensures.1
-    (omega arith) c.loop-turn-test.true c.loop-turn.invariant.none c.loop-turn.invariant.no_times (λ _. refl) (c.in_ok-stopped-in-End.ensures.runs c.loop-turn.stamps.items) c.finish.ensures.kind c.finish.ensures.stamped in
+    (omega arith) c.loop-turn-test.true c.loop-turn.invariant.none c.loop-turn.invariant.no_times (λ _. refl) (c.in_ok-stopped-in-End.ensures.runs c.loop-turn.stamps.items) c.finish.ensures.form c.finish.ensures.stamped in
     let all = showed c.args.view _ _ _ _ _ _ _ _ c.loop-turn.tally c.show.new.self _ _ _ so (rw (c.as_slice.ensures.value, c.as_slice-in-End.ensures.value) at c.in_ok-show-in-End.ensures.shown) (rw c.as_slice.ensures.value at c.in_ok-show-in-End.ensures.counted) in
     left_showed c.from_residual-in_err-ending-in-End.result c.args.view _ c.args.program.now _ _ _ _ _ _ _ _ all
     (λ input outcomes stamps has. ended_shown c.args.program.now c.in_ok-stopped-in-End.stopped input _ outcomes stamps has)
@@ -29,7 +29,7 @@ returns-in_err-ending-in-End-clause-left g c =
 pub returns-in-End-clause-shown : goal.returns-in-End-clause-shown
 returns-in-End-clause-shown g c =
     let so = took c.args.view (SourceEnded c.args.program.now c.in_ok-stopped-in-End.stopped) _ _ _ _ _ _ _ _ _ _ _ [] _ _ c.loop-turn.stamps.items c.loop-turn.stamps.items c.loop-turn.invariant.so c.in-End.ensures.1
-    (omega arith) c.loop-turn-test.true c.loop-turn.invariant.none c.loop-turn.invariant.no_times (λ _. refl) (c.in_ok-stopped-in-End.ensures.runs c.loop-turn.stamps.items) c.finish.ensures.kind c.finish.ensures.stamped in
+    (omega arith) c.loop-turn-test.true c.loop-turn.invariant.none c.loop-turn.invariant.no_times (λ _. refl) (c.in_ok-stopped-in-End.ensures.runs c.loop-turn.stamps.items) c.finish.ensures.form c.finish.ensures.stamped in
     let all = showed c.args.view _ _ _ _ _ _ _ _ c.loop-turn.tally c.show.new.self _ _ _ so (rw (c.as_slice.ensures.value, c.as_slice-in-End.ensures.value) at c.in_ok-show-in-End.ensures.shown) (rw c.as_slice.ensures.value at c.in_ok-show-in-End.ensures.counted) in
     end_shown c.finish-in-End.result c.args.view c.args.program.now c.in_ok-stopped-in-End.stopped _ _ _ _ _ _ _ c.show.new.self _ c.in_ok-ending-in-End.ending all (omega (arith, c.loop-turn-test.true))
     (inl c.in-End.ensures.2) c.in_ok-ending-in-End.ensures.ends c.in_ok-ending-in-End.ensures.status c.finish-in-End.ensures.shown
@@ -37,7 +37,7 @@ returns-in-End-clause-shown g c =
 pub returns-in-End-clause-left : goal.returns-in-End-clause-left
 returns-in-End-clause-left g c =
     let so = took c.args.view (SourceEnded c.args.program.now c.in_ok-stopped-in-End.stopped) _ _ _ _ _ _ _ _ _ _ _ [] _ _ c.loop-turn.stamps.items c.loop-turn.stamps.items c.loop-turn.invariant.so c.in-End.ensures.1
-    (omega arith) c.loop-turn-test.true c.loop-turn.invariant.none c.loop-turn.invariant.no_times (λ _. refl) (c.in_ok-stopped-in-End.ensures.runs c.loop-turn.stamps.items) c.finish.ensures.kind c.finish.ensures.stamped in
+    (omega arith) c.loop-turn-test.true c.loop-turn.invariant.none c.loop-turn.invariant.no_times (λ _. refl) (c.in_ok-stopped-in-End.ensures.runs c.loop-turn.stamps.items) c.finish.ensures.form c.finish.ensures.stamped in
     let all = showed c.args.view _ _ _ _ _ _ _ _ c.loop-turn.tally c.show.new.self _ _ _ so (rw (c.as_slice.ensures.value, c.as_slice-in-End.ensures.value) at c.in_ok-show-in-End.ensures.shown) (rw c.as_slice.ensures.value at c.in_ok-show-in-End.ensures.counted) in
     end_left c.finish-in-End.result c.args.view c.args.program.now c.in_ok-stopped-in-End.stopped _ _ _ _ _ _ _ c.show.new.self _ c.in_ok-ending-in-End.ending all (omega (arith, c.loop-turn-test.true))
     c.in_ok-ending-in-End.ensures.ends c.finish-in-End.ensures.left
@@ -49,7 +49,7 @@ returns-in_err-stopped-in-Bytes-clause-left g c =
 pub returns-in_err-show-in-Bytes-clause-left : goal.returns-in_err-show-in-Bytes-clause-left
 returns-in_err-show-in-Bytes-clause-left g c =
     let so = took c.args.view (RanOrStopped c.args.program.now c.in_ok-stopped-in-Bytes.stopped) _ _ _ _ _ _ _ _ _ _ _ _ _ _ c.loop-turn.stamps.items c.run.new.stamps.items c.loop-turn.invariant.so c.in-Bytes.ensures.3
-    (taken_bytes c.in-Bytes.count c.read.new.buffer c.in-Bytes.ensures.2 (omega arith)) c.loop-turn-test.true c.loop-turn.invariant.none c.loop-turn.invariant.no_times c.run.ensures.plain (either_run _ _ _ _ _ _ _ _ _ c.in_ok-stopped-in-Bytes.ensures.runs) c.run.ensures.kind c.run.ensures.stamped in
+    (taken_bytes c.in-Bytes.count c.read.new.buffer c.in-Bytes.ensures.2 (omega arith)) c.loop-turn-test.true c.loop-turn.invariant.none c.loop-turn.invariant.no_times c.run.ensures.plain (either_run _ _ _ _ _ _ _ _ _ c.in_ok-stopped-in-Bytes.ensures.runs) c.run.ensures.form c.run.ensures.stamped in
     left_took c.from_residual-in_err-show-in-Bytes.result c.args.view _ c.args.program.now _ _ _ _ _ _ _ _ _ _ _ so
     (λ input outcomes stamps has. either_shown c.args.program.now c.in_ok-stopped-in-Bytes.stopped input _ outcomes stamps has)
     (rw (c.as_slice-in-Bytes.ensures.value, c.as_slice-in-Bytes-2.ensures.value) at c.in_err-show-in-Bytes.ensures.front)
@@ -57,21 +57,21 @@ returns-in_err-show-in-Bytes-clause-left g c =
 pub returns-then-is_done-clause-shown : goal.returns-then-is_done-clause-shown
 returns-then-is_done-clause-shown g c =
     let so = took c.args.view (RanOrStopped c.args.program.now c.in_ok-stopped-in-Bytes.stopped) _ _ _ _ _ _ _ _ _ _ _ _ _ _ c.loop-turn.stamps.items c.run.new.stamps.items c.loop-turn.invariant.so c.in-Bytes.ensures.3
-    (taken_bytes c.in-Bytes.count c.read.new.buffer c.in-Bytes.ensures.2 (omega arith)) c.loop-turn-test.true c.loop-turn.invariant.none c.loop-turn.invariant.no_times c.run.ensures.plain (either_run _ _ _ _ _ _ _ _ _ c.in_ok-stopped-in-Bytes.ensures.runs) c.run.ensures.kind c.run.ensures.stamped in
+    (taken_bytes c.in-Bytes.count c.read.new.buffer c.in-Bytes.ensures.2 (omega arith)) c.loop-turn-test.true c.loop-turn.invariant.none c.loop-turn.invariant.no_times c.run.ensures.plain (either_run _ _ _ _ _ _ _ _ _ c.in_ok-stopped-in-Bytes.ensures.runs) c.run.ensures.form c.run.ensures.stamped in
     let all = showed c.args.view _ _ _ _ _ _ _ _ c.loop-turn.tally c.show-in-Bytes.new.self _ _ _ so (rw (c.as_slice-in-Bytes.ensures.value, c.as_slice-in-Bytes-2.ensures.value) at c.in_ok-show-in-Bytes.ensures.shown) (rw c.as_slice-in-Bytes.ensures.value at c.in_ok-show-in-Bytes.ensures.counted) in
     found_shown c.args.view c.args.program.now _ _ _ _ _ _ _ _ c.in_ok-stopped-in-Bytes.stopped all (c.is_done.ensures.done c.if-is_done.true)
 
 pub returns-then-is_done-clause-well : goal.returns-then-is_done-clause-well
 returns-then-is_done-clause-well g c =
     let so = took c.args.view (RanOrStopped c.args.program.now c.in_ok-stopped-in-Bytes.stopped) _ _ _ _ _ _ _ _ _ _ _ _ _ _ c.loop-turn.stamps.items c.run.new.stamps.items c.loop-turn.invariant.so c.in-Bytes.ensures.3
-    (taken_bytes c.in-Bytes.count c.read.new.buffer c.in-Bytes.ensures.2 (omega arith)) c.loop-turn-test.true c.loop-turn.invariant.none c.loop-turn.invariant.no_times c.run.ensures.plain (either_run _ _ _ _ _ _ _ _ _ c.in_ok-stopped-in-Bytes.ensures.runs) c.run.ensures.kind c.run.ensures.stamped in
+    (taken_bytes c.in-Bytes.count c.read.new.buffer c.in-Bytes.ensures.2 (omega arith)) c.loop-turn-test.true c.loop-turn.invariant.none c.loop-turn.invariant.no_times c.run.ensures.plain (either_run _ _ _ _ _ _ _ _ _ c.in_ok-stopped-in-Bytes.ensures.runs) c.run.ensures.form c.run.ensures.stamped in
     let all = showed c.args.view _ _ _ _ _ _ _ _ c.loop-turn.tally c.show-in-Bytes.new.self _ _ _ so (rw (c.as_slice-in-Bytes.ensures.value, c.as_slice-in-Bytes-2.ensures.value) at c.in_ok-show-in-Bytes.ensures.shown) (rw c.as_slice-in-Bytes.ensures.value at c.in_ok-show-in-Bytes.ensures.counted) in
     (c.in_ok-show-in-Bytes.ensures.good, c.in-Bytes.ensures.0.3, inr (inr (sym all.counted.0 ∙ (c.is_done.ensures.done c.if-is_done.true).0, refl)))
 
 pub returns-in_err-ending-in-Bytes-clause-left : goal.returns-in_err-ending-in-Bytes-clause-left
 returns-in_err-ending-in-Bytes-clause-left g c =
     let so = took c.args.view (SourceEnded c.args.program.now true) _ _ _ _ _ _ _ _ _ _ _ _ _ _ c.loop-turn.stamps.items c.run.new.stamps.items c.loop-turn.invariant.so c.in-Bytes.ensures.3
-    (taken_bytes c.in-Bytes.count c.read.new.buffer c.in-Bytes.ensures.2 (omega arith)) c.loop-turn-test.true c.loop-turn.invariant.none c.loop-turn.invariant.no_times c.run.ensures.plain (rw c.if-stopped.true at c.in_ok-stopped-in-Bytes.ensures.runs) c.run.ensures.kind c.run.ensures.stamped in
+    (taken_bytes c.in-Bytes.count c.read.new.buffer c.in-Bytes.ensures.2 (omega arith)) c.loop-turn-test.true c.loop-turn.invariant.none c.loop-turn.invariant.no_times c.run.ensures.plain (rw c.if-stopped.true at c.in_ok-stopped-in-Bytes.ensures.runs) c.run.ensures.form c.run.ensures.stamped in
     let all = showed c.args.view _ _ _ _ _ _ _ _ c.loop-turn.tally c.show-in-Bytes.new.self _ _ _ so (rw (c.as_slice-in-Bytes.ensures.value, c.as_slice-in-Bytes-2.ensures.value) at c.in_ok-show-in-Bytes.ensures.shown) (rw c.as_slice-in-Bytes.ensures.value at c.in_ok-show-in-Bytes.ensures.counted) in
     left_showed c.from_residual-in_err-ending-in-Bytes.result c.args.view _ c.args.program.now _ _ _ _ _ _ _ _ all
     (λ input outcomes stamps has. ended_shown c.args.program.now true input _ outcomes stamps has)
@@ -79,7 +79,7 @@ returns-in_err-ending-in-Bytes-clause-left g c =
 pub returns-then-stopped-clause-shown : goal.returns-then-stopped-clause-shown
 returns-then-stopped-clause-shown g c =
     let so = took c.args.view (SourceEnded c.args.program.now true) _ _ _ _ _ _ _ _ _ _ _ _ _ _ c.loop-turn.stamps.items c.run.new.stamps.items c.loop-turn.invariant.so c.in-Bytes.ensures.3
-    (taken_bytes c.in-Bytes.count c.read.new.buffer c.in-Bytes.ensures.2 (omega arith)) c.loop-turn-test.true c.loop-turn.invariant.none c.loop-turn.invariant.no_times c.run.ensures.plain (rw c.if-stopped.true at c.in_ok-stopped-in-Bytes.ensures.runs) c.run.ensures.kind c.run.ensures.stamped in
+    (taken_bytes c.in-Bytes.count c.read.new.buffer c.in-Bytes.ensures.2 (omega arith)) c.loop-turn-test.true c.loop-turn.invariant.none c.loop-turn.invariant.no_times c.run.ensures.plain (rw c.if-stopped.true at c.in_ok-stopped-in-Bytes.ensures.runs) c.run.ensures.form c.run.ensures.stamped in
     let all = showed c.args.view _ _ _ _ _ _ _ _ c.loop-turn.tally c.show-in-Bytes.new.self _ _ _ so (rw (c.as_slice-in-Bytes.ensures.value, c.as_slice-in-Bytes-2.ensures.value) at c.in_ok-show-in-Bytes.ensures.shown) (rw c.as_slice-in-Bytes.ensures.value at c.in_ok-show-in-Bytes.ensures.counted) in
     end_shown c.finish-then-stopped.result c.args.view c.args.program.now true _ _ _ _ _ _ _ c.show-in-Bytes.new.self _ c.in_ok-ending-in-Bytes.ending all (omega (arith, c.loop-turn-test.true))
     (inr refl) c.in_ok-ending-in-Bytes.ensures.ends c.in_ok-ending-in-Bytes.ensures.status c.finish-then-stopped.ensures.shown
@@ -87,14 +87,14 @@ returns-then-stopped-clause-shown g c =
 pub returns-then-stopped-clause-well : goal.returns-then-stopped-clause-well
 returns-then-stopped-clause-well g c =
     let so = took c.args.view (SourceEnded c.args.program.now true) _ _ _ _ _ _ _ _ _ _ _ _ _ _ c.loop-turn.stamps.items c.run.new.stamps.items c.loop-turn.invariant.so c.in-Bytes.ensures.3
-    (taken_bytes c.in-Bytes.count c.read.new.buffer c.in-Bytes.ensures.2 (omega arith)) c.loop-turn-test.true c.loop-turn.invariant.none c.loop-turn.invariant.no_times c.run.ensures.plain (rw c.if-stopped.true at c.in_ok-stopped-in-Bytes.ensures.runs) c.run.ensures.kind c.run.ensures.stamped in
+    (taken_bytes c.in-Bytes.count c.read.new.buffer c.in-Bytes.ensures.2 (omega arith)) c.loop-turn-test.true c.loop-turn.invariant.none c.loop-turn.invariant.no_times c.run.ensures.plain (rw c.if-stopped.true at c.in_ok-stopped-in-Bytes.ensures.runs) c.run.ensures.form c.run.ensures.stamped in
     let all = showed c.args.view _ _ _ _ _ _ _ _ c.loop-turn.tally c.show-in-Bytes.new.self _ _ _ so (rw (c.as_slice-in-Bytes.ensures.value, c.as_slice-in-Bytes-2.ensures.value) at c.in_ok-show-in-Bytes.ensures.shown) (rw c.as_slice-in-Bytes.ensures.value at c.in_ok-show-in-Bytes.ensures.counted) in
     end_well c.finish-then-stopped.result c.args.view c.args.program.now _ _ _ _ _ _ _ c.show-in-Bytes.new.self _ c.in_ok-ending-in-Bytes.ending _ _ _ all c.in_ok-ending-in-Bytes.ensures.status c.finish-then-stopped.ensures.shown c.finish-then-stopped.ensures.good c.in-Bytes.ensures.0.3
 
 pub returns-then-stopped-clause-left : goal.returns-then-stopped-clause-left
 returns-then-stopped-clause-left g c =
     let so = took c.args.view (SourceEnded c.args.program.now true) _ _ _ _ _ _ _ _ _ _ _ _ _ _ c.loop-turn.stamps.items c.run.new.stamps.items c.loop-turn.invariant.so c.in-Bytes.ensures.3
-    (taken_bytes c.in-Bytes.count c.read.new.buffer c.in-Bytes.ensures.2 (omega arith)) c.loop-turn-test.true c.loop-turn.invariant.none c.loop-turn.invariant.no_times c.run.ensures.plain (rw c.if-stopped.true at c.in_ok-stopped-in-Bytes.ensures.runs) c.run.ensures.kind c.run.ensures.stamped in
+    (taken_bytes c.in-Bytes.count c.read.new.buffer c.in-Bytes.ensures.2 (omega arith)) c.loop-turn-test.true c.loop-turn.invariant.none c.loop-turn.invariant.no_times c.run.ensures.plain (rw c.if-stopped.true at c.in_ok-stopped-in-Bytes.ensures.runs) c.run.ensures.form c.run.ensures.stamped in
     let all = showed c.args.view _ _ _ _ _ _ _ _ c.loop-turn.tally c.show-in-Bytes.new.self _ _ _ so (rw (c.as_slice-in-Bytes.ensures.value, c.as_slice-in-Bytes-2.ensures.value) at c.in_ok-show-in-Bytes.ensures.shown) (rw c.as_slice-in-Bytes.ensures.value at c.in_ok-show-in-Bytes.ensures.counted) in
     end_left c.finish-then-stopped.result c.args.view c.args.program.now true _ _ _ _ _ _ _ c.show-in-Bytes.new.self _ c.in_ok-ending-in-Bytes.ending all (omega (arith, c.loop-turn-test.true))
     c.in_ok-ending-in-Bytes.ensures.ends c.finish-then-stopped.ensures.left
@@ -106,7 +106,7 @@ pub loop-turn-preserved : goal.loop-turn-preserved
 loop-turn-preserved g c = elim c.match-read.branch [
   | in-Bytes+in_ok-stopped-in-Bytes+in_ok-show-in-Bytes+else-is_done+else-stopped w ↦
       let so = took c.args.view (RanOrStopped c.args.program.now w.in_ok-stopped-in-Bytes.stopped) _ _ _ _ _ _ _ _ _ _ _ _ _ _ c.loop-turn.stamps.items w.run.new.stamps.items c.loop-turn.invariant.so w.in-Bytes.ensures.3
-      (taken_bytes w.in-Bytes.count c.read.new.buffer w.in-Bytes.ensures.2 (omega arith)) c.loop-turn-test.true c.loop-turn.invariant.none c.loop-turn.invariant.no_times w.run.ensures.plain (either_run _ _ _ _ _ _ _ _ _ w.in_ok-stopped-in-Bytes.ensures.runs) w.run.ensures.kind w.run.ensures.stamped in
+      (taken_bytes w.in-Bytes.count c.read.new.buffer w.in-Bytes.ensures.2 (omega arith)) c.loop-turn-test.true c.loop-turn.invariant.none c.loop-turn.invariant.no_times w.run.ensures.plain (either_run _ _ _ _ _ _ _ _ _ w.in_ok-stopped-in-Bytes.ensures.runs) w.run.ensures.form w.run.ensures.stamped in
       let all = showed c.args.view _ _ _ _ _ _ _ _ c.loop-turn.tally w.show-in-Bytes.new.self _ _ _ so (rw (w.as_slice-in-Bytes.ensures.value, w.as_slice-in-Bytes-2.ensures.value) at w.in_ok-show-in-Bytes.ensures.shown) (rw w.as_slice-in-Bytes.ensures.value at w.in_ok-show-in-Bytes.ensures.counted) in
       rw (w.source-is, w.writer-is, w.outcomes-is, w.stamps-is, w.tally-is) (record {
         so = streamed_next c.args.view _ _ _ _ _ _ _ _ _ (rw w.if-stopped.false at all);

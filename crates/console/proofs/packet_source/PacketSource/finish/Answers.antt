@@ -1,4 +1,4 @@
-use Rattle.console.proofs.SourceLemmas.{lines_finish, capture_finish, stamped_finish}
+use Rattle.console.proofs.SourceLemmas.{lines_finish, capture_finish}
 use Rattle.console.proofs.packet_source.PacketSource.finish.Goals as goal
 
 pub returns-in-Lines-clause-runs : goal.returns-in-Lines-clause-runs
@@ -6,6 +6,3 @@ returns-in-Lines-clause-runs c = lines_finish c.finish.result c.args.program.now
 
 pub returns-in-Capture-clause-runs : goal.returns-in-Capture-clause-runs
 returns-in-Capture-clause-runs c = capture_finish c.args.program.now c.args.self.now c.in-Capture.field-0 _ c.in-Capture.is
-
-pub returns-in_ok-finish-in-Stamped-clause-runs : goal.returns-in_ok-finish-in-Stamped-clause-runs
-returns-in_ok-finish-in-Stamped-clause-runs c = stamped_finish c.args.program.now c.args.self.now c.in-Stamped.feed c.finish-in-Stamped.new.self _ _ c.in-Stamped.is c.in_ok-finish-in-Stamped.ensures

@@ -1,6 +1,6 @@
 use Rattle.std.proofs.Common.{arith}
 use Rattle.pcap_reader.proofs.FeedLemmas.{are_bytes}
-use Rattle.console.proofs.SourceLemmas.{lines_run, capture_run, stamped_run}
+use Rattle.console.proofs.SourceLemmas.{lines_run, capture_run}
 use Rattle.console.proofs.packet_source.PacketSource.run.Goals as goal
 
 pub returns-in-Lines-clause-runs : goal.returns-in-Lines-clause-runs
@@ -8,17 +8,10 @@ returns-in-Lines-clause-runs c = lines_run c.run_piece.result c.args.program.now
 
 pub returns-in-Capture-clause-runs : goal.returns-in-Capture-clause-runs
 returns-in-Capture-clause-runs c =
-    capture_run c.run_piece-in-Capture.result c.args.program.now c.args.piece.now c.args.self.now c.in-Capture.feed c.run_piece-in-Capture.new.feed _ _ _ c.in-Capture.is c.run_piece-in-Capture.ensures.runs c.run_piece-in-Capture.ensures.stopped
-
-pub returns-in-Stamped-clause-runs : goal.returns-in-Stamped-clause-runs
-returns-in-Stamped-clause-runs c =
-    stamped_run c.run_piece-in-Stamped.result c.args.program.now c.args.piece.now c.args.self.now c.in-Stamped.feed c.run_piece-in-Stamped.new.self _ _ _ _ c.in-Stamped.is c.run_piece-in-Stamped.ensures
+    capture_run c.run_piece-in-Capture.result c.args.program.now c.args.piece.now c.args.self.now c.in-Capture.capture c.run_piece-in-Capture.new.self _ _ _ _ c.in-Capture.is c.run_piece-in-Capture.ensures.runs c.run_piece-in-Capture.ensures.stopped c.run_piece-in-Capture.ensures.bytes
 
 pub returns-in-Lines-clause-bytes : goal.returns-in-Lines-clause-bytes
 returns-in-Lines-clause-bytes c = are_bytes _ (λ i. omega (arith, c.type_inv.piece i))
 
 pub returns-in-Capture-clause-bytes : goal.returns-in-Capture-clause-bytes
-returns-in-Capture-clause-bytes c = are_bytes _ (λ i. omega (arith, c.type_inv.piece i))
-
-pub returns-in-Stamped-clause-bytes : goal.returns-in-Stamped-clause-bytes
-returns-in-Stamped-clause-bytes c = are_bytes _ (λ i. omega (arith, c.type_inv.piece i))
+returns-in-Capture-clause-bytes c = c.run_piece-in-Capture.ensures.bytes
