@@ -5,5 +5,7 @@ mod Refused
 mod Derived
 mod Received
 mod Savefiles
+mod PcapngBlocks
+mod KeptBlocks
 mod Spelled
 mod Assembled

@@ -1,3 +1,4 @@
+pub mod Blocks
 pub mod Captures
 pub mod Codes
 pub mod Filters

@@ -5,6 +5,7 @@
 //! and programs that each file names, and never from the code.
 #![tactic(auto)]
 
+mod blocks;
 mod captures;
 mod filters;
 mod kernel;
@@ -12,6 +13,7 @@ mod tables;
 mod texts;
 mod verifier;
 
+pub use blocks::{kept_blocks, read_blocks, refused_blocks};
 pub use captures::{read_captures, refused_captures};
 pub use filters::{arithmetic, jumps, loads, runs_of_filters, words};
 pub use kernel::kernel_programs;

@@ -1,4 +1,5 @@
-pub mod HeaderLemmas
 pub mod RecordLemmas
+pub mod RecordSieveLemmas
+pub mod BlockSieveLemmas
 pub mod SieveLemmas
 pub mod CopyLemmas

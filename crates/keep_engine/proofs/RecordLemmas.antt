@@ -1,6 +1,6 @@
 -- Whole records, one after the other.
 use Rattle.std.proofs.Common.{◌≡◌, ℕ, ◌+◌, Bool, List, [], ◌∷◌, ◌++◌, take, drop, refl, ap, sym, ◌∙◌, append_assoc}
-use Rattle.std.specs.Prelude.{if◌then◌else◌}
+use Rattle.std.specs.Prelude.{if◌then◌else◌, OnOk, Result, Ok, Err}
 use Rattle.std.specs.List.{AllZip, concat}
 use Rattle.std.proofs.lemmas.List.{append-nil, take-append-drop, drop-drop}
 use Rattle.std.proofs.lemmas.List.Folds.{concat-append}
@@ -54,6 +54,28 @@ takes_next program inverted big bytes rest rest' front before between after pack
   pushed = one.2 ∙ ap (λ t. t ++ (if is_kept inverted one.0 then front else [])) so.pushed ∙ append_assoc before (kept inverted so.records so.outcomes) (if is_kept inverted one.0 then front else [])
       ∙ ap (λ t. before ++ t) (ap (λ t. kept inverted so.records so.outcomes ++ t) (sym (append-nil (if is_kept inverted one.0 then front else [])))
       ∙ sym (kept-append inverted big program so.records (front ∷ []) so.packets so.outcomes (one.0 ∷ []) so.each so.ran));
+}
+
+-- a part that has become a record
+pub takes_whole : (program : List Insn) (inverted big : Bool) (part front before after : List ℕ) (packet : Seen) → front ≡ part → IsRecord big front (seen_packet packet) → KeepsOne program inverted packet part before after
+    → TakesRecords program inverted big part [] before after
+takes_whole program inverted big part front before after packet all is one =
+    takes_next program inverted big part part [] part before before after packet (takes_none program inverted big part before) (sym (append-nil part)) (rw all at is) one
+
+-- records of a part, and then of what is left of it and a piece
+pub takes_then : {T E : Type 0} (r : Result T E) (program : List Insn) (inverted big : Bool) (part piece mid rest bytes left before between after : List ℕ) → part ++ piece ≡ bytes ++ rest → TakesRecords program inverted big bytes mid before between
+    → OnOk r (TakesRecords program inverted big (mid ++ rest) left between after) → OnOk r (TakesRecords program inverted big (part ++ piece) left before after)
+takes_then (Err e) program inverted big part piece mid rest bytes left before between after moved first second = tt
+takes_then (Ok done) program inverted big part piece mid rest bytes left before between after moved first second = record {
+  records = first.records ++ second.records;
+  packets = first.packets ++ second.packets;
+  outcomes = first.outcomes ++ second.outcomes;
+  parts = moved ∙ ap (λ t. t ++ rest) first.parts ∙ append_assoc (concat first.records) mid rest ∙ ap (λ t. concat first.records ++ t) second.parts
+      ∙ sym (append_assoc (concat first.records) (concat second.records) left) ∙ ap (λ t. t ++ left) (sym (concat-append first.records second.records));
+  each = AllZip-append (IsRecord big) first.records second.records first.packets second.packets first.each second.each;
+  ran = AllZip-append (AnswersCaptured program) first.packets second.packets first.outcomes second.outcomes first.ran second.ran;
+  pushed = second.pushed ∙ ap (λ t. t ++ kept inverted second.records second.outcomes) first.pushed ∙ append_assoc before (kept inverted first.records first.outcomes) (kept inverted second.records second.outcomes)
+      ∙ ap (λ t. before ++ t) (sym (kept-append inverted big program first.records second.records first.packets first.outcomes second.outcomes first.each first.ran));
 }
 
 -- bytes from a place on, in two parts

@@ -1,128 +1,88 @@
--- A capture that comes in pieces, of which some records are kept.
-use Rattle.std.proofs.Common.{◌≡◌, ℕ, ◌+◌, ◌-◌, ◌==◌, ◌⊎◌, inl, inr, Bool, true, false, List, [], ◌++◌, length, take, drop, arith, refl, ap, sym, ◌∙◌, append_assoc, length-append, Option, Some, None, Result, Ok, Err}
-use Rattle.std.specs.Prelude.{OnOk}
-use Rattle.std.specs.List.{concat}
-use Rattle.std.proofs.lemmas.List.{append-nil, take-append-drop}
-use Rattle.std.proofs.lemmas.List.Folds.{concat-append}
+-- A capture of either format that comes in pieces.
+use Rattle.std.proofs.Common.{◌≡◌, ℕ, ◌<◌, ◌≤◌, inl, inr, Bool, true, false, List, ◌++◌, length, arith, refl, sym, ◌∙◌, length-append, Option, Some, Result, Ok, Err}
+use Rattle.std.specs.Prelude.{OnOk, nat_lt, option_map}
 use Rattle.bpf_insn.specs.declared.insn.Insn.{Insn}
-use Rattle.pcap_reader.specs.declared.capture.Header.{Header}
-use Rattle.pcap_reader.specs.declared.capture.CaptureFault.{CaptureFault}
-use Rattle.pcap_reader.specs.declared.capture.CaptureFault.TheVariants.{TruncatedRecord, TooLong}
-use Rattle.pcap_reader.specs.Savefile.{EndsWith, IsHeader, IsPart, IsRecord}
-use Rattle.console.specs.Matching.{AnswersCaptured}
-use Rattle.console.proofs.RunningLemmas.{AllZip-append}
+use Rattle.pcap_reader.proofs.Fronts.{word-front}
+use Rattle.pcap_reader.specs.declared.capture.CaptureFault.{CaptureFault as SavefileFault}
+use Rattle.pcap_reader.specs.declared.capture.CaptureFault.TheVariants.{TruncatedHeader}
+use Rattle.pcapng_reader.specs.declared.fault.CaptureFault.{CaptureFault as PcapngFault}
+use Rattle.keep_engine.specs.declared.block_sieve.BlockSieve.{BlockSieve}
+use Rattle.keep_engine.specs.declared.record_sieve.RecordSieve.{RecordSieve}
+use Rattle.capture_reader.specs.declared.fault.ReadFault.{ReadFault}
+use Rattle.capture_reader.specs.declared.fault.ReadFault.TheVariants as faults
 use Rattle.keep_engine.specs.declared.sieve.Sieve.{Sieve}
-use Rattle.keep_engine.specs.Keeping.{Keeps, kept}
-use Rattle.keep_engine.specs.Sieving.{IsLeft, OpensAt, Sifted, SiftedAt, Sifts, TakesRecords}
-use Rattle.keep_engine.proofs.RecordLemmas.{kept-append}
+use Rattle.keep_engine.specs.declared.sieve.Format.TheVariants.{Unknown, Savefile, Pcapng}
+use Rattle.pcapng_reader.specs.Blocks.{is_pcapng}
+use Rattle.keep_engine.specs.Keeping.{Keeps, KeepsBlocks, KeepsSavefile}
+use Rattle.keep_engine.specs.Sieving.{Begins, HasSifted, HasSiftedBlocks, HasSiftedRecords, SiftedBy, Sifts}
 
--- of a part that has grown more records were taken
-sifted_next : (program : List Insn) (inverted : Bool) (taken piece : List ℕ) (h : Header) (part part' text before after : List ℕ)
-    → Sifted program inverted taken h part text → (so : TakesRecords program inverted h.big (part ++ piece) part' before after) → Sifted program inverted (taken ++ piece) h part' (text ++ kept inverted so.records so.outcomes)
-sifted_next program inverted taken piece h part part' text before after was so = record {
-  head = was.head;
-  records = was.records ++ so.records;
-  packets = was.packets ++ so.packets;
-  outcomes = was.outcomes ++ so.outcomes;
-  parts = ap (λ t. t ++ piece) was.parts ∙ append_assoc (was.head ++ concat was.records) part piece ∙ ap (λ t. (was.head ++ concat was.records) ++ t) so.parts
-      ∙ sym (append_assoc (was.head ++ concat was.records) (concat so.records) part')
-      ∙ ap (λ t. t ++ part') (append_assoc was.head (concat was.records) (concat so.records) ∙ ap (λ t. was.head ++ t) (sym (concat-append was.records so.records)));
-  header = was.header;
-  each = AllZip-append (IsRecord h.big) was.records so.records was.packets so.packets was.each so.each;
-  ran = AllZip-append (AnswersCaptured program) was.packets so.packets was.outcomes so.outcomes was.ran so.ran;
-  is = ap (λ t. t ++ kept inverted so.records so.outcomes) was.is ∙ append_assoc was.head (kept inverted was.records was.outcomes) (kept inverted so.records so.outcomes)
-      ∙ ap (λ t. was.head ++ t) (sym (kept-append inverted h.big program was.records so.records was.packets was.outcomes so.outcomes was.each was.ran));
+-- The first four bytes
+
+pub told_on : (front more : List ℕ) → 4 ≤ length front → is_pcapng (front ++ more) ≡ is_pcapng front
+told_on front more long =
+    let all : nat_lt (length (front ++ more)) 4 ≡ false = grind (arith, length-append front more) in
+    let some : nat_lt (length front) 4 ≡ false = grind arith in
+    rw (all, some, word-front true front more long) refl
+
+too_few : (bytes : List ℕ) → length bytes < 4 → is_pcapng bytes ≡ false
+too_few bytes few = let some : nat_lt (length bytes) 4 ≡ true = grind arith in rw some refl
+
+-- A piece
+
+pub savefile_sifts : {E : Type 0} (r : Result (Unit {0}) E) (program : List Insn) (inverted : Bool) (piece : List ℕ) (old new : Sieve) (from to : RecordSieve) (before after : List ℕ) → old.format ≡ Savefile from → new.format ≡ Savefile to
+    → OnOk r (Sifts (HasSiftedRecords program inverted) piece from to before after) → OnOk r (Sifts (HasSifted program inverted) piece old new before after)
+savefile_sifts (Err e) program inverted piece old new from to before after is now_is sifts = tt
+savefile_sifts (Ok done) program inverted piece old new from to before after is now_is sifts = record {
+  more = sifts.more;
+  pushed = sifts.pushed;
+  goes = λ taken text was short.
+      let has : SiftedBy program inverted taken (Savefile from) old.front.items text = rw is at was in
+      let other : is_pcapng (taken ++ piece) ≡ false = told_on taken piece has.0 ∙ has.1 in
+      let now : SiftedBy program inverted (taken ++ piece) (Savefile to) new.front.items (text ++ sifts.more) =
+      (omega (arith, has.0, length-append taken piece), other, sifts.goes taken text has.2 short) in
+      rw now_is now;
 }
 
-pub piece_taken : (program : List Insn) (inverted : Bool) (piece : List ℕ) (old new : Sieve) (h : Header) (before after : List ℕ) → old.header ≡ Ok h → new.header ≡ old.header
-    → TakesRecords program inverted h.big (old.part.items ++ piece) new.part.items before after → IsLeft h.big new.long new.part.items → Sifts program inverted piece old new before after
-piece_taken program inverted piece old new h before after is same so left = record {
-  more = kept inverted so.records so.outcomes;
-  pushed = so.pushed;
-  goes = λ taken text was. let has = rw is at was in rw (same ∙ is) (sifted_next program inverted taken piece h old.part.items new.part.items text before after has.0 so, left);
+pub blocks_sift : {E : Type 0} (r : Result (Unit {0}) E) (program : List Insn) (inverted : Bool) (piece : List ℕ) (old new : Sieve) (from to : BlockSieve) (before after : List ℕ) → old.format ≡ Pcapng from → new.format ≡ Pcapng to
+    → OnOk r (Sifts (HasSiftedBlocks program inverted) piece from to before after) → OnOk r (Sifts (HasSifted program inverted) piece old new before after)
+blocks_sift (Err e) program inverted piece old new from to before after is now_is sifts = tt
+blocks_sift (Ok done) program inverted piece old new from to before after is now_is sifts = record {
+  more = sifts.more;
+  pushed = sifts.pushed;
+  goes = λ taken text was short.
+      let has : SiftedBy program inverted taken (Pcapng from) old.front.items text = rw is at was in
+      let now : SiftedBy program inverted (taken ++ piece) (Pcapng to) new.front.items (text ++ sifts.more) =
+      (omega (arith, has.0, length-append taken piece), told_on taken piece has.0 ∙ has.1, sifts.goes taken text has.2 short) in
+      rw now_is now;
 }
 
--- the header and the first records
-first_sifted : (program : List Insn) (inverted : Bool) (bytes before after : List ℕ) (header : Result Header CaptureFault) (long : Bool) (part : List ℕ) → OpensAt program inverted bytes header long part before after
-    → (more : List ℕ) × (after ≡ before ++ more) × SiftedAt program inverted bytes header long part more
-first_sifted program inverted bytes before after (Err fault) long part opens = ([], opens.2 ∙ sym (append-nil before), (opens.0, opens.1, refl))
-first_sifted program inverted bytes before after (Ok h) long part (head, rest, parts, is, so, left) = (
-  head ++ kept inverted so.records so.outcomes,
-  so.pushed ∙ append_assoc before head (kept inverted so.records so.outcomes),
-  (
-    record {
-      head = head;
-      records = so.records;
-      packets = so.packets;
-      outcomes = so.outcomes;
-      parts = parts ∙ ap (λ t. head ++ t) so.parts ∙ sym (append_assoc head (concat so.records) part);
-      header = is;
-      each = so.each;
-      ran = so.ran;
-      is = refl;
-    },
-    left,
-  ),
-)
-
-pub piece_opened : (program : List Insn) (inverted : Bool) (piece : List ℕ) (old new : Sieve) (f : CaptureFault) (before after : List ℕ) → old.header ≡ Err f
-    → OpensAt program inverted (old.part.items ++ piece) new.header new.long new.part.items before after → Sifts program inverted piece old new before after
-piece_opened program inverted piece old new f before after is opens =
-    let first = first_sifted program inverted (old.part.items ++ piece) before after new.header new.long new.part.items opens in
-    record {
-      more = first.0;
-      pushed = first.1;
-      goes = λ taken text was. let has = rw is at was in rw (sym has.0, has.2) first.2;
-    }
+pub unknown_sifts : {E : Type 0} (r : Result (Unit {0}) E) (program : List Insn) (inverted : Bool) (piece : List ℕ) (old new : Sieve) (before after : List ℕ) → old.format ≡ Unknown
+    → OnOk r (Begins program inverted (old.front.items ++ piece) new before after) → OnOk r (Sifts (HasSifted program inverted) piece old new before after)
+unknown_sifts (Err e) program inverted piece old new before after is begins = tt
+unknown_sifts (Ok done) program inverted piece old new before after is (more, pushed, has) = record {
+  more = more;
+  pushed = pushed;
+  goes = λ taken text was short.
+      let had : SiftedBy program inverted taken Unknown old.front.items text = rw is at was in
+      let now = has (rw (had.0) short) in
+      rw (sym had.0, had.2) now;
+}
 
 -- How a capture ends
 
--- with what follows whole records it is all that is kept
-ends_at : (program : List Insn) (inverted : Bool) (taken : List ℕ) (h : Header) (part text : List ℕ) (fault : Option CaptureFault) → (was : Sifted program inverted taken h part text)
-    → EndsWith h.big part (24 + length (concat was.records)) fault → Keeps program inverted taken fault text
-ends_at program inverted taken h part text fault was ends = inl (
-  h,
-  record {
-    packets = was.packets;
-    capture = record { head = was.head; records = was.records; rest = part; parts = was.parts; header = was.header; each = was.each; ends = ends };
-    outcomes = was.outcomes;
-    ran = was.ran;
-    is = was.is;
-  },
-)
+pub ends_unknown : (program : List Insn) (inverted : Bool) (taken text : List ℕ) (sieve : Sieve) → sieve.format ≡ Unknown → HasSifted program inverted taken sieve text → Keeps program inverted taken (Some (faults.Savefile TruncatedHeader)) text
+ends_unknown program inverted taken text sieve is has =
+    let had : SiftedBy program inverted taken Unknown sieve.front.items text = rw is at has in
+    inr (too_few taken had.1, Some TruncatedHeader, refl, inr (TruncatedHeader, refl, inl had.1, had.2))
 
-place_at : (program : List Insn) (inverted : Bool) (taken : List ℕ) (h : Header) (part text : List ℕ) (n size place : ℕ) → (was : Sifted program inverted taken h part text) → n ≡ length taken → size ≡ length part → place ≡ n - size
-    → place ≡ 24 + length (concat was.records)
-place_at program inverted taken h part text n size place was count long is =
-    omega (arith, is, long, count, ap length was.parts, length-append (was.head ++ concat was.records) part, length-append was.head (concat was.records), was.header.long)
+pub ends_savefile : (program : List Insn) (inverted : Bool) (taken text : List ℕ) (sieve : Sieve) (records : RecordSieve) (fault : Option SavefileFault) (answer : Option ReadFault) → sieve.format ≡ Savefile records → answer ≡ option_map faults.Savefile fault
+    → (HasSiftedRecords program inverted taken records text → KeepsSavefile program inverted taken fault text) → HasSifted program inverted taken sieve text → Keeps program inverted taken answer text
+ends_savefile program inverted taken text sieve records fault answer is same keeps has =
+    let had : SiftedBy program inverted taken (Savefile records) sieve.front.items text = rw is at has in
+    inr (had.1, fault, same, keeps had.2)
 
-pub ends_long : (program : List Insn) (inverted : Bool) (taken : List ℕ) (header : Result Header CaptureFault) (h : Header) (long : Bool) (part text : List ℕ) (n size place : ℕ) → header ≡ Ok h → n ≡ length taken → size ≡ length part → place ≡ n - size
-    → long ≡ true → SiftedAt program inverted taken header long part text → Keeps program inverted taken (Some (TooLong place)) text
-ends_long program inverted taken header h long part text n size place is count size_is place_is stopped has =
-    let was = rw (is, stopped) at has in ends_at program inverted taken h part text (Some (TooLong place)) was.0 (was.1, place_at program inverted taken h part text n size place was.0 count size_is place_is)
-
-some_part : (big : Bool) (part : List ℕ) (size : ℕ) → size ≡ length part → (size == 0) ≡ false → (part ≡ []) ⊎ IsPart big part → IsPart big part
-some_part big part size is some (inl none) = let never = rw (is, none) at some in absurd (cc)
-some_part big part size is some (inr has) = has
-
-pub ends_within : (program : List Insn) (inverted : Bool) (taken : List ℕ) (header : Result Header CaptureFault) (h : Header) (long : Bool) (part text : List ℕ) (n size seen place : ℕ) → header ≡ Ok h → n ≡ length taken → size ≡ length part → place ≡ n - size
-    → long ≡ false → seen ≡ length part → (seen == 0) ≡ false → SiftedAt program inverted taken header long part text → Keeps program inverted taken (Some (TruncatedRecord place)) text
-ends_within program inverted taken header h long part text n size seen place is count size_is place_is going seen_is some has =
-    let was = rw (is, going) at has in ends_at program inverted taken h part text (Some (TruncatedRecord place)) was.0 (some_part h.big part seen seen_is some was.1, place_at program inverted taken h part text n size place was.0 count size_is place_is)
-
-pub ends_whole : (program : List Insn) (inverted : Bool) (taken : List ℕ) (header : Result Header CaptureFault) (h : Header) (long : Bool) (part text : List ℕ) → header ≡ Ok h
-    → part ≡ [] → SiftedAt program inverted taken header long part text → Keeps program inverted taken None text
-ends_whole program inverted taken header h long part text is none has =
-    let was = rw is at has in ends_at program inverted taken h part text None was.0 none
-
--- the header was whole
-pub opened : (program : List Insn) (inverted : Bool) (bytes records : List ℕ) (front : ℕ) (h : Header) (long : Bool) (part before between after : List ℕ)
-    → IsHeader (take front bytes) h → records ≡ drop front bytes → between ≡ before ++ take front bytes → TakesRecords program inverted h.big records part between after → IsLeft h.big long part
-    → OpensAt program inverted bytes (Ok h) long part before after
-opened program inverted bytes records front h long part before between after is rest pushed so left =
-    (take front bytes, drop front bytes, sym (take-append-drop front bytes), is, rw (rest, pushed) at so, left)
-
-pub on_opened : {E : Type 0} (r : Result (Unit {0}) E) (program : List Insn) (inverted : Bool) (piece grown : List ℕ) (old new : Sieve) (f : CaptureFault) (before after : List ℕ) → old.header ≡ Err f → grown ≡ old.part.items ++ piece
-    → OnOk r (OpensAt program inverted grown new.header new.long new.part.items before after) → OnOk r (Sifts program inverted piece old new before after)
-on_opened (Ok done) program inverted piece grown old new f before after is more opens = piece_opened program inverted piece old new f before after is (rw more at opens)
-on_opened (Err e) program inverted piece grown old new f before after is more opens = tt
+pub ends_blocks : (program : List Insn) (inverted : Bool) (taken text : List ℕ) (sieve : Sieve) (blocks : BlockSieve) (fault : Option PcapngFault) (answer : Option ReadFault) → sieve.format ≡ Pcapng blocks → answer ≡ option_map faults.Pcapng fault
+    → (HasSiftedBlocks program inverted taken blocks text → KeepsBlocks program inverted taken fault text) → HasSifted program inverted taken sieve text → Keeps program inverted taken answer text
+ends_blocks program inverted taken text sieve blocks fault answer is same keeps has =
+    let had : SiftedBy program inverted taken (Pcapng blocks) sieve.front.items text = rw is at has in
+    inl (had.1, fault, same, keeps had.2)

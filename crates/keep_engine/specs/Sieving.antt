@@ -1,5 +1,5 @@
 -- What a sieve has taken of a capture that comes in pieces, and what it has kept. No public clause cites these.
-use Rattle.std.specs.Prelude.{◌≡◌, ◌≢◌, ℕ, ◌≤◌, ◌⊎◌, List, [], ◌++◌, length, take, drop, Result, Ok, Err, Bool, true, false, if◌then◌else◌}
+use Rattle.std.specs.Prelude.{◌≡◌, ◌≢◌, ℕ, ◌^◌, ◌<◌, ◌≤◌, ◌⊎◌, List, [], ◌++◌, length, drop, Option, Some, None, Result, Ok, Err, Bool, true, false, if◌then◌else◌, IsSome}
 use Rattle.std.specs.List.{AllZip, concat}
 use Rattle.bpf_insn.specs.declared.insn.Insn.{Insn}
 use Rattle.filter_vm.specs.declared.machine.Outcome.{Outcome}
@@ -10,23 +10,35 @@ use Rattle.pcap_reader.specs.declared.capture.CaptureFault.TheVariants.{Truncate
 use Rattle.pcap_reader.specs.declared.feed.Seen.{Seen}
 use Rattle.pcap_reader.specs.Held.{seen_packet}
 use Rattle.pcap_reader.specs.Savefile.{HasNoHeader, IsHeader, IsLong, IsPart, IsRecord}
+use Rattle.pcapng_reader.specs.declared.fault.CaptureFault.TheVariants.{NoMemory}
+use Rattle.pcapng_reader.specs.declared.feed.BlockFeed.{BlockFeed}
+use Rattle.pcapng_reader.specs.declared.seen.Skimmed.{Skimmed}
+use Rattle.pcapng_reader.specs.declared.feed.Step.{Step}
+use Rattle.pcapng_reader.specs.declared.feed.Step.TheVariants.{Block, Held}
+use Rattle.pcapng_reader.specs.Blocks.{is_pcapng}
+use Rattle.pcapng_reader.specs.Grammar.{WholeBlock}
+use Rattle.pcapng_reader.specs.Held.{HoldsAfter, copies_all, held_block, held_fault, seen_block}
 use Rattle.console.specs.Matching.{AnswersCaptured}
-use Rattle.keep_engine.specs.declared.front.Front.{Front}
-use Rattle.keep_engine.specs.declared.front.Front.TheVariants.{Record, Part, TooLong}
-use Rattle.keep_engine.specs.declared.sieve.Sieve.{Sieve}
 use Rattle.keep_engine.specs.declared.sifting.Taken.{Taken}
-use Rattle.keep_engine.specs.Keeping.{is_kept, kept}
+use Rattle.keep_engine.specs.declared.record_sieve.RecordSieve.{RecordSieve}
+use Rattle.keep_engine.specs.declared.block_sieve.BlockSieve.{BlockSieve}
+use Rattle.keep_engine.specs.declared.sieve.Format.{Format}
+use Rattle.keep_engine.specs.declared.sieve.Format.TheVariants.{Unknown, Savefile, Pcapng}
+use Rattle.keep_engine.specs.declared.sieve.Sieve.{Sieve}
+use Rattle.keep_engine.specs.Keeping.{Leaves, is_kept, kept}
 
--- bytes begin with a whole record and this packet, or with a part of one, if with anything, or with one that is too long
-abbrev pub IsFront : Bool → List ℕ → Front → Type 0
-IsFront big bytes (Record length_of packet) = (length_of ≤ length bytes) × IsRecord big (take length_of bytes) (seen_packet packet)
-IsFront big bytes Part = (bytes ≡ []) ⊎ IsPart big bytes
-IsFront big bytes TooLong = IsLong big bytes
-
--- the bytes of one record were appended, if its packet is kept
+-- the bytes that hold one packet were appended, if it is kept
 abbrev pub KeepsOne : List Insn → Bool → Seen → List ℕ → List ℕ → List ℕ → Type 0
 KeepsOne program inverted packet bytes before after =
     (outcome : Outcome) × AnswersCaptured program (seen_packet packet) outcome × (after ≡ before ++ (if is_kept inverted outcome then bytes else []))
+
+-- a sieve took some bytes more, and appended what it gave of them
+pub record Sifts {S : Type 0} (Has : List ℕ → S → List ℕ → Type 0) (piece : List ℕ) (old new : S) (before after : List ℕ) : Type 0 where
+  pub more : List ℕ
+  pub pushed : after ≡ before ++ more
+  pub goes : (taken text : List ℕ) → Has taken old text → length (taken ++ piece) < 2 ^ 64 → Has (taken ++ piece) new (text ++ more)
+
+-- Records of a savefile
 
 -- whole records were taken off the front of some bytes, and those that are kept were appended
 pub record TakesRecords (program : List Insn) (inverted big : Bool) (bytes rest before after : List ℕ) : Type 0 where
@@ -65,15 +77,9 @@ abbrev pub SiftedAt : List Insn → Bool → List ℕ → Result Header CaptureF
 SiftedAt program inverted taken (Err fault) long part text = (part ≡ taken) × HasNoHeader taken fault × (text ≡ [])
 SiftedAt program inverted taken (Ok h) long part text = Sifted program inverted taken h part text × IsLeft h.big long part
 
--- a sieve took these bytes, and gave this text of them
-abbrev pub HasSifted : List Insn → Bool → List ℕ → Sieve → List ℕ → Type 0
-HasSifted program inverted taken sieve text = SiftedAt program inverted taken sieve.header sieve.long sieve.part.items text
-
--- a sieve took some bytes more, and appended what it gave of them
-pub record Sifts (program : List Insn) (inverted : Bool) (piece : List ℕ) (old new : Sieve) (before after : List ℕ) : Type 0 where
-  pub more : List ℕ
-  pub pushed : after ≡ before ++ more
-  pub goes : (taken text : List ℕ) → HasSifted program inverted taken old text → HasSifted program inverted (taken ++ piece) new (text ++ more)
+-- a sieve of records took these bytes, and gave this text of them
+abbrev pub HasSiftedRecords : List Insn → Bool → List ℕ → RecordSieve → List ℕ → Type 0
+HasSiftedRecords program inverted taken sieve text = SiftedAt program inverted taken sieve.header sieve.long sieve.part.items text
 
 -- bytes have no header yet, or none; or they have one, which was appended, and the records after it were taken
 abbrev pub OpensAt : List Insn → Bool → List ℕ → Result Header CaptureFault → Bool → List ℕ → List ℕ → List ℕ → Type 0
@@ -81,7 +87,7 @@ OpensAt program inverted bytes (Err fault) long part before after = (part ≡ by
 OpensAt program inverted bytes (Ok h) long part before after = (head : List ℕ) × (rest : List ℕ) × (bytes ≡ head ++ rest) × IsHeader head h
     × TakesRecords program inverted h.big rest part (before ++ head) after × IsLeft h.big long part
 
-abbrev pub Opens : List Insn → Bool → List ℕ → Sieve → List ℕ → List ℕ → Type 0
+abbrev pub Opens : List Insn → Bool → List ℕ → RecordSieve → List ℕ → List ℕ → Type 0
 Opens program inverted bytes sieve before after = OpensAt program inverted bytes sieve.header sieve.long sieve.part.items before after
 
 -- a fault stands in what was taken, whatever follows
@@ -89,5 +95,62 @@ abbrev pub StoppedAt : Result Header CaptureFault → Bool → Type 0
 StoppedAt (Err fault) long = fault ≢ TruncatedHeader
 StoppedAt (Ok h) long = long ≡ true
 
+abbrev pub HasStoppedRecords : RecordSieve → Type 0
+HasStoppedRecords sieve = StoppedAt sieve.header sieve.long
+
+-- Blocks of a capture in pcapng
+
+-- what is kept of a block was appended
+abbrev pub KeepsBlock : List Insn → Bool → WholeBlock → List ℕ → List ℕ → Type 0
+KeepsBlock program inverted block before after = (text : List ℕ) × Leaves program inverted block text × (after ≡ before ++ text)
+
+-- the same for a packet block that was skimmed
+abbrev pub KeepsSkimmed : List Insn → Bool → Skimmed → List ℕ → List ℕ → Type 0
+KeepsSkimmed program inverted skimmed before after = (outcome : Outcome)
+    × AnswersCaptured program (record { bytes = skimmed.bytes.now; original = skimmed.original }) outcome × (after ≡ before ++ (if is_kept inverted outcome then skimmed.block.now else []))
+
+-- the same for a block that a feed holds, if it holds one
+abbrev pub KeepsHeld : List Insn → Bool → Option WholeBlock → List ℕ → List ℕ → Type 0
+KeepsHeld program inverted (Some block) before after = KeepsBlock program inverted block before after
+KeepsHeld program inverted None before after = after ≡ before
+
+-- what is kept of the block that a step made whole was appended, if it did
+abbrev pub KeepsStep : List Insn → Bool → BlockFeed → Step → List ℕ → List ℕ → Type 0
+KeepsStep program inverted feed (Block block) before after = KeepsBlock program inverted (seen_block block) before after
+KeepsStep program inverted feed Held before after = KeepsHeld program inverted (held_block feed) before after
+KeepsStep program inverted feed _ before after = after ≡ before
+
+-- a sieve of blocks took these bytes, and gave this text of their whole blocks
+pub record HasSiftedBlocks (program : List Insn) (inverted : Bool) (taken : List ℕ) (sieve : BlockSieve) (text : List ℕ) : Type 0 where
+  pub blocks : List WholeBlock
+  pub parts : List (List ℕ)
+  pub holds : HoldsAfter blocks taken sieve.feed
+  pub every : copies_all sieve.feed ≡ true
+  pub fault : sieve.fault ≡ held_fault sieve.feed
+  pub memory : held_fault sieve.feed ≢ Some NoMemory
+  pub each : AllZip (Leaves program inverted) blocks parts
+  pub is : text ≡ concat parts
+
+-- Either format
+
+-- what was taken, and the text that was given of it, by the format that the first four bytes tell
+abbrev pub SiftedBy : List Insn → Bool → List ℕ → Format → List ℕ → List ℕ → Type 0
+SiftedBy program inverted taken Unknown front text = (front ≡ taken) × (length taken < 4) × (text ≡ [])
+SiftedBy program inverted taken (Savefile sieve) front text = (4 ≤ length taken) × (is_pcapng taken ≡ false) × HasSiftedRecords program inverted taken sieve text
+SiftedBy program inverted taken (Pcapng sieve) front text = (4 ≤ length taken) × (is_pcapng taken ≡ true) × HasSiftedBlocks program inverted taken sieve text
+
+abbrev pub HasSifted : List Insn → Bool → List ℕ → Sieve → List ℕ → Type 0
+HasSifted program inverted taken sieve text = SiftedBy program inverted taken sieve.format sieve.front.items text
+
+-- a fault stands in what was taken, whatever follows
+abbrev pub StoppedBy : Format → Type 0
+StoppedBy Unknown = ⊥
+StoppedBy (Savefile sieve) = HasStoppedRecords sieve
+StoppedBy (Pcapng sieve) = IsSome sieve.fault
+
 abbrev pub HasStopped : Sieve → Type 0
-HasStopped sieve = StoppedAt sieve.header sieve.long
+HasStopped sieve = StoppedBy sieve.format
+
+-- the first bytes, of which this was given
+abbrev pub Begins : List Insn → Bool → List ℕ → Sieve → List ℕ → List ℕ → Type 0
+Begins program inverted bytes sieve before after = (more : List ℕ) × (after ≡ before ++ more) × (length bytes < 2 ^ 64 → HasSifted program inverted bytes sieve more)

@@ -9,26 +9,28 @@ ghost use Rattle.console.specs.Matching.{IsEngineFault};
 ghost use Rattle.keep_engine.specs.Keeping.{KeepsGoodCode, KeepsFront, KeepsPart, Keeps, Says};
 
 use crate::sieve::Sieve;
+use capture_reader::ReadFault;
 use console::{
-    BLOCK, EngineFault, Got, STREAM_READS, Sink, Source, push_capture_words, read_code, write_bytes,
+    BLOCK, EngineFault, Got, STREAM_READS, Sink, Source, push_read_words, read_code, write_bytes,
 };
 use filter_predecode::Predecoded;
-use pcap_reader::CaptureFault;
 use std::alloc::{AllocError, Global};
 use std::io::{Read, Write};
 
 /// Copies a capture of any length, but of its packets only those that the filter accepts which `code` spells, in decimal text; or,
 /// `inverted`, only those that it doesn't accept. Answers the status.
 ///
-/// A packet is accepted where the verdict is above 0. The file's header and each record that is kept are written as they are, byte
-/// for byte and in order, and what a read completed before the next read.
+/// The input is in pcapng where it begins with the type of a section header, and else a savefile. A packet is accepted where the
+/// verdict is above 0. Of a savefile the header and each record that is kept are written as they are, byte for byte and in order;
+/// of a capture in pcapng each block that isn't a packet or whose packet is kept. What a read completed is written before the next
+/// read.
 ///
-/// At a fault of the capture that stands whatever follows it ends without reading on. A record that isn't whole is a fault where
-/// the input ends. What was whole before a fault is written; the fault's line is appended to `complaint`, and the status is 1. For
+/// At a fault of the capture that stands whatever follows it ends without reading on. A record or a block that isn't whole is a
+/// fault where the input ends. What was whole before a fault is written; the fault's line is appended to `complaint`, and the status is 1. For
 /// a code that is no program, or that the verifier refuses, it reads and writes nothing, appends the line that says why, and
 /// answers status 1. Else the status is 0, and nothing is appended.
 ///
-/// It holds the longest record at most, and what one read completed. `writer` is never flushed.
+/// It holds the longest record or block at most, and what one read completed. `writer` is never flushed.
 ///
 /// Answers `ReadFailed` where a read fails, or after 2^48 - 1 reads of at most 65,536 bytes; `WriteFailed`; and `NoMemory`. A
 /// front of what is kept was written then.
@@ -68,14 +70,14 @@ pub fn run_keep<R: Read, W: Write>(
 }
 
 /// Appends the line of a fault, if there is one, and answers the status.
-fn say(fault: Option<CaptureFault>, complaint: &mut String) -> Result<u8, AllocError>
+fn say(fault: Option<ReadFault>, complaint: &mut String) -> Result<u8, AllocError>
     ensures { IfOk result (λ status. (line : List ℕ) × (string_bytes complaint.new ≡ string_bytes complaint.old ++ line) × Says fault status line) }
 {
     match fault {
         None => Ok(0),
         Some(fault) => {
             complaint.push_str("fault ")?;
-            push_capture_words(complaint, fault)?;
+            push_read_words(complaint, fault)?;
             complaint.push_str("\n")?;
             Ok(1)
         }
@@ -89,7 +91,7 @@ fn copy<R: Read, W: Write>(
     inverted: bool,
     reader: &mut Source<R>,
     writer: &mut Sink<W>,
-) -> Result<Option<CaptureFault>, EngineFault>
+) -> Result<Option<ReadFault>, EngineFault>
     requires fresh { IsFresh reader.old STREAM_READS }
     requires good { writer.old.failed ≡ false }
     ensures kept { IfOk result (λ fault. (input : List ℕ) × Gets R.remaining reader.old reader.new input

@@ -1,9 +1,10 @@
 //! The engine of `keep`: a capture in, and out of it the packets that a filter accepts, as they are.
 #![tactic(auto)]
 
-mod front;
-mod header;
+mod block_sieve;
+mod choice;
 mod keeping;
+mod record_sieve;
 mod sieve;
 mod sifting;
 

@@ -1,37 +1,37 @@
-//! A capture that comes in pieces, of which some records are kept.
+//! A capture of either format that comes in pieces, of which some packets are kept.
 
-ghost use Rattle.std.specs.Prelude.{◌≡◌, Bool, IsSome, IsTrue, List, OnOk, ℕ, [], length};
+ghost use Rattle.std.specs.Prelude.{◌≡◌, ◌++◌, Bool, IsSome, IsTrue, List, OnOk, ℕ, [], length};
 ghost use Rattle.bpf_insn.specs.declared.insn.Insn.{Insn};
 ghost use Rattle.keep_engine.specs.Keeping.{Keeps};
-ghost use Rattle.keep_engine.specs.Sieving.{HasSifted, HasStopped, Opens, Sifts};
+ghost use Rattle.keep_engine.specs.Sieving.{Begins, HasSifted, HasStopped, Sifts};
 
-use crate::header::{FILE_HEADER, header_of};
-use crate::sifting::take_records;
+use crate::block_sieve::BlockSieve;
+use crate::record_sieve::RecordSieve;
+use capture_reader::ReadFault;
 use filter_predecode::Predecoded;
-use pcap_reader::{CaptureFault, Header};
+use pcap_reader::CaptureFault as SavefileFault;
+use pcapng_reader::is_pcapng;
 use std::alloc::{AllocError, Global};
 
-/// A capture that comes in pieces, cut anywhere, whose whole records are taken as soon as they are there.
+/// How many bytes tell the format.
+const MAGIC: usize = 4;
+
+/// A capture that comes in pieces, cut anywhere, whose format its first four bytes tell.
+#[derive(Drop)]
 pub struct Sieve {
     alloc: Global,
-    /// The file's header, or what is wrong with it so far.
-    header: Result<Header, CaptureFault>,
-    /// The bytes that were not taken yet: of the file's header, or of a record.
-    part: Vec<u8>,
-    /// Whether they begin with a record that is too long.
-    long: bool,
+    /// The first bytes, up to the end of the piece that told the format.
+    front: Vec<u8>,
+    format: Format,
 }
 
-// By hand, so that the proofs of its owners have one call and not a drop of each part.
-impl Drop for Sieve {
-    fn drop(self) {
-        let Sieve {
-            alloc: _,
-            header: _,
-            part: _,
-            long: _,
-        } = self;
-    }
+/// The format of a capture, and what was taken of it.
+#[derive(Drop)]
+pub enum Format {
+    /// Fewer than four bytes have come.
+    Unknown,
+    Savefile(RecordSieve),
+    Pcapng(BlockSieve),
 }
 
 impl Sieve {
@@ -41,14 +41,12 @@ impl Sieve {
     {
         Sieve {
             alloc,
-            header: Err(CaptureFault::TruncatedHeader),
-            part: Vec::new(alloc),
-            long: false,
+            front: Vec::new(alloc),
+            format: Format::Unknown,
         }
     }
 
-    /// Takes the next piece, and appends what is kept of it: the file's header, and of the records that are whole then those
-    /// that are kept.
+    /// Takes the next piece, and appends what is kept of it. All pieces together have fewer than 2^64 bytes.
     pub fn piece(
         &mut self,
         program: &Predecoded,
@@ -56,37 +54,38 @@ impl Sieve {
         piece: &[u8],
         kept: &mut Vec<u8>,
     ) -> Result<(), AllocError>
-        ensures { OnOk result (Sifts program.now inverted piece.now self.old self.new kept.old.items kept.new.items) }
+        ensures { OnOk result (Sifts (HasSifted program.now inverted) piece.now self.old self.new kept.old.items kept.new.items) }
     {
-        self.part.extend_from_slice(piece)?;
-        match self.header {
-            Ok(header) => {
-                self.long = take_records(program, inverted, header.big, &mut self.part, kept)?;
-                Ok(())
-            }
-            Err(_) => self.open(program, inverted, kept),
+        match &mut self.format {
+            Format::Unknown => self.begin(program, inverted, piece, kept),
+            Format::Savefile(sieve) => sieve.piece(program, inverted, piece, kept),
+            Format::Pcapng(sieve) => sieve.piece(program, inverted, piece, kept),
         }
     }
 
-    /// Reads the file's header, once it is whole, keeps it, and takes the records behind it.
-    fn open(
+    /// Takes the next piece of a capture whose format wasn't told before.
+    fn begin(
         &mut self,
         program: &Predecoded,
         inverted: bool,
+        piece: &[u8],
         kept: &mut Vec<u8>,
     ) -> Result<(), AllocError>
-        ensures { OnOk result (Opens program.now inverted self.old.part.items self.new kept.old.items kept.new.items) }
+        requires { self.old.format ≡ Format.Unknown }
+        ensures { OnOk result (Begins program.now inverted (self.old.front.items ++ piece.now) self.new kept.old.items kept.new.items) }
     {
-        let front = self.part.len().min(FILE_HEADER);
-        match header_of(self.alloc, &self.part[..front])? {
-            Err(fault) => self.header = Err(fault),
-            Ok(header) => {
-                self.header = Ok(header);
-                let records = self.part.split_off(front)?;
-                kept.extend_from_slice(self.part.as_slice())?;
-                self.part = records;
-                self.long = take_records(program, inverted, header.big, &mut self.part, kept)?;
-            }
+        self.front.extend_from_slice(piece)?;
+        if self.front.len() < MAGIC {
+            return Ok(());
+        }
+        if is_pcapng(self.front.as_slice()) {
+            let mut sieve = BlockSieve::new(self.alloc);
+            sieve.piece(program, inverted, self.front.as_slice(), kept)?;
+            self.format = Format::Pcapng(sieve);
+        } else {
+            let mut sieve = RecordSieve::new(self.alloc);
+            sieve.piece(program, inverted, self.front.as_slice(), kept)?;
+            self.format = Format::Savefile(sieve);
         }
         Ok(())
     }
@@ -95,31 +94,23 @@ impl Sieve {
     pub fn has_stopped(&self) -> bool
         ensures { IsTrue result → HasStopped self.now }
     {
-        match self.header {
-            Ok(_) => self.long,
-            Err(CaptureFault::TruncatedHeader) => false,
-            Err(_) => true,
+        match &self.format {
+            Format::Unknown => false,
+            Format::Savefile(sieve) => sieve.has_stopped(),
+            Format::Pcapng(sieve) => sieve.has_stopped(),
         }
     }
 
     /// The fault of a capture that ends after so many bytes, if it has one.
-    pub fn ending(&self, taken: u64) -> Option<CaptureFault>
+    pub fn ending(&self, taken: u64) -> Option<ReadFault>
         ensures keeps { (program : List Insn) (inverted : Bool) (input text : List ℕ) → HasSifted program inverted input self.now text → taken ≡ length input
             → Keeps program inverted input result text }
         ensures stopped { HasStopped self.now → IsSome result }
     {
-        match self.header {
-            Err(fault) => Some(fault),
-            Ok(_) => {
-                let place = taken.saturating_sub(self.part.len() as u64);
-                if self.long {
-                    Some(CaptureFault::TooLong(place))
-                } else if self.part.is_empty() {
-                    None
-                } else {
-                    Some(CaptureFault::TruncatedRecord(place))
-                }
-            }
+        match &self.format {
+            Format::Unknown => Some(ReadFault::Savefile(SavefileFault::TruncatedHeader)),
+            Format::Savefile(sieve) => Some(ReadFault::Savefile(sieve.ending(taken)?)),
+            Format::Pcapng(sieve) => Some(ReadFault::Pcapng(sieve.ending()?)),
         }
     }
 }

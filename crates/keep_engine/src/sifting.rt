@@ -1,14 +1,11 @@
 //! Whole records, of which some are kept.
 
-ghost use Rattle.std.specs.Prelude.{◌≡◌, IfOk, OnOk};
-ghost use Rattle.filter_vm.specs.declared.machine.Outcome.{Outcome as Ended};
-ghost use Rattle.keep_engine.specs.Keeping.{is_kept};
-ghost use Rattle.keep_engine.specs.Sieving.{IsLeft, KeepsOne, TakesRecords, TakesTo};
+ghost use Rattle.std.specs.Prelude.{◌≡◌, ◌++◌, [], IfOk, OnOk};
+ghost use Rattle.keep_engine.specs.Sieving.{IsLeft, TakesRecords, TakesTo};
 
-use crate::front::{Front, front_of};
+use crate::choice::keep_one;
 use filter_predecode::Predecoded;
-use filter_vm::Outcome;
-use pcap_reader::Seen;
+use savefile_front::{Front, front_of, length_of};
 use std::alloc::AllocError;
 
 /// How far bytes were taken.
@@ -18,6 +15,88 @@ pub struct Taken {
     pub count: usize,
     /// Whether a record comes next that is too long.
     pub long: bool,
+}
+
+/// Takes the whole records off the front of a part of a record and a piece behind it, and appends those that are kept. What is left
+/// is the new part. True where a record comes next that is too long.
+///
+/// Of the piece what belongs to a record that was cut is copied, and no more.
+pub fn take_piece(
+    program: &Predecoded,
+    inverted: bool,
+    big: bool,
+    part: &mut Vec<u8>,
+    piece: &[u8],
+    kept: &mut Vec<u8>,
+) -> Result<bool, AllocError>
+    ensures takes { OnOk result (TakesRecords program.now inverted big (part.old.items ++ piece.now) part.new.items kept.old.items kept.new.items) }
+    ensures left { IfOk result (λ long. IsLeft big long part.new.items) }
+{
+    let rest = complete(big, part, piece)?;
+    take_whole(program, inverted, big, part, kept)?;
+    if part.is_empty() {
+        return take_in_place(program, inverted, big, part, rest, kept);
+    }
+    part.extend_from_slice(rest)?;
+    take_records(program, inverted, big, part, kept)
+}
+
+/// Moves bytes off the front of a piece to a part of a record, up to the record's end, and answers the rest.
+fn complete<'p>(big: bool, part: &mut Vec<u8>, piece: &'p [u8]) -> Result<&'p [u8], AllocError>
+    ensures { IfOk result (λ rest. part.old.items ++ piece.now ≡ part.new.items ++ rest.now) }
+{
+    if part.is_empty() {
+        return Ok(piece);
+    }
+    let rest = grow(part, length_of(big, part.as_slice()), piece)?;
+    grow(part, length_of(big, part.as_slice()), rest)
+}
+
+/// Moves bytes off the front of a piece to a part, until that has so many, and answers the rest.
+fn grow<'p>(part: &mut Vec<u8>, length: usize, piece: &'p [u8]) -> Result<&'p [u8], AllocError>
+    ensures { IfOk result (λ rest. part.old.items ++ piece.now ≡ part.new.items ++ rest.now) }
+{
+    let count = length.saturating_sub(part.len()).min(piece.len());
+    part.extend_from_slice(&piece[..count])?;
+    Ok(&piece[count..])
+}
+
+/// Takes the record that a part has become, if it is whole.
+fn take_whole(
+    program: &Predecoded,
+    inverted: bool,
+    big: bool,
+    part: &mut Vec<u8>,
+    kept: &mut Vec<u8>,
+) -> Result<(), AllocError>
+    ensures { OnOk result (TakesRecords program.now inverted big part.old.items part.new.items kept.old.items kept.new.items) }
+{
+    match front_of(big, part.as_slice()) {
+        Front::Record { length, packet } if length == part.len() => {
+            keep_one(program, inverted, packet, part.as_slice(), kept)?;
+            part.clear();
+            Ok(())
+        }
+        _ => Ok(()),
+    }
+}
+
+/// The same as `take_piece` where there is no part yet.
+fn take_in_place(
+    program: &Predecoded,
+    inverted: bool,
+    big: bool,
+    part: &mut Vec<u8>,
+    piece: &[u8],
+    kept: &mut Vec<u8>,
+) -> Result<bool, AllocError>
+    requires { part.old.items ≡ [] }
+    ensures takes { OnOk result (TakesRecords program.now inverted big piece.now part.new.items kept.old.items kept.new.items) }
+    ensures left { IfOk result (λ long. IsLeft big long part.new.items) }
+{
+    let taken = sift(program, inverted, big, piece, kept)?;
+    part.extend_from_slice(&piece[taken.count..])?;
+    Ok(taken.long)
 }
 
 /// Takes the whole records off the front of a part of a capture, and appends those that are kept. True where a record comes next
@@ -61,33 +140,5 @@ fn sift(
             Front::Part => return Ok(Taken { count, long: false }),
             Front::TooLong => return Ok(Taken { count, long: true }),
         }
-    }
-}
-
-/// Runs the filter on the packet of a record, and appends the record if it is kept.
-fn keep_one(
-    program: &Predecoded,
-    inverted: bool,
-    packet: Seen,
-    bytes: &[u8],
-    kept: &mut Vec<u8>,
-) -> Result<(), AllocError>
-    ensures { OnOk result (KeepsOne program.now inverted packet.entry bytes.now kept.old.items kept.new.items) }
-{
-    let outcome = program.run(packet.bytes, packet.original);
-    if is_kept(inverted, outcome) {
-        kept.extend_from_slice(bytes)?;
-    }
-    Ok(())
-}
-
-/// Whether a packet with this outcome is kept.
-fn is_kept(inverted: bool, outcome: Outcome) -> bool
-    ensures { result ≡ is_kept inverted outcome }
-{
-    if inverted {
-        outcome.verdict == 0
-    } else {
-        outcome.verdict > 0
     }
 }

@@ -6,4 +6,6 @@ mod blocks;
 #[cfg(test)]
 mod facts;
 #[cfg(test)]
+mod kept;
+#[cfg(test)]
 mod stamps;

@@ -1,19 +1,10 @@
-use Rattle.std.proofs.Common.{arith, sym, vec_len}
-use Rattle.pcap_reader.proofs.FeedLemmas.{none_left}
-use Rattle.keep_engine.proofs.SieveLemmas.{ends_long, ends_whole, ends_within}
+use Rattle.std.proofs.Common.{Some, refl}
+use Rattle.keep_engine.proofs.SieveLemmas.{ends_blocks, ends_unknown}
 use Rattle.keep_engine.proofs.sieve.Sieve.ending.Goals as goal
 
-pub returns-then-self-clause-keeps : goal.returns-then-self-clause-keeps
-returns-then-self-clause-keeps c program inverted input text has count =
-    ends_long program inverted input c.args.self.now.header c.in-Ok.field-0 _ c.args.self.now.part.items text c.args.taken c.len.result c.saturating_sub-place.result c.in-Ok.is count
-    (omega (arith, c.len.ensures, c.args.self.now.part.ok.0)) c.saturating_sub-place.ensures c.if-self.true has
+pub returns-in-Unknown-clause-keeps : goal.returns-in-Unknown-clause-keeps
+returns-in-Unknown-clause-keeps c program inverted input text has count = ends_unknown program inverted input text c.args.self.now c.in-Unknown.is has
 
-pub returns-then-is_empty-clause-keeps : goal.returns-then-is_empty-clause-keeps
-returns-then-is_empty-clause-keeps c program inverted input text has count =
-    ends_whole program inverted input c.args.self.now.header c.in-Ok.field-0 _ c.args.self.now.part.items text c.in-Ok.is
-    (none_left c.args.self.now.part.items (vec_len c.args.self.now.part) c.is_empty.result (omega (arith, c.args.self.now.part.ok.0)) c.is_empty.ensures c.if-is_empty.true) has
-
-pub returns-else-is_empty-clause-keeps : goal.returns-else-is_empty-clause-keeps
-returns-else-is_empty-clause-keeps c program inverted input text has count =
-    ends_within program inverted input c.args.self.now.header c.in-Ok.field-0 _ c.args.self.now.part.items text c.args.taken c.len.result (vec_len c.args.self.now.part) c.saturating_sub-place.result c.in-Ok.is count
-    (omega (arith, c.len.ensures, c.args.self.now.part.ok.0)) c.saturating_sub-place.ensures c.if-self.false (omega (arith, c.args.self.now.part.ok.0)) (sym c.if-is_empty.ensures) has
+pub returns-in_ok-ending-in-Pcapng-clause-keeps : goal.returns-in_ok-ending-in-Pcapng-clause-keeps
+returns-in_ok-ending-in-Pcapng-clause-keeps c program inverted input text has count =
+    ends_blocks program inverted input text c.args.self.now c.in-Pcapng.sieve (Some c.in_ok-ending-in-Pcapng.field-0) _ c.in-Pcapng.is refl (c.in_ok-ending-in-Pcapng.ensures.keeps program inverted input text) has

@@ -1,10 +1,14 @@
 use Rattle.std.proofs.Common.{refl}
-use Rattle.keep_engine.proofs.SieveLemmas.{on_opened, piece_taken}
+use Rattle.keep_engine.specs.declared.sieve.Format.TheVariants.{Savefile, Pcapng}
+use Rattle.keep_engine.proofs.SieveLemmas.{blocks_sift, savefile_sifts}
 use Rattle.keep_engine.proofs.sieve.Sieve.piece.Goals as goal
 
-pub returns-in_ok-self-in-Ok : goal.returns-in_ok-self-in-Ok
-returns-in_ok-self-in-Ok c =
-    piece_taken _ _ _ c.args.self.now _ c.in-Ok.header _ _ c.in-Ok.is refl (rw c.in_ok-extend_from_slice.ensures.items at c.in_ok-self-in-Ok.ensures.takes) c.in_ok-self-in-Ok.ensures.left
+pub returns-in-Savefile : goal.returns-in-Savefile
+returns-in-Savefile c =
+    savefile_sifts c.piece.result c.args.program.now c.args.inverted c.args.piece.now c.args.self.now (record { alloc = c.args.self.now.alloc; front = c.args.self.now.front; format = Savefile c.piece.new.self }) c.in-Savefile.sieve c.piece.new.self _ _
+    c.in-Savefile.is refl c.piece.ensures
 
-pub returns-in-Err : goal.returns-in-Err
-returns-in-Err c = on_opened c.open.result _ _ _ _ c.args.self.now _ c.in-Err.field-0 _ _ c.in-Err.is c.in_ok-extend_from_slice.ensures.items c.open.ensures
+pub returns-in-Pcapng : goal.returns-in-Pcapng
+returns-in-Pcapng c =
+    blocks_sift c.piece-in-Pcapng.result c.args.program.now c.args.inverted c.args.piece.now c.args.self.now (record { alloc = c.args.self.now.alloc; front = c.args.self.now.front; format = Pcapng c.piece-in-Pcapng.new.self }) c.in-Pcapng.sieve
+    c.piece-in-Pcapng.new.self _ _ c.in-Pcapng.is refl c.piece-in-Pcapng.ensures

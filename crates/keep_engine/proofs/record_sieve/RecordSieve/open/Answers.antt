@@ -1,6 +1,6 @@
 use Rattle.std.proofs.Common.{arith, refl}
-use Rattle.keep_engine.proofs.HeaderLemmas.{wrong_front}
-use Rattle.keep_engine.proofs.sieve.Sieve.open.Goals as goal
+use Rattle.savefile_front.proofs.HeaderLemmas.{wrong_front}
+use Rattle.keep_engine.proofs.record_sieve.RecordSieve.open.Goals as goal
 
 pub returns-in-Err : goal.returns-in-Err
 returns-in-Err c = (
