@@ -254,6 +254,157 @@ static void opens(void)
     CHECK(!strcmp(mkdemux_rule_name(MKDEMUX_NO_MEMORY), "NoMemory"));
 }
 
+/* ---- Captures ---- */
+
+/* A savefile with the high byte first and nanoseconds: a packet of three bytes of 60, and one of none. */
+static const uint8_t savefile[] = {
+    0xa1, 0xb2, 0x3c, 0x4d, 0, 2, 0, 4, 0, 0, 0, 0, 0, 0, 0, 0, 0, 4, 0, 0, 0, 0, 0, 1, 0, 0, 0, 1, 0, 0, 0, 5, 0, 0, 0, 3,
+    0, 0, 0, 0x3c, 0x0a, 0x14, 0x1e, 0, 0, 0, 2, 0, 0, 0, 0, 0, 0, 0, 0, 0, 0, 0, 0};
+
+/* pcapng: a section with the low byte first, an interface of Ethernet, an enhanced packet of three bytes of 60 at 2^32 + 2
+ * microseconds, statistics; then a section with the high byte first, an interface of link type 101 that takes two bytes of a packet,
+ * with nanoseconds, and a simple packet of two bytes of 60. */
+static const uint8_t blocks[] = {
+    0x0a, 0x0d, 0x0d, 0x0a, 0x1c, 0, 0, 0, 0x4d, 0x3c, 0x2b, 0x1a, 1, 0, 0, 0, 0xff, 0xff, 0xff, 0xff, 0xff, 0xff, 0xff,
+    0xff, 0x1c, 0, 0, 0, 1, 0, 0, 0, 0x14, 0, 0, 0, 1, 0, 0, 0, 0, 0, 4, 0, 0x14, 0, 0, 0, 6, 0, 0, 0, 0x24, 0, 0, 0, 0, 0,
+    0, 0, 1, 0, 0, 0, 2, 0, 0, 0, 3, 0, 0, 0, 0x3c, 0, 0, 0, 0x0a, 0x14, 0x1e, 0, 0x24, 0, 0, 0, 5, 0, 0, 0, 0x0c, 0, 0, 0,
+    0x0c, 0, 0, 0, 0x0a, 0x0d, 0x0d, 0x0a, 0, 0, 0, 0x1c, 0x1a, 0x2b, 0x3c, 0x4d, 0, 1, 0, 0, 0xff, 0xff, 0xff, 0xff, 0xff,
+    0xff, 0xff, 0xff, 0, 0, 0, 0x1c, 0, 0, 0, 1, 0, 0, 0, 0x20, 0, 0x65, 0, 0, 0, 0, 0, 2, 0, 9, 0, 1, 9, 0, 0, 0, 0, 0, 0,
+    0, 0, 0, 0, 0x20, 0, 0, 0, 3, 0, 0, 0, 0x14, 0, 0, 0, 0x3c, 0x28, 0x32, 0, 0, 0, 0, 0, 0x14};
+
+/* Where its blocks end. */
+static const size_t ends[] = {28, 48, 84, 96, 124, 156, 176};
+
+/* A capture with room for two interfaces, and what was taken of it last. */
+struct captured {
+    struct mkdemux_capture capture;
+    struct mkdemux_interface interfaces[2];
+    struct mkdemux_item item;
+};
+
+/* Takes what is next of these bytes, from where the capture stands. */
+static uint32_t next(struct captured *of, const uint8_t *bytes, size_t length)
+{
+    return mkdemux_next(&of->capture, of->interfaces, 2, bytes + of->capture.offset, length - (size_t)of->capture.offset, &of->item);
+}
+
+/* Whether nothing was taken and nothing changed. */
+static int is_left(const struct captured *of, const struct captured *before)
+{
+    return of->item.taken == 0 && !memcmp(&of->capture, &before->capture, sizeof of->capture) &&
+        !memcmp(of->interfaces, before->interfaces, sizeof of->interfaces);
+}
+
+/* Goes over bytes, and answers why it ends. Each packet lies in them. */
+static uint32_t go_over(const uint8_t *bytes, size_t length, unsigned *packets)
+{
+    struct captured of;
+    uint32_t answer;
+    memset(&of, 0, sizeof of);
+    *packets = 0;
+    for (;;) {
+        const uint64_t at = of.capture.offset;
+        answer = next(&of, bytes, length);
+        if (answer > MKDEMUX_PACKET) return answer;
+        *packets += answer == MKDEMUX_PACKET;
+        if (of.item.taken == 0 || of.capture.offset != at + of.item.taken || of.capture.offset > length ||
+            of.item.start + of.item.captured > of.item.taken) {
+            CHECK(!"a step within the bytes");
+            return MKDEMUX_NO_MEMORY;
+        }
+    }
+}
+
+static void reads_savefile(void)
+{
+    struct captured of, before;
+    unsigned packets;
+    size_t n;
+    memset(&of, 0, sizeof of);
+    CHECK(next(&of, savefile, sizeof savefile) == MKDEMUX_PASSED && of.item.taken == 24);
+    CHECK(of.capture.format == MKDEMUX_SAVEFILE && of.capture.big == 1 && of.capture.nano == 1 && of.capture.link == 1);
+    CHECK(next(&of, savefile, sizeof savefile) == MKDEMUX_PACKET && of.item.taken == 19 && of.item.start == 16);
+    CHECK(of.item.captured == 3 && of.item.original == 60 && of.item.link == 1 && of.item.interface == 0);
+    CHECK(of.item.timed == 1 && of.item.units == 1000000005 && of.item.resolution == 9 && of.item.offset == 0);
+    CHECK(next(&of, savefile, sizeof savefile) == MKDEMUX_PACKET && of.item.captured == 0 && of.item.original == 0);
+    before = of;
+    CHECK(next(&of, savefile, sizeof savefile) == MKDEMUX_MORE && is_left(&of, &before));
+    CHECK(mkdemux_capture_cut(&of.capture, NULL, 0) == NULL);
+    for (n = 0; n < sizeof savefile; n++) {
+        CHECK(go_over(savefile, n, &packets) == MKDEMUX_MORE);
+        CHECK(packets == (unsigned)(n >= 43));
+    }
+}
+
+static void reads_blocks(void)
+{
+    struct captured of, before;
+    unsigned packets;
+    size_t n, i;
+    memset(&of, 0, sizeof of);
+    for (i = 0; i < COUNT(ends); i++) {
+        const uint64_t at = of.capture.offset;
+        before = of;
+        for (n = (size_t)at; n < ends[i]; n++)
+            CHECK(next(&of, blocks, n) == MKDEMUX_MORE && is_left(&of, &before));
+        CHECK(next(&of, blocks, sizeof blocks) == (i == 2 || i == 6 ? MKDEMUX_PACKET : MKDEMUX_PASSED));
+        CHECK(of.capture.offset == ends[i] && of.item.taken == ends[i] - at && of.capture.format == MKDEMUX_PCAPNG);
+        CHECK(of.capture.big == (uint32_t)(i > 3) && of.capture.sections == (i > 3 ? 2u : 1u));
+        CHECK(of.capture.interfaces == (uint32_t)((i > 0 && i < 4) || i > 4));
+        if (i == 2) {
+            CHECK(of.item.start == 28 && of.item.captured == 3 && of.item.original == 60 && of.item.link == 1);
+            CHECK(of.item.timed == 1 && of.item.units == 4294967298u && of.item.resolution == 6 && of.item.offset == 0);
+        }
+        if (i == 6) {
+            CHECK(of.item.start == 12 && of.item.captured == 2 && of.item.original == 60 && of.item.link == 101);
+            CHECK(of.item.timed == 0);
+        }
+    }
+    CHECK(of.interfaces[0].link == 101 && of.interfaces[0].snaplen == 2 && of.interfaces[0].resolution == 9);
+    CHECK(of.interfaces[0].offset == 0);
+    CHECK(next(&of, blocks, sizeof blocks) == MKDEMUX_MORE && mkdemux_capture_cut(&of.capture, NULL, 0) == NULL);
+    CHECK(go_over(blocks, sizeof blocks, &packets) == MKDEMUX_MORE && packets == 2);
+}
+
+static uint32_t first_answer(const uint8_t *bytes, size_t length)
+{
+    struct captured of;
+    memset(&of, 0, sizeof of);
+    return next(&of, bytes, length);
+}
+
+static void refuses_captures(void)
+{
+    static const uint8_t hello[] = {'h', 'e', 'l', 'l', 'o'};
+    uint8_t changed[sizeof blocks];
+    struct captured of, before;
+    unsigned packets, value;
+    size_t i;
+    CHECK(first_answer(hello, 3) == MKDEMUX_MORE && first_answer(hello, 5) == MKDEMUX_CAPTURE_BAD_MAGIC);
+    memset(&of, 0, sizeof of);
+    CHECK(mkdemux_next(&of.capture, NULL, 0, blocks, sizeof blocks, &of.item) == MKDEMUX_PASSED);
+    before = of;
+    CHECK(mkdemux_next(&of.capture, NULL, 0, blocks + 28, sizeof blocks - 28, &of.item) == MKDEMUX_NO_ROOM && is_left(&of, &before));
+    CHECK(next(&of, blocks, sizeof blocks) == MKDEMUX_PASSED && of.capture.interfaces == 1);
+    memset(&of, 0, sizeof of);
+    CHECK(!strcmp(mkdemux_capture_cut(&of.capture, hello, 5), "TruncatedHeader"));
+    CHECK(!strcmp(mkdemux_capture_cut(&of.capture, blocks, 5), "Truncated"));
+    CHECK(!strcmp(mkdemux_capture_fault_name(MKDEMUX_CAPTURE_NO_SECTION), "NoSection"));
+    CHECK(!strcmp(mkdemux_capture_fault_name(MKDEMUX_CAPTURE_BAD_MAGIC), "BadMagic"));
+    /* each byte changed in each way: what was whole before it is read, and each packet lies in the bytes */
+    for (i = 0; i < sizeof blocks; i++) {
+        for (value = 0; value < 256; value++) {
+            memcpy(changed, blocks, sizeof blocks);
+            changed[i] = (uint8_t)value;
+            go_over(changed, sizeof changed, &packets);
+            if (i >= 84) CHECK(packets >= 1);
+        }
+    }
+    memcpy(changed, blocks, sizeof blocks);
+    changed[56] = 1;
+    CHECK(go_over(changed, sizeof changed, &packets) == MKDEMUX_CAPTURE_NO_INTERFACE && packets == 0);
+}
+
 /* Begins to count allocations, of which one is to fail. */
 static void let_fail(unsigned long number)
 {
@@ -314,7 +465,17 @@ static void runs_out(void)
         CHECK(more ? written.fault == MKDEMUX_NO_MEMORY && written.length == 0 && text[0] == '?' : !written.fault);
         refusals += (unsigned)more;
     }
-    CHECK(refusals >= 8);
+    for (n = 1, more = 1; more; n++) {
+        struct captured of, before;
+        memset(&of, 0, sizeof of);
+        before = of;
+        let_fail(n);
+        rule = next(&of, savefile, sizeof savefile);
+        more = has_failed();
+        CHECK(more ? rule == MKDEMUX_NO_MEMORY && is_left(&of, &before) : rule == MKDEMUX_PASSED);
+        refusals += (unsigned)more;
+    }
+    CHECK(refusals >= 9);
 }
 
 int main(void)
@@ -325,6 +486,9 @@ int main(void)
     assembles();
     writes();
     opens();
+    reads_savefile();
+    reads_blocks();
+    refuses_captures();
     runs_out();
     printf("%d checks passed, %d failed\n", passed, failed);
     return failed != 0;

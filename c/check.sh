@@ -147,6 +147,38 @@ shows_page() {
         "$made/page" $frames arp > "$made/shown" && [ "$(wc -l < "$made/shown")" -eq 2 ]
 }
 
+# OUT CAPTURE CODE: each front of the capture ends with a fault, or shows the first packets of those that the file OUT has.
+shows_fronts() {
+    size=$(wc -c < "$2")
+    while [ "$size" -gt 0 ]; do
+        size=$((size - 1))
+        head -c "$size" "$2" > "$made/front"
+        "$made/pcapgrep" "$made/front" "$3" > "$made/shown" 2> /dev/null
+        status=$?
+        { [ $status -eq 0 ] || [ $status -eq 2 ]; } && grep "^packet " "$made/shown" > "$made/packets"
+        head -n "$(wc -l < "$made/packets")" "$1" | cmp - "$made/packets" || return 1
+    done
+}
+
+try_captures() {
+    try "pcapgrep.c without a warning" build pcapgrep mkdemux
+    arp=$(cat ../bench/filters/arp.ddd)
+    port80=$(cat ../bench/filters/port80.ddd)
+    for capture in $frames frames.pcapng; do
+        kind=${capture##*.}
+        try "pcapgrep, $kind, arp" writes pcapgrep-arp.out "$made/pcapgrep" $capture "$arp"
+        try "pcapgrep, $kind, tcp dst port 80" writes pcapgrep-port80.out "$made/pcapgrep" $capture "$port80"
+        try "pcapgrep, each front of $kind" shows_fronts pcapgrep-arp.out $capture "$arp"
+        [ -z "$watch" ] || try "pcapgrep, $kind, under valgrind" writes pcapgrep-arp.out $watch "$made/pcapgrep" $capture "$arp"
+    done
+    if command -v editcap > /dev/null; then
+        try "editcap -F pcapng" editcap -F pcapng $frames "$made/frames.pcapng"
+        try "pcapgrep, what editcap wrote" writes pcapgrep-arp.out "$made/pcapgrep" "$made/frames.pcapng" "$arp"
+    else
+        echo "skipped: pcapgrep on what editcap writes: editcap isn't there"
+    fi
+}
+
 try_mkdemux() {
     cmp mkdemux.h "$folder/include/mkdemux.h" > /dev/null || echo "note: $folder/include/mkdemux.h isn't c/mkdemux.h"
     accepts_both mkdemux
@@ -155,20 +187,18 @@ try_mkdemux() {
     try "calls.c without a warning" build calls mkdemux -Wl,--wrap=malloc,--wrap=realloc
     try "each call, and each allocation refused" "$made/calls"
     [ -z "$watch" ] || try "calls under valgrind" $watch "$made/calls"
+    try_captures
     if [ -z "$pcap" ]; then
-        echo "skipped: pcapgrep.c, difference.c, bench.c: no libpcap"
+        echo "skipped: difference.c, bench.c: no libpcap"
         return
     fi
-    for program in pcapgrep difference bench; do
+    for program in difference bench; do
         try "$program.c without a warning" build $program mkdemux $pcap
     done
     try "the first program of docs/c-library.md" shows_page
-    try "pcapgrep, arp" writes pcapgrep-arp.out "$made/pcapgrep" $frames arp
-    try "pcapgrep, tcp dst port 80" writes pcapgrep-port80.out "$made/pcapgrep" $frames 'tcp dst port 80'
     try "1,000,000 random programs beside libpcap" "$made/difference" 1000000 1
     try "the verdicts of bench/filters beside libpcap" "$made/bench" -n 1 ../bench/filters/*.ddd
     if [ -n "$watch" ]; then
-        try "pcapgrep under valgrind" writes pcapgrep-arp.out $watch "$made/pcapgrep" $frames arp
         try "difference under valgrind" $watch "$made/difference" 5000 2
         try "bench under valgrind" $watch "$made/bench" -n 1 ../bench/filters/arp.ddd
     fi

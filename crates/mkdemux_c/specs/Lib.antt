@@ -1,3 +1,4 @@
+pub mod Captures
 pub mod Rooms
 pub mod Refusals
 pub mod Readings
