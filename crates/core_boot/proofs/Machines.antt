@@ -10,6 +10,7 @@ use Rattle.filter_table.specs.declared.operation.Op.{Op}
 use Rattle.filter_table.specs.Tables.{HasShortProgram}
 use Rattle.rx_queue.specs.declared.port.Port.{Port}
 use Rattle.core_links.specs.declared.ring_links.RingLinks.{RingLinks}
+use Rattle.core_links.specs.Flows.{HoldLines}
 use Rattle.core_links.specs.RingSlots.{own_of, link_to, AreJoinedLinks}
 use Rattle.core_loop.specs.Cores.{AreShort}
 use Rattle.core_join.specs.Machines.{RingCore, HasPlace, IsMachine}
@@ -121,6 +122,7 @@ is_machine (b ∷ bs) lanes (first ∷ others) (c ∷ cs) ports some wired long_
           record {
             place = place_of (suc i) (suc (length bs)) b' f.link f.lane.items d f.port up' w.own;
             joined = subst (λ (x : RingLinks). AreJoinedLinks x d.links) links0 (subst (λ (x : RingLinks). AreJoinedLinks first x) (sym f.up.links_are) w.joined);
+            holds = subst (λ (x : RingLinks). HoldLines x d.links) links0 (subst (λ (x : RingLinks). HoldLines first x) (sym f.up.links_are) w.holds);
             no_other = λ entry. subst (λ (x : RingLinks). link_to x (suc entry) ≡ None) (sym f.up.links_are) (w.no_other entry);
           };
     }

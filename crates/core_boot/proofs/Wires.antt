@@ -1,12 +1,13 @@
 -- One more core is joined to core 0.
-use Rattle.std.proofs.Common.{◌≡◌, ◌≢◌, ◌+◌, inl, inr, ℕ, suc, List, [], ◌∷◌, ◌++◌, length, Option, Some, None, slice_get, refl, sym, ap, ◌∙◌, subst, arith, length-append}
+use Rattle.std.proofs.Common.{◌≡◌, ◌≢◌, ◌+◌, ◌≤◌, inl, inr, ℕ, suc, List, [], ◌∷◌, ◌++◌, length, Option, Some, None, slice_get, refl, sym, ap, ◌∙◌, subst, arith, length-append}
 use Rattle.world_model.proofs.Lists.{get_more, same_or_not}
 use Rattle.core_links.specs.declared.ring_links.Link.{Link}
 use Rattle.core_links.specs.declared.ring_links.RingLinks.{RingLinks}
 use Rattle.core_links.specs.RingSlots.{own_of, cores_of, link_to, link_view, ring_view, AreJoinedSlots, AreJoinedLinks}
 use Rattle.core_links.specs.Slots.{place_view}
-use Rattle.ump_ring.specs.Senders.{messages_offered}
+use Rattle.ump_ring.specs.Senders.{messages_offered, sender_capacity}
 use Rattle.ump_ring.specs.Receivers.{messages_taken}
+use Rattle.core_links.specs.Flows.{HoldLines, place_capacity, ring_capacity}
 use Rattle.core_loop.specs.Standing.{IsSilent}
 use Rattle.core_boot.specs.Wiring.{AreSilent, IsWired, AreWired}
 
@@ -27,10 +28,22 @@ still_joined first first' other own same joined =
     subst (λ (n : ℕ). AreJoinedSlots (link_to first' (own_of other)) (link_to other n)) (sym own)
     (subst (λ (o : Option Link). AreJoinedSlots o (link_to other (own_of first))) (sym same) joined)
 
+-- nor what its rings hold
+still_holds : (first first' other : RingLinks) → own_of first' ≡ own_of first → link_to first' (own_of other) ≡ link_to first (own_of other) → HoldLines first other → HoldLines first' other
+still_holds first first' other own same h =
+    (subst (λ (o : Option Link). 1 ≤ place_capacity o) (sym same) h.0, subst (λ (n : ℕ). 1 ≤ ring_capacity other n) (sym own) h.1)
+
+-- the rings that were joined hold what they were made for
+pub holding : (first other : RingLinks) (a b : Link) → link_to first (own_of other) ≡ Some a → link_to other (own_of first) ≡ Some b → sender_capacity a.sender ≡ 64 → sender_capacity b.sender ≡ 64 → HoldLines first other
+holding first other a b at_a at_b is_a is_b = (
+  subst (λ (o : Option Link). 1 ≤ place_capacity o) (sym at_a) (omega (arith, is_a)),
+  subst (λ (o : Option Link). 1 ≤ place_capacity o) (sym at_b) (omega (arith, is_b)),
+)
+
 pub wired_more : (cores peer : ℕ) (first first' other : RingLinks) (others others' : List RingLinks) → AreWired cores peer first others
     → own_of first' ≡ own_of first → cores_of first' ≡ cores_of first → ((p : ℕ) → p ≢ peer → link_to first' p ≡ link_to first p) → IsSilent (ring_view first' peer)
-    → own_of other ≡ peer → AreSilent other → AreJoinedLinks first' other → ((entry : ℕ) → link_to other (suc entry) ≡ None) → others' ≡ others ++ other ∷ [] → AreWired cores (peer + 1) first' others'
-wired_more cores peer first first' other others others' was own room same silent its_own its_silent joined no_other pushed = record {
+    → own_of other ≡ peer → AreSilent other → AreJoinedLinks first' other → HoldLines first' other → ((entry : ℕ) → link_to other (suc entry) ≡ None) → others' ≡ others ++ other ∷ [] → AreWired cores (peer + 1) first' others'
+wired_more cores peer first first' other others others' was own room same silent its_own its_silent joined holds no_other pushed = record {
   own = own ∙ was.own;
   room = room ∙ was.room;
   count = ap (λ (l : List RingLinks). length l + 1) pushed ∙ omega (arith, length-append others (other ∷ []), was.count);
@@ -46,12 +59,13 @@ wired_more cores peer first first' other others others' was own room same silent
     each_more : (i : ℕ) (l : RingLinks) → slice_get (others ++ other ∷ []) i ≡ Some l → IsWired i first' l
     each_more i l at = elim (get_more others other l i at) [
       | inl last ↦ (let place : own_of other ≡ suc i = its_own ∙ omega (arith, was.count, last.0) in
-          subst (λ (x : RingLinks). IsWired i first' x) (sym last.1) (record { own = place; silent = its_silent; joined = joined; no_other = no_other }))
+          subst (λ (x : RingLinks). IsWired i first' x) (sym last.1) (record { own = place; silent = its_silent; joined = joined; holds = holds; no_other = no_other }))
       | inr old ↦ (let w = was.each i l old.1 in
           record {
             own = w.own;
             silent = w.silent;
             joined = still_joined first first' l own (same (own_of l) (λ e. absurd (omega (arith, e, w.own, was.count, old.0)))) w.joined;
+            holds = still_holds first first' l own (same (own_of l) (λ e. absurd (omega (arith, e, w.own, was.count, old.0)))) w.holds;
             no_other = w.no_other;
           })
     ]

@@ -2,17 +2,19 @@
 use Rattle.std.specs.Prelude.{◌≡◌, ◌≤◌, ◌+◌, ℕ, suc, List, [], ◌∷◌, length, Some, None, slice_get}
 use Rattle.core_links.specs.declared.ring_links.RingLinks.{RingLinks}
 use Rattle.core_links.specs.RingSlots.{own_of, cores_of, link_to, ring_view, AreJoinedLinks}
+use Rattle.core_links.specs.Flows.{HoldLines}
 use Rattle.core_loop.specs.Standing.{IsSilent}
 
 -- links over which nothing has gone
 abbrev pub AreSilent : RingLinks → Type 0
 AreSilent links = (p : ℕ) → IsSilent (ring_view links p)
 
--- the links of the other core with this entry, joined to those of core 0
+-- the links of the other core with this entry, joined to those of core 0 by rings that hold a line at least
 pub record IsWired (entry : ℕ) (first other : RingLinks) : Type 0 where
   pub own : own_of other ≡ suc entry
   pub silent : AreSilent other
   pub joined : AreJoinedLinks first other
+  pub holds : HoldLines first other
   pub no_other : (entry : ℕ) → link_to other (suc entry) ≡ None
 
 -- the links of core 0 among so many cores, joined to those of the other cores below this number

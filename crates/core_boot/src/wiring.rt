@@ -2,6 +2,7 @@
 
 ghost use Rattle.std.specs.Prelude.{◌≡◌, ◌≢◌, ◌<◌, ◌≤◌, ℕ, suc, None, IfOk};
 ghost use Rattle.core_links.specs.RingSlots.{own_of, cores_of, link_to, ring_view, AreJoinedLinks};
+ghost use Rattle.core_links.specs.Flows.{HoldLines};
 ghost use Rattle.core_loop.specs.Standing.{IsSilent};
 ghost use Rattle.core_boot.specs.Wiring.{AreSilent, IsWiring};
 
@@ -26,6 +27,7 @@ fn join_peer(
     ensures others { (p : ℕ) → p ≢ peer → link_to first.new p ≡ link_to first.old p }
     ensures silent { IfOk result (λ links. IsSilent (ring_view first.new peer) × AreSilent links) }
     ensures joined { IfOk result (λ links. (own_of links ≡ peer) × AreJoinedLinks first.new links) }
+    ensures holds { IfOk result (λ links. HoldLines first.new links) }
     ensures no_other { IfOk result (λ links. (entry : ℕ) → link_to links (suc entry) ≡ None) }
 {
     let (to_peer, from_first) = ring(alloc, RING_LINES)?;

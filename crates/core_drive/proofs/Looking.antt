@@ -11,77 +11,11 @@ use Rattle.core_loop.specs.Cores.{SameCore, begun}
 use Rattle.core_loop.specs.Answering.{decisions}
 use Rattle.core_join.specs.Machines.{RingCore}
 use Rattle.core_join.specs.Looking.{IsLookedAt, AreLookedAt}
-use Rattle.core_join.specs.Conclusions.{histories_of, StandsAtOther, IsIdle0, version_of_core, ShowsTable, AreRunning, Concludes}
+use Rattle.core_join.specs.Conclusions.{AreRunning, Conclude}
 use Rattle.core_drive.specs.declared.step.CoreStep.{CoreStep}
 use Rattle.core_drive.specs.declared.step.StepOutcome.{StepOutcome}
-use Rattle.core_drive.specs.Driving.{DrivesAt, AreDriven, Conclude}
-use Rattle.core_drive.proofs.Tasks.{same_itself, same_along}
-
-looked_same : (c d : RingCore) → IsLookedAt c d → SameCore SameLinks c d
-looked_same c d l = record {
-  number = ap (λ (x : RingCore). x.number) l.core;
-  cores = ap (λ (x : RingCore). x.cores) l.core;
-  budget = ap (λ (x : RingCore). (replica_of x.part).budget) l.core;
-  links = l.links;
-  intake = subst (λ (x : RingCore). SameIntake c.intake x.intake) (sym l.core) (same_itself c).intake;
-}
-
-histories_same : (cs ds : List RingCore) → AreLookedAt cs ds → histories_of ds ≡ histories_of cs
-histories_same [] [] l = refl
-histories_same [] (d ∷ ds) l = absurd (let e : suc (length ds) ≡ 0 = l.all in omega arith)
-histories_same (c ∷ cs) [] l = absurd (let e : 0 ≡ suc (length cs) = l.all in omega arith)
-histories_same (c ∷ cs) (d ∷ ds) l =
-    let first : d.history ≡ c.history = ap (λ (x : RingCore). x.history) (l.each 0 c d refl refl).core in
-    let rest = histories_same cs ds (record { all = (let e : suc (length ds) ≡ suc (length cs) = l.all in omega arith); each = λ i x y at at'. l.each (suc i) x y at at' }) in
-    rw (first, rest) refl
-
-other_along : (p q : Part) (m n : ℕ) (end : Other) → q ≡ p → n ≡ m → StandsAtOther p m end → StandsAtOther q n end
-other_along p q m n end e f h = rw (e, f) h
-
--- what holds of cores holds once they were looked at
-concludes_along : (budget : ℕ) (budgets : List ℕ) (c d : RingCore) (cs ds : List RingCore) → IsLookedAt c d → AreLookedAt cs ds → Concludes budget budgets c cs → Concludes budget budgets d ds
-concludes_along budget budgets c d cs ds first rest h = record {
-  end = h.end;
-  ends = h.ends;
-  computation = rw (history first, histories_same cs ds rest) h.computation;
-  right = rw (history first, histories_same cs ds rest) h.right;
-  ends0 = rw (part first, clock first) h.ends0;
-  ends_other = λ i y e at at'. let x = get_at cs i (omega (arith, slice_get_within ds i y at, rest.all)) in let l = rest.each i x.0 y x.1 at in other_along x.0.part y.part x.0.clock y.clock e (part l) (clock l) (h.ends_other i x.0 e x.1 at');
-  tables = λ i y at. let x = get_at (c ∷ cs) i (omega (arith, slice_get_within (d ∷ ds) i y at, rest.all)) in shows (look_of i x.0 y x.1 at) (h.tables i x.0 x.1);
-  newest = version first ∙ h.newest;
-  settled = λ idle i y at.
-      let x = get_at (c ∷ cs) i (omega (arith, slice_get_within (d ∷ ds) i y at, rest.all)) in
-      version (look_of i x.0 y x.1 at) ∙ h.settled (subst IsIdle0 (part first) idle) i x.0 x.1;
-  running = λ i y at.
-      let x = get_at (c ∷ cs) i (omega (arith, slice_get_within (d ∷ ds) i y at, rest.all)) in
-      stopped (look_of i x.0 y x.1 at) ∙ h.running i x.0 x.1;
-}
-  where
-    history : {x y : RingCore} → IsLookedAt x y → y.history ≡ x.history
-    history {x} {y} l = ap (λ (z : RingCore). z.history) l.core
-
-    part : {x y : RingCore} → IsLookedAt x y → y.part ≡ x.part
-    part {x} {y} l = ap (λ (z : RingCore). z.part) l.core
-
-    clock : {x y : RingCore} → IsLookedAt x y → y.clock ≡ x.clock
-    clock {x} {y} l = ap (λ (z : RingCore). z.clock) l.core
-
-    stopped : {x y : RingCore} → IsLookedAt x y → y.stopped ≡ x.stopped
-    stopped {x} {y} l = ap (λ (z : RingCore). z.stopped) l.core
-
-    version : {x y : RingCore} → IsLookedAt x y → version_of_core y ≡ version_of_core x
-    version {x} {y} l = ap version_of_core l.core
-
-    shows : {x y : RingCore} → IsLookedAt x y → ShowsTable h.end.log x → ShowsTable h.end.log y
-    shows {x} {y} l s = rw (part l) s
-
-    look_of : (i : ℕ) (x y : RingCore) → slice_get (c ∷ cs) i ≡ Some x → slice_get (d ∷ ds) i ≡ Some y → IsLookedAt x y
-    look_of zero x y at at' = let e : c ≡ x = cc in let f : d ≡ y = cc in subst (λ (z : RingCore). IsLookedAt z y) e (subst (λ (z : RingCore). IsLookedAt c z) f first)
-    look_of (suc i) x y at at' = rest.each i x y at at'
-
-pub concluded : (budget : ℕ) (budgets : List ℕ) (cores : List RingCore) (c d : RingCore) (cs ds : List RingCore) → cores ≡ c ∷ cs → IsLookedAt c d → AreLookedAt cs ds
-    → Concludes budget budgets c cs → Conclude budget budgets (d ∷ ds)
-concluded budget budgets cores c d cs ds is first rest h = concludes_along budget budgets c d cs ds first rest h
+use Rattle.core_drive.specs.Driving.{DrivesAt, AreDriven}
+use Rattle.core_join.proofs.Along.{looked_same, same_along}
 
 pub driven_looked : (steps : List CoreStep) (outcomes : List StepOutcome) (a b c : List RingCore) → AreDriven steps outcomes a b → AreLookedAt b c → AreDriven steps outcomes a c
 driven_looked steps outcomes a b c h l = record { answered = h.answered; all = l.all ∙ h.all; each = each }

@@ -23,28 +23,11 @@ use Rattle.core_loop.specs.Receiving.{HasReceived, receipt, version_now}
 use Rattle.core_loop.proofs.Resting.{begun_more}
 use Rattle.core_loop.proofs.Answering.{more_from}
 use Rattle.core_join.specs.Machines.{RingCore}
+use Rattle.core_join.proofs.Along.{intake_itself, same_itself, same_along}
 use Rattle.core_drive.specs.declared.step.Task.TheVariants as task
 use Rattle.core_drive.specs.declared.step.StepOutcome.TheVariants as outcome
 use Rattle.core_drive.specs.Steps.{did, decided}
 use Rattle.core_drive.specs.Driving.{CoreDrives}
-
-intake_itself : (i : Intake) → SameIntake i i
-intake_itself i = search rules
-
-intake_along : (i j k : Intake) → SameIntake i j → SameIntake j k → SameIntake i k
-intake_along i j k a b = search rules
-
-pub same_itself : (c : RingCore) → SameCore SameLinks c c
-same_itself c = record { number = refl; cores = refl; budget = refl; links = SameLinks-itself c.links; intake = intake_itself c.intake }
-
-pub same_along : (a b c : RingCore) → SameCore SameLinks a b → SameCore SameLinks b c → SameCore SameLinks a c
-same_along a b c h k = record {
-  number = k.number ∙ h.number;
-  cores = k.cores ∙ h.cores;
-  budget = k.budget ∙ h.budget;
-  links = SameLinks-along a.links b.links c.links h.links k.links;
-  intake = intake_along a.intake b.intake c.intake h.intake k.intake;
-}
 
 -- no step of its own
 pub drives_none : (c : RingCore) → CoreDrives [] [] [] c c

@@ -18,7 +18,6 @@ use Rattle.core_loop.specs.Receiving.{HasReceived, IsRefused, version_now}
 use Rattle.core_loop.specs.Answering.{decisions}
 use Rattle.core_join.specs.Machines.{RingCore}
 use Rattle.core_join.specs.Looking.{AreLookedAt}
-use Rattle.core_join.specs.Conclusions.{Concludes}
 use Rattle.core_drive.specs.declared.step.CoreStep.{CoreStep}
 use Rattle.core_drive.specs.declared.step.Task.{Task}
 use Rattle.core_drive.specs.declared.step.Task.TheVariants.{Ask, Receive}
@@ -101,8 +100,3 @@ pub record AreDoneAndLookedAt (steps : List CoreStep) (outcomes : List StepOutco
   pub last : List RingCore
   pub done : AreDoneInTurn steps outcomes old last
   pub looked : AreLookedAt last new
-
--- what joined cores come to holds of them as they stand
-abbrev pub Conclude : ℕ → List ℕ → List RingCore → Type 0
-Conclude budget budgets [] = ⊥
-Conclude budget budgets (first ∷ others) = Concludes budget budgets first others

@@ -3,14 +3,13 @@
 ghost use Rattle.std.specs.Prelude.{◌≡◌, ◌<◌, ◌∷◌, [], ℕ, List, None, Some, length, slice_get, IfOk, OnOk, OnErr};
 ghost use Rattle.std.specs.List.{All};
 ghost use Rattle.core_join.specs.Machines.{RingCore, IsMachine, AreSameCores};
-ghost use Rattle.core_join.specs.Conclusions.{AreRunning};
-ghost use Rattle.core_join.specs.Looking.{AreLookedAt};
+ghost use Rattle.core_join.specs.Conclusions.{AreRunning, Conclude};
 ghost use Rattle.core_drive.specs.declared.step.Task.TheVariants as GhostTask;
 ghost use Rattle.core_drive.specs.Steps.{IsOf, did, asked_op, decided};
-ghost use Rattle.core_drive.specs.Driving.{IsStep, IsGivable, CoreDrives, AreDriven, IsRunning, IsRight, IsDone, AreDoneAndLookedAt, Conclude};
+ghost use Rattle.core_drive.specs.Driving.{IsStep, IsGivable, CoreDrives, AreDriven, IsRunning, IsRight, IsDone, AreDoneAndLookedAt};
 
 use crate::step::{CoreStep, StepOutcome, Task};
-use core_join::agree;
+use core_join::agree_all;
 use core_loop::{Core, RingLinks};
 use filter_table::Kept;
 use pcap_reader::SharedPacket;
@@ -40,7 +39,7 @@ pub fn drive(
     for step in steps {
         outcomes.push_reserved(do_step(alloc, cores, step));
     }
-    look_at(cores);
+    agree_all(cores);
     Ok(outcomes)
 }
 
@@ -98,16 +97,5 @@ fn receive(alloc: Global, core: &mut Core<RingLinks>, packet: SharedPacket) -> S
             }
         }
         Err(why) => StepOutcome::NotReceived(why),
-    }
-}
-
-// Looks at all cores, of which none is in a call.
-fn look_at(cores: &mut [Core<RingLinks>])
-    requires { (budget : ℕ) × (budgets : List ℕ) × IsMachine budget budgets cores.old }
-    ensures looked { AreLookedAt cores.old cores.new }
-    ensures concludes { (budget : ℕ) (budgets : List ℕ) → IsMachine budget budgets cores.old → Conclude budget budgets cores.new }
-{
-    if let Some((first, others)) = cores.split_first_mut() {
-        agree(first, others);
     }
 }

@@ -1,5 +1,5 @@
 -- The lines of one ring link of several, and what a pull and a pump do to them.
-use Rattle.std.proofs.Common.{◌≡◌, ◌≢◌, ◌<◌, ◌≤◌, ◌+◌, ℕ, zero, suc, false, List, [], ◌∷◌, arith, Option, Some, None, Result, Ok, Err, OnOk, MatchResult, length, length-append, slice_index_or, slice_set, refl, sym, ap, subst, ◌∙◌, ◌⊎◌, inl, inr}
+use Rattle.std.proofs.Common.{◌≡◌, ◌≢◌, ◌<◌, ◌≤◌, ◌+◌, ◌*◌, ℕ, zero, suc, false, List, [], ◌∷◌, arith, All, Option, Some, None, Result, Ok, Err, OnOk, MatchResult, length, length-append, slice_index_or, slice_set, refl, sym, ap, subst, ◌∙◌, ◌⊎◌, inl, inr}
 use Rattle.std.proofs.lemmas.List.{get_or-set_same, get_or-set_other}
 use Rattle.std.specs.Vec.{with_item}
 use mathlib.Core.List.{IsPrefix}
@@ -7,10 +7,12 @@ use Rattle.ump_ring.specs.declared.fault.LineFault.{LineFault}
 use Rattle.ump_ring.specs.Joiners.{shown_list}
 use Rattle.core_links.specs.declared.ring_links.Link.{Link}
 use Rattle.core_links.specs.declared.ring_links.RingLinks.{RingLinks}
-use Rattle.core_links.specs.Flows.{Flow, FlowsAt, FlowsOut, IsExact, IsLooked, no_flow, link_flow, place_flow, ring_flow, place_capacity}
+use Rattle.core_links.specs.Flows.{Flow, FlowsAt, FlowsOut, IsExact, IsLooked, LooksAt, no_flow, link_flow, place_flow, ring_flow, place_capacity}
 use Rattle.core_links.specs.Slots.{place_view}
 use Rattle.core_links.specs.RingSlots.{link_to, link_view}
+use Rattle.ump_ring.specs.Lines.{IsMessage, line_count, stream}
 use Rattle.ump_ring.specs.Senders.{sender_capacity}
+use Rattle.ump_ring.proofs.Laws.{lines_in, length-stream}
 use Rattle.core_links.proofs.Places.{any_default}
 
 pub flows_at_slot : (old : RingLinks) (i peer : ℕ) (d : Option Link) (a b : Link) (R : Flow → Flow → Type 0) → i ≡ peer → slice_index_or old.slots.items i d ≡ Some a → i < length old.slots.items
@@ -139,26 +141,19 @@ ExactPlaces x y = IsExact (place_capacity x) (place_view link_view x) (place_vie
 pub exact_at : (x y : Option Link) (a b : Link) → x ≡ Some a → y ≡ Some b → IsExact (sender_capacity a.sender) (link_view a) (link_view b) (link_flow a) (link_flow b) → ExactPlaces x y
 exact_at x y a b ex ey h = subst (λ (u : Option Link). ExactPlaces u y) (sym ex) (subst (λ (u : Option Link). ExactPlaces (Some a) u) (sym ey) h)
 
-looked_itself : (v : Flow) → IsLooked v v
-looked_itself v = record { out = refl; come = refl }
-
 pub looked_at : (old : RingLinks) (i peer : ℕ) (d : Option Link) (a b : Link) → i ≡ peer → slice_index_or old.slots.items i d ≡ Some a → i < length old.slots.items
-    → IsLooked (link_flow a) (link_flow b) → (p : ℕ) → IsLooked (ring_flow old p) (ring_flow (record { own = old.own; slots = with_item old.slots i (Some b) }) p)
-looked_at old i peer d a b here is lt same p = by_place (decided p i)
+    → IsLooked (link_flow a) (link_flow b) → LooksAt peer old (record { own = old.own; slots = with_item old.slots i (Some b) })
+looked_at old i peer d a b here is lt same = subst (λ (n : ℕ). LooksAt n old (record { own = old.own; slots = with_item old.slots i (Some b) })) here (flows_at_slot old i i d a b IsLooked refl is lt same)
+
+-- messages have at most 587 lines each
+pub lines_within : (ms : List (List ℕ)) → All IsMessage ms → length (stream 0 ms) ≤ 587 * length ms
+lines_within ms all = subst (λ (n : ℕ). n ≤ 587 * length ms) (sym (length-stream 0 ms)) (each ms all)
   where
-    at : FlowsAt ring_flow i IsLooked old (record { own = old.own; slots = with_item old.slots i (Some b) })
-    at = flows_at_slot old i i d a b IsLooked refl is lt same
+    most : (size : ℕ) → size ≤ 32832 → line_count size ≤ 587
+    most size le = omega arith
 
-    decided : (m n : ℕ) → (m ≡ n) ⊎ (m ≢ n)
-    decided zero zero = inl refl
-    decided zero (suc n) = inr (λ e. omega (arith, e))
-    decided (suc m) zero = inr (λ e. omega (arith, e))
-    decided (suc m) (suc n) = more (decided m n)
-      where
-        more : (m ≡ n) ⊎ (m ≢ n) → (suc m ≡ suc n) ⊎ (suc m ≢ suc n)
-        more (inl e) = inl (ap suc e)
-        more (inr ne) = inr (λ e. ne (omega (arith, e)))
-
-    by_place : ((p ≡ i) ⊎ (p ≢ i)) → IsLooked (ring_flow old p) (ring_flow (record { own = old.own; slots = with_item old.slots i (Some b) }) p)
-    by_place (inl e) = subst (λ (n : ℕ). IsLooked (ring_flow old n) (ring_flow (record { own = old.own; slots = with_item old.slots i (Some b) }) n)) (sym e) at.0
-    by_place (inr ne) = subst (λ (f : Flow). IsLooked (ring_flow old p) f) (sym (at.1 p ne)) (looked_itself (ring_flow old p))
+    each : (ms : List (List ℕ)) → All IsMessage ms → lines_in ms ≤ 587 * length ms
+    each [] all = omega arith
+    each (m ∷ ms) all =
+        let is : IsMessage m = all 0 m (omega arith) in
+        omega (arith, most (length m) is.most, each ms (λ k d lt. all (suc k) d (omega (arith, lt))))

@@ -1,5 +1,5 @@
 -- How many lines a link has moved, and what its ends know of the rings. Contracts of turns speak of these alone where nothing is sent or taken.
-use Rattle.std.specs.Prelude.{◌≡◌, ◌≢◌, ◌+◌, ◌<◌, ◌≤◌, ◌++◌, [], ℕ, Bool, true, false, List, length, Option, Some, None, Result, MatchResult}
+use Rattle.std.specs.Prelude.{◌≡◌, ◌≢◌, ◌+◌, ◌*◌, ◌<◌, ◌≤◌, ◌++◌, [], ℕ, Bool, true, false, List, length, Option, Some, None, Result, MatchResult}
 use mathlib.Core.List.{IsPrefix}
 use Rattle.core_links.specs.Views.{LinkView}
 use Rattle.ump_ring.specs.declared.fault.LineFault.{LineFault}
@@ -83,12 +83,20 @@ pub record IsExact (capacity : ℕ) (from to : LinkView) (out come : Flow) : Typ
   pub going : from.ready ≡ false → length (to.taken ++ to.kept) < length from.sent
   -- where nothing is going out and all lines were received, it is all
   pub all : from.ready ≡ true → out.out ≡ come.come → to.taken ++ to.kept ≡ from.sent
+  -- a message has at most 587 lines
+  pub within : out.out ≤ 587 * length from.sent
   pub sound : to.stopped ≡ None
 
 -- no line moved
 pub record IsLooked (v w : Flow) : Type 0 where
   pub out : w.out ≡ v.out
   pub come : w.come ≡ v.come
+
+-- nothing goes over the link, as its end sees it, and it takes a message
+pub record IsResting (v : LinkView) (f : Flow) : Type 0 where
+  pub none_kept : v.kept ≡ []
+  pub ready : v.ready ≡ true
+  pub none_known : f.known ≡ 0
 
 -- how many lines the ring to a peer holds
 abbrev pub place_capacity : Option Link → ℕ
@@ -102,6 +110,10 @@ ring_capacity r peer = place_capacity (link_to r peer)
 abbrev pub IsExactAt : RingLinks → RingLinks → Type 0
 IsExactAt a b = IsExact (ring_capacity a (own_of b)) (ring_view a (own_of b)) (ring_view b (own_of a)) (ring_flow a (own_of b)) (ring_flow b (own_of a))
 
--- no line moved over any link
-abbrev pub AreLookedLinks : RingLinks → RingLinks → Type 0
-AreLookedLinks old new = (p : ℕ) → IsLooked (ring_flow old p) (ring_flow new p)
+-- no line moved over the link to this peer, and all others are as they were
+abbrev pub LooksAt : ℕ → RingLinks → RingLinks → Type 0
+LooksAt peer old new = FlowsAt ring_flow peer IsLooked old new
+
+-- each of the two rings that join the two cores holds a line at least
+abbrev pub HoldLines : RingLinks → RingLinks → Type 0
+HoldLines a b = (1 ≤ ring_capacity a (own_of b)) × (1 ≤ ring_capacity b (own_of a))

@@ -36,11 +36,11 @@ impl Drop for RingLinks {
 }
 
 impl RingLinks {
-    ghost use Rattle.std.specs.Prelude.{◌≡◌, ◌≢◌, ◌<◌, ℕ, None, Some, IfOk};
+    ghost use Rattle.std.specs.Prelude.{◌≡◌, ◌≢◌, ◌<◌, ◌↔◌, ℕ, None, Some, IfOk, IsTrue};
     ghost use mathlib.Core.List.{IsPrefix};
     ghost use Rattle.ump_ring.specs.Joiners.{shown_items};
     ghost use Rattle.core_links.specs.Views.{IsSameView};
-    ghost use Rattle.core_links.specs.Flows.{IsExactAt, AreLookedLinks};
+    ghost use Rattle.core_links.specs.Flows.{IsExactAt, IsResting, LooksAt, ring_flow};
     ghost use Rattle.core_links.specs.RingSlots.{own_of, cores_of, link_to, last_of, ring_view, SameLinks, AreJoinedLinks};
 
     /// The links of core `own` among `cores` cores, to no peer yet. The one error is that there is no memory.
@@ -78,12 +78,22 @@ impl RingLinks {
         ensures took { IsPrefix (ring_view self.new (own_of other.new)).taken (ring_view other.new (own_of self.new)).sent }
         ensures gave { IsPrefix (ring_view other.new (own_of self.new)).taken (ring_view self.new (own_of other.new)).sent }
         ensures exact { IsExactAt self.new other.new × IsExactAt other.new self.new }
-        ensures still { AreLookedLinks self.old self.new × AreLookedLinks other.old other.new }
+        ensures still { LooksAt (own_of other.old) self.old self.new × LooksAt (own_of self.old) other.old other.new }
     {
         let (place, back) = (usize::from(other.own), usize::from(self.own));
         match (&mut self.slots[place], &mut other.slots[back]) {
             (Some(link), Some(its)) => link.beside(its),
             _ => unreachable!(),
+        }
+    }
+
+    /// Whether nothing goes over the link to a peer, as this end sees it, and it takes a message.
+    pub fn rests(&self, peer: u16) -> bool
+        ensures { IsTrue result ↔ IsResting (ring_view self.now peer) (ring_flow self.now peer) }
+    {
+        match self.slots.get(usize::from(peer)) {
+            Some(Some(link)) => link.rests(),
+            _ => false,
         }
     }
 
@@ -100,11 +110,11 @@ impl RingLinks {
 
 // The messages of one link.
 impl Link {
-    ghost use Rattle.std.specs.Prelude.{◌≡◌, ◌≢◌, IsTrue, IsFalse, None, []};
+    ghost use Rattle.std.specs.Prelude.{◌≡◌, ◌≢◌, ◌↔◌, IsTrue, IsFalse, None, []};
     ghost use Rattle.ump_ring.specs.Joiners.{shown_items};
     ghost use Rattle.ump_ring.specs.Receivers.{message_last};
     ghost use Rattle.ump_ring.specs.Senders.{sender_capacity};
-    ghost use Rattle.core_links.specs.Flows.{FlowsOut, FlowsIn, IsExact, IsLooked, link_flow};
+    ghost use Rattle.core_links.specs.Flows.{FlowsOut, FlowsIn, IsExact, IsLooked, IsResting, link_flow};
     ghost use Rattle.core_links.specs.Views.{first_of, IsSameView, Pulled, GivenUp, HandedOver, Pumped};
     ghost use mathlib.Core.List.{IsPrefix};
     ghost use Rattle.core_links.specs.RingSlots.{link_view, SameLink, AreJoined};
@@ -113,6 +123,12 @@ impl Link {
         ensures { result ≡ (link_view self.now).ready }
     {
         self.sender.idle()
+    }
+
+    fn rests(&self) -> bool
+        ensures { IsTrue result ↔ IsResting (link_view self.now) (link_flow self.now) }
+    {
+        self.sender.idle() && self.receiver.shown().is_none() && self.receiver.known() == 0
     }
 
     fn pull(&mut self) -> Result<(), LineFault>

@@ -16,3 +16,4 @@ pub mod Passing
 pub mod Receiving
 pub mod Answering
 pub mod Owning
+pub mod Resting

@@ -1,14 +1,20 @@
 //! Cores over rings, of which two are in one thread.
 
+ghost use Rattle.std.specs.Prelude.{◌↔◌, IsTrue};
+ghost use Rattle.core_links.specs.Flows.{ring_flow};
+ghost use Rattle.core_links.specs.RingSlots.{ring_view};
+ghost use Rattle.core_loop.specs.Resting.{AreResting};
+
 use crate::running::Core;
 use core_links::RingLinks;
 
 impl Core<RingLinks> {
-    ghost use Rattle.std.specs.Prelude.{◌≡◌, ℕ};
+    ghost use Rattle.std.specs.Prelude.{◌≡◌, ◌↔◌, ℕ, IsTrue};
     ghost use mathlib.Core.List.{IsPrefix};
     ghost use Rattle.core_links.specs.Views.{IsSameView};
-    ghost use Rattle.core_links.specs.Flows.{IsExactAt, AreLookedLinks};
+    ghost use Rattle.core_links.specs.Flows.{IsExactAt, LooksAt, ring_flow};
     ghost use Rattle.core_links.specs.RingSlots.{ring_view, own_of, SameLinks, AreJoinedLinks};
+    ghost use Rattle.core_loop.specs.Resting.{AreResting};
 
     /// Shows that what each core took from the other begins what the other sent to it. Nothing changes. Takes no memory.
     pub fn beside(&mut self, other: &mut Core<RingLinks>)
@@ -21,8 +27,30 @@ impl Core<RingLinks> {
         ensures took { IsPrefix (ring_view self.new.links (own_of other.new.links)).taken (ring_view other.new.links (own_of self.new.links)).sent }
         ensures gave { IsPrefix (ring_view other.new.links (own_of self.new.links)).taken (ring_view self.new.links (own_of other.new.links)).sent }
         ensures exact { IsExactAt self.new.links other.new.links × IsExactAt other.new.links self.new.links }
-        ensures still { AreLookedLinks self.old.links self.new.links × AreLookedLinks other.old.links other.new.links }
+        ensures still { LooksAt (own_of other.old.links) self.old.links self.new.links × LooksAt (own_of self.old.links) other.old.links other.new.links }
     {
         self.links.beside(&mut other.links);
     }
+    /// Whether nothing goes over its links, as this core sees it, and each takes a message.
+    pub fn links_rest(&self) -> bool
+        ensures { IsTrue result ↔ AreResting self.now.number self.now.cores (ring_view self.now.links) (ring_flow self.now.links) }
+    {
+        if self.number == 0 {
+            all_rest(&self.links, self.cores)
+        } else {
+            self.links.rests(0)
+        }
+    }
+}
+
+// Whether nothing goes over the links of core 0, among so many cores.
+fn all_rest(links: &RingLinks, cores: u16) -> bool
+    ensures { IsTrue result ↔ AreResting 0 cores (ring_view links.now) (ring_flow links.now) }
+{
+    for peer in 1..cores {
+        if !links.rests(peer) {
+            return false;
+        }
+    }
+    true
 }

@@ -3,6 +3,7 @@
 ghost use Rattle.std.specs.Prelude.{◌≡◌, ◌<◌, ◌≤◌, ◌∷◌, [], ℕ, suc, List, None, IfOk};
 ghost use Rattle.rx_queue.specs.Queue.{jobs_taken};
 ghost use Rattle.filter_table.specs.Tables.{HasShortProgram};
+ghost use Rattle.core_links.specs.Flows.{HoldLines};
 ghost use Rattle.core_links.specs.RingSlots.{ring_view, link_to, own_of, AreJoinedLinks};
 ghost use Rattle.core_loop.specs.Standing.{IsSilent};
 ghost use Rattle.core_loop.specs.Cores.{AreShort};
@@ -99,6 +100,7 @@ fn intake(alloc: Global, number: u64) -> Result<Intake, AllocError>
 fn joined_links(alloc: Global) -> Result<(RingLinks, RingLinks), AllocError>
     ensures own { IfOk result (λ r. (own_of r.0 ≡ 0) × (own_of r.1 ≡ 1)) }
     ensures joined { IfOk result (λ r. AreJoinedLinks r.0 r.1) }
+    ensures holds { IfOk result (λ r. HoldLines r.0 r.1) }
     ensures alone { IfOk result (λ r. (link_to r.0 0 ≡ None) × ((entry : ℕ) → link_to r.1 (suc entry) ≡ None)) }
     ensures silent { IfOk result (λ r. ((p : ℕ) → IsSilent (ring_view r.0 p)) × ((p : ℕ) → IsSilent (ring_view r.1 p))) }
 {

@@ -130,6 +130,13 @@ impl Receiver {
         kept
     }
 
+    /// How many lines this end knows of that it has not received. Takes no memory.
+    pub fn known(&self) -> usize
+        ensures { result ≡ length (lines_known self.now) }
+    {
+        self.consumer.cached_slots()
+    }
+
     /// The message that was read last. Takes no memory.
     pub fn last(&self) -> Option<&[u8]>
         ensures { shown_items result ≡ message_last self.now }

@@ -1,4 +1,5 @@
-use Rattle.core_boot.proofs.Wires.{silent_link, silent_alone, alone}
+use Rattle.std.proofs.Common.{rules}
+use Rattle.core_boot.proofs.Wires.{silent_link, silent_alone, alone, holding}
 use Rattle.core_boot.proofs.wiring.join_peer.Goals as goal
 
 pub returns-clause-silent : goal.returns-clause-silent
@@ -14,3 +15,12 @@ returns-clause-silent c =
 
 pub returns-clause-no_other : goal.returns-clause-no_other
 returns-clause-no_other c = alone c.in_ok-links.links c.join-2.new.self c.in_ok-links.ensures.empty c.join-2.ensures.others
+
+pub returns-clause-holds : goal.returns-clause-holds
+returns-clause-holds c =
+    let up = c.in_ok-to_first in
+    let down = c.in_ok-to_peer in
+    let first = c.join.new.self in
+    let links = c.join-2.new.self in
+    holding first links (record { sender = down.to_peer; receiver = up.from_peer }) (record { sender = up.to_first; receiver = down.from_first })
+    (search rules) (search rules) down.ensures.capacity.0 up.ensures.capacity.0

@@ -10,7 +10,7 @@ pub loop-peer-preserved : goal.loop-peer-preserved
 loop-peer-preserved c =
     let e = c.in_ok-join_peer.ensures in
     wired_more c.args.cores c.loop-peer.peer c.loop-peer.first c.join_peer.new.first c.in_ok-join_peer.field-0 c.loop-peer.links.items c.push.new.self.items c.loop-peer.invariant
-    e.place.0 e.place.1 e.others e.silent.0 e.joined.0 e.silent.1 e.joined.1 e.no_other c.in_ok-push.ensures.items
+    e.place.0 e.place.1 e.others e.silent.0 e.joined.0 e.silent.1 e.joined.1 e.holds e.no_other c.in_ok-push.ensures.items
 
 pub returns : goal.returns
 returns c =

@@ -8,9 +8,9 @@ use Rattle.core_drive.proofs.Steps.{driven_more, driven_same, placed}
 use Rattle.core_drive.proofs.Looking.{driven_looked}
 use Rattle.std.proofs.lemmas.List.Elements.{All-append}
 use Rattle.core_join.specs.Machines.{RingCore}
-use Rattle.core_join.specs.Conclusions.{AreRunning}
+use Rattle.core_join.specs.Conclusions.{AreRunning, Conclude}
 use Rattle.core_drive.specs.declared.step.StepOutcome.{StepOutcome}
-use Rattle.core_drive.specs.Driving.{IsRunning, Conclude}
+use Rattle.core_drive.specs.Driving.{IsRunning}
 use Rattle.core_drive.proofs.Looking.{ran_before}
 use Rattle.core_drive.proofs.driving.drive.Goals as goal
 
@@ -33,8 +33,8 @@ loop-step-preserved c = (
   rw c.push_reserved.ensures.items (λ run. let r = c.do_step.ensures.running run in All-append IsRunning c.loop-step.outcomes.items (c.do_step.result ∷ []) (c.loop-step.invariant.4 r.0) (one_running c.do_step.result r.1)),
 )
 
-pub look_at-requires : goal.look_at-requires
-look_at-requires c =
+pub agree_all-requires : goal.agree_all-requires
+agree_all-requires c =
     let m = c.requires.machine in
     (m.0, m.1, machine_ran m.0 m.1 c.args.cores.now c.loop-step.cores m.2 (driven_same c.loop-step.yielded c.loop-step.outcomes.items c.args.cores.now c.loop-step.cores c.loop-step.invariant.0))
 
@@ -42,26 +42,26 @@ pub returns-clause-driven : goal.returns-clause-driven
 returns-clause-driven c =
     let none : into_iter_items c.loop-step.step-iterator ≡ [] = nil_from_length _ (sym c.loop-step.step-iterator.rest.ok.0 ∙ c.in-None.ensures.steps.0) in
     let all : c.args.steps.items ≡ c.loop-step.yielded = c.loop-step.invariant.2 ∙ ap (λ (l : List CoreStep). c.loop-step.yielded ++ l) none ∙ append-nil c.loop-step.yielded in
-    rw all (driven_looked c.loop-step.yielded c.loop-step.outcomes.items c.args.cores.now c.loop-step.cores c.look_at.new.cores c.loop-step.invariant.0 c.look_at.ensures.looked)
+    rw all (driven_looked c.loop-step.yielded c.loop-step.outcomes.items c.args.cores.now c.loop-step.cores c.agree_all.new.cores c.loop-step.invariant.0 c.agree_all.ensures.looked)
 
 pub returns-clause-in_turn : goal.returns-clause-in_turn
 returns-clause-in_turn c =
     let none : into_iter_items c.loop-step.step-iterator ≡ [] = nil_from_length _ (sym c.loop-step.step-iterator.rest.ok.0 ∙ c.in-None.ensures.steps.0) in
     let all : c.args.steps.items ≡ c.loop-step.yielded = c.loop-step.invariant.2 ∙ ap (λ (l : List CoreStep). c.loop-step.yielded ++ l) none ∙ append-nil c.loop-step.yielded in
-    rw all (record { last = c.loop-step.cores; done = c.loop-step.invariant.3; looked = c.look_at.ensures.looked })
+    rw all (record { last = c.loop-step.cores; done = c.loop-step.invariant.3; looked = c.agree_all.ensures.looked })
 
 pub returns-clause-machine : goal.returns-clause-machine
 returns-clause-machine c =
-    driven_same c.loop-step.yielded c.loop-step.outcomes.items c.args.cores.now c.look_at.new.cores
-    (driven_looked c.loop-step.yielded c.loop-step.outcomes.items c.args.cores.now c.loop-step.cores c.look_at.new.cores c.loop-step.invariant.0 c.look_at.ensures.looked)
+    driven_same c.loop-step.yielded c.loop-step.outcomes.items c.args.cores.now c.agree_all.new.cores
+    (driven_looked c.loop-step.yielded c.loop-step.outcomes.items c.args.cores.now c.loop-step.cores c.agree_all.new.cores c.loop-step.invariant.0 c.agree_all.ensures.looked)
 
 pub returns-clause-concludes : goal.returns-clause-concludes
 returns-clause-concludes c = λ budget budgets machine.
-    c.look_at.ensures.concludes budget budgets
+    c.agree_all.ensures.concludes budget budgets
     (machine_ran budget budgets c.args.cores.now c.loop-step.cores machine (driven_same c.loop-step.yielded c.loop-step.outcomes.items c.args.cores.now c.loop-step.cores c.loop-step.invariant.0))
 
 pub returns-clause-running : goal.returns-clause-running
 returns-clause-running c =
     let m = c.requires.machine in
     let same = machine_ran m.0 m.1 c.args.cores.now c.loop-step.cores m.2 (driven_same c.loop-step.yielded c.loop-step.outcomes.items c.args.cores.now c.loop-step.cores c.loop-step.invariant.0) in
-    c.loop-step.invariant.4 (ran_before m.0 m.1 c.loop-step.cores c.look_at.new.cores c.look_at.ensures.looked (c.look_at.ensures.concludes m.0 m.1 same))
+    c.loop-step.invariant.4 (ran_before m.0 m.1 c.loop-step.cores c.agree_all.new.cores c.agree_all.ensures.looked (c.agree_all.ensures.concludes m.0 m.1 same))

@@ -1,6 +1,7 @@
 use Rattle.std.proofs.Common.{◌≡◌, ◌≢◌, ℕ, true, false, Option, None, Some, is_none, length, length-append, ap, arith, Vec, refl}
 use Rattle.std.specs.Global.{Global}
 use Rattle.ump_ring.specs.Receivers.{lines_received, lines_known}
+use Rattle.core_links.proofs.Flowing.{lines_within}
 use Rattle.core_links.proofs.ring_links.Link.beside.Goals as goal
 
 going_on : (x : Option (Vec ℕ Global)) → is_none x ≡ false → x ≢ None
@@ -17,6 +18,7 @@ returns-clause-exact_out c = record {
   front = c.beside.ensures.kept;
   going = λ busy. c.beside.ensures.going (going_on _ busy);
   all = λ ready same. c.beside.ensures.all (none_on _ ready) same;
+  within = omega (arith, c.beside.ensures.within, lines_within _ c.beside.ensures.short);
   sound = c.beside.ensures.sound.1;
 }
 
@@ -26,5 +28,6 @@ returns-clause-exact_in c = record {
   front = c.beside-2.ensures.kept;
   going = λ busy. c.beside-2.ensures.going (going_on _ busy);
   all = λ ready same. c.beside-2.ensures.all (none_on _ ready) same;
+  within = omega (arith, c.beside-2.ensures.within, lines_within _ c.beside-2.ensures.short);
   sound = c.beside-2.ensures.sound.1;
 }
