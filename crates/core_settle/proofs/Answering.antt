@@ -1,0 +1,61 @@
+-- What an answer to a turn says.
+use Rattle.std.proofs.Common.{◌≡◌, ◌≢◌, ◌∙◌, inl, inr, false, Option, Some, List, [], ◌∷◌, ◌++◌, refl, sym, ap}
+use Rattle.std.specs.Prelude.{IfSome, IfNone}
+use Rattle.std.proofs.lemmas.List.{append-nil}
+use Rattle.filter_table.specs.declared.decision.Decision.{Decision}
+use Rattle.rx_queue.specs.declared.job.Job.{Job}
+use Rattle.rx_queue.specs.Queue.{jobs_taken}
+use Rattle.world_histories.specs.declared.history.Stamped.{Stamped}
+use Rattle.core_links.specs.RingSlots.{ring_view, SameLinks}
+use Rattle.core_loop.specs.declared.cause.Cause.{Cause}
+use Rattle.core_loop.specs.declared.cause.Turn.{Turn}
+use Rattle.core_loop.specs.declared.cause.Turn.TheVariants as turn
+use Rattle.core_loop.specs.Receipts.{receives}
+use Rattle.core_loop.specs.Cores.{SameCore, NothingDone, DidOne}
+use Rattle.core_loop.specs.Turning.{IsSpent, LacksMemory}
+use Rattle.core_join.specs.Machines.{RingCore}
+use Rattle.core_settle.specs.Ahead.{asked}
+use Rattle.core_settle.specs.Rounds.{Keeps, Idled, GoesOn, Halts, halt_of}
+
+-- the clauses of a turn that receives no packet
+pub record Answered (answer : Turn) (old new : RingCore) : Type 0 where
+  pub core : SameCore SameLinks old new
+  pub requests : asked new ≡ asked old
+  pub did : (s : Stamped) (d : Option Decision) → answer ≡ turn.Did s d → DidOne ring_view old new s
+  pub leave : (s : Stamped) (d : Option Decision) → answer ≡ turn.Did s d → receives s.done.event ≡ []
+  pub other : ((s : Stamped) (d : Option Decision) → answer ≢ turn.Did s d) → NothingDone ring_view old new
+  pub stopped : (cause : Cause) → answer ≡ turn.Stopped cause → new.stopped ≡ Some cause
+  pub spent : answer ≡ turn.Spent → IsSpent old.cores old.clock old.part old.pending (ring_view new.links) false new.intake
+  pub lacks : answer ≡ turn.NoMemory → LacksMemory old.cores old.clock old.part old.pending (ring_view new.links) false new.intake
+  pub idles : answer ≡ turn.Idle → NothingDone ring_view old new → Idled old new
+
+quiet_keeps : (old new : RingCore) → SameCore SameLinks old new → asked new ≡ asked old → NothingDone ring_view old new → Keeps old new
+quiet_keeps old new core requests n = record { same = core; asked_same = requests; history = ([], append-nil old.history ∙ sym n.history); jobs = n.jobs }
+
+pub answered_keeps : (answer : Turn) (old new : RingCore) → Answered answer old new → Keeps old new
+answered_keeps (turn.Did s d) old new a =
+    let e = a.did s d refl in
+    record {
+      same = a.core;
+      asked_same = a.requests;
+      history = (s ∷ [], sym e.history);
+      jobs = e.jobs ∙ (ap (λ (l : List Job). jobs_taken old.intake ++ l) (a.leave s d refl) ∙ append-nil (jobs_taken old.intake));
+    }
+answered_keeps turn.Idle old new a = quiet_keeps old new a.core a.requests (a.other (λ s d e. cc))
+answered_keeps (turn.Stopped cause) old new a = quiet_keeps old new a.core a.requests (a.other (λ s d e. cc))
+answered_keeps turn.Spent old new a = quiet_keeps old new a.core a.requests (a.other (λ s d e. cc))
+answered_keeps turn.NoMemory old new a = quiet_keeps old new a.core a.requests (a.other (λ s d e. cc))
+
+pub answered_none : (answer : Turn) (old new : RingCore) → Answered answer old new → IfNone (halt_of answer) (GoesOn old new)
+answered_none (turn.Did s d) old new a = record { keeps = answered_keeps (turn.Did s d) old new a; turned = inl (s, a.did s d refl, a.leave s d refl) }
+answered_none turn.Idle old new a = record { keeps = answered_keeps turn.Idle old new a; turned = inr (a.idles refl (a.other (λ s d e. cc))) }
+answered_none (turn.Stopped cause) old new a = tt
+answered_none turn.Spent old new a = tt
+answered_none turn.NoMemory old new a = tt
+
+pub answered_some : (answer : Turn) (old new : RingCore) → Answered answer old new → IfSome (halt_of answer) (λ why. Halts why new)
+answered_some (turn.Did s d) old new a = tt
+answered_some turn.Idle old new a = tt
+answered_some (turn.Stopped cause) old new a = (cause, a.stopped cause refl)
+answered_some turn.Spent old new a = let n = a.other (λ s d e. cc) in rw (n.clock, n.part, n.pending, a.core.cores) (a.spent refl)
+answered_some turn.NoMemory old new a = let n = a.other (λ s d e. cc) in rw (n.clock, n.part, n.pending, a.core.cores) (a.lacks refl)
