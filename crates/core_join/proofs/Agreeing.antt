@@ -1,30 +1,50 @@
 -- Cores that are looked at one after another.
-use Rattle.std.proofs.Common.{◌≡◌, ℕ, zero, suc, List, [], ◌∷◌, length, Some, slice_get, refl, sym, ap, ◌∙◌, subst, arith}
+use Rattle.std.proofs.Common.{◌≡◌, inl, inr, ℕ, zero, suc, List, [], ◌∷◌, length, Some, slice_get, refl, sym, ap, ◌∙◌, subst, arith}
 use mathlib.Core.List.{IsPrefix}
+use Rattle.core_links.specs.declared.ring_links.RingLinks.{RingLinks}
+use Rattle.core_links.specs.Flows.{Flow, IsExact, IsLooked, LooksAt, ring_flow, ring_capacity}
 use Rattle.core_links.specs.RingSlots.{own_of, ring_view, AreJoinedLinks}
 use Rattle.core_links.specs.RingLaws.{SameLinks-itself}
 use Rattle.std.proofs.lemmas.Option.{slice_get_within}
 use Rattle.table_replica.proofs.Shared.{get_at}
+use Rattle.world_model.proofs.Lists.{same_or_not}
 use Rattle.core_loop.specs.Cores.{Stands}
 use Rattle.core_links.specs.Views.{LinkView, IsSameView}
 use Rattle.core_loop.specs.Standing.{AreBeside}
 use Rattle.core_loop.specs.Turning.{HasStopped}
 use Rattle.core_loop.proofs.Stopped.{same_stopped}
-use Rattle.core_join.specs.Machines.{RingCore, IsPeer, AreMachine}
+use Rattle.core_join.specs.Machines.{RingCore, IsPeer, AreMachine, IsMachine}
 use Rattle.core_join.specs.Conclusions.{Concludes, OfMachine}
-use Rattle.core_join.specs.Looking.{IsLookedAt, AreLookedAt, IsExactRing, TookInOrder, EachTookInOrder}
+use Rattle.core_join.specs.Looking.{IsLookedAt, AreLookedAt, IsExactRing, TookInOrder, EachTookInOrder, AreExactCores, EachIsExact, HaveOwnLinks, LooksOnlyAt}
 use Rattle.core_join.proofs.Lists.{first_same, rest_same}
-use Rattle.core_join.proofs.Machines.{joined_links}
+use Rattle.core_join.proofs.Machines.{joined_links, ring_same}
 use Rattle.core_join.proofs.Joined.{looked_itself, beside_at, stood}
 use Rattle.core_join.proofs.Ends.{concludes}
 use Rattle.core_join.proofs.Unstopped.{IsExactCore}
 
 -- a view that was looked at is the view
-same_view : (v w : LinkView) → IsSameView v w → w ≡ v
+pub same_view : (v w : LinkView) → IsSameView v w → w ≡ v
 same_view v w s =
     let a : w ≡ record { sent = w.sent; taken = w.taken; kept = w.kept; stopped = w.stopped; ready = w.ready; told = w.told } = refl in
     let b : record { sent = v.sent; taken = v.taken; kept = v.kept; stopped = v.stopped; ready = v.ready; told = v.told } ≡ v = refl in
     a ∙ (rw (s.sent, s.taken, s.kept, s.stopped, s.ready, s.told) b)
+
+-- lines over one link alone were looked at
+pub looked_lines : (peer : ℕ) (old new : RingLinks) → LooksAt peer old new → (p : ℕ) → IsLooked (ring_flow old p) (ring_flow new p)
+looked_lines peer old new at p = elim (same_or_not p peer) [
+  | inl e ↦ subst (λ (n : ℕ). IsLooked (ring_flow old n) (ring_flow new n)) (sym e) at.0
+  | inr apart ↦ record { out = ap (λ (f : Flow). f.out) (at.1 p apart); come = ap (λ (f : Flow). f.come) (at.1 p apart) }
+]
+
+exact_as : (k k' : ℕ) (v v' w w' : LinkView) (f f' g g' : Flow) → k' ≡ k → v' ≡ v → w' ≡ w → f' ≡ f → g' ≡ g → IsExact k v w f g → IsExact k' v' w' f' g'
+exact_as k k' v v' w w' f f' g g' ek ev ew ef eg x = rw (ek, ev, ew, ef, eg) x
+
+-- two cores that were looked at are exact still where others were looked at since
+exact_later : (first first' other : RingCore) → IsLookedAt first first' → ring_flow first'.links (own_of other.links) ≡ ring_flow first.links (own_of other.links) → AreExactCores first other → AreExactCores first' other
+exact_later first first' other l same x = (
+  exact_as _ _ _ _ _ _ _ _ _ _ (ring_same first.links first'.links (own_of other.links) l.links) (same_view _ _ (l.views (own_of other.links))) (ap (λ (n : ℕ). ring_view other.links n) l.links.own) same (ap (λ (n : ℕ). ring_flow other.links n) l.links.own) x.0,
+  exact_as _ _ _ _ _ _ _ _ _ _ (ap (λ (n : ℕ). ring_capacity other.links n) l.links.own) (ap (λ (n : ℕ). ring_view other.links n) l.links.own) (same_view _ _ (l.views (own_of other.links))) (ap (λ (n : ℕ). ring_flow other.links n) l.links.own) same x.1,
+)
 
 exact_before : (i j i' j' : ℕ) (from from' to to' : RingCore) → i ≡ i' → j ≡ j' → IsLookedAt from from' → IsLookedAt to to' → IsExactRing (ring_view from'.links i') (ring_view to'.links j') → IsExactRing (ring_view from.links i) (ring_view to.links j)
 exact_before i j i' j' from from' to to' e f l m x =
@@ -68,6 +88,32 @@ pub more_took : (first first' c : RingCore) (cs : List RingCore) → IsLookedAt 
 more_took first first' c cs l t rest zero x e = let is_x : c ≡ x = cc in subst (λ (z : RingCore). TookInOrder first z) is_x t
 more_took first first' c cs l t rest (suc k) x e = took_before first first' x x l (looked_itself x) (rest k x e)
 
+peer : (budget : ℕ) (budgets : List ℕ) (first : RingCore) (others : List RingCore) (k : ℕ) (c : RingCore) → AreMachine budget budgets first others → slice_get others k ≡ Some c → (b : ℕ) × IsPeer (length budgets) k b first c
+peer budget budgets first others k c machine at =
+    let b = get_at budgets k (omega (arith, slice_get_within others k c at, machine.all)) in
+    (b.0, machine.peers k b.0 c b.1 at)
+
+pub more_exact : (first first' c c' : RingCore) (cs cs' : List RingCore) → HaveOwnLinks (c ∷ cs) → IsLookedAt c c' → AreExactCores first c' → IsLookedAt first first' → LooksOnlyAt cs first first' → EachIsExact first' cs' → EachIsExact first' (c' ∷ cs')
+more_exact first first' c c' cs cs' own l x l' only rest zero d at =
+    let is : c' ≡ d = cc in
+    subst (λ (y : RingCore). AreExactCores first' y) is (exact_later first first' c' l' (only (own_of c'.links) (λ k e at_e same. absurd (omega (arith, own 0 (suc k) c e refl at_e (sym l.links.own ∙ same))))) x)
+more_exact first first' c c' cs cs' own l x l' only rest (suc k) d at = rest k d at
+
+pub more_only : (first mid first' c : RingCore) (cs : List RingCore) → LooksAt (own_of c.links) first.links mid.links → LooksOnlyAt cs mid first' → LooksOnlyAt (c ∷ cs) first first'
+more_only first mid first' c cs at only p apart = only p (λ k d at_d. apart (suc k) d at_d) ∙ at.1 p (apart 0 c refl)
+
+pub rest_own : (c : RingCore) (cs : List RingCore) → HaveOwnLinks (c ∷ cs) → HaveOwnLinks cs
+rest_own c cs own j k x y at_x at_y e = omega (arith, own (suc j) (suc k) x y at_x at_y e)
+
+pub none_exact : (first : RingCore) → EachIsExact first []
+none_exact first k c at = absurd cc
+
+pub none_only : (first : RingCore) → LooksOnlyAt [] first first
+none_only first p apart = refl
+
+pub all_own : (budget : ℕ) (budgets : List ℕ) (first : RingCore) (others : List RingCore) → AreMachine budget budgets first others → HaveOwnLinks others
+all_own budget budgets first others machine j k c d at_c at_d e = omega (arith, e, (peer budget budgets first others j c machine at_c).1.place.links_are, (peer budget budgets first others k d machine at_d).1.place.links_are)
+
 -- the links of core 0 are joined to those of the others still
 pub rest_joined : (first first' c : RingCore) (cs : List RingCore) → IsLookedAt first first' → ((k : ℕ) (x : RingCore) → slice_get (c ∷ cs) k ≡ Some x → AreJoinedLinks first.links x.links)
     → (k : ℕ) (x : RingCore) → slice_get cs k ≡ Some x → AreJoinedLinks first'.links x.links
@@ -80,11 +126,6 @@ first_joined first others c cs e joined = joined 0 c (ap (λ (l : List RingCore)
 pub rest_joined_of : (first first' : RingCore) (others : List RingCore) (c : RingCore) (cs : List RingCore) → others ≡ c ∷ cs → IsLookedAt first first'
     → ((k : ℕ) (x : RingCore) → slice_get others k ≡ Some x → AreJoinedLinks first.links x.links) → (k : ℕ) (x : RingCore) → slice_get cs k ≡ Some x → AreJoinedLinks first'.links x.links
 rest_joined_of first first' others c cs e l joined = rest_joined first first' c cs l (λ k x at. joined k x (ap (λ (m : List RingCore). slice_get m k) e ∙ at))
-
-peer : (budget : ℕ) (budgets : List ℕ) (first : RingCore) (others : List RingCore) (k : ℕ) (c : RingCore) → AreMachine budget budgets first others → slice_get others k ≡ Some c → (b : ℕ) × IsPeer (length budgets) k b first c
-peer budget budgets first others k c machine at =
-    let b = get_at budgets k (omega (arith, slice_get_within others k c at, machine.all)) in
-    (b.0, machine.peers k b.0 c b.1 at)
 
 pub all_joined : (budget : ℕ) (budgets : List ℕ) (first : RingCore) (others : List RingCore) → AreMachine budget budgets first others
     → (k : ℕ) (c : RingCore) → slice_get others k ≡ Some c → AreJoinedLinks first.links c.links
@@ -123,3 +164,8 @@ of_machine cores first others whole agree budget budgets a rest e machine =
     subst (λ (x : RingCore). Concludes budget budgets x rest) is_first
     (subst (λ (l : List RingCore). Concludes budget budgets first l) is_rest
     (agree budget budgets (subst (λ (x : RingCore). AreMachine budget budgets x others) (sym is_first) (subst (λ (l : List RingCore). AreMachine budget budgets a l) (sym is_rest) machine))))
+
+-- a machine has a core
+pub some_cores : (budget : ℕ) (budgets : List ℕ) (cores : List RingCore) → IsMachine budget budgets cores → length cores ≡ 0 → ⊥
+some_cores budget budgets [] machine none = machine
+some_cores budget budgets (first ∷ others) machine none = omega (arith, none)

@@ -25,7 +25,8 @@ use Rattle.core_loop.specs.Cores.{Stands}
 use Rattle.core_loop.specs.Turning.{HasStopped}
 use Rattle.core_loop.proofs.Conclusions.{concluded}
 use Rattle.core_join.specs.Machines.{RingCore, AreMachine}
-use Rattle.core_join.specs.Conclusions.{histories_of, StandsAt0, StandsAtOther, IsIdle0, version_of_core, ShowsTable, IsRight, Concludes}
+use Rattle.core_sound.specs.Beside.{StandBeside}
+use Rattle.core_join.specs.Conclusions.{histories_of, views_of, StandsAt0, StandsAtOther, IsIdle0, version_of_core, ShowsTable, IsRight, Concludes}
 use Rattle.core_join.proofs.Lists.{choose, same_some}
 use Rattle.core_join.proofs.Unstopped.{IsExactCore, stand_beside, all_run}
 use Rattle.std.proofs.lemmas.Option.{slice_get_within}
@@ -159,7 +160,8 @@ concludes budget budgets start others machine stands stand beside stopped exact 
   tables = tables;
   newest = newest;
   settled = settled;
-  running = all_run budget budgets start others machine e.end o.ends o.all (stand_beside budget budgets start others machine e.end o.ends e.stands o.all o.stand beside) e.is_at o.are_at stopped exact;
+  running = all_run budget budgets start others machine e.end o.ends o.all stood e.is_at o.are_at stopped exact;
+  beside = stood;
 }
   where
     e : Ends0 (length budgets) budget start.part start.clock start.history (ring_view start.links)
@@ -167,6 +169,9 @@ concludes budget budgets start others machine stands stand beside stopped exact 
 
     o : OthersEnd budgets others
     o = others_end budget budgets start others machine stand
+
+    stood : StandBeside budget budgets start.history (histories_of others) (ring_view start.links) (views_of others) e.end o.ends
+    stood = stand_beside budget budgets start others machine e.end o.ends e.stands o.all o.stand beside
 
     computation : Computation budget budgets start.history (histories_of others) e.end o.ends
     computation = computation_of budget budgets start others e.end machine e.stands o beside

@@ -28,6 +28,7 @@ looked_itself c = record {
   core = refl;
   links = SameLinks-itself c.links;
   views = λ p. record { sent = refl; taken = refl; kept = refl; stopped = refl; ready = refl; told = refl };
+  lines = λ p. record { out = refl; come = refl };
 }
 
 pub looked_along : (a b c : RingCore) → IsLookedAt a b → IsLookedAt b c → IsLookedAt a c
@@ -35,6 +36,7 @@ looked_along a b c h k = record {
   core = k.core ∙ ap (λ (x : RingCore). record x { links = c.links }) h.core;
   links = SameLinks-along a.links b.links c.links h.links k.links;
   views = λ p. along_views (ring_view a.links p) (ring_view b.links p) (ring_view c.links p) (h.views p) (k.views p);
+  lines = λ p. record { out = (k.lines p).out ∙ (h.lines p).out; come = (k.lines p).come ∙ (h.lines p).come };
 }
 
 quiet_back : (v w : LinkView) → IsSameView v w → Quiet w v

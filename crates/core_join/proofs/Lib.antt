@@ -7,3 +7,6 @@ pub mod Agreeing
 pub mod Least
 pub mod OneList
 pub mod Crossing
+pub mod Along
+pub mod Logs
+pub mod Told

@@ -3,6 +3,7 @@ use Rattle.std.proofs.Common.{◌≡◌, ℕ, zero, suc, List, [], ◌∷◌, le
 use Rattle.core_links.specs.declared.ring_links.Link.{Link}
 use Rattle.core_links.specs.declared.ring_links.RingLinks.{RingLinks}
 use Rattle.core_links.specs.RingSlots.{own_of, link_to, SameSlot, SameLinks, AreJoinedSlots, AreJoinedLinks}
+use Rattle.core_links.specs.Flows.{HoldLines, place_capacity, ring_capacity}
 use Rattle.core_loop.specs.Cores.{SameCore}
 use Rattle.core_join.specs.Machines.{RingCore, HasPlace, IsMachine, AreSameCores}
 use Rattle.std.proofs.lemmas.Option.{slice_get_within}
@@ -22,6 +23,20 @@ joined_links a b c d same other joined =
     joined_slots (link_to a (own_of c)) (link_to b (own_of c)) (link_to c (own_of a)) (link_to d (own_of a)) (same.each (own_of c)) (other.each (own_of a)) joined in
     let to_b : AreJoinedSlots (link_to b (own_of c)) (link_to d (own_of b)) = subst (λ (n : ℕ). AreJoinedSlots (link_to b (own_of c)) (link_to d n)) (sym same.own) here in
     subst (λ (n : ℕ). AreJoinedSlots (link_to b n) (link_to d (own_of b))) (sym other.own) to_b
+
+-- the rings hold what they held
+same_capacity : (a b : Option Link) → SameSlot a b → place_capacity b ≡ place_capacity a
+same_capacity None None same = refl
+same_capacity None (Some b) same = absurd same
+same_capacity (Some a) None same = absurd same
+same_capacity (Some a) (Some b) same = same.0.1
+
+pub ring_same : (a b : RingLinks) (p : ℕ) → SameLinks a b → ring_capacity b p ≡ ring_capacity a p
+ring_same a b p same = same_capacity (link_to a p) (link_to b p) (same.each p)
+
+hold_still : (a b c d : RingLinks) → SameLinks a b → SameLinks c d → HoldLines a c → HoldLines b d
+hold_still a b c d same other h =
+    (omega (arith, h.0, ap (λ (n : ℕ). ring_capacity b n) other.own, ring_same a b (own_of c) same), omega (arith, h.1, ap (λ (n : ℕ). ring_capacity d n) same.own, ring_same c d (own_of a) other))
 
 -- where there was no link there is none
 no_link_still : (a b : Option Link) → SameSlot a b → a ≡ None → b ≡ None
@@ -54,6 +69,7 @@ machine_ran budget budgets (first ∷ others) (again ∷ others_again) machine s
           record {
             place = same_place (suc i) (suc (length budgets)) b c.0 d p.place ran;
             joined = joined_links first.links again.links c.0.links d.links ran0.links ran.links p.joined;
+            holds = hold_still first.links again.links c.0.links d.links ran0.links ran.links p.holds;
             no_other = λ entry. no_link_still (link_to c.0.links (suc entry)) (link_to d.links (suc entry)) (ran.links.each (suc entry)) (p.no_other entry);
           };
     }

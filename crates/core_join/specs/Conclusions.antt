@@ -1,5 +1,5 @@
 -- What the joined cores of one machine did.
-use Rattle.std.specs.Prelude.{◌≡◌, ◌++◌, ℕ, List, ◌∷◌, length, map, None, Some, slice_get, Vec}
+use Rattle.std.specs.Prelude.{◌≡◌, ◌++◌, ℕ, List, [], ◌∷◌, length, map, None, Some, slice_get, Vec}
 use Rattle.std.specs.Global.{Global}
 use Rattle.filter_table.specs.declared.operation.Op.{Op}
 use Rattle.filter_table.specs.Tables.{table}
@@ -15,11 +15,18 @@ use Rattle.world_histories.specs.Decisions.{DecidesAs}
 use Rattle.core_loop.specs.declared.part.Part.{Part}
 use Rattle.core_loop.specs.declared.part.Part.TheVariants as part
 use Rattle.core_loop.specs.Keeping.{IsHome, IsOther, replica_of}
+use Rattle.core_links.specs.Views.{LinkView}
+use Rattle.core_links.specs.RingSlots.{ring_view}
+use Rattle.core_sound.specs.Beside.{StandBeside}
 use Rattle.core_join.specs.Machines.{RingCore, AreMachine}
 
 -- the histories of cores
 abbrev pub histories_of : List RingCore → List (List Stamped)
 histories_of cores = map (λ c. c.history) cores
+
+-- what their links show
+abbrev pub views_of : List RingCore → List (ℕ → LinkView)
+views_of cores = map (λ c. ring_view c.links) cores
 
 -- lists in memory, as lists
 abbrev pub listed_histories : List (Vec Stamped Global) → List (List Stamped)
@@ -79,7 +86,14 @@ pub record Concludes (budget : ℕ) (budgets : List ℕ) (first : RingCore) (oth
   pub newest : version_of_core first ≡ length end.log
   pub settled : IsIdle0 first.part → (i : ℕ) (c : RingCore) → slice_get (first ∷ others) i ≡ Some c → version_of_core c ≡ length end.log
   pub running : AreRunning (first ∷ others)
+  -- over each link was taken the front of what was sent
+  pub beside : StandBeside budget budgets first.history (histories_of others) (ring_view first.links) (views_of others) end ends
 
 -- whatever budgets make these cores a machine
 abbrev pub OfMachine : List RingCore → (ℕ → List ℕ → RingCore → List RingCore → Type 0) → Type 0
 OfMachine cores P = (budget : ℕ) (budgets : List ℕ) (first : RingCore) (others : List RingCore) → cores ≡ first ∷ others → AreMachine budget budgets first others → P budget budgets first others
+
+-- the same of core 0 and the others in one list
+abbrev pub Conclude : ℕ → List ℕ → List RingCore → Type 0
+Conclude budget budgets [] = ⊥
+Conclude budget budgets (first ∷ others) = Concludes budget budgets first others

@@ -2,6 +2,7 @@
 use Rattle.std.specs.Prelude.{◌≡◌, ℕ, suc, List, [], ◌∷◌, length, None, Some, slice_get}
 use Rattle.core_links.specs.declared.ring_links.RingLinks.{RingLinks}
 use Rattle.core_links.specs.RingSlots.{own_of, link_to, AreJoinedLinks, SameLinks}
+use Rattle.core_links.specs.Flows.{HoldLines}
 use Rattle.core_loop.specs.Keeping.{replica_of}
 use Rattle.core_loop.specs.Cores.{CoreState, SameCore}
 
@@ -15,11 +16,12 @@ pub record HasPlace (number cores budget : ℕ) (core : RingCore) : Type 0 where
   pub budget_is : (replica_of core.part).budget ≡ budget
   pub links_are : own_of core.links ≡ number
 
--- another core of the machine with core 0, with this entry, which is its number less one; one pair of rings joins the two, and no other link
--- leads to it
+-- another core of the machine with core 0, with this entry, which is its number less one; one pair of rings joins the two, each of which holds a
+-- line at least, and no other link leads to it
 pub record IsPeer (others entry budget : ℕ) (first core : RingCore) : Type 0 where
   pub place : HasPlace (suc entry) (suc others) budget core
   pub joined : AreJoinedLinks first.links core.links
+  pub holds : HoldLines first.links core.links
   pub no_other : (entry : ℕ) → link_to core.links (suc entry) ≡ None
 
 -- core 0 with its budget, and the others with theirs, in the order of their numbers, each joined to core 0; core 0 has no link to itself

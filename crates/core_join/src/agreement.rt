@@ -2,22 +2,24 @@
 
 ghost use Rattle.std.specs.Prelude.{◌≡◌, ◌<◌, ℕ, List, Some, length, slice_get};
 ghost use mathlib.Core.List.{IsPrefix};
-ghost use Rattle.core_links.specs.RingSlots.{AreJoinedLinks, ring_view};
+ghost use Rattle.core_links.specs.Flows.{LooksAt};
+ghost use Rattle.core_links.specs.RingSlots.{AreJoinedLinks, own_of, ring_view};
 ghost use Rattle.core_loop.specs.Cores.{Stands};
 ghost use Rattle.core_join.specs.Machines.{RingCore, AreMachine};
 ghost use Rattle.core_join.specs.Conclusions.{Concludes};
-ghost use Rattle.core_join.specs.Looking.{IsLookedAt, AreLookedAt, TookInOrder, EachTookInOrder};
+ghost use Rattle.core_join.specs.Looking.{IsLookedAt, AreLookedAt, TookInOrder, EachTookInOrder, AreExactCores, EachIsExact, HaveOwnLinks, LooksOnlyAt};
 
 use core_loop::{Core, RingLinks};
 
 /// The cores of one machine, as they stand: their histories are one computation, whatever the order in time was, and each core has the table
-/// of the log at its version. No core of a machine ever stops. Nothing is joined or ended, no event is done, and what is read of each
-/// core stays as it was.
+/// of the log at its version. No core of a machine ever stops. After it each end of a ring knows all that is in it. Nothing is joined or
+/// ended, no event is done, no line moves, and what is read of each core stays as it was.
 pub fn agree(first: &mut Core<RingLinks>, others: &mut [Core<RingLinks>])
     requires { (budget : ℕ) × (budgets : List ℕ) × AreMachine budget budgets first.old others.old }
     ensures first { IsLookedAt first.old first.new }
     ensures others { AreLookedAt others.old others.new }
     ensures agree { (budget : ℕ) (budgets : List ℕ) → AreMachine budget budgets first.old others.old → Concludes budget budgets first.old others.old }
+    ensures exact { EachIsExact first.new others.new }
 {
     look_at_all(first, others);
     first.stands();
@@ -26,10 +28,13 @@ pub fn agree(first: &mut Core<RingLinks>, others: &mut [Core<RingLinks>])
 
 // Looks at each of these cores beside core 0.
 fn look_at_all(first: &mut Core<RingLinks>, others: &mut [Core<RingLinks>])
-    requires { (k : ℕ) (c : RingCore) → slice_get others.old k ≡ Some c → AreJoinedLinks first.old.links c.links }
+    requires joined { (k : ℕ) (c : RingCore) → slice_get others.old k ≡ Some c → AreJoinedLinks first.old.links c.links }
+    requires own { HaveOwnLinks others.old }
     ensures first { IsLookedAt first.old first.new }
     ensures others { AreLookedAt others.old others.new }
     ensures each { EachTookInOrder first.old others.old }
+    ensures exact { EachIsExact first.new others.new }
+    ensures only { LooksOnlyAt others.old first.old first.new }
 {
     match others.split_first_mut() {
         None => {}
@@ -46,6 +51,8 @@ fn look_at(first: &mut Core<RingLinks>, other: &mut Core<RingLinks>)
     ensures first { IsLookedAt first.old first.new }
     ensures other { IsLookedAt other.old other.new }
     ensures took { TookInOrder first.old other.old }
+    ensures exact { AreExactCores first.new other.new }
+    ensures only { LooksAt (own_of other.old.links) first.old.links first.new.links }
 {
     first.beside(other);
     other.stands();

@@ -2,7 +2,8 @@
 
 ghost use Rattle.std.specs.Prelude.{◌≡◌, ◌∷◌, ℕ, List, IfOk};
 ghost use Rattle.core_join.specs.Machines.{IsMachine};
-ghost use Rattle.core_join.specs.Conclusions.{Concludes, OfMachine, histories_of, listed_histories};
+ghost use Rattle.core_join.specs.Looking.{AreLookedAt, AreExactMachine};
+ghost use Rattle.core_join.specs.Conclusions.{Concludes, Conclude, OfMachine, histories_of, listed_histories};
 
 use crate::agreement::agree;
 use crate::recorded::Recorded;
@@ -44,10 +45,13 @@ fn part(alloc: Global, recorded: Vec<Recorded<RingLinks>>) -> Result<Parted, All
     Ok(Parted { cores, histories })
 }
 
-// The first of the cores and the others agree.
-fn agree_all(cores: &mut [Core<RingLinks>])
+/// The cores of one machine, as they stand, as one list: `agree` of the first and the others.
+pub fn agree_all(cores: &mut [Core<RingLinks>])
     requires { (budget : ℕ) × (budgets : List ℕ) × IsMachine budget budgets cores.old }
-    ensures { OfMachine cores.old Concludes }
+    ensures looked { AreLookedAt cores.old cores.new }
+    ensures exact { AreExactMachine cores.new }
+    ensures agree { OfMachine cores.old Concludes }
+    ensures concludes { (budget : ℕ) (budgets : List ℕ) → IsMachine budget budgets cores.old → Conclude budget budgets cores.new }
 {
     match cores.split_first_mut() {
         None => {}

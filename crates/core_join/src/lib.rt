@@ -8,7 +8,7 @@ mod merging;
 mod recorded;
 
 pub use agreement::agree;
-pub use conclusion::{Histories, conclude};
+pub use conclusion::{Histories, agree_all, conclude};
 pub use laws::cores_stay_a_machine;
 pub use merging::{in_order, merge};
 pub use recorded::{Recorded, RecordedTurn};

@@ -45,7 +45,7 @@ pub enum RecordedTurn {
 }
 
 impl<L: Links> Recorded<L> {
-    ghost use Rattle.std.specs.Prelude.{◌≡◌, ◌≢◌, ◌++◌, ◌∷◌, ℕ, [], true, false, Some, None, IfSome, IfNone};
+    ghost use Rattle.std.specs.Prelude.{◌≡◌, ◌≢◌, ◌<◌, ◌++◌, ◌∷◌, ℕ, [], true, false, Some, None, IfSome, IfNone};
     ghost use mathlib.Core.List.{IsPrefix};
     ghost use Rattle.rx_queue.specs.Queue.{jobs_put, jobs_seen, jobs_taken, AreEnds, SamePort, SameIntake};
     ghost use Rattle.rx_queue.specs.declared.job.Job.{Job as GhostJob};
@@ -54,7 +54,8 @@ impl<L: Links> Recorded<L> {
     ghost use Rattle.core_loop.specs.Cores.{SameCore, NothingDone, DidOne, CanReceive, begun};
     ghost use Rattle.core_loop.specs.Receipts.{receives};
     ghost use Rattle.core_loop.specs.Beginning.{CanBeginNext};
-    ghost use Rattle.core_loop.specs.Choosing.{NoMessageNow};
+    ghost use Rattle.core_links.specs.Flows.{FlowsOn};
+    ghost use Rattle.core_loop.specs.Choosing.{ShowsNothing, NoMessageNow};
     ghost use Rattle.core_loop.specs.Turning.{StopsFirst, IsSpent, LacksMemory, HasWork};
     ghost use Rattle.core_join.specs.declared.recorded.RecordedTurn.TheVariants.{Did, Idle, Stopped, Spent, NoMemory, NoRoom};
 
@@ -108,6 +109,9 @@ impl<L: Links> Recorded<L> {
         ensures no_memory { result ≡ NoMemory → HasWork self.old.cores self.old.part self.old.pending (L.view self.new.links) rx self.new.intake }
         ensures idle_message { result ≡ Idle → NoMessageNow self.new.cores self.new.part (L.view self.new.links) }
         ensures idle { result ≡ Idle → CanBeginNext self.new.cores self.new.part self.new.pending (L.view self.new.links) → ⊥ }
+        ensures lines { result ≡ Idle → (p : ℕ) → FlowsOn (L.flow self.old.links p) (L.flow self.new.links p) }
+        ensures full { result ≡ Idle → (p : ℕ) → (L.view self.new.links p).ready ≡ false → (L.flow self.new.links p).room ≡ 0 }
+        ensures dry { result ≡ Idle → ((p : ℕ) → p < self.new.cores → ShowsNothing (L.view self.new.links p)) → (p : ℕ) → p < self.new.cores → (L.flow self.new.links p).known ≡ 0 }
         ensures idle_job { result ≡ Idle → rx ≡ true → (job : GhostJob) → CanReceive self.new job → ⊥ }
     {
         if self.events.reserve(1).is_err() {

@@ -29,10 +29,12 @@ use Rattle.core_boot.specs.Lanes.{items_for}
 use Rattle.core_threads.specs.declared.halt.Halt.{Halt}
 use Rattle.core_threads.specs.declared.halt.Halt.TheVariants as halt
 use Rattle.core_threads.specs.Ending.{EndsRightly, HaltsFor, HaltsRightly, IsAtEnd}
-use Rattle.headline.specs.Headline.{log_of, ShowTables, begun_in, received_in}
+use Rattle.headline.specs.Headline.{ShowTables, begun_in, received_in}
+use Rattle.world_model.specs.Committed.{log_of}
 use Rattle.headline.specs.Shown.{replicas_of_cores}
 use Rattle.headline.specs.Ended.{HaveEnded}
-use Rattle.headline.proofs.OneList.{joined_deliver, joined_tables, joined_begun, joined_received, joined_newest, joined_none_begun, joined_none_received}
+use Rattle.headline.proofs.OneList.{joined_tables, joined_begun, joined_received, joined_newest, joined_none_begun, joined_none_received}
+use Rattle.core_join.proofs.Told.{joined_deliver}
 
 -- the requests of cores other than 0 are short, so each can be given to its core
 short_for : (core : ℕ) (op : Op) → (0 < core → HasShortProgram op) → AreShort core (op ∷ [])

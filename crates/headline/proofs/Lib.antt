@@ -1,4 +1,3 @@
-pub mod Logs
 pub mod Shown
 pub mod Applying
 pub mod OneList

@@ -29,7 +29,8 @@ use Rattle.world_histories.proofs.Requests.{Tracks, run_tracks}
 use Rattle.core_join.specs.Machines.{RingCore}
 use Rattle.core_join.specs.Conclusions.{Concludes, histories_of}
 use Rattle.core_join.specs.Merges.{ListsRuns}
-use Rattle.headline.specs.Headline.{Told, nothing_told, told_with, log_of, ShowTables, begun_by, begun_in}
+use Rattle.headline.specs.Headline.{ShowTables, begun_by, begun_in}
+use Rattle.world_model.specs.Committed.{Told, nothing_told, told_with, log_of}
 use Rattle.headline.specs.Starts.{events_at, started_for, submitted_by, submitted_in, StartOneByOne}
 use Rattle.headline.proofs.Ordering.{count_first, submitted_count}
 

@@ -33,30 +33,10 @@ use Rattle.core_loop.specs.Receipts.{receives}
 use Rattle.core_join.specs.Machines.{RingCore}
 use Rattle.core_join.specs.Conclusions.{Concludes, StandsAtOther, IsIdle0, histories_of, version_of_core}
 use Rattle.core_join.specs.Merges.{ListsRuns, ListsRun}
-use Rattle.headline.specs.Headline.{log_of, ShowTables, begun_by, begun_in, received_by, received_in}
+use Rattle.headline.specs.Headline.{ShowTables, begun_by, begun_in, received_by, received_in}
+use Rattle.world_model.specs.Committed.{log_of}
 use Rattle.headline.specs.Shown.{replicas_of_cores}
-use Rattle.headline.proofs.Logs.{run_log}
-use Rattle.headline.proofs.Shown.{delivers_shown}
-
--- The one list of events
-
-one_list : (budget : ℕ) (budgets : List ℕ) (first : RingCore) (others : List RingCore) (list : List Done) → (con : Concludes budget budgets first others) → ListsRuns (histories_of (first ∷ others)) list
-    → ListsRun budget budgets first.history (histories_of others) con.end con.ends list
-one_list budget budgets first others list con lists = lists budget budgets first.history (histories_of others) con.end con.ends refl con.computation
-
-list_run : (budget : ℕ) (budgets : List ℕ) (first : RingCore) (others : List RingCore) (list : List Done) → (con : Concludes budget budgets first others)
-    → (l : ListsRun budget budgets first.history (histories_of others) con.end con.ends list) → Run budget budgets list l.run.world
-list_run budget budgets first others list con l = subst (λ (ds : List Done). Run budget budgets ds l.run.world) (sym l.is_listed) l.run.run
-
--- the log is the one that the list tells
-list_log : (budget : ℕ) (budgets : List ℕ) (first : RingCore) (others : List RingCore) (list : List Done) → (con : Concludes budget budgets first others) → (l : ListsRun budget budgets first.history (histories_of others) con.end con.ends list)
-    → con.end.log ≡ log_of list
-list_log budget budgets first others list con l = sym l.run.all_end.log_is ∙ run_log budget budgets list l.run.world (list_run budget budgets first others list con l)
-
-pub joined_deliver : (budget : ℕ) (budgets : List ℕ) (first : RingCore) (others : List RingCore) (list : List Done) → Concludes budget budgets first others → ListsRuns (histories_of (first ∷ others)) list → Delivers (log_of list) list
-joined_deliver budget budgets first others list con lists =
-    let l = one_list budget budgets first others list con lists in
-    delivers_shown budget budgets list l.run.world (list_run budget budgets first others list con l)
+use Rattle.core_join.proofs.Told.{joined_deliver, list_log, list_run, one_list}
 
 -- Tables
 

@@ -21,7 +21,8 @@ use Rattle.world_histories.proofs.Requests.{submits_by, submits_of, begins_of}
 use Rattle.core_drive.specs.declared.step.CoreStep.{CoreStep}
 use Rattle.core_drive.specs.declared.step.StepOutcome.{StepOutcome}
 use Rattle.core_drive.specs.Steps.{IsOf, did, of_core}
-use Rattle.headline.specs.Headline.{Told, nothing_told, asked, committing, told_with, log_of, begun_by, begun_in}
+use Rattle.headline.specs.Headline.{begun_by, begun_in}
+use Rattle.world_model.specs.Committed.{Told, nothing_told, asked, committing, told_with, log_of}
 use Rattle.headline.specs.Served.{events_of}
 use Rattle.headline.specs.Starts.{events_at, started_for, submitted_by, submitted_in, StartOneByOne}
 

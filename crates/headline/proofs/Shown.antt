@@ -9,15 +9,15 @@ use Rattle.filter_table.proofs.Tables.{table_version, table_front}
 use Rattle.table_replica.specs.Shown.{ReplicaState}
 use Rattle.world_events.specs.declared.event.Done.{Done}
 use Rattle.world_model.specs.Worlds.{Peer, World, version_at, Run}
-use Rattle.world_model.specs.Decisions.{Delivers}
 use Rattle.world_model.specs.Readings.{version_of}
 use Rattle.world_model.proofs.Lists.{get_map}
 use Rattle.world_model.proofs.Agreement.{of_core}
-use Rattle.world_model.proofs.RunLaws.{run_agrees, run_versions, run_delivers, version_within}
+use Rattle.world_model.proofs.RunLaws.{run_agrees, run_versions, version_within}
 use Rattle.world_core.specs.Shown.{ShowsReplica}
-use Rattle.headline.specs.Headline.{log_of, ShowTables, AreEqualByVersion}
+use Rattle.headline.specs.Headline.{ShowTables, AreEqualByVersion}
+use Rattle.world_model.specs.Committed.{log_of}
 use Rattle.headline.specs.Shown.{replica_of_peer, replicas_of}
-use Rattle.headline.proofs.Logs.{run_log}
+use Rattle.core_join.proofs.Logs.{run_log}
 
 same_state : (r : ReplicaState) (b : ℕ) (s : TableState) (staged : Option Op) → b ≡ r.budget → s ≡ r.shown → staged ≡ r.staged → Some (record { budget = b; shown = s; staged = staged }) ≡ Some r
 same_state r b s staged e e' e'' = rw (e, e', e'') refl
@@ -74,6 +74,3 @@ equal_shown events replicas shown core other r s at at' same =
     let a = shown core r at in
     let b = shown other s at' in
     a.shown ∙ (ap (table (log_of events)) (sym a.numbered ∙ (same ∙ b.numbered)) ∙ sym b.shown)
-
-pub delivers_shown : (budget : ℕ) (budgets : List ℕ) (events : List Done) (w : World) → Run budget budgets events w → Delivers (log_of events) events
-delivers_shown budget budgets events w run = subst (λ (log : List Op). Delivers log events) (run_log budget budgets events w run) (run_delivers budget budgets events w run)

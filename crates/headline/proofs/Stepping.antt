@@ -20,7 +20,7 @@ use Rattle.world_histories.specs.Merging.{core_of, part, as_listed}
 use Rattle.core_loop.specs.declared.cause.Turn.TheVariants.{Did}
 use Rattle.core_loop.specs.Cores.{begun}
 use Rattle.core_join.specs.Machines.{RingCore, IsMachine, AreSameCores}
-use Rattle.core_join.specs.Conclusions.{Concludes, histories_of}
+use Rattle.core_join.specs.Conclusions.{Concludes, Conclude, histories_of}
 use Rattle.core_join.specs.Merges.{ListsRuns}
 use Rattle.core_boot.specs.Booted.{HasDoneNothing}
 use Rattle.core_threads.specs.Recording.{HaveNoHistories}
@@ -30,7 +30,7 @@ use Rattle.core_drive.specs.declared.step.Task.TheVariants.{Turn, Ask, Receive}
 use Rattle.core_drive.specs.declared.step.StepOutcome.{StepOutcome}
 use Rattle.core_drive.specs.declared.step.StepOutcome.TheVariants.{Turned, Received}
 use Rattle.core_drive.specs.Steps.{IsOf, did, asked_op, decided, of_core}
-use Rattle.core_drive.specs.Driving.{IsStep, IsGivable, DrivesAt, AreDriven, Conclude}
+use Rattle.core_drive.specs.Driving.{IsStep, IsGivable, DrivesAt, AreDriven}
 use Rattle.core_drive.proofs.Steps.{driven_none, driven_more}
 use Rattle.core_drive.proofs.Tasks.{drives_along}
 use Rattle.core_join.proofs.Machines.{machine_ran}
@@ -39,7 +39,8 @@ use Rattle.headline.specs.Shown.{replicas_of_cores}
 use Rattle.headline.specs.Served.{events_of}
 use Rattle.headline.specs.Starts.{events_at, StartOneByOne}
 use Rattle.headline.proofs.Ordering.{begun_at, AllOf, all_at, steps_own, steps_at, Silent, submits_parts, starts_parts, SameParts}
-use Rattle.headline.proofs.OneList.{joined_deliver, joined_tables, joined_begun, joined_none_begun, none_beyond, history_at}
+use Rattle.headline.proofs.OneList.{joined_tables, joined_begun, joined_none_begun, none_beyond, history_at}
+use Rattle.core_join.proofs.Told.{joined_deliver}
 use Rattle.headline.proofs.Listed.{started_same, begun_in_same, tables_same, delivers_same, starts_one, run_starts, merged_lists, events_part}
 use Rattle.headline.proofs.Counts.{commits, quiet_runs, Counts, submits_of_same, nothing_left, order_one}
 use Rattle.headline.proofs.Parts.{Says, parts_say}

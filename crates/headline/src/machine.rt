@@ -7,7 +7,8 @@ ghost use Rattle.world_events.specs.declared.event.Event.TheVariants.{Submit};
 ghost use Rattle.world_model.specs.Decisions.{Delivers};
 ghost use Rattle.world_core.specs.Refusals.{Extends};
 ghost use Rattle.headline.specs.declared.fault.Fault.TheVariants.{CoreCount};
-ghost use Rattle.headline.specs.Headline.{log_of, ShowTables, AreEqualByVersion};
+ghost use Rattle.headline.specs.Headline.{ShowTables, AreEqualByVersion};
+ghost use Rattle.world_model.specs.Committed.{log_of};
 
 use crate::fault::Fault;
 use crate::replicas::{Holder, Replicas};

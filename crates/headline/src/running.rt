@@ -6,7 +6,8 @@ ghost use Rattle.world_model.specs.Decisions.{Delivers};
 ghost use Rattle.rx_queue.specs.declared.job.Job.{Job as GhostJob};
 ghost use Rattle.core_boot.specs.Lanes.{items_for};
 ghost use Rattle.headline.specs.declared.fault.Fault.TheVariants.{CoreCount, Halted};
-ghost use Rattle.headline.specs.Headline.{log_of, ShowTables, AreEqualByVersion, begun_in, received_in};
+ghost use Rattle.headline.specs.Headline.{ShowTables, AreEqualByVersion, begun_in, received_in};
+ghost use Rattle.world_model.specs.Committed.{log_of};
 ghost use Rattle.headline.specs.Ended.{HaveEnded};
 
 use crate::fault::Fault;

@@ -11,9 +11,11 @@ ghost use Rattle.core_join.specs.Machines.{IsMachine};
 ghost use Rattle.core_boot.specs.Booted.{HasDoneNothing};
 ghost use Rattle.core_drive.specs.declared.step.Task.TheVariants.{Ask};
 ghost use Rattle.core_drive.specs.Steps.{IsOf, did, asked_op, of_core};
-ghost use Rattle.core_drive.specs.Driving.{IsStep, IsRunning, AreDriven, Conclude};
+ghost use Rattle.core_join.specs.Conclusions.{Conclude};
+ghost use Rattle.core_drive.specs.Driving.{IsStep, IsRunning, AreDriven};
 ghost use Rattle.headline.specs.declared.fault.Fault.TheVariants.{CoreCount, NoMemory};
-ghost use Rattle.headline.specs.Headline.{log_of, ShowTables, AreEqualByVersion, begun_in};
+ghost use Rattle.headline.specs.Headline.{ShowTables, AreEqualByVersion, begun_in};
+ghost use Rattle.world_model.specs.Committed.{log_of};
 ghost use Rattle.headline.specs.Served.{events_of};
 ghost use Rattle.headline.specs.Starts.{StartOneByOne};
 

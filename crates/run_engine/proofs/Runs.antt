@@ -22,8 +22,8 @@ use Rattle.core_threads.specs.declared.halt.Halt.{Halt}
 use Rattle.core_boot.specs.Booting.{HaveRequests, IsMachineOf}
 use Rattle.core_threads.specs.Ending.{EndsRightly, IsAtEnd}
 use Rattle.core_boot.specs.Lanes.{items_for}
-use Rattle.headline.specs.Headline.{log_of}
-use Rattle.headline.proofs.OneList.{joined_deliver}
+use Rattle.world_model.specs.Committed.{log_of}
+use Rattle.core_join.proofs.Told.{joined_deliver}
 use Rattle.sim_lines.specs.Events.{done_line}
 use Rattle.mk_script.specs.declared.script.Item.{Item}
 use Rattle.mk_script.specs.declared.script.Script.{Script}

@@ -10,7 +10,7 @@ use Rattle.world_histories.specs.Histories.{Core0, Other, Computation}
 use Rattle.world_histories.specs.Merging.{Merged, as_listed}
 use Rattle.core_loop.specs.Cores.{begun, receipts}
 use Rattle.core_boot.specs.Lanes.{items_for}
-use Rattle.headline.specs.Headline.{log_of}
+use Rattle.world_model.specs.Committed.{log_of}
 use Rattle.sim_lines.specs.Events.{done_line, left_line}
 use Rattle.mk_script.specs.declared.script.Item.{Item}
 use Rattle.mk_script.specs.declared.script.Script.{Script}

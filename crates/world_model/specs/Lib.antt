@@ -3,3 +3,4 @@ pub mod Worlds
 pub mod Readings
 pub mod Agreement
 pub mod Decisions
+pub mod Committed

@@ -26,7 +26,7 @@ use Rattle.world_model.proofs.Runs.{run_keeps}
 use Rattle.world_model.proofs.Agreement.{run_stages}
 use Rattle.world_model.proofs.Known.{run_known}
 use Rattle.world_model.proofs.Followed.{request_after-append, waits_sent}
-use Rattle.headline.specs.Headline.{Told, nothing_told, asked, committing, told_with, log_of}
+use Rattle.world_model.specs.Committed.{Told, nothing_told, asked, committing, told_with, log_of}
 
 -- what an answer adds
 abbrev decided : Told → Answer → Told
