@@ -1,4 +1,4 @@
-"""Writes what the programs are measured on: lines of hexadecimal digits, and captures. Usage: inputs.py FOLDER"""
+"""Writes what the programs are measured on: lines of hexadecimal digits, and captures of both formats. Usage: inputs.py FOLDER"""
 import random
 import struct
 import sys
@@ -38,12 +38,31 @@ def capture(name, size, total=0, count=0):
             number += 1
 
 
+def blocks(name, size, count):
+    """The same packets in little-endian pcapng: a section, an interface of Ethernet, and enhanced packet blocks with microseconds."""
+    padding = -size % 4
+    total = 32 + size + padding
+
+    def block(number):
+        stamp = number % 1000 * 1_000_000
+        front = struct.pack("<IIIIIII", 6, total, 0, stamp >> 32, stamp & 0xFFFFFFFF, size, size)
+        return front + packet(size, number) + bytes(padding) + struct.pack("<I", total)
+
+    made = [block(number) for number in range(1000)]
+    with open(f"{folder}/{name}", "wb") as out:
+        out.write(struct.pack("<IIIHHQI", 0x0A0D0D0A, 28, 0x1A2B3C4D, 1, 0, 2**64 - 1, 28))
+        out.write(struct.pack("<IIHHII", 1, 20, 1, 0, 262144, 20))
+        for number in range(count):
+            out.write(made[number % len(made)])
+
+
 lines("lines400.hex", 200, 60_000_000)
 lines("lines120.hex", 60, 60_000_000)
 capture("packets60.pcap", 60, total=60_000_000)
 capture("packets1500.pcap", 1500, total=60_000_000)
 for size in (60, 100, 200, 1500):
     capture(f"many{size}.pcap", size, count=200_000)
+    blocks(f"many{size}.pcapng", size, count=200_000)
 
 # Assembler texts: 4,096 instructions with a label each, a jump to the next label every fourth, and a comment of 60 MB.
 with open(f"{folder}/labels.asm", "w") as out:

@@ -66,5 +66,9 @@ if tcpdump:
             theirs = [tcpdump, *root, "-r", f"{folder}/{name}", "-w", f"{folder}/kept-by-tcpdump.pcap", *words]
             what = f"`keep` to a file, 200,000 packets of {size:,} bytes, {what}, to `tcpdump -r IN -w OUT`"
             compare(what, name, [mkdemux, "keep", code], theirs, kept)
+for size in (60, 200, 1500):
+    for what, code in (("ARP by type", ARP), ("every packet", "1,6 0 0 1")):
+        of_blocks, of_records = ([mkdemux, "keep", code, f"{folder}/many{size}.{kind}"] for kind in ("pcapng", "pcap"))
+        compare(f"`keep` of pcapng, 200,000 packets of {size:,} bytes, {what}, to the same in a savefile", f"many{size}.pcapng", of_blocks, of_records)
 compare("`check`, a comment of 60 MB", "comment.asm", [mkdemux, "check"], [f"{folder}/text_peer"])
 compare("`check`, 4,096 instructions and labels", "labels.asm", [mkdemux, "check"], [f"{folder}/text_peer"])

@@ -1,5 +1,5 @@
 #!/bin/sh
-# Builds the C peers, writes the inputs (690 MB) and measures mkdemux against the peers. Usage: bench/programs.sh [FOLDER]
+# Builds the C peers, writes the inputs (1.1 GB) and measures mkdemux against the peers. Usage: bench/programs.sh [FOLDER]
 # Needs a C compiler, python3 and libpcap's header and library (Debian: libpcap-dev). With tcpdump on the path, it is measured too.
 unset CDPATH
 set -e
