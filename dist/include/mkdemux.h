@@ -1,4 +1,5 @@
-/* mkdemux: a proved verifier of classic BPF programs, a proved machine that runs them, and functions for their texts.
+/* mkdemux: a proved verifier of classic BPF programs, a proved machine that runs them, functions for their texts, and a
+ * proved reader of captures.
  *
  * Link with -lmkdemux (pkg-config mkdemux). It needs only the C library. It has no global state, starts no thread and
  * takes no lock: calls may run at the same time wherever their arguments allow it.
@@ -109,6 +110,67 @@ struct mkdemux_writing {
     uint32_t fault; /* MKDEMUX_DONE, MKDEMUX_NO_ROOM or MKDEMUX_NO_MEMORY */
 };
 
+/* ---- Captures ---- */
+
+enum {
+    MKDEMUX_MOST_CAPTURED = 262144,  /* captured bytes of a packet */
+    MKDEMUX_MOST_BLOCK = 16777216,   /* bytes of a block of pcapng: what has to be at hand at most */
+    MKDEMUX_MOST_INTERFACES = 65536  /* of a section of pcapng: a room of so many is always enough */
+};
+
+/* How far a capture has been read: all zeros before its first byte. It is plain data and may be copied. Only mkdemux_next
+ * writes to it. */
+struct mkdemux_capture {
+    uint64_t offset;     /* bytes before the next record or block */
+    uint64_t sections;   /* of pcapng: sections that have begun */
+    uint32_t format;     /* 0: not known yet */
+    uint32_t big;        /* 1: its numbers have the high byte first */
+    uint32_t nano;       /* of a savefile: 1 where time stamps have nanoseconds, and not microseconds */
+    uint32_t link;       /* of a savefile: the link type, as 1 for Ethernet */
+    uint32_t interfaces; /* of pcapng: interfaces that the section has described */
+};
+enum mkdemux_capture_format { MKDEMUX_SAVEFILE = 1, MKDEMUX_PCAPNG = 2 };
+
+/* An interface that a section of pcapng has described. */
+struct mkdemux_interface {
+    uint16_t link;      /* the link type of its packets */
+    uint32_t snaplen;   /* the most bytes that were to be captured of a packet; 0 for no limit */
+    uint8_t resolution; /* of time stamps: 10^-k seconds for a k below 128, and 2^-k for 128 + k */
+    int64_t offset;     /* seconds to be added to time stamps */
+};
+
+/* What mkdemux_next has taken. Of all but a packet only `taken` isn't 0. */
+struct mkdemux_item {
+    size_t taken;        /* bytes to be taken off the front */
+    size_t start;        /* where in them the packet's captured bytes begin */
+    uint64_t units;      /* when it was seen: so many units of the resolution since the beginning of 1970 */
+    int64_t offset;      /* and so many seconds */
+    uint32_t captured;   /* captured bytes, at most MKDEMUX_MOST_CAPTURED */
+    uint32_t original;   /* the packet's length when it was seen */
+    uint32_t link;       /* its link type */
+    uint32_t interface;  /* the number of its interface in its section; 0 in a savefile */
+    uint32_t resolution; /* as in struct mkdemux_interface */
+    uint32_t timed;      /* 0: nothing says when it was seen */
+};
+
+/* Its answers. Those from 16 on are faults of the capture, whose place is `offset` of struct mkdemux_capture. */
+enum mkdemux_next_answer {
+    MKDEMUX_PASSED = 0, /* something was taken that has no packet: a header, an interface, another block */
+    MKDEMUX_PACKET = 1, /* a packet was taken */
+    MKDEMUX_MORE = 2,   /* the bytes don't hold all of what comes next */
+    MKDEMUX_CAPTURE_NO_SECTION = 16,
+    MKDEMUX_CAPTURE_BAD_BYTE_ORDER = 17,
+    MKDEMUX_CAPTURE_BAD_LENGTH = 18,
+    MKDEMUX_CAPTURE_LENGTH_NOT_REPEATED = 19,
+    MKDEMUX_CAPTURE_BAD_VERSION = 20, /* a savefile's isn't 2.4, or a section's isn't 1 */
+    MKDEMUX_CAPTURE_NO_INTERFACE = 21,
+    MKDEMUX_CAPTURE_BAD_CAPTURED = 22,
+    MKDEMUX_CAPTURE_TOO_MANY_INTERFACES = 23,
+    MKDEMUX_CAPTURE_TOO_LONG = 24, /* more captured bytes than MKDEMUX_MOST_CAPTURED, or a block above MKDEMUX_MOST_BLOCK */
+    MKDEMUX_CAPTURE_BAD_MAGIC = 25
+    /* or MKDEMUX_NO_ROOM: the section has more interfaces than `room`; or MKDEMUX_NO_MEMORY */
+};
+
 /* ---- The proved functions ----
  *
  * A caller owes all of them the following. Nothing checks it:
@@ -161,6 +223,18 @@ struct mkdemux_assembly mkdemux_assemble(const char *text, size_t length, struct
  * 4,096 instructions; for NO_ROOM `length` says how many bytes are needed. The rest of the room stays as it was. Takes
  * memory. */
 struct mkdemux_writing mkdemux_write_ddd(const struct mkdemux_insn *code, size_t count, char *text, size_t room);
+
+/* Takes the next header, record or block off the front of a capture: a pcap savefile (version 2.4), or pcapng, which its
+ * first four bytes tell. `bytes` are those from `capture->offset` on, cut anywhere. A packet lies in them, where `item` says;
+ * the caller goes on after `item->taken` bytes. For MKDEMUX_MORE it calls again once more bytes are behind the same ones;
+ * for MKDEMUX_NO_ROOM with the same bytes, and the same interfaces in more room. `interfaces` belongs to the capture: the
+ * caller may read the first `capture->interfaces` of them. For all answers but PASSED and PACKET nothing was taken or
+ * changed. A capture ends where its bytes end: mkdemux_capture_cut says whether it is whole.
+ * Proved: of pcapng each answer is what the format says of the bytes at their place, after the sections and interfaces
+ * before; of a savefile each record is taken as it is. `capture` and `interfaces` may hold any numbers.
+ * Takes memory for the header of a savefile alone, and gives it back. */
+uint32_t mkdemux_next(struct mkdemux_capture *capture, struct mkdemux_interface *interfaces, size_t room,
+    const uint8_t *bytes, size_t length, struct mkdemux_item *item);
 
 /* ---- An accepted program as a value: plain C over the functions above, not proved ---- */
 
@@ -217,6 +291,27 @@ static inline const char *mkdemux_rule_name(uint32_t rule)
     static const char *const names[] = {"accepted", "Empty", "TooLong", "BadCode", "ZeroDivisor", "BadShift", "BadWord",
         "JumpOut", "Ancillary", "NoReturn", "Unwritten"};
     return rule < sizeof names / sizeof *names ? names[rule] : "NoMemory";
+}
+
+/* ---- Words for captures: plain C, not proved ---- */
+
+/* The word for a fault of a capture, as in `mkdemux match`. */
+static inline const char *mkdemux_capture_fault_name(uint32_t answer)
+{
+    static const char *const names[] = {"NoSection", "BadByteOrder", "BadLength", "LengthNotRepeated", "BadVersion",
+        "NoInterface", "BadCaptured", "TooManyInterfaces", "TooLong", "BadMagic"};
+    if (answer == MKDEMUX_NO_ROOM) return "NoRoom";
+    return answer - 16 < sizeof names / sizeof *names ? names[answer - 16] : "NoMemory";
+}
+
+/* Why a capture isn't whole that ends after these bytes, for which mkdemux_next has answered MKDEMUX_MORE; or NULL. */
+static inline const char *mkdemux_capture_cut(const struct mkdemux_capture *capture, const uint8_t *bytes, size_t length)
+{
+    static const uint8_t section[] = {0x0a, 0x0d, 0x0d, 0x0a};
+    if (capture->format == 0)
+        return length < sizeof section || memcmp(bytes, section, sizeof section) ? "TruncatedHeader" : "Truncated";
+    if (length == 0) return NULL;
+    return capture->format == MKDEMUX_SAVEFILE ? "TruncatedRecord" : "Truncated";
 }
 
 #ifdef __cplusplus
