@@ -22,6 +22,11 @@ def plain(text):
     return re.sub(rb"\\([nrtvs\\])", lambda found: ESCAPES[found[1]], text.encode())
 
 
+def hexed(text):
+    """The bytes of a text of hexadecimal digits: {DIGITS}*N is N times the digits; blanks may part it."""
+    return bytes.fromhex(re.sub(r"\{([0-9a-f]*)\}\*(\d+)", lambda found: found[1] * int(found[2]), text))
+
+
 def meant(text):
     """The bytes that a text stands for: {WORDS}*N is N times the words."""
     *repeated, last = re.split(r"\{([^{}]*)\}\*(\d+)", text)
@@ -49,13 +54,13 @@ class Row:
         elif mark == "<":
             self.inputs[last] += line_of(rest)
         elif mark == "<x":
-            self.inputs[last] += bytes.fromhex(rest)
+            self.inputs[last] += hexed(rest)
         elif mark == "@":
             self.inputs[rest] = b""
         elif mark == ">":
             self.outputs[-1] += line_of(rest)
         elif mark == ">x":
-            self.outputs[-1] += bytes.fromhex(rest)
+            self.outputs[-1] += hexed(rest)
         elif mark == "!":
             self.told = (self.told or b"") + line_of(rest)
         elif mark == "silent":
