@@ -70,5 +70,11 @@ for size in (60, 200, 1500):
     for what, code in (("ARP by type", ARP), ("every packet", "1,6 0 0 1")):
         of_blocks, of_records = ([mkdemux, "keep", code, f"{folder}/many{size}.{kind}"] for kind in ("pcapng", "pcap"))
         compare(f"`keep` of pcapng, 200,000 packets of {size:,} bytes, {what}, to the same in a savefile", f"many{size}.pcapng", of_blocks, of_records)
+# Those of 1,500 bytes are more than these two read.
+for size in (60, 200):
+    for words in (["match", "--pcap", ARP], ["dump"]):
+        of_blocks, of_records = ([mkdemux, *words, f"{folder}/many{size}.{kind}"] for kind in ("pcapng", "pcap"))
+        what = f"`{words[0]}` of pcapng, 200,000 packets of {size:,} bytes, to the same in a savefile"
+        compare(what, f"many{size}.pcapng", of_blocks, of_records)
 compare("`check`, a comment of 60 MB", "comment.asm", [mkdemux, "check"], [f"{folder}/text_peer"])
 compare("`check`, 4,096 instructions and labels", "labels.asm", [mkdemux, "check"], [f"{folder}/text_peer"])
