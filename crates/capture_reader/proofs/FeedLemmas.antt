@@ -1,5 +1,5 @@
 -- How a feed of either format goes on.
-use Rattle.std.proofs.Common.{◌≡◌, ℕ, ◌+◌, ◌-◌, ◌==◌, ◌&&◌, not, nat_lt, max, min, ◌≤◌, ◌<◌, true, false, List, [], ◌∷◌, ◌++◌, length, take, drop, arith, refl, ap, sym, ◌∙◌, inl, inr, append_assoc, length-append, length-take-le, Some, None, Result, Ok, Err}
+use Rattle.std.proofs.Common.{◌≡◌, ℕ, ◌+◌, ◌-◌, ◌==◌, ◌&&◌, not, nat_lt, max, min, ◌≤◌, ◌<◌, true, false, List, [], ◌∷◌, ◌++◌, length, take, drop, arith, refl, ap, sym, ◌∙◌, inl, inr, append_assoc, length-append, length-take-le, Option, Some, None, IfSome, Result, Ok, Err}
 use Rattle.std.proofs.lemmas.List.{take-append-drop, take_all}
 use Rattle.std.specs.List.{concat}
 use Rattle.std.specs.Result.{IsErrAnd}
@@ -15,6 +15,7 @@ use Rattle.pcapng_reader.specs.Held.{Ends as EndsBlocks, HasStopped as StopsBloc
 use Rattle.pcapng_reader.specs.Grammar.{WholeBlock, IsLasting as IsLastingPcapng, Reads as ReadsPcapng, bytes_of}
 use Rattle.pcapng_reader.proofs.FeedLemmas.{stopped-lasts}
 use Rattle.capture_reader.specs.declared.entry.Found.{Found}
+use Rattle.capture_reader.specs.declared.entry.Item.{Item}
 use Rattle.capture_reader.specs.declared.entry.Found.TheVariants.{Item as Seen, Held, Nothing}
 use Rattle.capture_reader.specs.declared.fault.ReadFault.{ReadFault}
 use Rattle.capture_reader.specs.declared.fault.ReadFault.TheVariants.{Savefile as OfSavefile, Pcapng as OfPcapng}
@@ -95,6 +96,12 @@ savefile_goes bytes rest old new records records' found going is going' is' take
       let was = held_as given fed old (Savefile records) going is held in
       adds_savefile given (fed ++ takes.front) new records' found going' is' (omega (arith, was.0, length-append fed takes.front)) (told-on fed takes.front was.0 ∙ was.1) (takes.adds given fed was.2 short);
 }
+
+-- a record that lies whole, if one does
+pub savefile_goes_whole : (bytes rest : List ℕ) (old new : CaptureFeed) (records records' : RecordFeed) (item : Option Item) → old.fault ≡ None → old.format ≡ Savefile records → new.fault ≡ None → new.format ≡ Savefile records'
+    → IfSome item (λ i. AdvancesBy {E = SavefileFault} (HoldsRecords records) (HoldsRecords records') StopsRecords (held_record records') bytes rest (Ok (Seen i))) → IfSome item (λ i. Advances bytes rest old new (Ok (Seen i)))
+savefile_goes_whole bytes rest old new records records' (Some i) going is going' is' takes = savefile_goes bytes rest old new records records' (Seen i) going is going' is' takes
+savefile_goes_whole bytes rest old new records records' None going is going' is' takes = tt
 
 pub savefile_stops : (bytes rest : List ℕ) (old new : CaptureFeed) (records records' : RecordFeed) (fault : SavefileFault) → old.fault ≡ None → old.format ≡ Savefile records
     → AdvancesBy {E = SavefileFault} (HoldsRecords records) (HoldsRecords records') StopsRecords (held_record records') bytes rest (Err fault) → Advances bytes rest old new (Err (OfSavefile fault))

@@ -37,7 +37,7 @@ pub enum Format {
 }
 
 impl CaptureFeed {
-    ghost use Rattle.std.specs.Prelude.{◌≡◌, ◌≢◌, [], ℕ, List, Some, None, IfOk, OnOk, MatchOption};
+    ghost use Rattle.std.specs.Prelude.{◌≡◌, ◌≢◌, [], ℕ, List, Some, None, Ok, IfOk, IfSome, OnOk, MatchOption};
     ghost use Rattle.capture_reader.specs.Entries.{EntryBytes};
     ghost use Rattle.capture_reader.specs.Holding.{Advances, Ends, HoldsAfter, IsTold, held_entry, held_fault};
     ghost use Rattle.capture_reader.specs.Steps.{IsShorter, seen_item};
@@ -60,12 +60,43 @@ impl CaptureFeed {
     ///
     /// The fault stands whatever bytes follow, or says that memory was refused. After a fault each call answers the same fault,
     /// and changes nothing.
+    #[inline]
     pub fn next<'b>(&mut self, rest: &mut &'b [u8]) -> Result<Found<'b>, ReadFault>
         ensures advances { Advances rest.old.now rest.new.now self.old self.new result }
         ensures shorter { IfOk result (λ _. IsShorter rest.old.now rest.new.now) }
         ensures says { IsTold (held_fault self.new) result }
 
         // After a fault nothing changes.
+        ensures stays { (fault : ReadFault) → held_fault self.old ≡ Some fault → self.new ≡ self.old }
+    {
+        match self.next_whole(rest) {
+            Some(item) => Ok(Found::Item(item)),
+            None => self.go_on(rest),
+        }
+    }
+
+    /// The record of a savefile that lies whole at the front of `rest`, which is taken off; else nothing changes.
+    #[inline]
+    fn next_whole<'b>(&mut self, rest: &mut &'b [u8]) -> Option<Item<'b>>
+        ensures advances { IfSome result (λ item. Advances rest.old.now rest.new.now self.old self.new (Ok (Found.Item item))) }
+        ensures shorter { IfSome result (λ _. IsShorter rest.old.now rest.new.now) }
+        ensures going { IfSome result (λ _. (held_fault self.old ≡ None) × (held_fault self.new ≡ None)) }
+        ensures same { result ≡ None → (self.new ≡ self.old) × (rest.new.now ≡ rest.old.now) }
+    {
+        if self.fault.is_some() {
+            return None;
+        }
+        match &mut self.format {
+            Format::Savefile(records) => records.next_whole(rest),
+            Format::Unknown | Format::Pcapng(_) => None,
+        }
+    }
+
+    /// Takes bytes as `next` does, of whatever they are.
+    fn go_on<'b>(&mut self, rest: &mut &'b [u8]) -> Result<Found<'b>, ReadFault>
+        ensures advances { Advances rest.old.now rest.new.now self.old self.new result }
+        ensures shorter { IfOk result (λ _. IsShorter rest.old.now rest.new.now) }
+        ensures says { IsTold (held_fault self.new) result }
         ensures stays { (fault : ReadFault) → held_fault self.old ≡ Some fault → self.new ≡ self.old }
     {
         if let Some(fault) = self.fault {
