@@ -5,7 +5,8 @@ use Rattle.std.specs.Borrow.{Bor}
 use Rattle.std.specs.Prelude.{Result, Ok, Err, IfOk}
 use Rattle.clap.specs.Simple.{has_plain_fields}
 use Rattle.clap.specs.Walk.{is_empty, is_free_arg, rule_of}
-use Rattle.clap.specs.Adds.{AddsConflicts}
+use Rattle.clap.specs.Adds.{AddsConflicts, AddsRequirements}
+use Rattle.clap.specs.declared.builder.arg.ArgPredicate.{ArgPredicate}
 use Rattle.clap.specs.declared.builder.arg.Arg.{Arg}
 use Rattle.clap.specs.Words.{App, Rule, Text, shape_of}
 use Rattle.clap.specs.declared.builder.command.Command.{Command}
@@ -41,6 +42,20 @@ pub adds_conflict : (old new : Arg) (x : Bor Text) → AddsConflicts old new (x 
 adds_conflict old new x adds =
     let some : is_empty new.conflicts.items ≡ false = ap is_empty adds.1 ∙ not_empty old.conflicts.items x in
     let bound : is_free_arg (record old { conflicts = new.conflicts }) ≡ false = second_is_false old.exclusive (is_empty new.conflicts.items) _ some in
+    ap rule_of adds.0 ∙ ap (λ free. record (rule_of old) { is_free = free }) bound
+
+third_free_is_false : (a b c rest : Bool) → c ≡ false → (not a && (b && (c && rest))) ≡ false
+third_free_is_false true b c rest is = refl
+third_free_is_false false false c rest is = refl
+third_free_is_false false true false rest is = refl
+third_free_is_false false true true rest is = cc
+
+-- and so has one that is refused without another
+pub adds_need : (old new : Arg) (x : ArgPredicate × Bor Text) → AddsRequirements old new (x ∷ []) → rule_of new ≡ record (rule_of old) { is_free = false }
+adds_need old new x adds =
+    let longer : length (old.needs.items ++ x ∷ []) ≡ length old.needs.items + 1 = length-append old.needs.items (x ∷ []) in
+    let some : is_empty new.needs.items ≡ false = ap is_empty adds.1 ∙ ne_eqb (length (old.needs.items ++ x ∷ [])) 0 (λ e. absurd (omega (arith, e, longer))) in
+    let bound : is_free_arg (record old { needs = new.needs }) ≡ false = third_free_is_false old.exclusive (is_empty old.conflicts.items) (is_empty new.needs.items) _ some in
     ap rule_of adds.0 ∙ ap (λ free. record (rule_of old) { is_free = free }) bound
 
 -- an argument that was made has both its rule and its place

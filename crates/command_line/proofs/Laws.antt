@@ -18,7 +18,7 @@ use Rattle.command_line.proofs.OneRequest.{HasView, only_check, only_draw, only_
 -- a command was found, with this name, and of its rows this holds
 abbrev Finds : Option (Text × List Row) → Text → (List Row → Type 0) → Type 0
 Finds None name P = ⊥
-Finds (Some found) name P = (found.0 ≡ name) × (first_of (codes "file") found.1 ≡ None) × P found.1
+Finds (Some found) name P = (found.0 ≡ name) × ((first_of (codes "file") found.1 ≡ None) × (one_of (codes "link") found.1 ≡ None)) × P found.1
 
 abbrev HasMatch : Text → Bool → Bool → List Row → Type 0
 HasMatch code pcap stream rows =
@@ -31,58 +31,58 @@ FindsMatch pcap stream digit =
 finds_match_false_false : All (FindsMatch false false) (codes "0123456789")
 unfolding clap_on_literals
 finds_match_false_false =
-    All-cons (FindsMatch false false) 48 (49 ∷ 50 ∷ 51 ∷ 52 ∷ 53 ∷ 54 ∷ 55 ∷ 56 ∷ 57 ∷ []) (λ name rest. (refl, refl, (refl, refl, refl, refl, (refl, refl, refl)))) (
-    All-cons (FindsMatch false false) 49 (50 ∷ 51 ∷ 52 ∷ 53 ∷ 54 ∷ 55 ∷ 56 ∷ 57 ∷ []) (λ name rest. (refl, refl, (refl, refl, refl, refl, (refl, refl, refl)))) (
-    All-cons (FindsMatch false false) 50 (51 ∷ 52 ∷ 53 ∷ 54 ∷ 55 ∷ 56 ∷ 57 ∷ []) (λ name rest. (refl, refl, (refl, refl, refl, refl, (refl, refl, refl)))) (
-    All-cons (FindsMatch false false) 51 (52 ∷ 53 ∷ 54 ∷ 55 ∷ 56 ∷ 57 ∷ []) (λ name rest. (refl, refl, (refl, refl, refl, refl, (refl, refl, refl)))) (
-    All-cons (FindsMatch false false) 52 (53 ∷ 54 ∷ 55 ∷ 56 ∷ 57 ∷ []) (λ name rest. (refl, refl, (refl, refl, refl, refl, (refl, refl, refl)))) (
-    All-cons (FindsMatch false false) 53 (54 ∷ 55 ∷ 56 ∷ 57 ∷ []) (λ name rest. (refl, refl, (refl, refl, refl, refl, (refl, refl, refl)))) (
-    All-cons (FindsMatch false false) 54 (55 ∷ 56 ∷ 57 ∷ []) (λ name rest. (refl, refl, (refl, refl, refl, refl, (refl, refl, refl)))) (
-    All-cons (FindsMatch false false) 55 (56 ∷ 57 ∷ []) (λ name rest. (refl, refl, (refl, refl, refl, refl, (refl, refl, refl)))) (
-    All-cons (FindsMatch false false) 56 (57 ∷ []) (λ name rest. (refl, refl, (refl, refl, refl, refl, (refl, refl, refl)))) (
-    All-cons (FindsMatch false false) 57 [] (λ name rest. (refl, refl, (refl, refl, refl, refl, (refl, refl, refl)))) (All-nil (FindsMatch false false)))))))))))
+    All-cons (FindsMatch false false) 48 (49 ∷ 50 ∷ 51 ∷ 52 ∷ 53 ∷ 54 ∷ 55 ∷ 56 ∷ 57 ∷ []) (λ name rest. (refl, (refl, refl), (refl, refl, refl, refl, (refl, refl, refl)))) (
+    All-cons (FindsMatch false false) 49 (50 ∷ 51 ∷ 52 ∷ 53 ∷ 54 ∷ 55 ∷ 56 ∷ 57 ∷ []) (λ name rest. (refl, (refl, refl), (refl, refl, refl, refl, (refl, refl, refl)))) (
+    All-cons (FindsMatch false false) 50 (51 ∷ 52 ∷ 53 ∷ 54 ∷ 55 ∷ 56 ∷ 57 ∷ []) (λ name rest. (refl, (refl, refl), (refl, refl, refl, refl, (refl, refl, refl)))) (
+    All-cons (FindsMatch false false) 51 (52 ∷ 53 ∷ 54 ∷ 55 ∷ 56 ∷ 57 ∷ []) (λ name rest. (refl, (refl, refl), (refl, refl, refl, refl, (refl, refl, refl)))) (
+    All-cons (FindsMatch false false) 52 (53 ∷ 54 ∷ 55 ∷ 56 ∷ 57 ∷ []) (λ name rest. (refl, (refl, refl), (refl, refl, refl, refl, (refl, refl, refl)))) (
+    All-cons (FindsMatch false false) 53 (54 ∷ 55 ∷ 56 ∷ 57 ∷ []) (λ name rest. (refl, (refl, refl), (refl, refl, refl, refl, (refl, refl, refl)))) (
+    All-cons (FindsMatch false false) 54 (55 ∷ 56 ∷ 57 ∷ []) (λ name rest. (refl, (refl, refl), (refl, refl, refl, refl, (refl, refl, refl)))) (
+    All-cons (FindsMatch false false) 55 (56 ∷ 57 ∷ []) (λ name rest. (refl, (refl, refl), (refl, refl, refl, refl, (refl, refl, refl)))) (
+    All-cons (FindsMatch false false) 56 (57 ∷ []) (λ name rest. (refl, (refl, refl), (refl, refl, refl, refl, (refl, refl, refl)))) (
+    All-cons (FindsMatch false false) 57 [] (λ name rest. (refl, (refl, refl), (refl, refl, refl, refl, (refl, refl, refl)))) (All-nil (FindsMatch false false)))))))))))
 
 finds_match_false_true : All (FindsMatch false true) (codes "0123456789")
 unfolding clap_on_literals
 finds_match_false_true =
-    All-cons (FindsMatch false true) 48 (49 ∷ 50 ∷ 51 ∷ 52 ∷ 53 ∷ 54 ∷ 55 ∷ 56 ∷ 57 ∷ []) (λ name rest. (refl, refl, (refl, refl, refl, refl, (refl, refl, refl)))) (
-    All-cons (FindsMatch false true) 49 (50 ∷ 51 ∷ 52 ∷ 53 ∷ 54 ∷ 55 ∷ 56 ∷ 57 ∷ []) (λ name rest. (refl, refl, (refl, refl, refl, refl, (refl, refl, refl)))) (
-    All-cons (FindsMatch false true) 50 (51 ∷ 52 ∷ 53 ∷ 54 ∷ 55 ∷ 56 ∷ 57 ∷ []) (λ name rest. (refl, refl, (refl, refl, refl, refl, (refl, refl, refl)))) (
-    All-cons (FindsMatch false true) 51 (52 ∷ 53 ∷ 54 ∷ 55 ∷ 56 ∷ 57 ∷ []) (λ name rest. (refl, refl, (refl, refl, refl, refl, (refl, refl, refl)))) (
-    All-cons (FindsMatch false true) 52 (53 ∷ 54 ∷ 55 ∷ 56 ∷ 57 ∷ []) (λ name rest. (refl, refl, (refl, refl, refl, refl, (refl, refl, refl)))) (
-    All-cons (FindsMatch false true) 53 (54 ∷ 55 ∷ 56 ∷ 57 ∷ []) (λ name rest. (refl, refl, (refl, refl, refl, refl, (refl, refl, refl)))) (
-    All-cons (FindsMatch false true) 54 (55 ∷ 56 ∷ 57 ∷ []) (λ name rest. (refl, refl, (refl, refl, refl, refl, (refl, refl, refl)))) (
-    All-cons (FindsMatch false true) 55 (56 ∷ 57 ∷ []) (λ name rest. (refl, refl, (refl, refl, refl, refl, (refl, refl, refl)))) (
-    All-cons (FindsMatch false true) 56 (57 ∷ []) (λ name rest. (refl, refl, (refl, refl, refl, refl, (refl, refl, refl)))) (
-    All-cons (FindsMatch false true) 57 [] (λ name rest. (refl, refl, (refl, refl, refl, refl, (refl, refl, refl)))) (All-nil (FindsMatch false true)))))))))))
+    All-cons (FindsMatch false true) 48 (49 ∷ 50 ∷ 51 ∷ 52 ∷ 53 ∷ 54 ∷ 55 ∷ 56 ∷ 57 ∷ []) (λ name rest. (refl, (refl, refl), (refl, refl, refl, refl, (refl, refl, refl)))) (
+    All-cons (FindsMatch false true) 49 (50 ∷ 51 ∷ 52 ∷ 53 ∷ 54 ∷ 55 ∷ 56 ∷ 57 ∷ []) (λ name rest. (refl, (refl, refl), (refl, refl, refl, refl, (refl, refl, refl)))) (
+    All-cons (FindsMatch false true) 50 (51 ∷ 52 ∷ 53 ∷ 54 ∷ 55 ∷ 56 ∷ 57 ∷ []) (λ name rest. (refl, (refl, refl), (refl, refl, refl, refl, (refl, refl, refl)))) (
+    All-cons (FindsMatch false true) 51 (52 ∷ 53 ∷ 54 ∷ 55 ∷ 56 ∷ 57 ∷ []) (λ name rest. (refl, (refl, refl), (refl, refl, refl, refl, (refl, refl, refl)))) (
+    All-cons (FindsMatch false true) 52 (53 ∷ 54 ∷ 55 ∷ 56 ∷ 57 ∷ []) (λ name rest. (refl, (refl, refl), (refl, refl, refl, refl, (refl, refl, refl)))) (
+    All-cons (FindsMatch false true) 53 (54 ∷ 55 ∷ 56 ∷ 57 ∷ []) (λ name rest. (refl, (refl, refl), (refl, refl, refl, refl, (refl, refl, refl)))) (
+    All-cons (FindsMatch false true) 54 (55 ∷ 56 ∷ 57 ∷ []) (λ name rest. (refl, (refl, refl), (refl, refl, refl, refl, (refl, refl, refl)))) (
+    All-cons (FindsMatch false true) 55 (56 ∷ 57 ∷ []) (λ name rest. (refl, (refl, refl), (refl, refl, refl, refl, (refl, refl, refl)))) (
+    All-cons (FindsMatch false true) 56 (57 ∷ []) (λ name rest. (refl, (refl, refl), (refl, refl, refl, refl, (refl, refl, refl)))) (
+    All-cons (FindsMatch false true) 57 [] (λ name rest. (refl, (refl, refl), (refl, refl, refl, refl, (refl, refl, refl)))) (All-nil (FindsMatch false true)))))))))))
 
 finds_match_true_false : All (FindsMatch true false) (codes "0123456789")
 unfolding clap_on_literals
 finds_match_true_false =
-    All-cons (FindsMatch true false) 48 (49 ∷ 50 ∷ 51 ∷ 52 ∷ 53 ∷ 54 ∷ 55 ∷ 56 ∷ 57 ∷ []) (λ name rest. (refl, refl, (refl, refl, refl, refl, (refl, refl, refl)))) (
-    All-cons (FindsMatch true false) 49 (50 ∷ 51 ∷ 52 ∷ 53 ∷ 54 ∷ 55 ∷ 56 ∷ 57 ∷ []) (λ name rest. (refl, refl, (refl, refl, refl, refl, (refl, refl, refl)))) (
-    All-cons (FindsMatch true false) 50 (51 ∷ 52 ∷ 53 ∷ 54 ∷ 55 ∷ 56 ∷ 57 ∷ []) (λ name rest. (refl, refl, (refl, refl, refl, refl, (refl, refl, refl)))) (
-    All-cons (FindsMatch true false) 51 (52 ∷ 53 ∷ 54 ∷ 55 ∷ 56 ∷ 57 ∷ []) (λ name rest. (refl, refl, (refl, refl, refl, refl, (refl, refl, refl)))) (
-    All-cons (FindsMatch true false) 52 (53 ∷ 54 ∷ 55 ∷ 56 ∷ 57 ∷ []) (λ name rest. (refl, refl, (refl, refl, refl, refl, (refl, refl, refl)))) (
-    All-cons (FindsMatch true false) 53 (54 ∷ 55 ∷ 56 ∷ 57 ∷ []) (λ name rest. (refl, refl, (refl, refl, refl, refl, (refl, refl, refl)))) (
-    All-cons (FindsMatch true false) 54 (55 ∷ 56 ∷ 57 ∷ []) (λ name rest. (refl, refl, (refl, refl, refl, refl, (refl, refl, refl)))) (
-    All-cons (FindsMatch true false) 55 (56 ∷ 57 ∷ []) (λ name rest. (refl, refl, (refl, refl, refl, refl, (refl, refl, refl)))) (
-    All-cons (FindsMatch true false) 56 (57 ∷ []) (λ name rest. (refl, refl, (refl, refl, refl, refl, (refl, refl, refl)))) (
-    All-cons (FindsMatch true false) 57 [] (λ name rest. (refl, refl, (refl, refl, refl, refl, (refl, refl, refl)))) (All-nil (FindsMatch true false)))))))))))
+    All-cons (FindsMatch true false) 48 (49 ∷ 50 ∷ 51 ∷ 52 ∷ 53 ∷ 54 ∷ 55 ∷ 56 ∷ 57 ∷ []) (λ name rest. (refl, (refl, refl), (refl, refl, refl, refl, (refl, refl, refl)))) (
+    All-cons (FindsMatch true false) 49 (50 ∷ 51 ∷ 52 ∷ 53 ∷ 54 ∷ 55 ∷ 56 ∷ 57 ∷ []) (λ name rest. (refl, (refl, refl), (refl, refl, refl, refl, (refl, refl, refl)))) (
+    All-cons (FindsMatch true false) 50 (51 ∷ 52 ∷ 53 ∷ 54 ∷ 55 ∷ 56 ∷ 57 ∷ []) (λ name rest. (refl, (refl, refl), (refl, refl, refl, refl, (refl, refl, refl)))) (
+    All-cons (FindsMatch true false) 51 (52 ∷ 53 ∷ 54 ∷ 55 ∷ 56 ∷ 57 ∷ []) (λ name rest. (refl, (refl, refl), (refl, refl, refl, refl, (refl, refl, refl)))) (
+    All-cons (FindsMatch true false) 52 (53 ∷ 54 ∷ 55 ∷ 56 ∷ 57 ∷ []) (λ name rest. (refl, (refl, refl), (refl, refl, refl, refl, (refl, refl, refl)))) (
+    All-cons (FindsMatch true false) 53 (54 ∷ 55 ∷ 56 ∷ 57 ∷ []) (λ name rest. (refl, (refl, refl), (refl, refl, refl, refl, (refl, refl, refl)))) (
+    All-cons (FindsMatch true false) 54 (55 ∷ 56 ∷ 57 ∷ []) (λ name rest. (refl, (refl, refl), (refl, refl, refl, refl, (refl, refl, refl)))) (
+    All-cons (FindsMatch true false) 55 (56 ∷ 57 ∷ []) (λ name rest. (refl, (refl, refl), (refl, refl, refl, refl, (refl, refl, refl)))) (
+    All-cons (FindsMatch true false) 56 (57 ∷ []) (λ name rest. (refl, (refl, refl), (refl, refl, refl, refl, (refl, refl, refl)))) (
+    All-cons (FindsMatch true false) 57 [] (λ name rest. (refl, (refl, refl), (refl, refl, refl, refl, (refl, refl, refl)))) (All-nil (FindsMatch true false)))))))))))
 
 finds_match_true_true : All (FindsMatch true true) (codes "0123456789")
 unfolding clap_on_literals
 finds_match_true_true =
-    All-cons (FindsMatch true true) 48 (49 ∷ 50 ∷ 51 ∷ 52 ∷ 53 ∷ 54 ∷ 55 ∷ 56 ∷ 57 ∷ []) (λ name rest. (refl, refl, (refl, refl, refl, refl, (refl, refl, refl)))) (
-    All-cons (FindsMatch true true) 49 (50 ∷ 51 ∷ 52 ∷ 53 ∷ 54 ∷ 55 ∷ 56 ∷ 57 ∷ []) (λ name rest. (refl, refl, (refl, refl, refl, refl, (refl, refl, refl)))) (
-    All-cons (FindsMatch true true) 50 (51 ∷ 52 ∷ 53 ∷ 54 ∷ 55 ∷ 56 ∷ 57 ∷ []) (λ name rest. (refl, refl, (refl, refl, refl, refl, (refl, refl, refl)))) (
-    All-cons (FindsMatch true true) 51 (52 ∷ 53 ∷ 54 ∷ 55 ∷ 56 ∷ 57 ∷ []) (λ name rest. (refl, refl, (refl, refl, refl, refl, (refl, refl, refl)))) (
-    All-cons (FindsMatch true true) 52 (53 ∷ 54 ∷ 55 ∷ 56 ∷ 57 ∷ []) (λ name rest. (refl, refl, (refl, refl, refl, refl, (refl, refl, refl)))) (
-    All-cons (FindsMatch true true) 53 (54 ∷ 55 ∷ 56 ∷ 57 ∷ []) (λ name rest. (refl, refl, (refl, refl, refl, refl, (refl, refl, refl)))) (
-    All-cons (FindsMatch true true) 54 (55 ∷ 56 ∷ 57 ∷ []) (λ name rest. (refl, refl, (refl, refl, refl, refl, (refl, refl, refl)))) (
-    All-cons (FindsMatch true true) 55 (56 ∷ 57 ∷ []) (λ name rest. (refl, refl, (refl, refl, refl, refl, (refl, refl, refl)))) (
-    All-cons (FindsMatch true true) 56 (57 ∷ []) (λ name rest. (refl, refl, (refl, refl, refl, refl, (refl, refl, refl)))) (
-    All-cons (FindsMatch true true) 57 [] (λ name rest. (refl, refl, (refl, refl, refl, refl, (refl, refl, refl)))) (All-nil (FindsMatch true true)))))))))))
+    All-cons (FindsMatch true true) 48 (49 ∷ 50 ∷ 51 ∷ 52 ∷ 53 ∷ 54 ∷ 55 ∷ 56 ∷ 57 ∷ []) (λ name rest. (refl, (refl, refl), (refl, refl, refl, refl, (refl, refl, refl)))) (
+    All-cons (FindsMatch true true) 49 (50 ∷ 51 ∷ 52 ∷ 53 ∷ 54 ∷ 55 ∷ 56 ∷ 57 ∷ []) (λ name rest. (refl, (refl, refl), (refl, refl, refl, refl, (refl, refl, refl)))) (
+    All-cons (FindsMatch true true) 50 (51 ∷ 52 ∷ 53 ∷ 54 ∷ 55 ∷ 56 ∷ 57 ∷ []) (λ name rest. (refl, (refl, refl), (refl, refl, refl, refl, (refl, refl, refl)))) (
+    All-cons (FindsMatch true true) 51 (52 ∷ 53 ∷ 54 ∷ 55 ∷ 56 ∷ 57 ∷ []) (λ name rest. (refl, (refl, refl), (refl, refl, refl, refl, (refl, refl, refl)))) (
+    All-cons (FindsMatch true true) 52 (53 ∷ 54 ∷ 55 ∷ 56 ∷ 57 ∷ []) (λ name rest. (refl, (refl, refl), (refl, refl, refl, refl, (refl, refl, refl)))) (
+    All-cons (FindsMatch true true) 53 (54 ∷ 55 ∷ 56 ∷ 57 ∷ []) (λ name rest. (refl, (refl, refl), (refl, refl, refl, refl, (refl, refl, refl)))) (
+    All-cons (FindsMatch true true) 54 (55 ∷ 56 ∷ 57 ∷ []) (λ name rest. (refl, (refl, refl), (refl, refl, refl, refl, (refl, refl, refl)))) (
+    All-cons (FindsMatch true true) 55 (56 ∷ 57 ∷ []) (λ name rest. (refl, (refl, refl), (refl, refl, refl, refl, (refl, refl, refl)))) (
+    All-cons (FindsMatch true true) 56 (57 ∷ []) (λ name rest. (refl, (refl, refl), (refl, refl, refl, refl, (refl, refl, refl)))) (
+    All-cons (FindsMatch true true) 57 [] (λ name rest. (refl, (refl, refl), (refl, refl, refl, refl, (refl, refl, refl)))) (All-nil (FindsMatch true true)))))))))))
 
 finds_match : (pcap stream : Bool) → All (FindsMatch pcap stream) (codes "0123456789")
 finds_match false false = finds_match_false_false
@@ -100,86 +100,86 @@ FindsView pcap view digit = (name rest : Text) → Finds (subcommand_of program 
 finds_view_false_numbers : All (FindsView false Numbers) (codes "0123456789")
 unfolding clap_on_literals
 finds_view_false_numbers =
-    All-cons (FindsView false Numbers) 48 (49 ∷ 50 ∷ 51 ∷ 52 ∷ 53 ∷ 54 ∷ 55 ∷ 56 ∷ 57 ∷ []) (λ name rest. (refl, refl, (refl, refl, refl, (refl, refl, refl)))) (
-    All-cons (FindsView false Numbers) 49 (50 ∷ 51 ∷ 52 ∷ 53 ∷ 54 ∷ 55 ∷ 56 ∷ 57 ∷ []) (λ name rest. (refl, refl, (refl, refl, refl, (refl, refl, refl)))) (
-    All-cons (FindsView false Numbers) 50 (51 ∷ 52 ∷ 53 ∷ 54 ∷ 55 ∷ 56 ∷ 57 ∷ []) (λ name rest. (refl, refl, (refl, refl, refl, (refl, refl, refl)))) (
-    All-cons (FindsView false Numbers) 51 (52 ∷ 53 ∷ 54 ∷ 55 ∷ 56 ∷ 57 ∷ []) (λ name rest. (refl, refl, (refl, refl, refl, (refl, refl, refl)))) (
-    All-cons (FindsView false Numbers) 52 (53 ∷ 54 ∷ 55 ∷ 56 ∷ 57 ∷ []) (λ name rest. (refl, refl, (refl, refl, refl, (refl, refl, refl)))) (
-    All-cons (FindsView false Numbers) 53 (54 ∷ 55 ∷ 56 ∷ 57 ∷ []) (λ name rest. (refl, refl, (refl, refl, refl, (refl, refl, refl)))) (
-    All-cons (FindsView false Numbers) 54 (55 ∷ 56 ∷ 57 ∷ []) (λ name rest. (refl, refl, (refl, refl, refl, (refl, refl, refl)))) (
-    All-cons (FindsView false Numbers) 55 (56 ∷ 57 ∷ []) (λ name rest. (refl, refl, (refl, refl, refl, (refl, refl, refl)))) (
-    All-cons (FindsView false Numbers) 56 (57 ∷ []) (λ name rest. (refl, refl, (refl, refl, refl, (refl, refl, refl)))) (
-    All-cons (FindsView false Numbers) 57 [] (λ name rest. (refl, refl, (refl, refl, refl, (refl, refl, refl)))) (All-nil (FindsView false Numbers)))))))))))
+    All-cons (FindsView false Numbers) 48 (49 ∷ 50 ∷ 51 ∷ 52 ∷ 53 ∷ 54 ∷ 55 ∷ 56 ∷ 57 ∷ []) (λ name rest. (refl, (refl, refl), (refl, refl, refl, (refl, refl, refl)))) (
+    All-cons (FindsView false Numbers) 49 (50 ∷ 51 ∷ 52 ∷ 53 ∷ 54 ∷ 55 ∷ 56 ∷ 57 ∷ []) (λ name rest. (refl, (refl, refl), (refl, refl, refl, (refl, refl, refl)))) (
+    All-cons (FindsView false Numbers) 50 (51 ∷ 52 ∷ 53 ∷ 54 ∷ 55 ∷ 56 ∷ 57 ∷ []) (λ name rest. (refl, (refl, refl), (refl, refl, refl, (refl, refl, refl)))) (
+    All-cons (FindsView false Numbers) 51 (52 ∷ 53 ∷ 54 ∷ 55 ∷ 56 ∷ 57 ∷ []) (λ name rest. (refl, (refl, refl), (refl, refl, refl, (refl, refl, refl)))) (
+    All-cons (FindsView false Numbers) 52 (53 ∷ 54 ∷ 55 ∷ 56 ∷ 57 ∷ []) (λ name rest. (refl, (refl, refl), (refl, refl, refl, (refl, refl, refl)))) (
+    All-cons (FindsView false Numbers) 53 (54 ∷ 55 ∷ 56 ∷ 57 ∷ []) (λ name rest. (refl, (refl, refl), (refl, refl, refl, (refl, refl, refl)))) (
+    All-cons (FindsView false Numbers) 54 (55 ∷ 56 ∷ 57 ∷ []) (λ name rest. (refl, (refl, refl), (refl, refl, refl, (refl, refl, refl)))) (
+    All-cons (FindsView false Numbers) 55 (56 ∷ 57 ∷ []) (λ name rest. (refl, (refl, refl), (refl, refl, refl, (refl, refl, refl)))) (
+    All-cons (FindsView false Numbers) 56 (57 ∷ []) (λ name rest. (refl, (refl, refl), (refl, refl, refl, (refl, refl, refl)))) (
+    All-cons (FindsView false Numbers) 57 [] (λ name rest. (refl, (refl, refl), (refl, refl, refl, (refl, refl, refl)))) (All-nil (FindsView false Numbers)))))))))))
 
 finds_view_false_count : All (FindsView false Count) (codes "0123456789")
 unfolding clap_on_literals
 finds_view_false_count =
-    All-cons (FindsView false Count) 48 (49 ∷ 50 ∷ 51 ∷ 52 ∷ 53 ∷ 54 ∷ 55 ∷ 56 ∷ 57 ∷ []) (λ name rest. (refl, refl, (refl, refl, refl, (refl, refl)))) (
-    All-cons (FindsView false Count) 49 (50 ∷ 51 ∷ 52 ∷ 53 ∷ 54 ∷ 55 ∷ 56 ∷ 57 ∷ []) (λ name rest. (refl, refl, (refl, refl, refl, (refl, refl)))) (
-    All-cons (FindsView false Count) 50 (51 ∷ 52 ∷ 53 ∷ 54 ∷ 55 ∷ 56 ∷ 57 ∷ []) (λ name rest. (refl, refl, (refl, refl, refl, (refl, refl)))) (
-    All-cons (FindsView false Count) 51 (52 ∷ 53 ∷ 54 ∷ 55 ∷ 56 ∷ 57 ∷ []) (λ name rest. (refl, refl, (refl, refl, refl, (refl, refl)))) (
-    All-cons (FindsView false Count) 52 (53 ∷ 54 ∷ 55 ∷ 56 ∷ 57 ∷ []) (λ name rest. (refl, refl, (refl, refl, refl, (refl, refl)))) (
-    All-cons (FindsView false Count) 53 (54 ∷ 55 ∷ 56 ∷ 57 ∷ []) (λ name rest. (refl, refl, (refl, refl, refl, (refl, refl)))) (
-    All-cons (FindsView false Count) 54 (55 ∷ 56 ∷ 57 ∷ []) (λ name rest. (refl, refl, (refl, refl, refl, (refl, refl)))) (
-    All-cons (FindsView false Count) 55 (56 ∷ 57 ∷ []) (λ name rest. (refl, refl, (refl, refl, refl, (refl, refl)))) (
-    All-cons (FindsView false Count) 56 (57 ∷ []) (λ name rest. (refl, refl, (refl, refl, refl, (refl, refl)))) (
-    All-cons (FindsView false Count) 57 [] (λ name rest. (refl, refl, (refl, refl, refl, (refl, refl)))) (All-nil (FindsView false Count)))))))))))
+    All-cons (FindsView false Count) 48 (49 ∷ 50 ∷ 51 ∷ 52 ∷ 53 ∷ 54 ∷ 55 ∷ 56 ∷ 57 ∷ []) (λ name rest. (refl, (refl, refl), (refl, refl, refl, (refl, refl)))) (
+    All-cons (FindsView false Count) 49 (50 ∷ 51 ∷ 52 ∷ 53 ∷ 54 ∷ 55 ∷ 56 ∷ 57 ∷ []) (λ name rest. (refl, (refl, refl), (refl, refl, refl, (refl, refl)))) (
+    All-cons (FindsView false Count) 50 (51 ∷ 52 ∷ 53 ∷ 54 ∷ 55 ∷ 56 ∷ 57 ∷ []) (λ name rest. (refl, (refl, refl), (refl, refl, refl, (refl, refl)))) (
+    All-cons (FindsView false Count) 51 (52 ∷ 53 ∷ 54 ∷ 55 ∷ 56 ∷ 57 ∷ []) (λ name rest. (refl, (refl, refl), (refl, refl, refl, (refl, refl)))) (
+    All-cons (FindsView false Count) 52 (53 ∷ 54 ∷ 55 ∷ 56 ∷ 57 ∷ []) (λ name rest. (refl, (refl, refl), (refl, refl, refl, (refl, refl)))) (
+    All-cons (FindsView false Count) 53 (54 ∷ 55 ∷ 56 ∷ 57 ∷ []) (λ name rest. (refl, (refl, refl), (refl, refl, refl, (refl, refl)))) (
+    All-cons (FindsView false Count) 54 (55 ∷ 56 ∷ 57 ∷ []) (λ name rest. (refl, (refl, refl), (refl, refl, refl, (refl, refl)))) (
+    All-cons (FindsView false Count) 55 (56 ∷ 57 ∷ []) (λ name rest. (refl, (refl, refl), (refl, refl, refl, (refl, refl)))) (
+    All-cons (FindsView false Count) 56 (57 ∷ []) (λ name rest. (refl, (refl, refl), (refl, refl, refl, (refl, refl)))) (
+    All-cons (FindsView false Count) 57 [] (λ name rest. (refl, (refl, refl), (refl, refl, refl, (refl, refl)))) (All-nil (FindsView false Count)))))))))))
 
 finds_view_false_quiet : All (FindsView false Quiet) (codes "0123456789")
 unfolding clap_on_literals
 finds_view_false_quiet =
-    All-cons (FindsView false Quiet) 48 (49 ∷ 50 ∷ 51 ∷ 52 ∷ 53 ∷ 54 ∷ 55 ∷ 56 ∷ 57 ∷ []) (λ name rest. (refl, refl, (refl, refl, refl, refl))) (
-    All-cons (FindsView false Quiet) 49 (50 ∷ 51 ∷ 52 ∷ 53 ∷ 54 ∷ 55 ∷ 56 ∷ 57 ∷ []) (λ name rest. (refl, refl, (refl, refl, refl, refl))) (
-    All-cons (FindsView false Quiet) 50 (51 ∷ 52 ∷ 53 ∷ 54 ∷ 55 ∷ 56 ∷ 57 ∷ []) (λ name rest. (refl, refl, (refl, refl, refl, refl))) (
-    All-cons (FindsView false Quiet) 51 (52 ∷ 53 ∷ 54 ∷ 55 ∷ 56 ∷ 57 ∷ []) (λ name rest. (refl, refl, (refl, refl, refl, refl))) (
-    All-cons (FindsView false Quiet) 52 (53 ∷ 54 ∷ 55 ∷ 56 ∷ 57 ∷ []) (λ name rest. (refl, refl, (refl, refl, refl, refl))) (
-    All-cons (FindsView false Quiet) 53 (54 ∷ 55 ∷ 56 ∷ 57 ∷ []) (λ name rest. (refl, refl, (refl, refl, refl, refl))) (
-    All-cons (FindsView false Quiet) 54 (55 ∷ 56 ∷ 57 ∷ []) (λ name rest. (refl, refl, (refl, refl, refl, refl))) (
-    All-cons (FindsView false Quiet) 55 (56 ∷ 57 ∷ []) (λ name rest. (refl, refl, (refl, refl, refl, refl))) (
-    All-cons (FindsView false Quiet) 56 (57 ∷ []) (λ name rest. (refl, refl, (refl, refl, refl, refl))) (
-    All-cons (FindsView false Quiet) 57 [] (λ name rest. (refl, refl, (refl, refl, refl, refl))) (All-nil (FindsView false Quiet)))))))))))
+    All-cons (FindsView false Quiet) 48 (49 ∷ 50 ∷ 51 ∷ 52 ∷ 53 ∷ 54 ∷ 55 ∷ 56 ∷ 57 ∷ []) (λ name rest. (refl, (refl, refl), (refl, refl, refl, refl))) (
+    All-cons (FindsView false Quiet) 49 (50 ∷ 51 ∷ 52 ∷ 53 ∷ 54 ∷ 55 ∷ 56 ∷ 57 ∷ []) (λ name rest. (refl, (refl, refl), (refl, refl, refl, refl))) (
+    All-cons (FindsView false Quiet) 50 (51 ∷ 52 ∷ 53 ∷ 54 ∷ 55 ∷ 56 ∷ 57 ∷ []) (λ name rest. (refl, (refl, refl), (refl, refl, refl, refl))) (
+    All-cons (FindsView false Quiet) 51 (52 ∷ 53 ∷ 54 ∷ 55 ∷ 56 ∷ 57 ∷ []) (λ name rest. (refl, (refl, refl), (refl, refl, refl, refl))) (
+    All-cons (FindsView false Quiet) 52 (53 ∷ 54 ∷ 55 ∷ 56 ∷ 57 ∷ []) (λ name rest. (refl, (refl, refl), (refl, refl, refl, refl))) (
+    All-cons (FindsView false Quiet) 53 (54 ∷ 55 ∷ 56 ∷ 57 ∷ []) (λ name rest. (refl, (refl, refl), (refl, refl, refl, refl))) (
+    All-cons (FindsView false Quiet) 54 (55 ∷ 56 ∷ 57 ∷ []) (λ name rest. (refl, (refl, refl), (refl, refl, refl, refl))) (
+    All-cons (FindsView false Quiet) 55 (56 ∷ 57 ∷ []) (λ name rest. (refl, (refl, refl), (refl, refl, refl, refl))) (
+    All-cons (FindsView false Quiet) 56 (57 ∷ []) (λ name rest. (refl, (refl, refl), (refl, refl, refl, refl))) (
+    All-cons (FindsView false Quiet) 57 [] (λ name rest. (refl, (refl, refl), (refl, refl, refl, refl))) (All-nil (FindsView false Quiet)))))))))))
 
 finds_view_true_numbers : All (FindsView true Numbers) (codes "0123456789")
 unfolding clap_on_literals
 finds_view_true_numbers =
-    All-cons (FindsView true Numbers) 48 (49 ∷ 50 ∷ 51 ∷ 52 ∷ 53 ∷ 54 ∷ 55 ∷ 56 ∷ 57 ∷ []) (λ name rest. (refl, refl, (refl, refl, refl, (refl, refl, refl)))) (
-    All-cons (FindsView true Numbers) 49 (50 ∷ 51 ∷ 52 ∷ 53 ∷ 54 ∷ 55 ∷ 56 ∷ 57 ∷ []) (λ name rest. (refl, refl, (refl, refl, refl, (refl, refl, refl)))) (
-    All-cons (FindsView true Numbers) 50 (51 ∷ 52 ∷ 53 ∷ 54 ∷ 55 ∷ 56 ∷ 57 ∷ []) (λ name rest. (refl, refl, (refl, refl, refl, (refl, refl, refl)))) (
-    All-cons (FindsView true Numbers) 51 (52 ∷ 53 ∷ 54 ∷ 55 ∷ 56 ∷ 57 ∷ []) (λ name rest. (refl, refl, (refl, refl, refl, (refl, refl, refl)))) (
-    All-cons (FindsView true Numbers) 52 (53 ∷ 54 ∷ 55 ∷ 56 ∷ 57 ∷ []) (λ name rest. (refl, refl, (refl, refl, refl, (refl, refl, refl)))) (
-    All-cons (FindsView true Numbers) 53 (54 ∷ 55 ∷ 56 ∷ 57 ∷ []) (λ name rest. (refl, refl, (refl, refl, refl, (refl, refl, refl)))) (
-    All-cons (FindsView true Numbers) 54 (55 ∷ 56 ∷ 57 ∷ []) (λ name rest. (refl, refl, (refl, refl, refl, (refl, refl, refl)))) (
-    All-cons (FindsView true Numbers) 55 (56 ∷ 57 ∷ []) (λ name rest. (refl, refl, (refl, refl, refl, (refl, refl, refl)))) (
-    All-cons (FindsView true Numbers) 56 (57 ∷ []) (λ name rest. (refl, refl, (refl, refl, refl, (refl, refl, refl)))) (
-    All-cons (FindsView true Numbers) 57 [] (λ name rest. (refl, refl, (refl, refl, refl, (refl, refl, refl)))) (All-nil (FindsView true Numbers)))))))))))
+    All-cons (FindsView true Numbers) 48 (49 ∷ 50 ∷ 51 ∷ 52 ∷ 53 ∷ 54 ∷ 55 ∷ 56 ∷ 57 ∷ []) (λ name rest. (refl, (refl, refl), (refl, refl, refl, (refl, refl, refl)))) (
+    All-cons (FindsView true Numbers) 49 (50 ∷ 51 ∷ 52 ∷ 53 ∷ 54 ∷ 55 ∷ 56 ∷ 57 ∷ []) (λ name rest. (refl, (refl, refl), (refl, refl, refl, (refl, refl, refl)))) (
+    All-cons (FindsView true Numbers) 50 (51 ∷ 52 ∷ 53 ∷ 54 ∷ 55 ∷ 56 ∷ 57 ∷ []) (λ name rest. (refl, (refl, refl), (refl, refl, refl, (refl, refl, refl)))) (
+    All-cons (FindsView true Numbers) 51 (52 ∷ 53 ∷ 54 ∷ 55 ∷ 56 ∷ 57 ∷ []) (λ name rest. (refl, (refl, refl), (refl, refl, refl, (refl, refl, refl)))) (
+    All-cons (FindsView true Numbers) 52 (53 ∷ 54 ∷ 55 ∷ 56 ∷ 57 ∷ []) (λ name rest. (refl, (refl, refl), (refl, refl, refl, (refl, refl, refl)))) (
+    All-cons (FindsView true Numbers) 53 (54 ∷ 55 ∷ 56 ∷ 57 ∷ []) (λ name rest. (refl, (refl, refl), (refl, refl, refl, (refl, refl, refl)))) (
+    All-cons (FindsView true Numbers) 54 (55 ∷ 56 ∷ 57 ∷ []) (λ name rest. (refl, (refl, refl), (refl, refl, refl, (refl, refl, refl)))) (
+    All-cons (FindsView true Numbers) 55 (56 ∷ 57 ∷ []) (λ name rest. (refl, (refl, refl), (refl, refl, refl, (refl, refl, refl)))) (
+    All-cons (FindsView true Numbers) 56 (57 ∷ []) (λ name rest. (refl, (refl, refl), (refl, refl, refl, (refl, refl, refl)))) (
+    All-cons (FindsView true Numbers) 57 [] (λ name rest. (refl, (refl, refl), (refl, refl, refl, (refl, refl, refl)))) (All-nil (FindsView true Numbers)))))))))))
 
 finds_view_true_count : All (FindsView true Count) (codes "0123456789")
 unfolding clap_on_literals
 finds_view_true_count =
-    All-cons (FindsView true Count) 48 (49 ∷ 50 ∷ 51 ∷ 52 ∷ 53 ∷ 54 ∷ 55 ∷ 56 ∷ 57 ∷ []) (λ name rest. (refl, refl, (refl, refl, refl, (refl, refl)))) (
-    All-cons (FindsView true Count) 49 (50 ∷ 51 ∷ 52 ∷ 53 ∷ 54 ∷ 55 ∷ 56 ∷ 57 ∷ []) (λ name rest. (refl, refl, (refl, refl, refl, (refl, refl)))) (
-    All-cons (FindsView true Count) 50 (51 ∷ 52 ∷ 53 ∷ 54 ∷ 55 ∷ 56 ∷ 57 ∷ []) (λ name rest. (refl, refl, (refl, refl, refl, (refl, refl)))) (
-    All-cons (FindsView true Count) 51 (52 ∷ 53 ∷ 54 ∷ 55 ∷ 56 ∷ 57 ∷ []) (λ name rest. (refl, refl, (refl, refl, refl, (refl, refl)))) (
-    All-cons (FindsView true Count) 52 (53 ∷ 54 ∷ 55 ∷ 56 ∷ 57 ∷ []) (λ name rest. (refl, refl, (refl, refl, refl, (refl, refl)))) (
-    All-cons (FindsView true Count) 53 (54 ∷ 55 ∷ 56 ∷ 57 ∷ []) (λ name rest. (refl, refl, (refl, refl, refl, (refl, refl)))) (
-    All-cons (FindsView true Count) 54 (55 ∷ 56 ∷ 57 ∷ []) (λ name rest. (refl, refl, (refl, refl, refl, (refl, refl)))) (
-    All-cons (FindsView true Count) 55 (56 ∷ 57 ∷ []) (λ name rest. (refl, refl, (refl, refl, refl, (refl, refl)))) (
-    All-cons (FindsView true Count) 56 (57 ∷ []) (λ name rest. (refl, refl, (refl, refl, refl, (refl, refl)))) (
-    All-cons (FindsView true Count) 57 [] (λ name rest. (refl, refl, (refl, refl, refl, (refl, refl)))) (All-nil (FindsView true Count)))))))))))
+    All-cons (FindsView true Count) 48 (49 ∷ 50 ∷ 51 ∷ 52 ∷ 53 ∷ 54 ∷ 55 ∷ 56 ∷ 57 ∷ []) (λ name rest. (refl, (refl, refl), (refl, refl, refl, (refl, refl)))) (
+    All-cons (FindsView true Count) 49 (50 ∷ 51 ∷ 52 ∷ 53 ∷ 54 ∷ 55 ∷ 56 ∷ 57 ∷ []) (λ name rest. (refl, (refl, refl), (refl, refl, refl, (refl, refl)))) (
+    All-cons (FindsView true Count) 50 (51 ∷ 52 ∷ 53 ∷ 54 ∷ 55 ∷ 56 ∷ 57 ∷ []) (λ name rest. (refl, (refl, refl), (refl, refl, refl, (refl, refl)))) (
+    All-cons (FindsView true Count) 51 (52 ∷ 53 ∷ 54 ∷ 55 ∷ 56 ∷ 57 ∷ []) (λ name rest. (refl, (refl, refl), (refl, refl, refl, (refl, refl)))) (
+    All-cons (FindsView true Count) 52 (53 ∷ 54 ∷ 55 ∷ 56 ∷ 57 ∷ []) (λ name rest. (refl, (refl, refl), (refl, refl, refl, (refl, refl)))) (
+    All-cons (FindsView true Count) 53 (54 ∷ 55 ∷ 56 ∷ 57 ∷ []) (λ name rest. (refl, (refl, refl), (refl, refl, refl, (refl, refl)))) (
+    All-cons (FindsView true Count) 54 (55 ∷ 56 ∷ 57 ∷ []) (λ name rest. (refl, (refl, refl), (refl, refl, refl, (refl, refl)))) (
+    All-cons (FindsView true Count) 55 (56 ∷ 57 ∷ []) (λ name rest. (refl, (refl, refl), (refl, refl, refl, (refl, refl)))) (
+    All-cons (FindsView true Count) 56 (57 ∷ []) (λ name rest. (refl, (refl, refl), (refl, refl, refl, (refl, refl)))) (
+    All-cons (FindsView true Count) 57 [] (λ name rest. (refl, (refl, refl), (refl, refl, refl, (refl, refl)))) (All-nil (FindsView true Count)))))))))))
 
 finds_view_true_quiet : All (FindsView true Quiet) (codes "0123456789")
 unfolding clap_on_literals
 finds_view_true_quiet =
-    All-cons (FindsView true Quiet) 48 (49 ∷ 50 ∷ 51 ∷ 52 ∷ 53 ∷ 54 ∷ 55 ∷ 56 ∷ 57 ∷ []) (λ name rest. (refl, refl, (refl, refl, refl, refl))) (
-    All-cons (FindsView true Quiet) 49 (50 ∷ 51 ∷ 52 ∷ 53 ∷ 54 ∷ 55 ∷ 56 ∷ 57 ∷ []) (λ name rest. (refl, refl, (refl, refl, refl, refl))) (
-    All-cons (FindsView true Quiet) 50 (51 ∷ 52 ∷ 53 ∷ 54 ∷ 55 ∷ 56 ∷ 57 ∷ []) (λ name rest. (refl, refl, (refl, refl, refl, refl))) (
-    All-cons (FindsView true Quiet) 51 (52 ∷ 53 ∷ 54 ∷ 55 ∷ 56 ∷ 57 ∷ []) (λ name rest. (refl, refl, (refl, refl, refl, refl))) (
-    All-cons (FindsView true Quiet) 52 (53 ∷ 54 ∷ 55 ∷ 56 ∷ 57 ∷ []) (λ name rest. (refl, refl, (refl, refl, refl, refl))) (
-    All-cons (FindsView true Quiet) 53 (54 ∷ 55 ∷ 56 ∷ 57 ∷ []) (λ name rest. (refl, refl, (refl, refl, refl, refl))) (
-    All-cons (FindsView true Quiet) 54 (55 ∷ 56 ∷ 57 ∷ []) (λ name rest. (refl, refl, (refl, refl, refl, refl))) (
-    All-cons (FindsView true Quiet) 55 (56 ∷ 57 ∷ []) (λ name rest. (refl, refl, (refl, refl, refl, refl))) (
-    All-cons (FindsView true Quiet) 56 (57 ∷ []) (λ name rest. (refl, refl, (refl, refl, refl, refl))) (
-    All-cons (FindsView true Quiet) 57 [] (λ name rest. (refl, refl, (refl, refl, refl, refl))) (All-nil (FindsView true Quiet)))))))))))
+    All-cons (FindsView true Quiet) 48 (49 ∷ 50 ∷ 51 ∷ 52 ∷ 53 ∷ 54 ∷ 55 ∷ 56 ∷ 57 ∷ []) (λ name rest. (refl, (refl, refl), (refl, refl, refl, refl))) (
+    All-cons (FindsView true Quiet) 49 (50 ∷ 51 ∷ 52 ∷ 53 ∷ 54 ∷ 55 ∷ 56 ∷ 57 ∷ []) (λ name rest. (refl, (refl, refl), (refl, refl, refl, refl))) (
+    All-cons (FindsView true Quiet) 50 (51 ∷ 52 ∷ 53 ∷ 54 ∷ 55 ∷ 56 ∷ 57 ∷ []) (λ name rest. (refl, (refl, refl), (refl, refl, refl, refl))) (
+    All-cons (FindsView true Quiet) 51 (52 ∷ 53 ∷ 54 ∷ 55 ∷ 56 ∷ 57 ∷ []) (λ name rest. (refl, (refl, refl), (refl, refl, refl, refl))) (
+    All-cons (FindsView true Quiet) 52 (53 ∷ 54 ∷ 55 ∷ 56 ∷ 57 ∷ []) (λ name rest. (refl, (refl, refl), (refl, refl, refl, refl))) (
+    All-cons (FindsView true Quiet) 53 (54 ∷ 55 ∷ 56 ∷ 57 ∷ []) (λ name rest. (refl, (refl, refl), (refl, refl, refl, refl))) (
+    All-cons (FindsView true Quiet) 54 (55 ∷ 56 ∷ 57 ∷ []) (λ name rest. (refl, (refl, refl), (refl, refl, refl, refl))) (
+    All-cons (FindsView true Quiet) 55 (56 ∷ 57 ∷ []) (λ name rest. (refl, (refl, refl), (refl, refl, refl, refl))) (
+    All-cons (FindsView true Quiet) 56 (57 ∷ []) (λ name rest. (refl, (refl, refl), (refl, refl, refl, refl))) (
+    All-cons (FindsView true Quiet) 57 [] (λ name rest. (refl, (refl, refl), (refl, refl, refl, refl))) (All-nil (FindsView true Quiet)))))))))))
 
 finds_view : (pcap : Bool) (view : View) → All (FindsView pcap view) (codes "0123456789")
 finds_view false Numbers = finds_view_false_numbers
@@ -198,16 +198,16 @@ FindsExplain digit = (name rest : Text) → Finds (subcommand_of program (name �
 finds_explain : All FindsExplain (codes "0123456789")
 unfolding clap_on_literals
 finds_explain =
-    All-cons FindsExplain 48 (49 ∷ 50 ∷ 51 ∷ 52 ∷ 53 ∷ 54 ∷ 55 ∷ 56 ∷ 57 ∷ []) (λ name rest. (refl, refl, (refl, refl))) (
-    All-cons FindsExplain 49 (50 ∷ 51 ∷ 52 ∷ 53 ∷ 54 ∷ 55 ∷ 56 ∷ 57 ∷ []) (λ name rest. (refl, refl, (refl, refl))) (
-    All-cons FindsExplain 50 (51 ∷ 52 ∷ 53 ∷ 54 ∷ 55 ∷ 56 ∷ 57 ∷ []) (λ name rest. (refl, refl, (refl, refl))) (
-    All-cons FindsExplain 51 (52 ∷ 53 ∷ 54 ∷ 55 ∷ 56 ∷ 57 ∷ []) (λ name rest. (refl, refl, (refl, refl))) (
-    All-cons FindsExplain 52 (53 ∷ 54 ∷ 55 ∷ 56 ∷ 57 ∷ []) (λ name rest. (refl, refl, (refl, refl))) (
-    All-cons FindsExplain 53 (54 ∷ 55 ∷ 56 ∷ 57 ∷ []) (λ name rest. (refl, refl, (refl, refl))) (
-    All-cons FindsExplain 54 (55 ∷ 56 ∷ 57 ∷ []) (λ name rest. (refl, refl, (refl, refl))) (
-    All-cons FindsExplain 55 (56 ∷ 57 ∷ []) (λ name rest. (refl, refl, (refl, refl))) (
-    All-cons FindsExplain 56 (57 ∷ []) (λ name rest. (refl, refl, (refl, refl))) (
-    All-cons FindsExplain 57 [] (λ name rest. (refl, refl, (refl, refl))) (All-nil FindsExplain))))))))))
+    All-cons FindsExplain 48 (49 ∷ 50 ∷ 51 ∷ 52 ∷ 53 ∷ 54 ∷ 55 ∷ 56 ∷ 57 ∷ []) (λ name rest. (refl, (refl, refl), (refl, refl))) (
+    All-cons FindsExplain 49 (50 ∷ 51 ∷ 52 ∷ 53 ∷ 54 ∷ 55 ∷ 56 ∷ 57 ∷ []) (λ name rest. (refl, (refl, refl), (refl, refl))) (
+    All-cons FindsExplain 50 (51 ∷ 52 ∷ 53 ∷ 54 ∷ 55 ∷ 56 ∷ 57 ∷ []) (λ name rest. (refl, (refl, refl), (refl, refl))) (
+    All-cons FindsExplain 51 (52 ∷ 53 ∷ 54 ∷ 55 ∷ 56 ∷ 57 ∷ []) (λ name rest. (refl, (refl, refl), (refl, refl))) (
+    All-cons FindsExplain 52 (53 ∷ 54 ∷ 55 ∷ 56 ∷ 57 ∷ []) (λ name rest. (refl, (refl, refl), (refl, refl))) (
+    All-cons FindsExplain 53 (54 ∷ 55 ∷ 56 ∷ 57 ∷ []) (λ name rest. (refl, (refl, refl), (refl, refl))) (
+    All-cons FindsExplain 54 (55 ∷ 56 ∷ 57 ∷ []) (λ name rest. (refl, (refl, refl), (refl, refl))) (
+    All-cons FindsExplain 55 (56 ∷ 57 ∷ []) (λ name rest. (refl, (refl, refl), (refl, refl))) (
+    All-cons FindsExplain 56 (57 ∷ []) (λ name rest. (refl, (refl, refl), (refl, refl))) (
+    All-cons FindsExplain 57 [] (λ name rest. (refl, (refl, refl), (refl, refl))) (All-nil FindsExplain))))))))))
 
 abbrev HasKeep : Text → Bool → List Row → Type 0
 HasKeep code inverted rows = (unwrap_or (first_of (codes "code") rows) [] ≡ code) × (one_of (codes "not") rows ≡ Some (truth inverted))
@@ -218,30 +218,30 @@ FindsKeep inverted digit = (name rest : Text) → Finds (subcommand_of program (
 finds_keep_false : All (FindsKeep false) (codes "0123456789")
 unfolding clap_on_literals
 finds_keep_false =
-    All-cons (FindsKeep false) 48 (49 ∷ 50 ∷ 51 ∷ 52 ∷ 53 ∷ 54 ∷ 55 ∷ 56 ∷ 57 ∷ []) (λ name rest. (refl, refl, (refl, refl))) (
-    All-cons (FindsKeep false) 49 (50 ∷ 51 ∷ 52 ∷ 53 ∷ 54 ∷ 55 ∷ 56 ∷ 57 ∷ []) (λ name rest. (refl, refl, (refl, refl))) (
-    All-cons (FindsKeep false) 50 (51 ∷ 52 ∷ 53 ∷ 54 ∷ 55 ∷ 56 ∷ 57 ∷ []) (λ name rest. (refl, refl, (refl, refl))) (
-    All-cons (FindsKeep false) 51 (52 ∷ 53 ∷ 54 ∷ 55 ∷ 56 ∷ 57 ∷ []) (λ name rest. (refl, refl, (refl, refl))) (
-    All-cons (FindsKeep false) 52 (53 ∷ 54 ∷ 55 ∷ 56 ∷ 57 ∷ []) (λ name rest. (refl, refl, (refl, refl))) (
-    All-cons (FindsKeep false) 53 (54 ∷ 55 ∷ 56 ∷ 57 ∷ []) (λ name rest. (refl, refl, (refl, refl))) (
-    All-cons (FindsKeep false) 54 (55 ∷ 56 ∷ 57 ∷ []) (λ name rest. (refl, refl, (refl, refl))) (
-    All-cons (FindsKeep false) 55 (56 ∷ 57 ∷ []) (λ name rest. (refl, refl, (refl, refl))) (
-    All-cons (FindsKeep false) 56 (57 ∷ []) (λ name rest. (refl, refl, (refl, refl))) (
-    All-cons (FindsKeep false) 57 [] (λ name rest. (refl, refl, (refl, refl))) (All-nil (FindsKeep false)))))))))))
+    All-cons (FindsKeep false) 48 (49 ∷ 50 ∷ 51 ∷ 52 ∷ 53 ∷ 54 ∷ 55 ∷ 56 ∷ 57 ∷ []) (λ name rest. (refl, (refl, refl), (refl, refl))) (
+    All-cons (FindsKeep false) 49 (50 ∷ 51 ∷ 52 ∷ 53 ∷ 54 ∷ 55 ∷ 56 ∷ 57 ∷ []) (λ name rest. (refl, (refl, refl), (refl, refl))) (
+    All-cons (FindsKeep false) 50 (51 ∷ 52 ∷ 53 ∷ 54 ∷ 55 ∷ 56 ∷ 57 ∷ []) (λ name rest. (refl, (refl, refl), (refl, refl))) (
+    All-cons (FindsKeep false) 51 (52 ∷ 53 ∷ 54 ∷ 55 ∷ 56 ∷ 57 ∷ []) (λ name rest. (refl, (refl, refl), (refl, refl))) (
+    All-cons (FindsKeep false) 52 (53 ∷ 54 ∷ 55 ∷ 56 ∷ 57 ∷ []) (λ name rest. (refl, (refl, refl), (refl, refl))) (
+    All-cons (FindsKeep false) 53 (54 ∷ 55 ∷ 56 ∷ 57 ∷ []) (λ name rest. (refl, (refl, refl), (refl, refl))) (
+    All-cons (FindsKeep false) 54 (55 ∷ 56 ∷ 57 ∷ []) (λ name rest. (refl, (refl, refl), (refl, refl))) (
+    All-cons (FindsKeep false) 55 (56 ∷ 57 ∷ []) (λ name rest. (refl, (refl, refl), (refl, refl))) (
+    All-cons (FindsKeep false) 56 (57 ∷ []) (λ name rest. (refl, (refl, refl), (refl, refl))) (
+    All-cons (FindsKeep false) 57 [] (λ name rest. (refl, (refl, refl), (refl, refl))) (All-nil (FindsKeep false)))))))))))
 
 finds_keep_true : All (FindsKeep true) (codes "0123456789")
 unfolding clap_on_literals
 finds_keep_true =
-    All-cons (FindsKeep true) 48 (49 ∷ 50 ∷ 51 ∷ 52 ∷ 53 ∷ 54 ∷ 55 ∷ 56 ∷ 57 ∷ []) (λ name rest. (refl, refl, (refl, refl))) (
-    All-cons (FindsKeep true) 49 (50 ∷ 51 ∷ 52 ∷ 53 ∷ 54 ∷ 55 ∷ 56 ∷ 57 ∷ []) (λ name rest. (refl, refl, (refl, refl))) (
-    All-cons (FindsKeep true) 50 (51 ∷ 52 ∷ 53 ∷ 54 ∷ 55 ∷ 56 ∷ 57 ∷ []) (λ name rest. (refl, refl, (refl, refl))) (
-    All-cons (FindsKeep true) 51 (52 ∷ 53 ∷ 54 ∷ 55 ∷ 56 ∷ 57 ∷ []) (λ name rest. (refl, refl, (refl, refl))) (
-    All-cons (FindsKeep true) 52 (53 ∷ 54 ∷ 55 ∷ 56 ∷ 57 ∷ []) (λ name rest. (refl, refl, (refl, refl))) (
-    All-cons (FindsKeep true) 53 (54 ∷ 55 ∷ 56 ∷ 57 ∷ []) (λ name rest. (refl, refl, (refl, refl))) (
-    All-cons (FindsKeep true) 54 (55 ∷ 56 ∷ 57 ∷ []) (λ name rest. (refl, refl, (refl, refl))) (
-    All-cons (FindsKeep true) 55 (56 ∷ 57 ∷ []) (λ name rest. (refl, refl, (refl, refl))) (
-    All-cons (FindsKeep true) 56 (57 ∷ []) (λ name rest. (refl, refl, (refl, refl))) (
-    All-cons (FindsKeep true) 57 [] (λ name rest. (refl, refl, (refl, refl))) (All-nil (FindsKeep true)))))))))))
+    All-cons (FindsKeep true) 48 (49 ∷ 50 ∷ 51 ∷ 52 ∷ 53 ∷ 54 ∷ 55 ∷ 56 ∷ 57 ∷ []) (λ name rest. (refl, (refl, refl), (refl, refl))) (
+    All-cons (FindsKeep true) 49 (50 ∷ 51 ∷ 52 ∷ 53 ∷ 54 ∷ 55 ∷ 56 ∷ 57 ∷ []) (λ name rest. (refl, (refl, refl), (refl, refl))) (
+    All-cons (FindsKeep true) 50 (51 ∷ 52 ∷ 53 ∷ 54 ∷ 55 ∷ 56 ∷ 57 ∷ []) (λ name rest. (refl, (refl, refl), (refl, refl))) (
+    All-cons (FindsKeep true) 51 (52 ∷ 53 ∷ 54 ∷ 55 ∷ 56 ∷ 57 ∷ []) (λ name rest. (refl, (refl, refl), (refl, refl))) (
+    All-cons (FindsKeep true) 52 (53 ∷ 54 ∷ 55 ∷ 56 ∷ 57 ∷ []) (λ name rest. (refl, (refl, refl), (refl, refl))) (
+    All-cons (FindsKeep true) 53 (54 ∷ 55 ∷ 56 ∷ 57 ∷ []) (λ name rest. (refl, (refl, refl), (refl, refl))) (
+    All-cons (FindsKeep true) 54 (55 ∷ 56 ∷ 57 ∷ []) (λ name rest. (refl, (refl, refl), (refl, refl))) (
+    All-cons (FindsKeep true) 55 (56 ∷ 57 ∷ []) (λ name rest. (refl, (refl, refl), (refl, refl))) (
+    All-cons (FindsKeep true) 56 (57 ∷ []) (λ name rest. (refl, (refl, refl), (refl, refl))) (
+    All-cons (FindsKeep true) 57 [] (λ name rest. (refl, (refl, refl), (refl, refl))) (All-nil (FindsKeep true)))))))))))
 
 finds_keep : (inverted : Bool) → All (FindsKeep inverted) (codes "0123456789")
 finds_keep false = finds_keep_false
@@ -255,21 +255,21 @@ HasCheck asm rows = (one_of (codes "graph") rows ≡ Some (truth false)) × (one
 
 finds_check : (name : Text) (asm : Bool) → Finds (subcommand_of program (name ∷ check_words asm)) (codes "check") (HasCheck asm)
 unfolding clap_on_literals
-finds_check name false = (refl, refl, (refl, refl))
-finds_check name true = (refl, refl, (refl, refl))
+finds_check name false = (refl, (refl, refl), (refl, refl))
+finds_check name true = (refl, (refl, refl), (refl, refl))
 
 finds_graph : (name : Text) → Finds (subcommand_of program (name ∷ codes "check" ∷ codes "--graph" ∷ [])) (codes "check") (HasFlag (codes "graph") true)
 unfolding clap_on_literals
-finds_graph name = (refl, refl, refl)
+finds_graph name = (refl, (refl, refl), refl)
 
 finds_draw : (name : Text) (plain : Bool) → Finds (subcommand_of program (name ∷ draw_words plain)) (codes "draw") (HasFlag (codes "text") plain)
 unfolding clap_on_literals
-finds_draw name false = (refl, refl, refl)
-finds_draw name true = (refl, refl, refl)
+finds_draw name false = (refl, (refl, refl), refl)
+finds_draw name true = (refl, (refl, refl), refl)
 
 finds_dump : (name : Text) → Finds (subcommand_of program (name ∷ codes "dump" ∷ [])) (codes "dump") (λ rows. ⊤)
 unfolding clap_on_literals
-finds_dump name = (refl, refl, tt)
+finds_dump name = (refl, (refl, refl), tt)
 
 -- a file that wasn't given is not the input
 no_input : (rows : List Row) (input : Option (Bor Text)) → first_of (codes "file") rows ≡ None → IsInput rows input → input ≡ None
@@ -277,8 +277,8 @@ no_input rows None none is = refl
 no_input rows (Some name) none is = let found = is.0 in cc
 
 -- a request that was read of a command with no file is one of standard input
-from_input : (P : Option Request → Type 0) (found : Text × List Row) (r : Option Invocation) → AsksBy (Some found) r → first_of (codes "file") found.1 ≡ None → ((q : Option Request) → Asks found.0 found.1 q → P q) → FromStandardInput P r
-from_input P found (Some asked) asks none only = (only (Some asked.request) asks.0, no_input found.1 asked.input none asks.1)
+from_input : (P : Option Request → Type 0) (found : Text × List Row) (r : Option Invocation) → AsksBy (Some found) r → (first_of (codes "file") found.1 ≡ None) × (one_of (codes "link") found.1 ≡ None) → ((q : Option Request) → Asks found.0 found.1 q → P q) → FromStandardInput P r
+from_input P found (Some asked) asks none only = (only (Some asked.request) asks.0, no_input found.1 asked.input none.0 asks.1, asks.2.0 none.1)
 from_input P found None asks none only = only None asks
 
 match_found : (found : Option (Text × List Row)) (r : Option Invocation) (code : Text) (pcap stream : Bool) → AsksBy found r

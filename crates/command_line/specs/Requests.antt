@@ -1,7 +1,8 @@
 -- What the words of the command line ask for.
 use denote.Ref.{Bor}
-use Rattle.std.specs.Prelude.{◌≡◌, ◌++◌, ℕ, Bool, true, false, List, [], ◌∷◌, map, Option, Some, None, unwrap_or, codes, ◌≢◌, ◌⊎◌}
+use Rattle.std.specs.Prelude.{◌≡◌, ◌++◌, ℕ, Bool, true, false, List, [], ◌∷◌, map, Option, Some, None, Ok, Err, unwrap_or, codes, ◌≢◌, ◌⊎◌}
 use Rattle.std.specs.List.{Contains}
+use Rattle.std.specs.Str.Parse.{ParsesUnsigned}
 use Rattle.clap.specs.Words.{Row, Text, all_of, first_of, one_of}
 use Rattle.command_line.specs.declared.request.Invocation.{Invocation}
 use Rattle.command_line.specs.declared.request.Request.{Request}
@@ -29,6 +30,15 @@ abbrev pub IsInput : List Row → Option (Bor Text) → Type 0
 IsInput rows None = (first_of (codes "file") rows ≡ None) ⊎ (first_of (codes "file") rows ≡ Some (codes "-"))
 IsInput rows (Some name) = (first_of (codes "file") rows ≡ Some name.now) × (name.now ≢ codes "-")
 
+-- the decimal digits of a number below 2^32 spell that, and no other text spells any
+abbrev pub SpellsLink : Text → Option ℕ → Type 0
+SpellsLink text None = ParsesUnsigned {E = Unit {0}} 32 10 text (Err tt)
+SpellsLink text (Some n) = ParsesUnsigned {E = Unit {0}} 32 10 text (Ok n)
+
+-- the link type that is named: none where none is given, and else the number that its decimal digits spell
+abbrev pub IsLink : List Row → Option ℕ → Type 0
+IsLink rows link = (one_of (codes "link") rows ≡ None → link ≡ None) × ((text : Text) → one_of (codes "link") rows ≡ Some text → SpellsLink text link)
+
 -- the captures that a request names
 abbrev pub captures_of : Request → List Text
 captures_of (Sim files) = map (λ f. f.now) files.items
@@ -54,9 +64,9 @@ Asks name rows (Some (Run files)) = (name ≡ codes "run") × IsFiles rows files
 Asks name rows (Some (Draw text)) = (name ≡ codes "draw") × IsFlag (codes "text") rows text
 Asks name rows None = Contains command_names name → ⊥
 
--- the same, with the file that is the input
+-- the same, with the file that is the input, and the link type that is named
 abbrev pub AsksWith : Text → List Row → Option Invocation → Type 0
-AsksWith name rows (Some invocation) = Asks name rows (Some invocation.request) × IsInput rows invocation.input
+AsksWith name rows (Some invocation) = Asks name rows (Some invocation.request) × IsInput rows invocation.input × IsLink rows invocation.link
 AsksWith name rows None = Asks name rows None
 
 -- what the command that was found asks for
@@ -64,9 +74,9 @@ abbrev pub AsksBy : Option (Text × List Row) → Option Invocation → Type 0
 AsksBy (Some found) invocation = AsksWith found.0 found.1 invocation
 AsksBy None invocation = invocation ≡ None
 
--- the request is such a one, and its input is standard input
+-- the request is such a one, its input is standard input, and no link type is named
 abbrev pub FromStandardInput : (Option Request → Type 0) → Option Invocation → Type 0
-FromStandardInput P (Some invocation) = P (Some invocation.request) × (invocation.input ≡ None)
+FromStandardInput P (Some invocation) = P (Some invocation.request) × (invocation.input ≡ None) × (invocation.link ≡ None)
 FromStandardInput P None = P None
 
 -- The words of the commands, after the program's name

@@ -2,17 +2,18 @@
 
 ghost use Rattle.std.specs.Prelude.{◌≡◌, List, [], ◌∷◌, IfOk, codes, false};
 ghost use Rattle.clap.specs.Words.{Rule, Text, app_of, rule_of, with_rule, with_subcommand};
-ghost use Rattle.command_line.specs.Program.{IsCommand, code, command, file, files, flag, lone_flag, program};
+ghost use Rattle.command_line.specs.Program.{IsCommand, bound_link, code, command, file, files, flag, link, lone_flag, program};
 
 use crate::texts::{
     ABOUT, ASM_HELP, CAPTURE_HELP, CHECK_ABOUT, CHECK_DETAILS, CHECK_EXAMPLE, CODE_HELP,
     COUNT_HELP, DRAW_ABOUT, DRAW_DETAILS, DRAW_EXAMPLE, DUMP_ABOUT, DUMP_DETAILS, DUMP_EXAMPLE,
     EXIT_STATUS, EXPLAIN_HELP, FILES_HELP, FILTER_HELP, GRAPH_HELP, KEEP_ABOUT, KEEP_DETAILS,
-    KEEP_EXAMPLE, MATCH_ABOUT, MATCH_DETAILS, MATCH_EXAMPLE, NOT_HELP, NUMBER_HELP, PACKETS_HELP,
-    PCAP_HELP, QUIET_HELP, RUN_ABOUT, RUN_DETAILS, RUN_EXAMPLE, SIM_ABOUT, SIM_DETAILS,
-    SIM_EXAMPLE, STREAM_HELP, TEXT_HELP, TRACE_HELP, VERSION,
+    KEEP_EXAMPLE, KEPT_LINK_HELP, LINK_HELP, MATCH_ABOUT, MATCH_DETAILS, MATCH_EXAMPLE, NOT_HELP,
+    NUMBER_HELP, PACKETS_HELP, PCAP_HELP, QUIET_HELP, RUN_ABOUT, RUN_DETAILS, RUN_EXAMPLE,
+    SHOWN_LINK_HELP, SIM_ABOUT, SIM_DETAILS, SIM_EXAMPLE, STREAM_HELP, TEXT_HELP, TRACE_HELP,
+    VERSION,
 };
-use clap::{Arg, ArgAction, Command};
+use clap::{Arg, ArgAction, Command, value_parser};
 use std::alloc::{AllocError, Global};
 
 /// The command line of the program.
@@ -50,10 +51,10 @@ fn with_command<'a>(
     }
 }
 
-// `match CODE [--pcap] [--stream] [--number | --count | --quiet] [FILE]`, `match CODE --explain [FILE]`
+// `match CODE [--stream] [--number | --count | --quiet] [--pcap [--link N]] [FILE]`, `match CODE --explain [FILE]`
 fn matching<'a>(alloc: Global) -> Result<Command<'a>, AllocError>
     ensures { IfOk result (IsCommand (codes "match") (code ∷ flag (codes "pcap") ∷ flag (codes "stream") ∷ flag (codes "number")
-        ∷ lone_flag (codes "count") ∷ lone_flag (codes "quiet") ∷ lone_flag (codes "explain") ∷ file ∷ [])) }
+        ∷ lone_flag (codes "count") ∷ lone_flag (codes "quiet") ∷ lone_flag (codes "explain") ∷ bound_link ∷ file ∷ [])) }
 {
     let command = described(alloc, "match", MATCH_ABOUT, MATCH_DETAILS, MATCH_EXAMPLE)
         .arg(code(alloc))?
@@ -62,7 +63,8 @@ fn matching<'a>(alloc: Global) -> Result<Command<'a>, AllocError>
         .arg(flag(alloc, "number", NUMBER_HELP))?;
     let command = with_argument(command, count(alloc))?;
     let command = with_argument(command, quiet(alloc))?;
-    with_argument(command, explain(alloc))?.arg(file(alloc, PACKETS_HELP))
+    let command = with_argument(command, explain(alloc))?;
+    with_argument(command, bound_link(alloc))?.arg(file(alloc, PACKETS_HELP))
 }
 
 // `check [--asm] [FILE]`, `check --graph [FILE]`
@@ -109,20 +111,23 @@ fn with_argument<'a>(
     }
 }
 
-// `dump [FILE]`
+// `dump [--link N] [FILE]`
 fn dumping<'a>(alloc: Global) -> Result<Command<'a>, AllocError>
-    ensures { IfOk result (IsCommand (codes "dump") (file ∷ [])) }
+    ensures { IfOk result (IsCommand (codes "dump") (link ∷ file ∷ [])) }
 {
-    described(alloc, "dump", DUMP_ABOUT, DUMP_DETAILS, DUMP_EXAMPLE).arg(file(alloc, CAPTURE_HELP))
+    described(alloc, "dump", DUMP_ABOUT, DUMP_DETAILS, DUMP_EXAMPLE)
+        .arg(link(alloc, SHOWN_LINK_HELP))?
+        .arg(file(alloc, CAPTURE_HELP))
 }
 
-// `keep CODE [--not] [FILE]`
+// `keep CODE [--not] [--link N] [FILE]`
 fn keeping<'a>(alloc: Global) -> Result<Command<'a>, AllocError>
-    ensures { IfOk result (IsCommand (codes "keep") (code ∷ flag (codes "not") ∷ file ∷ [])) }
+    ensures { IfOk result (IsCommand (codes "keep") (code ∷ flag (codes "not") ∷ link ∷ file ∷ [])) }
 {
     described(alloc, "keep", KEEP_ABOUT, KEEP_DETAILS, KEEP_EXAMPLE)
         .arg(code(alloc))?
         .arg(flag(alloc, "not", NOT_HELP))?
+        .arg(link(alloc, KEPT_LINK_HELP))?
         .arg(file(alloc, CAPTURE_HELP))
 }
 
@@ -222,6 +227,26 @@ fn lone_flag<'a>(
     ensures local { IfOk result (λ a. a.global ≡ false) }
 {
     flag(alloc, name, help).conflicts_with(other)
+}
+
+// `--link N`
+fn link<'a>(alloc: Global, help: &'a str) -> Arg<'a>
+    ensures rule { rule_of result ≡ link }
+    ensures local { result.global ≡ false }
+{
+    Arg::new(alloc, "link")
+        .long("link")
+        .value_name("N")
+        .help(help)
+        .value_parser(value_parser!(u32))
+}
+
+// `--link N` beside `--pcap`
+fn bound_link<'a>(alloc: Global) -> Result<Arg<'a>, AllocError>
+    ensures rule { IfOk result (λ a. rule_of a ≡ bound_link) }
+    ensures local { IfOk result (λ a. a.global ≡ false) }
+{
+    link(alloc, LINK_HELP).requires_arg("pcap")
 }
 
 // `FILE`, which is read in place of standard input.

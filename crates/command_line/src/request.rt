@@ -5,7 +5,7 @@ ghost use Rattle.clap.specs.Words.{Text, found_of, kind_of, rows_of, subcommand_
 ghost use Rattle.clap.specs.declared.error.kind.ErrorKind.{ErrorKind};
 ghost use Rattle.command_line.specs.Program.{program};
 ghost use Rattle.command_line.specs.declared.request.View.{View as Shown};
-ghost use Rattle.command_line.specs.Requests.{Asks, AsksBy, AsksWith, BeginsWithDigit, IsExplain, FromStandardInput, IsFiles, IsInput, IsKeep, IsMatch, IsView, IsViewed, Spells};
+ghost use Rattle.command_line.specs.Requests.{Asks, AsksBy, AsksWith, BeginsWithDigit, IsExplain, FromStandardInput, IsFiles, IsInput, IsKeep, IsLink, IsMatch, IsView, IsViewed, Spells};
 ghost use Rattle.command_line.specs.Requests.{captures_of, check_words, draw_words, explain_words, keep_words, match_words, view_words};
 
 use crate::program::command;
@@ -100,6 +100,8 @@ pub struct Invocation<'a> {
     pub request: Request<'a>,
     /// The name of the file that is the input, in place of standard input.
     pub input: Option<&'a str>,
+    /// The link type whose packets alone are run, shown or kept, if one is named.
+    pub link: Option<u32>,
 }
 
 /// What these words ask for, of which the first is the program's name; none where they name no command of the program. An error has
@@ -162,6 +164,7 @@ fn invoked<'a>(
         Some(request) => Ok(Some(Invocation {
             request,
             input: input_of(found),
+            link: link_of(found),
         })),
         None => Ok(None),
     }
@@ -178,6 +181,13 @@ fn input_of<'a>(found: &ArgMatches<'a>) -> Option<&'a str>
             _ => Some(name),
         },
     }
+}
+
+// The link type that is named, if one is.
+fn link_of(found: &ArgMatches) -> Option<u32>
+    ensures { IsLink (rows_of (found_of found.now)) result }
+{
+    found.get_one("link")
 }
 
 // What a command of this name and these arguments asks for.

@@ -33,6 +33,8 @@ that is no packet, `line N: BadHex` is printed and the command ends with status 
 
 With --pcap the input is a capture: a pcap savefile or pcapng, of either byte order. The packets before a fault of the
 capture are run, then `fault NAME` is printed, with the fault's place in the file where it has one, and the status is 1.
+A filter is written for one link type. Where the interfaces of a capture have several, one line on standard error says so, and
+--link N runs the packets of link type N alone: 1 is Ethernet, 113 Linux's cooked packets, 276 their second version.
 
 With --number each line begins with its packet's number and a blank, and with --pcap the packet's time stamp and a blank come
 next: the seconds since 1970, and micro- or nanoseconds after a point, or `-` where it has none. --count prints `N of M` at the end
@@ -121,6 +123,13 @@ pub(crate) const EXPLAIN_HELP: &str =
 
 pub(crate) const PACKETS_HELP: &str = "The file with the packets; `-`, or none, is standard input";
 
+pub(crate) const LINK_HELP: &str = "With --pcap: run the packets of this link type alone";
+
+pub(crate) const SHOWN_LINK_HELP: &str = "Print the packets of this link type alone";
+
+pub(crate) const KEPT_LINK_HELP: &str =
+    "Run the packets of this link type alone, and keep no others";
+
 pub(crate) const FILTER_HELP: &str = "The file with the filter; `-`, or none, is standard input";
 
 pub(crate) const CAPTURE_HELP: &str = "The capture; `-`, or none, is standard input";
@@ -138,6 +147,9 @@ each block that is no packet or whose packet is kept. A filter that accepts ever
 
 The capture may be of any length and come over any time: each packet is written as soon as it is whole and what has been
 read is handled, and it takes memory for the longest packet or block only.
+
+With --link N only packets of link type N are run, as 1 for Ethernet, and no others are kept, with --not neither. Without it
+one line on standard error says where the interfaces of a capture have several link types, since a filter is written for one.
 
 Standard output is a capture, so each line about what is wrong is on standard error. What was whole before a fault of the
 capture is written, then `fault NAME` is printed, with the fault's place in the file where it has one, and the status is 1.

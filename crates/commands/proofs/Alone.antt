@@ -15,37 +15,37 @@ use Rattle.run_engine.specs.declared.engine.RunFailure.TheVariants.{Engine}
 use Rattle.script_input.specs.Inputs.{AllFresh, AreReadInOrder, ScriptEndsEarly}
 use Rattle.commands.specs.Commands.{IsFailure, Shows, ShowsAlone, ShowsText}
 
-pub shown_alone : {R F : Type 0} (request : Request) (remaining : R → Option (List ℕ)) (old new : Source R) (left : F → Option (List ℕ)) (captures captures' : List (Source F)) (status : ℕ) (text line : List ℕ)
-    → ShowsAlone request remaining old new status text line → Shows request remaining old new left captures captures' status text line
-shown_alone (Match code pcap stream) remaining old new left captures captures' status text line s = s
-shown_alone (View code pcap view) remaining old new left captures captures' status text line s = s
-shown_alone (Explain code) remaining old new left captures captures' status text line s = s
-shown_alone (Keep code inverted) remaining old new left captures captures' status text line s = s
-shown_alone (Check asm) remaining old new left captures captures' status text line s = s
-shown_alone Graph remaining old new left captures captures' status text line s = s
-shown_alone Dump remaining old new left captures captures' status text line s = s
-shown_alone (Draw plain) remaining old new left captures captures' status text line s = s
-shown_alone (Sim files) remaining old new left captures captures' status text line s = absurd s.1
-shown_alone (Run files) remaining old new left captures captures' status text line s = absurd s.1
+pub shown_alone : {R F : Type 0} (request : Request) (link : Option ℕ) (remaining : R → Option (List ℕ)) (old new : Source R) (left : F → Option (List ℕ)) (captures captures' : List (Source F)) (status : ℕ) (text line : List ℕ)
+    → ShowsAlone request link remaining old new status text line → Shows request link remaining old new left captures captures' status text line
+shown_alone (Match code pcap stream) link remaining old new left captures captures' status text line s = s
+shown_alone (View code pcap view) link remaining old new left captures captures' status text line s = s
+shown_alone (Explain code) link remaining old new left captures captures' status text line s = s
+shown_alone (Keep code inverted) link remaining old new left captures captures' status text line s = s
+shown_alone (Check asm) link remaining old new left captures captures' status text line s = s
+shown_alone Graph link remaining old new left captures captures' status text line s = s
+shown_alone Dump link remaining old new left captures captures' status text line s = s
+shown_alone (Draw plain) link remaining old new left captures captures' status text line s = s
+shown_alone (Sim files) link remaining old new left captures captures' status text line s = absurd s.1
+shown_alone (Run files) link remaining old new left captures captures' status text line s = absurd s.1
 
 -- a request whose text is all that is shown has no line on standard error
-text_alone : {R : Type 0} (request : Request) (remaining : R → Option (List ℕ)) (old new : Source R) (status : ℕ) (text : List ℕ) → ShowsText request remaining old new status text → ShowsAlone request remaining old new status text []
-text_alone (Match code pcap stream) remaining old new status text s = (refl, s)
-text_alone (View code pcap view) remaining old new status text s = (refl, s)
-text_alone (Explain code) remaining old new status text s = (refl, s)
-text_alone (Keep code inverted) remaining old new status text s = absurd s
-text_alone (Check asm) remaining old new status text s = (refl, s)
-text_alone Graph remaining old new status text s = (refl, s)
-text_alone Dump remaining old new status text s = (refl, s)
-text_alone (Draw plain) remaining old new status text s = (refl, s)
-text_alone (Sim files) remaining old new status text s = absurd s
-text_alone (Run files) remaining old new status text s = absurd s
+text_alone : {R : Type 0} (request : Request) (link : Option ℕ) (remaining : R → Option (List ℕ)) (old new : Source R) (status : ℕ) (text : List ℕ) → ShowsText request link remaining old new status text → ShowsAlone request link remaining old new status text []
+text_alone (Match code pcap stream) link remaining old new status text s = (refl, s)
+text_alone (View code pcap view) link remaining old new status text s = (refl, s)
+text_alone (Explain code) link remaining old new status text s = (refl, s)
+text_alone (Keep code inverted) link remaining old new status text s = absurd s
+text_alone (Check asm) link remaining old new status text s = (refl, s)
+text_alone Graph link remaining old new status text s = (refl, s)
+text_alone Dump link remaining old new status text s = (refl, s)
+text_alone (Draw plain) link remaining old new status text s = (refl, s)
+text_alone (Sim files) link remaining old new status text s = absurd s
+text_alone (Run files) link remaining old new status text s = absurd s
 
-pub shows_text : {E R W : Type 0} (r : Result ℕ E) (request : Request) (remaining : R → Option (List ℕ)) (old new : Source R) (contents : W → Option (List ℕ)) (from to : Sink W) (before : List ℕ)
-    → IfOk r (λ status. (text : List ℕ) × Writes contents from to text × ShowsText request remaining old new status text)
-    → IfOk r (λ status. (text : List ℕ) × Writes contents from to text × (line : List ℕ) × (before ≡ before ++ line) × ShowsAlone request remaining old new status text line)
-shows_text (Ok status) request remaining old new contents from to before s = (s.0, s.1, [], sym (append-nil before), text_alone request remaining old new status s.0 s.2)
-shows_text (Err e) request remaining old new contents from to before s = tt
+pub shows_text : {E R W : Type 0} (r : Result ℕ E) (request : Request) (link : Option ℕ) (remaining : R → Option (List ℕ)) (old new : Source R) (contents : W → Option (List ℕ)) (from to : Sink W) (before : List ℕ)
+    → IfOk r (λ status. (text : List ℕ) × Writes contents from to text × ShowsText request link remaining old new status text)
+    → IfOk r (λ status. (text : List ℕ) × Writes contents from to text × (line : List ℕ) × (before ≡ before ++ line) × ShowsAlone request link remaining old new status text line)
+shows_text (Ok status) request link remaining old new contents from to before s = (s.0, s.1, [], sym (append-nil before), text_alone request link remaining old new status s.0 s.2)
+shows_text (Err e) request link remaining old new contents from to before s = tt
 
 -- nor has one of a script
 pub shows_script : {E W : Type 0} (r : Result ℕ E) (contents : W → Option (List ℕ)) (from to : Sink W) (before : List ℕ) (Text : ℕ → List ℕ → Type 0)

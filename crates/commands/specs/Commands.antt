@@ -1,5 +1,5 @@
 -- What the program shows for each request: the text and the status of the engine of its command.
-use Rattle.std.specs.Prelude.{◌≡◌, ◌⊎◌, ⊤, ℕ, Bool, true, false, List, [], Option, None}
+use Rattle.std.specs.Prelude.{◌≡◌, ◌⊎◌, ⊤, ℕ, Bool, true, false, List, [], Option}
 use Rattle.std.specs.Io.KnownBytes.{IsAtEnd}
 use Rattle.command_line.specs.declared.request.Request.{Request}
 use Rattle.command_line.specs.declared.request.Request.TheVariants.{Match, View as Viewed, Explain, Keep, Check, Graph, Dump, Sim, Run, Draw}
@@ -25,24 +25,25 @@ use Rattle.draw_engine.specs.Drawing.{ShowsDraw}
 use Rattle.graph_engine.specs.Explaining.{ShowsExplained}
 use Rattle.graph_engine.specs.Showing.{ShowsGraph}
 use Rattle.keep_engine.specs.Keeping.{KeepsGoodCode}
+use Rattle.keep_engine.specs.declared.choice.Wanted.{Wanted}
 use Rattle.run_engine.specs.Showing.{Shows as ShowsRunScript}
 use Rattle.run_engine.specs.declared.engine.RunFailure.{RunFailure}
 use Rattle.run_engine.specs.declared.engine.RunFailure.TheVariants.{Engine}
 use Rattle.script_input.specs.Inputs.{AreScriptInputs}
 use Rattle.sim_engine.specs.Showing.{ShowsSim}
 
--- what the packets of an input are
-abbrev pub form_of : Bool → PacketForm
-form_of false = Digits
-form_of true = Capture None
+-- what the packets of an input are; of a capture those of the link type that is named, if one is
+abbrev pub form_of : Bool → Option ℕ → PacketForm
+form_of false link = Digits
+form_of true link = Capture link
 
 -- `match`, and `match --stream`, which reads to the end unless it stops at a fault: by what was got of the source
-abbrev pub ShowsMatch : {R : Type 0} → List ℕ → Bool → Bool → (R → Option (List ℕ)) → Source R → Source R → ℕ → List ℕ → Type 0
-ShowsMatch code pcap false remaining old new status text =
-    (ShowsBadCode code text × (status ≡ 1)) ⊎ ((input : List ℕ) × IsInput remaining old new input × ShowsGoodCode code (form_of pcap) input status text)
-ShowsMatch code pcap true remaining old new status text =
+abbrev pub ShowsMatch : {R : Type 0} → List ℕ → PacketForm → Bool → (R → Option (List ℕ)) → Source R → Source R → ℕ → List ℕ → Type 0
+ShowsMatch code form false remaining old new status text =
+    (ShowsBadCode code text × (status ≡ 1)) ⊎ ((input : List ℕ) × IsInput remaining old new input × ShowsGoodCode code form input status text)
+ShowsMatch code form true remaining old new status text =
     (ShowsBadCode code text × (status ≡ 1))
-    ⊎ ((input : List ℕ) × Gets remaining old new input × StreamShows code (form_of pcap) input status text × (IsAtEnd (remaining new.inner) ⊎ (status ≡ 1)))
+    ⊎ ((input : List ℕ) × Gets remaining old new input × StreamShows code form input status text × (IsAtEnd (remaining new.inner) ⊎ (status ≡ 1)))
 
 -- the view of the engine
 abbrev pub shown_as : View → Shown
@@ -51,10 +52,10 @@ shown_as asked.Count = shown.Count
 shown_as asked.Quiet = shown.Quiet
 
 -- `match` under a view, which reads to the end unless it stops at a fault, or at the first packet that is accepted
-abbrev pub ShowsViewed : {R : Type 0} → Shown → List ℕ → Bool → (R → Option (List ℕ)) → Source R → Source R → ℕ → List ℕ → Type 0
-ShowsViewed view code pcap remaining old new status text =
+abbrev pub ShowsViewed : {R : Type 0} → Shown → List ℕ → PacketForm → (R → Option (List ℕ)) → Source R → Source R → ℕ → List ℕ → Type 0
+ShowsViewed view code form remaining old new status text =
     (ShowsViewCode view code text × (status ≡ 1))
-    ⊎ ((input : List ℕ) × Gets remaining old new input × ViewShows view code (form_of pcap) input status text × (IsAtEnd (remaining new.inner) ⊎ (status ≡ 1) ⊎ IsFound view status))
+    ⊎ ((input : List ℕ) × Gets remaining old new input × ViewShows view code form input status text × (IsAtEnd (remaining new.inner) ⊎ (status ≡ 1) ⊎ IsFound view status))
 
 -- `match --explain`
 abbrev pub ShowsExplain : {R : Type 0} → List ℕ → (R → Option (List ℕ)) → Source R → Source R → ℕ → List ℕ → Type 0
@@ -62,36 +63,36 @@ ShowsExplain code remaining old new status text =
     (ShowsBadCode code text × (status ≡ 1)) ⊎ ((input : List ℕ) × IsInput remaining old new input × ShowsExplained code input status text)
 
 -- `keep`: a capture, and the line about what is wrong, which stands on standard error
-abbrev pub ShowsKept : {R : Type 0} → List ℕ → Bool → (R → Option (List ℕ)) → Source R → Source R → ℕ → List ℕ → List ℕ → Type 0
-ShowsKept code inverted remaining old new status text line =
+abbrev pub ShowsKept : {R : Type 0} → List ℕ → Wanted → (R → Option (List ℕ)) → Source R → Source R → ℕ → List ℕ → List ℕ → Type 0
+ShowsKept code wanted remaining old new status text line =
     (ShowsBadCode code line × (status ≡ 1) × (text ≡ []))
-    ⊎ ((input : List ℕ) × Gets remaining old new input × KeepsGoodCode code inverted input status line text × (IsAtEnd (remaining new.inner) ⊎ (status ≡ 1)))
+    ⊎ ((input : List ℕ) × Gets remaining old new input × KeepsGoodCode code wanted input status line text × (IsAtEnd (remaining new.inner) ⊎ (status ≡ 1)))
 
 -- what is shown for a request whose text is all that is shown, by what was got of the source
-abbrev pub ShowsText : {R : Type 0} → Request → (R → Option (List ℕ)) → Source R → Source R → ℕ → List ℕ → Type 0
-ShowsText (Match code pcap stream) remaining old new status text = ShowsMatch code.now pcap stream remaining old new status text
-ShowsText (Viewed code pcap view) remaining old new status text = ShowsViewed (shown_as view) code.now pcap remaining old new status text
-ShowsText (Explain code) remaining old new status text = ShowsExplain code.now remaining old new status text
-ShowsText (Check asm) remaining old new status text = (input : List ℕ) × IsInput remaining old new input × ShowsCheck asm input status text
-ShowsText Graph remaining old new status text = (input : List ℕ) × IsInput remaining old new input × ShowsGraph input status text
-ShowsText Dump remaining old new status text = (input : List ℕ) × IsInput remaining old new input × ShowsDump None input status text
-ShowsText (Draw plain) remaining old new status text = (input : List ℕ) × IsInput remaining old new input × ShowsDraw plain input status text
-ShowsText (Keep code inverted) remaining old new status text = ⊥
-ShowsText (Sim files) remaining old new status text = ⊥
-ShowsText (Run files) remaining old new status text = ⊥
+abbrev pub ShowsText : {R : Type 0} → Request → Option ℕ → (R → Option (List ℕ)) → Source R → Source R → ℕ → List ℕ → Type 0
+ShowsText (Match code pcap stream) link remaining old new status text = ShowsMatch code.now (form_of pcap link) stream remaining old new status text
+ShowsText (Viewed code pcap view) link remaining old new status text = ShowsViewed (shown_as view) code.now (form_of pcap link) remaining old new status text
+ShowsText (Explain code) link remaining old new status text = ShowsExplain code.now remaining old new status text
+ShowsText (Check asm) link remaining old new status text = (input : List ℕ) × IsInput remaining old new input × ShowsCheck asm input status text
+ShowsText Graph link remaining old new status text = (input : List ℕ) × IsInput remaining old new input × ShowsGraph input status text
+ShowsText Dump link remaining old new status text = (input : List ℕ) × IsInput remaining old new input × ShowsDump link input status text
+ShowsText (Draw plain) link remaining old new status text = (input : List ℕ) × IsInput remaining old new input × ShowsDraw plain input status text
+ShowsText (Keep code inverted) link remaining old new status text = ⊥
+ShowsText (Sim files) link remaining old new status text = ⊥
+ShowsText (Run files) link remaining old new status text = ⊥
 
 -- what is shown for a request that takes no captures, with the line on standard error, which only `keep` has
-abbrev pub ShowsAlone : {R : Type 0} → Request → (R → Option (List ℕ)) → Source R → Source R → ℕ → List ℕ → List ℕ → Type 0
-ShowsAlone (Keep code inverted) remaining old new status text line = ShowsKept code.now inverted remaining old new status text line
-ShowsAlone request remaining old new status text line = (line ≡ []) × ShowsText request remaining old new status text
+abbrev pub ShowsAlone : {R : Type 0} → Request → Option ℕ → (R → Option (List ℕ)) → Source R → Source R → ℕ → List ℕ → List ℕ → Type 0
+ShowsAlone (Keep code inverted) link remaining old new status text line = ShowsKept code.now (record { inverted = inverted; link = link }) remaining old new status text line
+ShowsAlone request link remaining old new status text line = (line ≡ []) × ShowsText request link remaining old new status text
 
--- what is shown for a request, by what was got of the source and of the captures
-abbrev pub Shows : {R F : Type 0} → Request → (R → Option (List ℕ)) → Source R → Source R → (F → Option (List ℕ)) → List (Source F) → List (Source F) → ℕ → List ℕ → List ℕ → Type 0
-Shows (Sim files) remaining old new left captures captures' status text line = (line ≡ [])
+-- what is shown for a request and the link type that is named, if one is, by what was got of the source and of the captures
+abbrev pub Shows : {R F : Type 0} → Request → Option ℕ → (R → Option (List ℕ)) → Source R → Source R → (F → Option (List ℕ)) → List (Source F) → List (Source F) → ℕ → List ℕ → List ℕ → Type 0
+Shows (Sim files) link remaining old new left captures captures' status text line = (line ≡ [])
     × ((input : List ℕ) × (inputs : List (List ℕ)) × AreScriptInputs remaining old new left captures captures' input inputs × ShowsSim inputs input status text)
-Shows (Run files) remaining old new left captures captures' status text line = (line ≡ [])
+Shows (Run files) link remaining old new left captures captures' status text line = (line ≡ [])
     × ((input : List ℕ) × (inputs : List (List ℕ)) × AreScriptInputs remaining old new left captures captures' input inputs × ShowsRunScript inputs input status text)
-Shows request remaining old new left captures captures' status text line = ShowsAlone request remaining old new status text line
+Shows request link remaining old new left captures captures' status text line = ShowsAlone request link remaining old new status text line
 
 -- only `run` halts, or can't start a thread
 abbrev pub IsFailure : Request → RunFailure → Type 0

@@ -8,13 +8,13 @@ ghost use Rattle.commands.specs.Commands.{IsFailure, Shows, ShowsAlone, ShowsMat
 
 use command_line::{Request, View};
 use console::{
-    EngineFault, INPUT_READS, PacketForm, STREAM_READS, Sink, Source, run_check, run_dump,
-    run_match, run_stream, run_view,
+    EngineFault, INPUT_READS, LinkTypes, PacketForm, STREAM_READS, Sink, Source, run_check,
+    run_dump, run_match, run_stream, run_view,
 };
 use core_threads::Gate;
 use draw_engine::run_draw;
 use graph_engine::{run_explain, run_graph};
-use keep_engine::run_keep;
+use keep_engine::{Wanted, run_keep};
 use run_engine::{RunFailure, run_run};
 use sim_engine::run_sim;
 use std::alloc::Global;
@@ -35,9 +35,12 @@ pub fn most_reads(request: &Request) -> u64
     }
 }
 
-/// Does what was asked for with the input and these captures, and answers the exit status: 0, 1 where an input was refused, or 4 where
+/// Does what was asked for with the input, these captures and the link type that is named, if one is, and answers the exit status: 0, 1 where an input was refused, or 4 where
 /// `match --quiet` accepted no packet. What it writes is the text of the command for what it read. Of `keep` that is a capture, so
 /// the line about what is wrong is appended to `complaint`; no other request appends anything.
+///
+/// Of a capture that `match` or `keep` reads, `links` becomes the link types of its interfaces: it is for a warning where there are
+/// several and none was named. No clause speaks of it.
 ///
 /// Only `sim` and `run` take captures, which they read after the input and in order, and only `run` starts threads, whose receipts
 /// ask the gate. After a failure a front of the text may have been written; where a read failed, only by a stream. The records of
@@ -47,17 +50,19 @@ pub fn perform<T: Threads + Wait + Clock + Sync, G: Gate + Sync, R: Read, F: Rea
     alloc: Global,
     gate: &G,
     request: &Request,
+    link: Option<u32>,
     captures: &mut [Source<F>],
     reader: &mut Source<R>,
     writer: &mut Sink<W>,
     complaint: &mut String,
+    links: &mut LinkTypes,
 ) -> Result<u8, RunFailure>
     requires fresh { IsFresh reader.old (reads_of request.now) }
     requires fresh_captures { AllFresh captures.old }
     requires good { writer.old.failed ≡ false }
     ensures shown { IfOk result (λ status. (text : List ℕ) × Writes W.contents writer.old writer.new text
         × (line : List ℕ) × (string_bytes complaint.new ≡ string_bytes complaint.old ++ line)
-        × Shows request.now R.remaining reader.old reader.new F.remaining captures.old captures.new status text line) }
+        × Shows request.now link R.remaining reader.old reader.new F.remaining captures.old captures.new status text line) }
     ensures alone { takes_captures request.now ≡ false → captures.new ≡ captures.old }
     ensures input_first { (reader.new.ended ≡ true) ⊎ (captures.new ≡ captures.old) }
     ensures order { AreReadInOrder captures.old captures.new }
@@ -68,7 +73,7 @@ pub fn perform<T: Threads + Wait + Clock + Sync, G: Gate + Sync, R: Read, F: Rea
     match request {
         Request::Sim { .. } => Ok(run_sim(alloc, captures, reader, writer)?),
         Request::Run { .. } => run_run(rt, alloc, gate, captures, reader, writer),
-        _ => Ok(perform_alone(alloc, request, reader, writer, complaint)?),
+        _ => Ok(perform_alone(alloc, request, link, reader, writer, complaint, links)?),
     }
 }
 
@@ -76,29 +81,40 @@ pub fn perform<T: Threads + Wait + Clock + Sync, G: Gate + Sync, R: Read, F: Rea
 fn perform_alone<R: Read, W: Write>(
     alloc: Global,
     request: &Request,
+    link: Option<u32>,
     reader: &mut Source<R>,
     writer: &mut Sink<W>,
     complaint: &mut String,
+    links: &mut LinkTypes,
 ) -> Result<u8, EngineFault>
     requires alone { takes_captures request.now ≡ false }
     requires fresh { IsFresh reader.old (reads_of request.now) }
     requires good { writer.old.failed ≡ false }
     ensures shown { IfOk result (λ status. (text : List ℕ) × Writes W.contents writer.old writer.new text
         × (line : List ℕ) × (string_bytes complaint.new ≡ string_bytes complaint.old ++ line)
-        × ShowsAlone request.now R.remaining reader.old reader.new status text line) }
+        × ShowsAlone request.now link R.remaining reader.old reader.new status text line) }
     ensures cause { IfErr result (EndsEarly reader.new writer.new) }
     ensures silent { IsErrOf result EngineFault.ReadFailed → is_stream request.now ≡ false → writer.new ≡ writer.old }
 {
     match request {
         Request::Match { code, pcap, stream } => {
-            perform_match(alloc, code, *pcap, *stream, reader, writer)
+            perform_match(
+                alloc,
+                code,
+                form(*pcap, link),
+                *stream,
+                reader,
+                writer,
+                links,
+            )
         }
         Request::View { code, pcap, view } => {
             run_view(
                 alloc,
                 code.as_bytes(),
-                form(*pcap),
+                form(*pcap, link),
                 shown(*view),
+                links,
                 reader,
                 writer,
             )
@@ -106,7 +122,11 @@ fn perform_alone<R: Read, W: Write>(
         Request::Keep { code, inverted } => run_keep(
             alloc,
             code.as_bytes(),
-            *inverted,
+            Wanted {
+                inverted: *inverted,
+                link,
+            },
+            links,
             reader,
             writer,
             complaint,
@@ -114,7 +134,7 @@ fn perform_alone<R: Read, W: Write>(
         Request::Explain { code } => run_explain(alloc, code.as_bytes(), reader, writer),
         Request::Check { asm } => run_check(alloc, *asm, reader, writer),
         Request::Graph => run_graph(alloc, reader, writer),
-        Request::Dump => run_dump(alloc, None, reader, writer),
+        Request::Dump => run_dump(alloc, link, reader, writer),
         Request::Draw { text } => run_draw(alloc, *text, reader, writer),
         Request::Sim { .. } | Request::Run { .. } => Err(EngineFault::NoMemory),
     }
@@ -132,11 +152,11 @@ fn shown(view: View) -> console::View
 }
 
 /// What the packets of an input are.
-fn form(pcap: bool) -> PacketForm
-    ensures { result ≡ form_of pcap }
+fn form(pcap: bool, link: Option<u32>) -> PacketForm
+    ensures { result ≡ form_of pcap link }
 {
     if pcap {
-        PacketForm::Capture(None)
+        PacketForm::Capture(link)
     } else {
         PacketForm::Digits
     }
@@ -146,21 +166,22 @@ fn form(pcap: bool) -> PacketForm
 fn perform_match<R: Read, W: Write>(
     alloc: Global,
     code: &str,
-    pcap: bool,
+    form: PacketForm,
     stream: bool,
     reader: &mut Source<R>,
     writer: &mut Sink<W>,
+    links: &mut LinkTypes,
 ) -> Result<u8, EngineFault>
     requires fresh { IsFresh reader.old (reads_at stream) }
     requires good { writer.old.failed ≡ false }
     ensures shown { IfOk result (λ status. (text : List ℕ) × Writes W.contents writer.old writer.new text
-        × ShowsMatch code.now pcap stream R.remaining reader.old reader.new status text) }
+        × ShowsMatch code.now form stream R.remaining reader.old reader.new status text) }
     ensures cause { IfErr result (EndsEarly reader.new writer.new) }
     ensures silent { IsErrOf result EngineFault.ReadFailed → stream ≡ false → writer.new ≡ writer.old }
 {
     if stream {
-        run_stream(alloc, code.as_bytes(), form(pcap), reader, writer)
+        run_stream(alloc, code.as_bytes(), form, links, reader, writer)
     } else {
-        run_match(alloc, code.as_bytes(), form(pcap), reader, writer)
+        run_match(alloc, code.as_bytes(), form, links, reader, writer)
     }
 }

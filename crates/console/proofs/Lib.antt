@@ -13,6 +13,7 @@ pub mod MatchingLemmas
 pub mod CodeLemmas
 pub mod HexLemmas
 pub mod FeedingLemmas
+pub mod LinkLemmas
 pub mod RunningLemmas
 pub mod PrintingLemmas
 pub mod CapturedLemmas

@@ -22,6 +22,8 @@ use Rattle.console.specs.declared.source.Source.{Source}
 use Rattle.console.specs.Devices.{Gets, GetsNothing}
 use Rattle.console.specs.Matching.{AnswersCaptured}
 use Rattle.console.specs.Running.{HasRun, RunsItem, RunsOn, RunsTo, item_entries, times_shown}
+use Rattle.console.specs.Linking.{AreLinkTypes, links_in}
+use Rattle.console.proofs.LinkLemmas.{links_in-append}
 use Rattle.console.proofs.KnownBytesLemmas.{gets-kept, gets-then}
 
 -- nothing was taken
@@ -125,12 +127,19 @@ small_front : (bytes front rest : List ℕ) → All (λ b. b < 256) bytes → by
 small_front bytes front rest small parts =
     let e : take (length front) bytes ≡ front = ap (take (length front)) parts ∙ take-append_seam front rest in rw e at (All-take (λ b. b < 256) (length front) bytes small)
 
+-- the link types of the interfaces, once these entries were added
+abbrev pub AddsLinks : List EntryBytes → CaptureRun → CaptureRun → Type 0
+AddsLinks added old new = (links : List ℕ) → AreLinkTypes links old.links → AreLinkTypes (links ++ links_in added) new.links
+
+pub no_links : (old new : CaptureRun) → new.links ≡ old.links → AddsLinks [] old new
+no_links old new same = λ links are. rw (append-nil links, same) are
+
 -- the packet of an entry that was added
 runs_added : (program : List Insn) (fed front : List ℕ) (old new : CaptureRun) (outcomes more : List Outcome) (stamps times : List PacketTime) (entries added : List EntryBytes)
     → (has : HasRun program fed old outcomes stamps) → has.entries ≡ entries → new.link ≡ old.link → new.stamped ≡ old.stamped → All (λ b. b < 256) front → HoldsAfter new.feed (entries ++ added) (fed ++ front)
-    → AllZip (AnswersCaptured program) (packets_in (chosen old.link added)) more → times ≡ times_shown old.stamped (chosen old.link added)
+    → AllZip (AnswersCaptured program) (packets_in (chosen old.link added)) more → times ≡ times_shown old.stamped (chosen old.link added) → AddsLinks added old new
     → HasRun program (fed ++ front) new (outcomes ++ more) (stamps ++ times)
-runs_added program fed front old new outcomes more stamps times entries added has is link stamped small holds ran seen = record {
+runs_added program fed front old new outcomes more stamps times entries added has is link stamped small holds ran seen linked = record {
   entries = entries ++ added;
   holds = holds;
   small = All-append (λ b. b < 256) fed front has.small small;
@@ -138,13 +147,14 @@ runs_added program fed front old new outcomes more stamps times entries added ha
       (AllZip-append (AnswersCaptured program) (packets_in (chosen old.link entries)) (packets_in (chosen old.link added)) outcomes more (rw is at has.ran) ran);
   times = rw (link, stamped, chosen-append old.link entries added, times_shown-append old.stamped (chosen old.link entries) (chosen old.link added))
       (ap (λ t. t ++ times) (has.times ∙ ap (λ e. times_shown old.stamped (chosen old.link e)) is) ∙ ap (λ t. times_shown old.stamped (chosen old.link entries) ++ t) seen);
+  links = rw (links_in-append entries added) (linked (links_in entries) (rw is at has.links));
 }
 
 -- an entry that was seen in place, or is held, or none
 pub run_item : (program : List Insn) (bytes rest : List ℕ) (old new : CaptureRun) (found : Found) (item : Option Item) (before after : List Outcome) (since upto : List PacketTime)
-    → Advances bytes rest old.feed new.feed (Ok found) → IsFound new.feed found item → new.link ≡ old.link → new.stamped ≡ old.stamped → RunsItem program old.link old.stamped item before after since upto
+    → Advances bytes rest old.feed new.feed (Ok found) → IsFound new.feed found item → new.link ≡ old.link → new.stamped ≡ old.stamped → RunsItem program old.link old.stamped item before after since upto → AddsLinks (item_entries item) old new
     → RunsOn program bytes rest old new before after since upto
-run_item program bytes rest old new found item before after since upto takes is link stamped ran = record {
+run_item program bytes rest old new found item before after since upto takes is link stamped ran linked = record {
   front = takes.front;
   parts = takes.parts;
   more = ran.more;
@@ -153,7 +163,7 @@ run_item program bytes rest old new found item before after since upto takes is 
   pushed_times = ran.pushed_times;
   runs = λ fed outcomes stamps has small short.
       runs_added program fed takes.front old new outcomes ran.more stamps ran.times has.entries (item_entries item) has refl link stamped (small_front bytes takes.front rest small takes.parts)
-      (adds_item has.entries (fed ++ takes.front) new.feed found item is (takes.adds has.entries fed has.holds short)) ran.ran ran.seen;
+      (adds_item has.entries (fed ++ takes.front) new.feed found item is (takes.adds has.entries fed has.holds short)) ran.ran ran.seen linked;
 }
 
 -- no packet was run
@@ -162,9 +172,9 @@ none_run program link true outcomes stamps = record { more = []; times = []; pus
 none_run program link false outcomes stamps = record { more = []; times = []; pushed = sym (append-nil outcomes); pushed_times = sym (append-nil stamps); ran = tt; seen = refl }
 
 -- a capture with a fault
-pub run_stopped : (program : List Insn) (bytes rest : List ℕ) (old new : CaptureRun) (before : List Outcome) (since : List PacketTime) (fault : ReadFault) → new.link ≡ old.link → new.stamped ≡ old.stamped
+pub run_stopped : (program : List Insn) (bytes rest : List ℕ) (old new : CaptureRun) (before : List Outcome) (since : List PacketTime) (fault : ReadFault) → new.link ≡ old.link → new.stamped ≡ old.stamped → new.links ≡ old.links
     → held_fault new.feed ≡ Some fault → Advances bytes rest old.feed new.feed (Err fault) → RunsOn program bytes [] old new before before since since
-run_stopped program bytes rest old new before since fault link stamped says advances = record {
+run_stopped program bytes rest old new before since fault link stamped links says advances = record {
   front = bytes;
   parts = sym (append-nil bytes);
   more = [];
@@ -172,7 +182,7 @@ run_stopped program bytes rest old new before since fault link stamped says adva
   pushed = sym (append-nil before);
   pushed_times = sym (append-nil since);
   runs = λ fed outcomes stamps has small short.
-      runs_added program fed bytes old new outcomes [] stamps [] has.entries [] has refl link stamped small (rw (says, append-nil has.entries) (advances has.entries fed has.holds short)) tt (sym (none_shown old.stamped));
+      runs_added program fed bytes old new outcomes [] stamps [] has.entries [] has refl link stamped small (rw (says, append-nil has.entries) (advances has.entries fed has.holds short)) tt (sym (none_shown old.stamped)) (no_links old new links);
 }
   where
     none_shown : (stamped : Bool) → times_shown stamped [] ≡ []

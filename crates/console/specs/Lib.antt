@@ -1,4 +1,5 @@
 pub mod Choosing
+pub mod Linking
 pub mod Words
 pub mod Devices
 pub mod Reading

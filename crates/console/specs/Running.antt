@@ -15,6 +15,7 @@ use Rattle.console.specs.declared.input.TheConstants.{INPUT_BYTES}
 use Rattle.console.specs.declared.source.Source.{Source}
 use Rattle.console.specs.declared.capture_run.CaptureRun.{CaptureRun}
 use Rattle.console.specs.Choosing.{chosen, times_in}
+use Rattle.console.specs.Linking.{AreLinkTypes, links_in}
 use Rattle.console.specs.Devices.{Gets}
 use Rattle.console.specs.Reading.{GotTooMany}
 use Rattle.console.specs.Matching.{AnswersCaptured}
@@ -28,13 +29,15 @@ item_entries (Some item) = seen_item item ∷ []
 abbrev pub times_shown : Bool → List EntryBytes → List PacketTime
 times_shown stamped entries = if stamped then times_in entries else []
 
--- a run of a capture was given these bytes, and the packets in them that are chosen ended with these outcomes, and have these times
+-- a run of a capture was given these bytes, and the packets in them that are chosen ended with these outcomes, and have these times;
+-- the interfaces in them have these link types
 pub record HasRun (program : List Insn) (fed : List ℕ) (run : CaptureRun) (outcomes : List Outcome) (stamps : List PacketTime) : Type 0 where
   pub entries : List EntryBytes
   pub holds : HoldsAfter run.feed entries fed
   pub small : All (λ byte. byte < 256) fed
   pub ran : AllZip (AnswersCaptured program) (packets_in (chosen run.link entries)) outcomes
   pub times : stamps ≡ times_shown run.stamped (chosen run.link entries)
+  pub links : AreLinkTypes (links_in entries) run.links
 
 -- the packet of an entry was run, if there is one that is chosen
 pub record RunsItem (program : List Insn) (link : Option ℕ) (stamped : Bool) (item : Option Item) (before after : List Outcome) (since upto : List PacketTime) : Type 0 where

@@ -11,6 +11,8 @@ use Rattle.console.specs.declared.packet_source.PacketSource.TheVariants.{Lines,
 use Rattle.capture_reader.specs.declared.entry.PacketTime.{PacketTime}
 use Rattle.console.specs.declared.form.PacketForm.{PacketForm}
 use Rattle.console.specs.declared.form.PacketForm.TheVariants.{Digits, Capture}
+use Rattle.console.specs.declared.link_types.LinkTypes.{LinkTypes}
+use Rattle.console.specs.declared.link_types.LinkTypes.TheVariants.{None}
 use Rattle.console.specs.Code.{IsGoodCode}
 use Rattle.console.specs.Matching.{Answers, ShowsBytes, ShowsFront, ShowsPackets}
 use Rattle.console.specs.Running.{HasRun, IsStopped}
@@ -76,6 +78,11 @@ form_of (Captured run) = Capture run.link
 abbrev pub is_stamped : PacketSource → Bool
 is_stamped (Lines feed) = false
 is_stamped (Captured run) = run.stamped
+
+-- the link types of the interfaces in what a source took
+abbrev pub links_of : PacketSource → LinkTypes
+links_of (Lines feed) = None
+links_of (Captured run) = run.links
 
 -- the packets that are whole in the bytes that a source took ended with these outcomes, and have these time stamps
 abbrev pub SourceRan : List Insn → List ℕ → PacketSource → List Outcome → List PacketTime → Type 0

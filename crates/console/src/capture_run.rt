@@ -13,7 +13,7 @@ ghost use Rattle.console.specs.Devices.{IsReadThrough, StopsReading};
 ghost use Rattle.console.specs.Running.{HasRun, RunsInput, RunsItem};
 
 use crate::input::{BLOCK, INPUT_BYTES};
-use crate::{EngineFault, Got, Source};
+use crate::{EngineFault, Got, LinkTypes, Source};
 use capture_reader::{CaptureFeed, Entry, Found, Item, PacketInfo, PacketTime, ReadFault};
 use filter_predecode::Predecoded;
 use filter_vm::Outcome;
@@ -27,6 +27,8 @@ pub struct CaptureRun {
     link: Option<u32>,
     /// Whether the times of the packets are kept.
     stamped: bool,
+    /// The link types of the interfaces so far.
+    links: LinkTypes,
 }
 
 // By hand, so that the proofs of its owners have one call and not a drop of each part.
@@ -36,6 +38,7 @@ impl Drop for CaptureRun {
             feed: _,
             link: _,
             stamped: _,
+            links: _,
         } = self;
     }
 }
@@ -57,7 +60,15 @@ impl CaptureRun {
             feed: CaptureFeed::new(alloc),
             link,
             stamped,
+            links: LinkTypes::None,
         }
+    }
+
+    /// The link types of the interfaces in what was taken.
+    pub fn links(&self) -> LinkTypes
+        ensures { result ≡ self.now.links }
+    {
+        self.links
     }
 
     /// Takes a piece, runs the filter on each packet that is whole then, and appends the outcomes, and the times if they are
@@ -103,6 +114,7 @@ impl CaptureRun {
     {
         match self.feed.next(rest) {
             Ok(Found::Item(item)) => {
+                self.links = self.links.with_entry(Some(item));
                 run_found(
                     program,
                     self.link,
@@ -115,6 +127,7 @@ impl CaptureRun {
             }
             Ok(Found::Held) => {
                 let held = self.feed.held();
+                self.links = self.links.with_entry(held);
                 run_found(program, self.link, self.stamped, held, outcomes, stamps)?;
                 Ok(false)
             }
@@ -149,6 +162,7 @@ impl CaptureRun {
 
 /// Runs the filter on the packet of an entry, if there is one that is chosen, and appends the outcome, and the time if times are
 /// kept.
+#[inline]
 fn run_found(
     program: &Predecoded,
     link: Option<u32>,

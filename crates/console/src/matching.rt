@@ -15,7 +15,7 @@ use crate::match_capture::show_capture;
 use crate::match_lines::match_lines;
 use crate::output::write_text;
 use crate::too_long::refuse_long;
-use crate::{EngineFault, PacketForm, Sink, Source};
+use crate::{EngineFault, LinkTypes, PacketForm, Sink, Source};
 use filter_predecode::Predecoded;
 use std::alloc::Global;
 use std::io::{Read, Write};
@@ -33,7 +33,8 @@ use std::io::{Read, Write};
 /// Of an input of more than 64 MiB only `fault InputTooLong` is shown, status 1. For a code that is no program, or that the
 /// verifier refuses, it writes one line that says why, with status 1, and reads nothing.
 ///
-/// Packets of a capture are run while it is read, and 8 bytes of each are kept to its end; lines are kept whole.
+/// Packets of a capture are run while it is read, and 8 bytes of each are kept to its end; lines are kept whole. `links` becomes
+/// the link types of a capture's interfaces, for a warning where there are several.
 ///
 /// Answers `ReadFailed`, with nothing written, where a read fails; `WriteFailed`; and `NoMemory`, where a front of the
 /// text may have been written: of the lines for packets alone.
@@ -41,6 +42,7 @@ pub fn run_match<R: Read, W: Write>(
     alloc: Global,
     code: &[u8],
     form: PacketForm,
+    links: &mut LinkTypes,
     reader: &mut Source<R>,
     writer: &mut Sink<W>,
 ) -> Result<u8, EngineFault>
@@ -70,7 +72,7 @@ pub fn run_match<R: Read, W: Write>(
             return Ok(1);
         }
     };
-    match_input(alloc, &program, form, reader, writer)
+    match_input(alloc, &program, form, links, reader, writer)
 }
 
 /// Runs the filter on the packets of the input, and answers the status.
@@ -78,6 +80,7 @@ fn match_input<R: Read, W: Write>(
     alloc: Global,
     program: &Predecoded,
     form: PacketForm,
+    links: &mut LinkTypes,
     reader: &mut Source<R>,
     writer: &mut Sink<W>,
 ) -> Result<u8, EngineFault>
@@ -108,5 +111,6 @@ fn match_input<R: Read, W: Write>(
     if !run_input(program, reader, &mut run, &mut outcomes, &mut stamps)? {
         return refuse_long(writer);
     }
+    *links = run.links();
     show_capture(alloc, &run, outcomes.as_slice(), writer)
 }

@@ -8,13 +8,13 @@ ghost use Rattle.capture_reader.specs.declared.entry.PacketTime.{PacketTime as T
 ghost use Rattle.console.specs.declared.form.PacketForm.{PacketForm as Form};
 ghost use Rattle.console.specs.Choosing.{is_capture};
 ghost use Rattle.console.specs.Running.{HasRun, IsStopped};
-ghost use Rattle.console.specs.Streaming.{SourceEnded, SourceRan, StampTo, form_of, is_stamped};
+ghost use Rattle.console.specs.Streaming.{SourceEnded, SourceRan, StampTo, form_of, is_stamped, links_of};
 ghost use Rattle.console.specs.Views.{RanAll, ending_status, ending_text};
 
-use crate::PacketForm;
 use crate::capture_run::CaptureRun;
 use crate::ending::Ending;
 use crate::line_feed::LineFeed;
+use crate::{LinkTypes, PacketForm};
 use capture_reader::PacketTime;
 use filter_predecode::Predecoded;
 use filter_vm::Outcome;
@@ -85,6 +85,16 @@ impl PacketSource {
         match self {
             PacketSource::Lines(lines) => lines.finish(program, outcomes),
             PacketSource::Capture(_) => Ok(false),
+        }
+    }
+
+    /// The link types of the interfaces in what was taken of a capture.
+    pub fn links(&self) -> LinkTypes
+        ensures { result ≡ links_of self.now }
+    {
+        match self {
+            PacketSource::Lines(_) => LinkTypes::None,
+            PacketSource::Capture(capture) => capture.links(),
         }
     }
 

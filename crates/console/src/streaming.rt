@@ -15,7 +15,7 @@ use crate::input::BLOCK;
 use crate::output::write_text;
 use crate::packet_source::PacketSource;
 use crate::tally::Tally;
-use crate::{EngineFault, Got, PacketForm, Sink, Source, View};
+use crate::{EngineFault, Got, LinkTypes, PacketForm, Sink, Source, View};
 use filter_predecode::Predecoded;
 use std::alloc::Global;
 use std::io::{Read, Write};
@@ -39,6 +39,7 @@ pub fn run_stream<R: Read, W: Write>(
     alloc: Global,
     code: &[u8],
     form: PacketForm,
+    links: &mut LinkTypes,
     reader: &mut Source<R>,
     writer: &mut Sink<W>,
 ) -> Result<u8, EngineFault>
@@ -56,7 +57,7 @@ pub fn run_stream<R: Read, W: Write>(
     ensures well { IfOk result (λ status. (writer.new.failed ≡ false) × (reader.new.failed ≡ false) × ((reader.new.ended ≡ true) ⊎ (status ≡ 1))) }
     ensures cause { IfErr result (EndsEarly reader.new writer.new) }
 {
-    run_view(alloc, code, form, View::Lines, reader, writer)
+    run_view(alloc, code, form, View::Lines, links, reader, writer)
 }
 
 /// Runs the filter that `code` spells, in decimal text, on packets of an input of any length, shows their outcomes under a
@@ -72,12 +73,15 @@ pub fn run_stream<R: Read, W: Write>(
 /// For a code that is no program, or that the verifier refuses, it reads nothing, and answers status 1. It writes one line that
 /// says why, but under `View::Quiet`.
 ///
+/// `links` becomes the link types of the interfaces of a capture that was read, for a warning where there are several.
+///
 /// The input is read as by `run_stream`, and it fails as that does. 2^64 packets are refused as memory is.
 pub fn run_view<R: Read, W: Write>(
     alloc: Global,
     code: &[u8],
     form: PacketForm,
     view: View,
+    links: &mut LinkTypes,
     reader: &mut Source<R>,
     writer: &mut Sink<W>,
 ) -> Result<u8, EngineFault>
@@ -101,7 +105,9 @@ pub fn run_view<R: Read, W: Write>(
         Err(line) => return refuse_code(view, line.as_str(), writer),
     };
     let mut source = PacketSource::new(alloc, form, shows_stamps(view, form));
-    stream(alloc, &program, &mut source, view, reader, writer)
+    let status = stream(alloc, &program, &mut source, view, reader, writer);
+    *links = source.links();
+    status
 }
 
 /// Whether a view shows time stamps.

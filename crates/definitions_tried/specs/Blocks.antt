@@ -1,10 +1,11 @@
 -- Captures in pcapng, byte for byte as draft-ietf-opsawg-pcapng says.
-use Rattle.std.specs.Prelude.{ℕ, List, [], ◌∷◌, Bool, false, Some, None, pos}
+use Rattle.std.specs.Prelude.{ℕ, List, [], ◌∷◌, Bool, true, false, Some, None, pos}
 use Rattle.pcapng_reader.specs.declared.block.InterfaceDescription.{InterfaceDescription}
 use Rattle.pcapng_reader.specs.declared.block.PacketEntry.{PacketEntry}
 use Rattle.pcapng_reader.specs.declared.block.Content.{Content}
 use Rattle.pcapng_reader.specs.declared.block.Content.TheVariants.{Section, Interface}
 use Rattle.pcapng_reader.specs.Grammar.{WholeBlock}
+use Rattle.keep_engine.specs.declared.choice.Wanted.{Wanted}
 
 -- a section header: its type, 28 bytes, the byte-order magic 0x1a2b3c4d, version 1.0, no section length (2^64 - 1), and 28 once more:
 -- each number with the low byte first, or with the high one
@@ -65,3 +66,15 @@ block offset bytes content = record { offset = offset; bytes = bytes; content = 
 -- the section and its interface
 abbrev pub head : List WholeBlock
 head = block 0 little_section (begins false) ∷ block 28 interface (Interface ethernet_in_nanoseconds) ∷ []
+
+-- What is kept
+
+-- what the filter accepts, of any link type or of one, and what it refuses
+abbrev pub accepted : Wanted
+accepted = record { inverted = false; link = None }
+
+abbrev pub accepted_of : ℕ → Wanted
+accepted_of link = record { inverted = false; link = Some link }
+
+abbrev pub refused : Wanted
+refused = record { inverted = true; link = None }

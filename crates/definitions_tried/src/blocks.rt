@@ -8,7 +8,7 @@ ghost use Rattle.pcapng_reader.specs.Grammar.{Reads};
 ghost use Rattle.pcapng_reader.specs.Packets.{captured_in};
 ghost use Rattle.pcapng_reader.specs.Times.{stamp_of};
 ghost use Rattle.keep_engine.specs.Keeping.{Keeps};
-ghost use Rattle.definitions_tried.specs.Blocks.{little_section, big_section, interface, arp_block, cut_block, big_cut_block, simple_block, begins, enhanced, simple, block, head};
+ghost use Rattle.definitions_tried.specs.Blocks.{little_section, big_section, interface, arp_block, cut_block, big_cut_block, simple_block, begins, enhanced, simple, block, head, accepted, accepted_of, refused};
 ghost use Rattle.definitions_tried.specs.Filters.{arp, cut_frame};
 
 /// Captures as draft-ietf-opsawg-pcapng says: sections in both orders of bytes, an interface with a resolution of time stamps,
@@ -35,9 +35,11 @@ pub fn refused_blocks()
 {}
 
 /// What `keep` gives of a capture in pcapng with a frame of ARP and one of IP: by the filter for ARP all but the frame of IP, and
-/// inverted all but the frame of ARP.
+/// inverted all but the frame of ARP; of Ethernet, 1, which both are, the same, and of Linux's cooked packets, 113, neither.
 pub fn kept_blocks()
-    ensures arp_is_kept { Keeps arp false (little_section ++ interface ++ arp_block ++ simple_block) None (little_section ++ interface ++ arp_block) }
-    ensures another_is_kept_inverted { Keeps arp true (little_section ++ interface ++ arp_block ++ simple_block) None (little_section ++ interface ++ simple_block) }
-    ensures a_section_is_kept_where_no_packet_is { Keeps arp true little_section None little_section }
+    ensures arp_is_kept { Keeps arp accepted (little_section ++ interface ++ arp_block ++ simple_block) None (little_section ++ interface ++ arp_block) }
+    ensures another_is_kept_inverted { Keeps arp refused (little_section ++ interface ++ arp_block ++ simple_block) None (little_section ++ interface ++ simple_block) }
+    ensures ethernet_is_kept { Keeps arp (accepted_of 1) (little_section ++ interface ++ arp_block ++ simple_block) None (little_section ++ interface ++ arp_block) }
+    ensures no_ethernet_is_kept { Keeps arp (accepted_of 113) (little_section ++ interface ++ arp_block ++ simple_block) None (little_section ++ interface) }
+    ensures a_section_is_kept_where_no_packet_is { Keeps arp refused little_section None little_section }
 {}

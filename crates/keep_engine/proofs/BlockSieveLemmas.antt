@@ -22,6 +22,7 @@ use Rattle.pcapng_reader.specs.Held.{HasStopped as HasStoppedFeed}
 use Rattle.pcapng_reader.specs.Packets.{captured_in, packets_by}
 use Rattle.console.specs.Matching.{AnswersCaptured}
 use Rattle.console.proofs.RunningLemmas.{AllZip-append}
+use Rattle.keep_engine.specs.declared.choice.Wanted.{Wanted}
 use Rattle.keep_engine.specs.declared.block_sieve.BlockSieve.{BlockSieve}
 use Rattle.keep_engine.specs.Keeping.{KeepsBlocks, Leaves, LeavesBy, is_kept}
 use Rattle.keep_engine.specs.Sieving.{HasSiftedBlocks, KeepsHeld, KeepsSkimmed, KeepsStep, Sifts}
@@ -36,24 +37,25 @@ none_packet : (p : PacketEntry) (captured : List ℕ) → ◌≡◌ {A = List (P
 none_packet p captured e = cc
 
 -- a block with a packet
-kept_packet : (program : List Insn) (inverted : Bool) (content : Content) (bytes : List ℕ) (p : PacketEntry) (captured before after : List ℕ) → packets_by content bytes ≡ (p, captured) ∷ []
-    → (outcome : Outcome) × AnswersCaptured program (record { bytes = captured; original = p.original }) outcome × (after ≡ before ++ (if is_kept inverted outcome then bytes else []))
-    → (text : List ℕ) × LeavesBy program inverted content bytes text × (after ≡ before ++ text)
-kept_packet program inverted (Packet entry) bytes p captured before after is (outcome, ran, pushed) =
+kept_packet : (program : List Insn) (wanted : Wanted) (content : Content) (bytes : List ℕ) (p : PacketEntry) (captured before after : List ℕ) → packets_by content bytes ≡ (p, captured) ∷ []
+    → (outcome : Outcome) × AnswersCaptured program (record { bytes = captured; original = p.original }) outcome × (after ≡ before ++ (if is_kept wanted p.link outcome then bytes else []))
+    → (text : List ℕ) × LeavesBy program wanted content bytes text × (after ≡ before ++ text)
+kept_packet program wanted (Packet entry) bytes p captured before after is (outcome, ran, pushed) =
     let same = same_packet entry (captured_in entry bytes) p captured is in
     let was : AnswersCaptured program (record { bytes = captured_in entry bytes; original = entry.original }) outcome = rw (same.1, same.0) ran in
-    ((if is_kept inverted outcome then bytes else []), (outcome, was, refl), pushed)
-kept_packet program inverted (Section h) bytes p captured before after is one = absurd (none_packet p captured is)
-kept_packet program inverted (Interface i) bytes p captured before after is one = absurd (none_packet p captured is)
-kept_packet program inverted Other bytes p captured before after is one = absurd (none_packet p captured is)
+    let link : entry.link ≡ p.link = ap (λ (x : PacketEntry). x.link) same.0 in
+    ((if is_kept wanted p.link outcome then bytes else []), (outcome, was, ap (λ l. if is_kept wanted l outcome then bytes else []) (sym link)), pushed)
+kept_packet program wanted (Section h) bytes p captured before after is one = absurd (none_packet p captured is)
+kept_packet program wanted (Interface i) bytes p captured before after is one = absurd (none_packet p captured is)
+kept_packet program wanted Other bytes p captured before after is one = absurd (none_packet p captured is)
 
 -- a block without one
-kept_other : (program : List Insn) (inverted : Bool) (content : Content) (bytes before after : List ℕ) → packets_by content bytes ≡ [] → after ≡ before ++ bytes
-    → (text : List ℕ) × LeavesBy program inverted content bytes text × (after ≡ before ++ text)
-kept_other program inverted (Packet entry) bytes before after is pushed = absurd (none_packet entry (captured_in entry bytes) (sym is))
-kept_other program inverted (Section h) bytes before after is pushed = (bytes, refl, pushed)
-kept_other program inverted (Interface i) bytes before after is pushed = (bytes, refl, pushed)
-kept_other program inverted Other bytes before after is pushed = (bytes, refl, pushed)
+kept_other : (program : List Insn) (wanted : Wanted) (content : Content) (bytes before after : List ℕ) → packets_by content bytes ≡ [] → after ≡ before ++ bytes
+    → (text : List ℕ) × LeavesBy program wanted content bytes text × (after ≡ before ++ text)
+kept_other program wanted (Packet entry) bytes before after is pushed = absurd (none_packet entry (captured_in entry bytes) (sym is))
+kept_other program wanted (Section h) bytes before after is pushed = (bytes, refl, pushed)
+kept_other program wanted (Interface i) bytes before after is pushed = (bytes, refl, pushed)
+kept_other program wanted Other bytes before after is pushed = (bytes, refl, pushed)
 
 -- A piece
 
@@ -78,8 +80,8 @@ sifts_then Has front piece old mid new before between after first second = recor
 no_fault : (fault : Option CaptureFault) → fault ≡ None → fault ≢ Some NoMemory
 no_fault fault none some = let e : ◌≡◌ {A = Option CaptureFault} None (Some NoMemory) = sym none ∙ some in absurd (cc)
 
-pub sifted_none : (program : List Insn) (inverted : Bool) (sieve : BlockSieve) → IsFresh true sieve.feed → sieve.fault ≡ None → HasSiftedBlocks program inverted [] sieve []
-sifted_none program inverted sieve fresh none = record {
+pub sifted_none : (program : List Insn) (wanted : Wanted) (sieve : BlockSieve) → IsFresh true sieve.feed → sieve.fault ≡ None → HasSiftedBlocks program wanted [] sieve []
+sifted_none program wanted sieve fresh none = record {
   blocks = [];
   parts = [];
   holds = fresh.0;
@@ -91,22 +93,22 @@ sifted_none program inverted sieve fresh none = record {
 }
 
 -- one block more
-one_more : (program : List Insn) (inverted : Bool) (old new : BlockSieve) (taken front text more : List ℕ) (block : WholeBlock) → (was : HasSiftedBlocks program inverted taken old text) → HoldsAfter (was.blocks ++ block ∷ []) (taken ++ front) new.feed
-    → copies_all new.feed ≡ copies_all old.feed → held_fault new.feed ≡ None → new.fault ≡ None → Leaves program inverted block more → HasSiftedBlocks program inverted (taken ++ front) new (text ++ more)
-one_more program inverted old new taken front text more block was holds copies going none leaves = record {
+one_more : (program : List Insn) (wanted : Wanted) (old new : BlockSieve) (taken front text more : List ℕ) (block : WholeBlock) → (was : HasSiftedBlocks program wanted taken old text) → HoldsAfter (was.blocks ++ block ∷ []) (taken ++ front) new.feed
+    → copies_all new.feed ≡ copies_all old.feed → held_fault new.feed ≡ None → new.fault ≡ None → Leaves program wanted block more → HasSiftedBlocks program wanted (taken ++ front) new (text ++ more)
+one_more program wanted old new taken front text more block was holds copies going none leaves = record {
   blocks = was.blocks ++ block ∷ [];
   parts = was.parts ++ more ∷ [];
   holds = holds;
   every = copies ∙ was.every;
   fault = none ∙ sym going;
   memory = no_fault (held_fault new.feed) going;
-  each = AllZip-append (Leaves program inverted) was.blocks (block ∷ []) was.parts (more ∷ []) was.each (leaves, tt);
+  each = AllZip-append (Leaves program wanted) was.blocks (block ∷ []) was.parts (more ∷ []) was.each (leaves, tt);
   is = ap (λ t. t ++ more) was.is ∙ ap (λ t. concat was.parts ++ t) (sym (append-nil more)) ∙ sym (concat-append was.parts (more ∷ []));
 }
 
-no_more : (program : List Insn) (inverted : Bool) (old new : BlockSieve) (taken front text : List ℕ) → (was : HasSiftedBlocks program inverted taken old text) → HoldsAfter was.blocks (taken ++ front) new.feed
-    → copies_all new.feed ≡ copies_all old.feed → held_fault new.feed ≡ None → new.fault ≡ None → HasSiftedBlocks program inverted (taken ++ front) new (text ++ [])
-no_more program inverted old new taken front text was holds copies going none = record {
+no_more : (program : List Insn) (wanted : Wanted) (old new : BlockSieve) (taken front text : List ℕ) → (was : HasSiftedBlocks program wanted taken old text) → HoldsAfter was.blocks (taken ++ front) new.feed
+    → copies_all new.feed ≡ copies_all old.feed → held_fault new.feed ≡ None → new.fault ≡ None → HasSiftedBlocks program wanted (taken ++ front) new (text ++ [])
+no_more program wanted old new taken front text was holds copies going none = record {
   blocks = was.blocks;
   parts = was.parts;
   holds = holds;
@@ -123,10 +125,10 @@ still_going old new None is going stays = is
 still_going old new (Some fault) is going stays =
     let e : ◌≡◌ {A = Option CaptureFault} None (Some fault) = sym going ∙ ap held_fault (stays fault is) ∙ is in absurd (cc)
 
-held_sifts : (program : List Insn) (inverted : Bool) (rest rest' : List ℕ) (old new : BlockSieve) (held : Option WholeBlock) (before after : List ℕ) → (takes : Takes rest rest' old.feed new.feed Held) → held_block new.feed ≡ held
-    → copies_all new.feed ≡ copies_all old.feed → held_fault new.feed ≡ None → ((fault : CaptureFault) → held_fault old.feed ≡ Some fault → new.feed ≡ old.feed) → new.fault ≡ old.fault → KeepsHeld program inverted held before after
-    → Sifts (HasSiftedBlocks program inverted) takes.front old new before after
-held_sifts program inverted rest rest' old new None before after takes is copies going stays same keeps = record {
+held_sifts : (program : List Insn) (wanted : Wanted) (rest rest' : List ℕ) (old new : BlockSieve) (held : Option WholeBlock) (before after : List ℕ) → (takes : Takes rest rest' old.feed new.feed Held) → held_block new.feed ≡ held
+    → copies_all new.feed ≡ copies_all old.feed → held_fault new.feed ≡ None → ((fault : CaptureFault) → held_fault old.feed ≡ Some fault → new.feed ≡ old.feed) → new.fault ≡ old.fault → KeepsHeld program wanted held before after
+    → Sifts (HasSiftedBlocks program wanted) takes.front old new before after
+held_sifts program wanted rest rest' old new None before after takes is copies going stays same keeps = record {
   more = [];
   pushed = keeps ∙ sym (append-nil before);
   goes = λ taken text was short. let added = takes.adds was.blocks taken was.holds short in absurd (none_held added.0 (sym is ∙ added.1));
@@ -134,13 +136,13 @@ held_sifts program inverted rest rest' old new None before after takes is copies
   where
     none_held : (block : WholeBlock) → ◌≡◌ {A = Option WholeBlock} None (Some block) → ⊥
     none_held block e = cc
-held_sifts program inverted rest rest' old new (Some block) before after takes is copies going stays same (more, leaves, pushed) = record {
+held_sifts program wanted rest rest' old new (Some block) before after takes is copies going stays same (more, leaves, pushed) = record {
   more = more;
   pushed = pushed;
   goes = λ taken text was short.
       let added = takes.adds was.blocks taken was.holds short in
       let one : block ≡ added.0 = one_held block added.0 (sym is ∙ added.1) in
-      one_more program inverted old new taken takes.front text more block was (rw one added.2) copies going
+      one_more program wanted old new taken takes.front text more block was (rw one added.2) copies going
       (same ∙ was.fault ∙ still_going old.feed new.feed (held_fault old.feed) refl going stays) leaves;
 }
   where
@@ -148,26 +150,26 @@ held_sifts program inverted rest rest' old new (Some block) before after takes i
     one_held block other e = cc
 
 -- what a step made of the bytes that it took
-pub step_sifts : (program : List Insn) (inverted : Bool) (rest rest' : List ℕ) (old new : BlockSieve) (step : Step) (before after : List ℕ) → (takes : Takes rest rest' old.feed new.feed step) → HasBytes (copies_all old.feed) step
-    → copies_all new.feed ≡ copies_all old.feed → held_fault new.feed ≡ None → ((fault : CaptureFault) → held_fault old.feed ≡ Some fault → new.feed ≡ old.feed) → new.fault ≡ old.fault → KeepsStep program inverted new.feed step before after
-    → Sifts (HasSiftedBlocks program inverted) takes.front old new before after
-step_sifts program inverted rest rest' old new (Block block) before after takes bytes copies going stays same (more, leaves, pushed) = record {
+pub step_sifts : (program : List Insn) (wanted : Wanted) (rest rest' : List ℕ) (old new : BlockSieve) (step : Step) (before after : List ℕ) → (takes : Takes rest rest' old.feed new.feed step) → HasBytes (copies_all old.feed) step
+    → copies_all new.feed ≡ copies_all old.feed → held_fault new.feed ≡ None → ((fault : CaptureFault) → held_fault old.feed ≡ Some fault → new.feed ≡ old.feed) → new.fault ≡ old.fault → KeepsStep program wanted new.feed step before after
+    → Sifts (HasSiftedBlocks program wanted) takes.front old new before after
+step_sifts program wanted rest rest' old new (Block block) before after takes bytes copies going stays same (more, leaves, pushed) = record {
   more = more;
   pushed = pushed;
-  goes = λ taken text was short. one_more program inverted old new taken takes.front text more (seen_block block) was (takes.adds was.blocks taken was.holds short) copies going
+  goes = λ taken text was short. one_more program wanted old new taken takes.front text more (seen_block block) was (takes.adds was.blocks taken was.holds short) copies going
       (same ∙ was.fault ∙ still_going old.feed new.feed (held_fault old.feed) refl going stays) leaves;
 }
-step_sifts program inverted rest rest' old new Held before after takes bytes copies going stays same keeps =
-    held_sifts program inverted rest rest' old new (held_block new.feed) before after takes refl copies going stays same keeps
-step_sifts program inverted rest rest' old new Passed before after takes bytes copies going stays same keeps = record {
+step_sifts program wanted rest rest' old new Held before after takes bytes copies going stays same keeps =
+    held_sifts program wanted rest rest' old new (held_block new.feed) before after takes refl copies going stays same keeps
+step_sifts program wanted rest rest' old new Passed before after takes bytes copies going stays same keeps = record {
   more = [];
   pushed = keeps ∙ sym (append-nil before);
   goes = λ taken text was short. absurd (rw was.every at bytes);
 }
-step_sifts program inverted rest rest' old new More before after takes bytes copies going stays same keeps = record {
+step_sifts program wanted rest rest' old new More before after takes bytes copies going stays same keeps = record {
   more = [];
   pushed = keeps ∙ sym (append-nil before);
-  goes = λ taken text was short. no_more program inverted old new taken takes.front text was (takes.adds was.blocks taken was.holds short) copies going
+  goes = λ taken text was short. no_more program wanted old new taken takes.front text was (takes.adds was.blocks taken was.holds short) copies going
       (same ∙ was.fault ∙ still_going old.feed new.feed (held_fault old.feed) refl going stays);
 }
 
@@ -179,18 +181,22 @@ has_block false block = tt
 no_stay : (fault : CaptureFault) (o : Option CaptureFault) {A : Type 0} → o ≡ None → o ≡ Some fault → A
 no_stay fault o none some = let e : ◌≡◌ {A = Option CaptureFault} None (Some fault) = sym none ∙ some in absurd (cc)
 
-pub skim_sifts : (program : List Insn) (inverted : Bool) (rest rest' : List ℕ) (old new : BlockSieve) (skimmed : Skimmed) (before after : List ℕ) → (skims : Skims rest rest' old.feed new.feed skimmed) → new.fault ≡ old.fault → KeepsSkimmed program inverted skimmed before after
-    → Sifts (HasSiftedBlocks program inverted) skims.takes.front old new before after
-skim_sifts program inverted rest rest' old new skimmed before after skims same (outcome, ran, pushed) =
+any_link : (wanted : Wanted) (link other : ℕ) (outcome : Outcome) → wanted.link ≡ None → is_kept wanted link outcome ≡ is_kept wanted other outcome
+any_link wanted link other outcome unnamed = rw unnamed refl
+
+pub skim_sifts : (program : List Insn) (wanted : Wanted) (rest rest' : List ℕ) (old new : BlockSieve) (skimmed : Skimmed) (before after : List ℕ) → (skims : Skims rest rest' old.feed new.feed skimmed) → new.fault ≡ old.fault → wanted.link ≡ None → KeepsSkimmed program wanted skimmed before after
+    → Sifts (HasSiftedBlocks program wanted) skims.takes.front old new before after
+skim_sifts program wanted rest rest' old new skimmed before after skims same unnamed (outcome, ran, pushed) =
     let block : SeenBlock = record { offset = (place_of old.feed).offset; bytes = skimmed.block; content = Packet skims.entry } in
     let was : AnswersCaptured program (record { bytes = captured_in skims.entry skimmed.block.now; original = skims.entry.original }) outcome = rw (sym skims.captured, sym skims.original) ran in
-    step_sifts program inverted rest rest' old new (Block block) before after skims.takes (has_block (copies_all old.feed) block) skims.copies skims.going.1 (λ fault met. no_stay fault (held_fault old.feed) skims.going.0 met) same
-    ((if is_kept inverted outcome then skimmed.block.now else []), (outcome, was, refl), pushed)
+    let any = any_link wanted 0 skims.entry.link outcome unnamed in
+    step_sifts program wanted rest rest' old new (Block block) before after skims.takes (has_block (copies_all old.feed) block) skims.copies skims.going.1 (λ fault met. no_stay fault (held_fault old.feed) skims.going.0 met) same
+    ((if is_kept wanted 0 outcome then skimmed.block.now else []), (outcome, was, ap (λ k. if k then skimmed.block.now else []) any), pushed)
 
 -- a fault in the bytes that are left
-pub fault_sifts : (program : List Insn) (inverted : Bool) (rest rest' : List ℕ) (old new : BlockSieve) (fault : CaptureFault) (before : List ℕ) → Advances rest rest' old.feed new.feed (Err fault) → fault ≢ NoMemory
-    → copies_all new.feed ≡ copies_all old.feed → held_fault new.feed ≡ Some fault → new.fault ≡ Some fault → Sifts (HasSiftedBlocks program inverted) rest old new before before
-fault_sifts program inverted rest rest' old new fault before advances other copies is same = record {
+pub fault_sifts : (program : List Insn) (wanted : Wanted) (rest rest' : List ℕ) (old new : BlockSieve) (fault : CaptureFault) (before : List ℕ) → Advances rest rest' old.feed new.feed (Err fault) → fault ≢ NoMemory
+    → copies_all new.feed ≡ copies_all old.feed → held_fault new.feed ≡ Some fault → new.fault ≡ Some fault → Sifts (HasSiftedBlocks program wanted) rest old new before before
+fault_sifts program wanted rest rest' old new fault before advances other copies is same = record {
   more = [];
   pushed = sym (append-nil before);
   goes = λ taken text was short. record {
@@ -212,18 +218,18 @@ fault_sifts program inverted rest rest' old new fault before advances other copi
     holds_stopped given fed feed fault is stopped = let all : HoldsAt given fed feed (Some fault) = stopped in rw is all
 
 -- so it is where the fault wasn't a refusal of memory
-pub stopped_sifts : {E : Type 0} (r : Result (Unit {0}) E) (program : List Insn) (inverted : Bool) (piece front rest rest' : List ℕ) (old mid new : BlockSieve) (feed : BlockFeed) (fault : CaptureFault) (before after : List ℕ) → piece ≡ front ++ rest
-    → Sifts (HasSiftedBlocks program inverted) front old mid before after → Advances rest rest' mid.feed feed (Err fault) → copies_all feed ≡ copies_all mid.feed → held_fault feed ≡ Some fault
-    → OnOk r ((fault ≢ NoMemory) × (new.feed ≡ feed) × (new.fault ≡ Some fault)) → OnOk r (Sifts (HasSiftedBlocks program inverted) piece old new before after)
-stopped_sifts (Err e) program inverted piece front rest rest' old mid new feed fault before after parts so advances copies is stops = tt
-stopped_sifts (Ok done) program inverted piece front rest rest' old mid new feed fault before after parts so advances copies is stops =
-    let last = fault_sifts program inverted rest rest' mid new fault after advances stops.0 (rw stops.1 copies) (rw stops.1 is) stops.2 in
-    rw parts (sifts_then (HasSiftedBlocks program inverted) front rest old mid new before after after so last)
+pub stopped_sifts : {E : Type 0} (r : Result (Unit {0}) E) (program : List Insn) (wanted : Wanted) (piece front rest rest' : List ℕ) (old mid new : BlockSieve) (feed : BlockFeed) (fault : CaptureFault) (before after : List ℕ) → piece ≡ front ++ rest
+    → Sifts (HasSiftedBlocks program wanted) front old mid before after → Advances rest rest' mid.feed feed (Err fault) → copies_all feed ≡ copies_all mid.feed → held_fault feed ≡ Some fault
+    → OnOk r ((fault ≢ NoMemory) × (new.feed ≡ feed) × (new.fault ≡ Some fault)) → OnOk r (Sifts (HasSiftedBlocks program wanted) piece old new before after)
+stopped_sifts (Err e) program wanted piece front rest rest' old mid new feed fault before after parts so advances copies is stops = tt
+stopped_sifts (Ok done) program wanted piece front rest rest' old mid new feed fault before after parts so advances copies is stops =
+    let last = fault_sifts program wanted rest rest' mid new fault after advances stops.0 (rw stops.1 copies) (rw stops.1 is) stops.2 in
+    rw parts (sifts_then (HasSiftedBlocks program wanted) front rest old mid new before after after so last)
 
 -- How a capture ends
 
-pub ends_stopped : (program : List Insn) (inverted : Bool) (taken text : List ℕ) (sieve : BlockSieve) (fault : CaptureFault) → sieve.fault ≡ Some fault → HasSiftedBlocks program inverted taken sieve text → KeepsBlocks program inverted taken (Some fault) text
-ends_stopped program inverted taken text sieve fault is has =
+pub ends_stopped : (program : List Insn) (wanted : Wanted) (taken text : List ℕ) (sieve : BlockSieve) (fault : CaptureFault) → sieve.fault ≡ Some fault → HasSiftedBlocks program wanted taken sieve text → KeepsBlocks program wanted taken (Some fault) text
+ends_stopped program wanted taken text sieve fault is has =
     let met : held_fault sieve.feed ≡ Some fault = sym has.fault ∙ is in
     let stopped : HasStoppedFeed has.blocks taken fault = rw met at has.holds in
     elim stopped [
@@ -231,13 +237,13 @@ ends_stopped program inverted taken text sieve fault is has =
       | inr refused ↦ absurd (has.memory (met ∙ ap (λ f. Some f) refused.0))
     ]
 
-pub ends_well : (program : List Insn) (inverted : Bool) (taken text : List ℕ) (sieve : BlockSieve) → HasSiftedBlocks program inverted taken sieve text
-    → ((given : List WholeBlock) (fed : List ℕ) → HoldsAfter given fed sieve.feed → Ends given fed (Ok tt)) → KeepsBlocks program inverted taken None text
-ends_well program inverted taken text sieve has ends = record { blocks = has.blocks; reads = ends has.blocks taken has.holds; parts = has.parts; each = has.each; is = has.is }
+pub ends_well : (program : List Insn) (wanted : Wanted) (taken text : List ℕ) (sieve : BlockSieve) → HasSiftedBlocks program wanted taken sieve text
+    → ((given : List WholeBlock) (fed : List ℕ) → HoldsAfter given fed sieve.feed → Ends given fed (Ok tt)) → KeepsBlocks program wanted taken None text
+ends_well program wanted taken text sieve has ends = record { blocks = has.blocks; reads = ends has.blocks taken has.holds; parts = has.parts; each = has.each; is = has.is }
 
-pub ends_within : (program : List Insn) (inverted : Bool) (taken text : List ℕ) (sieve : BlockSieve) (fault : CaptureFault) → HasSiftedBlocks program inverted taken sieve text
+pub ends_within : (program : List Insn) (wanted : Wanted) (taken text : List ℕ) (sieve : BlockSieve) (fault : CaptureFault) → HasSiftedBlocks program wanted taken sieve text
     → ((given : List WholeBlock) (fed : List ℕ) → HoldsAfter given fed sieve.feed → Ends given fed (Err fault))
-    → (◌≡◌ {A = Result (Unit {0}) CaptureFault} (Err fault) (Err NoMemory) → held_fault sieve.feed ≡ Some NoMemory) → KeepsBlocks program inverted taken (Some fault) text
-ends_within program inverted taken text sieve NoMemory has ends refused = absurd (has.memory (refused refl))
-ends_within program inverted taken text sieve (BadBlock error place) has ends refused = record { blocks = has.blocks; reads = ends has.blocks taken has.holds; parts = has.parts; each = has.each; is = has.is }
-ends_within program inverted taken text sieve (Truncated place) has ends refused = record { blocks = has.blocks; reads = ends has.blocks taken has.holds; parts = has.parts; each = has.each; is = has.is }
+    → (◌≡◌ {A = Result (Unit {0}) CaptureFault} (Err fault) (Err NoMemory) → held_fault sieve.feed ≡ Some NoMemory) → KeepsBlocks program wanted taken (Some fault) text
+ends_within program wanted taken text sieve NoMemory has ends refused = absurd (has.memory (refused refl))
+ends_within program wanted taken text sieve (BadBlock error place) has ends refused = record { blocks = has.blocks; reads = ends has.blocks taken has.holds; parts = has.parts; each = has.each; is = has.is }
+ends_within program wanted taken text sieve (Truncated place) has ends refused = record { blocks = has.blocks; reads = ends has.blocks taken has.holds; parts = has.parts; each = has.each; is = has.is }

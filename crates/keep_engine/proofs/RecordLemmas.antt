@@ -7,29 +7,31 @@ use Rattle.std.proofs.lemmas.List.Folds.{concat-append}
 use Rattle.bpf_insn.specs.declared.insn.Insn.{Insn}
 use Rattle.filter_vm.specs.declared.machine.Outcome.{Outcome}
 use Rattle.pcap_reader.specs.declared.capture.CapturedPacket.{CapturedPacket}
+use Rattle.pcap_reader.specs.declared.capture.Header.{Header}
 use Rattle.pcap_reader.specs.declared.feed.Seen.{Seen}
 use Rattle.pcap_reader.specs.Held.{seen_packet}
 use Rattle.pcap_reader.specs.Savefile.{IsRecord}
 use Rattle.console.specs.Matching.{AnswersCaptured}
 use Rattle.console.proofs.RunningLemmas.{AllZip-append}
+use Rattle.keep_engine.specs.declared.choice.Wanted.{Wanted}
 use Rattle.keep_engine.specs.Keeping.{is_kept, kept}
 use Rattle.keep_engine.specs.Sieving.{KeepsOne, TakesRecords}
 
 -- some records and then others
-pub kept-append : (inverted big : Bool) (program : List Insn) (records records' : List (List ℕ)) (packets : List CapturedPacket) (outcomes outcomes' : List Outcome)
-    → AllZip (IsRecord big) records packets → AllZip (AnswersCaptured program) packets outcomes
-    → kept inverted (records ++ records') (outcomes ++ outcomes') ≡ kept inverted records outcomes ++ kept inverted records' outcomes'
-kept-append inverted big program [] records' [] [] outcomes' each ran = refl
-kept-append inverted big program [] records' [] (o ∷ outcomes) outcomes' each ran = absurd ran
-kept-append inverted big program [] records' (p ∷ packets) outcomes outcomes' each ran = absurd each
-kept-append inverted big program (r ∷ records) records' [] outcomes outcomes' each ran = absurd each
-kept-append inverted big program (r ∷ records) records' (p ∷ packets) [] outcomes' each ran = absurd ran
-kept-append inverted big program (r ∷ records) records' (p ∷ packets) (o ∷ outcomes) outcomes' each ran =
-    ap (λ t. (if is_kept inverted o then r else []) ++ t) (kept-append inverted big program records records' packets outcomes outcomes' each.1 ran.1)
-    ∙ sym (append_assoc (if is_kept inverted o then r else []) (kept inverted records outcomes) (kept inverted records' outcomes'))
+pub kept-append : (wanted : Wanted) (h : Header) (program : List Insn) (records records' : List (List ℕ)) (packets : List CapturedPacket) (outcomes outcomes' : List Outcome)
+    → AllZip (IsRecord h.big) records packets → AllZip (AnswersCaptured program) packets outcomes
+    → kept wanted h.network (records ++ records') (outcomes ++ outcomes') ≡ kept wanted h.network records outcomes ++ kept wanted h.network records' outcomes'
+kept-append wanted h program [] records' [] [] outcomes' each ran = refl
+kept-append wanted h program [] records' [] (o ∷ outcomes) outcomes' each ran = absurd ran
+kept-append wanted h program [] records' (p ∷ packets) outcomes outcomes' each ran = absurd each
+kept-append wanted h program (r ∷ records) records' [] outcomes outcomes' each ran = absurd each
+kept-append wanted h program (r ∷ records) records' (p ∷ packets) [] outcomes' each ran = absurd ran
+kept-append wanted h program (r ∷ records) records' (p ∷ packets) (o ∷ outcomes) outcomes' each ran =
+    ap (λ t. (if is_kept wanted h.network o then r else []) ++ t) (kept-append wanted h program records records' packets outcomes outcomes' each.1 ran.1)
+    ∙ sym (append_assoc (if is_kept wanted h.network o then r else []) (kept wanted h.network records outcomes) (kept wanted h.network records' outcomes'))
 
-pub takes_none : (program : List Insn) (inverted big : Bool) (bytes before : List ℕ) → TakesRecords program inverted big bytes bytes before before
-takes_none program inverted big bytes before = record {
+pub takes_none : (program : List Insn) (wanted : Wanted) (h : Header) (bytes before : List ℕ) → TakesRecords program wanted h bytes bytes before before
+takes_none program wanted h bytes before = record {
   records = [];
   packets = [];
   outcomes = [];
@@ -40,42 +42,42 @@ takes_none program inverted big bytes before = record {
 }
 
 -- one record more
-pub takes_next : (program : List Insn) (inverted big : Bool) (bytes rest rest' front before between after : List ℕ) (packet : Seen)
-    → TakesRecords program inverted big bytes rest before between → rest ≡ front ++ rest' → IsRecord big front (seen_packet packet) → KeepsOne program inverted packet front between after
-    → TakesRecords program inverted big bytes rest' before after
-takes_next program inverted big bytes rest rest' front before between after packet so parts is one = record {
+pub takes_next : (program : List Insn) (wanted : Wanted) (h : Header) (bytes rest rest' front before between after : List ℕ) (packet : Seen)
+    → TakesRecords program wanted h bytes rest before between → rest ≡ front ++ rest' → IsRecord h.big front (seen_packet packet) → KeepsOne program wanted h.network packet front between after
+    → TakesRecords program wanted h bytes rest' before after
+takes_next program wanted h bytes rest rest' front before between after packet so parts is one = record {
   records = so.records ++ front ∷ [];
   packets = so.packets ++ seen_packet packet ∷ [];
   outcomes = so.outcomes ++ one.0 ∷ [];
   parts = so.parts ∙ ap (λ t. concat so.records ++ t) parts ∙ sym (append_assoc (concat so.records) front rest')
       ∙ ap (λ t. t ++ rest') (ap (λ t. concat so.records ++ t) (sym (append-nil front)) ∙ sym (concat-append so.records (front ∷ [])));
-  each = AllZip-append (IsRecord big) so.records (front ∷ []) so.packets (seen_packet packet ∷ []) so.each (is, tt);
+  each = AllZip-append (IsRecord h.big) so.records (front ∷ []) so.packets (seen_packet packet ∷ []) so.each (is, tt);
   ran = AllZip-append (AnswersCaptured program) so.packets (seen_packet packet ∷ []) so.outcomes (one.0 ∷ []) so.ran (one.1, tt);
-  pushed = one.2 ∙ ap (λ t. t ++ (if is_kept inverted one.0 then front else [])) so.pushed ∙ append_assoc before (kept inverted so.records so.outcomes) (if is_kept inverted one.0 then front else [])
-      ∙ ap (λ t. before ++ t) (ap (λ t. kept inverted so.records so.outcomes ++ t) (sym (append-nil (if is_kept inverted one.0 then front else [])))
-      ∙ sym (kept-append inverted big program so.records (front ∷ []) so.packets so.outcomes (one.0 ∷ []) so.each so.ran));
+  pushed = one.2 ∙ ap (λ t. t ++ (if is_kept wanted h.network one.0 then front else [])) so.pushed ∙ append_assoc before (kept wanted h.network so.records so.outcomes) (if is_kept wanted h.network one.0 then front else [])
+      ∙ ap (λ t. before ++ t) (ap (λ t. kept wanted h.network so.records so.outcomes ++ t) (sym (append-nil (if is_kept wanted h.network one.0 then front else [])))
+      ∙ sym (kept-append wanted h program so.records (front ∷ []) so.packets so.outcomes (one.0 ∷ []) so.each so.ran));
 }
 
 -- a part that has become a record
-pub takes_whole : (program : List Insn) (inverted big : Bool) (part front before after : List ℕ) (packet : Seen) → front ≡ part → IsRecord big front (seen_packet packet) → KeepsOne program inverted packet part before after
-    → TakesRecords program inverted big part [] before after
-takes_whole program inverted big part front before after packet all is one =
-    takes_next program inverted big part part [] part before before after packet (takes_none program inverted big part before) (sym (append-nil part)) (rw all at is) one
+pub takes_whole : (program : List Insn) (wanted : Wanted) (h : Header) (part front before after : List ℕ) (packet : Seen) → front ≡ part → IsRecord h.big front (seen_packet packet) → KeepsOne program wanted h.network packet part before after
+    → TakesRecords program wanted h part [] before after
+takes_whole program wanted h part front before after packet all is one =
+    takes_next program wanted h part part [] part before before after packet (takes_none program wanted h part before) (sym (append-nil part)) (rw all at is) one
 
 -- records of a part, and then of what is left of it and a piece
-pub takes_then : {T E : Type 0} (r : Result T E) (program : List Insn) (inverted big : Bool) (part piece mid rest bytes left before between after : List ℕ) → part ++ piece ≡ bytes ++ rest → TakesRecords program inverted big bytes mid before between
-    → OnOk r (TakesRecords program inverted big (mid ++ rest) left between after) → OnOk r (TakesRecords program inverted big (part ++ piece) left before after)
-takes_then (Err e) program inverted big part piece mid rest bytes left before between after moved first second = tt
-takes_then (Ok done) program inverted big part piece mid rest bytes left before between after moved first second = record {
+pub takes_then : {T E : Type 0} (r : Result T E) (program : List Insn) (wanted : Wanted) (h : Header) (part piece mid rest bytes left before between after : List ℕ) → part ++ piece ≡ bytes ++ rest → TakesRecords program wanted h bytes mid before between
+    → OnOk r (TakesRecords program wanted h (mid ++ rest) left between after) → OnOk r (TakesRecords program wanted h (part ++ piece) left before after)
+takes_then (Err e) program wanted h part piece mid rest bytes left before between after moved first second = tt
+takes_then (Ok done) program wanted h part piece mid rest bytes left before between after moved first second = record {
   records = first.records ++ second.records;
   packets = first.packets ++ second.packets;
   outcomes = first.outcomes ++ second.outcomes;
   parts = moved ∙ ap (λ t. t ++ rest) first.parts ∙ append_assoc (concat first.records) mid rest ∙ ap (λ t. concat first.records ++ t) second.parts
       ∙ sym (append_assoc (concat first.records) (concat second.records) left) ∙ ap (λ t. t ++ left) (sym (concat-append first.records second.records));
-  each = AllZip-append (IsRecord big) first.records second.records first.packets second.packets first.each second.each;
+  each = AllZip-append (IsRecord h.big) first.records second.records first.packets second.packets first.each second.each;
   ran = AllZip-append (AnswersCaptured program) first.packets second.packets first.outcomes second.outcomes first.ran second.ran;
-  pushed = second.pushed ∙ ap (λ t. t ++ kept inverted second.records second.outcomes) first.pushed ∙ append_assoc before (kept inverted first.records first.outcomes) (kept inverted second.records second.outcomes)
-      ∙ ap (λ t. before ++ t) (sym (kept-append inverted big program first.records second.records first.packets first.outcomes second.outcomes first.each first.ran));
+  pushed = second.pushed ∙ ap (λ t. t ++ kept wanted h.network second.records second.outcomes) first.pushed ∙ append_assoc before (kept wanted h.network first.records first.outcomes) (kept wanted h.network second.records second.outcomes)
+      ∙ ap (λ t. before ++ t) (sym (kept-append wanted h program first.records second.records first.packets first.outcomes second.outcomes first.each first.ran));
 }
 
 -- bytes from a place on, in two parts

@@ -1,15 +1,17 @@
 //! A capture in pcapng that comes in pieces, of which all is kept but some packets.
 
-ghost use Rattle.std.specs.Prelude.{◌≡◌, ◌≢◌, Bool, IsSome, IsTrue, List, OnOk, Some, ℕ, []};
+ghost use Rattle.std.specs.Prelude.{◌≡◌, ◌≢◌, IfSome, IsSome, IsTrue, List, MatchOption, None, OnOk, Some, ℕ, []};
 ghost use Rattle.bpf_insn.specs.declared.insn.Insn.{Insn};
-ghost use Rattle.pcapng_reader.specs.Held.{seen_block};
+ghost use Rattle.pcapng_reader.specs.Held.{Skims, seen_block};
+ghost use Rattle.keep_engine.specs.declared.choice.Wanted.{Wanted as Wants};
 ghost use Rattle.keep_engine.specs.Keeping.{KeepsBlocks};
 ghost use Rattle.keep_engine.specs.Sieving.{HasSiftedBlocks, KeepsBlock, KeepsSkimmed, KeepsStep, Sifts};
 
-use crate::choice::keep_one;
+use crate::choice::{Wanted, keep_one};
+use console::LinkTypes;
 use filter_predecode::Predecoded;
 use pcap_reader::Seen;
-use pcapng_reader::{Block, BlockFeed, CaptureFault, Skimmed, Step};
+use pcapng_reader::{Block, BlockFeed, CaptureFault, Content, Skimmed, Step};
 use std::alloc::{AllocError, Global};
 
 /// A capture in pcapng that comes in pieces, cut anywhere, whose whole blocks are taken as soon as they are there.
@@ -18,16 +20,19 @@ pub struct BlockSieve {
     feed: BlockFeed,
     /// The fault that the feed has met, which stands whatever follows.
     fault: Option<CaptureFault>,
+    /// The link types of the interfaces so far.
+    links: LinkTypes,
 }
 
 impl BlockSieve {
     /// A sieve that was given nothing. Takes no memory.
     pub fn new(alloc: Global) -> BlockSieve
-        ensures { (program : List Insn) (inverted : Bool) → HasSiftedBlocks program inverted [] result [] }
+        ensures { (program : List Insn) (wanted : Wants) → HasSiftedBlocks program wanted [] result [] }
     {
         BlockSieve {
             feed: BlockFeed::copying(alloc),
             fault: None,
+            links: LinkTypes::None,
         }
     }
 
@@ -36,24 +41,46 @@ impl BlockSieve {
     pub fn piece(
         &mut self,
         program: &Predecoded,
-        inverted: bool,
+        wanted: Wanted,
         piece: &[u8],
         kept: &mut Vec<u8>,
     ) -> Result<(), AllocError>
-        ensures { OnOk result (Sifts (HasSiftedBlocks program.now inverted) piece.now self.old self.new kept.old.items kept.new.items) }
+        ensures { OnOk result (Sifts (HasSiftedBlocks program.now wanted) piece.now self.old self.new kept.old.items kept.new.items) }
     {
         let mut rest = piece;
         while !rest.is_empty() {
-            if let Some(skimmed) = self.feed.skim(&mut rest) {
-                keep_skimmed(program, inverted, skimmed, kept)?;
+            if let Some(skimmed) = self.skim(wanted, &mut rest) {
+                keep_skimmed(program, wanted, skimmed, kept)?;
                 continue;
             }
             match self.feed.next(&mut rest) {
-                Ok(step) => keep_step(program, inverted, &self.feed, step, kept)?,
+                Ok(step) => {
+                    self.links = links_with(self.links, &self.feed, step);
+                    keep_step(program, wanted, &self.feed, step, kept)?;
+                }
                 Err(fault) => return self.stop(fault),
             }
         }
         Ok(())
+    }
+
+    /// The packet block that lies whole at the front of `rest`, with no interface, where no link type is named.
+    fn skim<'b>(&mut self, wanted: Wanted, rest: &mut &'b [u8]) -> Option<Skimmed<'b>>
+        ensures skims { MatchOption result ((self.new.feed ≡ self.old.feed) × (rest.new.now ≡ rest.old.now)) (Skims rest.old.now rest.new.now self.old.feed self.new.feed) }
+        ensures unnamed { IfSome result (λ _. wanted.link ≡ None) }
+        ensures same { (self.new.fault ≡ self.old.fault) × (self.new.links ≡ self.old.links) }
+    {
+        if wanted.link.is_some() {
+            return None;
+        }
+        self.feed.skim(rest)
+    }
+
+    /// The link types of the interfaces in what was taken.
+    pub fn links(&self) -> LinkTypes
+        ensures { result ≡ self.now.links }
+    {
+        self.links
     }
 
     /// Stops at a fault of the capture.
@@ -78,8 +105,8 @@ impl BlockSieve {
 
     /// The fault of a capture that ends here, if it has one.
     pub fn ending(&self) -> Option<CaptureFault>
-        ensures keeps { (program : List Insn) (inverted : Bool) (input text : List ℕ) → HasSiftedBlocks program inverted input self.now text
-            → KeepsBlocks program inverted input result text }
+        ensures keeps { (program : List Insn) (wanted : Wants) (input text : List ℕ) → HasSiftedBlocks program wanted input self.now text
+            → KeepsBlocks program wanted input result text }
         ensures stopped { IsSome self.now.fault → IsSome result }
     {
         if let Some(fault) = self.fault {
@@ -92,36 +119,53 @@ impl BlockSieve {
     }
 }
 
+/// The link types with that of the block that a step made whole, if it describes an interface.
+fn links_with(links: LinkTypes, feed: &BlockFeed, step: Step) -> LinkTypes {
+    let content = match step {
+        Step::Block(block) => block.content,
+        Step::Held => match feed.held() {
+            Some(block) => block.content,
+            None => return links,
+        },
+        Step::Passed | Step::More => return links,
+    };
+    match content {
+        Content::Interface(interface) => links.with(u32::from(interface.link)),
+        _ => links,
+    }
+}
+
 /// Appends a block that was skimmed, unless its packet isn't kept.
 fn keep_skimmed(
     program: &Predecoded,
-    inverted: bool,
+    wanted: Wanted,
     skimmed: Skimmed,
     kept: &mut Vec<u8>,
 ) -> Result<(), AllocError>
-    ensures { OnOk result (KeepsSkimmed program.now inverted skimmed.entry kept.old.items kept.new.items) }
+    requires { wanted.link ≡ None }
+    ensures { OnOk result (KeepsSkimmed program.now wanted skimmed.entry kept.old.items kept.new.items) }
 {
     let packet = Seen {
         bytes: skimmed.bytes,
         original: skimmed.original,
     };
-    keep_one(program, inverted, packet, skimmed.block, kept)
+    keep_one(program, wanted, 0, packet, skimmed.block, kept)
 }
 
 /// Appends what is kept of the block that a step made whole, if it did.
 fn keep_step(
     program: &Predecoded,
-    inverted: bool,
+    wanted: Wanted,
     feed: &BlockFeed,
     step: Step,
     kept: &mut Vec<u8>,
 ) -> Result<(), AllocError>
-    ensures { OnOk result (KeepsStep program.now inverted feed.now step.entry kept.old.items kept.new.items) }
+    ensures { OnOk result (KeepsStep program.now wanted feed.now step.entry kept.old.items kept.new.items) }
 {
     match step {
-        Step::Block(block) => keep_block(program, inverted, block, kept),
+        Step::Block(block) => keep_block(program, wanted, block, kept),
         Step::Held => match feed.held() {
-            Some(block) => keep_block(program, inverted, block, kept),
+            Some(block) => keep_block(program, wanted, block, kept),
             None => Ok(()),
         },
         Step::Passed | Step::More => Ok(()),
@@ -131,11 +175,11 @@ fn keep_step(
 /// Appends a block, unless it has a packet that isn't kept.
 fn keep_block(
     program: &Predecoded,
-    inverted: bool,
+    wanted: Wanted,
     block: Block,
     kept: &mut Vec<u8>,
 ) -> Result<(), AllocError>
-    ensures { OnOk result (KeepsBlock program.now inverted (seen_block block.entry) kept.old.items kept.new.items) }
+    ensures { OnOk result (KeepsBlock program.now wanted (seen_block block.entry) kept.old.items kept.new.items) }
 {
     match block.packet() {
         Some((entry, bytes)) => {
@@ -143,7 +187,14 @@ fn keep_block(
                 bytes,
                 original: entry.original,
             };
-            keep_one(program, inverted, packet, block.bytes, kept)
+            keep_one(
+                program,
+                wanted,
+                u32::from(entry.link),
+                packet,
+                block.bytes,
+                kept,
+            )
         }
         None => {
             kept.extend_from_slice(block.bytes)?;

@@ -8,17 +8,19 @@ ghost use Rattle.console.specs.Devices.{EndsEarly, Gets, IsFresh, Writes};
 ghost use Rattle.console.specs.Matching.{IsEngineFault};
 ghost use Rattle.keep_engine.specs.Keeping.{KeepsGoodCode, KeepsFront, KeepsPart, Keeps, Says};
 
+use crate::choice::Wanted;
 use crate::sieve::Sieve;
 use capture_reader::ReadFault;
 use console::{
-    BLOCK, EngineFault, Got, STREAM_READS, Sink, Source, push_read_words, read_code, write_bytes,
+    BLOCK, EngineFault, Got, LinkTypes, STREAM_READS, Sink, Source, push_read_words, read_code,
+    write_bytes,
 };
 use filter_predecode::Predecoded;
 use std::alloc::{AllocError, Global};
 use std::io::{Read, Write};
 
-/// Copies a capture of any length, but of its packets only those that the filter accepts which `code` spells, in decimal text; or,
-/// `inverted`, only those that it doesn't accept. Answers the status.
+/// Copies a capture of any length, but of its packets only those that are wanted: that the filter accepts which `code` spells, in
+/// decimal text; or, inverted, those that it doesn't accept; and of one link type alone, where one is named. Answers the status.
 ///
 /// The input is in pcapng where it begins with the type of a section header, and else a savefile. A packet is accepted where the
 /// verdict is above 0. Of a savefile the header and each record that is kept are written as they are, byte for byte and in order;
@@ -30,6 +32,8 @@ use std::io::{Read, Write};
 /// a code that is no program, or that the verifier refuses, it reads and writes nothing, appends the line that says why, and
 /// answers status 1. Else the status is 0, and nothing is appended.
 ///
+/// `links` becomes the link types of the interfaces in what was read, for a warning where there are several.
+///
 /// It holds the longest record or block at most, and what one read completed. `writer` is never flushed.
 ///
 /// Answers `ReadFailed` where a read fails, or after 2^48 - 1 reads of at most 65,536 bytes; `WriteFailed`; and `NoMemory`. A
@@ -37,7 +41,8 @@ use std::io::{Read, Write};
 pub fn run_keep<R: Read, W: Write>(
     alloc: Global,
     code: &[u8],
-    inverted: bool,
+    wanted: Wanted,
+    links: &mut LinkTypes,
     reader: &mut Source<R>,
     writer: &mut Sink<W>,
     complaint: &mut String,
@@ -48,10 +53,10 @@ pub fn run_keep<R: Read, W: Write>(
         × (line : List ℕ) × (string_bytes complaint.new ≡ string_bytes complaint.old ++ line)
         × ((ShowsBadCode code.now line × (status ≡ 1) × (text ≡ []))
         ⊎ ((input : List ℕ) × Gets R.remaining reader.old reader.new input
-        × KeepsGoodCode code.now inverted input status line text × (IsAtEnd (R.remaining reader.new.inner) ⊎ (status ≡ 1))))) }
+        × KeepsGoodCode code.now wanted input status line text × (IsAtEnd (R.remaining reader.new.inner) ⊎ (status ≡ 1))))) }
     ensures unread { ((program : List Insn) → IsGoodCode code.now program → ⊥) → reader.new ≡ reader.old }
     ensures left { OnErr result ((input : List ℕ) × Gets R.remaining reader.old reader.new input
-        × (text : List ℕ) × Writes W.contents writer.old writer.new text × KeepsPart code.now inverted input text) }
+        × (text : List ℕ) × Writes W.contents writer.old writer.new text × KeepsPart code.now wanted input text) }
     ensures fault { IfErr result IsEngineFault }
     ensures well { IfOk result (λ status. (writer.new.failed ≡ false) × (reader.new.failed ≡ false) × ((reader.new.ended ≡ true) ⊎ (status ≡ 1))) }
     ensures cause { IfErr result (EndsEarly reader.new writer.new) }
@@ -59,7 +64,7 @@ pub fn run_keep<R: Read, W: Write>(
     match read_code(alloc, code)? {
         Ok(program) => {
             let predecoded = Predecoded::new(alloc, &program)?;
-            let fault = copy(alloc, &predecoded, inverted, reader, writer)?;
+            let fault = copy(alloc, &predecoded, wanted, links, reader, writer)?;
             Ok(say(fault, complaint)?)
         }
         Err(line) => {
@@ -88,7 +93,8 @@ fn say(fault: Option<ReadFault>, complaint: &mut String) -> Result<u8, AllocErro
 fn copy<R: Read, W: Write>(
     alloc: Global,
     program: &Predecoded,
-    inverted: bool,
+    wanted: Wanted,
+    links: &mut LinkTypes,
     reader: &mut Source<R>,
     writer: &mut Sink<W>,
 ) -> Result<Option<ReadFault>, EngineFault>
@@ -96,9 +102,9 @@ fn copy<R: Read, W: Write>(
     requires good { writer.old.failed ≡ false }
     ensures kept { IfOk result (λ fault. (input : List ℕ) × Gets R.remaining reader.old reader.new input
         × (text : List ℕ) × Writes W.contents writer.old writer.new text
-        × Keeps program.now inverted input fault text × (IsAtEnd (R.remaining reader.new.inner) ⊎ IsSome fault)) }
+        × Keeps program.now wanted input fault text × (IsAtEnd (R.remaining reader.new.inner) ⊎ IsSome fault)) }
     ensures left { OnErr result ((input : List ℕ) × Gets R.remaining reader.old reader.new input
-        × (text : List ℕ) × Writes W.contents writer.old writer.new text × KeepsFront program.now inverted input text) }
+        × (text : List ℕ) × Writes W.contents writer.old writer.new text × KeepsFront program.now wanted input text) }
     ensures fault { IfErr result IsEngineFault }
     ensures well { IfOk result (λ fault. (writer.new.failed ≡ false) × (reader.new.failed ≡ false) × ((reader.new.ended ≡ true) ⊎ IsSome fault)) }
     ensures cause { IfErr result (EndsEarly reader.new writer.new) }
@@ -110,7 +116,8 @@ fn copy<R: Read, W: Write>(
         match reader.read(&mut block) {
             Got::End => return Ok(sieve.ending(reader.taken())),
             Got::Bytes(count) => {
-                sieve.piece(program, inverted, &block[..count], &mut kept)?;
+                sieve.piece(program, wanted, &block[..count], &mut kept)?;
+                *links = sieve.links();
                 write_bytes(writer, kept.as_slice())?;
                 kept.clear();
                 if sieve.has_stopped() {

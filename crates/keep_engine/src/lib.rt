@@ -8,4 +8,5 @@ mod record_sieve;
 mod sieve;
 mod sifting;
 
+pub use choice::Wanted;
 pub use keeping::run_keep;

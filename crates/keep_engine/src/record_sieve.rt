@@ -1,11 +1,14 @@
 //! A savefile that comes in pieces, of which some records are kept.
 
-ghost use Rattle.std.specs.Prelude.{◌≡◌, Bool, IsSome, IsTrue, List, OnOk, ℕ, [], length};
+ghost use Rattle.std.specs.Prelude.{◌≡◌, IsSome, IsTrue, List, OnOk, ℕ, [], length};
 ghost use Rattle.bpf_insn.specs.declared.insn.Insn.{Insn};
+ghost use Rattle.keep_engine.specs.declared.choice.Wanted.{Wanted as Wants};
 ghost use Rattle.keep_engine.specs.Keeping.{KeepsSavefile};
 ghost use Rattle.keep_engine.specs.Sieving.{HasSiftedRecords, HasStoppedRecords, Opens, Sifts};
 
+use crate::choice::Wanted;
 use crate::sifting::{take_piece, take_records};
+use console::LinkTypes;
 use filter_predecode::Predecoded;
 use pcap_reader::{CaptureFault, Header};
 use savefile_front::{FILE_HEADER, header_of};
@@ -37,7 +40,7 @@ impl Drop for RecordSieve {
 impl RecordSieve {
     /// A sieve that was given nothing. Takes no memory.
     pub fn new(alloc: Global) -> RecordSieve
-        ensures { (program : List Insn) (inverted : Bool) → HasSiftedRecords program inverted [] result [] }
+        ensures { (program : List Insn) (wanted : Wants) → HasSiftedRecords program wanted [] result [] }
     {
         RecordSieve {
             alloc,
@@ -52,20 +55,20 @@ impl RecordSieve {
     pub fn piece(
         &mut self,
         program: &Predecoded,
-        inverted: bool,
+        wanted: Wanted,
         piece: &[u8],
         kept: &mut Vec<u8>,
     ) -> Result<(), AllocError>
-        ensures { OnOk result (Sifts (HasSiftedRecords program.now inverted) piece.now self.old self.new kept.old.items kept.new.items) }
+        ensures { OnOk result (Sifts (HasSiftedRecords program.now wanted) piece.now self.old self.new kept.old.items kept.new.items) }
     {
         match self.header {
             Ok(header) => {
-                self.long = take_piece(program, inverted, header.big, &mut self.part, piece, kept)?;
+                self.long = take_piece(program, wanted, header, &mut self.part, piece, kept)?;
                 Ok(())
             }
             Err(_) => {
                 self.part.extend_from_slice(piece)?;
-                self.open(program, inverted, kept)
+                self.open(program, wanted, kept)
             }
         }
     }
@@ -74,10 +77,10 @@ impl RecordSieve {
     fn open(
         &mut self,
         program: &Predecoded,
-        inverted: bool,
+        wanted: Wanted,
         kept: &mut Vec<u8>,
     ) -> Result<(), AllocError>
-        ensures { OnOk result (Opens program.now inverted self.old.part.items self.new kept.old.items kept.new.items) }
+        ensures { OnOk result (Opens program.now wanted self.old.part.items self.new kept.old.items kept.new.items) }
     {
         let front = self.part.len().min(FILE_HEADER);
         match header_of(self.alloc, &self.part[..front])? {
@@ -87,10 +90,18 @@ impl RecordSieve {
                 let records = self.part.split_off(front)?;
                 kept.extend_from_slice(self.part.as_slice())?;
                 self.part = records;
-                self.long = take_records(program, inverted, header.big, &mut self.part, kept)?;
+                self.long = take_records(program, wanted, header, &mut self.part, kept)?;
             }
         }
         Ok(())
+    }
+
+    /// The link types of the interface, once the header was read.
+    pub fn links(&self) -> LinkTypes {
+        match self.header {
+            Ok(header) => LinkTypes::One(header.network),
+            Err(_) => LinkTypes::None,
+        }
     }
 
     /// Whether it has met a fault that stands whatever follows.
@@ -106,8 +117,8 @@ impl RecordSieve {
 
     /// The fault of a capture that ends after so many bytes, if it has one.
     pub fn ending(&self, taken: u64) -> Option<CaptureFault>
-        ensures keeps { (program : List Insn) (inverted : Bool) (input text : List ℕ) → HasSiftedRecords program inverted input self.now text → taken ≡ length input
-            → KeepsSavefile program inverted input result text }
+        ensures keeps { (program : List Insn) (wanted : Wants) (input text : List ℕ) → HasSiftedRecords program wanted input self.now text → taken ≡ length input
+            → KeepsSavefile program wanted input result text }
         ensures stopped { HasStoppedRecords self.now → IsSome result }
     {
         match self.header {

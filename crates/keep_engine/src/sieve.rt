@@ -1,13 +1,16 @@
 //! A capture of either format that comes in pieces, of which some packets are kept.
 
-ghost use Rattle.std.specs.Prelude.{◌≡◌, ◌++◌, Bool, IsSome, IsTrue, List, OnOk, ℕ, [], length};
+ghost use Rattle.std.specs.Prelude.{◌≡◌, ◌++◌, IsSome, IsTrue, List, OnOk, ℕ, [], length};
 ghost use Rattle.bpf_insn.specs.declared.insn.Insn.{Insn};
+ghost use Rattle.keep_engine.specs.declared.choice.Wanted.{Wanted as Wants};
 ghost use Rattle.keep_engine.specs.Keeping.{Keeps};
 ghost use Rattle.keep_engine.specs.Sieving.{Begins, HasSifted, HasStopped, Sifts};
 
 use crate::block_sieve::BlockSieve;
+use crate::choice::Wanted;
 use crate::record_sieve::RecordSieve;
 use capture_reader::ReadFault;
+use console::LinkTypes;
 use filter_predecode::Predecoded;
 use pcap_reader::CaptureFault as SavefileFault;
 use pcapng_reader::is_pcapng;
@@ -37,7 +40,7 @@ pub enum Format {
 impl Sieve {
     /// A sieve that was given nothing. Takes no memory.
     pub fn new(alloc: Global) -> Sieve
-        ensures { (program : List Insn) (inverted : Bool) → HasSifted program inverted [] result [] }
+        ensures { (program : List Insn) (wanted : Wants) → HasSifted program wanted [] result [] }
     {
         Sieve {
             alloc,
@@ -50,16 +53,16 @@ impl Sieve {
     pub fn piece(
         &mut self,
         program: &Predecoded,
-        inverted: bool,
+        wanted: Wanted,
         piece: &[u8],
         kept: &mut Vec<u8>,
     ) -> Result<(), AllocError>
-        ensures { OnOk result (Sifts (HasSifted program.now inverted) piece.now self.old self.new kept.old.items kept.new.items) }
+        ensures { OnOk result (Sifts (HasSifted program.now wanted) piece.now self.old self.new kept.old.items kept.new.items) }
     {
         match &mut self.format {
-            Format::Unknown => self.begin(program, inverted, piece, kept),
-            Format::Savefile(sieve) => sieve.piece(program, inverted, piece, kept),
-            Format::Pcapng(sieve) => sieve.piece(program, inverted, piece, kept),
+            Format::Unknown => self.begin(program, wanted, piece, kept),
+            Format::Savefile(sieve) => sieve.piece(program, wanted, piece, kept),
+            Format::Pcapng(sieve) => sieve.piece(program, wanted, piece, kept),
         }
     }
 
@@ -67,12 +70,12 @@ impl Sieve {
     fn begin(
         &mut self,
         program: &Predecoded,
-        inverted: bool,
+        wanted: Wanted,
         piece: &[u8],
         kept: &mut Vec<u8>,
     ) -> Result<(), AllocError>
         requires { self.old.format ≡ Format.Unknown }
-        ensures { OnOk result (Begins program.now inverted (self.old.front.items ++ piece.now) self.new kept.old.items kept.new.items) }
+        ensures { OnOk result (Begins program.now wanted (self.old.front.items ++ piece.now) self.new kept.old.items kept.new.items) }
     {
         self.front.extend_from_slice(piece)?;
         if self.front.len() < MAGIC {
@@ -80,14 +83,23 @@ impl Sieve {
         }
         if is_pcapng(self.front.as_slice()) {
             let mut sieve = BlockSieve::new(self.alloc);
-            sieve.piece(program, inverted, self.front.as_slice(), kept)?;
+            sieve.piece(program, wanted, self.front.as_slice(), kept)?;
             self.format = Format::Pcapng(sieve);
         } else {
             let mut sieve = RecordSieve::new(self.alloc);
-            sieve.piece(program, inverted, self.front.as_slice(), kept)?;
+            sieve.piece(program, wanted, self.front.as_slice(), kept)?;
             self.format = Format::Savefile(sieve);
         }
         Ok(())
+    }
+
+    /// The link types of the interfaces in what was taken.
+    pub fn links(&self) -> LinkTypes {
+        match &self.format {
+            Format::Unknown => LinkTypes::None,
+            Format::Savefile(sieve) => sieve.links(),
+            Format::Pcapng(sieve) => sieve.links(),
+        }
     }
 
     /// Whether it has met a fault that stands whatever follows.
@@ -103,8 +115,8 @@ impl Sieve {
 
     /// The fault of a capture that ends after so many bytes, if it has one.
     pub fn ending(&self, taken: u64) -> Option<ReadFault>
-        ensures keeps { (program : List Insn) (inverted : Bool) (input text : List ℕ) → HasSifted program inverted input self.now text → taken ≡ length input
-            → Keeps program inverted input result text }
+        ensures keeps { (program : List Insn) (wanted : Wants) (input text : List ℕ) → HasSifted program wanted input self.now text → taken ≡ length input
+            → Keeps program wanted input result text }
         ensures stopped { HasStopped self.now → IsSome result }
     {
         match &self.format {

@@ -3,8 +3,9 @@
 ghost use Rattle.std.specs.Prelude.{◌≡◌, ◌++◌, [], IfOk, OnOk};
 ghost use Rattle.keep_engine.specs.Sieving.{IsLeft, TakesRecords, TakesTo};
 
-use crate::choice::keep_one;
+use crate::choice::{Wanted, keep_one};
 use filter_predecode::Predecoded;
+use pcap_reader::Header;
 use savefile_front::{Front, front_of, length_of};
 use std::alloc::AllocError;
 
@@ -23,22 +24,22 @@ pub struct Taken {
 /// Of the piece what belongs to a record that was cut is copied, and no more.
 pub fn take_piece(
     program: &Predecoded,
-    inverted: bool,
-    big: bool,
+    wanted: Wanted,
+    header: Header,
     part: &mut Vec<u8>,
     piece: &[u8],
     kept: &mut Vec<u8>,
 ) -> Result<bool, AllocError>
-    ensures takes { OnOk result (TakesRecords program.now inverted big (part.old.items ++ piece.now) part.new.items kept.old.items kept.new.items) }
-    ensures left { IfOk result (λ long. IsLeft big long part.new.items) }
+    ensures takes { OnOk result (TakesRecords program.now wanted header (part.old.items ++ piece.now) part.new.items kept.old.items kept.new.items) }
+    ensures left { IfOk result (λ long. IsLeft header.big long part.new.items) }
 {
-    let rest = complete(big, part, piece)?;
-    take_whole(program, inverted, big, part, kept)?;
+    let rest = complete(header.big, part, piece)?;
+    take_whole(program, wanted, header, part, kept)?;
     if part.is_empty() {
-        return take_in_place(program, inverted, big, part, rest, kept);
+        return take_in_place(program, wanted, header, part, rest, kept);
     }
     part.extend_from_slice(rest)?;
-    take_records(program, inverted, big, part, kept)
+    take_records(program, wanted, header, part, kept)
 }
 
 /// Moves bytes off the front of a piece to a part of a record, up to the record's end, and answers the rest.
@@ -64,16 +65,23 @@ fn grow<'p>(part: &mut Vec<u8>, length: usize, piece: &'p [u8]) -> Result<&'p [u
 /// Takes the record that a part has become, if it is whole.
 fn take_whole(
     program: &Predecoded,
-    inverted: bool,
-    big: bool,
+    wanted: Wanted,
+    header: Header,
     part: &mut Vec<u8>,
     kept: &mut Vec<u8>,
 ) -> Result<(), AllocError>
-    ensures { OnOk result (TakesRecords program.now inverted big part.old.items part.new.items kept.old.items kept.new.items) }
+    ensures { OnOk result (TakesRecords program.now wanted header part.old.items part.new.items kept.old.items kept.new.items) }
 {
-    match front_of(big, part.as_slice()) {
+    match front_of(header.big, part.as_slice()) {
         Front::Record { length, packet } if length == part.len() => {
-            keep_one(program, inverted, packet, part.as_slice(), kept)?;
+            keep_one(
+                program,
+                wanted,
+                header.network,
+                packet,
+                part.as_slice(),
+                kept,
+            )?;
             part.clear();
             Ok(())
         }
@@ -84,17 +92,17 @@ fn take_whole(
 /// The same as `take_piece` where there is no part yet.
 fn take_in_place(
     program: &Predecoded,
-    inverted: bool,
-    big: bool,
+    wanted: Wanted,
+    header: Header,
     part: &mut Vec<u8>,
     piece: &[u8],
     kept: &mut Vec<u8>,
 ) -> Result<bool, AllocError>
     requires { part.old.items ≡ [] }
-    ensures takes { OnOk result (TakesRecords program.now inverted big piece.now part.new.items kept.old.items kept.new.items) }
-    ensures left { IfOk result (λ long. IsLeft big long part.new.items) }
+    ensures takes { OnOk result (TakesRecords program.now wanted header piece.now part.new.items kept.old.items kept.new.items) }
+    ensures left { IfOk result (λ long. IsLeft header.big long part.new.items) }
 {
-    let taken = sift(program, inverted, big, piece, kept)?;
+    let taken = sift(program, wanted, header, piece, kept)?;
     part.extend_from_slice(&piece[taken.count..])?;
     Ok(taken.long)
 }
@@ -103,15 +111,15 @@ fn take_in_place(
 /// that is too long.
 pub fn take_records(
     program: &Predecoded,
-    inverted: bool,
-    big: bool,
+    wanted: Wanted,
+    header: Header,
     part: &mut Vec<u8>,
     kept: &mut Vec<u8>,
 ) -> Result<bool, AllocError>
-    ensures takes { OnOk result (TakesRecords program.now inverted big part.old.items part.new.items kept.old.items kept.new.items) }
-    ensures left { IfOk result (λ long. IsLeft big long part.new.items) }
+    ensures takes { OnOk result (TakesRecords program.now wanted header part.old.items part.new.items kept.old.items kept.new.items) }
+    ensures left { IfOk result (λ long. IsLeft header.big long part.new.items) }
 {
-    let taken = sift(program, inverted, big, part.as_slice(), kept)?;
+    let taken = sift(program, wanted, header, part.as_slice(), kept)?;
     if taken.count > 0 {
         let rest = part.split_off(taken.count)?;
         *part = rest;
@@ -122,19 +130,26 @@ pub fn take_records(
 /// Runs the filter on the packets of the whole records at the front of some bytes, and appends the records that are kept.
 fn sift(
     program: &Predecoded,
-    inverted: bool,
-    big: bool,
+    wanted: Wanted,
+    header: Header,
     bytes: &[u8],
     kept: &mut Vec<u8>,
 ) -> Result<Taken, AllocError>
-    ensures { IfOk result (TakesTo program.now inverted big bytes.now kept.old.items kept.new.items) }
+    ensures { IfOk result (TakesTo program.now wanted header bytes.now kept.old.items kept.new.items) }
 {
     let mut count = 0;
     loop {
         let rest = &bytes[count..];
-        match front_of(big, rest) {
+        match front_of(header.big, rest) {
             Front::Record { length, packet } => {
-                keep_one(program, inverted, packet, &rest[..length], kept)?;
+                keep_one(
+                    program,
+                    wanted,
+                    header.network,
+                    packet,
+                    &rest[..length],
+                    kept,
+                )?;
                 count += length;
             }
             Front::Part => return Ok(Taken { count, long: false }),

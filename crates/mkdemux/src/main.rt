@@ -19,7 +19,7 @@ use clap::Error;
 use clap::error::ErrorKind;
 use command_line::{Invocation, Request, request_of};
 use commands::{most_reads, perform};
-use console::{EngineFault, INPUT_READS, Sink, Source};
+use console::{EngineFault, INPUT_READS, LinkTypes, Sink, Source};
 use core_loop::Cause;
 use core_threads::{Free, Halt};
 use devices::{Input, Output};
@@ -128,16 +128,19 @@ fn answer_with<T: Threads + Wait + Clock + Sync>(
     let mut source = Source::new(input, reads);
     let mut sink = Sink::new(Output::new(rt.stdout()));
     let mut complaint = String::new(rt.alloc());
+    let mut links = LinkTypes::None;
     match performed(
         rt,
         threads,
-        request,
+        invocation,
         &mut files,
         &mut source,
         &mut sink,
         &mut complaint,
+        &mut links,
     ) {
         Ok(status) => {
+            warn(rt, invocation.link, links);
             complain(rt, complaint.as_str());
             if status == REFUSED {
                 explain(rt, request, &source, source.left() == reads);
@@ -167,26 +170,31 @@ fn not_done(rt: &HostRuntime, failure: RunFailure) -> u8 {
 fn performed<T: Threads + Wait + Clock + Sync>(
     rt: &HostRuntime,
     threads: &T,
-    request: &Request,
+    invocation: &Invocation,
     files: &mut [Source<File>],
     source: &mut Source<Input>,
     sink: &mut Sink<Output>,
     complaint: &mut String,
+    links: &mut LinkTypes,
 ) -> Result<u8, RunFailure>
-    requires fresh { IsFresh source.old (reads_of request.now) }
+    requires fresh { IsFresh source.old (reads_of invocation.now.request) }
     requires fresh_files { AllFresh files.old }
     requires good { sink.old.failed ≡ false }
 {
+    let request = &invocation.request;
+    let link = invocation.link;
     if !matches!(request, Request::Run { .. }) || !rt.stderr().is_terminal() {
         return perform(
             threads,
             rt.alloc(),
             &Free,
             request,
+            link,
             files,
             source,
             sink,
             complaint,
+            links,
         );
     }
     let progress = Progress::new(rt);
@@ -195,13 +203,24 @@ fn performed<T: Threads + Wait + Clock + Sync>(
         rt.alloc(),
         &progress,
         request,
+        link,
         files,
         source,
         sink,
         complaint,
+        links,
     );
     progress.end();
     answer
+}
+
+/// Says on standard error that the interfaces of a capture have several link types, where none was named.
+fn warn(rt: &HostRuntime, link: Option<u32>, links: LinkTypes) {
+    if link.is_none() && links == LinkTypes::Several {
+        let _ = eprintln!(rt;
+            "mkdemux: the interfaces of the capture have several link types: --link N takes the packets of link type N alone"
+        );
+    }
 }
 
 /// Says on standard error what is wrong, where that doesn't stand on standard output.

@@ -2,8 +2,8 @@
 
 use crate::blocks::{ENDS, LITTLE, both};
 use crate::facts::{equal, equal_at, holds};
-use console::{EngineFault, STREAM_READS, Sink, Source};
-use keep_engine::run_keep;
+use console::{EngineFault, LinkTypes, STREAM_READS, Sink, Source};
+use keep_engine::{Wanted, run_keep};
 use std::alloc::Global;
 use std::io;
 use std::io::{Read, Write};
@@ -83,7 +83,11 @@ fn status<W: Write>(
     run_keep(
         alloc,
         code.as_bytes(),
-        inverted,
+        Wanted {
+            inverted,
+            link: None,
+        },
+        &mut LinkTypes::None,
         &mut source,
         &mut sink,
         complaint,

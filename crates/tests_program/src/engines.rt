@@ -4,8 +4,8 @@ ghost use Rattle.std.specs.Prelude.{IfOk};
 ghost use Rattle.script_input.specs.Inputs.{AllFresh};
 
 use console::{
-    EngineFault, INPUT_READS, PacketForm, STREAM_READS, Sink, Source, View, run_check, run_dump,
-    run_match, run_stream, run_view,
+    EngineFault, INPUT_READS, LinkTypes, PacketForm, STREAM_READS, Sink, Source, View, run_check,
+    run_dump, run_match, run_stream, run_view,
 };
 use core_threads::Free;
 use draw_engine::run_draw;
@@ -41,7 +41,14 @@ pub fn run<R: Read, W: Write>(
     let mut sink = Sink::new(writer);
     if let Command::Stream(code, pcap) = command {
         let mut source = Source::new(reader, STREAM_READS);
-        return run_stream(alloc, code.as_bytes(), form(pcap), &mut source, &mut sink);
+        return run_stream(
+            alloc,
+            code.as_bytes(),
+            form(pcap),
+            &mut LinkTypes::None,
+            &mut source,
+            &mut sink,
+        );
     }
     if let Command::View(code, pcap, view) = command {
         let mut source = Source::new(reader, STREAM_READS);
@@ -50,6 +57,7 @@ pub fn run<R: Read, W: Write>(
             code.as_bytes(),
             form(pcap),
             view,
+            &mut LinkTypes::None,
             &mut source,
             &mut sink,
         );
@@ -57,7 +65,15 @@ pub fn run<R: Read, W: Write>(
     let mut source = Source::new(reader, INPUT_READS);
     match command {
         Command::Match(code, pcap) | Command::Stream(code, pcap) | Command::View(code, pcap, _) => {
-            run_match(alloc, code.as_bytes(), form(pcap), &mut source, &mut sink)
+            let links = &mut LinkTypes::None;
+            run_match(
+                alloc,
+                code.as_bytes(),
+                form(pcap),
+                links,
+                &mut source,
+                &mut sink,
+            )
         }
         Command::Explain(code) => run_explain(alloc, code.as_bytes(), &mut source, &mut sink),
         Command::Check(asm) => run_check(alloc, asm, &mut source, &mut sink),

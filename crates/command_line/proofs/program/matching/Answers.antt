@@ -12,5 +12,6 @@ returns c =
     let with_number = c.in_ok-command.ensures.shape c.flag-3.ensures.local ∙ ap₂ with_rule with_stream c.flag-3.ensures.rule in
     let with_count = c.in_ok-command-2.ensures _ (is_argument c.count.result _ c.count.ensures.rule c.count.ensures.local) ∙ ap₂ with_rule with_number refl in
     let with_quiet = c.in_ok-command-3.ensures _ (is_argument c.quiet.result _ c.quiet.ensures.rule c.quiet.ensures.local) ∙ ap₂ with_rule with_count refl in
-    let with_explain = c.in_ok-with_argument.ensures _ (is_argument c.explain.result _ c.explain.ensures.rule c.explain.ensures.local) ∙ ap₂ with_rule with_quiet refl in
-    IfOk-weaker c.arg-5.result _ _ (λ r h. h.shape c.file.ensures.local ∙ ap₂ with_rule with_explain c.file.ensures.rule) c.arg-5.ensures
+    let with_explain = c.in_ok-command-4.ensures _ (is_argument c.explain.result _ c.explain.ensures.rule c.explain.ensures.local) ∙ ap₂ with_rule with_quiet refl in
+    let with_link = c.in_ok-with_argument.ensures _ (is_argument c.bound_link.result _ c.bound_link.ensures.rule c.bound_link.ensures.local) ∙ ap₂ with_rule with_explain refl in
+    IfOk-weaker c.arg-5.result _ _ (λ r h. h.shape c.file.ensures.local ∙ ap₂ with_rule with_link c.file.ensures.rule) c.arg-5.ensures

@@ -12,7 +12,7 @@ returns-in-End-clause-kept g c =
       gets-end _ _ _ so.input so.lost c.in-End.ensures.1,
       so.text,
       so.appended,
-      c.ending.ensures.keeps c.args.program.now c.args.inverted so.input so.text so.has (omega (arith, c.taken.ensures, c.in-End.ensures.0.1, so.count)),
+      c.ending.ensures.keeps c.args.program.now c.args.wanted so.input so.text so.has (omega (arith, c.taken.ensures, c.in-End.ensures.0.1, so.count)),
       inl c.in-End.ensures.2,
     )
 
@@ -33,7 +33,7 @@ returns-then-has_stopped-clause-kept g c =
       so.lost,
       so.text,
       so.appended,
-      c.ending-then-has_stopped.ensures.keeps c.args.program.now c.args.inverted so.input so.text so.has (omega (arith, c.taken-then-has_stopped.ensures, so.count)),
+      c.ending-then-has_stopped.ensures.keeps c.args.program.now c.args.wanted so.input so.text so.has (omega (arith, c.taken-then-has_stopped.ensures, so.count)),
       inr (c.ending-then-has_stopped.ensures.stopped (c.has_stopped.ensures c.if-has_stopped.true)),
     )
 

@@ -5,7 +5,7 @@ use Rattle.keep_engine.proofs.keeping.copy.Given as goal
 
 abbrev pub invariant-loop-turn : goal.invariant-loop-turn
 invariant-loop-turn g l = record {
-  so : Copied l.program l.inverted g.R.Read.remaining l.initial.reader l.reader g.W.Write.contents l.initial.writer l.writer l.sieve;
+  so : Copied l.program l.wanted g.R.Read.remaining l.initial.reader l.reader g.W.Write.contents l.initial.writer l.writer l.sieve;
   left : l.reader.left + l._turn ≡ STREAM_READS;
   few : l.reader.taken ≤ 65536 * l._turn;
   open_end : (l.reader.ended ≡ false) × (l.reader.failed ≡ false);

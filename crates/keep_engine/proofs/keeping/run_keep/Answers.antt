@@ -1,7 +1,10 @@
 use Rattle.std.proofs.Common.{[], inl, refl, string_bytes}
 use Rattle.console.proofs.KnownBytesLemmas.{writes-nothing}
-use Rattle.keep_engine.proofs.CopyLemmas.{kept_of_code, left_of_code}
+use Rattle.keep_engine.proofs.CopyLemmas.{kept_of_code, left_none, left_of_code}
 use Rattle.keep_engine.proofs.keeping.run_keep.Goals as goal
+
+pub returns-in_err-predecoded-in-Ok-clause-left : goal.returns-in_err-predecoded-in-Ok-clause-left
+returns-in_err-predecoded-in-Ok-clause-left g c = left_none c.from_residual-in_err-predecoded-in-Ok.result c.args.code.now c.args.wanted _ _ c.args.reader.now c.args.writer.now
 
 pub returns-in_err-say-in-Ok-clause-left : goal.returns-in_err-say-in-Ok-clause-left
 returns-in_err-say-in-Ok-clause-left g c =

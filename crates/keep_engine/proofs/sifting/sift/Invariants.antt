@@ -5,7 +5,7 @@ use Rattle.keep_engine.proofs.sifting.sift.Given as goal
 abbrev pub invariant-loop-length : goal.invariant-loop-length
 invariant-loop-length l = record {
   within : l.count ≤ length l.bytes;
-  so : TakesRecords l.program l.inverted l.big l.bytes (drop l.count l.bytes) l.initial.kept.items l.kept.items;
+  so : TakesRecords l.program l.wanted l.header l.bytes (drop l.count l.bytes) l.initial.kept.items l.kept.items;
 }
 
 abbrev pub decreases-loop-length : goal.decreases-loop-length

@@ -1,6 +1,7 @@
 use Rattle.std.proofs.Common.{None, refl}
+use Rattle.console.specs.declared.link_types.LinkTypes.TheVariants as LinkTypes
 use Rattle.keep_engine.proofs.BlockSieveLemmas.{sifted_none}
 use Rattle.keep_engine.proofs.block_sieve.BlockSieve.new.Goals as goal
 
 pub returns : goal.returns
-returns c program inverted = sifted_none program inverted (record { feed = c.copying.result; fault = None }) c.copying.ensures refl
+returns c program wanted = sifted_none program wanted (record { feed = c.copying.result; fault = None; links = LinkTypes.None }) c.copying.ensures refl

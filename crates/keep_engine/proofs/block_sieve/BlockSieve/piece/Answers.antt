@@ -8,11 +8,11 @@ pub loop-rest-preserved-in-Some : goal.loop-rest-preserved-in-Some
 loop-rest-preserved-in-Some c =
     let so = c.loop-rest.invariant in
     let skims = c.in-Some.ensures.skims in
-    let new : BlockSieve = record { feed = c.skim.new.self; fault = c.loop-rest.self.fault } in (
+    let new : BlockSieve = c.skim.new.self in (
       so.0 ++ skims.takes.front,
       so.1 ∙ ap (λ t. so.0 ++ t) skims.takes.parts ∙ sym (append_assoc so.0 skims.takes.front c.skim.new.rest.now),
-      sifts_then (HasSiftedBlocks c.args.program.now c.args.inverted) so.0 skims.takes.front c.args.self.now c.loop-rest.self new _ c.loop-rest.kept.items _ so.2
-          (skim_sifts c.args.program.now c.args.inverted _ _ c.loop-rest.self new c.in-Some.skimmed _ _ skims refl c.in_ok-keep_skimmed.ensures),
+      sifts_then (HasSiftedBlocks c.args.program.now c.args.wanted) so.0 skims.takes.front c.args.self.now c.loop-rest.self new _ c.loop-rest.kept.items _ so.2
+          (skim_sifts c.args.program.now c.args.wanted _ _ c.loop-rest.self new c.in-Some.skimmed _ _ skims c.skim.ensures.same.0 c.in-Some.ensures.unnamed c.in_ok-keep_skimmed.ensures),
     )
 
 pub loop-rest-preserved : goal.loop-rest-preserved
@@ -21,11 +21,11 @@ loop-rest-preserved c =
     let same = c.in_default.ensures.skims in
     let next = rw (same.0, same.1) at c.in-Ok.ensures in
     let takes = next.advances in
-    let new : BlockSieve = record { feed = c.next.new.self; fault = c.loop-rest.self.fault } in (
+    let new : BlockSieve = record c.skim.new.self { feed = c.next.new.self; links = c.links_with-self.result } in (
       so.0 ++ takes.front,
       so.1 ∙ ap (λ t. so.0 ++ t) takes.parts ∙ sym (append_assoc so.0 takes.front c.next.new.rest.now),
-      sifts_then (HasSiftedBlocks c.args.program.now c.args.inverted) so.0 takes.front c.args.self.now c.loop-rest.self new _ c.loop-rest.kept.items _ so.2
-          (step_sifts c.args.program.now c.args.inverted _ _ c.loop-rest.self new c.in-Ok.step _ _ takes next.every next.copies next.says next.stays refl c.in_ok-keep_step-in-Ok.ensures),
+      sifts_then (HasSiftedBlocks c.args.program.now c.args.wanted) so.0 takes.front c.args.self.now c.loop-rest.self new _ c.loop-rest.kept.items _ so.2
+          (step_sifts c.args.program.now c.args.wanted _ _ c.loop-rest.self new c.in-Ok.step _ _ takes next.every next.copies next.says next.stays c.skim.ensures.same.0 c.in_ok-keep_step-in-Ok.ensures),
     )
 
 pub returns-in-Err : goal.returns-in-Err
@@ -33,5 +33,5 @@ returns-in-Err c =
     let so = c.loop-rest.invariant in
     let same = c.in_default.ensures.skims in
     let next = rw (same.0, same.1) at c.in-Err.ensures in
-    stopped_sifts c.stop.result c.args.program.now c.args.inverted c.args.piece.now so.0 c.loop-rest.rest.now c.next.new.rest.now c.args.self.now c.loop-rest.self c.stop.new.self c.next.new.self c.in-Err.fault c.args.kept.now.items
+    stopped_sifts c.stop.result c.args.program.now c.args.wanted c.args.piece.now so.0 c.loop-rest.rest.now c.next.new.rest.now c.args.self.now c.loop-rest.self c.stop.new.self c.next.new.self c.in-Err.fault c.args.kept.now.items
     c.loop-rest.kept.items so.1 so.2 next.advances next.copies next.says c.stop.ensures

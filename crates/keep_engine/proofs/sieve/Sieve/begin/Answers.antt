@@ -10,6 +10,19 @@ returns-in_ok-piece-2 c =
       λ short. (
         omega (arith, c.if-len-lt-MAGIC.false, c.len.ensures, c.extend_from_slice.new.self.ok.0, ap length c.in_ok-extend_from_slice.ensures.items),
         sym told ∙ c.if-is_pcapng.false,
-        sifts.goes [] [] (c.new-sieve-else-is_pcapng.ensures c.args.program.now c.args.inverted) short,
+        sifts.goes [] [] (c.new-sieve-else-is_pcapng.ensures c.args.program.now c.args.wanted) short,
+      ),
+    )
+
+pub returns-in_ok-piece : goal.returns-in_ok-piece
+returns-in_ok-piece c =
+    let sifts = rw (c.as_slice-then-is_pcapng.ensures.value, c.in_ok-extend_from_slice.ensures.items) at c.in_ok-piece.ensures in
+    let told = rw (c.as_slice.ensures.value, c.in_ok-extend_from_slice.ensures.items) at c.is_pcapng.ensures in (
+      sifts.more,
+      sifts.pushed,
+      λ short. (
+        omega (arith, c.if-len-lt-MAGIC.false, c.len.ensures, c.extend_from_slice.new.self.ok.0, ap length c.in_ok-extend_from_slice.ensures.items),
+        sym told ∙ c.if-is_pcapng.true,
+        sifts.goes [] [] (c.new-sieve.ensures c.args.program.now c.args.wanted) short,
       ),
     )

@@ -1,0 +1,49 @@
+//! The link types that the interfaces of a capture have.
+
+ghost use Rattle.std.specs.Prelude.{◌≡◌, ◌++◌, ◌∷◌, List, [], ℕ};
+ghost use Rattle.capture_reader.specs.Steps.{seen_item};
+ghost use Rattle.console.specs.Linking.{AreLinkTypes, links_in};
+ghost use Rattle.console.specs.Running.{item_entries};
+
+use capture_reader::{Entry, Item};
+
+/// The link types that the interfaces of a capture have. A savefile has one interface.
+#[derive(Clone, Copy, PartialEq, Eq, Debug)]
+pub enum LinkTypes {
+    /// There is no interface.
+    None,
+    /// All have this one.
+    One(u32),
+    /// There are several.
+    Several,
+}
+
+impl LinkTypes {
+    /// The link types with that of one more interface.
+    pub fn with(self, link: u32) -> LinkTypes
+        ensures { (links : List ℕ) → AreLinkTypes links self → AreLinkTypes (links ++ link ∷ []) result }
+    {
+        match self {
+            LinkTypes::None => LinkTypes::One(link),
+            LinkTypes::One(one) if one == link => self,
+            LinkTypes::One(_) => LinkTypes::Several,
+            LinkTypes::Several => self,
+        }
+    }
+
+    /// The link types with that of an entry, if it is an interface.
+    #[inline]
+    pub fn with_entry(self, item: Option<Item<'_>>) -> LinkTypes
+        ensures { (links : List ℕ) → AreLinkTypes links self → AreLinkTypes (links ++ links_in (item_entries item.entry)) result }
+    {
+        let Some(item) = item else {
+            return self;
+        };
+        match item.entry {
+            Entry::Packet(_) => self,
+            Entry::Section(_) => self,
+            Entry::Savefile(header) => self.with(header.network),
+            Entry::Interface(interface) => self.with(u32::from(interface.link)),
+        }
+    }
+}
