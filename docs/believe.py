@@ -141,7 +141,7 @@ has all of them in plain words.
 
 **Three calls say the whole headline by what can be seen alone**: `headline::filter` of filters, `headline::one_by_one`
 of a machine that does one event after another, and `headline::threads` of cores that are threads. A fourth,
-`headline::serve`, says the same of cores that serve in one thread. They make the calls that the program makes, and
+`headline::serve`, says the same of cores that serve in one thread. They make calls of the program, and
 their clauses cite no case of the protocol and no ring. The clauses of the program's own calls say more: each case of
 the protocol, which message is under way, and for threads also what rings and their ends show. What these rest on is
 named after the headline, and not needed for it."""
