@@ -1,5 +1,5 @@
 #!/usr/bin/env python3
-"""Makes the manual page and the shells' completions from the program's own help.
+"""Makes the manual page and the shells' completions from the program's own help, and what words mean from docs/messages.md.
 
     dist/manual.py PROGRAM           writes them into dist/share
     dist/manual.py --check PROGRAM   compares those of dist/share with what the program's help gives, looks for warnings of mandoc
@@ -16,12 +16,14 @@ import textwrap
 
 TOP = pathlib.Path(__file__).resolve().parent.parent
 SHARE = TOP / "dist" / "share"
-DATE = "2026-11-25"
+DATE = "2026-11-27"
 PAGE = "man/man1/mkdemux.1"
 BASH = "bash-completion/completions/mkdemux"
 ZSH = "zsh/site-functions/_mkdemux"
 FISH = "fish/vendor_completions.d/mkdemux.fish"
 MADE = "Made by dist/manual.py from the program's help."
+MESSAGES = TOP / "docs" / "messages.md"
+WIDTH = 69  # of indented lines, on a page of 80 columns
 
 
 class Help:
@@ -36,7 +38,7 @@ class Help:
         while found := re.match(r"(Arguments|Options|Commands):\n(.*?)(?:\n\n(?=\S)|\n?\Z)", rest, re.S):
             setattr(self, found[1].lower(), list(terms_of(found[2])))
             rest = rest[found.end():]
-        before, _, self.words = rest.partition("docs/messages.md has the meaning")
+        before = rest.partition("docs/messages.md has the meaning")[0]
         self.examples, _, self.status = before.strip("\n").partition("Exit status:")
 
 
@@ -75,7 +77,58 @@ def plain(text):
 
 
 def literal(text):
-    return [".PP", ".RS 4", ".nf", *(roff(line) or "\\&" for line in textwrap.dedent(text).splitlines()), ".fi", ".RE"]
+    return [".PP", ".RS 4", ".nf", *(roff(line) or "\\&" for line in fitted(textwrap.dedent(text).splitlines())), ".fi", ".RE"]
+
+
+def fitted(lines):
+    """Lines of a list or of an example, each within the page's width."""
+    fitting, is_command = [], False
+    for line in rows_of(lines):
+        is_command = line.startswith(("$ ", "# ")) or is_command and fitting[-1].endswith(("|", "\\"))
+        fitting += command_parts(line) if is_command else row_parts(line)
+    return fitting
+
+
+def rows_of(lines):
+    """The lines, but the rows of a list that are too long are joined with what is written below their second column."""
+    rows = []
+    for line in lines:
+        column = len(line) - len(line.lstrip())
+        if rows and column > 2 and column == second_column(rows[-1]) and max(len(rows[-1]), len(line)) > WIDTH:
+            rows[-1] += " " + line.strip()
+        else:
+            rows.append(line)
+    return rows
+
+
+def second_column(line):
+    """Where the text of a row begins, or where the line does."""
+    return re.match(r" *(?:\S+(?: \S+)*  +)?", line).end()
+
+
+def row_parts(line):
+    """A row in lines that fit: its text stays in its column."""
+    column = second_column(line)
+    indent = " " * (column or 2)
+    wrapped = textwrap.wrap(line[column:], WIDTH - column, break_long_words=False, break_on_hyphens=False) or [""]
+    return [line[:column] + wrapped[0], *(indent + part for part in wrapped[1:])] if len(line) > WIDTH else [line]
+
+
+def command_parts(line):
+    """A command in lines that fit: each but the last ends with a backslash."""
+    parts = []
+    while len(line) > WIDTH:
+        quote, cut = "", 0
+        for place, character in enumerate(line[: WIDTH - 1]):
+            if character in "'\"" and quote in ("", character):
+                quote = "" if quote else character
+            if character == " " and not quote and line[:place].strip(" $#") and line[place - 1] not in "<>":
+                cut = place
+        if cut == 0:
+            break
+        parts.append(line[:cut] + " \\")
+        line = "      " + line[cut:].strip()
+    return [*parts, line]
 
 
 def paragraphs(texts):
@@ -102,6 +155,21 @@ def tagged(terms):
     return lines
 
 
+def meanings():
+    """Each form in which a word is printed, and what it means, as docs/messages.md says."""
+    for section in re.split(r"^### ", MESSAGES.read_text(encoding="utf-8"), flags=re.M)[1:]:
+        text = re.sub(r"^```.*?^```$", "", section.partition("\n## ")[0], flags=re.M | re.S)
+        for paragraph in text.split("\n\n")[1:]:
+            said = re.sub(r"\[([^\]]*)\]\([^)]*\)", r"\1", " ".join(paragraph.split()).partition(" *")[0])
+            if found := re.match(r"((?:`[^`]*`(?:, | and )?)+): (.*)", said):
+                yield found[1], found[2]
+
+
+def tagged_forms(terms):
+    """As `tagged`, of terms between backquotes."""
+    return [line for term, said in terms for line in (".TP", plain(term), plain(said))]
+
+
 def section(name, lines, macro=".SH"):
     """A section, which begins with no paragraph macro of its own."""
     return [f"{macro} {name}", *(lines[1:] if lines[:1] == [".PP"] else lines)]
@@ -124,12 +192,11 @@ def page_of(top, helps, version):
         told += tagged(joined(help.arguments)) + tagged(joined(help.options))
         lines += section(f'"mkdemux {name}"', told, ".SS")
     lines += section("EXIT STATUS", tagged(text.split("  ", 1) for text in re.split(r"\n  (?=\d)", "\n" + top.status.strip("\n").split("\n\n")[0])[1:]))
-    lines += [".SH DIAGNOSTICS"]
-    lines += [plain("Each word that a command prints where it refuses something, or where something can't be done.")]
-    for name, help in helps.items():
-        words = help.words.partition("\n")[2].strip("\n")
-        if words:
-            lines += [".PP", f"\\fBmkdemux {name}\\fR", *literal(words)[1:]]
+    lines += section("DIAGNOSTICS", paragraphs([
+        "What a command prints where it refuses something, or where something can't be done. "
+        "docs/messages.md has the usual cause of each, the cure and an example.",
+    ]))
+    lines += tagged_forms(meanings())
     lines += [".SH EXAMPLES"]
     examples = []
     for help in helps.values():
@@ -269,6 +336,7 @@ def said(*command, **more):
     return ran.stdout if ran.returncode == 0 else f"status {ran.returncode}\n{ran.stdout}"
 
 
+FITS = 'groff -man -Tutf8 -rLL=80n -P-cbou "$0" | sed -n "/.\\{81\\}/p"'
 BASH_ASKS = 'source "$0"; COMP_WORDS=("$@"); COMP_CWORD=$(($# - 1)); _mkdemux; printf "%s\\n" "${COMPREPLY[@]}"'
 ZSH_ASKS = 'fpath=("$0" $fpath); autoload -Uz compinit && compinit -D -u && print $_comps[mkdemux] && autoload +X _mkdemux && functions _mkdemux | grep -c -- --pcap'
 FISH_ASKS = "source $argv[1]; complete -C $argv[2] | string replace -r '\\t.*' ''; or true"
@@ -281,6 +349,7 @@ def checks():
     wanted = "--pcap\n", "examples/frames.pcap\n", "examples/frames.pcap\n", "draw\n"
     yield "the page by mandoc -T lint", "mandoc", ["mandoc", "-T", "lint", page], ""
     yield "the page by groff -ww", "groff", ["groff", "-ww", "-man", "-Tutf8", "-z", page], ""
+    yield "the page within 80 columns", "groff", ["sh", "-c", FITS, page], ""
     for asked, answer in zip(words, wanted):
         yield f"bash, {' '.join(asked)}", "bash", ["bash", "-c", BASH_ASKS, bash, "mkdemux", *asked], answer
         yield f"fish, {' '.join(asked)}", "fish", ["fish", "-N", "-c", FISH_ASKS, fish, " ".join(["mkdemux", *asked])], answer
