@@ -49,21 +49,33 @@ def specs_below(crates):
     return {module_of(file): file.read_text(encoding="utf-8") for file in files if file.stem != "Lib"}
 
 
-def citing(specs, module):
-    """This module, and those that cite it through others."""
-    found = {module}
-    while True:
-        more = {other for other, text in specs.items() if any(re.search(rf"^(pub )?use {re.escape(name)}\b", text, re.MULTILINE) for name in found)}
-        if more <= found:
-            return found
-        found |= more
+def used(text):
+    """The modules of definitions that a text uses."""
+    return set(re.findall(r"\buse (Rattle\.\w+\.specs\.\w+)\b", text))
+
+
+def closed(modules, more_of):
+    """These modules, and those that `more_of` gives for them, again and again."""
+    found, new = set(), set(modules)
+    while new:
+        found |= new
+        new = set().union(*map(more_of, new)) - found
+    return found
+
+
+def to_copy(specs, module):
+    """This module, and those that the examples use and that cite it through others."""
+    uses = {name: used(text) for name, text in specs.items()}
+    examples = set().union(*(used(file.read_text(encoding="utf-8")) for part in ("src", "specs", "proofs") for file in (CRATES / EXAMPLES / part).rglob("*.*")))
+    citing = closed({module}, lambda cited: {name for name, others in uses.items() if cited in others})
+    return citing & (closed(examples, lambda name: uses.get(name, set())) | {module})
 
 
 def copy_with(specs, module, text, folder):
     """Copies the examples' crate into the folder, and has it speak of a copy of the module, with this text, and of those that cite it."""
     for part in ("src", "specs", "proofs"):
         shutil.copytree(CRATES / EXAMPLES / part, folder / part)
-    copies = {name: f"Copied{name.replace('.specs.', '.').replace('Rattle.', '_').replace('.', '_')}" for name in citing(specs, module)}
+    copies = {name: f"Copied{name.replace('.specs.', '.').replace('Rattle.', '_').replace('.', '_')}" for name in to_copy(specs, module)}
 
     def speak_of_copies(text):
         for name, copied in copies.items():
@@ -146,10 +158,10 @@ def try_file(prover, specs, file, edits):
 
 def main(built, *names):
     prover = tries.Prover(pathlib.Path(built))
-    names_below, kind = prover.below[EXAMPLES]
-    specs = specs_below(names_below)
-    # What the copies cite, and the examples themselves do not.
-    prover.below[EXAMPLES] = (sorted({*names_below, *(other for name in names_below for other in prover.below[name][0])}), kind)
+    direct, kind = prover.below[EXAMPLES]
+    specs = specs_below(direct)
+    # Copies cite what the examples themselves do not.
+    prover.below[EXAMPLES] = (sorted(closed(direct, lambda name: prover.below[name][0] if name in prover.below else [])), kind)
     files = [ROOT / "edits/definitions" / f"{name}.definition" for name in names] or sorted((ROOT / "edits/definitions").glob("*.definition"))
     edits = collections.defaultdict(list)
     for file in files:

@@ -8,7 +8,7 @@ use Rattle.filter_asm.specs.Number.{magnitude, number}
 use Rattle.filter_asm.specs.Operands.{operands_at}
 use Rattle.filter_asm.specs.Program.{Asm, Line, Spells, assembled, instruction}
 use Rattle.filter_asm.specs.Token.{TokenAt, IsToken, EndsBefore, continues}
-use Rattle.definitions_tried.specs.Texts.{arp_all, arp_assembler, jumping_insns, jumping_lines}
+use Rattle.definitions_tried.specs.Texts.{arp_all, arp_assembler, computing_insns, computing_lines, jumping_insns, jumping_lines, moving_insns, moving_lines, testing_insns, testing_lines}
 
 pass : (p : ℕ → Bool) (bytes : List ℕ) → list_all p bytes ≡ true → AllPass p bytes
 pass p bytes e = AllPass-from_list_all p bytes e
@@ -47,3 +47,15 @@ assembled_arp = (line_1 ∷ line_2 ∷ line_3 ∷ line_4 ∷ [], (line_1-spelled
 pub jumps : assembled jumping_lines ≡ Ok jumping_insns
 unfolding instruction operands_at number magnitude mnemonic_of
 jumps = refl
+
+pub moves : assembled moving_lines ≡ Ok moving_insns
+unfolding instruction operands_at number magnitude mnemonic_of
+moves = refl
+
+pub computes : assembled computing_lines ≡ Ok computing_insns
+unfolding instruction operands_at number magnitude mnemonic_of
+computes = refl
+
+pub tests : assembled testing_lines ≡ Ok testing_insns
+unfolding instruction operands_at number magnitude mnemonic_of
+tests = refl

@@ -3,6 +3,7 @@ pub mod Captures
 pub mod Codes
 pub mod Filters
 pub mod Kernel
+pub mod Messages
 pub mod Tables
 pub mod Texts
 pub mod Verdicts

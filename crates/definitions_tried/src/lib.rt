@@ -1,14 +1,15 @@
-//! The definitions, tried. A definition can be wrong in its own words, and no proof shows it: so examples from outside, each
-//! of which must hold of them, and some that must not.
+//! The definitions, tried. A definition can be wrong in its own words, and no proof shows it: so here are examples that must hold of
+//! them, and some that must not, as the contracts of functions that do nothing.
 //!
-//! Here are examples alone, as the contracts of functions that do nothing. What is expected comes from the papers, manuals
-//! and programs that each file names, and never from the code.
+//! What is expected comes from the papers, manuals, programs and pages that each file names, and never from the code.
 #![tactic(auto)]
 
 mod blocks;
 mod captures;
 mod filters;
 mod kernel;
+mod messages;
+mod printed;
 mod tables;
 mod texts;
 mod verifier;
@@ -17,6 +18,8 @@ pub use blocks::{kept_blocks, read_blocks, refused_blocks};
 pub use captures::{read_captures, refused_captures};
 pub use filters::{arithmetic, jumps, loads, runs_of_filters, words};
 pub use kernel::kernel_programs;
-pub use tables::{budgets, capabilities, logs, receivers};
-pub use texts::{assembler_texts, decimal_texts};
+pub use messages::{coded_messages, lines_of_messages};
+pub use printed::matched_lines;
+pub use tables::{bounds, budgets, capabilities, logs, receivers};
+pub use texts::{assembler_texts, decimal_texts, refused_texts};
 pub use verifier::{refused_programs, sound_programs};

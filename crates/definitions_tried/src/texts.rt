@@ -1,12 +1,13 @@
 //! Filters as texts.
 
-ghost use Rattle.std.specs.Prelude.{◌≡◌, Ok, codes};
+ghost use Rattle.std.specs.Prelude.{◌≡◌, [], ◌∷◌, Err, Ok, Some, codes};
 ghost use Rattle.bpf_insn.specs.AsmText.{asm_text};
 ghost use Rattle.bpf_insn.specs.Ddd.{Ddd, Faults};
 ghost use Rattle.bpf_insn.specs.declared.ddd.TextFault.TheVariants.{CountMismatch, TooLong};
 ghost use Rattle.bpf_insn.specs.DddText.{ddd_text};
-ghost use Rattle.filter_asm.specs.Program.{Asm, assembled};
-ghost use Rattle.definitions_tried.specs.Texts.{arp_all, arp_assembler, arp_labelled, arp_lines, arp_numbers, jumping_insns, jumping_lines};
+ghost use Rattle.filter_asm.specs.declared.fault.AsmFaultKind.TheVariants as asm_fault;
+ghost use Rattle.filter_asm.specs.Program.{Asm, assembled, room_behind, short_reach};
+ghost use Rattle.definitions_tried.specs.Texts.{arp_all, arp_assembler, arp_labelled, arp_lines, arp_numbers, computing_insns, computing_lines, fault, jumping_insns, jumping_lines, labelled, looping, moving_insns, moving_lines, return_0, testing_insns, testing_lines, unlabelled};
 
 /// The numbers of a program, as `tcpdump -ddd` writes them (tcpdump(1)), a line an instruction, and as Linux' `bpf_asm` does, on one
 /// line with commas.
@@ -25,4 +26,23 @@ pub fn assembler_texts()
     ensures of_linux { Asm arp_assembler arp_all }
     ensures written { asm_text arp_all ≡ arp_labelled }
     ensures jumps { assembled jumping_lines ≡ Ok jumping_insns }
+    ensures moves { assembled moving_lines ≡ Ok moving_insns }
+    ensures computes { assembled computing_lines ≡ Ok computing_insns }
+    ensures tests { assembled testing_lines ≡ Ok testing_insns }
+{}
+
+/// Texts that stand for no program (docs/formats.md, "Assembler text"). A conditional jump passes over 255 instructions at most, as its
+/// distances are bytes; a program has 4,096 instructions at most, as in Linux.
+pub fn refused_texts()
+    ensures mnemonic { assembled (return_0 ∷ unlabelled (codes "return" ∷ []) ∷ []) ≡ Err (fault 2 asm_fault.Mnemonic) }
+    ensures operand { assembled (unlabelled (codes "ret" ∷ codes "0" ∷ []) ∷ []) ≡ Err (fault 1 asm_fault.Operand) }
+    ensures number { assembled (unlabelled (codes "ret" ∷ codes "#" ∷ codes "4294967296" ∷ []) ∷ []) ≡ Err (fault 1 asm_fault.Number) }
+    ensures second_label { assembled (labelled (codes "a") ∷ return_0 ∷ labelled (codes "a") ∷ []) ≡ Err (fault 3 asm_fault.TwiceLabel) }
+    ensures no_label { assembled (unlabelled (codes "ja" ∷ codes "a" ∷ []) ∷ labelled (codes "b") ∷ []) ≡ Err (fault 1 asm_fault.NoLabel) }
+    ensures backward { assembled (labelled (codes "a") ∷ unlabelled (codes "ja" ∷ codes "a" ∷ []) ∷ []) ≡ Err (fault 2 asm_fault.Backward) }
+    ensures to_itself { assembled (looping ∷ []) ≡ Err (fault 1 asm_fault.Backward) }
+    ensures over_255 { short_reach 0 (Some 256) ≡ Ok 255 }
+    ensures over_256 { short_reach 0 (Some 257) ≡ Err asm_fault.TooFar }
+    ensures most_instructions { room_behind 4095 ≡ Ok 4095 }
+    ensures one_more { room_behind 4096 ≡ Err asm_fault.TooLong }
 {}
