@@ -4,6 +4,7 @@ pub mod Codes
 pub mod Filters
 pub mod Kernel
 pub mod Messages
+pub mod Readings
 pub mod Scripts
 pub mod Tables
 pub mod Texts
