@@ -1,5 +1,6 @@
 #!/usr/bin/env python3
-"""Makes the manual page and the shells' completions from the program's own help, and what words mean from docs/messages.md.
+"""Makes the manual page and the shells' completions from the program's own help, and what words mean from
+docs/messages.md.
 
     dist/manual.py PROGRAM           writes them into dist/share
     dist/manual.py --check PROGRAM   compares those of dist/share with what the program's help gives, looks for warnings of mandoc

@@ -1,8 +1,9 @@
 #!/usr/bin/env python3
-"""Compares the public types of one name with the table of docs/glossary.md. A name that two crates give to a type has a row there, with
-these crates and the reason, or the word `none`. Types of tests don't count.
+"""Compares the public types of one name with the table of docs/glossary.md. A name that two crates give to a type has a
+row there, with these crates and the reason, or the word `none`. Types of tests don't count.
 
-  docs/names.py          says which rows are missing or wrong, and which names have no reason; the last line is `N passed, M failed`
+  docs/names.py          says which rows are missing or wrong, and which names have no reason;
+                         the last line is `N passed, M failed`
   docs/names.py --list   lists the names that stand twice or more, each with the files
 """
 import collections
@@ -29,7 +30,8 @@ def shared():
 
 def rows():
     """The rows of the table: by the name, the crates and the reason."""
-    return {name: (re.findall(r"`(\w+)`", crates), why.strip()) for name, crates, why in ROW.findall(PAGE.read_text(encoding="utf-8"))}
+    found = ROW.findall(PAGE.read_text(encoding="utf-8"))
+    return {name: (re.findall(r"`(\w+)`", crates), why.strip()) for name, crates, why in found}
 
 
 def main():
@@ -49,7 +51,8 @@ def main():
         else:
             failed += 1
             print(f"docs/glossary.md, `{name}`: the types of this name are in {', '.join(crates) or 'no two crates'}")
-    print("types that share a name for no reason:", ", ".join(name for name in told if told[name][1] == "none") or "none")
+    unreasoned = [name for name in told if told[name][1] == "none"]
+    print("types that share a name for no reason:", ", ".join(unreasoned) or "none")
     print(f"{passed} passed, {failed} failed")
     return 1 if failed else 0
 

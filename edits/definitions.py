@@ -66,7 +66,8 @@ def closed(modules, more_of):
 def to_copy(specs, module):
     """This module, and those that the examples use and that cite it through others."""
     uses = {name: used(text) for name, text in specs.items()}
-    examples = set().union(*(used(file.read_text(encoding="utf-8")) for part in ("src", "specs", "proofs") for file in (CRATES / EXAMPLES / part).rglob("*.*")))
+    files = (file for part in ("src", "specs", "proofs") for file in (CRATES / EXAMPLES / part).rglob("*.*"))
+    examples = set().union(*(used(file.read_text(encoding="utf-8")) for file in files))
     citing = closed({module}, lambda cited: {name for name, others in uses.items() if cited in others})
     return citing & (closed(examples, lambda name: uses.get(name, set())) | {module})
 
@@ -161,7 +162,8 @@ def main(built, *names):
     direct, kind = prover.below[EXAMPLES]
     specs = specs_below(direct)
     # Copies cite what the examples themselves do not.
-    prover.below[EXAMPLES] = (sorted(closed(direct, lambda name: prover.below[name][0] if name in prover.below else [])), kind)
+    through_others = closed(direct, lambda name: prover.below[name][0] if name in prover.below else [])
+    prover.below[EXAMPLES] = (sorted(through_others), kind)
     files = [ROOT / "edits/definitions" / f"{name}.definition" for name in names] or sorted((ROOT / "edits/definitions").glob("*.definition"))
     edits = collections.defaultdict(list)
     for file in files:

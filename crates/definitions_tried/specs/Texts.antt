@@ -29,8 +29,8 @@ arp_labelled = codes "l0: ldh [12]" ++ 10 ∷ codes "l1: jeq #2054, l2, l3" ++ 1
 abbrev pub unlabelled : List (List ℕ) → Line
 unlabelled body = record { labels = []; body = body }
 
--- a test of A < 7 (a test of A >= 7 with its targets exchanged), one of A > 7, and a jump (Linux, the same page: its table of
--- instructions)
+-- a test of A < 7 (a test of A >= 7 with its targets exchanged), one of A > 7, and a jump (Linux, the same page: its
+-- table of instructions)
 abbrev pub jumping_lines : List Line
 jumping_lines =
     unlabelled (codes "jlt" ∷ codes "#" ∷ codes "7" ∷ codes "," ∷ codes "out" ∷ [])
@@ -43,8 +43,8 @@ jumping_lines =
 abbrev pub jumping_insns : List Insn
 jumping_insns = insn 0x35 0 3 7 ∷ insn 0x25 2 0 7 ∷ insn 0x05 0 0 1 ∷ insn 6 0 0 1 ∷ insn 6 0 0 0 ∷ []
 
--- what moves a value, each mnemonic with each kind of operand (Linux, the same page: its tables of instructions and of addressing modes)
--- and its code by its parts (Linux, bpf_common.h)
+-- what moves a value, each mnemonic with each kind of operand (Linux, the same page: its tables of instructions and
+-- of addressing modes) and its code by its parts (Linux, bpf_common.h)
 abbrev pub moving_lines : List Line
 moving_lines =
     unlabelled (codes "ld" ∷ codes "#" ∷ codes "1" ∷ [])

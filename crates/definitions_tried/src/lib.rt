@@ -1,5 +1,5 @@
-//! The definitions, tried. A definition can be wrong in its own words, and no proof shows it: so here are examples that must hold of
-//! them, and some that must not, as the contracts of functions that do nothing.
+//! The definitions, tried. A definition can be wrong in its own words, and no proof shows it: so here are examples
+//! that must hold of them, and some that must not, as the contracts of functions that do nothing.
 //!
 //! What is expected comes from the papers, manuals, programs and pages that each file names, and never from the code.
 #![tactic(auto)]

@@ -17,7 +17,8 @@ ghost use Rattle.ump_ring.specs.Reading.{line_fault};
 ghost use Rattle.definitions_tried.specs.Filters.{insn};
 ghost use Rattle.definitions_tried.specs.Messages.{fifty_seven, first_line, line_of_three, second_line, three, u16, u32, u64};
 
-/// Messages as bytes, by the table at the head of `monitor_messages`. A refusal by the verifier has one of its ten numbers.
+/// Messages as bytes, by the table at the head of `monitor_messages`. A refusal by the verifier has one of its ten
+/// numbers.
 pub fn coded_messages()
     ensures low_bytes_first { coded 258 (Ack 0x0102030405060708) ≡ 5 ∷ 2 ∷ 1 ∷ 0 ∷ 0 ∷ 0 ∷ 0 ∷ 0 ∷ 0 ∷ 8 ∷ 7 ∷ 6 ∷ 5 ∷ 4 ∷ 3 ∷ 2 ∷ 1 ∷ [] }
     ensures of_a_vote { coded 7 (Vote 3 vote.Budget) ≡ 2 ∷ u64 7 (u64 3 (1 ∷ [])) }
@@ -29,8 +30,8 @@ pub fn coded_messages()
     ensures no_rule_11 { Coded (7 ∷ u64 0 (1 ∷ u16 3 (2 ∷ 17 ∷ 11 ∷ u16 5 []))) 0 (Reply (Refused 3 (veto.Rule (BadProgram 11 5)))) → ⊥ }
 {}
 
-/// Messages as lines of eight words, by the head of `ump_ring`: 56 bytes a line, the length on a message's first line, and the line's
-/// number in its ring, which begins with 0 again after 2^32 lines.
+/// Messages as lines of eight words, by the head of `ump_ring`: 56 bytes a line, the length on a message's first
+/// line, and the line's number in its ring, which begins with 0 again after 2^32 lines.
 pub fn lines_of_messages()
     ensures of_three_bytes { lines_of three 5 ≡ line_of_three ∷ [] }
     ensures of_more_than_a_line { lines_of fifty_seven 0xffff_ffff ≡ first_line ∷ second_line ∷ [] }

@@ -31,7 +31,8 @@ pub fn printed_events()
     ensures of_a_packet_left { left_line 1 30 ≡ codes "left 1 30\n" }
 {}
 
-/// The lines of `match`: a verdict and steps, or the number of a line that spells no packet. Digits are of either case, two a byte.
+/// The lines of `match`: a verdict and steps, or the number of a line that spells no packet. Digits are of either
+/// case, two a byte.
 pub fn matched_lines()
     ensures of_an_outcome { outcome_line (record { verdict = 262144; steps = 3 }) ≡ codes "262144 3\n" }
     ensures of_a_bad_line { bad_line 20 ≡ codes "line 20: BadHex\n" }

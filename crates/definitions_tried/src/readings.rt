@@ -9,8 +9,9 @@ ghost use Rattle.world_model.specs.Committed.{log_of};
 ghost use Rattle.world_model.specs.Readings.{numbered, request_of, sent, settled, unsent, version_of, vote_of};
 ghost use Rattle.definitions_tried.specs.Readings.{create, submitted, vetoed};
 
-/// Two-phase commit (Gray 1978, "Notes on data base operating systems", section 5.8.3), as events tell of it: a request of core 1 is
-/// submitted, begun, voted on, committed by core 0, and then by core 1. One against which a core votes is committed by nobody.
+/// Two-phase commit (Gray 1978, "Notes on data base operating systems", section 5.8.3), as events tell of it: a
+/// request of core 1 is submitted, begun, voted on, committed by core 0, and then by core 1. One against which a core
+/// votes is committed by nobody.
 pub fn told_by_events()
     ensures committed { log_of submitted ≡ create ∷ [] }
     ensures not_before_the_vote { log_of (take 4 submitted) ≡ [] }

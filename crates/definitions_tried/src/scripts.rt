@@ -7,8 +7,8 @@ ghost use Rattle.mk_script.specs.Statements.{plain, statements};
 ghost use Rattle.mk_script.specs.Words.{is_name, number_below};
 ghost use Rattle.definitions_tried.specs.Scripts.{a_name, asm_of_one_line, lines_and_blanks};
 
-/// The words of lines, by "Scripts": what each command takes, and which of them only a simulation knows. A name begins with a letter and
-/// has 32 bytes at most.
+/// The words of lines, by "Scripts": what each command takes, and which of them only a simulation knows. A name
+/// begins with a letter and has 32 bytes at most.
 pub fn script_words()
     ensures most_cores { is_some (command_of false (codes "cores" ∷ replicate 8 (codes "9"))) ≡ true }
     ensures no_nine_cores { command_of false (codes "cores" ∷ replicate 9 (codes "9")) ≡ None }

@@ -9,8 +9,8 @@ ghost use Rattle.filter_asm.specs.declared.fault.AsmFaultKind.TheVariants as asm
 ghost use Rattle.filter_asm.specs.Program.{Asm, assembled, room_behind, short_reach};
 ghost use Rattle.definitions_tried.specs.Texts.{arp_all, arp_assembler, arp_labelled, arp_lines, arp_numbers, computing_insns, computing_lines, fault, jumping_insns, jumping_lines, labelled, looping, moving_insns, moving_lines, return_0, testing_insns, testing_lines, unlabelled};
 
-/// The numbers of a program, as `tcpdump -ddd` writes them (tcpdump(1)), a line an instruction, and as Linux' `bpf_asm` does, on one
-/// line with commas.
+/// The numbers of a program, as `tcpdump -ddd` writes them (tcpdump(1)), a line an instruction, and as Linux'
+/// `bpf_asm` does, on one line with commas.
 pub fn decimal_texts()
     ensures of_tcpdump { Ddd arp_lines arp_all }
     ensures of_bpf_asm { Ddd arp_numbers arp_all }
@@ -20,8 +20,8 @@ pub fn decimal_texts()
     ensures not_too_long_at_4096 { Faults (codes "4096") TooLong → ⊥ }
 {}
 
-/// The example "ARP packets" of Linux' documentation, which `bpf_asm` takes, and the labelled lines that stand for the program: a
-/// test has both its targets there.
+/// The example "ARP packets" of Linux' documentation, which `bpf_asm` takes, and the labelled lines that stand for
+/// the program: a test has both its targets there.
 pub fn assembler_texts()
     ensures of_linux { Asm arp_assembler arp_all }
     ensures written { asm_text arp_all ≡ arp_labelled }
@@ -31,8 +31,8 @@ pub fn assembler_texts()
     ensures tests { assembled testing_lines ≡ Ok testing_insns }
 {}
 
-/// Texts that stand for no program (docs/formats.md, "Assembler text"). A conditional jump passes over 255 instructions at most, as its
-/// distances are bytes; a program has 4,096 instructions at most, as in Linux.
+/// Texts that stand for no program (docs/formats.md, "Assembler text"). A conditional jump passes over 255
+/// instructions at most, as its distances are bytes; a program has 4,096 instructions at most, as in Linux.
 pub fn refused_texts()
     ensures mnemonic { assembled (return_0 ∷ unlabelled (codes "return" ∷ []) ∷ []) ≡ Err (fault 2 asm_fault.Mnemonic) }
     ensures operand { assembled (unlabelled (codes "ret" ∷ codes "0" ∷ []) ∷ []) ≡ Err (fault 1 asm_fault.Operand) }
