@@ -145,6 +145,221 @@ static int is_refused_by(mkdemux_turned turned, uint32_t decision, uint32_t rule
 
 #define RULE(turned, rule) CHECK(is_refused_by(turned, MKDEMUX_REFUSED, MKDEMUX_RULE_##rule, 0, 0))
 
+/* ---- The table ---- */
+
+static void closed_lists(mkdemux_core *core)
+{
+    struct mkdemux_filter_row filter = {1, 2, 3, 4, 5};
+    struct mkdemux_cap_row cap = {1, 2, 3, 4, 5};
+    struct mkdemux_insn insn = {1, 2, 3, 4};
+    size_t count = 77;
+    CHECK(mkdemux_filters(core, 0, &filter, 1, &count) == MKDEMUX_CORE_CLOSED && count == 0 && filter.id == 1);
+    count = 77;
+    CHECK(mkdemux_caps(core, 0, &cap, 1, &count) == MKDEMUX_CORE_CLOSED && count == 0 && cap.id == 1);
+    count = 77;
+    CHECK(mkdemux_filter_code(core, 1, &insn, 1, &count) == MKDEMUX_CORE_CLOSED && count == 0 && insn.code == 1);
+}
+
+static int is_filter(struct mkdemux_filter_row row, uint32_t id, uint32_t cap, uint32_t count, uint16_t owner, uint16_t endpoint)
+{
+    return row.id == id && row.cap == cap && row.count == count && row.owner == owner && row.endpoint == endpoint;
+}
+
+static int is_cap(struct mkdemux_cap_row row, uint32_t id, uint32_t parent, uint16_t endpoint, uint16_t holder, uint8_t rights)
+{
+    return row.id == id && row.parent == parent && row.endpoint == endpoint && row.holder == holder && row.rights == rights;
+}
+
+/* Filters 1 to 3 of two owners, the second of them removed, at each of two cores. */
+static void lists_filters(struct machine *machine)
+{
+    struct mkdemux_filter_row rows[4];
+    size_t at, count;
+    for (at = 0; at < 2; at++) {
+        mkdemux_core *core = &machine->cores[at];
+        memset(rows, 0x5a, sizeof rows);
+        CHECK(!mkdemux_filters(core, 0, rows, 4, &count) && count == 2 && rows[2].id == 0x5a5a5a5a);
+        CHECK(is_filter(rows[0], 1, 1, COUNT(arp), 1, 7) && is_filter(rows[1], 3, 2, COUNT(ten), 2, 7));
+        memset(rows, 0x5a, sizeof rows);
+        CHECK(!mkdemux_filters(core, 1, rows, 1, &count) && count == 1 && rows[0].id == 1 && rows[1].id == 0x5a5a5a5a);
+        CHECK(!mkdemux_filters(core, 2, rows, 4, &count) && count == 1 && rows[0].id == 3);
+        CHECK(!mkdemux_filters(core, 3, rows, 1, &count) && count == 1 && rows[0].id == 3);
+        CHECK(!mkdemux_filters(core, 4, rows, 4, &count) && count == 0 && rows[0].id == 3);
+        CHECK(!mkdemux_filters(core, UINT32_MAX, rows, 4, &count) && count == 0);
+        CHECK(!mkdemux_filters(core, 0, NULL, 0, &count) && count == 0);
+    }
+}
+
+static void lists_caps(struct machine *machine)
+{
+    struct mkdemux_cap_row rows[4];
+    size_t at, count;
+    for (at = 0; at < 2; at++) {
+        mkdemux_core *core = &machine->cores[at];
+        memset(rows, 0x5a, sizeof rows);
+        CHECK(!mkdemux_caps(core, 0, rows, 4, &count) && count == 3 && rows[3].id == 0x5a5a5a5a);
+        CHECK(is_cap(rows[0], 1, 0, 7, 1, MKDEMUX_RIGHT_BOTH) && is_cap(rows[1], 2, 1, 7, 2, MKDEMUX_RIGHT_RECEIVE));
+        CHECK(is_cap(rows[2], 3, 1, 7, 3, MKDEMUX_RIGHT_MINT));
+        memset(rows, 0x5a, sizeof rows);
+        CHECK(!mkdemux_caps(core, 2, rows, 1, &count) && count == 1 && rows[0].id == 2 && rows[1].id == 0x5a5a5a5a);
+        CHECK(!mkdemux_caps(core, 3, rows, 1, &count) && count == 1 && rows[0].id == 3);
+        CHECK(!mkdemux_caps(core, 4, rows, 4, &count) && count == 0 && rows[0].id == 3);
+        CHECK(!mkdemux_caps(core, UINT32_MAX, rows, 4, &count) && count == 0);
+        CHECK(!mkdemux_caps(core, 0, NULL, 0, &count) && count == 0);
+    }
+}
+
+static void lists_code(mkdemux_core *core)
+{
+    struct mkdemux_insn code[5];
+    size_t count;
+    memset(code, 0x5a, sizeof code);
+    CHECK(mkdemux_filter_code(core, 1, code, 3, &count) == MKDEMUX_CORE_NO_ROOM && count == COUNT(arp) && code[0].code == 0x5a5a);
+    CHECK(mkdemux_filter_code(core, 1, NULL, 0, &count) == MKDEMUX_CORE_NO_ROOM && count == COUNT(arp));
+    CHECK(mkdemux_filter_code(core, 2, code, 5, &count) == MKDEMUX_CORE_NO_FILTER && count == 0 && code[0].code == 0x5a5a);
+    CHECK(mkdemux_filter_code(core, 4, code, 5, &count) == MKDEMUX_CORE_NO_FILTER && count == 0);
+    CHECK(!mkdemux_filter_code(core, 1, code, 5, &count) && count == COUNT(arp) && !memcmp(code, arp, sizeof arp));
+    CHECK(code[4].code == 0x5a5a);
+    CHECK(!mkdemux_filter_code(core, 3, code, 1, &count) && count == COUNT(ten) && !memcmp(code, ten, sizeof ten));
+}
+
+/* A domain that ended: all that it held and owned is taken away, as the lists say. */
+static void sweeps(struct machine *machine, uint16_t domain)
+{
+    mkdemux_core *core = &machine->cores[0];
+    struct mkdemux_filter_row filter;
+    struct mkdemux_cap_row cap;
+    size_t count;
+    uint32_t from;
+    for (from = 0; !mkdemux_filters(core, from, &filter, 1, &count) && count; from = filter.id + 1)
+        if (filter.owner == domain)
+            CHECK(answer_at(machine, 0, mkdemux_ask_remove(core, domain, filter.id)).decision == MKDEMUX_COMMITTED);
+    for (from = 0; !mkdemux_caps(core, from, &cap, 1, &count) && count; from = cap.id + 1)
+        if (cap.holder == domain)
+            CHECK(answer_at(machine, 0, mkdemux_ask_drop(core, domain, cap.id)).decision == MKDEMUX_COMMITTED);
+    for (from = 0; !mkdemux_filters(core, from, &filter, 1, &count) && count; from = filter.id + 1)
+        CHECK(filter.owner != domain);
+    for (from = 0; !mkdemux_caps(core, from, &cap, 1, &count) && count; from = cap.id + 1)
+        CHECK(cap.holder != domain);
+}
+
+static void lists(void)
+{
+    struct machine machine;
+    struct mkdemux_filter_row filter;
+    struct mkdemux_cap_row cap;
+    size_t count;
+    boot(&machine, 2, 100);
+    CHECK(!mkdemux_filters(&machine.cores[1], 0, &filter, 1, &count) && count == 0);
+    CHECK(!mkdemux_caps(&machine.cores[1], 0, &cap, 1, &count) && count == 0);
+    answer_at(&machine, 0, mkdemux_ask_create(machine.cores, 1, 7));
+    answer_at(&machine, 1, mkdemux_ask_mint(&machine.cores[1], 1, 1, 2, MKDEMUX_RIGHT_RECEIVE));
+    answer_at(&machine, 0, mkdemux_ask_mint(machine.cores, 1, 1, 3, MKDEMUX_RIGHT_MINT));
+    answer_at(&machine, 0, mkdemux_ask_install(machine.cores, 1, 1, arp, COUNT(arp)));
+    answer_at(&machine, 0, mkdemux_ask_install(machine.cores, 2, 2, all, COUNT(all)));
+    answer_at(&machine, 1, mkdemux_ask_install(&machine.cores[1], 2, 2, ten, COUNT(ten)));
+    answer_at(&machine, 0, mkdemux_ask_remove(machine.cores, 2, 2));
+    settle(&machine);
+    asked = 0;
+    lists_filters(&machine);
+    lists_caps(&machine);
+    lists_code(&machine.cores[0]);
+    lists_code(&machine.cores[1]);
+    CHECK(asked == 0); /* no memory was taken */
+    sweeps(&machine, 2);
+    sweeps(&machine, 1);
+    close_all(&machine);
+}
+
+/* ---- Bursts ---- */
+
+enum { BURST = 32 };
+
+static void closed_bursts(mkdemux_core *core)
+{
+    static const struct mkdemux_packet packet = {frames[0], 14, 60};
+    struct mkdemux_kept room[1] = {{7, 7}};
+    size_t counts[1] = {5}, done = 77;
+    CHECK(mkdemux_receive_burst(core, &packet, 1, room, 1, counts, &done) == MKDEMUX_CORE_CLOSED && done == 0);
+    CHECK(room[0].endpoint == 7 && room[0].kept == 7 && counts[0] == 5);
+}
+
+/* With room for so many endpoints, of 32 packets the first are received, and no other, each as a call for it alone does. */
+static void receives_burst(mkdemux_core *core, size_t size)
+{
+    struct mkdemux_packet packets[BURST];
+    struct mkdemux_kept room[2 * BURST + 1], alone[2];
+    size_t counts[BURST + 1], i, j, used = 0, count = 0, done = 77;
+    uint32_t answer;
+    for (i = 0; i < BURST; i++) {
+        packets[i].at = i % PACKETS == 2 && i > 20 ? NULL : frames[i % PACKETS];
+        packets[i].captured = packets[i].at ? 14 : 0;
+        packets[i].original = 60 + (uint32_t)i;
+    }
+    memset(room, 0x5a, sizeof room);
+    memset(counts, 0x5a, sizeof counts);
+    answer = mkdemux_receive_burst(core, packets, BURST, room, size, counts, &done);
+    CHECK(answer == (done < BURST ? MKDEMUX_CORE_NO_ROOM : MKDEMUX_CORE_OK));
+    for (i = 0; i < done; i++, used += count) {
+        CHECK(!mkdemux_receive(core, packets[i].at, packets[i].captured, packets[i].original, alone, 2, &count));
+        CHECK(counts[i] == count && used + count <= size);
+        for (j = 0; j < count; j++)
+            CHECK(room[used + j].endpoint == alone[j].endpoint && room[used + j].kept == alone[j].kept);
+    }
+    if (done < BURST)
+        CHECK(!mkdemux_receive(core, packets[done].at, packets[done].captured, packets[done].original, alone, 2, &count) &&
+            used + count > size);
+    for (i = done; i <= BURST; i++)
+        CHECK(counts[i] == (size_t)0x5a5a5a5a5a5a5a5a);
+    for (i = used; i <= 2 * BURST; i++)
+        CHECK(room[i].kept == 0x5a5a5a5a);
+}
+
+static void receives_bursts(void)
+{
+    struct machine machine;
+    size_t size, done = 77;
+    boot(&machine, 1, 100);
+    answer_at(&machine, 0, mkdemux_ask_create(machine.cores, 1, 7));
+    answer_at(&machine, 0, mkdemux_ask_create(machine.cores, 1, 8));
+    answer_at(&machine, 0, mkdemux_ask_install(machine.cores, 1, 1, arp, COUNT(arp)));
+    answer_at(&machine, 0, mkdemux_ask_install(machine.cores, 1, 2, ten, COUNT(ten)));
+    CHECK(!mkdemux_receive_burst(machine.cores, NULL, 0, NULL, 0, NULL, &done) && done == 0);
+    for (size = 0; size <= 2 * BURST; size++)
+        receives_burst(machine.cores, size);
+    asked = 0;
+    receives_burst(machine.cores, 2 * BURST);
+    CHECK(asked == 0);
+    close_all(&machine);
+}
+
+/* The first packet of a burst after a change, with each allocation refused in turn. */
+static void bursts_run_out(unsigned long *refusals)
+{
+    static const struct mkdemux_packet packets[2] = {{frames[0], 14, 60}, {frames[1], 14, 60}};
+    unsigned long number;
+    int more = 1;
+    for (number = 1; more; number++) {
+        struct machine machine;
+        struct mkdemux_kept room[2];
+        size_t counts[2] = {5, 5}, done = 77;
+        uint32_t answer;
+        boot(&machine, 1, 100);
+        answer_at(&machine, 0, mkdemux_ask_create(machine.cores, 1, 7));
+        answer_at(&machine, 0, mkdemux_ask_install(machine.cores, 1, 1, ten, 1));
+        memset(room, 0x5a, sizeof room);
+        asked = 0;
+        failing = number;
+        answer = mkdemux_receive_burst(machine.cores, packets, 2, room, 2, counts, &done);
+        more = asked >= failing;
+        failing = 0;
+        CHECK(more ? answer == MKDEMUX_CORE_NO_MEMORY && done == 0 && counts[0] == 5 && room[0].kept == 0x5a5a5a5a : !answer && done == 2);
+        CHECK(!mkdemux_receive_burst(machine.cores, packets, 2, room, 2, counts, &done) && done == 2 && counts[1] == 1 && room[1].kept == 10);
+        close_all(&machine);
+        *refusals += (unsigned)more;
+    }
+}
+
 /* ---- Calls ---- */
 
 static void closed(void)
@@ -165,6 +380,8 @@ static void closed(void)
     CHECK(mkdemux_receive(&core, frames[0], 14, 60, room, 1, &count) == MKDEMUX_CORE_CLOSED && count == 0);
     CHECK(room[0].endpoint == 7 && room[0].kept == 7);
     CHECK(mkdemux_version(&core) == 0 && mkdemux_unanswered(&core) == 0);
+    closed_lists(&core);
+    closed_bursts(&core);
     mkdemux_close(&core);
     mkdemux_close(&core);
     CHECK(core.at == NULL);
@@ -494,7 +711,8 @@ static void says(void)
 {
     CHECK(!strcmp(mkdemux_core_word(MKDEMUX_CORE_OK), "Ok") && !strcmp(mkdemux_core_word(MKDEMUX_CORE_IDLE), "Idle"));
     CHECK(!strcmp(mkdemux_core_word(MKDEMUX_CORE_NOT_CORES), "NoCores"));
-    CHECK(!strcmp(mkdemux_core_word(MKDEMUX_CORE_BAD_RIGHTS), "BadRights") && !strcmp(mkdemux_core_word(11), "?"));
+    CHECK(!strcmp(mkdemux_core_word(MKDEMUX_CORE_BAD_RIGHTS), "BadRights") && !strcmp(mkdemux_core_word(11), "NoFilter") &&
+        !strcmp(mkdemux_core_word(12), "?"));
     CHECK(!strcmp(mkdemux_core_rule_word(MKDEMUX_RULE_NO_CAP), "NoCap"));
     CHECK(!strcmp(mkdemux_core_rule_word(MKDEMUX_RULE_MEMORY), "NoMemory"));
     CHECK(!strcmp(mkdemux_core_rule_word(MKDEMUX_RULE_BAD_PROGRAM + 9), "BadProgram"));
@@ -666,6 +884,7 @@ static void runs_out(void)
     boot_runs_out(&refusals);
     of_boot = refusals;
     receive_runs_out(&refusals);
+    bursts_run_out(&refusals);
     of_receive = refusals - of_boot;
     for (at = 0; at < 2; at++)
         for (request = 0; request < 7; request++)
@@ -686,6 +905,8 @@ int main(void)
         for (at = 0; at < count; at++)
             serves(count, at);
     receives();
+    receives_bursts();
+    lists();
     refuses(0);
     refuses(1);
     fills();

@@ -2,3 +2,5 @@ pub mod Opening
 pub mod Telling
 pub mod Counting
 pub mod Leading
+pub mod InTurn
+pub mod Rooms

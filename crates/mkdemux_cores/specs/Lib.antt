@@ -4,3 +4,5 @@ pub mod Turns
 pub mod Asking
 pub mod Receipts
 pub mod Booting
+pub mod Listing
+pub mod Bursts

@@ -32,3 +32,6 @@ pub const OPEN: u32 = 9;
 
 /// The number is none of a set of rights. Nothing has changed.
 pub const BAD_RIGHTS: u32 = 10;
+
+/// No filter of this id is listed. Nothing has changed.
+pub const NO_FILTER: u32 = 11;

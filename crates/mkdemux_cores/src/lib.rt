@@ -7,6 +7,8 @@
 mod answers;
 mod asking;
 mod booting;
+mod bursts;
+mod listing;
 mod looking;
 mod receiving;
 mod turned;

@@ -41,7 +41,7 @@ pub extern "C" fn mkdemux_unanswered(alloc: Global, core: &mut CoreHandle) -> u6
 
 /// Closes a core, which gives its memory back. A closed core stays closed.
 #[unsafe(no_mangle)]
-pub extern "C" fn mkdemux_close(alloc: Global, core: &mut CoreHandle)
+pub extern "C" fn mkdemux_close_core(alloc: Global, core: &mut CoreHandle)
     ensures { core.new.core ≡ None }
 {
     drop(core.take(alloc));
