@@ -47,6 +47,62 @@ finds_library() {
         ${CC:-cc} -o "$made/program" "$made/program.c" $words && "$made/program"
 }
 
+# LIBRARIES: a C program that uses both libraries builds by the CMake package with these targets, and runs.
+finds_package() {
+    rm -rf "$made/cmake" && mkdir -p "$made/cmake" && cat > "$made/cmake/CMakeLists.txt" <<CMAKE && both > "$made/cmake/program.c" &&
+cmake_minimum_required(VERSION 3.13)
+project(program C)
+find_package(mkdemux 0.1 REQUIRED)
+add_executable(program program.c)
+target_link_libraries(program $1)
+CMAKE
+        cmake -S "$made/cmake" -B "$made/cmake/out" -DCMAKE_PREFIX_PATH="$made/prefix" && cmake --build "$made/cmake/out" && "$made/cmake/out/program"
+}
+
+# A program that uses both libraries.
+both() {
+    cat <<'C'
+#include <mkdemux.h>
+#include <mkdemux_cores.h>
+#include <stdio.h>
+int main(void)
+{
+    static const struct mkdemux_insn all[] = {{6, 0, 0, 4}};
+    static const uint32_t budgets[1] = {16};
+    mkdemux_core core = {NULL};
+    const mkdemux_program *program = mkdemux_open(all, 1, NULL, NULL);
+    if (!program || mkdemux_filter(program, NULL, 0, 0) != 4 || mkdemux_boot(budgets, 1, &core)) return 1;
+    mkdemux_close(program);
+    mkdemux_close(&core);
+    return puts(mkdemux_library_version()) < 0;
+}
+C
+}
+
+# The shared library has its name, the calls of both headers, each as a function, and no other name; and a program that it is linked to runs.
+has_shared() {
+    shared=$made/prefix/lib/libmkdemux.so
+    readelf -d "$shared" | grep -q 'SONAME.*\[libmkdemux\.so\.0\]' && nm -D --defined-only "$shared" | awk '{ print $3 }' > "$made/names" || return 1
+    ! grep -v '^mkdemux_' "$made/names" || return 1
+    for header in mkdemux mkdemux_cores; do
+        ${CC:-cc} -E -P -DMKDEMUX_CALL= "$made/prefix/include/$header.h" | tr '\n' ' ' | grep -o '\bmkdemux_[a-z_]*(' | tr -d '(' | sort -u
+    done > "$made/calls"
+    while read -r call; do
+        grep -qx "$call" "$made/names" || { echo "there is no $call"; return 1; }
+    done < "$made/calls"
+    words=$(PKG_CONFIG_PATH=$made/prefix/lib/pkgconfig pkg-config --cflags --libs mkdemux-shared) && both > "$made/program.c" &&
+        ${CC:-cc} -o "$made/program" "$made/program.c" $words &&
+        [ "$(LD_LIBRARY_PATH=$made/prefix/lib "$made/program")" = "$(PKG_CONFIG_PATH=$made/prefix/lib/pkgconfig pkg-config --modversion mkdemux)" ]
+}
+
+# The program for python3 on the page of the C libraries prints what the page says.
+speaks_python() {
+    page=$made/prefix/share/doc/mkdemux/docs/c-library.md
+    sed -n '/^```python$/,/^```$/p' "$page" | sed '1d;$d' > "$made/program.py"
+    sed -n '/^```python$/,$p' "$page" | sed -n '/^```text$/,/^```$/p' | sed '1d;/^```$/,$d' > "$made/wanted"
+    [ -s "$made/program.py" ] && LD_LIBRARY_PATH=$made/prefix/lib python3 "$made/program.py" > "$made/shown" && cmp "$made/shown" "$made/wanted"
+}
+
 # A link to a link to ./mkdemux, from another folder, by a relative path.
 runs_by_link() {
     mkdir -p "$made/one/two" && ln -s "$top/mkdemux" "$made/one/link" && ln -s ../link "$made/one/two/mkdemux" &&
@@ -105,6 +161,22 @@ for library in mkdemux mkdemux_cores; do
         echo "skipped: $library by pkg-config: no C compiler, or no pkg-config"
     fi
 done
+if [ ! -f "$made/prefix/lib/libmkdemux.so" ]; then
+    echo "skipped: libmkdemux.so: it wasn't made"
+else
+    if command -v readelf > /dev/null && command -v nm > /dev/null && command -v pkg-config > /dev/null; then
+        try "libmkdemux.so" has_shared
+    else
+        echo "skipped: libmkdemux.so: no readelf, nm or pkg-config"
+    fi
+    try "libmkdemux.so from python3" speaks_python
+    if command -v cmake > /dev/null; then
+        try "the CMake package" finds_package "mkdemux::mkdemux mkdemux::cores"
+        try "the CMake package, libmkdemux.so" finds_package mkdemux::shared
+    else
+        echo "skipped: the CMake package: cmake isn't there"
+    fi
+fi
 if [ "$("$top/dist/digest.sh")" = "$(cat "$top/dist/sources")" ] || [ -x "$top/crates/mkdemux/out/stamped/mkdemux" ]; then
     try "./mkdemux by links" runs_by_link
 else

@@ -1,7 +1,8 @@
 #!/bin/sh
 # Installs what dist/ has under a prefix: the program, the manual page, the completions for bash, zsh and fish, the C libraries with
-# their headers and pkg-config files where dist/ has them, and the pages of docs/ and the files of examples/ that they name. It builds
-# nothing, and needs no kit.
+# their headers, pkg-config files and CMake package where dist/ has them, and the pages of docs/ and the files of examples/ that they
+# name. Of both C libraries it makes libmkdemux.so, where there is a C compiler (CC, by default cc). It builds nothing else, and needs
+# no kit.
 #
 #   dist/install.sh [PREFIX]               PREFIX is ~/.local, if none is given
 #   dist/install.sh --uninstall [PREFIX]   removes the files that it would install there, and the folders that are empty then
@@ -105,12 +106,58 @@ $list
 LIST
 }
 
+# Makes one shared library of both archives, and the words for pkg-config to link it. It has the calls of both headers as functions, and
+# no other name.
+make_shared() {
+    work=$(mktemp -d) || exit 1
+    trap 'rm -rf "$work"' EXIT
+    echo '{ global: mkdemux_*; local: *; };' > "$work/names"
+    ${CC:-cc} -O2 -fPIC -shared -Iinclude -o "$work/libmkdemux.so.0" ../c/shared.c -Wl,--whole-archive lib/libmkdemux.a \
+        lib/libmkdemux_cores.a -Wl,--no-whole-archive -Wl,-soname,libmkdemux.so.0 "-Wl,--version-script=$work/names" -Wl,-z,defs ||
+        refuse "the C compiler makes no shared library of lib/libmkdemux.a and lib/libmkdemux_cores.a"
+    version=$(sed -n 's/^#define MKDEMUX_VERSION "\(.*\)"$/\1/p' include/mkdemux.h)
+    cat > "$work/mkdemux-shared.pc" <<PC
+prefix=\${pcfiledir}/../..
+Name: mkdemux-shared
+Description: both C libraries of mkdemux as one shared library
+Version: $version
+Libs: -L\${prefix}/lib -lmkdemux
+Cflags: -I\${prefix}/include
+PC
+}
+
+# The shared library, its name for a linker, and its words for pkg-config.
+share() {
+    if [ $act = put ]; then
+        if [ ! -f lib/libmkdemux.a ] || [ ! -f lib/libmkdemux_cores.a ]; then
+            return
+        fi
+        command -v "${CC:-cc}" > /dev/null || {
+            say "there is no C compiler, so no libmkdemux.so is made"
+            return
+        }
+        make_shared
+    fi
+    $act 755 "${work-}/libmkdemux.so.0" lib/libmkdemux.so.0
+    $act 644 "${work-}/mkdemux-shared.pc" lib/pkgconfig/mkdemux-shared.pc
+    link=$root$prefix/lib/libmkdemux.so
+    if [ $act = put ]; then
+        ln -sfn libmkdemux.so.0 "$link" || refuse "can't write $link"
+        say "$link"
+    elif [ -h "$link" ]; then
+        rm "$link" || refuse "can't remove $link"
+        say "removed $link"
+        (cd "$root$prefix" && rmdir -p lib 2> /dev/null) || true
+    fi
+}
+
 [ $act = take ] || find_program
 $act 755 "${program-}" bin/mkdemux
 each_of share '*mkdemux*'
 each_of include '*.h'
 each_of lib '*.a'
 each_of lib '*.pc'
+share
 each_of ../docs '*.md' share/doc/mkdemux/docs
 each_of ../examples '*' share/doc/mkdemux/examples
 [ $act = put ] || exit 0

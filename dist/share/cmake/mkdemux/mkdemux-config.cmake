@@ -1,0 +1,26 @@
+# find_package(mkdemux) has these targets, each where its library is: mkdemux::mkdemux (the verifier and the machine) and mkdemux::cores
+# (cores that share a table) are archives; mkdemux::shared is both as libmkdemux.so, which dist/install.sh makes.
+get_filename_component(_mkdemux_prefix "${CMAKE_CURRENT_LIST_DIR}/../../.." ABSOLUTE)
+foreach(_mkdemux_name mkdemux cores shared)
+  set(_mkdemux_kind STATIC)
+  set(_mkdemux_file "${_mkdemux_prefix}/lib/libmkdemux.a")
+  if(_mkdemux_name STREQUAL "cores")
+    set(_mkdemux_file "${_mkdemux_prefix}/lib/libmkdemux_cores.a")
+  elseif(_mkdemux_name STREQUAL "shared")
+    set(_mkdemux_kind SHARED)
+    set(_mkdemux_file "${_mkdemux_prefix}/lib/libmkdemux.so.0")
+  endif()
+  if(EXISTS "${_mkdemux_file}" AND NOT TARGET mkdemux::${_mkdemux_name})
+    add_library(mkdemux::${_mkdemux_name} ${_mkdemux_kind} IMPORTED)
+    set_target_properties(mkdemux::${_mkdemux_name} PROPERTIES
+      IMPORTED_LOCATION "${_mkdemux_file}"
+      INTERFACE_INCLUDE_DIRECTORIES "${_mkdemux_prefix}/include")
+  endif()
+endforeach()
+if(TARGET mkdemux::shared)
+  set_target_properties(mkdemux::shared PROPERTIES IMPORTED_SONAME "libmkdemux.so.0")
+endif()
+if(NOT TARGET mkdemux::mkdemux AND NOT TARGET mkdemux::cores)
+  set(mkdemux_FOUND FALSE)
+  set(mkdemux_NOT_FOUND_MESSAGE "there is no library of mkdemux in ${_mkdemux_prefix}/lib")
+endif()
