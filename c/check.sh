@@ -4,7 +4,7 @@
 # Usage: c/check.sh                    proves and builds the libraries first where they aren't built from these sources (./libmkdemux)
 #        c/check.sh --built [FOLDER]   takes the libraries of a folder, by default dist/, and proves nothing
 # It needs a C compiler (CC, by default cc); libpcap's header and library for most programs; a C++ compiler (CXX), pkg-config,
-# valgrind, the compiler's sanitizers and `unshare` are used where they are there.
+# valgrind, the compiler's sanitizers, `unshare`, python3, objdump and lwIP are used where they are there.
 unset CDPATH
 from=$PWD
 cd "$(dirname "$0")" || exit 2
@@ -79,29 +79,39 @@ block() {
 
 # ---- The headers ----
 
-# LANGUAGE COMPILER WORDS HEADER..: headers in this order, each twice, and what they have together.
+# AHEAD LANGUAGE COMPILER WORDS HEADER..: headers in this order, each twice, and what they have together; pcap.h is included ahead of them
+# (1) or behind them (0), where it is there.
 accepts() {
-    language=$1
-    compiler=$2
-    words=$3
-    shift 3
+    ahead=$1
+    language=$2
+    compiler=$3
+    words=$4
+    shift 4
     {
+        [ -z "$pcap" ] || [ "$ahead" -eq 0 ] || echo '#include <pcap.h>'
         for header; do
             echo "#include <$header.h>"
         done
         for header; do
             echo "#include <$header.h>"
         done
-        [ -z "$pcap" ] || printf '#include <pcap.h>\n#include <%s.h>\n' "$1"
+        [ -z "$pcap" ] || echo '#include <pcap.h>'
         echo 'int main(void)'
         echo '{'
-        case $* in *mkdemux) echo '    mkdemux_close(mkdemux_open(NULL, 0, NULL, NULL));' ;; esac
-        case $* in *cores*)
-            echo '    mkdemux_core core = {NULL};'
-            echo '    mkdemux_close(&core);'
-            echo '    if (mkdemux_boot(NULL, 0, &core) != MKDEMUX_CORE_NOT_CORES) return 1;'
-            ;;
-        esac
+        echo '    if (mkdemux_library_version()[0] != MKDEMUX_VERSION[0] || mkdemux_rule_name(1)[0] != 69) return 1;'
+        for header; do
+            case $header in
+            mkdemux)
+                echo '    mkdemux_close(mkdemux_open(NULL, 0, NULL, NULL));'
+                echo '    if (mkdemux_offline_filter(NULL, NULL, NULL)) return 1;'
+                ;;
+            mkdemux_cores)
+                echo '    mkdemux_core core = {NULL};'
+                echo '    mkdemux_close(&core);'
+                echo '    if (mkdemux_boot(NULL, 0, &core) != MKDEMUX_CORE_NOT_CORES) return 1;'
+                ;;
+            esac
+        done
         echo '    return 0;'
         echo '}'
     } > "$made/header.$language"
@@ -115,9 +125,11 @@ accepts() {
 
 # HEADER..: in C and C++.
 accepts_both() {
-    try "$* in C99" accepts c "$cc" -std=c99 "$@"
+    try "$* in C99" accepts 0 c "$cc" -std=c99 "$@"
+    [ -z "$pcap" ] || try "pcap, $* in C99" accepts 1 c "$cc" -std=c99 "$@"
     if command -v "$cxx" > /dev/null; then
-        try "$* in C++" accepts cpp "$cxx" -std=c++98 "$@"
+        try "$* in C++" accepts 0 cpp "$cxx" -std=c++98 "$@"
+        [ -z "$pcap" ] || try "pcap, $* in C++" accepts 1 cpp "$cxx" -std=c++98 "$@"
     else
         echo "skipped: $* in C++: no C++ compiler"
     fi
@@ -209,7 +221,7 @@ try_mkdemux() {
 # The page's program of cores prints what the page says.
 shows_cores() {
     block ../docs/c-library.md 2 > "$made/cores.c" && $cc $strict "$headers" -o "$made/cores" "$made/cores.c" "$folder/lib/libmkdemux_cores.a" &&
-        sed -n '/^```text$/,/^```$/p' ../docs/c-library.md | sed '1d;$d' > "$made/wanted" && "$made/cores" > "$made/shown" &&
+        sed -n '/^```text$/,/^```$/p' ../docs/c-library.md | sed '1d;/^```$/,$d' > "$made/wanted" && "$made/cores" > "$made/shown" &&
         cmp "$made/shown" "$made/wanted"
 }
 
@@ -315,6 +327,26 @@ try_model() {
     [ -z "$watch" ] || try "core_model under valgrind" $watch "$made/core_model" 2
 }
 
+# What stack each call takes, by the code of the archives.
+try_stack() {
+    if command -v python3 > /dev/null && command -v objdump > /dev/null; then
+        try "the stack of each call" ./stack.py "$folder"
+    else
+        echo "skipped: the stack of each call: no python3, or no objdump"
+    fi
+}
+
+# lwIP behind two cores, in a network namespace.
+try_lwip() {
+    ../examples/stack/check.sh "$folder" > "$made/echo" 2>&1
+    status=$?
+    if [ $status -eq 77 ]; then
+        echo "skipped: lwIP behind two cores: $(tail -n 1 "$made/echo")"
+    else
+        try "lwIP behind two cores" sh -c 'cat "$1"; exit "$2"' sh "$made/echo" $status
+    fi
+}
+
 # ---- What is there ----
 
 case ${1-} in
@@ -357,5 +389,7 @@ if has mkdemux && has mkdemux_cores; then
     accepts_both mkdemux mkdemux_cores
     accepts_both mkdemux_cores mkdemux
     try_model
+    try_stack
+    try_lwip
 fi
 end
