@@ -1,5 +1,5 @@
 -- Packets of a burst, one after another.
-use Rattle.std.proofs.Common.{◌≡◌, ◌<◌, ◌≤◌, ◌+◌, ◌-◌, ℕ, Some, List, [], ◌∷◌, ◌++◌, length, take, drop, set, sum, get_or, refl, sym, ap, ◌∙◌, subst, arith, length-drop}
+use Rattle.std.proofs.Common.{◌≡◌, ◌<◌, ◌≤◌, ◌+◌, ◌-◌, ℕ, List, [], ◌∷◌, ◌++◌, length, take, drop, set, sum, get_or, refl, sym, ap, ◌∙◌, subst, arith, length-drop}
 use borrow.Rule.Slice.PartMut.{put_mid}
 use Rattle.std.proofs.lemmas.List.{length-take-le, take-append-drop, take_more, take_more_set}
 use Rattle.filter_table.specs.declared.delivery.Kept.{Kept}
@@ -10,7 +10,7 @@ use Rattle.core_loop.specs.Receiving.{HasReceived, IsRefused, version_now}
 use Rattle.core_join.specs.Machines.{RingCore}
 use Rattle.mkdemux_cores.specs.declared.bursts.Packet.{Packet}
 use Rattle.mkdemux_cores.specs.declared.answers.TheConstants.{DONE}
-use Rattle.mkdemux_cores.specs.Receipts.{IsNotReceived, needed, why_number}
+use Rattle.mkdemux_cores.specs.Receipts.{needed, why_number}
 use Rattle.mkdemux_cores.specs.Bursts.{Receives, IsBurst}
 use Rattle.mkdemux_cores.specs.Bursts.Receives.{none, more}
 use Rattle.mkdemux_cores.proofs.Rooms.{end_of, end_is, put_end, front_more, rest_more, counts_more, sum_more}

@@ -1,5 +1,5 @@
 -- The rows that a caller's room takes of a table.
-use Rattle.std.specs.Prelude.{◌≡◌, ◌++◌, ℕ, Bool, leb, Option, None, Some, List, filter, map, length, take, drop}
+use Rattle.std.specs.Prelude.{◌≡◌, ◌++◌, ℕ, leb, Option, None, Some, List, filter, map, length, take, drop}
 use Rattle.bpf_insn.specs.declared.insn.Insn.{Insn}
 use Rattle.endpoint_caps.specs.declared.Cap.{Cap}
 use Rattle.endpoint_caps.specs.declared.Rights.{Rights}

@@ -1,10 +1,10 @@
-use Rattle.std.proofs.Common.{◌∷◌, None, drop, leb, slice_index_or, arith}
+use Rattle.std.proofs.Common.{None, drop, leb, slice_index_or, arith}
 use Rattle.std.proofs.lemmas.Bool.{le-leb}
 use Rattle.std.proofs.lemmas.Bool.Decides.{nat_tests}
 use Rattle.std.proofs.lemmas.List.{drop_more}
 use Rattle.endpoint_caps.specs.declared.Cap.{Cap}
 use Rattle.endpoint_caps.specs.declared.Rights.TheVariants.{R}
-use Rattle.table_listing.specs.Rows.{cap_row, cap_rows}
+use Rattle.table_listing.specs.Rows.{cap_row}
 use Rattle.table_listing.proofs.Laying.{lays_kept, lays_left_out}
 use Rattle.table_listing.proofs.caps.list_caps.Goals.{then-cap-from+else-count-room, else-cap-from}
 use Rattle.table_listing.proofs.caps.list_caps.Goals as goal
