@@ -222,8 +222,11 @@ def page_of(top, helps, version):
 
 
 def flags_of(help):
-    """Each flag, alone, with what is said of it."""
-    return [(flag, said) for term, said in joined(help.options) for flag in term.split(", ")]
+    """Each flag, alone, with the name of its value, if it takes one, and what is said of it."""
+    for term, said in joined(help.options):
+        flags, _, value = term.partition(" <")
+        for flag in flags.split(", "):
+            yield flag, value.rstrip(">"), said
 
 
 def takes_files(help):
@@ -231,7 +234,7 @@ def takes_files(help):
 
 
 def bash_of(top, helps):
-    arms = [f"    {name}) words='{' '.join(flag for flag, _ in flags_of(help))}' ;;" for name, help in helps.items()]
+    arms = [f"    {name}) words='{' '.join(flag for flag, *_ in flags_of(help))}' ;;" for name, help in helps.items()]
     names = " ".join(term for term, _ in joined(top.commands))
     files = "|".join(name for name, help in helps.items() if takes_files(help))
     return f"""# bash completion for mkdemux. {MADE}
@@ -242,7 +245,7 @@ _mkdemux() {{
         [[ $word = -* ]] || {{ command=$word; break; }}
     done
     case $command in
-    '') words='{names} {' '.join(flag for flag, _ in flags_of(top))}' ;;
+    '') words='{names} {' '.join(flag for flag, *_ in flags_of(top))}' ;;
     help) words='{' '.join(helps)}' ;;
 {chr(10).join(arms)}
     esac
@@ -265,14 +268,14 @@ def zsh_of(top, helps):
     commands = "\n".join(f"    '{term}:{zsh_text(said)}'" for term, said in joined(top.commands))
     arms = []
     for name, help in helps.items():
-        words = [f"'{flag}[{zsh_text(said)}]'" for flag, said in flags_of(help)]
+        words = [f"'{flag}[{zsh_text(said)}]{f':{value}: ' if value else ''}'" for flag, value, said in flags_of(help)]
         first = joined(help.arguments)[0][0] if help.arguments else ""
         if first.startswith("<"):
             words.append(f"'1:{first.strip('<>')}: '")
         if takes_files(help):
             words.append("'*:FILE:_files'")
         arms.append(f"        {name}) _arguments {(' ' + chr(92) + chr(10) + '            ').join(words)} ;;")
-    top_flags = [f"'(- *){flag}[{zsh_text(said)}]'" for flag, said in flags_of(top)]
+    top_flags = [f"'(- *){flag}[{zsh_text(said)}]'" for flag, _, said in flags_of(top)]
     return f"""#compdef mkdemux
 # zsh completion for mkdemux. {MADE}
 _mkdemux() {{
@@ -312,7 +315,9 @@ def fish_of(top, helps):
     for name, help in [("", top), *helps.items()]:
         where = f"'__fish_seen_subcommand_from {name}'" if name else "__fish_use_subcommand"
         for term, said in joined(help.options):
-            flags = " ".join(("-l " + flag[2:]) if flag.startswith("--") else ("-s " + flag[1:]) for flag in term.split(", "))
+            words, _, value = term.partition(" <")
+            flags = " ".join(("-l " + flag[2:]) if flag.startswith("--") else ("-s " + flag[1:]) for flag in words.split(", "))
+            flags += " -x" if value else ""
             lines.append(f"complete -c mkdemux -n {where} {flags} -d '{fish_text(said)}'")
         if takes_files(help):
             lines.append(f"complete -c mkdemux -n {where} -F")
