@@ -68,12 +68,12 @@ COMMANDS = [
     Part("`check`", ["console::run_check"], 550),
     Part("`check --graph`", ["graph_engine::run_graph"], 710),
     Part("`dump`", ["console::run_dump"], 510),
-    Part("`keep`", ["keep_engine::run_keep"], 790),
+    Part("`keep`", ["keep_engine::run_keep"], 800),
     Part("`sim`", ["sim_engine::run_sim"], 2710),
     Part("`run`", ["run_engine::run_run"], 3340),
     Part("`draw`", ["draw_engine::run_draw"], 460),
-    Part("the words of the command line", ["command_line::request_of"], 140),
-    Part("all of them", ["commands::perform"], 3930),
+    Part("the words of the command line", ["command_line::request_of"], 150),
+    Part("all of them", ["commands::perform"], 3940),
 ]
 # The most lines for each row of README's table, by the first of its crates.
 ROWS = {
@@ -110,14 +110,14 @@ ROWS = {
     "core_handle": 2000,
     "line_words": 1380,
     "sim_lines": 240,
-    "console": 920,
+    "console": 930,
     "script_input": 90,
     "sim_engine": 3650,
     "trace_text": 2870,
     "trace_lines": 460,
     "graph_engine": 710,
-    "keep_engine": 790,
-    "command_line": 3930,
+    "keep_engine": 800,
+    "command_line": 3940,
 }
 # The roots that were counted by reading, with the definitions and the lines that were found.
 BY_HAND = {
