@@ -61,9 +61,9 @@ CALLS = [
     ], 2040),
 ]
 COMMANDS = [
-    Part("`match`", ["console::run_match"], 920),
-    Part("`match --stream`", ["console::run_stream"], 860),
-    Part("`match --number`, `--count`, `--quiet`", ["console::run_view"], 960),
+    Part("`match`", ["console::run_match"], 930),
+    Part("`match --stream`", ["console::run_stream"], 870),
+    Part("`match --number`, `--count`, `--quiet`", ["console::run_view"], 970),
     Part("`match --explain`", ["graph_engine::run_explain"], 540),
     Part("`check`", ["console::run_check"], 550),
     Part("`check --graph`", ["graph_engine::run_graph"], 710),
