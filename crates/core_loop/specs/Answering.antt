@@ -1,6 +1,7 @@
 -- The decisions on a core's own requests, as its history has them.
-use Rattle.std.specs.Prelude.{◌≡◌, ◌+◌, ◌++◌, ℕ, Bool, true, false, Option, Some, None, List, [], ◌∷◌, length}
+use Rattle.std.specs.Prelude.{◌≡◌, ◌+◌, ◌-◌, ◌^◌, ◌++◌, ℕ, Bool, true, false, Option, Some, None, List, [], ◌∷◌, length, min}
 use Rattle.filter_table.specs.declared.decision.Decision.{Decision}
+use Rattle.filter_table.specs.declared.operation.Op.{Op}
 use Rattle.monitor_2pc.specs.Coordinators.{Phase, Voting}
 use Rattle.world_events.specs.declared.event.Event.{Event}
 use Rattle.world_events.specs.declared.event.Event.TheVariants.{Start, StartFor}
@@ -50,3 +51,7 @@ under_way (part.Other core) = count_if core.participant.outstanding
 -- Each request that a core has begun has its decision, but for one that may be under way. So the n-th decision is that on the n-th request.
 abbrev pub AreDecided : Part → List Stamped → Type 0
 AreDecided x history = length (begun history) ≡ length (decisions history) + under_way x
+
+-- so many requests were given to a core with this history that has these left; no count is above 2^64 - 1
+abbrev pub IsGivenCount : ℕ → List Stamped → List Op → Type 0
+IsGivenCount count history pending = count ≡ min (length (begun history ++ pending)) (2 ^ 64 - 1)

@@ -29,7 +29,7 @@ pub enum NotReceived {
 impl<L: Links> Core<L> {
     ghost use Rattle.std.specs.Prelude.{◌≡◌, ◌≤◌, ◌+◌, ◌++◌, ◌∷◌, [], ℕ, length, take, drop, IfOk, IfErr, OnOk, OnErr};
     ghost use Rattle.core_loop.specs.Cores.{AreShort, begun};
-    ghost use Rattle.core_loop.specs.Answering.{AreDecided, decisions, under_way};
+    ghost use Rattle.core_loop.specs.Answering.{AreDecided, IsGivenCount, decisions, under_way};
     ghost use Rattle.core_loop.specs.Receiving.{HasReceived, IsRefused};
 
     /// One request more, which the core begins after those that it has. Of a core other than 0 a program has at most 4,096
@@ -40,9 +40,19 @@ impl<L: Links> Core<L> {
         ensures err { OnErr result (self.new ≡ self.old) }
     {
         match self.requests.push_back(op) {
-            Ok(()) => Ok(()),
+            Ok(()) => {
+                self.given = self.given.saturating_add(1);
+                Ok(())
+            }
             Err(_) => Err(AllocError),
         }
+    }
+
+    /// How many requests the core was given in all; no count is above 2^64 - 1.
+    pub fn given(&self) -> u64
+        ensures { IsGivenCount result self.now.history self.now.pending }
+    {
+        self.given
     }
 
     /// How many of its requests the core has begun that have no decision: one or none.

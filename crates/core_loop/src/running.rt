@@ -29,6 +29,8 @@ pub struct Core<L: Links> {
     pub(crate) part: Part,
     pub(crate) clock: u64,
     pub(crate) requests: VecDeque<Op>,
+    // How many requests it was given, no count above 2^64 - 1.
+    pub(crate) given: u64,
     pub(crate) intake: Intake,
     pub(crate) history: Log<Stamped>,
     // The core whose request core 0 began last.
@@ -49,6 +51,7 @@ impl<L: Links> Drop for Core<L> {
             part: _,
             clock: _,
             requests: _,
+            given: _,
             intake: _,
             history: _,
             begun_last: _,
@@ -64,12 +67,13 @@ impl<L: Links> Model for Core<L> {
     ghost use Rattle.core_loop.specs.Keeping.{IsStanding};
     ghost use Rattle.core_loop.specs.InTurn.{last_begun};
     ghost use Rattle.core_loop.specs.Turning.{HasStopped};
+    ghost use Rattle.core_loop.specs.Answering.{IsGivenCount};
 
     ghost Value = { CoreState L };
 
     ghost view = { λ c. record { number = c.number; cores = c.cores; links = c.links; part = c.part; clock = c.clock; pending = c.requests.items; intake = c.intake; history = c.history.items; stopped = c.stopped } };
 
-    ghost invariant = { λ c. (c.number < c.cores) × (c.cores ≤ 8) × IsStanding c.part c.number c.cores c.clock c.history.items (L.view c.links) × AreShort c.number c.requests.items × (c.begun_last ≡ last_begun c.history.items) × HasStopped c.cores c.clock c.part (L.view c.links) c.stopped };
+    ghost invariant = { λ c. (c.number < c.cores) × (c.cores ≤ 8) × IsStanding c.part c.number c.cores c.clock c.history.items (L.view c.links) × AreShort c.number c.requests.items × (c.begun_last ≡ last_begun c.history.items) × HasStopped c.cores c.clock c.part (L.view c.links) c.stopped × IsGivenCount c.given c.history.items c.requests.items };
 }
 
 impl<L: Links> Core<L> {
@@ -115,6 +119,7 @@ impl<L: Links> Core<L> {
         ensures requests { IfOk result (λ core. core.pending ≡ requests.items) }
     {
         let part = Part::new(alloc, budget, number, cores)?;
+        let given = requests.len() as u64;
         Ok(Core {
             alloc,
             number,
@@ -123,6 +128,7 @@ impl<L: Links> Core<L> {
             part,
             clock: 0,
             requests,
+            given,
             intake,
             history: Log::new(),
             begun_last: 0,

@@ -1,7 +1,8 @@
-use Rattle.std.proofs.Common.{sym, ap, subst, List}
+use Rattle.std.proofs.Common.{sym, ap, subst, arith, List}
 use Rattle.world_histories.specs.declared.history.Stamped.{Stamped}
 use Rattle.core_loop.specs.Keeping.{IsStanding}
 use Rattle.core_loop.specs.InTurn.{last_begun}
+use Rattle.core_loop.specs.Answering.{IsGivenCount}
 use Rattle.core_loop.proofs.running.Core.new.Goals as goal
 
 pub invariant_of-result : goal.invariant_of-result
@@ -12,4 +13,5 @@ invariant_of-result g c = (
   c.requires.short,
   ap last_begun (sym c.new-2.ensures),
   tt,
+  subst (λ (h : List Stamped). IsGivenCount c.len-given.result h c.args.requests.items) (sym c.new-2.ensures) (omega (arith, c.len-given.ensures, c.len-given.type_inv)),
 )

@@ -1,10 +1,12 @@
-use Rattle.std.proofs.Common.{List, take, sym, ap, ◌∙◌, subst, arith}
+use Rattle.std.proofs.Common.{◌-◌, ◌^◌, List, length, min, take, refl, sym, ap, ◌∙◌, subst, arith}
+use Rattle.filter_table.specs.declared.operation.Op.{Op}
 use Rattle.world_histories.specs.declared.history.Stamped.{Stamped}
 use Rattle.table_replica.specs.Shown.{ReplicaState}
 use Rattle.filter_table.specs.Tables.{Accepting}
 use Rattle.core_loop.specs.Keeping.{IsStanding}
 use Rattle.core_loop.proofs.Receipting.{receipt_stands}
 use Rattle.core_loop.proofs.InTurn.{begun_more}
+use Rattle.core_loop.proofs.Resting.{begun_more as requests_more}
 use Rattle.core_loop.proofs.Stopped.{not_stopped}
 use Rattle.core_loop.proofs.running.Core.receive.Goals as goal
 
@@ -25,4 +27,6 @@ invariant_of-self-2 g c =
       v.3,
       begun_more i.begun_last i.history.items c.noted_receipt-self-inside.result.items _ v.4 c.noted_receipt-self-inside.ensures,
       not_stopped i.cores stamp i.part (view i.links) i.stopped c.in_default.is,
+      v.6 ∙ ap (λ (ops : List Op). min (length ops) (2 ^ 64 - 1))
+          (sym (requests_more i.history.items c.noted_receipt-self-inside.result.items _ i.requests.items i.requests.items c.noted_receipt-self-inside.ensures refl)),
     )

@@ -1,4 +1,5 @@
-use Rattle.std.proofs.Common.{◌≡◌, ◌∙◌, ◌++◌, ℕ, List, refl, sym, ap, subst}
+use Rattle.std.proofs.Common.{◌≡◌, ◌∙◌, ◌++◌, ◌-◌, ◌^◌, ℕ, List, length, min, refl, sym, ap, subst}
+use Rattle.filter_table.specs.declared.operation.Op.{Op}
 use Rattle.core_links.specs.Flows.{FlowsOn}
 use Rattle.world_histories.specs.declared.history.Stamped.{Stamped}
 use Rattle.core_loop.specs.declared.part.Part.{Part}
@@ -31,7 +32,7 @@ invariant_of-self g c =
     let view = g.L.Links.view in
     let same = rw c.in-Ok-None.field-0-is at c.in-Ok-None.ensures.same in
     let quiet = rw c.in-Ok-None.field-0-is at c.in-Ok-None.ensures.quiet in
-    (v.0, v.1, rest_stands i.part c.next_event.new.part i.number i.cores i.clock i.history.items i.history.items (view i.links) (view c.next_event.new.links) v.2 same.0 refl quiet, rw same.1 v.3, v.4, not_stopped i.cores i.clock c.next_event.new.part (view c.next_event.new.links) i.stopped c.in_default.is)
+    (v.0, v.1, rest_stands i.part c.next_event.new.part i.number i.cores i.clock i.history.items i.history.items (view i.links) (view c.next_event.new.links) v.2 same.0 refl quiet, rw same.1 v.3, v.4, not_stopped i.cores i.clock c.next_event.new.part (view c.next_event.new.links) i.stopped c.in_default.is, rw same.1 v.6)
 
 pub invariant_of-self-in-Err-Spent : goal.invariant_of-self-in-Err-Spent
 invariant_of-self-in-Err-Spent g c =
@@ -39,7 +40,7 @@ invariant_of-self-in-Err-Spent g c =
     let v = c.self.invariant in
     let view = g.L.Links.view in
     let h = c.in-Err-Spent.ensures in
-    (v.0, v.1, rest_stands i.part c.next_event.new.part i.number i.cores i.clock i.history.items i.history.items (view i.links) (view c.next_event.new.links) v.2 h.same.0 refl h.quiet, rw h.same.1 v.3, v.4, not_stopped i.cores i.clock c.next_event.new.part (view c.next_event.new.links) i.stopped c.in_default.is)
+    (v.0, v.1, rest_stands i.part c.next_event.new.part i.number i.cores i.clock i.history.items i.history.items (view i.links) (view c.next_event.new.links) v.2 h.same.0 refl h.quiet, rw h.same.1 v.3, v.4, not_stopped i.cores i.clock c.next_event.new.part (view c.next_event.new.links) i.stopped c.in_default.is, rw h.same.1 v.6)
 
 pub invariant_of-self-in-Err-NoMemory : goal.invariant_of-self-in-Err-NoMemory
 invariant_of-self-in-Err-NoMemory g c =
@@ -47,7 +48,7 @@ invariant_of-self-in-Err-NoMemory g c =
     let v = c.self.invariant in
     let view = g.L.Links.view in
     let h = c.in-Err-NoMemory.ensures in
-    (v.0, v.1, rest_stands i.part c.next_event.new.part i.number i.cores i.clock i.history.items i.history.items (view i.links) (view c.next_event.new.links) v.2 h.same.0 refl h.quiet, rw h.same.1 v.3, v.4, not_stopped i.cores i.clock c.next_event.new.part (view c.next_event.new.links) i.stopped c.in_default.is)
+    (v.0, v.1, rest_stands i.part c.next_event.new.part i.number i.cores i.clock i.history.items i.history.items (view i.links) (view c.next_event.new.links) v.2 h.same.0 refl h.quiet, rw h.same.1 v.3, v.4, not_stopped i.cores i.clock c.next_event.new.part (view c.next_event.new.links) i.stopped c.in_default.is, rw h.same.1 v.6)
 
 pub invariant_of-self-in-Err-Stopped : goal.invariant_of-self-in-Err-Stopped
 invariant_of-self-in-Err-Stopped g c =
@@ -55,7 +56,7 @@ invariant_of-self-in-Err-Stopped g c =
     let v = c.self.invariant in
     let view = g.L.Links.view in
     let h = c.in-Err-Stopped.ensures in
-    (v.0, v.1, rest_stands i.part c.next_event.new.part i.number i.cores i.clock i.history.items i.history.items (view i.links) (view c.next_event.new.links) v.2 h.same.0 refl h.quiet, rw h.same.1 v.3, v.4, stopped_now i.cores i.clock i.part c.next_event.new.part (view c.next_event.new.links) c.in-Err-Stopped.cause h.same.0 (rw c.in-Err-Stopped.field-0-is at h.why))
+    (v.0, v.1, rest_stands i.part c.next_event.new.part i.number i.cores i.clock i.history.items i.history.items (view i.links) (view c.next_event.new.links) v.2 h.same.0 refl h.quiet, rw h.same.1 v.3, v.4, stopped_now i.cores i.clock i.part c.next_event.new.part (view c.next_event.new.links) c.in-Err-Stopped.cause h.same.0 (rw c.in-Err-Stopped.field-0-is at h.why), rw h.same.1 v.6)
 
 pub invariant_of-self-in-Ok-Some : goal.invariant_of-self-in-Ok-Some
 invariant_of-self-in-Ok-Some g c =
@@ -73,6 +74,7 @@ invariant_of-self-in-Ok-Some g c =
       short_rest i.number i.requests.items (begins s.done.event) c.next_event.new.requests.items requests v.3,
       c.last_begun_with-self-inside.ensures ∙ last_more i.begun_last i.history.items c.noted-self-inside.result.items s v.4 kept,
       not_stopped i.cores s.stamp c.next_event.new.part (view c.next_event.new.links) i.stopped c.in_default.is,
+      v.6 ∙ ap (λ (ops : List Op). min (length ops) (2 ^ 64 - 1)) (sym (begun_more i.history.items c.noted-self-inside.result.items s i.requests.items c.next_event.new.requests.items kept requests)),
     )
 
 pub returns-in-Ok-None-clause-idle_message : goal.returns-in-Ok-None-clause-idle_message
