@@ -379,7 +379,7 @@ static void closed(void)
     CHECK(mkdemux_ask_replace(&core, 1, 1, arp, COUNT(arp)) == MKDEMUX_CORE_CLOSED);
     CHECK(mkdemux_receive(&core, frames[0], 14, 60, room, 1, &count) == MKDEMUX_CORE_CLOSED && count == 0);
     CHECK(room[0].endpoint == 7 && room[0].kept == 7);
-    CHECK(mkdemux_version(&core) == 0 && mkdemux_unanswered(&core) == 0);
+    CHECK(mkdemux_version(&core) == 0 && mkdemux_unanswered(&core) == 0 && mkdemux_asked(&core) == 0);
     closed_lists(&core);
     closed_bursts(&core);
     mkdemux_close(&core);
@@ -663,6 +663,8 @@ static void keeps_order(size_t count)
         for (i = 0; i < EACH; i++)
             bad += i % 3 == 2 ? mkdemux_ask_remove(&machine.cores[at], (uint16_t)at, 1)
                               : mkdemux_ask_create(&machine.cores[at], (uint16_t)at, (uint16_t)(100 * at + i));
+    for (at = 0; at < count; at++)
+        bad += mkdemux_asked(&machine.cores[at]) != EACH;
     CHECK(bad == 0);
     while (left > 0 && bad < 1000000)
         for (at = 0; at < count; at++) {
@@ -671,6 +673,7 @@ static void keeps_order(size_t count)
                 bad += answer && answer != MKDEMUX_CORE_IDLE;
                 continue;
             }
+            bad += turned.request != decided[at] + 1;
             bad += (decided[at]++ % 3 == 2) != (turned.decision == MKDEMUX_REFUSED && turned.rule == MKDEMUX_RULE_NO_FILTER);
             if (turned.decision == MKDEMUX_COMMITTED) {
                 granted++;

@@ -182,6 +182,8 @@ typedef struct mkdemux_turned {
     uint32_t rule;     /* REFUSED, VETOED: a mkdemux_core_rule */
     uint32_t place;    /* BAD_PROGRAM: which instruction, from 0; 0 where no single one is at fault */
     uint32_t core;     /* REFUSED: 0. VETOED: the lowest-numbered core that says so */
+    uint64_t request;  /* of a DECISION: the number of the request that it is on, from 1 in the order in which this
+                          core was asked */
 } mkdemux_turned;
 
 /* Does at most one thing: takes a message from another core, or else begins the core's next request.
@@ -193,7 +195,7 @@ typedef struct mkdemux_turned {
  * complete, and no request could begin. NO_MEMORY: nothing was done; a later turn may do it. STOPPED,
  * SPENT: nothing was done, nor will a later turn do anything.
  * Proved: with OK the core went on by one event of the protocol, and a reported decision is the one on its
- * oldest request that had none, with that decision's version, id, rule, place and core; STOPPED, SPENT and
+ * oldest request that had none, with that decision's number, version, id, rule, place and core; STOPPED, SPENT and
  * NO_MEMORY are answered only for a cause that holds. `turned` is written, except for a closed core. Takes
  * memory. */
 uint32_t mkdemux_turn(mkdemux_core *core, mkdemux_turned *turned);
@@ -203,6 +205,9 @@ uint64_t mkdemux_version(mkdemux_core *core);
 
 /* How many requests of the core have no decision yet. 0 for a closed core. */
 uint64_t mkdemux_unanswered(mkdemux_core *core);
+
+/* How many requests the core was asked: the number of the last one. 0 for a closed core. */
+uint64_t mkdemux_asked(mkdemux_core *core);
 
 /* ---- Requests ----
  *

@@ -18,7 +18,7 @@ use Rattle.mkdemux_cores.specs.declared.answers.TheConstants.{DONE, NO_MEMORY, S
 use Rattle.mkdemux_cores.specs.declared.turned.Turned.{Turned}
 use Rattle.mkdemux_cores.specs.declared.turned.TheConstants.{NOTHING}
 use Rattle.mkdemux_cores.specs.Reports.{reported}
-use Rattle.mkdemux_cores.specs.Turns.{HasDone, HasTurned}
+use Rattle.mkdemux_cores.specs.Turns.{HasDone, HasTurned, IsNumber}
 
 -- the number of what a turn did, and what is told of it
 abbrev pub turn_answer : Turn → ℕ
@@ -28,9 +28,9 @@ turn_answer (Stopped cause) = STOPPED
 turn_answer Spent = SPENT
 turn_answer NoMemory = NO_MEMORY
 
-abbrev pub turn_report : Turn → Turned
-turn_report (Did s d) = reported d
-turn_report turn = NOTHING
+abbrev pub turn_report : ℕ → Turn → Turned
+turn_report number (Did s d) = reported number d
+turn_report number turn = NOTHING
 
 -- what a core's turn says, with no job
 pub record Says (turn : Turn) (old new : RingCore) : Type 0 where
@@ -51,9 +51,9 @@ pub record Says (turn : Turn) (old new : RingCore) : Type 0 where
   pub idle_message : turn ≡ Idle → NoMessageNow new.cores new.part (ring_view new.links)
   pub idle : turn ≡ Idle → CanBeginNext new.cores new.part new.pending (ring_view new.links) → ⊥
 
-module _ (old new : RingCore) where
-  done : (turn : Turn) → Says turn old new → turn_answer turn ≡ DONE → HasDone (turn_report turn) old new
-  done (Did s d) says e = record { event = s; decision = d; did = says.did s d refl; decisions_are = says.decision s d refl; receives_none = says.leave s d refl; told = refl }
+module _ (old new : RingCore) (number : ℕ) (counts : IsNumber number new) where
+  done : (turn : Turn) → Says turn old new → turn_answer turn ≡ DONE → HasDone (turn_report number turn) old new
+  done (Did s d) says e = record { event = s; decision = d; number = number; counts = counts; did = says.did s d refl; decisions_are = says.decision s d refl; receives_none = says.leave s d refl; told = refl }
   done Idle says e = absurd (omega (arith, e))
   done (Stopped cause) says e = absurd (omega (arith, e))
   done Spent says e = absurd (omega (arith, e))
@@ -66,7 +66,7 @@ module _ (old new : RingCore) where
   not_did Spent differs s' d' e = absurd (cc)
   not_did NoMemory differs s' d' e = absurd (cc)
 
-  nothing_told : (turn : Turn) → (turn_answer turn ≢ DONE) → turn_report turn ≡ NOTHING
+  nothing_told : (turn : Turn) → (turn_answer turn ≢ DONE) → turn_report number turn ≡ NOTHING
   nothing_told (Did s d) differs = absurd (differs refl)
   nothing_told Idle differs = refl
   nothing_told (Stopped cause) differs = refl
@@ -130,7 +130,7 @@ module _ (old new : RingCore) where
   lacks_memory Idle e = absurd (omega (arith, e))
   lacks_memory Spent e = absurd (omega (arith, e))
 
-  pub has_turned : (turn : Turn) → Says turn old new → HasTurned (turn_answer turn) (turn_report turn) old new
+  pub has_turned : (turn : Turn) → Says turn old new → HasTurned (turn_answer turn) (turn_report number turn) old new
   has_turned turn says = record {
     same = says.core;
     requests = says.requests;

@@ -41,8 +41,8 @@ refused core (veto.Rule fault) = record NOTHING { what = 2; decision = 1; rule =
 refused core veto.Budget = record NOTHING { what = 2; decision = 2; rule = 13; core = core }
 refused core veto.NoMemory = record NOTHING { what = 2; decision = 2; rule = 14; core = core }
 
--- a step, with the decision that it has on a request of the core, if it has one
-abbrev pub reported : Option Decision → Turned
-reported None = record NOTHING { what = 1 }
-reported (Some (Committed version made)) = record NOTHING { what = 2; version = version; made = made_id made }
-reported (Some (Refused core why)) = refused core why
+-- a step, with the decision that it has on the core's request of this number, if it has one
+abbrev pub reported : ℕ → Option Decision → Turned
+reported request None = record NOTHING { what = 1 }
+reported request (Some (Committed version made)) = record NOTHING { what = 2; version = version; made = made_id made; request = request }
+reported request (Some (Refused core why)) = record (refused core why) { request = request }

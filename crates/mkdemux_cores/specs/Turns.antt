@@ -1,5 +1,5 @@
 -- What a turn does, and what C learns of it.
-use Rattle.std.specs.Prelude.{◌≡◌, ◌≢◌, ◌++◌, [], ℕ, Option, None, Some, IsSome, option_to_list, false}
+use Rattle.std.specs.Prelude.{◌≡◌, ◌≢◌, ◌<◌, ◌-◌, ◌^◌, ◌++◌, [], ℕ, Option, None, Some, IsSome, length, option_to_list, false}
 use Rattle.filter_table.specs.declared.decision.Decision.{Decision}
 use Rattle.core_links.specs.RingSlots.{SameLinks, ring_view}
 use Rattle.world_histories.specs.declared.history.Stamped.{Stamped}
@@ -16,14 +16,21 @@ use Rattle.mkdemux_cores.specs.declared.turned.Turned.{Turned}
 use Rattle.mkdemux_cores.specs.declared.turned.TheConstants.{NOTHING}
 use Rattle.mkdemux_cores.specs.Reports.{reported}
 
--- the core did one event, which received no packet, and C is told the decision that it has on a request of the core, or that it has none
+-- so many requests of the core have their decision, where fewer than 2^64 - 1 were asked: the number of the last of these
+abbrev pub IsNumber : ℕ → RingCore → Type 0
+IsNumber number core = length (begun core.history ++ core.pending) < 2 ^ 64 - 1 → number ≡ length (decisions core.history)
+
+-- The core did one event, which received no packet, and C is told the decision that it has on a request of the core, with its number, or that it
+-- has none.
 pub record HasDone (turned : Turned) (old new : RingCore) : Type 0 where
   pub event : Stamped
   pub decision : Option Decision
+  pub number : ℕ
+  pub counts : IsNumber number new
   pub did : DidOne ring_view old new event
   pub decisions_are : decisions new.history ≡ decisions old.history ++ option_to_list decision
   pub receives_none : receives event.done.event ≡ []
-  pub told : turned ≡ reported decision
+  pub told : turned ≡ reported number decision
 
 -- The core had a turn with this answer. Its requests are those that it had, and its n-th decision is on the n-th of them.
 pub record HasTurned (answer : ℕ) (turned : Turned) (old new : RingCore) : Type 0 where

@@ -23,6 +23,8 @@ pub struct Turned {
     pub place: u32,
     /// The core that refused.
     pub core: u32,
+    /// Of a decision, the number of the request that it is on, from 1, as this core was asked.
+    pub request: u64,
 }
 
 /// No id: nothing ever has it.
@@ -40,11 +42,12 @@ pub const NOTHING: Turned = Turned {
     rule: 0,
     place: 0,
     core: 0,
+    request: 0,
 };
 
-/// A step, with the decision on a request of this core, if the step has one.
-pub fn report(decision: Option<Decision>) -> Turned
-    ensures { result ≡ reported decision }
+/// A step, with the decision on the request of this core that has this number, if the step has one.
+pub fn report(decision: Option<Decision>, request: u64) -> Turned
+    ensures { result ≡ reported request decision }
 {
     match decision {
         None => Turned { what: 1, ..NOTHING },
@@ -52,9 +55,13 @@ pub fn report(decision: Option<Decision>) -> Turned
             what: 2,
             version,
             made: id_of(made),
+            request,
             ..NOTHING
         },
-        Some(Decision::Refused { core, why }) => refusal(core, why),
+        Some(Decision::Refused { core, why }) => Turned {
+            request,
+            ..refusal(core, why)
+        },
     }
 }
 

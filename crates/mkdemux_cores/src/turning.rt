@@ -2,7 +2,7 @@
 
 ghost use Rattle.std.specs.Prelude.{◌≡◌, ◌≢◌, ◌↔◌, None};
 ghost use Rattle.mkdemux_cores.specs.Leading.{Leads};
-ghost use Rattle.mkdemux_cores.specs.Turns.{HasTurned};
+ghost use Rattle.mkdemux_cores.specs.Turns.{HasTurned, IsNumber};
 
 use crate::answers::{CLOSED, DONE, IDLE, NO_MEMORY, SPENT, STOPPED};
 use crate::turned::{NOTHING, Turned, report};
@@ -11,8 +11,8 @@ use core_loop::{Core, RingLinks, Turn};
 use std::alloc::Global;
 
 /// Does one event of the core at most: it takes a message, or begins a request. 0 with what was done, else `IDLE`, `STOPPED`,
-/// `SPENT`, `NO_MEMORY` or `CLOSED`, and nothing is done. The n-th decision that a core's turns tell is that on the n-th request
-/// that it was asked. Takes memory only where there is a message or a request.
+/// `SPENT`, `NO_MEMORY` or `CLOSED`, and nothing is done. A decision is told with its number: the n-th is that on the n-th request
+/// that the core was asked. Takes memory only where there is a message or a request.
 #[unsafe(no_mangle)]
 pub extern "C" fn mkdemux_turn(alloc: Global, core: &mut CoreHandle, turned: &mut Turned) -> u32
     ensures closed { result ≡ CLOSED ↔ core.old.core ≡ None }
@@ -34,10 +34,11 @@ fn turn_core(core: &mut Core<RingLinks>, turned: &mut Turned) -> u32
 {
     let turn = core.turn(false);
     core.are_decided();
+    let number = decided(core);
     *turned = NOTHING;
     match turn {
         Turn::Did { event: _, decision } => {
-            *turned = report(decision);
+            *turned = report(decision, number);
             DONE
         }
         Turn::Idle => IDLE,
@@ -45,4 +46,13 @@ fn turn_core(core: &mut Core<RingLinks>, turned: &mut Turned) -> u32
         Turn::Spent => SPENT,
         Turn::NoMemory => NO_MEMORY,
     }
+}
+
+// How many requests of a core have their decision. No count is above 2^64 - 1.
+fn decided(core: &Core<RingLinks>) -> u64
+    ensures { IsNumber result core.now }
+{
+    core.are_decided();
+    let unanswered = (core.pending() as u64).saturating_add(core.under_way());
+    core.given().saturating_sub(unanswered)
 }

@@ -8,7 +8,7 @@ use Rattle.mkdemux_cores.proofs.turning.turn_core.Goals as goal
 
 pub returns-clause-turned : goal.returns-clause-turned
 returns-clause-turned c =
-    let turn = c.turn-turn.result in let old : RingCore = c.args.core.now in let new : RingCore = c.turn-turn.new.self in let e = c.turn-turn.ensures in
+    let turn = c.turn-turn.result in let old : RingCore = c.args.core.now in let new : RingCore = c.turn-turn.new.self in let e = c.turn-turn.ensures in let number = c.decided-number.result in
     let says : Says turn old new = record {
       core = e.core;
       requests = e.requests;
@@ -34,11 +34,11 @@ returns-clause-turned c =
       | in-Spent w ↦ w.result-is ∙ sym (ap turn_answer w.in-Spent.is)
       | in-NoMemory w ↦ w.result-is ∙ sym (ap turn_answer w.in-NoMemory.is)
     ] in
-    let report : c.match-turn.turned ≡ turn_report turn = elim c.match-turn.branch [
-      | in-Did w ↦ w.turned-is ∙ w.report.ensures ∙ sym (ap turn_report w.in-Did.is)
-      | in-Idle w ↦ w.turned-is ∙ sym (ap turn_report w.in-Idle.is)
-      | in-Stopped w ↦ w.turned-is ∙ sym (ap turn_report w.in-Stopped.is)
-      | in-Spent w ↦ w.turned-is ∙ sym (ap turn_report w.in-Spent.is)
-      | in-NoMemory w ↦ w.turned-is ∙ sym (ap turn_report w.in-NoMemory.is)
+    let report : c.match-turn.turned ≡ turn_report number turn = elim c.match-turn.branch [
+      | in-Did w ↦ w.turned-is ∙ w.report.ensures ∙ sym (ap (turn_report number) w.in-Did.is)
+      | in-Idle w ↦ w.turned-is ∙ sym (ap (turn_report number) w.in-Idle.is)
+      | in-Stopped w ↦ w.turned-is ∙ sym (ap (turn_report number) w.in-Stopped.is)
+      | in-Spent w ↦ w.turned-is ∙ sym (ap (turn_report number) w.in-Spent.is)
+      | in-NoMemory w ↦ w.turned-is ∙ sym (ap (turn_report number) w.in-NoMemory.is)
     ] in
-    subst (λ (n : ℕ). HasTurned n c.match-turn.turned old new) (sym answer) (subst (λ (t : Turned). HasTurned (turn_answer turn) t old new) (sym report) (has_turned old new turn says))
+    subst (λ (n : ℕ). HasTurned n c.match-turn.turned old new) (sym answer) (subst (λ (t : Turned). HasTurned (turn_answer turn) t old new) (sym report) (has_turned old new number c.decided-number.ensures turn says))
