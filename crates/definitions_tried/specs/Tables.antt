@@ -7,7 +7,7 @@ use Rattle.filter_table.specs.declared.operation.Op.{Op}
 use Rattle.filter_table.specs.declared.operation.Op.TheVariants.{Create, Install, Remove, DropCap}
 use Rattle.filter_table.specs.declared.delivery.Kept.{Kept}
 use Rattle.filter_table.specs.Listed.{ListedFilter}
-use Rattle.filter_table.specs.Tables.{TableState}
+use Rattle.filter_table.specs.Tables.{TableState, table}
 use Rattle.definitions_tried.specs.Filters.{arp}
 
 -- domain 1 creates endpoint 7 and installs the filter for ARP there; then it drops its capability
@@ -48,3 +48,10 @@ ids table = map (λ (c : Cap). c.id) table.held
 -- and so many others
 abbrev pub with_others : ℕ → CapTable
 with_others count = record { held = minted_twice.held ++ replicate count (record { id = 9; endpoint = 9; holder = 9; rights = Rm; parent = None }); next = 2000 }
+
+-- no capability is held, and the next one has this id; a table with capability 1, where the next filter has it
+abbrev pub next_cap : ℕ → CapTable
+next_cap id = record no_caps { next = id }
+
+abbrev pub next_filter : ℕ → TableState
+next_filter id = record (table log 1) { next_filter = id }

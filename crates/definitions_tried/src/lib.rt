@@ -24,6 +24,6 @@ pub use messages::{coded_messages, lines_of_messages};
 pub use printed::{matched_lines, printed_events};
 pub use readings::told_by_events;
 pub use scripts::{script_lines, script_words};
-pub use tables::{bounds, budgets, capabilities, logs, receivers};
+pub use tables::{bounds, budgets, capabilities, logs, receivers, refusals};
 pub use texts::{assembler_texts, decimal_texts, refused_texts};
 pub use verifier::{refused_programs, sound_programs};

@@ -1,21 +1,21 @@
 //! Capabilities, logs of operations, and the endpoints that a packet goes to.
 
 ghost use Rattle.std.specs.Prelude.{◌≡◌, [], ◌∷◌, Some, None, length};
-ghost use Rattle.endpoint_caps.specs.declared.CapFault.TheVariants.{NoCap, NotHolder, NoRight, RightsExceed, EndpointTaken, CapsFull};
+ghost use Rattle.endpoint_caps.specs.declared.CapFault.TheVariants.{NoCap, NotHolder, NoRight, RightsExceed, EndpointTaken, CapsFull, IdsSpent};
 ghost use Rattle.endpoint_caps.specs.declared.Right.TheVariants.{Receive, Mint};
 ghost use Rattle.endpoint_caps.specs.declared.Rights.TheVariants.{R, M, Rm};
 ghost use Rattle.endpoint_caps.specs.Capabilities.{Under, created, create_tests, dropped, first, is_within, mint_tests, no_caps, revoked, right_tests};
 ghost use Rattle.filter_table.specs.declared.operation.Made.TheVariants.{Cap, Filter};
-ghost use Rattle.filter_table.specs.declared.operation.Op.TheVariants.{Create, Install, Replace};
+ghost use Rattle.filter_table.specs.declared.operation.Op.TheVariants.{Create, DropCap, Install, Remove, Replace, Revoke};
 ghost use Rattle.filter_table.specs.declared.operation.OpFault.TheVariants as op_fault;
 ghost use Rattle.filter_table.specs.declared.operation.StageFault.TheVariants.{Budget, Rule};
 ghost use Rattle.filter_table.specs.Tables.{Accepting, Allowed, made, table};
 ghost use Rattle.definitions_tried.specs.Filters.{arp, arp_request, ip_datagram};
-ghost use Rattle.definitions_tried.specs.Tables.{filter_ids, ids, keeps, log, minted_once, minted_twice, removal, with_filters, with_others};
+ghost use Rattle.definitions_tried.specs.Tables.{filter_ids, ids, keeps, log, minted_once, minted_twice, next_cap, next_filter, removal, with_filters, with_others};
 
-/// Derivation and revocation as in seL4's Reference Manual, "Capability derivation": to revoke a capability removes all that were
-/// derived from it, whatever the number of mints, and leaves it; a right can be handed on by its holder alone, and no right is
-/// won by a mint.
+/// Derivation and revocation as in seL4's Reference Manual, "Capability derivation": to revoke a capability removes
+/// all that were derived from it, whatever the number of mints, and leaves it; a right can be handed on by its holder
+/// alone, and no right is won by a mint.
 pub fn capabilities()
     ensures all_are_held { ids minted_twice ≡ 1 ∷ 2 ∷ 3 ∷ 4 ∷ [] }
     ensures minted_from_a_minted_one { Under minted_twice.held 1 4 }
@@ -40,8 +40,8 @@ pub fn capabilities()
     ensures the_rights_before_the_room { first (mint_tests (with_others 1020) 2 3 R) ≡ Some RightsExceed }
 {}
 
-/// The table is a function of its log (Schneider 1990, "Implementing fault-tolerant services using the state machine approach"): the
-/// versions count the operations, and ids begin with 1.
+/// The table is a function of its log (Schneider 1990, "Implementing fault-tolerant services using the state machine
+/// approach"): the versions count the operations, and ids begin with 1.
 pub fn logs()
     ensures versions { ((table log 0).version ≡ 0) × ((table log 2).version ≡ 2) × ((table log 3).version ≡ 3) }
     ensures first_cap { made (table log 0) (Create 1 7) ≡ Cap 1 }
@@ -52,8 +52,8 @@ pub fn logs()
     ensures next_cap { made (table log 3) (Create 1 8) ≡ Cap 2 }
 {}
 
-/// What bounds a table, whatever the budget: 1,024 filters, and versions below 2^64. A filter is replaced by who still has its
-/// capability, and removed alone.
+/// What bounds a table, whatever the budget: 1,024 filters, and versions below 2^64. A filter is replaced by who
+/// still has its capability, and removed alone.
 pub fn bounds()
     ensures one_more_of_1024 { Allowed (with_filters 9 1023) 9000 (Install 1 1 arp) None }
     ensures none_more_than_1024 { Allowed (with_filters 9 1024) 9000 (Install 1 1 arp) (Some (Rule op_fault.TableFull)) }
@@ -61,6 +61,25 @@ pub fn bounds()
     ensures no_version_after_it { Allowed (with_filters 18446744073709551615 0) 9000 (Create 1 8) (Some (Rule op_fault.VersionsSpent)) }
     ensures not_replaced_without_its_capability { Allowed (table log 3) 9000 (Replace 1 1 arp) (Some (Rule op_fault.NoCap)) }
     ensures removed_alone { filter_ids (table removal 4) ≡ 2 ∷ [] }
+{}
+
+/// Why each operation is refused, beside budgets, bounds and what `capabilities` has: there is no such thing, or it
+/// is another domain's, or the last id was given out (docs/formats.md, "Operations on the table").
+pub fn refusals()
+    ensures endpoint_taken { Allowed (table log 1) 9000 (Create 2 7) (Some (Rule op_fault.EndpointTaken)) }
+    ensures no_cap_to_revoke { Allowed (table log 1) 9000 (Revoke 1 2) (Some (Rule op_fault.NoCap)) }
+    ensures not_held_to_revoke { Allowed (table log 1) 9000 (Revoke 2 1) (Some (Rule op_fault.NotHolder)) }
+    ensures no_cap_to_drop { Allowed (table log 1) 9000 (DropCap 1 2) (Some (Rule op_fault.NoCap)) }
+    ensures not_held_to_drop { Allowed (table log 1) 9000 (DropCap 2 1) (Some (Rule op_fault.NotHolder)) }
+    ensures no_cap_to_install { Allowed (table log 1) 9000 (Install 1 2 arp) (Some (Rule op_fault.NoCap)) }
+    ensures not_held_to_install { Allowed (table log 1) 9000 (Install 2 1 arp) (Some (Rule op_fault.NotHolder)) }
+    ensures no_filter_to_remove { Allowed (table log 2) 9000 (Remove 1 2) (Some (Rule op_fault.NoFilter)) }
+    ensures not_owned_to_remove { Allowed (table log 2) 9000 (Remove 2 1) (Some (Rule op_fault.NotOwner)) }
+    ensures no_filter_to_replace { Allowed (table log 2) 9000 (Replace 1 2 arp) (Some (Rule op_fault.NoFilter)) }
+    ensures not_owned_to_replace { Allowed (table log 2) 9000 (Replace 2 1 arp) (Some (Rule op_fault.NotOwner)) }
+    ensures last_id_of_a_cap { first (create_tests (next_cap 4294967294) 8) ≡ None }
+    ensures no_id_of_a_cap { first (create_tests (next_cap 4294967295) 8) ≡ Some IdsSpent }
+    ensures no_id_of_a_filter { Allowed (next_filter 4294967295) 9000 (Install 1 1 arp) (Some (Rule op_fault.FilterIdsSpent)) }
 {}
 
 /// A budget bounds the instructions of all filters, the new one included, and a replaced one not.
@@ -73,8 +92,8 @@ pub fn budgets()
     ensures in_place_one_too_few { Allowed (table log 2) 3 (Replace 1 1 arp) (Some Budget) }
 {}
 
-/// The frame of ARP goes to endpoint 7, with the 16 bytes that it has, although the filter would keep 64; another frame goes to
-/// nobody; and once the capability is gone, so does the frame of ARP.
+/// The frame of ARP goes to endpoint 7, with the 16 bytes that it has, although the filter would keep 64; another
+/// frame goes to nobody; and once the capability is gone, so does the frame of ARP.
 pub fn receivers()
     ensures arp { Accepting (table log 2) arp_request (keeps 7 16 ∷ []) }
     ensures another_frame { Accepting (table log 2) ip_datagram [] }
