@@ -14,6 +14,7 @@ invariant_of-self c =
       v.3,
       v.4,
       seen_stopped i.cores i.clock i.part (ring_view i.links) (ring_view c.beside.new.self) i.stopped same v.5,
+      v.6,
     )
 
 pub invariant_of-other : goal.invariant_of-other
@@ -27,4 +28,5 @@ invariant_of-other c =
       v.3,
       v.4,
       seen_stopped i.cores i.clock i.part (ring_view i.links) (ring_view c.beside.new.other) i.stopped same v.5,
+      v.6,
     )

@@ -13,4 +13,5 @@ invariant_of-self c =
       v.3,
       v.4,
       stopped_still i.cores i.clock i.part (list_view i.links) (list_view c.give.new.self) i.stopped (given_shows i.links c.give.new.self c.args.peer c.args.message.items c.give.result c.give.ensures.ok c.give.ensures.stays) v.5,
+      v.6,
     )

@@ -23,4 +23,5 @@ invariant_of-self c =
       v.3,
       v.4,
       same_stopped i.cores i.clock i.part (list_view i.links) (list_view c.mark_collected.new.self) i.stopped same v.5,
+      v.6,
     )
