@@ -31,6 +31,14 @@ impl Core<RingLinks> {
     {
         self.links.beside(&mut other.links);
     }
+
+    /// How many cores its machine has.
+    pub fn count(&self) -> u16
+        ensures { result ≡ self.now.cores }
+    {
+        self.cores
+    }
+
     /// Whether nothing goes over its links, as this core sees it, and each takes a message.
     pub fn links_rest(&self) -> bool
         ensures { IsTrue result ↔ AreResting self.now.number self.now.cores (ring_view self.now.links) (ring_flow self.now.links) }

@@ -11,20 +11,20 @@ use Rattle.core_join.specs.Machines.{RingCore, IsMachine}
 use Rattle.core_join.specs.Looking.{AreLookedAt, AreExactMachine}
 use Rattle.core_join.specs.Conclusions.{StandsAt0, IsIdle0, Conclude}
 use Rattle.core_join.proofs.Machines.{machine_ran}
-use Rattle.core_settle.specs.declared.settling.Halt.{Halt}
-use Rattle.core_settle.specs.declared.settling.Halt.TheVariants as halt
+use Rattle.core_settle.specs.declared.halt.Halt.{Halt}
+use Rattle.core_settle.specs.declared.halt.Halt.TheVariants as halt
 use Rattle.core_settle.specs.declared.settling.Settled.{Settled}
-use Rattle.core_settle.specs.declared.settling.Settled.TheVariants.{AtRest, Spent, NoMemory}
+use Rattle.core_settle.specs.declared.settling.Settled.TheVariants.{AtRest, Spent, NoMemory, NoRoom}
 use Rattle.core_settle.specs.Ahead.{work_ahead}
 use Rattle.core_settle.specs.Rounds.{AllGoOn, AllKeep, Halts, HaltsAmong, HaltedAt, NoneStops, IsEndOf, AreSeen, Round, Rounds, CoreRests, AreAtRest, HaveOneTable, EndsFor, EndsRound, TakesRounds}
 use Rattle.core_settle.proofs.Rounding.{kept_same, all_looked, all_keep_along, round_falls, round_keeps, round_long}
 
 -- no core of a machine stops
-pub none_stops : (budget : ℕ) (budgets : List ℕ) (o : Option (ℕ × Halt)) (turned seen : List RingCore) → IfSome o (λ h. HaltsAmong h.0 h.1 turned) → AreLookedAt turned seen → Conclude budget budgets seen → NoneStops o
-none_stops budget budgets None turned seen h looked con = tt
-none_stops budget budgets (Some (core, why)) turned [] h looked con = absurd con
-none_stops budget budgets (Some (core, why)) turned (first ∷ others) h looked con = λ is.
-    let s = subst (λ (w : Halt). Halts w h.halted) is h.halts in
+pub none_stops : (lists : Type 0) (budget : ℕ) (budgets : List ℕ) (o : Option (ℕ × Halt)) (turned seen : List RingCore) → IfSome o (λ h. HaltsAmong lists h.0 h.1 turned) → AreLookedAt turned seen → Conclude budget budgets seen → NoneStops o
+none_stops lists budget budgets None turned seen h looked con = tt
+none_stops lists budget budgets (Some (core, why)) turned [] h looked con = absurd con
+none_stops lists budget budgets (Some (core, why)) turned (first ∷ others) h looked con = λ is.
+    let s = subst (λ (w : Halt). Halts lists w h.halted) is h.halts in
     let d = get_at (first ∷ others) h.place (let e = looked.all in omega (arith, slice_get_within turned h.place h.halted h.there, e)) in
     let same = ap (λ (x : RingCore). x.stopped) (looked.each h.place h.halted d.0 h.there d.1).core in
     let runs = con.running h.place d.0 d.1 in
@@ -61,31 +61,39 @@ pub goes_on : (r : Option Settled) (o : Option (ℕ × Halt)) (old turned new : 
 goes_on (Some s) o old turned new go seen none = tt
 goes_on None o old turned new go seen none = (whole_round old turned new (subst (λ (x : Option (ℕ × Halt)). IfNone x (AllGoOn old turned)) none.0 go) seen, none.1)
 
-halted_at : (core : ℕ) (why : Halt) (turned new : List RingCore) → HaltsAmong core why turned → AreLookedAt turned new → HaltedAt core why new
-halted_at core why turned new h looked =
+halted_at : (lists : Type 0) (core : ℕ) (why : Halt) (turned new : List RingCore) → HaltsAmong lists core why turned → AreLookedAt turned new → HaltedAt lists core why new
+halted_at lists core why turned new h looked =
     let d = get_at new h.place (let e = looked.all in omega (arith, slice_get_within turned h.place h.halted h.there, e)) in
     let l = looked.each h.place h.halted d.0 h.there d.1 in
     record { place = h.place; now = d.0; there = d.1; number_is = ap (λ (x : RingCore). x.number) l.core ∙ h.number_is; halted = h.halted; looked = l; halts = h.halts }
 
-end_of : (budget : ℕ) (budgets : List ℕ) (s : Settled) (o : Option (ℕ × Halt)) (old turned new : List RingCore) → IfNone o (AllGoOn old turned) → IfSome o (λ h. HaltsAmong h.0 h.1 turned) → AreSeen turned new → Conclude budget budgets new
-    → IsEndOf o s new → EndsRound s old new × EndsFor s new
-end_of budget budgets AtRest None old turned new go h seen con is = (whole_round old turned new go seen, (is.0, is.1, one_table budget budgets new con is.0))
-end_of budget budgets AtRest (Some (core, halt.Spent)) old turned new go h seen con is = absurd is
-end_of budget budgets AtRest (Some (core, halt.NoMemory)) old turned new go h seen con is = absurd is
-end_of budget budgets AtRest (Some (core, halt.Stopped)) old turned new go h seen con is = absurd is
-end_of budget budgets (Spent core') None old turned new go h seen con is = absurd is
-end_of budget budgets (Spent core') (Some (core, halt.Spent)) old turned new go h seen con is = (tt, subst (λ (n : ℕ). HaltedAt n halt.Spent new) (sym is) (halted_at core halt.Spent turned new h seen.looked))
-end_of budget budgets (Spent core') (Some (core, halt.NoMemory)) old turned new go h seen con is = absurd is
-end_of budget budgets (Spent core') (Some (core, halt.Stopped)) old turned new go h seen con is = absurd is
-end_of budget budgets (NoMemory core') None old turned new go h seen con is = absurd is
-end_of budget budgets (NoMemory core') (Some (core, halt.NoMemory)) old turned new go h seen con is = (tt, subst (λ (n : ℕ). HaltedAt n halt.NoMemory new) (sym is) (halted_at core halt.NoMemory turned new h seen.looked))
-end_of budget budgets (NoMemory core') (Some (core, halt.Spent)) old turned new go h seen con is = absurd is
-end_of budget budgets (NoMemory core') (Some (core, halt.Stopped)) old turned new go h seen con is = absurd is
+end_of : (lists : Type 0) (budget : ℕ) (budgets : List ℕ) (s : Settled) (o : Option (ℕ × Halt)) (old turned new : List RingCore) → IfNone o (AllGoOn old turned) → IfSome o (λ h. HaltsAmong lists h.0 h.1 turned) → AreSeen turned new → Conclude budget budgets new
+    → IsEndOf o s new → EndsRound s old new × EndsFor lists s new
+end_of lists budget budgets AtRest None old turned new go h seen con is = (whole_round old turned new go seen, (is.0, is.1, one_table budget budgets new con is.0))
+end_of lists budget budgets AtRest (Some (core, halt.Spent)) old turned new go h seen con is = absurd is
+end_of lists budget budgets AtRest (Some (core, halt.NoMemory)) old turned new go h seen con is = absurd is
+end_of lists budget budgets AtRest (Some (core, halt.Stopped)) old turned new go h seen con is = absurd is
+end_of lists budget budgets AtRest (Some (core, halt.NoRoom)) old turned new go h seen con is = absurd is
+end_of lists budget budgets (Spent core') None old turned new go h seen con is = absurd is
+end_of lists budget budgets (Spent core') (Some (core, halt.Spent)) old turned new go h seen con is = (tt, subst (λ (n : ℕ). HaltedAt lists n halt.Spent new) (sym is) (halted_at lists core halt.Spent turned new h seen.looked))
+end_of lists budget budgets (Spent core') (Some (core, halt.NoMemory)) old turned new go h seen con is = absurd is
+end_of lists budget budgets (Spent core') (Some (core, halt.Stopped)) old turned new go h seen con is = absurd is
+end_of lists budget budgets (Spent core') (Some (core, halt.NoRoom)) old turned new go h seen con is = absurd is
+end_of lists budget budgets (NoMemory core') None old turned new go h seen con is = absurd is
+end_of lists budget budgets (NoMemory core') (Some (core, halt.NoMemory)) old turned new go h seen con is = (tt, subst (λ (n : ℕ). HaltedAt lists n halt.NoMemory new) (sym is) (halted_at lists core halt.NoMemory turned new h seen.looked))
+end_of lists budget budgets (NoMemory core') (Some (core, halt.Spent)) old turned new go h seen con is = absurd is
+end_of lists budget budgets (NoMemory core') (Some (core, halt.Stopped)) old turned new go h seen con is = absurd is
+end_of lists budget budgets (NoMemory core') (Some (core, halt.NoRoom)) old turned new go h seen con is = absurd is
+end_of lists budget budgets (NoRoom core') None old turned new go h seen con is = absurd is
+end_of lists budget budgets (NoRoom core') (Some (core, halt.NoRoom)) old turned new go h seen con is = (tt, subst (λ (n : ℕ). HaltedAt lists n halt.NoRoom new) (sym is) (halted_at lists core halt.NoRoom turned new h seen.looked))
+end_of lists budget budgets (NoRoom core') (Some (core, halt.Spent)) old turned new go h seen con is = absurd is
+end_of lists budget budgets (NoRoom core') (Some (core, halt.NoMemory)) old turned new go h seen con is = absurd is
+end_of lists budget budgets (NoRoom core') (Some (core, halt.Stopped)) old turned new go h seen con is = absurd is
 
-pub ends_so : (budget : ℕ) (budgets : List ℕ) (r : Option Settled) (o : Option (ℕ × Halt)) (old turned new : List RingCore) → IfNone o (AllGoOn old turned) → IfSome o (λ h. HaltsAmong h.0 h.1 turned) → AreSeen turned new → Conclude budget budgets new
-    → IfSome r (λ s. IsEndOf o s new) → IfSome r (λ s. EndsRound s old new × EndsFor s new)
-ends_so budget budgets None o old turned new go h seen con is = tt
-ends_so budget budgets (Some s) o old turned new go h seen con is = end_of budget budgets s o old turned new go h seen con is
+pub ends_so : (lists : Type 0) (budget : ℕ) (budgets : List ℕ) (r : Option Settled) (o : Option (ℕ × Halt)) (old turned new : List RingCore) → IfNone o (AllGoOn old turned) → IfSome o (λ h. HaltsAmong lists h.0 h.1 turned) → AreSeen turned new → Conclude budget budgets new
+    → IfSome r (λ s. IsEndOf o s new) → IfSome r (λ s. EndsRound s old new × EndsFor lists s new)
+ends_so lists budget budgets None o old turned new go h seen con is = tt
+ends_so lists budget budgets (Some s) o old turned new go h seen con is = end_of lists budget budgets s o old turned new go h seen con is
 
 -- Settling
 
@@ -133,6 +141,7 @@ pub takes_some : (settled : Settled) (start now new : List RingCore) → Settlin
 takes_some AtRest start now new s r k = record { first = s.first; seen = s.seen; rounds = suc s.rounds; last = new; each = (now, s.each, r); bound = omega (arith, s.fewer); ends = refl }
 takes_some (Spent core) start now new s r k = record { first = s.first; seen = s.seen; rounds = s.rounds; last = now; each = s.each; bound = omega (arith, s.fewer); ends = k }
 takes_some (NoMemory core) start now new s r k = record { first = s.first; seen = s.seen; rounds = s.rounds; last = now; each = s.each; bound = omega (arith, s.fewer); ends = k }
+takes_some (NoRoom core) start now new s r k = record { first = s.first; seen = s.seen; rounds = s.rounds; last = now; each = s.each; bound = omega (arith, s.fewer); ends = k }
 
 -- where settling does not end
 pub none_left : (r : Option Settled) (now next : List RingCore) → r ≡ None → IfNone r (Round now next × (AreAtRest next → ⊥)) → Round now next × (AreAtRest next → ⊥)

@@ -1,10 +1,14 @@
 -- Cores as one list, one after another.
-use Rattle.std.proofs.Common.{◌≡◌, ◌↔◌, ℕ, zero, suc, All, Bool, Option, None, Some, List, [], ◌∷◌, slice_get, refl, sym, subst, arith}
+use Rattle.std.proofs.Common.{◌≡◌, ◌↔◌, ℕ, zero, suc, All, Bool, Option, None, Some, List, [], ◌∷◌, map, slice_get, refl, sym, ap, subst, arith}
 use Rattle.std.specs.Prelude.{IsTrue, IfNone, IfSome}
 use Rattle.core_join.specs.Machines.{RingCore}
-use Rattle.core_settle.specs.declared.settling.Halt.{Halt}
+use Rattle.core_settle.specs.declared.halt.Halt.{Halt}
 use Rattle.core_settle.specs.Rounds.{Keeps, GoesOn, AllGoOn, AllKeep, HaltsAmong, CoreRests, AreAtRest, HasAllDecided}
 use Rattle.core_settle.proofs.Turning.{keeps_itself}
+
+-- the cores of a list that has a first one
+pub whole_of : {A : Type 0} (f : A → RingCore) (xs : List A) (x : A) (rest : List A) → xs ≡ x ∷ rest → map f xs ≡ f x ∷ map f rest
+whole_of {A} f xs x rest e = ap (λ (l : List A). map f l) e
 
 pub keep_more : (c d : RingCore) (cs ds : List RingCore) → Keeps c d → AllKeep cs ds → AllKeep (c ∷ cs) (d ∷ ds)
 keep_more c d cs ds first rest zero x y at at' = let e : c ≡ x = cc in let f : d ≡ y = cc in subst (λ (z : RingCore). Keeps z y) e (subst (λ (z : RingCore). Keeps c z) f first)
@@ -26,17 +30,17 @@ go_more c d cs ds first rest = record { all = (let e = rest.all in omega (arith,
 pub go_none : AllGoOn [] []
 go_none = record { all = refl; each = λ i c d at at'. absurd (cc) }
 
-pub halts_more : (number : ℕ) (why : Halt) (d : RingCore) (ds : List RingCore) → HaltsAmong number why ds → HaltsAmong number why (d ∷ ds)
-halts_more number why d ds h = record { place = suc h.place; halted = h.halted; there = h.there; number_is = h.number_is; halts = h.halts }
+pub halts_more : (lists : Type 0) (number : ℕ) (why : Halt) (d : RingCore) (ds : List RingCore) → HaltsAmong lists number why ds → HaltsAmong lists number why (d ∷ ds)
+halts_more lists number why d ds h = record { place = suc h.place; halted = h.halted; there = h.there; number_is = h.number_is; halts = h.halts }
 
 -- the answers of the first core and of the rest, as those of all
 pub none_all : (o : Option (ℕ × Halt)) (c d : RingCore) (cs ds : List RingCore) → GoesOn c d → IfNone o (AllGoOn cs ds) → IfNone o (AllGoOn (c ∷ cs) (d ∷ ds))
 none_all None c d cs ds first rest = go_more c d cs ds first rest
 none_all (Some h) c d cs ds first rest = tt
 
-pub some_all : (o : Option (ℕ × Halt)) (d : RingCore) (ds : List RingCore) → IfSome o (λ h. HaltsAmong h.0 h.1 ds) → IfSome o (λ h. HaltsAmong h.0 h.1 (d ∷ ds))
-some_all None d ds rest = tt
-some_all (Some h) d ds rest = halts_more h.0 h.1 d ds rest
+pub some_all : (lists : Type 0) (o : Option (ℕ × Halt)) (d : RingCore) (ds : List RingCore) → IfSome o (λ h. HaltsAmong lists h.0 h.1 ds) → IfSome o (λ h. HaltsAmong lists h.0 h.1 (d ∷ ds))
+some_all lists None d ds rest = tt
+some_all lists (Some h) d ds rest = halts_more lists h.0 h.1 d ds rest
 
 -- At rest
 

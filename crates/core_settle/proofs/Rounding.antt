@@ -4,6 +4,7 @@ use Rattle.std.proofs.lemmas.Option.{slice_get_within}
 use Rattle.table_replica.proofs.Shared.{get_at}
 use Rattle.std.proofs.lemmas.List.{append-nil}
 use Rattle.rx_queue.specs.Queue.{jobs_taken}
+use Rattle.core_loop.specs.Cores.{receipts}
 use Rattle.core_join.specs.Machines.{RingCore, IsMachine, AreSameCores}
 use Rattle.core_join.specs.Looking.{IsLookedAt, AreLookedAt, AreExactMachine}
 use Rattle.core_join.specs.Conclusions.{Conclude}
@@ -25,6 +26,7 @@ looked_keeps c d l =
       asked_same = ap (λ (x : RingCore). asked x) l.core;
       history = ([], append-nil c.history ∙ sym (ap (λ (x : RingCore). x.history) l.core));
       jobs = ap (λ (x : RingCore). jobs_taken x.intake) l.core;
+      receipts_same = ap (λ (x : RingCore). receipts x.history) l.core;
     }
 
 pub all_looked : (cs ds : List RingCore) → AreLookedAt cs ds → AllKeep cs ds

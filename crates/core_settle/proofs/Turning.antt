@@ -20,7 +20,7 @@ pub prefix_along : {A : Type 0} (xs ys zs : List A) → IsPrefix xs ys → IsPre
 prefix_along {A} xs ys zs p q = (p.0 ++ q.0, sym (append_assoc xs p.0 q.0) ∙ (ap (λ (l : List A). l ++ q.0) p.1 ∙ q.1))
 
 pub keeps_itself : (c : RingCore) → Keeps c c
-keeps_itself c = record { same = same_itself c; asked_same = refl; history = ([], append-nil c.history); jobs = refl }
+keeps_itself c = record { same = same_itself c; asked_same = refl; history = ([], append-nil c.history); jobs = refl; receipts_same = refl }
 
 pub keeps_along : (a b c : RingCore) → Keeps a b → Keeps b c → Keeps a c
 keeps_along a b c h k = record {
@@ -28,6 +28,7 @@ keeps_along a b c h k = record {
   asked_same = k.asked_same ∙ h.asked_same;
   history = prefix_along a.history b.history c.history h.history k.history;
   jobs = k.jobs ∙ h.jobs;
+  receipts_same = k.receipts_same ∙ h.receipts_same;
 }
 
 -- Counting steps

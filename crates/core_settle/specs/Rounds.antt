@@ -14,15 +14,17 @@ use Rattle.core_loop.specs.Choosing.{ShowsNothing, NoMessageNow}
 use Rattle.core_loop.specs.Beginning.{CanBeginNext, HasNothingUnderWay}
 use Rattle.core_loop.specs.Resting.{AreResting}
 use Rattle.core_loop.specs.Turning.{IsSpent, LacksMemory}
-use Rattle.core_loop.specs.Cores.{SameCore, NothingDone, DidOne}
+use Rattle.core_loop.specs.Cores.{SameCore, NothingDone, DidOne, receipts}
 use Rattle.core_loop.specs.Answering.{decisions}
+use Rattle.core_join.specs.declared.recorded.RecordedTurn.{RecordedTurn}
+use Rattle.core_join.specs.declared.recorded.RecordedTurn.TheVariants as recorded
 use Rattle.core_join.specs.Machines.{RingCore, IsMachine}
 use Rattle.core_join.specs.Looking.{IsLookedAt, AreLookedAt, AreExactMachine}
 use Rattle.core_join.specs.Conclusions.{Conclude, ShowsTable, version_of_core}
-use Rattle.core_settle.specs.declared.settling.Halt.{Halt}
-use Rattle.core_settle.specs.declared.settling.Halt.TheVariants as halt
+use Rattle.core_settle.specs.declared.halt.Halt.{Halt}
+use Rattle.core_settle.specs.declared.halt.Halt.TheVariants as halt
 use Rattle.core_settle.specs.declared.settling.Settled.{Settled}
-use Rattle.core_settle.specs.declared.settling.Settled.TheVariants.{AtRest, Spent, NoMemory}
+use Rattle.core_settle.specs.declared.settling.Settled.TheVariants.{AtRest, Spent, NoMemory, NoRoom}
 use Rattle.core_settle.specs.Ahead.{asked, work_ahead}
 
 -- Turns
@@ -33,6 +35,7 @@ pub record Keeps (old new : RingCore) : Type 0 where
   pub asked_same : asked new ≡ asked old
   pub history : IsPrefix old.history new.history
   pub jobs : jobs_taken new.intake ≡ jobs_taken old.intake
+  pub receipts_same : receipts new.history ≡ receipts old.history
 
 -- the turn did one event, no receipt
 abbrev pub DidEvent : RingCore → RingCore → Type 0
@@ -69,19 +72,27 @@ halt_of turn.NoMemory = Some halt.NoMemory
 halt_of (turn.Stopped cause) = Some halt.Stopped
 halt_of answer = None
 
--- why a turn halted its core
-abbrev pub Halts : Halt → RingCore → Type 0
-Halts halt.Spent c = IsSpent c.cores c.clock c.part c.pending (ring_view c.links) false c.intake
-Halts halt.NoMemory c = LacksMemory c.cores c.clock c.part c.pending (ring_view c.links) false c.intake
-Halts halt.Stopped c = (cause : Cause) × (c.stopped ≡ Some cause)
+abbrev pub recorded_halt_of : RecordedTurn → Option Halt
+recorded_halt_of recorded.Spent = Some halt.Spent
+recorded_halt_of recorded.NoMemory = Some halt.NoMemory
+recorded_halt_of recorded.NoRoom = Some halt.NoRoom
+recorded_halt_of (recorded.Stopped cause) = Some halt.Stopped
+recorded_halt_of answer = None
+
+-- why a turn halted its core; one that keeps a list of its events may be refused memory for that
+abbrev pub Halts : Type 0 → Halt → RingCore → Type 0
+Halts lists halt.Spent c = IsSpent c.cores c.clock c.part c.pending (ring_view c.links) false c.intake
+Halts lists halt.NoMemory c = LacksMemory c.cores c.clock c.part c.pending (ring_view c.links) false c.intake
+Halts lists halt.NoRoom c = lists
+Halts lists halt.Stopped c = (cause : Cause) × (c.stopped ≡ Some cause)
 
 -- the core with this number halted for this
-pub record HaltsAmong (number : ℕ) (why : Halt) (cores : List RingCore) : Type 0 where
+pub record HaltsAmong (lists : Type 0) (number : ℕ) (why : Halt) (cores : List RingCore) : Type 0 where
   pub place : ℕ
   pub halted : RingCore
   pub there : slice_get cores place ≡ Some halted
   pub number_is : halted.number ≡ number
-  pub halts : Halts why halted
+  pub halts : Halts lists why halted
 
 -- Rounds
 
@@ -130,14 +141,14 @@ abbrev pub AllKeep : List RingCore → List RingCore → Type 0
 AllKeep old new = (i : ℕ) (c d : RingCore) → slice_get old i ≡ Some c → slice_get new i ≡ Some d → Keeps c d
 
 -- the core with this number halted for this, and was only looked at since
-pub record HaltedAt (number : ℕ) (why : Halt) (cores : List RingCore) : Type 0 where
+pub record HaltedAt (lists : Type 0) (number : ℕ) (why : Halt) (cores : List RingCore) : Type 0 where
   pub place : ℕ
   pub now : RingCore
   pub there : slice_get cores place ≡ Some now
   pub number_is : now.number ≡ number
   pub halted : RingCore
   pub looked : IsLookedAt halted now
-  pub halts : Halts why halted
+  pub halts : Halts lists why halted
 
 -- no core has stopped
 abbrev pub NoneStops : Option (ℕ × Halt) → Type 0
@@ -149,14 +160,16 @@ abbrev pub IsEndOf : Option (ℕ × Halt) → Settled → List RingCore → Type
 IsEndOf None AtRest cores = AreAtRest cores × All HasAllDecided cores
 IsEndOf (Some (core, halt.Spent)) (Spent core') cores = core' ≡ core
 IsEndOf (Some (core, halt.NoMemory)) (NoMemory core') cores = core' ≡ core
+IsEndOf (Some (core, halt.NoRoom)) (NoRoom core') cores = core' ≡ core
 IsEndOf halted settled cores = ⊥
 
 -- settling ended for this: at rest each request is decided and all cores have one table; else the core of this number had no number, no stamp or no memory for
--- what it would do next
-abbrev pub EndsFor : Settled → List RingCore → Type 0
-EndsFor AtRest cores = AreAtRest cores × All HasAllDecided cores × HaveOneTable cores
-EndsFor (Spent core) cores = HaltedAt core halt.Spent cores
-EndsFor (NoMemory core) cores = HaltedAt core halt.NoMemory cores
+-- what it would do next, or for the list of what it did
+abbrev pub EndsFor : Type 0 → Settled → List RingCore → Type 0
+EndsFor lists AtRest cores = AreAtRest cores × All HasAllDecided cores × HaveOneTable cores
+EndsFor lists (Spent core) cores = HaltedAt lists core halt.Spent cores
+EndsFor lists (NoMemory core) cores = HaltedAt lists core halt.NoMemory cores
+EndsFor lists (NoRoom core) cores = HaltedAt lists core halt.NoRoom cores
 
 -- how a round ends settling: it was a whole one, or a core halted in it
 abbrev pub EndsRound : Settled → List RingCore → List RingCore → Type 0

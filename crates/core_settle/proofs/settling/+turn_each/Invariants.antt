@@ -2,4 +2,4 @@ use Rattle.std.proofs.Common.{length}
 use Rattle.core_settle.proofs.settling.+turn_each.Given as goal
 
 abbrev pub decreases-turn_each : goal.decreases-turn_each
-decreases-turn_each l = length l.cores.now
+decreases-turn_each g l = length l.cores.now

@@ -1,10 +1,10 @@
 use Rattle.std.proofs.Common.{Option, refl, sym, subst}
 use Rattle.std.specs.Prelude.{IfSome, IfNone}
-use Rattle.core_settle.specs.declared.settling.Halt.{Halt}
+use Rattle.core_settle.specs.declared.halt.Halt.{Halt}
 use Rattle.core_settle.specs.Rounds.{GoesOn, Halts}
 use Rattle.core_settle.proofs.Answering.{Answered, answered_keeps, answered_none, answered_some}
-use Rattle.core_settle.proofs.settling.turn.Goals as goal
-use Rattle.core_settle.proofs.settling.turn.Goals.{After-halt_of}
+use Rattle.core_settle.proofs.member.turn.Goals as goal
+use Rattle.core_settle.proofs.member.turn.Goals.{After-halt_of}
 
 answered : (c : After-halt_of) → Answered c.turn.result c.args.core.now c.turn.new.self
 answered c =
@@ -28,4 +28,4 @@ pub returns-clause-none : goal.returns-clause-none
 returns-clause-none c = subst (λ (r : Option Halt). IfNone r (GoesOn c.args.core.now c.turn.new.self)) (sym c.halt_of.ensures) (answered_none c.turn.result c.args.core.now c.turn.new.self (answered c))
 
 pub returns-clause-some : goal.returns-clause-some
-returns-clause-some c = subst (λ (r : Option Halt). IfSome r (λ why. Halts why c.turn.new.self)) (sym c.halt_of.ensures) (answered_some c.turn.result c.args.core.now c.turn.new.self (answered c))
+returns-clause-some c = subst (λ (r : Option Halt). IfSome r (λ why. Halts ⊥ why c.turn.new.self)) (sym c.halt_of.ensures) (answered_some c.turn.result c.args.core.now c.turn.new.self (answered c))
