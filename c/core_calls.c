@@ -710,12 +710,102 @@ static void closes_early(void)
         }
 }
 
+/* ---- Settling ---- */
+
+/* All cores of a machine have decided all requests, at one version. */
+static int is_settled(struct machine *machine)
+{
+    size_t i;
+    for (i = 0; i < machine->count; i++)
+        if (mkdemux_unanswered(&machine->cores[i]) || mkdemux_version(&machine->cores[i]) != mkdemux_version(machine->cores))
+            return 0;
+    return 1;
+}
+
+/* Requests at each core, of which the last core's has a message of many lines, with some turns taken. */
+static void ask_all(struct machine *machine, size_t turns)
+{
+    mkdemux_turned turned;
+    size_t i;
+    CHECK(mkdemux_ask_create(machine->cores, 1, 7) == MKDEMUX_CORE_OK);
+    for (i = 0; i < machine->count; i++)
+        CHECK(mkdemux_ask_create(&machine->cores[i], 1, (uint16_t)(8 + i)) == MKDEMUX_CORE_OK);
+    CHECK(mkdemux_ask_install(&machine->cores[machine->count - 1], 1, 1, txa(LONGEST), LONGEST) == MKDEMUX_CORE_OK);
+    for (i = 0; i < turns; i++)
+        CHECK(mkdemux_turn(&machine->cores[i % machine->count], &turned) <= MKDEMUX_CORE_IDLE);
+}
+
+/* Cores that aren't those of one machine, each in its place: named answers that change nothing. */
+static void settles_no_other(void)
+{
+    struct machine machine, other;
+    mkdemux_core mixed[3];
+    boot(&machine, 3, 100);
+    boot(&other, 2, 100);
+    CHECK(mkdemux_ask_create(machine.cores, 1, 7) == MKDEMUX_CORE_OK);
+    CHECK(mkdemux_settle(machine.cores, 0) == MKDEMUX_CORE_NOT_MACHINE && mkdemux_settle(NULL, 0) == MKDEMUX_CORE_NOT_MACHINE);
+    CHECK(mkdemux_settle(machine.cores, 2) == MKDEMUX_CORE_NOT_MACHINE);
+    CHECK(mkdemux_settle(machine.cores + 1, 2) == MKDEMUX_CORE_NOT_MACHINE);
+    mixed[0] = machine.cores[0];
+    mixed[1] = other.cores[1]; /* of a machine of two */
+    mixed[2] = machine.cores[2];
+    CHECK(mkdemux_settle(mixed, 3) == MKDEMUX_CORE_NOT_MACHINE);
+    mixed[1] = machine.cores[2];
+    mixed[2] = machine.cores[1];
+    CHECK(mkdemux_settle(mixed, 3) == MKDEMUX_CORE_NOT_MACHINE);
+    CHECK(mkdemux_unanswered(machine.cores) == 1 && mkdemux_version(machine.cores) == 0);
+    CHECK(mkdemux_settle(machine.cores, 3) == MKDEMUX_CORE_OK && mkdemux_version(&machine.cores[2]) == 1);
+    mkdemux_close(&machine.cores[1]);
+    CHECK(mkdemux_settle(machine.cores, 3) == MKDEMUX_CORE_CLOSED);
+    close_all(&machine);
+    close_all(&other);
+}
+
+/* Machines of 1 to 8 cores are settled from wherever they are; then nothing is left, and settling again changes nothing. */
+static void settles(size_t count)
+{
+    struct machine machine;
+    size_t turns;
+    for (turns = 0; turns < 60; turns += 7) {
+        boot(&machine, count, 10000);
+        ask_all(&machine, turns);
+        CHECK(mkdemux_settle(machine.cores, count) == MKDEMUX_CORE_OK && is_settled(&machine));
+        CHECK(mkdemux_version(machine.cores) == count + 2);
+        CHECK(mkdemux_settle(machine.cores, count) == MKDEMUX_CORE_OK && mkdemux_version(machine.cores) == count + 2);
+        close_all(&machine);
+    }
+}
+
+/* Each allocation refused in turn while a machine is settled. Where it says so, it is settled again. */
+static void settles_again(void)
+{
+    struct machine machine;
+    unsigned long refused;
+    uint32_t answer = MKDEMUX_CORE_NO_MEMORY;
+    int lacked = 0, done = 0;
+    for (refused = 1; !done && refused < 10000; refused++) {
+        boot(&machine, 3, 10000);
+        ask_all(&machine, 0);
+        failing = asked + refused;
+        answer = mkdemux_settle(machine.cores, 3);
+        done = asked < failing; /* no allocation was refused */
+        failing = 0;
+        CHECK(answer == MKDEMUX_CORE_OK || answer == MKDEMUX_CORE_NO_MEMORY);
+        lacked += answer == MKDEMUX_CORE_NO_MEMORY;
+        if (answer != MKDEMUX_CORE_OK)
+            CHECK(mkdemux_settle(machine.cores, 3) == MKDEMUX_CORE_OK);
+        CHECK(is_settled(&machine));
+        close_all(&machine);
+    }
+    CHECK(done && lacked > 0);
+}
+
 static void says(void)
 {
     CHECK(!strcmp(mkdemux_core_word(MKDEMUX_CORE_OK), "Ok") && !strcmp(mkdemux_core_word(MKDEMUX_CORE_IDLE), "Idle"));
     CHECK(!strcmp(mkdemux_core_word(MKDEMUX_CORE_NOT_CORES), "NoCores"));
-    CHECK(!strcmp(mkdemux_core_word(MKDEMUX_CORE_BAD_RIGHTS), "BadRights") && !strcmp(mkdemux_core_word(11), "NoFilter") &&
-        !strcmp(mkdemux_core_word(12), "?"));
+    CHECK(!strcmp(mkdemux_core_word(MKDEMUX_CORE_BAD_RIGHTS), "BadRights") && !strcmp(mkdemux_core_word(11), "NoFilter"));
+    CHECK(!strcmp(mkdemux_core_word(MKDEMUX_CORE_NOT_MACHINE), "NotMachine") && !strcmp(mkdemux_core_word(13), "?"));
     CHECK(!strcmp(mkdemux_core_rule_word(MKDEMUX_RULE_NO_CAP), "NoCap"));
     CHECK(!strcmp(mkdemux_core_rule_word(MKDEMUX_RULE_MEMORY), "NoMemory"));
     CHECK(!strcmp(mkdemux_core_rule_word(MKDEMUX_RULE_BAD_PROGRAM + 9), "BadProgram"));
@@ -922,6 +1012,10 @@ int main(void)
     for (count = 1; count <= MOST; count++)
         keeps_order(count);
     closes_early();
+    settles_no_other();
+    for (count = 1; count <= MOST; count++)
+        settles(count);
+    settles_again();
     says();
     runs_out();
     printf("%d checks passed, %d failed\n", passed, failed);

@@ -1,7 +1,7 @@
 /* Busy cores starve nobody. Of 3 to 8 cores, every set of busy ones always has two requests asked, so that another waits as soon as one
  * is decided; each is vetoed by the last core, so it takes a whole two-phase commit, or is refused at once. One core more asks once, in
  * round 100 of turns that each core takes in order, and core 0 begins its request after at most one of each other core. So it is
- * decided within so many rounds, whoever is busy. Prints the most rounds that one took; status 1 where one took more. */
+ * decided within so many rounds, whoever is busy. At the end nobody asks, and settling the machine decides all. Prints the most rounds that one took; status 1 where one took more. */
 #include <stdio.h>
 #include <stdlib.h>
 #include <string.h>
@@ -45,7 +45,12 @@ static int rounds_of(int count, unsigned busy, int victim, int vetoed)
             if (busy >> i & 1 && ask(&cores[i], vetoed) != MKDEMUX_CORE_OK) exit(2);
         }
     }
-    for (int i = 0; i < count; i++) mkdemux_close(&cores[i]);
+    /* nobody asks any more, so all are decided */
+    if (mkdemux_settle(cores, (size_t)count) != MKDEMUX_CORE_OK) exit(2);
+    for (int i = 0; i < count; i++) {
+        if (mkdemux_unanswered(&cores[i]) || mkdemux_version(&cores[i]) != mkdemux_version(&cores[0])) exit(2);
+        mkdemux_close(&cores[i]);
+    }
     return decided;
 }
 

@@ -39,12 +39,15 @@
  * value is as the call before left it. A closed core, an impossible count of cores, a program that is too
  * long and running out of memory are answers.
  *
- * WHAT ISN'T PROVED: progress. A request is decided once all cores have been turned often enough. A core
- * that nobody turns holds up every change of the machine; packets are still received. No proof says how
- * many turns or how much time a change takes.
+ * PROGRESS. If one caller holds all cores, mkdemux_settle ends with every request decided; that is proved. If
+ * threads turn them, this is proved: after more rounds than the work ahead, in each of which every core is turned
+ * at least once, in any order, and none lacks memory, all are decided, if between rounds each core sees
+ * what was sent to it. Core 0 takes the requests of all cores in turn. NOT PROVED: that a thread runs, that one
+ * thread sees what another wrote, and time. A core that nobody turns holds up every change of the machine;
+ * packets are still received.
  *
- * MEMORY is taken by malloc and realloc and given back by free. mkdemux_boot, mkdemux_turn and
- * mkdemux_ask_.. take memory, and so does mkdemux_receive for the first packet after a change of the table.
+ * MEMORY is taken by malloc and realloc and given back by free. mkdemux_boot, mkdemux_turn,
+ * mkdemux_settle and mkdemux_ask_.. take memory, and so does mkdemux_receive for the first packet after a change of the table.
  * mkdemux_version, mkdemux_unanswered and mkdemux_close take none. How much a core holds depends on its
  * table and on the requests that it hasn't begun, and not on the number of packets or changes so far. */
 #ifndef MKDEMUX_CORES_H
@@ -108,7 +111,8 @@ enum mkdemux_core_answer {
     MKDEMUX_CORE_IDLE = 8,       /* of mkdemux_turn: no message was complete, and no request could begin */
     MKDEMUX_CORE_OPEN = 9,       /* of mkdemux_boot: one of the cores is open already */
     MKDEMUX_CORE_BAD_RIGHTS = 10, /* of mkdemux_ask_mint: rights that aren't 1, 2 or 3 */
-    MKDEMUX_CORE_NO_FILTER = 11   /* of mkdemux_filter_code: no filter of this id is listed */
+    MKDEMUX_CORE_NO_FILTER = 11,  /* of mkdemux_filter_code: no filter of this id is listed */
+    MKDEMUX_CORE_NOT_MACHINE = 12 /* of mkdemux_settle: not the cores of one machine, each in its place */
 };
 
 /* ---- A machine ---- */
@@ -199,6 +203,21 @@ typedef struct mkdemux_turned {
  * NO_MEMORY are answered only for a cause that holds. `turned` is written, except for a closed core. Takes
  * memory. */
 uint32_t mkdemux_turn(mkdemux_core *core, mkdemux_turned *turned);
+
+/* Turns all cores of one machine, round by round, until nothing is left to do. It waits for nobody, so it ends. For a machine whose cores
+ * are all in one thread, and for the end of a run whose threads have stopped. No packet is received. `cores` has
+ * all `count` cores of the machine, in the order of mkdemux_boot.
+ * OK: each request has its decision, all cores are at one version, and no message is under way.
+ * NO_MEMORY, SPENT: a core has no memory, or no number left, for what it would do next. All that was done is kept,
+ * and another call goes on from there.
+ * CLOSED: one of the cores is closed. NOT_MACHINE: there are none, or a core is missing, there twice, in another
+ * place or of a machine with another count of cores. Nothing has changed.
+ * OWED: two cores of different machines that have equal counts can't be told apart: the cores were opened by one
+ * call of mkdemux_boot. No other call on any of them runs meanwhile.
+ * Proved: all of this, and that it takes at most so many rounds, each of one turn of every core, as core_settle's
+ * work ahead says. With OK the n-th decision of each core is on its n-th request. Decisions aren't reported; the
+ * versions and mkdemux_unanswered show them. Takes memory. */
+uint32_t mkdemux_settle(mkdemux_core *cores, size_t count);
 
 /* The version of the core's table: how many changes it has. 0 for a closed core. */
 uint64_t mkdemux_version(mkdemux_core *core);
@@ -348,7 +367,7 @@ uint32_t mkdemux_filter_code(mkdemux_core *core, uint32_t filter, struct mkdemux
 MKDEMUX_CALL const char *mkdemux_core_word(uint32_t answer)
 {
     static const char *const words[] = {"Ok", "Closed", "NoCores", "NoMemory", "NoRoom", "TooLong", "Stopped",
-        "Spent", "Idle", "Open", "BadRights", "NoFilter"};
+        "Spent", "Idle", "Open", "BadRights", "NoFilter", "NotMachine"};
     return answer < sizeof words / sizeof *words ? words[answer] : "?";
 }
 

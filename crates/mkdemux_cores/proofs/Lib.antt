@@ -4,3 +4,4 @@ pub mod Counting
 pub mod Leading
 pub mod InTurn
 pub mod Rooms
+pub mod Handles

@@ -6,3 +6,4 @@ pub mod Receipts
 pub mod Booting
 pub mod Listing
 pub mod Bursts
+pub mod Settling

@@ -35,3 +35,6 @@ pub const BAD_RIGHTS: u32 = 10;
 
 /// No filter of this id is listed. Nothing has changed.
 pub const NO_FILTER: u32 = 11;
+
+/// The cores aren't all those of one machine, in the order of their numbers. Nothing has changed.
+pub const NOT_MACHINE: u32 = 12;

@@ -89,8 +89,8 @@ fn is_any_open(alloc: Global, cores: &mut [CoreHandle]) -> bool
     false
 }
 
-// Each core goes to the closed handle in its place.
-fn put_all(cores: &mut [CoreHandle], booted: Vec<Box<Core<RingLinks>>>)
+/// Each core goes to the closed handle in its place.
+pub(crate) fn put_all(cores: &mut [CoreHandle], booted: Vec<Box<Core<RingLinks>>>)
     requires count { length booted.items ≡ length cores.old }
     requires closed { AreClosed cores.old }
     ensures { cores_of cores.new ≡ map (λ b. Some b.value) booted.items }

@@ -11,5 +11,6 @@ mod bursts;
 mod listing;
 mod looking;
 mod receiving;
+mod settling;
 mod turned;
 mod turning;
