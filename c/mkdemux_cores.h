@@ -204,9 +204,9 @@ typedef struct mkdemux_turned {
  * memory. */
 uint32_t mkdemux_turn(mkdemux_core *core, mkdemux_turned *turned);
 
-/* Turns all cores of one machine, round by round, until nothing is left to do. It waits for nobody, so it ends. For a machine whose cores
- * are all in one thread, and for the end of a run whose threads have stopped. No packet is received. `cores` has
- * all `count` cores of the machine, in the order of mkdemux_boot.
+/* Turns all cores of one machine, round by round, until nothing is left to do. It waits for nobody, so it ends.
+ * For a machine whose cores are all in one thread, and for the end of a run whose threads have stopped. No packet
+ * is received. `cores` has all `count` cores of the machine, in the order of mkdemux_boot.
  * OK: each request has its decision, all cores are at one version, and no message is under way.
  * NO_MEMORY, SPENT: a core has no memory, or no number left, for what it would do next. All that was done is kept,
  * and another call goes on from there.

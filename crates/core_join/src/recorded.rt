@@ -186,8 +186,8 @@ impl Recorded<RingLinks> {
     ghost use Rattle.core_links.specs.Flows.{IsExactAt, LooksAt};
     ghost use Rattle.core_links.specs.RingSlots.{ring_view, own_of, SameLinks, AreJoinedLinks};
 
-    /// Shows that what each core took from the other begins what the other sent to it, as `Core::beside` does. Nothing changes. Takes no
-    /// memory.
+    /// Shows that what each core took from the other begins what the other sent to it, as `Core::beside` does. Nothing
+    /// changes. Takes no memory.
     pub fn beside(&mut self, other: &mut Recorded<RingLinks>)
         requires { AreJoinedLinks self.old.links other.old.links }
         ensures core { self.new ≡ record self.old { links = self.new.links } }

@@ -33,7 +33,8 @@ pub trait Member {
         ensures none { IfNone result (GoesOn (core self.old) (core self.new)) }
         ensures some { IfSome result (λ halt. Halts lists halt (core self.new)) };
 
-    /// Shows that what each core took from the other begins what the other sent to it. Nothing changes. Takes no memory.
+    /// Shows that what each core took from the other begins what the other sent to it. Nothing changes. Takes no
+    /// memory.
     fn beside(&mut self, other: &mut Self)
         requires { AreJoinedLinks (core self.old).links (core other.old).links }
         ensures core { core self.new ≡ record (core self.old) { links = (core self.new).links } }

@@ -20,14 +20,16 @@ pub enum Settled {
     Spent(u16),
     /// The core of this number was refused memory for what it would do next.
     NoMemory(u16),
-    /// The core of this number was refused memory for one event more in the list of what it did. Only cores that keep such a list are.
+    /// The core of this number was refused memory for one event more in the list of what it did. Only cores that keep
+    /// such a list are.
     NoRoom(u16),
 }
 
-/// Turns all cores of a machine, round by round, until nothing is left to do: each request that a core was asked is decided, in order, all
-/// cores have the table of the whole log, and every ring is empty; or until a core lacks memory or a number, which is the only way in which a
-/// core of a machine halts. It takes at most one round more than the work ahead, which is a number of events and lines, and a machine
-/// at rest takes none. Everything done so far is kept, so settling again goes on from there. No job is received.
+/// Turns all cores of a machine, round by round, until nothing is left to do: each request that a core was asked is
+/// decided, in order, all cores have the table of the whole log, and every ring is empty; or until a core lacks memory
+/// or a number, which is the only way in which a core of a machine halts. It takes at most one round more than the work
+/// ahead, which is a number of events and lines, and a machine at rest takes none. Everything done so far is kept, so
+/// settling again goes on from there. No job is received.
 pub fn settle<T: Member>(cores: &mut [T]) -> Settled
     requires machine { (budget : ℕ) × (budgets : List ℕ) × IsMachine budget budgets (map T.core cores.old) }
     ensures machine { AreSameCores (map T.core cores.old) (map T.core cores.new) }

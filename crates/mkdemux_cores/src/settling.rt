@@ -12,10 +12,11 @@ use core_loop::{Core, RingLinks};
 use core_settle::{Settled, settle};
 use std::alloc::Global;
 
-/// Turns all cores of one machine, in the order of their numbers, round by round, until nothing is left to do: each request is decided
-/// then, and all cores are at one version. `DONE`, else `NO_MEMORY` or `SPENT` where a core has no memory or no number for what it would do
-/// next: what was done so far is kept, and settling again goes on from there. `CLOSED` where a core is closed, `NOT_MACHINE` where one is
-/// missing, twice or in another place, and nothing changes. No packet is received.
+/// Turns all cores of one machine, in the order of their numbers, round by round, until nothing is left to do: each
+/// request is decided then, and all cores are at one version. `DONE`, else `NO_MEMORY` or `SPENT` where a core has no
+/// memory or no number for what it would do next: what was done so far is kept, and settling again goes on from there.
+/// `CLOSED` where a core is closed, `NOT_MACHINE` where one is missing, twice or in another place, and nothing changes.
+/// No packet is received.
 #[unsafe(no_mangle)]
 pub extern "C" fn mkdemux_settle(alloc: Global, cores: &mut [CoreHandle]) -> u32
     requires machine { AreOfOneMachine cores.old }
