@@ -46,8 +46,8 @@
  * thread sees what another wrote, and time. A core that nobody turns holds up every change of the machine;
  * packets are still received.
  *
- * MEMORY is taken by malloc and realloc and given back by free. mkdemux_boot, mkdemux_turn,
- * mkdemux_settle and mkdemux_ask_.. take memory, and so does mkdemux_receive for the first packet after a change of the table.
+ * MEMORY is taken by malloc and realloc and given back by free. mkdemux_boot, mkdemux_turn, mkdemux_settle and
+ * mkdemux_ask_.. take memory, and so does mkdemux_receive for the first packet after a change of the table.
  * mkdemux_version, mkdemux_unanswered and mkdemux_close take none. How much a core holds depends on its
  * table and on the requests that it hasn't begun, and not on the number of packets or changes so far. */
 #ifndef MKDEMUX_CORES_H
@@ -208,8 +208,8 @@ uint32_t mkdemux_turn(mkdemux_core *core, mkdemux_turned *turned);
  * For a machine whose cores are all in one thread, and for the end of a run whose threads have stopped. No packet
  * is received. `cores` has all `count` cores of the machine, in the order of mkdemux_boot.
  * OK: each request has its decision, all cores are at one version, and no message is under way.
- * NO_MEMORY, SPENT: a core has no memory, or no number left, for what it would do next. All that was done is kept,
- * and another call goes on from there.
+ * NO_MEMORY, SPENT: a core has no memory, or no number left, for what it would do next, or there is no memory for
+ * the call's own list of the cores. All that was done is kept, and another call goes on from there.
  * CLOSED: one of the cores is closed. NOT_MACHINE: there are none, or a core is missing, there twice, in another
  * place or of a machine with another count of cores. Nothing has changed.
  * OWED: two cores of different machines that have equal counts can't be told apart: the cores were opened by one
