@@ -92,11 +92,12 @@ impl Read for Input {
     }
 }
 
-/// Standard output, and whether nobody reads it any more.
+/// Standard output, whether nobody reads it any more, and whether anything was written.
 #[derive(Drop)]
 pub struct Output {
     inner: Stdout,
     closed: bool,
+    used: bool,
 }
 
 impl Output {
@@ -105,7 +106,13 @@ impl Output {
         Output {
             inner,
             closed: false,
+            used: false,
         }
+    }
+
+    /// Whether anything was written.
+    pub fn is_used(&self) -> bool {
+        self.used
     }
 
     /// Whether a write failed since nobody reads the output any more.
@@ -117,8 +124,9 @@ impl Output {
 impl Write for Output {
     fn write(&mut self, bytes: &[u8]) -> io::Result<usize> {
         let answer = self.inner.write(bytes);
-        if let Err(error) = &answer {
-            self.closed = error.kind() == ErrorKind::BrokenPipe;
+        match &answer {
+            Ok(_) => self.used = true,
+            Err(error) => self.closed = error.kind() == ErrorKind::BrokenPipe,
         }
         answer
     }

@@ -142,6 +142,9 @@ fn answer_with<T: Threads + Wait + Clock + Sync>(
         Ok(status) => {
             warn(rt, invocation.link, links);
             complain(rt, complaint.as_str());
+            if !sink.inner().is_used() {
+                remind(rt, request);
+            }
             if status == REFUSED {
                 explain(rt, request, &source, source.left() == reads);
             }
@@ -234,6 +237,15 @@ fn complain(rt: &HostRuntime, complaint: &str) {
 fn explain(rt: &HostRuntime, request: &Request, source: &Source<Input>, is_unread: bool) {
     if let Some(hint) = hint(request, source, is_unread) {
         let _ = eprintln!(rt; "mkdemux: {hint}");
+    }
+}
+
+/// Says on standard error what a script needs that has printed nothing.
+fn remind(rt: &HostRuntime, request: &Request) {
+    if let Request::Sim { .. } = request {
+        let _ = eprintln!(rt;
+            "mkdemux: the script printed nothing: settle begins what it asks for, and show C prints core C's table"
+        );
     }
 }
 
