@@ -1,5 +1,5 @@
 -- What is kept of captures in pcapng.
-use Rattle.std.proofs.Common.{[], ◌∷◌, ◌++◌, None, inl, refl}
+use Rattle.std.proofs.Common.{[], ◌∷◌, ◌++◌, false, None, inl, refl}
 use Rattle.pcapng_reader.specs.declared.block.Content.TheVariants.{Packet}
 use Rattle.keep_engine.specs.Keeping.{Keeps}
 use Rattle.definitions_tried.specs.Blocks.{little_section, interface, arp_block, simple_block, begins, enhanced, simple, block, head, accepted, accepted_of, refused}
