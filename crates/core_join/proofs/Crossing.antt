@@ -78,16 +78,19 @@ inside_send =
                 (
                   search (sendable, heap.the_send, blocks.the_frees, deque.the_send, op.the_send) depth 14,
                   (
-                    intake.the_field_send,
+                    search sendable depth 14,
                     (
-                      search (sendable, log.the_send, stamped.the_send) depth 14,
+                      intake.the_field_send,
                       (
-                        search sendable depth 14,
+                        search (sendable, log.the_send, stamped.the_send) depth 14,
                         (
-                          scratch.the_field_send,
+                          search sendable depth 14,
                           (
-                            search (sendable, cause.the_send) depth 14,
-                            tt,
+                            scratch.the_field_send,
+                            (
+                              search (sendable, cause.the_send) depth 14,
+                              tt,
+                            ),
                           ),
                         ),
                       ),
