@@ -200,7 +200,7 @@ unread
 words
 
 # The commands of each page, with what the page says that they print.
-for page in README.md docs/messages.md docs/recipes.md docs/scripts.md docs/run.md docs/pictures.md examples/commands.md; do
+for page in README.md docs/messages.md docs/recipes.md docs/scripts.md docs/run.md docs/pictures.md docs/crates.md examples/commands.md; do
     ./blocks.py "$page"
     count "$page" $?
 done
