@@ -92,7 +92,8 @@ misses() {
     count "$missing" $?
 }
 
-# FILTER EXPRESSION FILE..: of each capture `keep` gives what tcpdump writes for this expression, where tcpdump is there; kept or
+# FILTER EXPRESSION FILE..: of each capture `keep` gives what tcpdump writes for this expression, where tcpdump is there, and the same of
+# it in pcapng, where editcap is; kept or
 # left out, each record goes to one of the two; and a filter that accepts all gives the capture.
 keeps() {
     filter=$(cat "$1.ddd")
@@ -105,9 +106,21 @@ keeps() {
         ../mkdemux keep --not "$filter" "$capture" > "$made/left" || return 1
         both=$(($(wc -c < "$made/kept") + $(wc -c < "$made/left") - 24))
         [ "$both" -eq "$(wc -c < "$capture")" ] || return 1
+        if command -v editcap > /dev/null; then
+            keeps_blocks "$capture" || return 1
+        fi
         command -v tcpdump > /dev/null || continue
         tcpdump -r "$capture" -w - "$expression" 2> /dev/null > "$made/theirs" && cmp -s "$made/kept" "$made/theirs" || return 1
     done
+}
+
+# CAPTURE: written in pcapng by editcap, the same packets of it are kept, with the same times, and all where the filter accepts all.
+keeps_blocks() {
+    editcap -F pcapng "$1" "$made/blocks" 2> /dev/null || return 1
+    ../mkdemux keep '1,6 0 0 1' "$made/blocks" | cmp -s - "$made/blocks" || return 1
+    ../mkdemux keep "$filter" "$made/blocks" > "$made/kept-blocks" || return 1
+    ../mkdemux match --pcap --number '1,6 0 0 1' "$made/kept" > "$made/ours" || return 1
+    ../mkdemux match --pcap --number '1,6 0 0 1' "$made/kept-blocks" | cmp -s - "$made/ours"
 }
 
 prints two-phase two-phase
