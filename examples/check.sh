@@ -93,8 +93,7 @@ misses() {
 }
 
 # FILTER EXPRESSION FILE..: of each capture `keep` gives what tcpdump writes for this expression, where tcpdump is there, and the same of
-# it in pcapng, where editcap is; kept or
-# left out, each record goes to one of the two; and a filter that accepts all gives the capture.
+# it in pcapng, where editcap is; kept or left out, each record goes to one of the two; and a filter that accepts all gives the capture.
 keeps() {
     filter=$(cat "$1.ddd")
     expression=$2
