@@ -334,6 +334,7 @@ static void look(struct lane *lane, const struct request **next)
     for (size_t i = lane->judged; i < lane->decided && lane->asked[i].from <= table.version; i++) {
         struct asked *asked = &lane->asked[i];
         mkdemux_turned turned = judge(&asked->request);
+        turned.request = i + 1;
         if (memcmp(&turned, &asked->turned, sizeof turned))
             continue;
         CHECK(lane, turned.decision != MKDEMUX_COMMITTED || !*next);

@@ -48,10 +48,9 @@ static int rounds_of(int count, unsigned busy, int victim, int vetoed)
     }
     /* nobody asks any more, so all are decided */
     if (mkdemux_settle(cores, (size_t)count) != MKDEMUX_CORE_OK) exit(2);
-    for (int i = 0; i < count; i++) {
+    for (int i = 0; i < count; i++)
         if (mkdemux_unanswered(&cores[i]) || mkdemux_version(&cores[i]) != mkdemux_version(&cores[0])) exit(2);
-        mkdemux_close(&cores[i]);
-    }
+    for (int i = 0; i < count; i++) mkdemux_close(&cores[i]);
     return decided;
 }
 

@@ -13,14 +13,20 @@ import subprocess
 import sys
 
 # Bytes that a call may take; all that aren't named take at most 2,048.
-MOST = {"mkdemux_boot_cores": 15360, "mkdemux_turn": 7168, "mkdemux_close_core": 3584, "mkdemux_assemble": 6656}
+MOST = {"mkdemux_boot_cores": 15360, "mkdemux_turn": 7680, "mkdemux_settle": 9728, "mkdemux_close_core": 3584, "mkdemux_assemble": 6656}
 OTHERS = 2048
 # Functions that call themselves, and how many of their calls are open at a time at most. A list that is sorted here has at most 1,024 items.
-# A shape of operands has at most nine parts.
+# A shape of operands has at most nine parts, and a machine eight cores.
 TIMES = {
     "core::slice::sort::unstable::quicksort": 20,
     "core::slice::sort::pivot::median_of_medians": 4,
     "filter_asm::operands::operands_at": 10,
+    "core_settle::settling::turn_each": 9,
+    "core_settle::looking::look_at_all": 8,
+    "core_settle::settling::at_rest": 9,
+    "mkdemux_cores::settling::fault_of": 9,
+    "mkdemux_cores::settling::take_all": 9,
+    "mkdemux_cores::booting::put_all": 9,
 }
 OUTSIDE = {"malloc", "realloc", "free", "memcpy", "memmove", "memset", "memcmp"}
 
