@@ -191,7 +191,8 @@ fn explain<'a>(alloc: Global) -> Result<Arg<'a>, AllocError>
     let explain = also_lone(explain, "stream");
     let explain = also_lone(explain, "number");
     let explain = also_lone(explain, "count");
-    also_lone(explain, "quiet")
+    let explain = also_lone(explain, "quiet");
+    also_lone(explain, "link")
 }
 
 // A flag that is refused beside one more, where it could be made.

@@ -1,9 +1,10 @@
 -- The link types of interfaces, one after the other.
-use Rattle.std.proofs.Common.{◌≡◌, ◌≢◌, ◌∙◌, ℕ, ◌⊎◌, inl, inr, List, [], ◌∷◌, ◌++◌, Option, arith, length, refl, ap, sym, append_assoc}
+use Rattle.std.proofs.Common.{◌≡◌, ◌≢◌, ◌∙◌, ℕ, inl, inr, List, [], ◌∷◌, ◌++◌, Option, arith, length, refl, ap, sym, append_assoc}
 use Rattle.std.specs.List.{Contains}
 use Rattle.std.proofs.lemmas.List.{append-nil}
 use Rattle.std.proofs.lemmas.List.Elements.{Contains-append_left, Contains-push, Contains-push_cases}
 use Rattle.capture_reader.specs.Entries.{EntryBytes}
+use Rattle.capture_reader.specs.declared.entry.Entry.{Entry}
 use Rattle.capture_reader.specs.declared.entry.Item.{Item}
 use Rattle.console.specs.declared.link_types.LinkTypes.{LinkTypes}
 use Rattle.console.specs.Running.{item_entries}
@@ -48,8 +49,15 @@ links_in-append [] more = refl
 links_in-append (e ∷ entries) more = ap (λ t. entry_links e.0 ++ t) (links_in-append entries more) ∙ sym (append_assoc (entry_links e.0) (links_in entries) (links_in more))
 
 -- an entry that is no interface adds none, and one that is one adds its own
-pub adds_none : (links : List ℕ) (item : Option Item) (types : LinkTypes) → links_in (item_entries item) ≡ [] → AreLinkTypes links types → AreLinkTypes (links ++ links_in (item_entries item)) types
-adds_none links item types none are = rw (none, append-nil links) are
+pub adds_none : (links : List ℕ) (entry : Entry) (types : LinkTypes) → entry_links entry ≡ [] → AreLinkTypes links types → AreLinkTypes (links ++ entry_links entry) types
+adds_none links entry types none are = rw (none, append-nil links) are
 
-pub adds_one : (links : List ℕ) (item : Option Item) (link : ℕ) (types : LinkTypes) → links_in (item_entries item) ≡ link ∷ [] → AreLinkTypes (links ++ link ∷ []) types → AreLinkTypes (links ++ links_in (item_entries item)) types
-adds_one links item link types one are = rw one are
+pub adds_one : (links : List ℕ) (entry : Entry) (link : ℕ) (types : LinkTypes) → entry_links entry ≡ link ∷ [] → AreLinkTypes (links ++ link ∷ []) types → AreLinkTypes (links ++ entry_links entry) types
+adds_one links entry link types one are = rw one are
+
+-- the same of an entry that was seen, if one was
+pub sees_none : (links : List ℕ) (item : Option Item) (types : LinkTypes) → links_in (item_entries item) ≡ [] → AreLinkTypes links types → AreLinkTypes (links ++ links_in (item_entries item)) types
+sees_none links item types none are = rw (none, append-nil links) are
+
+pub sees_one : (links : List ℕ) (item : Option Item) (entry : Entry) (types : LinkTypes) → links_in (item_entries item) ≡ entry_links entry ++ [] → AreLinkTypes (links ++ entry_links entry) types → AreLinkTypes (links ++ links_in (item_entries item)) types
+sees_one links item entry types one are = rw (one ∙ append-nil (entry_links entry)) are

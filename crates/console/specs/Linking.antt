@@ -1,6 +1,6 @@
 -- The link types that the interfaces of a capture have (pcap-savefile(5) of libpcap; draft-ietf-opsawg-pcapng, "Interface Description
 -- Block").
-use Rattle.std.specs.Prelude.{◌≡◌, ◌≢◌, ℕ, List, [], ◌∷◌, ◌++◌, All}
+use Rattle.std.specs.Prelude.{◌≡◌, ◌≢◌, ℕ, List, [], ◌∷◌, ◌++◌}
 use Rattle.std.specs.List.{Contains}
 use Rattle.capture_reader.specs.declared.entry.Entry.{Entry}
 use Rattle.capture_reader.specs.declared.entry.Entry.TheVariants.{Savefile, Interface}

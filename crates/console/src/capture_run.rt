@@ -1,6 +1,6 @@
 //! Running a filter on the packets of a capture while it is read.
 
-ghost use Rattle.std.specs.Prelude.{◌≡◌, ◌≤◌, ◌++◌, ◌∷◌, List, [], Bool, if◌then◌else◌, IfOk, IfErr, OnOk, true, false};
+ghost use Rattle.std.specs.Prelude.{◌≡◌, ◌≤◌, ◌++◌, ◌∷◌, ℕ, List, [], Bool, if◌then◌else◌, IfOk, IfErr, OnOk, true, false};
 ghost use Rattle.std.specs.List.{AllZip};
 ghost use Rattle.bpf_insn.specs.declared.insn.Insn.{Insn};
 ghost use Rattle.filter_vm.specs.declared.machine.Outcome.{Outcome as Ended};
@@ -10,7 +10,8 @@ ghost use Rattle.console.specs.Choosing.{chosen, is_chosen, is_link};
 ghost use Rattle.console.specs.Matching.{AnswersCaptured};
 ghost use Rattle.console.specs.Reading.{GetsSome, IsReadFault, most_taken};
 ghost use Rattle.console.specs.Devices.{IsReadThrough, StopsReading};
-ghost use Rattle.console.specs.Running.{HasRun, RunsInput, RunsItem};
+ghost use Rattle.console.specs.Linking.{AreLinkTypes, links_in};
+ghost use Rattle.console.specs.Running.{HasRun, RunsInput, RunsItem, item_entries};
 
 use crate::input::{BLOCK, INPUT_BYTES};
 use crate::{EngineFault, Got, LinkTypes, Source};
@@ -114,12 +115,12 @@ impl CaptureRun {
     {
         match self.feed.next(rest) {
             Ok(Found::Item(item)) => {
-                self.links = self.links.with_entry(Some(item));
                 run_found(
                     program,
                     self.link,
                     self.stamped,
                     Some(item),
+                    &mut self.links,
                     outcomes,
                     stamps,
                 )?;
@@ -127,8 +128,15 @@ impl CaptureRun {
             }
             Ok(Found::Held) => {
                 let held = self.feed.held();
-                self.links = self.links.with_entry(held);
-                run_found(program, self.link, self.stamped, held, outcomes, stamps)?;
+                run_found(
+                    program,
+                    self.link,
+                    self.stamped,
+                    held,
+                    &mut self.links,
+                    outcomes,
+                    stamps,
+                )?;
                 Ok(false)
             }
             Ok(Found::Nothing) => Ok(false),
@@ -161,23 +169,25 @@ impl CaptureRun {
 }
 
 /// Runs the filter on the packet of an entry, if there is one that is chosen, and appends the outcome, and the time if times are
-/// kept.
-#[inline]
+/// kept. Of an interface it adds the link type.
 fn run_found(
     program: &Predecoded,
     link: Option<u32>,
     stamped: bool,
     item: Option<Item<'_>>,
+    links: &mut LinkTypes,
     outcomes: &mut Vec<Outcome>,
     stamps: &mut Vec<PacketTime>,
 ) -> Result<(), AllocError>
     ensures runs { OnOk result (RunsItem program.now link stamped item.entry outcomes.old.items outcomes.new.items stamps.old.items stamps.new.items) }
     ensures plain { stamped ≡ false → stamps.new.items ≡ stamps.old.items }
+    ensures links { (before : List ℕ) → AreLinkTypes before links.old → AreLinkTypes (before ++ links_in (item_entries item.entry)) links.new }
 {
     let Some(item) = item else {
         return Ok(());
     };
     let Entry::Packet(info) = item.entry else {
+        *links = links.with_entry(item.entry);
         return Ok(());
     };
     if !is_link(link, info.link) {

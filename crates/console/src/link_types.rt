@@ -1,11 +1,9 @@
 //! The link types that the interfaces of a capture have.
 
 ghost use Rattle.std.specs.Prelude.{◌≡◌, ◌++◌, ◌∷◌, List, [], ℕ};
-ghost use Rattle.capture_reader.specs.Steps.{seen_item};
-ghost use Rattle.console.specs.Linking.{AreLinkTypes, links_in};
-ghost use Rattle.console.specs.Running.{item_entries};
+ghost use Rattle.console.specs.Linking.{AreLinkTypes, entry_links};
 
-use capture_reader::{Entry, Item};
+use capture_reader::Entry;
 
 /// The link types that the interfaces of a capture have. A savefile has one interface.
 #[derive(Clone, Copy, PartialEq, Eq, Debug)]
@@ -32,14 +30,10 @@ impl LinkTypes {
     }
 
     /// The link types with that of an entry, if it is an interface.
-    #[inline]
-    pub fn with_entry(self, item: Option<Item<'_>>) -> LinkTypes
-        ensures { (links : List ℕ) → AreLinkTypes links self → AreLinkTypes (links ++ links_in (item_entries item.entry)) result }
+    pub fn with_entry(self, entry: Entry) -> LinkTypes
+        ensures { (links : List ℕ) → AreLinkTypes links self → AreLinkTypes (links ++ entry_links entry) result }
     {
-        let Some(item) = item else {
-            return self;
-        };
-        match item.entry {
+        match entry {
             Entry::Packet(_) => self,
             Entry::Section(_) => self,
             Entry::Savefile(header) => self.with(header.network),

@@ -1,5 +1,5 @@
 -- A capture of either format that comes in pieces.
-use Rattle.std.proofs.Common.{◌≡◌, ℕ, ◌<◌, ◌≤◌, inl, inr, Bool, true, false, List, ◌++◌, length, arith, refl, sym, ◌∙◌, length-append, Option, Some, Result, Ok, Err}
+use Rattle.std.proofs.Common.{◌≡◌, ℕ, ◌<◌, ◌≤◌, inl, inr, true, false, List, ◌++◌, length, arith, refl, sym, ◌∙◌, length-append, Option, Some, Result, Ok, Err}
 use Rattle.std.specs.Prelude.{OnOk, nat_lt, option_map}
 use Rattle.bpf_insn.specs.declared.insn.Insn.{Insn}
 use Rattle.pcap_reader.proofs.Fronts.{word-front}

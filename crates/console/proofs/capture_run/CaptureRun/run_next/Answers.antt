@@ -6,13 +6,13 @@ use Rattle.console.proofs.capture_run.CaptureRun.run_next.Goals as goal
 
 pub returns-in_ok-run_found-in-Ok-Item-clause-runs : goal.returns-in_ok-run_found-in-Ok-Item-clause-runs
 returns-in_ok-run_found-in-Ok-Item-clause-runs c =
-    run_item c.args.program.now c.args.rest.now.now c.next.new.rest.now c.args.self.now (record c.args.self.now { feed = c.next.new.self; links = c.with_entry-self.result }) (Item c.in-Ok-Item.item) (Some c.in-Ok-Item.item) _ _ _ _
-    (rw c.in-Ok-Item.field-0-is at c.in-Ok-Item.ensures.advances) refl refl refl c.in_ok-run_found-in-Ok-Item.ensures.runs c.with_entry-self.ensures
+    run_item c.args.program.now c.args.rest.now.now c.next.new.rest.now c.args.self.now (record c.args.self.now { feed = c.next.new.self; links = c.run_found.new.links }) (Item c.in-Ok-Item.item) (Some c.in-Ok-Item.item) _ _ _ _
+    (rw c.in-Ok-Item.field-0-is at c.in-Ok-Item.ensures.advances) refl refl refl c.in_ok-run_found-in-Ok-Item.ensures.runs c.run_found.ensures.links
 
 pub returns-in_ok-run_found-in-Ok-Held-clause-runs : goal.returns-in_ok-run_found-in-Ok-Held-clause-runs
 returns-in_ok-run_found-in-Ok-Held-clause-runs c =
-    run_item c.args.program.now c.args.rest.now.now c.next.new.rest.now c.args.self.now (record c.args.self.now { feed = c.next.new.self; links = c.with_entry-self-in-Ok-Held.result }) Held c.held-held.result _ _ _ _
-    (rw c.in-Ok-Held.field-0-is at c.in-Ok-Held.ensures.advances) (found_held c.next.new.self c.held-held.result c.held-held.ensures) refl refl c.in_ok-run_found-in-Ok-Held.ensures.runs c.with_entry-self-in-Ok-Held.ensures
+    run_item c.args.program.now c.args.rest.now.now c.next.new.rest.now c.args.self.now (record c.args.self.now { feed = c.next.new.self; links = c.run_found-in-Ok-Held.new.links }) Held c.held-held.result _ _ _ _
+    (rw c.in-Ok-Held.field-0-is at c.in-Ok-Held.ensures.advances) (found_held c.next.new.self c.held-held.result c.held-held.ensures) refl refl c.in_ok-run_found-in-Ok-Held.ensures.runs c.run_found-in-Ok-Held.ensures.links
 
 pub returns-in-Ok-Nothing-clause-runs : goal.returns-in-Ok-Nothing-clause-runs
 returns-in-Ok-Nothing-clause-runs c =

@@ -2,17 +2,14 @@ use Rattle.std.proofs.Common.{refl}
 use Rattle.console.proofs.LinkLemmas.{adds_none, adds_one}
 use Rattle.console.proofs.link_types.LinkTypes.with_entry.Goals as goal
 
-pub returns-in_default : goal.returns-in_default
-returns-in_default c = λ links are. adds_none links c.args.item c.args.self (rw c.in_default.is refl) are
-
 pub returns-in-Packet : goal.returns-in-Packet
-returns-in-Packet c = λ links are. adds_none links c.args.item c.args.self (rw (c.in-Some.is, c.in-Packet.is) refl) are
+returns-in-Packet c = λ links are. adds_none links c.args.entry c.args.self (rw c.in-Packet.is refl) are
 
 pub returns-in-Section : goal.returns-in-Section
-returns-in-Section c = λ links are. adds_none links c.args.item c.args.self (rw (c.in-Some.is, c.in-Section.is) refl) are
+returns-in-Section c = λ links are. adds_none links c.args.entry c.args.self (rw c.in-Section.is refl) are
 
 pub returns-in-Savefile : goal.returns-in-Savefile
-returns-in-Savefile c = λ links are. adds_one links c.args.item c.in-Savefile.header.network c.with.result (rw (c.in-Some.is, c.in-Savefile.is) refl) (c.with.ensures links are)
+returns-in-Savefile c = λ links are. adds_one links c.args.entry c.in-Savefile.header.network c.with.result (rw c.in-Savefile.is refl) (c.with.ensures links are)
 
 pub returns-in-Interface : goal.returns-in-Interface
-returns-in-Interface c = λ links are. adds_one links c.args.item c.in-Interface.interface.link c.with-in-Interface.result (rw (c.in-Some.is, c.in-Interface.is) refl) (rw c.from.ensures at (c.with-in-Interface.ensures links are))
+returns-in-Interface c = λ links are. adds_one links c.args.entry c.in-Interface.interface.link c.with-in-Interface.result (rw c.in-Interface.is refl) (rw c.from.ensures at (c.with-in-Interface.ensures links are))

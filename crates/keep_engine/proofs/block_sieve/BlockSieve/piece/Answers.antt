@@ -1,4 +1,4 @@
-use Rattle.std.proofs.Common.{◌++◌, ◌∙◌, ap, append_assoc, refl, sym}
+use Rattle.std.proofs.Common.{◌++◌, ◌∙◌, ap, append_assoc, sym}
 use Rattle.keep_engine.specs.declared.block_sieve.BlockSieve.{BlockSieve}
 use Rattle.keep_engine.specs.Sieving.{HasSiftedBlocks}
 use Rattle.keep_engine.proofs.BlockSieveLemmas.{sifts_then, skim_sifts, step_sifts, stopped_sifts}
