@@ -7,7 +7,7 @@
  * A program is an array that libpcap's pcap_compile gives, and that BSD's bpf(4) and Linux's SO_ATTACH_FILTER take:
  * records of eight bytes, code (16 bits), jt, jf (8 bits each), k (32 bits), in the machine's byte order.
  *
- * C99 and C++. If <pcap.h> is included before, there is also mkdemux_offline_filter.
+ * C99 and C++. It may be included before <pcap.h> or after it, and before <mkdemux_cores.h> or after it.
  */
 #ifndef MKDEMUX_H
 #define MKDEMUX_H
@@ -16,6 +16,16 @@
 #include <stdint.h>
 #include <stdlib.h>
 #include <string.h>
+
+/* The version of this header, and of the archive that it came with. (mkdemux_cores.h has it too, and what follows.) */
+#ifndef MKDEMUX_VERSION
+#define MKDEMUX_VERSION "0.1.0"
+#endif
+
+/* Calls that are plain C over the proved ones. libmkdemux.so has all of them as functions, too. */
+#ifndef MKDEMUX_CALL
+#define MKDEMUX_CALL static inline
+#endif
 
 #ifdef __cplusplus
 extern "C" {
@@ -247,7 +257,7 @@ typedef struct mkdemux_program {
 /* Copies and verifies `count` records of eight bytes at `code` (struct bpf_insn, struct sock_filter or struct
  * mkdemux_insn, at any address; `code` may be NULL if the count is 0). The answer is NULL if the program is refused;
  * `rule` and `place`, each of which may be NULL, say why. Only the copy is run: the caller may free its own array. */
-static inline const mkdemux_program *mkdemux_open(const void *code, size_t count, uint32_t *rule, struct mkdemux_place *place)
+MKDEMUX_CALL const mkdemux_program *mkdemux_open(const void *code, size_t count, uint32_t *rule, struct mkdemux_place *place)
 {
     struct mkdemux_place where = {0, 0, 0};
     uint32_t answer = count > MKDEMUX_MAX_INSNS ? (uint32_t)MKDEMUX_TOO_LONG : (uint32_t)MKDEMUX_NO_MEMORY;
@@ -271,8 +281,8 @@ static inline const mkdemux_program *mkdemux_open(const void *code, size_t count
     return made;
 }
 
-/* Frees the copy. For NULL it does nothing. Call it by the name mkdemux_close. */
-static inline void mkdemux_close_program(const mkdemux_program *program)
+/* Frees the copy. For NULL it does nothing. In C and C++ it has the shorter name mkdemux_close, too. */
+MKDEMUX_CALL void mkdemux_close_program(const mkdemux_program *program)
 {
     free((void *)(uintptr_t)program);
 }
@@ -280,23 +290,46 @@ static inline void mkdemux_close_program(const mkdemux_program *program)
 /* Answers as bpf_filter does, with its arguments, for a program that was opened and not closed: the verdict on `buflen`
  * captured bytes at `p` of a packet whose original length is `wirelen`. `program` must not be NULL. `p` may be NULL if
  * `buflen` is 0. */
-static inline uint32_t mkdemux_filter(const mkdemux_program *program, const uint8_t *p, uint32_t wirelen, uint32_t buflen)
+MKDEMUX_CALL uint32_t mkdemux_filter(const mkdemux_program *program, const uint8_t *p, uint32_t wirelen, uint32_t buflen)
 {
     return mkdemux_verdict(program->code, program->count, p, buflen, wirelen);
 }
 
+/* Answers as pcap_offline_filter does, for a program that was opened from fp->bf_insns and fp->bf_len: 0 if the packet
+ * isn't accepted, or if the program is NULL. Before its two lengths libpcap's header has a time stamp. */
+struct pcap_pkthdr;
+MKDEMUX_CALL int mkdemux_offline_filter(const mkdemux_program *program, const struct pcap_pkthdr *header, const uint8_t *packet)
+{
+    struct {
+        long time[2];
+        uint32_t captured, original;
+    } seen;
+    if (!program) return 0;
+    memcpy(&seen, header, sizeof seen);
+    return (int)mkdemux_filter(program, packet, seen.original, seen.captured);
+}
+
 /* The word for an answer of mkdemux_verify, as in `mkdemux match`. */
-static inline const char *mkdemux_rule_name(uint32_t rule)
+#ifndef MKDEMUX_RULE_NAME
+#define MKDEMUX_RULE_NAME
+MKDEMUX_CALL const char *mkdemux_rule_name(uint32_t rule)
 {
     static const char *const names[] = {"accepted", "Empty", "TooLong", "BadCode", "ZeroDivisor", "BadShift", "BadWord",
         "JumpOut", "Ancillary", "NoReturn", "Unwritten"};
     return rule < sizeof names / sizeof *names ? names[rule] : "NoMemory";
 }
 
+/* MKDEMUX_VERSION; a function of libmkdemux.so says which version that is. */
+MKDEMUX_CALL const char *mkdemux_library_version(void)
+{
+    return MKDEMUX_VERSION;
+}
+#endif
+
 /* ---- Words for captures: plain C, not proved ---- */
 
 /* The word for a fault of a capture, as in `mkdemux match`. */
-static inline const char *mkdemux_capture_fault_name(uint32_t answer)
+MKDEMUX_CALL const char *mkdemux_capture_fault_name(uint32_t answer)
 {
     static const char *const names[] = {"NoSection", "BadByteOrder", "BadLength", "LengthNotRepeated", "BadVersion",
         "NoInterface", "BadCaptured", "TooManyInterfaces", "TooLong", "BadMagic"};
@@ -305,7 +338,7 @@ static inline const char *mkdemux_capture_fault_name(uint32_t answer)
 }
 
 /* Why a capture isn't whole that ends after these bytes, for which mkdemux_next has answered MKDEMUX_MORE; or NULL. */
-static inline const char *mkdemux_capture_cut(const struct mkdemux_capture *capture, const uint8_t *bytes, size_t length)
+MKDEMUX_CALL const char *mkdemux_capture_cut(const struct mkdemux_capture *capture, const uint8_t *bytes, size_t length)
 {
     static const uint8_t section[] = {0x0a, 0x0d, 0x0d, 0x0a};
     if (capture->format == 0)
@@ -316,29 +349,19 @@ static inline const char *mkdemux_capture_cut(const struct mkdemux_capture *capt
 
 #ifdef __cplusplus
 }
-#endif
-
-/* mkdemux_cores.h has a mkdemux_close, too. If it is included, mkdemux_close closes a program or a core. */
-#ifdef __cplusplus
 static inline void mkdemux_close(const mkdemux_program *program)
 {
     mkdemux_close_program(program);
 }
-#elif defined(MKDEMUX_CORES_H)
-#define mkdemux_close(it) (__extension__ _Generic((it), mkdemux_core *: mkdemux_close, default: mkdemux_close_program)(it))
+#endif
+
+/* mkdemux_close closes a program, and a core where mkdemux_cores.h is included, too. */
+#ifndef __cplusplus
+#undef mkdemux_close
+#ifdef MKDEMUX_CORES_H
+#define mkdemux_close(it) (__extension__ _Generic((it), mkdemux_core *: mkdemux_close_core, default: mkdemux_close_program)(it))
 #else
 #define mkdemux_close mkdemux_close_program
 #endif
 #endif
-
-/* ---- With libpcap ---- */
-#if defined(PCAP_VERSION_MAJOR) && !defined(MKDEMUX_OFFLINE_FILTER)
-#define MKDEMUX_OFFLINE_FILTER
-
-/* As pcap_offline_filter, for a program that was opened from fp->bf_insns and fp->bf_len: 0 if the packet isn't
- * accepted, or if the program is NULL. */
-static inline int mkdemux_offline_filter(const mkdemux_program *program, const struct pcap_pkthdr *header, const u_char *packet)
-{
-    return program ? (int)mkdemux_filter(program, packet, header->len, header->caplen) : 0;
-}
 #endif

@@ -39,11 +39,14 @@
  * value is as the call before left it. A closed core, an impossible count of cores, a program that is too
  * long and running out of memory are answers.
  *
- * WHAT ISN'T PROVED: progress. A request is decided once all cores have been turned often enough. A core
- * that nobody turns holds up every change of the machine; packets are still received. No proof says how
- * many turns or how much time a change takes.
+ * PROGRESS. If one caller holds all cores, mkdemux_settle ends with every request decided; that is proved. If
+ * threads turn them, this is proved: after more rounds than the work ahead, in each of which every core is turned
+ * at least once, in any order, and none lacks memory, all are decided, if between rounds each core sees
+ * what was sent to it. Core 0 takes the requests of all cores in turn. NOT PROVED: that a thread runs, that one
+ * thread sees what another wrote, and time. A core that nobody turns holds up every change of the machine;
+ * packets are still received.
  *
- * MEMORY is taken by malloc and realloc and given back by free. mkdemux_boot, mkdemux_turn and
+ * MEMORY is taken by malloc and realloc and given back by free. mkdemux_boot, mkdemux_turn, mkdemux_settle and
  * mkdemux_ask_.. take memory, and so does mkdemux_receive for the first packet after a change of the table.
  * mkdemux_version, mkdemux_unanswered and mkdemux_close take none. How much a core holds depends on its
  * table and on the requests that it hasn't begun, and not on the number of packets or changes so far. */
@@ -52,6 +55,16 @@
 
 #include <stddef.h>
 #include <stdint.h>
+
+/* The version of this header, and of the archive that it came with. */
+#ifndef MKDEMUX_VERSION
+#define MKDEMUX_VERSION "0.1.0"
+#endif
+
+/* Calls that are plain C over the proved ones. libmkdemux.so has all of them as functions, too. */
+#ifndef MKDEMUX_CALL
+#define MKDEMUX_CALL static inline
+#endif
 
 #ifdef __cplusplus
 extern "C" {
@@ -88,7 +101,7 @@ enum mkdemux_core_answer {
     MKDEMUX_CORE_CLOSED = 1,     /* the core is closed */
     MKDEMUX_CORE_NOT_CORES = 2,  /* of mkdemux_boot: not 1 to 8 cores */
     MKDEMUX_CORE_NO_MEMORY = 3,  /* malloc or realloc refused */
-    MKDEMUX_CORE_NO_ROOM = 4,    /* of mkdemux_receive: the room is too small */
+    MKDEMUX_CORE_NO_ROOM = 4,    /* of receipts and mkdemux_filter_code: the room is too small */
     MKDEMUX_CORE_TOO_LONG = 5,   /* of requests: a program of more than 4,096 instructions, which no message
                                     holds. Core 0 needs no message: it takes the request, and refuses it as
                                     BAD_PROGRAM + 2, or vetoes it if it has no budget for it */
@@ -97,7 +110,9 @@ enum mkdemux_core_answer {
     MKDEMUX_CORE_SPENT = 7,      /* a number that only grows is at its end, 2^64 - 1 */
     MKDEMUX_CORE_IDLE = 8,       /* of mkdemux_turn: no message was complete, and no request could begin */
     MKDEMUX_CORE_OPEN = 9,       /* of mkdemux_boot: one of the cores is open already */
-    MKDEMUX_CORE_BAD_RIGHTS = 10 /* of mkdemux_ask_mint: rights that aren't 1, 2 or 3 */
+    MKDEMUX_CORE_BAD_RIGHTS = 10, /* of mkdemux_ask_mint: rights that aren't 1, 2 or 3 */
+    MKDEMUX_CORE_NO_FILTER = 11,  /* of mkdemux_filter_code: no filter of this id is listed */
+    MKDEMUX_CORE_NOT_MACHINE = 12 /* of mkdemux_settle: not the cores of one machine, each in its place */
 };
 
 /* ---- A machine ---- */
@@ -112,16 +127,15 @@ uint32_t mkdemux_boot_cores(const uint32_t *budgets, size_t count, mkdemux_core 
  * OK: each core is open, at version 0, with no request. NOT_CORES, OPEN, NO_MEMORY: none was touched.
  * Proved: with OK these are the cores of one machine in which nothing has been done; NOT_CORES is answered
  * exactly for a count that isn't 1 to 8. Takes memory. */
-static inline uint32_t mkdemux_boot(const uint32_t *budgets, size_t count, mkdemux_core *cores)
+MKDEMUX_CALL uint32_t mkdemux_boot(const uint32_t *budgets, size_t count, mkdemux_core *cores)
 {
     return mkdemux_boot_cores(budgets, count, cores, count);
 }
 
-/* Closes a core, and frees all its memory. Does nothing for a closed core. The other cores of its machine
+/* Closes a core, and frees all its memory. In C and C++ it has the shorter name mkdemux_close, too. Does nothing for a closed core. The other cores of its machine
  * may be closed in any order, and still receive; but they make no change without this one. A request that
  * core 0 refuses is still answered while core 0 is open. */
-#undef mkdemux_close
-void mkdemux_close(mkdemux_core *core);
+void mkdemux_close_core(mkdemux_core *core);
 
 /* ---- Turns ---- */
 
@@ -172,6 +186,8 @@ typedef struct mkdemux_turned {
     uint32_t rule;     /* REFUSED, VETOED: a mkdemux_core_rule */
     uint32_t place;    /* BAD_PROGRAM: which instruction, from 0; 0 where no single one is at fault */
     uint32_t core;     /* REFUSED: 0. VETOED: the lowest-numbered core that says so */
+    uint64_t request;  /* of a DECISION: the number of the request that it is on, from 1 in the order in which this
+                          core was asked */
 } mkdemux_turned;
 
 /* Does at most one thing: takes a message from another core, or else begins the core's next request.
@@ -183,16 +199,34 @@ typedef struct mkdemux_turned {
  * complete, and no request could begin. NO_MEMORY: nothing was done; a later turn may do it. STOPPED,
  * SPENT: nothing was done, nor will a later turn do anything.
  * Proved: with OK the core went on by one event of the protocol, and a reported decision is the one on its
- * oldest request that had none, with that decision's version, id, rule, place and core; STOPPED, SPENT and
+ * oldest request that had none, with that decision's number, version, id, rule, place and core; STOPPED, SPENT and
  * NO_MEMORY are answered only for a cause that holds. `turned` is written, except for a closed core. Takes
  * memory. */
 uint32_t mkdemux_turn(mkdemux_core *core, mkdemux_turned *turned);
+
+/* Turns all cores of one machine, round by round, until nothing is left to do. It waits for nobody, so it ends.
+ * For a machine whose cores are all in one thread, and for the end of a run whose threads have stopped. No packet
+ * is received. `cores` has all `count` cores of the machine, in the order of mkdemux_boot.
+ * OK: each request has its decision, all cores are at one version, and no message is under way.
+ * NO_MEMORY, SPENT: a core has no memory, or no number left, for what it would do next, or there is no memory for
+ * the call's own list of the cores. All that was done is kept, and another call goes on from there.
+ * CLOSED: one of the cores is closed. NOT_MACHINE: there are none, or a core is missing, there twice, in another
+ * place or of a machine with another count of cores. Nothing has changed.
+ * OWED: two cores of different machines that have equal counts can't be told apart: the cores were opened by one
+ * call of mkdemux_boot. No other call on any of them runs meanwhile.
+ * Proved: all of this, and that it takes at most so many rounds, each of one turn of every core, as core_settle's
+ * work ahead says. With OK the n-th decision of each core is on its n-th request. Decisions aren't reported; the
+ * versions and mkdemux_unanswered show them. Takes memory. */
+uint32_t mkdemux_settle(mkdemux_core *cores, size_t count);
 
 /* The version of the core's table: how many changes it has. 0 for a closed core. */
 uint64_t mkdemux_version(mkdemux_core *core);
 
 /* How many requests of the core have no decision yet. 0 for a closed core. */
 uint64_t mkdemux_unanswered(mkdemux_core *core);
+
+/* How many requests the core was asked: the number of the last one. 0 for a closed core. */
+uint64_t mkdemux_asked(mkdemux_core *core);
 
 /* ---- Requests ----
  *
@@ -262,18 +296,83 @@ struct mkdemux_kept {
 uint32_t mkdemux_receive(mkdemux_core *core, const uint8_t *packet, size_t captured, uint32_t original,
     struct mkdemux_kept *room, size_t size, size_t *count);
 
+/* A packet in the caller's memory. */
+struct mkdemux_packet {
+    const uint8_t *at; /* its captured bytes; NULL if there are none */
+    size_t captured;   /* how many these are */
+    uint32_t original; /* its original length */
+};
+
+/* mkdemux_receive_burst calls this, with the length of each array. OWED: `places` isn't less than `count`; only so
+ * many of the counts are used as there are packets. */
+uint32_t mkdemux_receive_packets(mkdemux_core *core, const struct mkdemux_packet *packets, size_t count,
+    struct mkdemux_kept *room, size_t size, size_t *counts, size_t places, size_t *done);
+
+/* Receives packets one after another, each as mkdemux_receive does, all at the core's version. The endpoints of
+ * each stand in `room` after those of the packet before, and `counts`, which has `count` places, has how many
+ * each packet has. `*done` says how many packets were received.
+ * OK: all were, also if there are none. NO_ROOM, NO_MEMORY, STOPPED, SPENT: the packet after the first `*done`
+ * wasn't, for this reason, nor was any after it; call again for these. CLOSED: `*done` is 0.
+ * Proved: each of the first `*done` packets is received as mkdemux_receive says, in order; the next one is refused
+ * for a cause that holds; and the rest of the room and of the counts is as it was. */
+MKDEMUX_CALL uint32_t mkdemux_receive_burst(mkdemux_core *core, const struct mkdemux_packet *packets, size_t count,
+    struct mkdemux_kept *room, size_t size, size_t *counts, size_t *done)
+{
+#ifdef __GNUC__
+    size_t ahead;
+    for (ahead = 0; ahead < count && ahead < 64; ahead++)
+        __builtin_prefetch(packets[ahead].at);
+#endif
+    return mkdemux_receive_packets(core, packets, count, room, size, counts, count, done);
+}
+
+/* ---- The table ----
+ *
+ * These read the table of the core's version, and change nothing. They take no memory. A list begins at an id: 0
+ * for all of it, else the last id that the caller has, plus 1. It is in order of ids. `*count` says how many rows
+ * were written; if that is fewer than there is room for, the list is at its end.
+ * OK, or CLOSED: `*count` is 0.
+ * Proved: the rows are exactly the first ones that are listed from that id on, as many as there is room for, and
+ * the rest of the room is as it was. */
+
+/* A filter that is listed. Its capability may be gone; then it gets no packet. */
+struct mkdemux_filter_row {
+    uint32_t id;
+    uint32_t cap;      /* the capability that it was installed under */
+    uint32_t count;    /* instructions of its program, 1 to 4,096 */
+    uint16_t owner;    /* the domain that installed it */
+    uint16_t endpoint; /* the endpoint that gets what it accepts */
+};
+uint32_t mkdemux_filters(mkdemux_core *core, uint32_t from, struct mkdemux_filter_row *rows, size_t room, size_t *count);
+
+/* A capability that is held. */
+struct mkdemux_cap_row {
+    uint32_t id;
+    uint32_t parent; /* the capability that it was minted from, which is held, too; 0: none */
+    uint16_t endpoint;
+    uint16_t holder; /* a domain */
+    uint8_t rights;  /* a mkdemux_rights */
+};
+uint32_t mkdemux_caps(mkdemux_core *core, uint32_t from, struct mkdemux_cap_row *rows, size_t room, size_t *count);
+
+/* Writes the program of a filter to the front of `insns`, if it has room for it. `*count` says how many
+ * instructions it has.
+ * OK, NO_ROOM, or with a count of 0 NO_FILTER or CLOSED. */
+uint32_t mkdemux_filter_code(mkdemux_core *core, uint32_t filter, struct mkdemux_insn *insns, size_t room,
+    size_t *count);
+
 /* ---- Words ---- */
 
 /* A word for an answer: the one that `mkdemux sim` prints, where it has one. */
-static inline const char *mkdemux_core_word(uint32_t answer)
+MKDEMUX_CALL const char *mkdemux_core_word(uint32_t answer)
 {
     static const char *const words[] = {"Ok", "Closed", "NoCores", "NoMemory", "NoRoom", "TooLong", "Stopped",
-        "Spent", "Idle", "Open", "BadRights"};
+        "Spent", "Idle", "Open", "BadRights", "NoFilter", "NotMachine"};
     return answer < sizeof words / sizeof *words ? words[answer] : "?";
 }
 
 /* The word that `mkdemux sim` prints for turned.rule. */
-static inline const char *mkdemux_core_rule_word(uint32_t rule)
+MKDEMUX_CALL const char *mkdemux_core_rule_word(uint32_t rule)
 {
     static const char *const words[] = {"?", "NoCap", "NotHolder", "NoRight", "RightsExceed", "EndpointTaken",
         "CapsFull", "IdsSpent", "NoFilter", "NotOwner", "TableFull", "FilterIdsSpent", "VersionsSpent", "Budget",
@@ -283,13 +382,39 @@ static inline const char *mkdemux_core_rule_word(uint32_t rule)
     return rule < sizeof words / sizeof *words ? words[rule] : "?";
 }
 
-#ifdef __cplusplus
+/* The word for an answer of the verifier, as in `mkdemux match`: for a program that is refused, that of
+ * turned.rule - MKDEMUX_RULE_BAD_PROGRAM. (mkdemux.h has it, too.) */
+#ifndef MKDEMUX_RULE_NAME
+#define MKDEMUX_RULE_NAME
+MKDEMUX_CALL const char *mkdemux_rule_name(uint32_t rule)
+{
+    static const char *const names[] = {"accepted", "Empty", "TooLong", "BadCode", "ZeroDivisor", "BadShift", "BadWord",
+        "JumpOut", "Ancillary", "NoReturn", "Unwritten"};
+    return rule < sizeof names / sizeof *names ? names[rule] : "NoMemory";
+}
+
+/* MKDEMUX_VERSION; a function of libmkdemux.so says which version that is. */
+MKDEMUX_CALL const char *mkdemux_library_version(void)
+{
+    return MKDEMUX_VERSION;
 }
 #endif
 
-/* If mkdemux.h is included too, mkdemux_close closes a core or a program. */
-#if defined(MKDEMUX_H) && !defined(__cplusplus)
-#define mkdemux_close(it) \
-    (__extension__ _Generic((it), mkdemux_core *: mkdemux_close, default: mkdemux_close_program)(it))
+#ifdef __cplusplus
+}
+static inline void mkdemux_close(mkdemux_core *core)
+{
+    mkdemux_close_core(core);
+}
+#endif
+
+/* mkdemux_close closes a core, and a program where mkdemux.h is included, too. */
+#ifndef __cplusplus
+#undef mkdemux_close
+#ifdef MKDEMUX_H
+#define mkdemux_close(it) (__extension__ _Generic((it), mkdemux_core *: mkdemux_close_core, default: mkdemux_close_program)(it))
+#else
+#define mkdemux_close mkdemux_close_core
+#endif
 #endif
 #endif

@@ -16,15 +16,18 @@ complete -c mkdemux -n '__fish_seen_subcommand_from match' -l number -d 'Print e
 complete -c mkdemux -n '__fish_seen_subcommand_from match' -l count -d 'Print how many packets were accepted, of how many, in place of a line for each'
 complete -c mkdemux -n '__fish_seen_subcommand_from match' -l quiet -d 'Print nothing: status 0 at the first packet that is accepted, 4 where none is'
 complete -c mkdemux -n '__fish_seen_subcommand_from match' -l explain -d 'Print each instruction that ran, with the registers after it'
+complete -c mkdemux -n '__fish_seen_subcommand_from match' -l link -x -d 'With --pcap: run the packets of this link type alone'
 complete -c mkdemux -n '__fish_seen_subcommand_from match' -s h -l help -d 'Print help (see a summary with \'-h\')'
 complete -c mkdemux -n '__fish_seen_subcommand_from match' -F
 complete -c mkdemux -n '__fish_seen_subcommand_from check' -l asm -d 'Print assembler text in place of decimal text'
 complete -c mkdemux -n '__fish_seen_subcommand_from check' -l graph -d 'Print the control flow as text for Graphviz in place of decimal text'
 complete -c mkdemux -n '__fish_seen_subcommand_from check' -s h -l help -d 'Print help (see a summary with \'-h\')'
 complete -c mkdemux -n '__fish_seen_subcommand_from check' -F
+complete -c mkdemux -n '__fish_seen_subcommand_from dump' -l link -x -d 'Print the packets of this link type alone'
 complete -c mkdemux -n '__fish_seen_subcommand_from dump' -s h -l help -d 'Print help (see a summary with \'-h\')'
 complete -c mkdemux -n '__fish_seen_subcommand_from dump' -F
 complete -c mkdemux -n '__fish_seen_subcommand_from keep' -l not -d 'Keep the packets that the filter doesn\'t accept'
+complete -c mkdemux -n '__fish_seen_subcommand_from keep' -l link -x -d 'Run the packets of this link type alone, and keep no others'
 complete -c mkdemux -n '__fish_seen_subcommand_from keep' -s h -l help -d 'Print help (see a summary with \'-h\')'
 complete -c mkdemux -n '__fish_seen_subcommand_from keep' -F
 complete -c mkdemux -n '__fish_seen_subcommand_from sim' -s h -l help -d 'Print help (see a summary with \'-h\')'
