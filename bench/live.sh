@@ -5,6 +5,7 @@
 #   alone         processor time of a packet in one thread: 1, 16 and 1,000 filters
 #   packets       packets a second and thread: 16 and 1,000 filters, 0, 100 and 10,000 changes a second, 1 to 4 threads
 #   decide        from ask to decision
+#   asleep        the same where threads sleep until a turn names their core, and their processor time while nothing is asked
 #   memory        the peak after 10^6 packets and 10^4 changes, and after 10^8 and 10^6 more
 #   allocations   for each packet and each change
 # FOLDER has the library, as ./libmkdemux --cores FOLDER makes it, by default dist/. WRAP="chrt -r 5" is put before each command. Needs a
@@ -22,7 +23,7 @@ while getopts r:l: option; do
     esac
 done
 shift $((OPTIND - 1))
-[ $# -gt 0 ] || set -- alone packets decide memory allocations
+[ $# -gt 0 ] || set -- alone packets decide asleep memory allocations
 work=$(mktemp -d)
 trap 'rm -rf "$work"' EXIT
 cc=${CC:-cc}
@@ -65,6 +66,14 @@ decide() {
     done
 }
 
+asleep() {
+    for cores in 2 4; do
+        for asker in 0 1; do
+            $WRAP "$work/live_peer" asleep $cores $asker 2000
+        done
+    done
+}
+
 memory() {
     $WRAP "$work/live_peer" memory 100000000 1000000
 }
@@ -77,7 +86,7 @@ allocations() {
 
 for part; do
     case $part in
-    alone | packets | decide | memory | allocations) "$part" ;;
+    alone | packets | decide | asleep | memory | allocations) "$part" ;;
     *) echo "live: there is no part $part" >&2; exit 2 ;;
     esac
 done

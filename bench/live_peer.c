@@ -5,16 +5,21 @@
    live_peer packets FILTERS SHAPES CHANGES THREADS ROUNDS   packets a second and thread, each way by turns in each round, and ratios of
                                                      neighbours; SHAPES: one (ports) or many; CHANGES a second, made by thread 0
    live_peer decide CORES ASKER BATCH ROUNDS         nanoseconds from ask to decision, where each core receives BATCH packets a turn
+   live_peer asleep CORES ASKER ROUNDS               the same, where each thread sleeps until another core's turn names its core, and the
+                                                     processor time of all in a second in which nothing is asked
    live_peer memory PACKETS CHANGES                  memory after so many, and after a hundredth of them, on two cores
    live_peer allocations FILTERS                     allocations for each packet and for each change */
 #include <pcap.h>
+#include <poll.h>
 #include <pthread.h>
 #include <stdatomic.h>
 #include <stdbool.h>
 #include <stdio.h>
 #include <stdlib.h>
 #include <string.h>
+#include <sys/eventfd.h>
 #include <time.h>
+#include <unistd.h>
 
 #include "mkdemux_cores.h"
 
@@ -579,6 +584,90 @@ static void go_on(uint64_t packet_count, uint64_t change_count)
     fflush(stdout);
 }
 
+/* ---- Threads that sleep ---- */
+
+static int bells[MKDEMUX_CORE_MOST_CORES]; /* an eventfd for each core */
+
+/* Turns a core until a turn could do nothing, and rings for the cores that it woke. Whether it has a decision. */
+static bool turn_and_ring(size_t number)
+{
+    mkdemux_turned turned;
+    bool decided = false;
+    do {
+        mkdemux_turn(&lines[number].core, &turned);
+        for (size_t i = 0; i < core_count; i++)
+            if (turned.woken >> i & 1)
+                eventfd_write(bells[i], 1);
+        decided |= turned.what == MKDEMUX_TURN_DECISION && turned.decision == MKDEMUX_COMMITTED;
+    } while (turned.more);
+    return decided;
+}
+
+/* Sleeps until the core's bell rings. */
+static void sleep_at(size_t number)
+{
+    struct pollfd bell = {bells[number], POLLIN, 0};
+    eventfd_t rung;
+    poll(&bell, 1, -1);
+    eventfd_read(bells[number], &rung);
+}
+
+static void *turn_when_rung(void *argument)
+{
+    struct thread *thread = argument;
+    while (!atomic_load_explicit(&stop, memory_order_relaxed)) {
+        sleep_at(thread->number);
+        turn_and_ring(thread->number);
+    }
+    return NULL;
+}
+
+/* Seconds of processor time of all threads so far. */
+static double spent(void)
+{
+    struct timespec t;
+    clock_gettime(CLOCK_PROCESS_CPUTIME_ID, &t);
+    return (double)t.tv_sec + (double)t.tv_nsec / 1e9;
+}
+
+static void measure_asleep(size_t count, size_t asker, int rounds)
+{
+    static double times[10000];
+    make_programs(16, false);
+    boot(count, 16);
+    for (size_t i = 0; i < count; i++) {
+        threads[i].number = i;
+        bells[i] = eventfd(0, EFD_NONBLOCK);
+    }
+    for (size_t i = 0; i < count; i++)
+        if (i != asker && pthread_create(&threads[i].id, NULL, turn_when_rung, &threads[i]))
+            die("no thread");
+    for (int done = 0; done < rounds; done++) {
+        const struct bpf_program *program = &programs[16 + done % 2];
+        double begin = now();
+        if (mkdemux_ask_replace(&lines[asker].core, 1, 1, code_of(program), program->bf_len))
+            die("not asked");
+        while (!turn_and_ring(asker))
+            sleep_at(asker);
+        times[done] = now() - begin;
+    }
+    sleep(1);
+    double before = spent();
+    sleep(1);
+    double idle = spent() - before;
+    atomic_store(&stop, true);
+    for (size_t i = 0; i < count; i++) {
+        eventfd_write(bells[i], 1);
+        if (i != asker)
+            pthread_join(threads[i].id, NULL);
+    }
+    double middle = median(times, rounds);
+    printf("%zu cores asleep, core %zu asks: from ask to decision %.1f us (90%%: %.1f us, 99%%: %.1f us); a second in which nothing is "
+           "asked takes %.0f us of processor time\n", count, asker, middle * 1e6, times[rounds * 9 / 10] * 1e6,
+        times[rounds * 99 / 100] * 1e6, idle * 1e6);
+    shut();
+}
+
 static void measure_memory(uint64_t packet_count, uint64_t change_count)
 {
     way = OURS;
@@ -627,6 +716,8 @@ int main(int argc, char **argv)
         measure_packets((uint32_t)atoi(argv[2]), !strcmp(argv[3], "many"), atof(argv[4]), (size_t)atoi(argv[5]), rounds);
     else if (argc == 6 && !strcmp(part, "decide") && rounds >= 1 && rounds <= 10000)
         measure_decisions((size_t)atoi(argv[2]), (size_t)atoi(argv[3]), (size_t)atoi(argv[4]), rounds);
+    else if (argc == 5 && !strcmp(part, "asleep") && rounds >= 1 && rounds <= 10000)
+        measure_asleep((size_t)atoi(argv[2]), (size_t)atoi(argv[3]), rounds);
     else if (argc == 4 && !strcmp(part, "memory"))
         measure_memory(strtoull(argv[2], NULL, 10), strtoull(argv[3], NULL, 10));
     else if (argc == 3 && !strcmp(part, "allocations"))

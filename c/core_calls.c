@@ -710,6 +710,66 @@ static void closes_early(void)
         }
 }
 
+/* ---- Whom to turn ---- */
+
+/* Turns the cores of this set, and those that a turn names or that have more, until none is left. How many turns that took. */
+static size_t turn_named(struct machine *machine, uint64_t named)
+{
+    mkdemux_turned turned;
+    size_t turns = 0, at;
+    while (named && turns < 1000000)
+        for (at = 0; at < machine->count; at++) {
+            uint32_t answer;
+            if (!(named >> at & 1))
+                continue;
+            answer = mkdemux_turn(&machine->cores[at], &turned);
+            named &= ~(UINT64_C(1) << at);
+            named |= turned.woken | (uint64_t)turned.more << at;
+            CHECK((turned.more == 1) == (answer == MKDEMUX_CORE_OK) && (turned.more == 1 || answer == MKDEMUX_CORE_IDLE));
+            CHECK(!(turned.woken >> at & 1) && turned.woken >> machine->count == 0);
+            turns++;
+        }
+    return turns;
+}
+
+/* A request of a core other than 0, step by step. */
+static void names_its_peer(void)
+{
+    struct machine machine;
+    mkdemux_turned turned;
+    boot(&machine, 2, 100);
+    CHECK(mkdemux_turn(&machine.cores[1], &turned) == MKDEMUX_CORE_IDLE && turned.woken == 0 && turned.more == 0);
+    CHECK(!mkdemux_ask_create(&machine.cores[1], 1, 7));
+    CHECK(mkdemux_turn(&machine.cores[1], &turned) == MKDEMUX_CORE_OK && turned.woken == 0 && turned.more == 1);
+    CHECK(mkdemux_turn(&machine.cores[1], &turned) == MKDEMUX_CORE_IDLE && turned.woken == 1 && turned.more == 0);
+    CHECK(mkdemux_turn(&machine.cores[1], &turned) == MKDEMUX_CORE_IDLE && turned.woken == 0);
+    CHECK(mkdemux_turn(machine.cores, &turned) == MKDEMUX_CORE_OK && turned.woken == 2 && turned.more == 1);
+    close_all(&machine);
+}
+
+/* Who turns only the cores that are asked, named or have more leaves nothing undone: a look at all finds no core with anything to do. */
+static void wakes_enough(size_t count)
+{
+    struct machine machine;
+    mkdemux_turned turned;
+    size_t at, i;
+    boot(&machine, count, 20000);
+    for (at = 0; at < count; at++) {
+        for (i = 0; i < 5; i++)
+            CHECK(!mkdemux_ask_create(&machine.cores[at], (uint16_t)at, (uint16_t)(8 * at + i)));
+        CHECK(!mkdemux_ask_remove(&machine.cores[at], (uint16_t)at, 9));
+    }
+    CHECK(turn_named(&machine, (UINT64_C(1) << count) - 1) < 1000000);
+    at = count - 1; /* a message of many lines, each way */
+    CHECK(!mkdemux_ask_install(&machine.cores[at], 0, 1, txa(LONGEST), LONGEST));
+    turn_named(&machine, UINT64_C(1) << at);
+    for (at = 0; at < count; at++) {
+        CHECK(mkdemux_unanswered(&machine.cores[at]) == 0 && mkdemux_version(&machine.cores[at]) == mkdemux_version(machine.cores));
+        CHECK(mkdemux_turn(&machine.cores[at], &turned) == MKDEMUX_CORE_IDLE && turned.woken == 0);
+    }
+    close_all(&machine);
+}
+
 /* ---- Settling ---- */
 
 /* All cores of a machine have decided all requests, at one version. */
@@ -1012,6 +1072,9 @@ int main(void)
     for (count = 1; count <= MOST; count++)
         keeps_order(count);
     closes_early();
+    names_its_peer();
+    for (count = 1; count <= MOST; count++)
+        wakes_enough(count);
     settles_no_other();
     for (count = 1; count <= MOST; count++)
         settles(count);

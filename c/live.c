@@ -5,7 +5,8 @@
  *
  * cc -O2 -o live live.c $(PKG_CONFIG_PATH=../dist/lib/pkgconfig pkg-config --cflags --libs mkdemux_cores) -lpcap -lpthread
  *
- * Each core is a thread with a poll loop: it receives packets, turns its core of the machine, and speaks for its clients. The packets
+ * Each core is a thread: it receives packets, turns its core of the machine, and speaks for its clients. Where there is nothing to do it
+ * sleeps in poll, until a packet comes or another core's turn names it, which its eventfd tells. The packets
  * are those of captures, dealt out by flow, or an Ethernet interface's, by packet sockets in one fanout group (which takes
  * CAP_NET_RAW); then it ends after SECONDS or with Ctrl-C. Clients open and close endpoints while packets come: ORDERS has
  * lines
@@ -36,6 +37,7 @@
 #include <stdio.h>
 #include <stdlib.h>
 #include <string.h>
+#include <sys/eventfd.h>
 #include <sys/ioctl.h>
 #include <sys/socket.h>
 #include <time.h>
@@ -135,6 +137,7 @@ struct orders { size_t count, room; struct order *items; };
 struct counter { atomic_ullong packets, bytes; };
 
 struct live {
+    struct lane *lanes;
     unsigned cores;
     const char *interface; /* NULL: captures */
     int link;              /* what packets are, as libpcap has it */
@@ -172,6 +175,7 @@ struct lane {
     pthread_t thread;
     struct packets packets; /* of captures */
     int socket;             /* of an interface */
+    int bell;               /* an eventfd: another thread has something for this one */
     uint8_t *buffer;
     mkdemux_core core; /* apart from those of other threads, since each call writes to it */
     pcap_t *compiler;
@@ -188,11 +192,25 @@ struct lane {
     const char *fault;
 };
 
+/* Wakes the threads of these cores: 1 << i for core i. */
+static void wake(const struct live *live, uint64_t cores)
+{
+    for (unsigned i = 0; i < live->cores; i++)
+        if (cores >> i & 1)
+            eventfd_write(live->lanes[i].bell, 1);
+}
+
+static void wake_all(const struct live *live)
+{
+    wake(live, (UINT64_C(1) << live->cores) - 1);
+}
+
 static void fail(struct lane *lane, const char *fault)
 {
     if (!lane->fault)
         lane->fault = fault;
     atomic_store(&lane->live->failed, true);
+    wake_all(lane->live);
 }
 
 /* ---- Clients ---- */
@@ -306,10 +324,12 @@ static void note(struct lane *lane, const struct client *client, enum request re
         change->code = client->code;
 }
 
-static void raise_to(atomic_ullong *greatest, unsigned long long version)
+/* Tells all of a version; packets wait for it at the beginning. */
+static void tell_version(const struct lane *lane, unsigned long long version)
 {
-    unsigned long long before = atomic_load(greatest);
-    while (before < version && !atomic_compare_exchange_weak(greatest, &before, version))
+    atomic_ullong *newest = &lane->live->newest;
+    unsigned long long before = atomic_load(newest);
+    while (before < version && !atomic_compare_exchange_weak(newest, &before, version))
         ;
 }
 
@@ -322,7 +342,7 @@ static void committed(struct lane *lane, struct asked asked, const mkdemux_turne
     else if (asked.request == INSTALL)
         client->filter = turned->made;
     note(lane, client, asked.request, version);
-    raise_to(&lane->live->newest, version);
+    tell_version(lane, version);
     switch (asked.request) {
     case CREATE:
         client->state = INSTALLING;
@@ -359,23 +379,21 @@ static void refused(struct lane *lane, struct asked asked, const mkdemux_turned 
     }
 }
 
-/* Turns the core until there is nothing to do, or some times. Whether it did something. */
+/* Turns the core while a turn may do something, or some times, and wakes the cores that a turn names. Whether there is more to do. */
 static bool turn(struct lane *lane)
 {
-    mkdemux_turned turned;
-    int turns;
-    for (turns = 0; turns < TURNS && !lane->fault; turns++) {
+    mkdemux_turned turned = {.more = 1};
+    for (int turns = 0; turns < TURNS && turned.more && !lane->fault; turns++) {
         uint32_t answer = mkdemux_turn(&lane->core, &turned);
-        if (answer == MKDEMUX_CORE_IDLE)
-            break;
-        if (answer)
+        wake(lane->live, turned.woken);
+        if (answer && answer != MKDEMUX_CORE_IDLE)
             fail(lane, mkdemux_core_word(answer));
         else if (turned.what == MKDEMUX_TURN_DECISION && turned.decision == MKDEMUX_COMMITTED)
             committed(lane, next_answered(lane), &turned);
         else if (turned.what == MKDEMUX_TURN_DECISION)
             refused(lane, next_answered(lane), &turned);
     }
-    return turns > 0;
+    return turned.more;
 }
 
 /* ---- Packets ---- */
@@ -459,34 +477,38 @@ static bool may_receive(struct lane *lane)
     bool is_due = lane->order < live->orders.count && live->orders.items[lane->order].at == 0;
     if (!lane->is_ready && !is_due && mkdemux_unanswered(&lane->core) == 0) {
         lane->is_ready = true;
-        atomic_fetch_add(&live->ready, 1);
+        if (atomic_fetch_add(&live->ready, 1) + 1 == live->cores)
+            wake_all(live);
     }
     if (!lane->may_receive)
         lane->may_receive = atomic_load(&live->ready) == live->cores && mkdemux_version(&lane->core) >= atomic_load(&live->newest);
     return lane->may_receive;
 }
 
-/* Tells the others that this lane has ended; the last one wakes the printer. */
+/* Tells the others that this lane has ended; the last one wakes them and the printer. */
 static void end(struct lane *lane)
 {
     if (lane->has_ended)
         return;
     lane->has_ended = true;
-    if (atomic_fetch_add(&lane->live->ended, 1) + 1 == lane->live->cores)
+    if (atomic_fetch_add(&lane->live->ended, 1) + 1 == lane->live->cores) {
+        wake_all(lane->live);
         pthread_kill(lane->live->printer, SIGUSR1);
+    }
 }
 
-/* Waits a moment: no longer, since the other cores' requests wait for this core's turns. */
+/* Sleeps until a packet comes, where it may receive one, or another thread rings. */
 static void rest(struct lane *lane)
 {
-    struct pollfd socket = {lane->socket, POLLIN, 0};
-    if (lane->live->interface)
-        poll(&socket, 1, 1);
-    else
-        sched_yield();
+    bool receives = lane->may_receive && !atomic_load(&lane->live->stop);
+    struct pollfd sources[] = {{lane->bell, POLLIN, 0}, {receives ? lane->socket : -1, POLLIN, 0}};
+    eventfd_t rung;
+    poll(sources, 2, -1);
+    if (sources[0].revents)
+        eventfd_read(lane->bell, &rung);
 }
 
-/* A core that has nothing left to do is turned until all have nothing left. */
+/* A core that has nothing left to do is turned for the others until all have nothing left. */
 static void *run(void *argument)
 {
     struct lane *lane = argument;
@@ -816,8 +838,10 @@ static void print_while_running(struct live *live, const struct lane *lanes, con
         int signal = sigtimedwait(signals, NULL, &second);
         if (signal == SIGUSR1)
             continue;
-        if (signal > 0 || seconds == live->seconds)
+        if (signal > 0 || seconds == live->seconds) {
             atomic_store(&live->stop, true);
+            wake_all(live);
+        }
         if (signal < 0) {
             snprintf(title, sizeof title, "after %u s:", seconds++);
             print_counts(live, lanes, title);
@@ -855,7 +879,8 @@ static bool prepare(struct live *live, struct lane *lanes)
         budgets[i] = BUDGET;
         lanes[i].compiler = pcap_open_dead(live->link, SNAPLEN);
         lanes[i].counters = calloc(ENDPOINTS, sizeof *lanes[i].counters);
-        if (!lanes[i].compiler || !lanes[i].counters)
+        lanes[i].bell = eventfd(0, EFD_NONBLOCK);
+        if (!lanes[i].compiler || !lanes[i].counters || lanes[i].bell < 0)
             return fprintf(stderr, "live: out of memory\n"), false;
     }
     answer = mkdemux_boot(budgets, live->cores, cores);
@@ -878,6 +903,8 @@ static void free_lane(struct lane *lane)
         pcap_close(lane->compiler);
     if (lane->socket >= 0)
         close(lane->socket);
+    if (lane->bell >= 0)
+        close(lane->bell);
     free(lane->packets.items);
     free(lane->buffer);
     free(lane->clients.items);
@@ -938,7 +965,8 @@ int main(int argc, char **argv)
         return 2;
     }
     for (unsigned i = 0; i < MKDEMUX_CORE_MOST_CORES; i++)
-        lanes[i] = (struct lane){.live = &live, .number = i, .socket = -1};
+        lanes[i] = (struct lane){.live = &live, .number = i, .socket = -1, .bell = -1};
+    live.lanes = lanes;
     if (!live.interface)
         live.most_kept = SIZE_MAX;
     int status = work(&live, lanes, argv + optind);

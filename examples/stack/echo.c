@@ -19,6 +19,7 @@
 #include <stdio.h>
 #include <stdlib.h>
 #include <string.h>
+#include <sys/eventfd.h>
 #include <sys/ioctl.h>
 #include <unistd.h>
 
@@ -53,6 +54,27 @@ struct worker {
 
 static struct worker *workers[WORKERS];
 static mkdemux_core control;
+static int bells[WORKERS + 1]; /* an eventfd for each core: another one has something for it */
+
+/* One turn of a core, which wakes the threads of the cores that it names. */
+static uint32_t turn(mkdemux_core *core, mkdemux_turned *turned)
+{
+    uint32_t answer = mkdemux_turn(core, turned);
+    for (int i = 0; i <= WORKERS; i++)
+        if (turned->woken >> i & 1)
+            eventfd_write(bells[i], 1);
+    return answer;
+}
+
+/* Waits for the bell of a core, or for another file. */
+static void rest(int bell, int file)
+{
+    struct pollfd sources[] = {{bell, POLLIN, 0}, {file, POLLIN, 0}};
+    eventfd_t rung;
+    poll(sources, 2, -1);
+    if (sources[0].revents)
+        eventfd_read(bell, &rung);
+}
 
 /* A copy of the bytes that an endpoint keeps of a frame, for its service. */
 static void deliver(struct mkdemux_kept kept, const uint8_t *frame)
@@ -89,19 +111,20 @@ static void receive(struct worker *worker, size_t count)
 static void *work(void *queue)
 {
     struct worker *worker = workers[(intptr_t)queue];
-    struct pollfd wait = {queues[(intptr_t)queue], POLLIN, 0};
+    int file = queues[(intptr_t)queue];
     mkdemux_turned turned;
     while (!is_over) {
         size_t count = 0;
         ssize_t size;
-        poll(&wait, 1, 1); /* (a wait is short: another core may have sent this one something) */
-        while (count < BURST && (size = read(wait.fd, worker->frames[count], FRAME)) > 0) {
+        rest(bells[(intptr_t)queue + 1], file);
+        while (count < BURST && (size = read(file, worker->frames[count], FRAME)) > 0) {
             worker->packets[count] = (struct mkdemux_packet){worker->frames[count], (size_t)size, (uint32_t)size};
             count++;
         }
         receive(worker, count);
-        while (mkdemux_turn(&worker->core, &turned) == MKDEMUX_CORE_OK)
-            ;
+        do
+            turn(&worker->core, &turned);
+        while (turned.more);
     }
     return NULL;
 }
@@ -111,9 +134,9 @@ static uint32_t granted(uint32_t answer)
 {
     mkdemux_turned turned = {0};
     while ((answer == MKDEMUX_CORE_OK || answer == MKDEMUX_CORE_IDLE) && turned.what != MKDEMUX_TURN_DECISION) {
-        answer = mkdemux_turn(&control, &turned);
+        answer = turn(&control, &turned);
         if (answer == MKDEMUX_CORE_IDLE)
-            usleep(20);
+            rest(bells[0], -1);
     }
     if (answer || turned.decision) {
         fprintf(stderr, "echo: %s, %s\n", mkdemux_core_word(answer), mkdemux_core_rule_word(turned.rule));
@@ -129,6 +152,9 @@ static void boot(void)
     if (mkdemux_boot(budgets, WORKERS + 1, cores))
         die("boot");
     control = cores[0];
+    for (int i = 0; i <= WORKERS; i++)
+        if ((bells[i] = eventfd(0, EFD_NONBLOCK)) < 0)
+            die("eventfd");
     for (int i = 0; i < WORKERS; i++) {
         workers[i] = aligned_alloc(64, (sizeof **workers + 63) / 64 * 64);
         if (!workers[i])
@@ -294,12 +320,15 @@ int main(void)
         for (uint32_t i = 0; i < 2; i++, replaced++)
             granted(mkdemux_ask_replace(&control, (uint16_t)(i + 1), services[i].filter, code,
                 filter_for(code, i + 1, i ? 6 : 17, i ? 8 : 7, replaced / 2 % 2 == 0)));
-        while (mkdemux_turn(&control, &turned) == MKDEMUX_CORE_OK)
-            ;
+        do
+            turn(&control, &turned);
+        while (turned.more);
     }
     is_over = 1;
-    for (int i = 0; i < WORKERS; i++)
+    for (int i = 0; i < WORKERS; i++) {
+        eventfd_write(bells[i + 1], 1);
         pthread_join(threads[i], NULL);
+    }
     printf("frames of A %lu, of B %lu, of C %lu, of nobody %lu, of unknown endpoints %lu; %lu filters replaced\n", services[0].frames,
         services[1].frames, services[2].frames, nobody, unknown, replaced);
     mkdemux_close(&control);

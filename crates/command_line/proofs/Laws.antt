@@ -9,8 +9,8 @@ use Rattle.std.specs.Borrow.{Bor}
 use Rattle.command_line.specs.declared.request.Invocation.{Invocation}
 use Rattle.command_line.specs.declared.request.Request.{Request}
 use Rattle.command_line.specs.declared.request.Request.TheVariants.{Check, Graph, Dump, Draw}
-use Rattle.command_line.specs.declared.request.View.{View}
-use Rattle.command_line.specs.declared.request.View.TheVariants.{Numbers, Count, Quiet}
+use Rattle.command_line.specs.declared.request.MatchView.{MatchView}
+use Rattle.command_line.specs.declared.request.MatchView.TheVariants.{Numbers, Count, Quiet}
 use Rattle.command_line.specs.Program.{program}
 use Rattle.command_line.specs.Requests.{Asks, AsksBy, BeginsWithDigit, FromStandardInput, IsExplain, IsInput, IsKeep, IsMatch, IsViewed, Spells, check_words, draw_words, explain_words, keep_words, match_words, view_words}
 use Rattle.command_line.proofs.OneRequest.{HasView, only_check, only_draw, only_dump, only_explain, only_graph, only_keep, only_match, only_view, truth}
@@ -90,11 +90,11 @@ finds_match false true = finds_match_false_true
 finds_match true false = finds_match_true_false
 finds_match true true = finds_match_true_true
 
-abbrev HasViewed : Text → Bool → View → List Row → Type 0
+abbrev HasViewed : Text → Bool → MatchView → List Row → Type 0
 HasViewed code pcap view rows =
     (unwrap_or (first_of (codes "code") rows) [] ≡ code) × (one_of (codes "explain") rows ≡ Some (truth false)) × (one_of (codes "pcap") rows ≡ Some (truth pcap)) × HasView rows (Some view)
 
-abbrev FindsView : Bool → View → ℕ → Type 0
+abbrev FindsView : Bool → MatchView → ℕ → Type 0
 FindsView pcap view digit = (name rest : Text) → Finds (subcommand_of program (name ∷ view_words (digit ∷ rest) pcap view)) (codes "match") (HasViewed (digit ∷ rest) pcap view)
 
 finds_view_false_numbers : All (FindsView false Numbers) (codes "0123456789")
@@ -181,7 +181,7 @@ finds_view_true_quiet =
     All-cons (FindsView true Quiet) 56 (57 ∷ []) (λ name rest. (refl, (refl, refl), (refl, refl, refl, refl))) (
     All-cons (FindsView true Quiet) 57 [] (λ name rest. (refl, (refl, refl), (refl, refl, refl, refl))) (All-nil (FindsView true Quiet)))))))))))
 
-finds_view : (pcap : Bool) (view : View) → All (FindsView pcap view) (codes "0123456789")
+finds_view : (pcap : Bool) (view : MatchView) → All (FindsView pcap view) (codes "0123456789")
 finds_view false Numbers = finds_view_false_numbers
 finds_view false Count = finds_view_false_count
 finds_view false Quiet = finds_view_false_quiet
@@ -286,7 +286,7 @@ match_found : (found : Option (Text × List Row)) (r : Option Invocation) (code 
 match_found None r code pcap stream asks finds = absurd finds
 match_found (Some found) r code pcap stream asks finds = from_input (IsMatch code pcap stream) found r asks finds.1 (λ q asked. only_match found.0 found.1 q finds.0 asked code pcap stream finds.2.0 finds.2.1 finds.2.2 finds.2.3 finds.2.4)
 
-view_found : (found : Option (Text × List Row)) (r : Option Invocation) (code : Text) (pcap : Bool) (view : View) → AsksBy found r
+view_found : (found : Option (Text × List Row)) (r : Option Invocation) (code : Text) (pcap : Bool) (view : MatchView) → AsksBy found r
     → Finds found (codes "match") (HasViewed code pcap view) → FromStandardInput (IsViewed code pcap view) r
 view_found None r code pcap view asks finds = absurd finds
 view_found (Some found) r code pcap view asks finds = from_input (IsViewed code pcap view) found r asks finds.1 (λ q asked. only_view found.0 found.1 q finds.0 asked code pcap view finds.2.0 finds.2.1 finds.2.2 finds.2.3)
@@ -322,7 +322,7 @@ matched words r asks code pcap stream spells (digit, rest, within, is) =
     subst (λ c. FromStandardInput (IsMatch c pcap stream) r) (sym is) (match_found (subcommand_of program (spells.0 ∷ match_words (digit ∷ rest) pcap stream)) r (digit ∷ rest) pcap stream asked law)
 
 pub viewed : (words : List Text) (r : Option Invocation) → AsksBy (subcommand_of program words) r
-    → (code : Text) (pcap : Bool) (view : View) → Spells words (view_words code pcap view) → BeginsWithDigit code → FromStandardInput (IsViewed code pcap view) r
+    → (code : Text) (pcap : Bool) (view : MatchView) → Spells words (view_words code pcap view) → BeginsWithDigit code → FromStandardInput (IsViewed code pcap view) r
 viewed words r asks code pcap view spells (digit, rest, within, is) =
     let law = All-contains (FindsView pcap view) (codes "0123456789") digit (finds_view pcap view) within spells.0 rest in
     let words_are : words ≡ spells.0 ∷ view_words (digit ∷ rest) pcap view = spells.1 ∙ ap (λ c. spells.0 ∷ view_words c pcap view) is in

@@ -5,8 +5,8 @@ use Rattle.std.specs.List.{Contains}
 use Rattle.clap.specs.Words.{Row, Text, first_of, one_of}
 use Rattle.command_line.specs.declared.request.Request.{Request}
 use Rattle.command_line.specs.declared.request.Request.TheVariants.{Match, View as Viewed, Explain, Keep, Check, Graph, Dump, Sim, Run, Draw}
-use Rattle.command_line.specs.declared.request.View.{View}
-use Rattle.command_line.specs.declared.request.View.TheVariants.{Numbers, Count, Quiet}
+use Rattle.command_line.specs.declared.request.MatchView.{MatchView}
+use Rattle.command_line.specs.declared.request.MatchView.TheVariants.{Numbers, Count, Quiet}
 use Rattle.command_line.specs.Requests.{Asks, IsExplain, IsFlag, IsKeep, IsMatch, IsView, IsViewed, command_names}
 
 abbrev pub truth : Bool → Text
@@ -30,7 +30,7 @@ not_given : {X : Type 0} (name : Text) (rows : List Row) (given flag : Bool) →
 not_given name rows given flag is found differ = absurd (differ (flag_is name rows given flag is found))
 
 -- the rows of the flags of a view
-abbrev pub HasView : List Row → Option View → Type 0
+abbrev pub HasView : List Row → Option MatchView → Type 0
 HasView rows (Some Quiet) = one_of (codes "quiet") rows ≡ Some (truth true)
 HasView rows (Some Count) = (one_of (codes "quiet") rows ≡ Some (truth false)) × (one_of (codes "count") rows ≡ Some (truth true))
 HasView rows (Some Numbers) =
@@ -39,7 +39,7 @@ HasView rows None =
     (one_of (codes "quiet") rows ≡ Some (truth false)) × (one_of (codes "count") rows ≡ Some (truth false)) × (one_of (codes "number") rows ≡ Some (truth false))
 
 -- the flags say one view
-same_view : (rows : List Row) (view other : Option View) → IsView rows view → HasView rows other → view ≡ other
+same_view : (rows : List Row) (view other : Option MatchView) → IsView rows view → HasView rows other → view ≡ other
 same_view rows (Some Quiet) (Some Quiet) is has = refl
 same_view rows (Some Quiet) (Some Count) is has = not_given (codes "quiet") rows true false is has.0 (λ same. cc)
 same_view rows (Some Quiet) (Some Numbers) is has = not_given (codes "quiet") rows true false is has.0 (λ same. cc)
@@ -57,10 +57,10 @@ same_view rows None (Some Count) is has = not_given (codes "count") rows false t
 same_view rows None (Some Numbers) is has = not_given (codes "number") rows false true is.2 has.2 (λ same. cc)
 same_view rows None None is has = refl
 
-other_view : {X : Type 0} (rows : List Row) (view other : Option View) → IsView rows view → HasView rows other → (view ≡ other → ⊥) → X
+other_view : {X : Type 0} (rows : List Row) (view other : Option MatchView) → IsView rows view → HasView rows other → (view ≡ other → ⊥) → X
 other_view rows view other is has differ = absurd (differ (same_view rows view other is has))
 
-view_in : (view other : View) → Some view ≡ Some other → view ≡ other
+view_in : (view other : MatchView) → Some view ≡ Some other → view ≡ other
 view_in view other is = cc
 
 pub only_match : (name : Text) (rows : List Row) (r : Option Request) → name ≡ codes "match" → Asks name rows r
@@ -81,7 +81,7 @@ only_match name rows (Some (Draw words)) is h text pcap stream is_code is_explai
 only_match name rows None is h text pcap stream is_code is_explain is_pcap is_stream none = absurd (subst (λ t. Contains command_names t → ⊥) is h (0, omega arith, refl))
 
 pub only_view : (name : Text) (rows : List Row) (r : Option Request) → name ≡ codes "match" → Asks name rows r
-    → (text : Text) (pcap : Bool) (view : View) → unwrap_or (first_of (codes "code") rows) [] ≡ text → one_of (codes "explain") rows ≡ Some (truth false)
+    → (text : Text) (pcap : Bool) (view : MatchView) → unwrap_or (first_of (codes "code") rows) [] ≡ text → one_of (codes "explain") rows ≡ Some (truth false)
     → one_of (codes "pcap") rows ≡ Some (truth pcap) → HasView rows (Some view) → IsViewed text pcap view r
 only_view name rows (Some (Viewed code given_pcap given_view)) is h text pcap view is_code is_explain is_pcap is_view =
     (code, ap₂ (λ p v. Some (Viewed code p v)) (flag_is (codes "pcap") rows given_pcap pcap h.3 is_pcap) (view_in given_view view (same_view rows (Some given_view) (Some view) h.4 is_view)), h.1 ∙ is_code)

@@ -7,15 +7,15 @@ use Rattle.clap.specs.Words.{Row, Text, all_of, first_of, one_of}
 use Rattle.command_line.specs.declared.request.Invocation.{Invocation}
 use Rattle.command_line.specs.declared.request.Request.{Request}
 use Rattle.command_line.specs.declared.request.Request.TheVariants.{Match, View as Viewed, Explain, Keep, Check, Graph, Dump, Sim, Run, Draw}
-use Rattle.command_line.specs.declared.request.View.{View}
-use Rattle.command_line.specs.declared.request.View.TheVariants.{Numbers, Count, Quiet}
+use Rattle.command_line.specs.declared.request.MatchView.{MatchView}
+use Rattle.command_line.specs.declared.request.MatchView.TheVariants.{Numbers, Count, Quiet}
 
 -- whether a flag was given
 abbrev pub IsFlag : Text → List Row → Bool → Type 0
 IsFlag name rows given = (one_of name rows ≡ Some (codes "true") → given ≡ true) × (one_of name rows ≡ Some (codes "false") → given ≡ false)
 
 -- what `match` shows by its flags: a line for each packet where there is none of the three
-abbrev pub IsView : List Row → Option View → Type 0
+abbrev pub IsView : List Row → Option MatchView → Type 0
 IsView rows (Some Quiet) = IsFlag (codes "quiet") rows true
 IsView rows (Some Count) = IsFlag (codes "quiet") rows false × IsFlag (codes "count") rows true
 IsView rows (Some Numbers) = IsFlag (codes "quiet") rows false × IsFlag (codes "count") rows false × IsFlag (codes "number") rows true
@@ -93,12 +93,12 @@ abbrev pub match_words : Text → Bool → Bool → List Text
 match_words code pcap stream = codes "match" ∷ code ∷ flag_word (codes "--pcap") pcap ++ flag_word (codes "--stream") stream
 
 -- the word of a view
-abbrev pub view_word : View → Text
+abbrev pub view_word : MatchView → Text
 view_word Numbers = codes "--number"
 view_word Count = codes "--count"
 view_word Quiet = codes "--quiet"
 
-abbrev pub view_words : Text → Bool → View → List Text
+abbrev pub view_words : Text → Bool → MatchView → List Text
 view_words code pcap view = codes "match" ∷ code ∷ flag_word (codes "--pcap") pcap ++ view_word view ∷ []
 
 abbrev pub explain_words : Text → List Text
@@ -121,7 +121,7 @@ abbrev pub IsMatch : Text → Bool → Bool → Option Request → Type 0
 IsMatch text pcap stream request = (code : Bor Text) × (request ≡ Some (Match code pcap stream)) × (code.now ≡ text)
 
 -- the same, shown in another way
-abbrev pub IsViewed : Text → Bool → View → Option Request → Type 0
+abbrev pub IsViewed : Text → Bool → MatchView → Option Request → Type 0
 IsViewed text pcap view request = (code : Bor Text) × (request ≡ Some (Viewed code pcap view)) × (code.now ≡ text)
 
 -- a `match --explain` of this CODE

@@ -4,7 +4,7 @@ ghost use Rattle.std.specs.Prelude.{◌≡◌, ◌∷◌, [], Bool, Some, codes,
 ghost use Rattle.clap.specs.Words.{Text, found_of, kind_of, rows_of, subcommand_of, subcommand_rows_of, takes};
 ghost use Rattle.clap.specs.declared.error.kind.ErrorKind.{ErrorKind};
 ghost use Rattle.command_line.specs.Program.{program};
-ghost use Rattle.command_line.specs.declared.request.View.{View as Shown};
+ghost use Rattle.command_line.specs.declared.request.MatchView.{MatchView as Shown};
 ghost use Rattle.command_line.specs.Requests.{Asks, AsksBy, AsksWith, BeginsWithDigit, IsExplain, FromStandardInput, IsFiles, IsInput, IsKeep, IsLink, IsMatch, IsView, IsViewed, Spells};
 ghost use Rattle.command_line.specs.Requests.{captures_of, check_words, draw_words, explain_words, keep_words, match_words, view_words};
 
@@ -15,7 +15,7 @@ use std::convert::AsStr;
 
 /// What `match` shows in place of a line for each packet.
 #[derive(Clone, Copy, PartialEq, Eq, Debug)]
-pub enum View {
+pub enum MatchView {
     /// A line for each packet, with its number.
     Numbers,
     /// How many packets were accepted, of how many.
@@ -43,7 +43,7 @@ pub enum Request<'a> {
         /// Whether the packets are a capture's; else they are lines of digits.
         pcap: bool,
         /// What is shown.
-        view: View,
+        view: MatchView,
     },
     /// To run a filter on packets, and to show each instruction that was taken.
     Explain {
@@ -241,15 +241,15 @@ fn asked<'a>(
 }
 
 // What `match` shows, by its flags, if not a line for each packet.
-fn view_of(found: &ArgMatches) -> Option<View>
+fn view_of(found: &ArgMatches) -> Option<MatchView>
     ensures { IsView (rows_of (found_of found.now)) result }
 {
     if found.get_flag("quiet") {
-        Some(View::Quiet)
+        Some(MatchView::Quiet)
     } else if found.get_flag("count") {
-        Some(View::Count)
+        Some(MatchView::Count)
     } else if found.get_flag("number") {
-        Some(View::Numbers)
+        Some(MatchView::Numbers)
     } else {
         None
     }

@@ -3,8 +3,8 @@ use Rattle.std.specs.Prelude.{◌≡◌, ◌⊎◌, ⊤, ℕ, Bool, true, false,
 use Rattle.std.specs.Io.KnownBytes.{IsAtEnd}
 use Rattle.command_line.specs.declared.request.Request.{Request}
 use Rattle.command_line.specs.declared.request.Request.TheVariants.{Match, View as Viewed, Explain, Keep, Check, Graph, Dump, Sim, Run, Draw}
-use Rattle.command_line.specs.declared.request.View.{View}
-use Rattle.command_line.specs.declared.request.View.TheVariants as asked
+use Rattle.command_line.specs.declared.request.MatchView.{MatchView}
+use Rattle.command_line.specs.declared.request.MatchView.TheVariants as asked
 use Rattle.console.specs.Checking.{ShowsCheck}
 use Rattle.console.specs.Code.{ShowsBadCode}
 use Rattle.console.specs.Dumping.{ShowsDump}
@@ -46,7 +46,7 @@ ShowsMatch code form true remaining old new status text =
     ⊎ ((input : List ℕ) × Gets remaining old new input × StreamShows code form input status text × (IsAtEnd (remaining new.inner) ⊎ (status ≡ 1)))
 
 -- the view of the engine
-abbrev pub shown_as : View → Shown
+abbrev pub shown_as : MatchView → Shown
 shown_as asked.Numbers = shown.Numbers
 shown_as asked.Count = shown.Count
 shown_as asked.Quiet = shown.Quiet

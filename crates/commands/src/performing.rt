@@ -6,7 +6,7 @@ ghost use Rattle.run_engine.specs.Failing.{RunEndsEarly};
 ghost use Rattle.script_input.specs.Inputs.{AllFresh, AreReadInOrder};
 ghost use Rattle.commands.specs.Commands.{IsFailure, Shows, ShowsAlone, ShowsMatch, form_of, is_stream, reads_at, reads_of, shown_as, takes_captures};
 
-use command_line::{Request, View};
+use command_line::{MatchView, Request};
 use console::{
     EngineFault, INPUT_READS, LinkTypes, PacketForm, STREAM_READS, Sink, Source, run_check,
     run_dump, run_match, run_stream, run_view,
@@ -141,13 +141,13 @@ fn perform_alone<R: Read, W: Write>(
 }
 
 /// The view of the engine.
-fn shown(view: View) -> console::View
+fn shown(view: MatchView) -> console::View
     ensures { result ≡ shown_as view }
 {
     match view {
-        View::Numbers => console::View::Numbers,
-        View::Count => console::View::Count,
-        View::Quiet => console::View::Quiet,
+        MatchView::Numbers => console::View::Numbers,
+        MatchView::Count => console::View::Count,
+        MatchView::Quiet => console::View::Quiet,
     }
 }
 

@@ -76,7 +76,7 @@ abbrev pub FlowedTo : List (Option Link) → List (Option Link) → ℕ → Type
 FlowedTo start xs p = FlowsOut (place_flow (slice_index_or start p None)) (place_flow (slice_index_or xs p None)) (place_view link_view (slice_index_or xs p None)).ready
 
 none_flows : FlowsOut no_flow no_flow false
-none_flows = record { out = omega arith; room = omega arith; come = refl; known = refl; full = λ e. refl }
+none_flows = record { out = omega arith; room = omega arith; come = refl; known = refl; full = λ e. refl; still = λ e. refl; moved = λ e. absurd cc }
 
 -- one link more was moved on
 pub flowed_more : (start xs : List (Option Link)) (i : ℕ) (d a b : Option Link) → i < length xs → slice_index_or xs i d ≡ a → ((p : ℕ) → p < i → FlowedTo start xs p)

@@ -1,5 +1,5 @@
 -- How many lines a link has moved, and what its ends know of the rings. Contracts of turns speak of these alone where nothing is sent or taken.
-use Rattle.std.specs.Prelude.{◌≡◌, ◌≢◌, ◌+◌, ◌*◌, ◌<◌, ◌≤◌, ◌++◌, [], ℕ, Bool, true, false, List, length, Option, Some, None, Result, MatchResult}
+use Rattle.std.specs.Prelude.{◌≡◌, ◌≢◌, ◌⊎◌, ◌+◌, ◌*◌, ◌<◌, ◌≤◌, ◌++◌, [], ℕ, Bool, true, false, List, length, Option, Some, None, Result, MatchResult}
 use mathlib.Core.List.{IsPrefix}
 use Rattle.core_links.specs.Views.{LinkView}
 use Rattle.ump_ring.specs.declared.fault.LineFault.{LineFault}
@@ -10,38 +10,44 @@ use Rattle.core_links.specs.declared.ring_links.RingLinks.{RingLinks}
 use Rattle.core_links.specs.declared.list_links.ListLinks.{ListLinks}
 use Rattle.core_links.specs.RingSlots.{own_of, link_to, ring_view}
 
--- the lines that went out, and the free places that its end knows of; the lines that came in, and those that its end knows of and has not received
+-- the lines that went out, and the free places that its end knows of; the lines that came in, and those that its end knows of and has not received;
+-- and whether it says that a line moved, either way, since the last pump began
 pub record Flow : Type 0 where
   pub out : ℕ
   pub room : ℕ
   pub come : ℕ
   pub known : ℕ
+  pub moved : Bool
 
 abbrev pub no_flow : Flow
-no_flow = record { out = 0; room = 0; come = 0; known = 0 }
+no_flow = record { out = 0; room = 0; come = 0; known = 0; moved = false }
 
--- lines went out as far as there is room: where the link still takes no message, no place is known to be free
+-- lines went out as far as there is room: where the link still takes no message, no place is known to be free. It says whether one did
 pub record FlowsOut (v w : Flow) (ready : Bool) : Type 0 where
   pub out : v.out ≤ w.out
   pub room : v.out + v.room ≤ w.out + w.room
   pub come : w.come ≡ v.come
   pub known : w.known ≡ v.known
   pub full : ready ≡ false → w.room ≡ 0
+  pub still : w.moved ≡ false → w.out ≡ v.out
+  pub moved : w.moved ≡ true → v.out < w.out
 
--- lines came in until a message was whole: where none is kept, no line is known that was not received
+-- lines came in until a message was whole: where none is kept, no line is known that was not received. It says so where one did
 pub record FlowsIn (v w : Flow) (kept : List (List ℕ)) (r : Result (Unit {0}) LineFault) : Type 0 where
   pub out : w.out ≡ v.out
   pub room : w.room ≡ v.room
   pub come : v.come ≤ w.come
   pub known : v.come + v.known ≤ w.come + w.known
   pub dry : MatchResult r (λ u. kept ≡ [] → w.known ≡ 0) (λ fault. Unit {0})
+  pub still : w.moved ≡ false → (v.moved ≡ false) × (w.come ≡ v.come)
+  pub moved : w.moved ≡ true → (v.moved ≡ true) ⊎ (v.come < w.come)
 
 -- the links at all places but this are as they were
 abbrev pub FlowsAt : {L : Type 0} → (L → ℕ → Flow) → ℕ → (Flow → Flow → Type 0) → L → L → Type 0
 FlowsAt flow peer R old new = R (flow old peer) (flow new peer) × ((p : ℕ) → p ≢ peer → flow new p ≡ flow old p)
 
 abbrev pub link_flow : Link → Flow
-link_flow l = record { out = length (lines_sent l.sender); room = room_known l.sender; come = length (lines_received l.receiver); known = length (lines_known l.receiver) }
+link_flow l = record { out = length (lines_sent l.sender); room = room_known l.sender; come = length (lines_received l.receiver); known = length (lines_known l.receiver); moved = l.moved }
 
 abbrev pub place_flow : Option Link → Flow
 place_flow None = no_flow
@@ -91,6 +97,15 @@ pub record IsExact (capacity : ℕ) (from to : LinkView) (out come : Flow) : Typ
 pub record IsLooked (v w : Flow) : Type 0 where
   pub out : w.out ≡ v.out
   pub come : w.come ≡ v.come
+
+-- a line moved over the link
+abbrev pub HasMoved : Flow → Flow → Type 0
+HasMoved v w = (v.out < w.out) ⊎ (v.come < w.come)
+
+-- the link says that lines moved where it said so before or one did, and only there
+pub record SaysMoved (v w : Flow) : Type 0 where
+  pub still : w.moved ≡ false → (v.moved ≡ false) × IsLooked v w
+  pub moved : w.moved ≡ true → (v.moved ≡ true) ⊎ HasMoved v w
 
 -- nothing goes over the link, as its end sees it, and it takes a message
 pub record IsResting (v : LinkView) (f : Flow) : Type 0 where

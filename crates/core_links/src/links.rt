@@ -17,12 +17,16 @@ pub trait Links: Drop {
     /// The same links, before and after a call.
     ghost same: { Self → Self → Type 0 };
 
-    /// The lines that went over the link to a peer, and those that its ends know of.
+    /// The lines that went over the link to a peer, those that its ends know of, and whether it says that one moved.
     ghost flow: { Self → ℕ → Flow };
 
     /// Whether the link to a peer takes a message.
     fn ready(&self, peer: u16) -> bool
         ensures { result ≡ (view self.now peer).ready };
+
+    /// Whether a line went to a peer, or came from it, since the last `pump` began. So the peer may be able to do what it couldn't.
+    fn moved(&self, peer: u16) -> bool
+        ensures { result ≡ (flow self.now peer).moved };
 
     /// Takes in what has come from a peer until a whole message is kept. After a fault every call answers the same.
     /// `pull` and `shown` are `look` in two steps, for a type that holds the links and reads the message while it asks

@@ -170,6 +170,11 @@ impl Links for ListLinks {
         }
     }
 
+    // Lists have no lines.
+    fn moved(&self, _peer: u16) -> bool {
+        false
+    }
+
     fn pull(&mut self, _peer: u16) -> Result<(), LineFault> {
         Ok(())
     }

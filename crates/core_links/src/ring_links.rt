@@ -10,6 +10,8 @@ use ump_ring::{Busy, LineFault, Receiver, Sender, beside};
 pub struct Link {
     sender: Sender,
     receiver: Receiver,
+    // A line moved, either way, since the last `pump` began.
+    moved: bool,
 }
 
 // By hand, so that the proofs of its owners have one call and not a drop of each part.
@@ -18,6 +20,7 @@ impl Drop for Link {
         let Link {
             sender: _,
             receiver: _,
+            moved: _,
         } = self;
     }
 }
@@ -36,7 +39,7 @@ impl Drop for RingLinks {
 }
 
 impl RingLinks {
-    ghost use Rattle.std.specs.Prelude.{◌≡◌, ◌≢◌, ◌<◌, ◌↔◌, ℕ, None, Some, IfOk, IsTrue};
+    ghost use Rattle.std.specs.Prelude.{◌≡◌, ◌≢◌, ◌<◌, ◌↔◌, ℕ, false, None, Some, IfOk, IsTrue};
     ghost use mathlib.Core.List.{IsPrefix};
     ghost use Rattle.ump_ring.specs.Joiners.{shown_items};
     ghost use Rattle.core_links.specs.Views.{IsSameView};
@@ -61,10 +64,14 @@ impl RingLinks {
         requires peer { (peer < cores_of self.old) × (peer ≢ own_of self.old) }
         requires once { link_to self.old peer ≡ None }
         ensures place { (own_of self.new ≡ own_of self.old) × (cores_of self.new ≡ cores_of self.old) }
-        ensures joined { link_to self.new peer ≡ Some (record { sender = sender; receiver = receiver }) }
+        ensures joined { link_to self.new peer ≡ Some (record { sender = sender; receiver = receiver; moved = false }) }
         ensures others { (p : ℕ) → p ≢ peer → link_to self.new p ≡ link_to self.old p }
     {
-        self.slots[usize::from(peer)] = Some(Link { sender, receiver });
+        self.slots[usize::from(peer)] = Some(Link {
+            sender,
+            receiver,
+            moved: false,
+        });
     }
 
     /// Shows, in a thread with the links of two cores that rings join, that what each took from the other begins what
@@ -136,7 +143,9 @@ impl Link {
         ensures pulled { Pulled (link_view self.old) (link_view self.new) result }
         ensures lines { FlowsIn (link_flow self.old) (link_flow self.new) (link_view self.new).kept result }
     {
-        self.receiver.pull()
+        let pulled = self.receiver.pull();
+        self.moved = self.moved || self.receiver.moved();
+        pulled
     }
 
     fn shown(&self) -> Option<&[u8]>
@@ -176,9 +185,7 @@ impl Link {
         ensures pumped { Pumped (link_view self.old) (link_view self.new) }
         ensures lines { FlowsOut (link_flow self.old) (link_flow self.new) (link_view self.new).ready }
     {
-        if !self.sender.idle() {
-            let _ = self.sender.push_some();
-        }
+        self.moved = !self.sender.idle() && self.sender.push_some().lines != 0;
     }
 
     fn beside(&mut self, other: &mut Link)
@@ -214,6 +221,13 @@ impl Links for RingLinks {
     fn ready(&self, peer: u16) -> bool {
         match self.slots.get(usize::from(peer)) {
             Some(Some(link)) => link.ready(),
+            _ => false,
+        }
+    }
+
+    fn moved(&self, peer: u16) -> bool {
+        match self.slots.get(usize::from(peer)) {
+            Some(Some(link)) => link.moved,
             _ => false,
         }
     }

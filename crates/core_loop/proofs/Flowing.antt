@@ -2,7 +2,7 @@
 use Rattle.std.proofs.Common.{◌≡◌, ◌≢◌, ◌<◌, ◌≤◌, ◌+◌, ◌⊎◌, inl, inr, ℕ, zero, suc, Bool, true, false, List, [], Result, MatchResult, Ok, Err, refl, ap, sym, ◌∙◌, subst, arith}
 use Rattle.core_links.specs.Views.{LinkView, Pulled}
 use Rattle.ump_ring.specs.declared.fault.LineFault.{LineFault}
-use Rattle.core_links.specs.Flows.{Flow, FlowsOn, FlowsIn, FlowsOut}
+use Rattle.core_links.specs.Flows.{Flow, FlowsOn, FlowsIn, FlowsOut, IsLooked, HasMoved, SaysMoved}
 use Rattle.world_model.proofs.Lists.{same_or_not}
 
 pub on_along : (u v w : Flow) → FlowsOn u v → FlowsOn v w → FlowsOn u w
@@ -17,7 +17,55 @@ out_on v w ready f = record { out = f.out; come = omega (arith, f.come); room = 
 in_on : (v w : Flow) (kept : List (List ℕ)) (r : Result (Unit {0}) LineFault) → FlowsIn v w kept r → FlowsOn v w
 in_on v w kept r f = record { out = omega (arith, f.out); come = f.come; room = omega (arith, f.out, f.room); known = f.known }
 
+says_itself : (v : Flow) → SaysMoved v v
+says_itself v = record { still = λ e. (e, record { out = refl; come = refl }); moved = λ e. inl e }
+
+moves_along : (u v w : Flow) → FlowsOn u v → FlowsOn v w → (HasMoved u v ⊎ HasMoved v w) → HasMoved u w
+moves_along u v w a b (inl (inl o)) = inl (omega (arith, o, b.out))
+moves_along u v w a b (inl (inr c)) = inr (omega (arith, c, b.come))
+moves_along u v w a b (inr (inl o)) = inl (omega (arith, o, a.out))
+moves_along u v w a b (inr (inr c)) = inr (omega (arith, c, a.come))
+
+pub says_along : (u v w : Flow) → FlowsOn u v → FlowsOn v w → SaysMoved u v → SaysMoved v w → SaysMoved u w
+says_along u v w a b x y = record { still = still; moved = λ e. by_last (y.moved e) }
+  where
+    still : w.moved ≡ false → (u.moved ≡ false) × IsLooked u w
+    still e = let l = y.still e in let k = x.still l.0 in (k.0, record { out = l.1.out ∙ k.1.out; come = l.1.come ∙ k.1.come })
+
+    by_first : ((u.moved ≡ true) ⊎ HasMoved u v) → (u.moved ≡ true) ⊎ HasMoved u w
+    by_first (inl e) = inl e
+    by_first (inr m) = inr (moves_along u v w a b (inl m))
+
+    by_last : ((v.moved ≡ true) ⊎ HasMoved v w) → (u.moved ≡ true) ⊎ HasMoved u w
+    by_last (inl e) = by_first (x.moved e)
+    by_last (inr m) = inr (moves_along u v w a b (inr m))
+
+in_says : (v w : Flow) (kept : List (List ℕ)) (r : Result (Unit {0}) LineFault) → FlowsIn v w kept r → SaysMoved v w
+in_says v w kept r f = record { still = λ e. let s = f.still e in (s.0, record { out = f.out; come = s.1 }); moved = λ e. by_line (f.moved e) }
+  where
+    by_line : ((v.moved ≡ true) ⊎ (v.come < w.come)) → (v.moved ≡ true) ⊎ HasMoved v w
+    by_line (inl e) = inl e
+    by_line (inr l) = inr (inr l)
+
 -- after a pull from one peer
+pub pulled_says : (peer : ℕ) (old new : ℕ → Flow) (kept : List (List ℕ)) (r : Result (Unit {0}) LineFault) → FlowsIn (old peer) (new peer) kept r → ((p : ℕ) → p ≢ peer → new p ≡ old p) → (p : ℕ) → SaysMoved (old p) (new p)
+pulled_says peer old new kept r here others p = by_place (same_or_not p peer)
+  where
+    by_place : ((p ≡ peer) ⊎ (p ≡ peer → ⊥)) → SaysMoved (old p) (new p)
+    by_place (inl e) = subst (λ (n : ℕ). SaysMoved (old n) (new n)) (sym e) (in_says (old peer) (new peer) kept r here)
+    by_place (inr ne) = subst (λ (f : Flow). SaysMoved (old p) f) (sym (others p ne)) (says_itself (old p))
+
+-- after the pump and a look
+pub pumped_still : (u v w : Flow) (ready : Bool) → FlowsOut u v ready → SaysMoved v w → w.moved ≡ false → IsLooked u w
+pumped_still u v w ready f s e = let l = s.still e in record { out = l.1.out ∙ f.still l.0; come = l.1.come ∙ f.come }
+
+pub pumped_moved : (u v w : Flow) (ready : Bool) → FlowsOut u v ready → FlowsOn v w → SaysMoved v w → w.moved ≡ true → HasMoved u w
+pumped_moved u v w ready f on s e = by_look (s.moved e)
+  where
+    by_look : ((v.moved ≡ true) ⊎ HasMoved v w) → HasMoved u w
+    by_look (inl m) = inl (omega (arith, f.moved m, on.out))
+    by_look (inr m) = moves_along u v w (out_on u v ready f) on (inr m)
+
 pub pulled_on : (peer : ℕ) (old new : ℕ → Flow) (kept : List (List ℕ)) (r : Result (Unit {0}) LineFault) → FlowsIn (old peer) (new peer) kept r → ((p : ℕ) → p ≢ peer → new p ≡ old p) → (p : ℕ) → FlowsOn (old p) (new p)
 pulled_on peer old new kept r here others p = by_place (same_or_not p peer)
   where

@@ -17,3 +17,4 @@ pub mod Receiving
 pub mod Answering
 pub mod Owning
 pub mod Resting
+pub mod Waking

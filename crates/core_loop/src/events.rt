@@ -43,6 +43,7 @@ pub(crate) fn begin<L: Links>(
     ensures jobs { OnEvent result (λ s. receives s.done.event ≡ []) }
     ensures whole { OnEvent result (λ s. IsUnshortened s.done.event) }
     ensures links { OnEvent result (λ _. L.same links.old links.new) }
+    ensures lines { (p : ℕ) → L.flow links.new p ≡ L.flow links.old p }
     ensures idle { OnIdle result (CanBeginNext context.cores part.old requests.old.items (L.view links.old) → ⊥) }
     ensures why { IfErr result (CannotBegin context.cores context.clock part.old requests.old.items (L.view links.old)) }
     ensures same { OnNone result ((part.new ≡ part.old) × (links.new ≡ links.old)) }
@@ -84,6 +85,7 @@ pub(crate) fn take<L: Links>(
     ensures acts { IfOk result (Acts context.number context.cores context.clock (L.view links.old) (L.view links.new) part.old part.new) }
     ensures event { IfOk result (λ s. s.done.event ≡ Take context.number peer false) }
     ensures links { OnOk result (L.same links.old links.new) }
+    ensures lines { (p : ℕ) → L.flow links.new p ≡ L.flow links.old p }
     ensures why { IfErr result (CannotTake context.cores context.clock peer part.old (record { stamp = sent; message = message }) (L.view links.old)) }
     ensures same { OnErr result ((part.new ≡ part.old) × (links.new ≡ links.old)) }
 {
@@ -121,6 +123,7 @@ pub(crate) fn take_kept<L: Links>(
     ensures acts { OnEvent result (Acts context.number context.cores context.clock (L.view links.old) (L.view links.new) part.old part.new) }
     ensures event { OnEvent result (λ s. s.done.event ≡ Take context.number peer false) }
     ensures links { OnEvent result (λ _. L.same links.old links.new) }
+    ensures lines { (p : ℕ) → L.flow links.new p ≡ L.flow links.old p }
     ensures waits { OnIdle result (MustWait context.cores part.old peer (L.view links.old)) }
     ensures why { IfErr result (TakeHalts context.cores context.clock peer part.old (L.view links.old)) }
     ensures same { OnNone result ((part.new ≡ part.old) × (links.new ≡ links.old)) }
@@ -177,6 +180,7 @@ pub(crate) fn begin_or_receive<L: Links>(
     ensures whole { OnEvent result (λ s. IsUnshortened s.done.event) }
     ensures leave { OnEvent result (λ s. rx ≡ false → receives s.done.event ≡ []) }
     ensures links { OnEvent result (λ _. L.same links.old links.new) }
+    ensures lines { (p : ℕ) → L.flow links.new p ≡ L.flow links.old p }
     ensures queue { SameIntake intake.old intake.new }
     ensures same { OnNone result ((part.new ≡ part.old) × (links.new ≡ links.old)) }
     ensures same_requests { OnNone result (requests.new ≡ requests.old) }
@@ -227,6 +231,7 @@ pub(crate) fn first_event<L: Links>(
     ensures whole { OnEvent result (λ s. IsUnshortened s.done.event) }
     ensures leave { OnEvent result (λ s. rx ≡ false → receives s.done.event ≡ []) }
     ensures links { OnEvent result (λ _. L.same links.old links.new) }
+    ensures lines { (p : ℕ) → L.flow links.new p ≡ L.flow links.old p }
     ensures queue { SameIntake intake.old intake.new }
     ensures same { OnNone result ((part.new ≡ part.old) × (links.new ≡ links.old)) }
     ensures same_requests { OnNone result (requests.new ≡ requests.old) }

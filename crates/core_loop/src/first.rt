@@ -51,6 +51,7 @@ pub(crate) fn take<L: Links>(
     ensures acts { IfOk result (Acts0 others clock (L.view links.old) (L.view links.new) core.old core.new) }
     ensures event { IfOk result (λ s. s.done.event ≡ Take 0 peer false) }
     ensures links { OnOk result (L.same links.old links.new) }
+    ensures lines { (p : ℕ) → L.flow links.new p ≡ L.flow links.old p }
     ensures between { BetweenSteps core.new }
     ensures why { IfErr result (CannotTake0 others clock peer core.old (record { stamp = sent; message = message }) (L.view links.old)) }
     ensures same { OnErr result ((core.new ≡ core.old) × (links.new ≡ links.old)) }
@@ -133,6 +134,7 @@ pub(crate) fn start<L: Links>(
     ensures acts { IfOk result (Acts0 others clock (L.view links.old) (L.view links.new) core.old core.new) }
     ensures event { IfOk result (λ s. (op : GhostOp) × (s.done.event ≡ Start op) × (requests.old.items ≡ op ∷ requests.new.items)) }
     ensures links { OnOk result (L.same links.old links.new) }
+    ensures lines { (p : ℕ) → L.flow links.new p ≡ L.flow links.old p }
     ensures between { BetweenSteps core.new }
     ensures why { IfErr result (CannotStart0 clock core.old) }
     ensures same { OnErr result ((core.new ≡ core.old) × (links.new ≡ links.old)) }
@@ -201,6 +203,7 @@ pub(crate) fn start_for<L: Links>(
     ensures acts { IfOk result (Acts0 others clock (L.view links.old) (L.view links.new) core.old core.new) }
     ensures event { IfOk result (λ s. s.done.event ≡ StartFor from) }
     ensures links { OnOk result (L.same links.old links.new) }
+    ensures lines { (p : ℕ) → L.flow links.new p ≡ L.flow links.old p }
     ensures between { BetweenSteps core.new }
     ensures why { IfErr result (CannotStart0 clock core.old) }
     ensures same { OnErr result ((core.new ≡ core.old) × (links.new ≡ links.old)) }
@@ -265,6 +268,7 @@ pub(crate) fn begin<L: Links>(
     ensures jobs { OnEvent result (λ s. receives s.done.event ≡ []) }
     ensures whole { OnEvent result (λ s. IsUnshortened s.done.event) }
     ensures links { OnEvent result (λ s. L.same links.old links.new) }
+    ensures lines { (p : ℕ) → L.flow links.new p ≡ L.flow links.old p }
     ensures in_turn { OnEvent result (λ s. BeginsInTurn others last core.old requests.old.items s.done.event) }
     ensures between { BetweenSteps core.new }
     ensures idle { OnIdle result (CanBegin0 others core.old requests.old.items (L.view links.old) → ⊥) }

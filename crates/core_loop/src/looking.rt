@@ -4,11 +4,12 @@ ghost use Rattle.std.specs.Prelude.{◌≡◌, ◌≢◌, ◌<◌, ◌≤◌, �
 ghost use mathlib.Core.List.{IsPrefix};
 ghost use Rattle.rx_queue.specs.declared.job.Job.{Job as GhostJob};
 ghost use Rattle.rx_queue.specs.Queue.{jobs_seen, jobs_taken, SameIntake};
-ghost use Rattle.core_links.specs.Flows.{FlowsOn};
+ghost use Rattle.core_links.specs.Flows.{FlowsOn, SaysMoved};
 ghost use Rattle.core_loop.specs.Carrying.{Quiet};
 ghost use Rattle.core_loop.specs.Receipts.{IsReceivable};
 ghost use Rattle.core_loop.specs.Turning.{HasRequest};
 ghost use Rattle.core_loop.specs.Choosing.{ShowsNothing, IsLeastShowing};
+ghost use Rattle.core_loop.specs.Waking.{bits_below};
 
 use crate::first::waiting_after;
 use crate::part::Part;
@@ -24,6 +25,7 @@ pub(crate) fn least_showing<L: Links>(links: &mut L, cores: u16) -> Result<Optio
     ensures least { IfOk result (λ shown. IfSome shown (IsLeastShowing cores (L.view links.new))) }
     ensures none { IfOk result (λ shown. IfNone shown ((p : ℕ) → p < cores → ShowsNothing (L.view links.new p))) }
     ensures lines { (p : ℕ) → FlowsOn (L.flow links.old p) (L.flow links.new p) }
+    ensures moved { (p : ℕ) → SaysMoved (L.flow links.old p) (L.flow links.new p) }
     ensures full { ((p : ℕ) → (L.view links.old p).ready ≡ false → (L.flow links.old p).room ≡ 0) → (p : ℕ) → (L.view links.new p).ready ≡ false → (L.flow links.new p).room ≡ 0 }
     ensures dry { IfOk result (λ shown. IfNone shown ((p : ℕ) → p < cores → (L.flow links.new p).known ≡ 0)) }
     ensures fault { IfErr result (λ fault. (peer : ℕ) × (peer < cores) × ((p : ℕ) → p < peer → ShowsNothing (L.view links.new p)) × ((L.view links.new peer).stopped ≡ Some fault)) }
@@ -42,6 +44,18 @@ fn has_message<L: Links>(links: &L, peer: u16) -> bool
     ensures none { IsFalse result → (L.view links.now peer).kept ≡ [] }
 {
     links.shown(peer).is_some()
+}
+
+/// A bit for each peer over whose link a line moved, the least for core 0.
+pub(crate) fn moved_bits<L: Links>(links: &L, cores: u16) -> u64
+    requires { cores ≤ 64 }
+    ensures { result ≡ bits_below cores (λ p. (L.flow links.now p).moved) }
+{
+    let mut bits = 0u64;
+    for peer in (0..cores).rev() {
+        bits = bits * 2 + u64::from(links.moved(peer));
+    }
+    bits
 }
 
 /// Whether the core has a request of its own, or core 0 has one waiting.

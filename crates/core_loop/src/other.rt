@@ -52,6 +52,7 @@ pub(crate) fn take<L: Links>(
     ensures acts { IfOk result (λ s. (entry : ℕ) → number ≡ suc entry → ActsOther entry clock (L.view links.old) (L.view links.new) core.old core.new s) }
     ensures event { IfOk result (λ s. s.done.event ≡ Take number 0 false) }
     ensures links { OnOk result (L.same links.old links.new) }
+    ensures lines { (p : ℕ) → L.flow links.new p ≡ L.flow links.old p }
     ensures between { IsBetweenSteps core.new }
     ensures why { IfErr result (CannotTakeOther clock core.old (record { stamp = sent; message = message.now }) (L.view links.old)) }
     ensures same { OnErr result ((core.new ≡ core.old) × (links.new ≡ links.old)) }
@@ -117,6 +118,7 @@ fn ready_reply<L: Links>(
 fn send_reply<L: Links>(links: &mut L, piece: Option<Vec<u8>>)
     requires { (stamp : ℕ) × (reply : Option GhostMessage) × IsReplyReady stamp reply piece (L.view links.old 0) }
     ensures links { L.same links.old links.new }
+    ensures lines { (p : ℕ) → L.flow links.new p ≡ L.flow links.old p }
     ensures there { (stamp : ℕ) (reply : Option GhostMessage) → IsReplyReady stamp reply piece (L.view links.old 0) → Hands (L.view links.old 0) (L.view links.new 0) (with_stamp stamp (option_to_list reply)) }
     ensures elsewhere { (p : ℕ) → p ≢ 0 → L.view links.new p ≡ L.view links.old p }
 {
@@ -142,6 +144,7 @@ pub(crate) fn submit<L: Links>(
     ensures acts { IfOk result (λ s. (entry : ℕ) → number ≡ suc entry → ActsOther entry clock (L.view links.old) (L.view links.new) core.old core.new s) }
     ensures event { IfOk result (λ s. (op : GhostOp) × (s.done.event ≡ Submit number op) × (requests.old.items ≡ op ∷ requests.new.items)) }
     ensures links { OnOk result (L.same links.old links.new) }
+    ensures lines { (p : ℕ) → L.flow links.new p ≡ L.flow links.old p }
     ensures between { IsBetweenSteps core.new }
     ensures why { IfErr result (CannotSubmit clock) }
     ensures same { OnErr result ((core.new ≡ core.old) × (links.new ≡ links.old)) }
@@ -193,6 +196,7 @@ pub(crate) fn begin<L: Links>(
     ensures jobs { OnEvent result (λ s. receives s.done.event ≡ []) }
     ensures whole { OnEvent result (λ s. IsUnshortened s.done.event) }
     ensures links { OnEvent result (λ s. L.same links.old links.new) }
+    ensures lines { (p : ℕ) → L.flow links.new p ≡ L.flow links.old p }
     ensures least { OnEvent result (λ s. IsSubmission s.done.event) }
     ensures between { IsBetweenSteps core.new }
     ensures idle { OnIdle result (CanBeginOther core.old requests.old.items (L.view links.old) → ⊥) }

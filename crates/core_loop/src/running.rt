@@ -5,6 +5,7 @@ ghost use Rattle.std.specs.Prelude.{◌≡◌, ◌<◌, ◌≤◌, ℕ};
 use crate::cause::{Cause, Turn};
 use crate::context::Context;
 use crate::deciding::decision_of;
+use crate::looking::moved_bits;
 use crate::noting::{last_begun_with, noted};
 use crate::part::Part;
 use crate::refusal::Halt;
@@ -87,11 +88,12 @@ impl<L: Links> Core<L> {
     ghost use Rattle.core_loop.specs.Passing.{PassesOver, IsOnceEach};
     ghost use Rattle.core_loop.specs.Cores.{CoreState, Stands, AreShort, SameCore, NothingDone, DidOne, CanReceive, begun};
     ghost use Rattle.core_loop.specs.Beginning.{CanBeginNext, HasNothingUnderWay};
-    ghost use Rattle.core_links.specs.Flows.{FlowsOn};
+    ghost use Rattle.core_links.specs.Flows.{FlowsOn, IsLooked, HasMoved};
     ghost use Rattle.core_loop.specs.Choosing.{ShowsNothing, NoMessageNow};
     ghost use Rattle.core_loop.specs.Turning.{StopsFirst, HasStopped, IsSpent, LacksMemory, HasWork};
     ghost use Rattle.core_loop.specs.Receipts.{receives};
     ghost use Rattle.core_loop.specs.Answering.{decisions};
+    ghost use Rattle.core_loop.specs.Waking.{bits_below};
     ghost use Rattle.filter_table.specs.declared.decision.Decision.{Decision as GhostDecision};
     ghost use Rattle.core_loop.specs.Keeping.{replica_of};
     ghost use Rattle.core_loop.specs.Standing.{IsSilent};
@@ -173,6 +175,8 @@ impl<L: Links> Core<L> {
         ensures idle_message { result ≡ Idle → NoMessageNow self.new.cores self.new.part (L.view self.new.links) }
         ensures idle { result ≡ Idle → CanBeginNext self.new.cores self.new.part self.new.pending (L.view self.new.links) → ⊥ }
         ensures lines { result ≡ Idle → (p : ℕ) → FlowsOn (L.flow self.old.links p) (L.flow self.new.links p) }
+        ensures still { (p : ℕ) → (L.flow self.new.links p).moved ≡ false → IsLooked (L.flow self.old.links p) (L.flow self.new.links p) }
+        ensures moved { self.old.stopped ≡ None → (p : ℕ) → (L.flow self.new.links p).moved ≡ true → HasMoved (L.flow self.old.links p) (L.flow self.new.links p) }
         ensures full { result ≡ Idle → (p : ℕ) → (L.view self.new.links p).ready ≡ false → (L.flow self.new.links p).room ≡ 0 }
         ensures dry { result ≡ Idle → ((p : ℕ) → p < self.new.cores → ShowsNothing (L.view self.new.links p)) → (p : ℕ) → p < self.new.cores → (L.flow self.new.links p).known ≡ 0 }
         ensures idle_job { result ≡ Idle → rx ≡ true → (job : GhostJob) → CanReceive self.new job → ⊥ }
@@ -212,6 +216,15 @@ impl<L: Links> Core<L> {
                 Turn::Stopped(cause)
             }
         }
+    }
+
+    /// The peers that lines went to in the last turn, or came from: a bit for each, the least for core 0. Such a core may now do what it
+    /// couldn't, since it has lines to read or room to write; each other core can do no more than before the turn. A turn that answers
+    /// `Stopped` once more moves nothing, and this stays as it was.
+    pub fn woken(&self) -> u64
+        ensures { result ≡ bits_below self.now.cores (λ p. (L.flow self.now.links p).moved) }
+    {
+        moved_bits(&self.links, self.cores)
     }
 
     /// While a core's request waits at core 0, core 0 begins at most one request of each other core, and one of its own, before it. A

@@ -99,6 +99,7 @@ pub(crate) fn send<L: Links>(links: &mut L, others: u16, ready: Ready)
     requires made { (stamp : ℕ) × (out : GhostOutgoing) × IsMade others stamp out ready × CanCarry others out (L.view links.old) }
     requires lengths { CanBeSent ready }
     ensures links { L.same links.old links.new }
+    ensures lines { (p : ℕ) → L.flow links.new p ≡ L.flow links.old p }
     ensures sent { (stamp : ℕ) (out : GhostOutgoing) → IsMade others stamp out ready → HandsOut others stamp out (L.view links.old) (L.view links.new) }
 {
     match ready {
@@ -113,6 +114,7 @@ fn send_all<L: Links>(links: &mut L, others: u16, mut pieces: Vec<Vec<u8>>)
     requires lengths { All CanBeHanded pieces.items }
     requires ready { (entry : ℕ) → entry < others → (L.view links.old (suc entry)).ready ≡ true }
     ensures links { L.same links.old links.new }
+    ensures lines { (p : ℕ) → L.flow links.new p ≡ L.flow links.old p }
     ensures sent { (stamp : ℕ) (m : GhostMessage) → All (IsPiece stamp m) pieces.items → HandsOut others stamp (to_all m) (L.view links.old) (L.view links.new) }
 {
     for entry in 0..others {
@@ -128,6 +130,7 @@ pub(crate) fn hand<L: Links>(links: &mut L, peer: u16, piece: Vec<u8>)
     requires lengths { CanBeHanded piece }
     requires ready { (L.view links.old peer).ready ≡ true }
     ensures links { L.same links.old links.new }
+    ensures lines { (p : ℕ) → L.flow links.new p ≡ L.flow links.old p }
     ensures there { (stamp : ℕ) (m : GhostMessage) → IsPiece stamp m piece → Hands (L.view links.old peer) (L.view links.new peer) (with_stamp stamp (m ∷ [])) }
     ensures elsewhere { (p : ℕ) → p ≢ peer → L.view links.new p ≡ L.view links.old p }
 {

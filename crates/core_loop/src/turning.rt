@@ -1,10 +1,10 @@
 //! The next event of a core.
 
-ghost use Rattle.std.specs.Prelude.{◌≡◌, ◌<◌, ◌≤◌, ◌⊎◌, ◌++◌, ℕ, [], false, None, IfErr, IsSome, IsTrue, IsFalse};
+ghost use Rattle.std.specs.Prelude.{◌≡◌, ◌<◌, ◌≤◌, ◌⊎◌, ◌++◌, ℕ, [], true, false, None, IfErr, IsSome, IsTrue, IsFalse};
 ghost use mathlib.Core.List.{IsPrefix};
 ghost use Rattle.rx_queue.specs.Queue.{jobs_seen, jobs_taken, SameIntake};
 ghost use Rattle.core_loop.specs.declared.refusal.Halt.TheVariants.{NoMemory};
-ghost use Rattle.core_links.specs.Flows.{FlowsOn};
+ghost use Rattle.core_links.specs.Flows.{FlowsOn, IsLooked, HasMoved};
 ghost use Rattle.core_loop.specs.Carrying.{Quiet};
 ghost use Rattle.core_loop.specs.Cores.{begins, AreShort};
 ghost use Rattle.core_loop.specs.Receipts.{receives};
@@ -54,6 +54,8 @@ pub(crate) fn next_event<L: Links>(
     ensures idle { OnIdle result (CanBeginNext context.cores part.old requests.old.items (L.view links.new) → ⊥) }
     ensures idle_job { OnIdle result (MayReceive part.old rx intake.new → ⊥) }
     ensures lines { OnIdle result ((p : ℕ) → FlowsOn (L.flow links.old p) (L.flow links.new p)) }
+    ensures still { (p : ℕ) → (L.flow links.new p).moved ≡ false → IsLooked (L.flow links.old p) (L.flow links.new p) }
+    ensures moved { (p : ℕ) → (L.flow links.new p).moved ≡ true → HasMoved (L.flow links.old p) (L.flow links.new p) }
     ensures full { OnIdle result ((p : ℕ) → (L.view links.new p).ready ≡ false → (L.flow links.new p).room ≡ 0) }
     ensures dry { OnIdle result (((p : ℕ) → p < context.cores → ShowsNothing (L.view links.new p)) → (p : ℕ) → p < context.cores → (L.flow links.new p).known ≡ 0) }
     ensures why { IfErr result (HaltsFor context.cores context.clock part.old requests.old.items (L.view links.new) rx intake.new) }

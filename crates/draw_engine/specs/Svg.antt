@@ -4,9 +4,9 @@ use Rattle.std.specs.List.{flat_map}
 use Rattle.std.specs.Fmt.{decimal}
 use Rattle.trace_lines.specs.declared.event.Act.{Act}
 use Rattle.trace_lines.specs.declared.event.Act.TheVariants as act
-use Rattle.trace_lines.specs.declared.messages.Kind.{Kind}
-use Rattle.trace_lines.specs.declared.messages.Kind.TheVariants as kind
-use Rattle.trace_lines.specs.declared.messages.Message.{Message}
+use Rattle.trace_lines.specs.declared.messages.MessageKind.{MessageKind}
+use Rattle.trace_lines.specs.declared.messages.MessageKind.TheVariants as kind
+use Rattle.trace_lines.specs.declared.messages.TraceMessage.{TraceMessage}
 use Rattle.trace_lines.specs.Lines.{Shown}
 use Rattle.trace_lines.specs.Links.{Drawn, drawn_of, left_of, highest_of}
 
@@ -98,7 +98,7 @@ mark d =
     ++ version (core_of d.shown.event.act) d.row d.shown.version
     ++ words_at (words_class d.shown.no) (core_of d.shown.event.act) (y_of d.row) d.shown.text
 
-abbrev pub kind_word : Kind → List ℕ
+abbrev pub kind_word : MessageKind → List ℕ
 kind_word kind.Prepare = codes "prepare"
 kind_word kind.Vote = codes "vote"
 kind_word kind.Commit = codes "commit"
@@ -108,12 +108,12 @@ kind_word kind.Submit = codes "submit"
 kind_word kind.Reply = codes "reply"
 
 -- a message that nobody took: from its sender to a row of its own, below the events
-abbrev pub open_arrow : ℕ → ℕ → Message → List ℕ
+abbrev pub open_arrow : ℕ → ℕ → TraceMessage → List ℕ
 open_arrow rows place m =
     stroke (codes "o") (x_of m.from) (y_of m.row) (x_of m.to) (y_below rows place)
     ++ words_at (codes "u") m.to (y_below rows place) (kind_word m.kind ++ codes " under way")
 
-abbrev pub open_from : ℕ → ℕ → List Message → List ℕ
+abbrev pub open_from : ℕ → ℕ → List TraceMessage → List ℕ
 open_from rows place [] = []
 open_from rows place (m ∷ ms) = open_arrow rows place m ++ open_from rows (place + 1) ms
 
@@ -149,7 +149,7 @@ abbrev pub head : ℕ → ℕ → List ℕ
 head width height = head_start ++ size width height ++ view_box width height ++ head_end
 
 -- the whole file
-abbrev pub svg_of : ℕ → List Drawn → List Message → List ℕ
+abbrev pub svg_of : ℕ → List Drawn → List TraceMessage → List ℕ
 svg_of highest rows left =
     head (width_of highest (longest_from 0 rows)) (y_below (length rows) (length left) + 20) ++ style ++ legend
     ++ columns (y_below (length rows) (length left)) highest

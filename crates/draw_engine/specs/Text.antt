@@ -4,7 +4,7 @@ use Rattle.std.specs.List.{flat_map}
 use Rattle.std.specs.Fmt.{decimal}
 use Rattle.trace_lines.specs.declared.event.Act.{Act}
 use Rattle.trace_lines.specs.declared.event.Act.TheVariants as act
-use Rattle.trace_lines.specs.declared.messages.Message.{Message}
+use Rattle.trace_lines.specs.declared.messages.TraceMessage.{TraceMessage}
 use Rattle.trace_lines.specs.Lines.{Shown}
 use Rattle.trace_lines.specs.Links.{Drawn, drawn_of, left_of, highest_of}
 use Rattle.draw_engine.specs.Svg.{core_of, kind_word}
@@ -40,13 +40,13 @@ abbrev pub text_row : ℕ → Drawn → List ℕ
 text_row highest d = flat_map (core_cell d) (cores highest) ++ decimal (d.row + 1) ++ codes " " ++ d.shown.text ++ sender_words d.sender ++ codes "\n"
 
 -- a message that nobody took
-abbrev pub open_row : Message → List ℕ
+abbrev pub open_row : TraceMessage → List ℕ
 open_row m = codes "under way: " ++ kind_word m.kind ++ codes " to core " ++ decimal m.to ++ codes " <- " ++ decimal (m.row + 1) ++ codes "\n"
 
 abbrev pub name_cell : ℕ → List ℕ
 name_cell core = cell (codes "core ") (decimal core)
 
-abbrev pub text_of : ℕ → List Drawn → List Message → List ℕ
+abbrev pub text_of : ℕ → List Drawn → List TraceMessage → List ℕ
 text_of highest rows left = flat_map name_cell (cores highest) ++ codes "\n" ++ flat_map (text_row highest) rows ++ flat_map open_row left
 
 abbrev pub text : List Shown → List ℕ

@@ -8,7 +8,7 @@ ghost use Rattle.draw_engine.specs.Svg as spec;
 
 use itoa::Buffer;
 use std::alloc::{AllocError, Global};
-use trace_lines::{Act, Kind, Message, Picture, Row};
+use trace_lines::{Act, MessageKind, Picture, Row, TraceMessage};
 
 pub(crate) const CORES: [u16; 8] = [0, 1, 2, 3, 4, 5, 6, 7];
 
@@ -251,17 +251,17 @@ fn push_marks(text: &mut Vec<u8>, rows: &[Row<'_>]) -> Result<(), AllocError>
     Ok(())
 }
 
-pub(crate) fn kind_word(kind: Kind) -> &'static [u8]
+pub(crate) fn kind_word(kind: MessageKind) -> &'static [u8]
     ensures { result.now ≡ spec.kind_word kind }
 {
     match kind {
-        Kind::Prepare => b"prepare",
-        Kind::Vote => b"vote",
-        Kind::Commit => b"commit",
-        Kind::Abort => b"abort",
-        Kind::Ack => b"ack",
-        Kind::Submit => b"submit",
-        Kind::Reply => b"reply",
+        MessageKind::Prepare => b"prepare",
+        MessageKind::Vote => b"vote",
+        MessageKind::Commit => b"commit",
+        MessageKind::Abort => b"abort",
+        MessageKind::Ack => b"ack",
+        MessageKind::Submit => b"submit",
+        MessageKind::Reply => b"reply",
     }
 }
 
@@ -270,7 +270,7 @@ fn push_open(
     text: &mut Vec<u8>,
     rows: usize,
     place: usize,
-    message: Message,
+    message: TraceMessage,
 ) -> Result<(), AllocError>
     ensures { OnOk result (text.new.items ≡ text.old.items ++ spec.open_arrow rows place message) }
 {
@@ -290,7 +290,7 @@ fn push_open(
     close_label(text)
 }
 
-fn push_all_open(text: &mut Vec<u8>, rows: usize, left: &[Message]) -> Result<(), AllocError>
+fn push_all_open(text: &mut Vec<u8>, rows: usize, left: &[TraceMessage]) -> Result<(), AllocError>
     ensures { OnOk result (text.new.items ≡ text.old.items ++ spec.open_from rows 0 left.now) }
 {
     for place in 0..left.len() {

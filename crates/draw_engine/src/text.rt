@@ -8,7 +8,7 @@ ghost use Rattle.draw_engine.specs.Text as spec;
 use crate::svg::{CORES, core_of, kind_word, push_number};
 use itoa::Buffer;
 use std::alloc::{AllocError, Global};
-use trace_lines::{Act, Message, Picture, Row};
+use trace_lines::{Act, Picture, Row, TraceMessage};
 
 const SPACES: [u8; 8] = *b"        ";
 
@@ -98,7 +98,7 @@ fn push_rows(text: &mut Vec<u8>, highest: u16, rows: &[Row<'_>]) -> Result<(), A
 }
 
 /// A message that nobody took.
-fn push_open_row(text: &mut Vec<u8>, message: Message) -> Result<(), AllocError>
+fn push_open_row(text: &mut Vec<u8>, message: TraceMessage) -> Result<(), AllocError>
     ensures { OnOk result (text.new.items ≡ text.old.items ++ spec.open_row message) }
 {
     text.extend_from_slice(b"under way: ")?;
@@ -110,7 +110,7 @@ fn push_open_row(text: &mut Vec<u8>, message: Message) -> Result<(), AllocError>
     text.extend_from_slice(b"\n")
 }
 
-fn push_open_rows(text: &mut Vec<u8>, left: &[Message]) -> Result<(), AllocError>
+fn push_open_rows(text: &mut Vec<u8>, left: &[TraceMessage]) -> Result<(), AllocError>
     ensures { OnOk result (text.new.items ≡ text.old.items ++ flat_map spec.open_row left.now) }
 {
     for message in left {

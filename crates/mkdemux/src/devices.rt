@@ -17,7 +17,7 @@ enum Place {
 
 /// The input, its first bytes, and why its last failed read failed.
 #[derive(Drop)]
-pub struct Input {
+pub struct FileInput {
     place: Place,
     front: [u8; FRONT],
     /// How many of the first bytes were read.
@@ -25,19 +25,19 @@ pub struct Input {
     fault: Option<ErrorKind>,
 }
 
-impl Input {
+impl FileInput {
     /// Standard input, of which nothing has been read.
-    pub fn standard(stdin: Stdin) -> Input {
-        Input::new(Place::Standard(stdin))
+    pub fn standard(stdin: Stdin) -> FileInput {
+        FileInput::new(Place::Standard(stdin))
     }
 
     /// A file, of which nothing has been read.
-    pub fn named(file: File) -> Input {
-        Input::new(Place::Named(file))
+    pub fn named(file: File) -> FileInput {
+        FileInput::new(Place::Named(file))
     }
 
-    fn new(place: Place) -> Input {
-        Input {
+    fn new(place: Place) -> FileInput {
+        FileInput {
             place,
             front: [0; FRONT],
             filled: 0,
@@ -74,7 +74,7 @@ impl Input {
     }
 }
 
-impl Read for Input {
+impl Read for FileInput {
     fn read(&mut self, buffer: &mut [u8]) -> io::Result<usize> {
         let answer = match &mut self.place {
             Place::Standard(stdin) => stdin.read(buffer),

@@ -1,13 +1,17 @@
 //! What else to say of an input that was refused: what it is, or what reads it.
 
-use crate::devices::Input;
-use command_line::{Request, View};
+use crate::devices::FileInput;
+use command_line::{MatchView, Request};
 use console::{INPUT_BYTES, Source};
 
 /// What to say of the input of a request whose status is 1, after the line that says what is wrong.
-pub fn hint(request: &Request, source: &Source<Input>, is_unread: bool) -> Option<&'static str> {
+pub fn hint(
+    request: &Request,
+    source: &Source<FileInput>,
+    is_unread: bool,
+) -> Option<&'static str> {
     if let Request::View {
-        view: View::Quiet,
+        view: MatchView::Quiet,
         pcap,
         ..
     } = request
@@ -26,7 +30,7 @@ pub fn hint(request: &Request, source: &Source<Input>, is_unread: bool) -> Optio
 }
 
 /// Why `match --quiet` has status 1.
-fn why_quiet(pcap: bool, source: &Source<Input>, is_unread: bool) -> &'static str {
+fn why_quiet(pcap: bool, source: &Source<FileInput>, is_unread: bool) -> &'static str {
     if is_unread {
         return "the CODE is no filter, or is refused: without --quiet a line says why";
     }
@@ -51,7 +55,7 @@ fn reads_capture(request: &Request) -> bool {
 }
 
 /// What an input is that is no capture, by its first four bytes, if that is known.
-fn kind_of(input: &Input) -> Option<&'static str> {
+fn kind_of(input: &FileInput) -> Option<&'static str> {
     match u32::from_be_bytes(input.front()?) {
         0x1f8b_0000..=0x1f8b_ffff => Some(
             "the input is compressed: gzip -dc makes a capture of it",

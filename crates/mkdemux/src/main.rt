@@ -22,7 +22,7 @@ use commands::{most_reads, perform};
 use console::{EngineFault, INPUT_READS, LinkTypes, Sink, Source};
 use core_loop::Cause;
 use core_threads::{Free, Halt};
-use devices::{Input, Output};
+use devices::{FileInput, Output};
 use hints::hint;
 use progress::Progress;
 use run_engine::RunFailure;
@@ -103,12 +103,15 @@ fn answer_on<T: Threads + Wait + Clock + Sync>(
 }
 
 /// Opens the file that is the input, or takes standard input.
-fn open_input<'a>(rt: &HostRuntime, invocation: &Invocation<'a>) -> Result<Input, OpenFault<'a>> {
+fn open_input<'a>(
+    rt: &HostRuntime,
+    invocation: &Invocation<'a>,
+) -> Result<FileInput, OpenFault<'a>> {
     match invocation.input {
-        Some(name) => Ok(Input::named(open_file(rt, name)?)),
+        Some(name) => Ok(FileInput::named(open_file(rt, name)?)),
         None => {
             invite(rt, &invocation.request);
-            Ok(Input::standard(rt.stdin()))
+            Ok(FileInput::standard(rt.stdin()))
         }
     }
 }
@@ -118,7 +121,7 @@ fn answer_with<T: Threads + Wait + Clock + Sync>(
     rt: &HostRuntime,
     threads: &T,
     invocation: &Invocation,
-    input: Input,
+    input: FileInput,
     mut files: Vec<Source<File>>,
 ) -> u8
     requires { AllFresh files.items }
@@ -175,7 +178,7 @@ fn performed<T: Threads + Wait + Clock + Sync>(
     threads: &T,
     invocation: &Invocation,
     files: &mut [Source<File>],
-    source: &mut Source<Input>,
+    source: &mut Source<FileInput>,
     sink: &mut Sink<Output>,
     complaint: &mut String,
     links: &mut LinkTypes,
@@ -234,7 +237,7 @@ fn complain(rt: &HostRuntime, complaint: &str) {
 }
 
 /// Says on standard error what else is known of an input that was refused.
-fn explain(rt: &HostRuntime, request: &Request, source: &Source<Input>, is_unread: bool) {
+fn explain(rt: &HostRuntime, request: &Request, source: &Source<FileInput>, is_unread: bool) {
     if let Some(hint) = hint(request, source, is_unread) {
         let _ = eprintln!(rt; "mkdemux: {hint}");
     }
@@ -364,7 +367,7 @@ fn not_utf8(rt: &HostRuntime) -> u8 {
 /// Says on standard error which input could not be read: one of these captures, the file that is the input, or standard input.
 fn not_read(
     rt: &HostRuntime,
-    input: &Input,
+    input: &FileInput,
     invocation: &Invocation,
     files: &[Source<File>],
 ) -> u8 {

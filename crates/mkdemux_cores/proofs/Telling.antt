@@ -1,7 +1,9 @@
 -- What a turn's answer says of the turn.
 use Rattle.std.proofs.Common.{◌≡◌, ◌++◌, ◌∙◌, [], ℕ, Option, None, Some, refl, sym, ap, arith}
-use Rattle.std.specs.Prelude.{◌≢◌, IsSome, option_to_list, false}
+use Rattle.std.specs.Prelude.{◌≢◌, ◌==◌, ◌||◌, ◌<◌, IsSome, option_to_list, cond, true, false}
 use Rattle.filter_table.specs.declared.decision.Decision.{Decision}
+use Rattle.filter_table.specs.declared.decision.Decision.TheVariants.{Committed, Refused}
+use Rattle.filter_table.specs.declared.decision.Veto.TheVariants as veto
 use Rattle.core_links.specs.RingSlots.{SameLinks, ring_view}
 use Rattle.world_histories.specs.declared.history.Stamped.{Stamped}
 use Rattle.core_loop.specs.declared.cause.Cause.{Cause}
@@ -9,7 +11,9 @@ use Rattle.core_loop.specs.declared.cause.Turn.{Turn}
 use Rattle.core_loop.specs.declared.cause.Turn.TheVariants.{Did, Idle, Stopped, Spent, NoMemory}
 use Rattle.core_loop.specs.Answering.{AreDecided, decisions}
 use Rattle.core_loop.specs.Beginning.{CanBeginNext}
-use Rattle.core_loop.specs.Choosing.{NoMessageNow}
+use Rattle.core_links.specs.Flows.{IsLooked, HasMoved, ring_flow}
+use Rattle.core_loop.specs.Waking.{bits_below}
+use Rattle.core_loop.specs.Choosing.{ShowsNothing, NoMessageNow}
 use Rattle.core_loop.specs.Cores.{SameCore, DidOne, NothingDone, begun}
 use Rattle.core_loop.specs.Receipts.{receives}
 use Rattle.core_loop.specs.Turning.{IsSpent, HasWork, LacksMemory, StopsFirst}
@@ -18,7 +22,7 @@ use Rattle.mkdemux_cores.specs.declared.answers.TheConstants.{DONE, NO_MEMORY, S
 use Rattle.mkdemux_cores.specs.declared.turned.Turned.{Turned}
 use Rattle.mkdemux_cores.specs.declared.turned.TheConstants.{NOTHING}
 use Rattle.mkdemux_cores.specs.Reports.{reported}
-use Rattle.mkdemux_cores.specs.Turns.{HasDone, HasTurned, IsNumber}
+use Rattle.mkdemux_cores.specs.Turns.{HasDone, HasTurned, IsNumber, said}
 
 -- the number of what a turn did, and what is told of it
 abbrev pub turn_answer : Turn → ℕ
@@ -50,10 +54,26 @@ pub record Says (turn : Turn) (old new : RingCore) : Type 0 where
   pub no_memory : turn ≡ NoMemory → HasWork old.cores old.part old.pending (ring_view new.links) false new.intake
   pub idle_message : turn ≡ Idle → NoMessageNow new.cores new.part (ring_view new.links)
   pub idle : turn ≡ Idle → CanBeginNext new.cores new.part new.pending (ring_view new.links) → ⊥
+  pub still : (p : ℕ) → (ring_flow new.links p).moved ≡ false → IsLooked (ring_flow old.links p) (ring_flow new.links p)
+  pub moved : old.stopped ≡ None → (p : ℕ) → (ring_flow new.links p).moved ≡ true → HasMoved (ring_flow old.links p) (ring_flow new.links p)
+  pub full : turn ≡ Idle → (p : ℕ) → (ring_view new.links p).ready ≡ false → (ring_flow new.links p).room ≡ 0
+  pub dry : turn ≡ Idle → ((p : ℕ) → p < new.cores → ShowsNothing (ring_view new.links p)) → (p : ℕ) → p < new.cores → (ring_flow new.links p).known ≡ 0
 
-module _ (old new : RingCore) (number : ℕ) (counts : IsNumber number new) where
-  done : (turn : Turn) → Says turn old new → turn_answer turn ≡ DONE → HasDone (turn_report number turn) old new
-  done (Did s d) says e = record { event = s; decision = d; number = number; counts = counts; did = says.did s d refl; decisions_are = says.decision s d refl; receives_none = says.leave s d refl; told = refl }
+-- what is told of a decision says nothing of who is woken
+said_reported : (number : ℕ) (d : Option Decision) (woken more : ℕ) → said (record (reported number d) { woken = woken; more = more }) ≡ reported number d
+said_reported number None woken more = refl
+said_reported number (Some (Committed version made)) woken more = refl
+said_reported number (Some (Refused core (veto.Rule fault))) woken more = refl
+said_reported number (Some (Refused core veto.Budget)) woken more = refl
+said_reported number (Some (Refused core veto.NoMemory)) woken more = refl
+
+-- what C is told of the turn, with whom it woke and whether there is more
+abbrev pub turn_told : ℕ → Turn → ℕ → ℕ → Turned
+turn_told number turn woken more = record (turn_report number turn) { woken = woken; more = more }
+
+module _ (old new : RingCore) (number woken more : ℕ) (counts : IsNumber number new) where
+  done : (turn : Turn) → Says turn old new → turn_answer turn ≡ DONE → HasDone (turn_told number turn woken more) old new
+  done (Did s d) says e = record { event = s; decision = d; number = number; counts = counts; did = says.did s d refl; decisions_are = says.decision s d refl; receives_none = says.leave s d refl; told = said_reported number d woken more }
   done Idle says e = absurd (omega (arith, e))
   done (Stopped cause) says e = absurd (omega (arith, e))
   done Spent says e = absurd (omega (arith, e))
@@ -66,7 +86,7 @@ module _ (old new : RingCore) (number : ℕ) (counts : IsNumber number new) wher
   not_did Spent differs s' d' e = absurd (cc)
   not_did NoMemory differs s' d' e = absurd (cc)
 
-  nothing_told : (turn : Turn) → (turn_answer turn ≢ DONE) → turn_report number turn ≡ NOTHING
+  nothing_told : (turn : Turn) → (turn_answer turn ≢ DONE) → said (turn_told number turn woken more) ≡ NOTHING
   nothing_told (Did s d) differs = absurd (differs refl)
   nothing_told Idle differs = refl
   nothing_told (Stopped cause) differs = refl
@@ -130,14 +150,21 @@ module _ (old new : RingCore) (number : ℕ) (counts : IsNumber number new) wher
   lacks_memory Idle e = absurd (omega (arith, e))
   lacks_memory Spent e = absurd (omega (arith, e))
 
-  pub has_turned : (turn : Turn) → Says turn old new → HasTurned (turn_answer turn) (turn_report number turn) old new
-  has_turned turn says = record {
+  pub has_turned : (turn : Turn) → Says turn old new → woken ≡ bits_below new.cores (λ p. (ring_flow new.links p).moved)
+      → more ≡ cond ((turn_answer turn == DONE) || (turn_answer turn == NO_MEMORY)) 1 0 → HasTurned (turn_answer turn) (turn_told number turn woken more) old new
+  has_turned turn says bits further = record {
     same = says.core;
     requests = says.requests;
     decided = says.decided;
     done = done turn says;
     nothing_done = λ differs. says.other (not_did turn differs);
     nothing_told = nothing_told turn;
+    woken = bits;
+    unnamed = says.still;
+    named = says.moved;
+    more = further;
+    full = λ e. says.full (is_idle turn e);
+    dry = λ e. says.dry (is_idle turn e);
     stopped = stopped turn says;
     stays = stays turn says;
     why_stopped = why_stopped turn says;

@@ -1,12 +1,14 @@
 -- What a turn does, and what C learns of it.
-use Rattle.std.specs.Prelude.{◌≡◌, ◌≢◌, ◌<◌, ◌-◌, ◌^◌, ◌++◌, [], ℕ, Option, None, Some, IsSome, length, option_to_list, false}
+use Rattle.std.specs.Prelude.{◌≡◌, ◌≢◌, ◌==◌, ◌||◌, ◌<◌, ◌-◌, ◌^◌, ◌++◌, [], ℕ, cond, true, Option, None, Some, IsSome, length, option_to_list, false}
 use Rattle.filter_table.specs.declared.decision.Decision.{Decision}
 use Rattle.core_links.specs.RingSlots.{SameLinks, ring_view}
 use Rattle.world_histories.specs.declared.history.Stamped.{Stamped}
 use Rattle.core_loop.specs.declared.cause.Cause.{Cause}
 use Rattle.core_loop.specs.Answering.{AreDecided, decisions}
 use Rattle.core_loop.specs.Beginning.{CanBeginNext}
-use Rattle.core_loop.specs.Choosing.{NoMessageNow}
+use Rattle.core_links.specs.Flows.{IsLooked, HasMoved, ring_flow}
+use Rattle.core_loop.specs.Waking.{bits_below}
+use Rattle.core_loop.specs.Choosing.{ShowsNothing, NoMessageNow}
 use Rattle.core_loop.specs.Cores.{SameCore, DidOne, NothingDone, begun}
 use Rattle.core_loop.specs.Receipts.{receives}
 use Rattle.core_loop.specs.Turning.{IsSpent, HasWork, LacksMemory, StopsFirst}
@@ -20,6 +22,10 @@ use Rattle.mkdemux_cores.specs.Reports.{reported}
 abbrev pub IsNumber : ℕ → RingCore → Type 0
 IsNumber number core = length (begun core.history ++ core.pending) < 2 ^ 64 - 1 → number ≡ length (decisions core.history)
 
+-- what C is told of the event, apart from whom it woke and what is left
+abbrev pub said : Turned → Turned
+said turned = record turned { woken = 0; more = 0 }
+
 -- The core did one event, which received no packet, and C is told the decision that it has on a request of the core, with its number, or that it
 -- has none.
 pub record HasDone (turned : Turned) (old new : RingCore) : Type 0 where
@@ -30,7 +36,7 @@ pub record HasDone (turned : Turned) (old new : RingCore) : Type 0 where
   pub did : DidOne ring_view old new event
   pub decisions_are : decisions new.history ≡ decisions old.history ++ option_to_list decision
   pub receives_none : receives event.done.event ≡ []
-  pub told : turned ≡ reported number decision
+  pub told : said turned ≡ reported number decision
 
 -- The core had a turn with this answer. Its requests are those that it had, and its n-th decision is on the n-th of them.
 pub record HasTurned (answer : ℕ) (turned : Turned) (old new : RingCore) : Type 0 where
@@ -39,13 +45,21 @@ pub record HasTurned (answer : ℕ) (turned : Turned) (old new : RingCore) : Typ
   pub decided : AreDecided new.part new.history
   pub done : answer ≡ DONE → HasDone turned old new
   pub nothing_done : answer ≢ DONE → NothingDone ring_view old new
-  pub nothing_told : answer ≢ DONE → turned ≡ NOTHING
+  pub nothing_told : answer ≢ DONE → said turned ≡ NOTHING
+  -- a peer that isn't named got no line, and no room for one
+  pub woken : turned.woken ≡ bits_below new.cores (λ p. (ring_flow new.links p).moved)
+  pub unnamed : (p : ℕ) → (ring_flow new.links p).moved ≡ false → IsLooked (ring_flow old.links p) (ring_flow new.links p)
+  pub named : old.stopped ≡ None → (p : ℕ) → (ring_flow new.links p).moved ≡ true → HasMoved (ring_flow old.links p) (ring_flow new.links p)
+  pub more : turned.more ≡ cond ((answer == DONE) || (answer == NO_MEMORY)) 1 0
   pub stopped : answer ≡ STOPPED → IsSome new.stopped
   pub stays : IsSome old.stopped → (answer ≡ STOPPED) × (new ≡ old)
   pub why_stopped : (cause : Cause) → answer ≡ STOPPED → old.stopped ≡ None → new.stopped ≡ Some cause
       → StopsFirst old.cores old.clock old.part (ring_view new.links) cause
   pub running : answer ≢ STOPPED → (old.stopped ≡ None) × (new.stopped ≡ None)
   pub idle : answer ≡ IDLE → NoMessageNow new.cores new.part (ring_view new.links)
+  -- what waits to go out waits for room, and no line is known that was not read
+  pub full : answer ≡ IDLE → (p : ℕ) → (ring_view new.links p).ready ≡ false → (ring_flow new.links p).room ≡ 0
+  pub dry : answer ≡ IDLE → ((p : ℕ) → p < new.cores → ShowsNothing (ring_view new.links p)) → (p : ℕ) → p < new.cores → (ring_flow new.links p).known ≡ 0
   pub asks_nothing : answer ≡ IDLE → CanBeginNext new.cores new.part new.pending (ring_view new.links) → ⊥
   pub spent : answer ≡ SPENT → IsSpent old.cores old.clock old.part old.pending (ring_view new.links) false new.intake
   pub lacks : answer ≡ NO_MEMORY → LacksMemory old.cores old.clock old.part old.pending (ring_view new.links) false new.intake

@@ -25,6 +25,11 @@ pub struct Turned {
     pub core: u32,
     /// Of a decision, the number of the request that it is on, from 1, as this core was asked.
     pub request: u64,
+    /// The cores that may now do what they couldn't, since this turn sent them lines or made room that they wait for: a bit for each, the
+    /// least for core 0.
+    pub woken: u64,
+    /// 1 where a further turn may do something without anything from outside, else 0.
+    pub more: u32,
 }
 
 /// No id: nothing ever has it.
@@ -33,7 +38,7 @@ pub const NO_ID: u32 = u32::MAX;
 /// To this the verifier's number is added where it refuses a program.
 pub const BAD_PROGRAM: u32 = 256;
 
-/// A turn that did nothing.
+/// A turn that did nothing, and woke no core.
 pub const NOTHING: Turned = Turned {
     what: 0,
     decision: 0,
@@ -43,6 +48,8 @@ pub const NOTHING: Turned = Turned {
     place: 0,
     core: 0,
     request: 0,
+    woken: 0,
+    more: 0,
 };
 
 /// A step, with the decision on the request of this core that has this number, if the step has one.

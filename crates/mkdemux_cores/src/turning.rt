@@ -1,6 +1,6 @@
 //! Turns.
 
-ghost use Rattle.std.specs.Prelude.{◌≡◌, ◌≢◌, ◌↔◌, None};
+ghost use Rattle.std.specs.Prelude.{◌≡◌, ◌≢◌, ◌↔◌, ◌==◌, ◌||◌, cond, None};
 ghost use Rattle.mkdemux_cores.specs.Leading.{Leads};
 ghost use Rattle.mkdemux_cores.specs.Turns.{HasTurned, IsNumber};
 
@@ -12,7 +12,9 @@ use std::alloc::Global;
 
 /// Does one event of the core at most: it takes a message, or begins a request. 0 with what was done, else `IDLE`, `STOPPED`,
 /// `SPENT`, `NO_MEMORY` or `CLOSED`, and nothing is done. A decision is told with its number: the n-th is that on the n-th request
-/// that the core was asked. Takes memory only where there is a message or a request.
+/// that the core was asked. `turned` also says which cores may now do what they couldn't, and whether a further turn of this one may:
+/// after `IDLE` none does until another core's turn names this one, or it is asked. Takes memory only where there is a message or a
+/// request.
 #[unsafe(no_mangle)]
 pub extern "C" fn mkdemux_turn(alloc: Global, core: &mut CoreHandle, turned: &mut Turned) -> u32
     ensures closed { result ≡ CLOSED ↔ core.old.core ≡ None }
@@ -36,7 +38,7 @@ fn turn_core(core: &mut Core<RingLinks>, turned: &mut Turned) -> u32
     core.are_decided();
     let number = decided(core);
     *turned = NOTHING;
-    match turn {
+    let answer = match turn {
         Turn::Did { event: _, decision } => {
             *turned = report(decision, number);
             DONE
@@ -45,6 +47,19 @@ fn turn_core(core: &mut Core<RingLinks>, turned: &mut Turned) -> u32
         Turn::Stopped(_) => STOPPED,
         Turn::Spent => SPENT,
         Turn::NoMemory => NO_MEMORY,
+    };
+    turned.woken = core.woken();
+    turned.more = more_after(answer);
+    answer
+}
+
+// Whether a further turn may do something by itself: one did, or lacked memory, which may come.
+fn more_after(answer: u32) -> u32
+    ensures { result ≡ cond ((answer == DONE) || (answer == NO_MEMORY)) 1 0 }
+{
+    match answer {
+        DONE | NO_MEMORY => 1,
+        _ => 0,
     }
 }
 

@@ -14,7 +14,7 @@ use Rattle.world_model.specs.Worlds.{World}
 use Rattle.world_model.proofs.RunLaws.{run_agrees}
 use Rattle.world_core.specs.Refusals.{Reached, waiting_at}
 use Rattle.sim_lines.specs.Events.{event_line}
-use Rattle.sim_engine.specs.declared.requests.Request.{Request}
+use Rattle.sim_engine.specs.declared.requests.PendingRequest.{PendingRequest}
 use Rattle.sim_engine.specs.Settling.{most_left}
 use Rattle.sim_engine.specs.Simulations.{Simulation, Tells, Next, waits, asked, NoneWaits, NothingLeft, Quiets, Drains, ends, stops, goes_on}
 use Rattle.sim_engine.specs.Ways.{event_of, way_of}
@@ -47,13 +47,13 @@ least_waiting w (suc n) = by (least_waiting w n) (waiting_at w n) refl
     ])
 
 data NextOrNothing (s : Simulation) : Type 0 where
-  some_next : (event : Event) (rest : List Request) → Next s event rest → NextOrNothing s
+  some_next : (event : Event) (rest : List PendingRequest) → Next s event rest → NextOrNothing s
   nothing_left : NothingLeft s → NextOrNothing s
 
 next_or_nothing : (s : Simulation) → NextOrNothing s
 next_or_nothing s = by (least_waiting s.world 8) s.pending refl
   where
-    by : NoneBelow s.world 8 ⊎ LeastWaiting s.world → (pending : List Request) → s.pending ≡ pending → NextOrNothing s
+    by : NoneBelow s.world 8 ⊎ LeastWaiting s.world → (pending : List PendingRequest) → s.pending ≡ pending → NextOrNothing s
     by (inr found) pending is = some_next (StartFor found.core) s.pending (waits found.core found.op found.at found.least refl refl)
     by (inl none) [] is = nothing_left (record { none_waits = none; none_pending = is })
     by (inl none) (first ∷ rest) is = some_next (event_of (way_of first.home) first.op) rest (asked first none is refl)
@@ -74,8 +74,8 @@ HadDrains (goes_on s s' event rest answer begun quiet taken later next tells qui
 -- how it began
 data Drained (s s' : Simulation) (text : List ℕ) : Type 0 where
   ended : NothingLeft s → s' ≡ s → text ≡ [] → Drained s s' text
-  stopped : (event : Event) (rest : List Request) (fault : WorldFault) → Next s event rest → Tells s.world event (Err fault) s.world → s' ≡ s → text ≡ event_line event (Err fault) → Drained s s' text
-  went_on : (event : Event) (rest : List Request) (answer : Answer) (begun quiet : World) (taken later : List ℕ) → Next s event rest → Tells s.world event (Ok answer) begun → Quiets begun quiet taken
+  stopped : (event : Event) (rest : List PendingRequest) (fault : WorldFault) → Next s event rest → Tells s.world event (Err fault) s.world → s' ≡ s → text ≡ event_line event (Err fault) → Drained s s' text
+  went_on : (event : Event) (rest : List PendingRequest) (answer : Answer) (begun quiet : World) (taken later : List ℕ) → Next s event rest → Tells s.world event (Ok answer) begun → Quiets begun quiet taken
       → Drains (record { world = quiet; pending = rest }) s' later → text ≡ event_line event (Ok answer) ++ taken ++ later → Drained s s' text
 
 drained : {s s' : Simulation} {text : List ℕ} → Drains s s' text → Drained s s' text
@@ -138,7 +138,7 @@ module _ (budget : ℕ) (budgets : List ℕ) where
       ]
     ]
 
-    next_twice : (s : Simulation) (event event' : Event) (rest rest' : List Request) → Reached budget budgets s.world → Next s event rest → Next s event' rest' → (event ≡ event') × (rest ≡ rest')
+    next_twice : (s : Simulation) (event event' : Event) (rest rest' : List PendingRequest) → Reached budget budgets s.world → Next s event rest → Next s event' rest' → (event ≡ event') × (rest ≡ rest')
     next_twice s event event' rest rest' run (waits core op at least is left) (waits core' op' at' least' is' left') =
         (is ∙ ap (λ (c : ℕ). StartFor c) (same_core s.world core core' op op' at at' least least') ∙ sym is', left ∙ sym left')
     next_twice s event event' rest rest' run (waits core op at least is left) (asked first none pending is') = absurd (not_waiting s.world core op run none at)
@@ -146,9 +146,9 @@ module _ (budget : ℕ) (budgets : List ℕ) where
     next_twice s event event' rest rest' run (asked first none pending is) (asked first' none' pending' is') =
         let lists : first ∷ rest ≡ first' ∷ rest' = sym pending ∙ pending' in
         let firsts : first ≡ first' = cc in
-        (is ∙ ap (λ (r : Request). event_of (way_of r.home) r.op) firsts ∙ sym is', cc)
+        (is ∙ ap (λ (r : PendingRequest). event_of (way_of r.home) r.op) firsts ∙ sym is', cc)
 
-    next_left : (s : Simulation) (event : Event) (rest : List Request) → Reached budget budgets s.world → Next s event rest → NothingLeft s → ⊥
+    next_left : (s : Simulation) (event : Event) (rest : List PendingRequest) → Reached budget budgets s.world → Next s event rest → NothingLeft s → ⊥
     next_left s event rest run (waits core op at least is left) nothing = not_waiting s.world core op run nothing.none_waits at
     next_left s event rest run (asked first none pending is) nothing = let x = nothing.none_pending in cc
 
@@ -191,4 +191,4 @@ module _ (budget : ℕ) (budgets : List ℕ) where
             (told_twice budget budgets s.world begun begun' event (Ok answer) (Ok answer') run tells (subst (λ (v : Event). Tells s.world v (Ok answer') begun') e.0 tells'))
             (λ is. quieted_twice budget budgets begun quiet quiet' taken taken' quiets run' (subst (λ (w : World). Quiets w quiet' taken') (sym is) quiets')))
             (λ is. more later'
-            (subst (λ (r : List Request). Drains (record { world = quiet; pending = r }) b later') e.1 (subst (λ (w : World). Drains (record { world = w; pending = rest' }) b later') (sym is) drains'))))
+            (subst (λ (r : List PendingRequest). Drains (record { world = quiet; pending = r }) b later') e.1 (subst (λ (w : World). Drains (record { world = w; pending = rest' }) b later') (sym is) drains'))))

@@ -13,7 +13,7 @@ use Rattle.sim_lines.specs.Events.{event_line}
 use Rattle.sim_lines.specs.Tables.{table_text}
 use Rattle.mk_script.specs.declared.script.Item.{Item}
 use Rattle.mk_script.specs.declared.script.Item.TheVariants as item
-use Rattle.sim_engine.specs.declared.requests.Request.{Request}
+use Rattle.sim_engine.specs.declared.requests.PendingRequest.{PendingRequest}
 use Rattle.sim_engine.specs.declared.way.Way.{Way}
 use Rattle.sim_engine.specs.declared.way.Way.TheVariants as way
 use Rattle.sim_engine.specs.Pending.{NoneAt}
@@ -187,21 +187,21 @@ module _ (budget : ℕ) (budgets : List ℕ) where
         let e = first_once (home_of by) s.pending first' first b.pending a.pending f' f in
         let event = event_of by first.op in
         compared_as World Simulation (LacksMemory event answer → ⊥) (LacksMemory event answer → ⊥) a.world b.world a b t u (λ is. sim_is a b is (sym e.1)) (λ had. had)
-        (compared_texts World (LacksMemory event answer → ⊥) a.world b.world (event_line event (Ok answer)) t (event_line event (Ok answer')) u printed (printed' ∙ ap (λ (r : Request). event_line (event_of by r.op) (Ok answer')) e.0)
-        (told_twice budget budgets s.world a.world b.world event (Ok answer) (Ok answer') run tells (subst (λ (r : Request). Tells s.world (event_of by r.op) (Ok answer') b.world) e.0 tells')))
+        (compared_texts World (LacksMemory event answer → ⊥) a.world b.world (event_line event (Ok answer)) t (event_line event (Ok answer')) u printed (printed' ∙ ap (λ (r : PendingRequest). event_line (event_of by r.op) (Ok answer')) e.0)
+        (told_twice budget budgets s.world a.world b.world event (Ok answer) (Ok answer') run tells (subst (λ (r : PendingRequest). Tells s.world (event_of by r.op) (Ok answer') b.world) e.0 tells')))
     begun_twice s a b by t u run (done first f answer tells printed) (refused first' rest f' fault tells' is printed') =
         let e = first_once (home_of by) s.pending first' first rest a.pending f' f in
-        absurd (not_refused budget budgets s.world a.world b.world (event_of by first.op) answer fault run tells (subst (λ (r : Request). Tells s.world (event_of by r.op) (Err fault) b.world) e.0 tells'))
+        absurd (not_refused budget budgets s.world a.world b.world (event_of by first.op) answer fault run tells (subst (λ (r : PendingRequest). Tells s.world (event_of by r.op) (Err fault) b.world) e.0 tells'))
     begun_twice s a b by t u run (refused first rest f fault tells is printed) (nothing none is' printed') = absurd (not_none (home_of by) s.pending first rest f none)
     begun_twice s a b by t u run (refused first rest f fault tells is printed) (done first' f' answer tells' printed') =
         let e = first_once (home_of by) s.pending first first' rest b.pending f f' in
-        absurd (not_refused budget budgets s.world b.world a.world (event_of by first'.op) answer fault run tells' (subst (λ (r : Request). Tells s.world (event_of by r.op) (Err fault) a.world) e.0 tells))
+        absurd (not_refused budget budgets s.world b.world a.world (event_of by first'.op) answer fault run tells' (subst (λ (r : PendingRequest). Tells s.world (event_of by r.op) (Err fault) a.world) e.0 tells))
     begun_twice s a b by t u run (refused first rest f fault tells is printed) (refused first' rest' f' fault' tells' is' printed') =
         let e = first_once (home_of by) s.pending first' first rest' rest f' f in
         let event = event_of by first.op in
         compared_as World Simulation (Unit {0}) (Unit {0}) a.world b.world a b t u (λ same'. is ∙ sym is') (λ had. had)
-        (compared_texts World (Unit {0}) a.world b.world (event_line event (Err fault)) t (event_line event (Err fault')) u printed (printed' ∙ ap (λ (r : Request). event_line (event_of by r.op) (Err fault')) e.0)
-        (told_twice budget budgets s.world a.world b.world event (Err fault) (Err fault') run tells (subst (λ (r : Request). Tells s.world (event_of by r.op) (Err fault') b.world) e.0 tells')))
+        (compared_texts World (Unit {0}) a.world b.world (event_line event (Err fault)) t (event_line event (Err fault')) u printed (printed' ∙ ap (λ (r : PendingRequest). event_line (event_of by r.op) (Err fault')) e.0)
+        (told_twice budget budgets s.world a.world b.world event (Err fault) (Err fault') run tells (subst (λ (r : PendingRequest). Tells s.world (event_of by r.op) (Err fault') b.world) e.0 tells')))
 
     applied_twice : (s a b : Simulation) (event : Event) (t u : List ℕ) → Reached budget budgets s.world → (x : Applies s event a t) → Applies s event b u → Compared Simulation (HadTold event x.0) a b t u
     applied_twice s a b event t u run x y =

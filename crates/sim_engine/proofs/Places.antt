@@ -1,7 +1,7 @@
 -- Places that are empty, or whose requests enter elsewhere.
 use Rattle.std.proofs.Common.{◌≡◌, ◌≢◌, ◌<◌, ◌≤◌, ◌+◌, ◌⊎◌, inl, inr, ℕ, zero, suc, Option, Some, None, List, [], ◌∷◌, ◌++◌, length, slice_get, slice_set, get_or, refl, ap, sym, ◌∙◌, subst, arith, length-append}
 use Rattle.world_model.proofs.Lists.{length-slice_set}
-use Rattle.sim_engine.specs.declared.requests.Request.{Request}
+use Rattle.sim_engine.specs.declared.requests.PendingRequest.{PendingRequest}
 use Rattle.sim_engine.specs.Pending.{left, FirstAt, NoneAt}
 use Rattle.sim_engine.specs.Keeping.{EmptyBefore, NoneBefore, IsWellAsked, IsKept}
 
@@ -16,22 +16,22 @@ some_is x y e = cc
 less_or_at : (k n : ℕ) → k < n + 1 → (k < n) ⊎ (k ≡ n)
 less_or_at k n h = grind arith
 
-pub none_more : (places : List (Option Request)) (home n : ℕ) (place : Option Request) → NoneBefore places home n → slice_get places n ≡ Some place → n < length places → ((request : Request) → place ≡ Some request → request.home ≢ home) → NoneBefore places home (n + 1)
+pub none_more : (places : List (Option PendingRequest)) (home n : ℕ) (place : Option PendingRequest) → NoneBefore places home n → slice_get places n ≡ Some place → n < length places → ((request : PendingRequest) → place ≡ Some request → request.home ≢ home) → NoneBefore places home (n + 1)
 none_more places home n place h at lt none = record { inside = omega arith; none = λ k request less here. by (less_or_at k n less) request here }
   where
-    by : {k : ℕ} → (k < n) ⊎ (k ≡ n) → (request : Request) → slice_get places k ≡ Some (Some request) → request.home ≢ home
+    by : {k : ℕ} → (k < n) ⊎ (k ≡ n) → (request : PendingRequest) → slice_get places k ≡ Some (Some request) → request.home ≢ home
     by {k} (inl less) request here = h.none k request less here
     by {k} (inr same) request here = none request (some_is place (Some request) (sym at ∙ (ap (slice_get places) (sym same) ∙ here)))
 
-pub kept_from : (places : List (Option Request)) (first : ℕ) (firsts : List ℕ) (home from : ℕ) → IsKept places first firsts → (from ≡ 0) ⊎ (slice_get firsts home ≡ Some from) → NoneBefore places home from
+pub kept_from : (places : List (Option PendingRequest)) (first : ℕ) (firsts : List ℕ) (home from : ℕ) → IsKept places first firsts → (from ≡ 0) ⊎ (slice_get firsts home ≡ Some from) → NoneBefore places home from
 kept_from places first firsts home from kept (inl none) = rw none (record { inside = omega arith; none = λ k request less here. absurd (omega arith) })
 kept_from places first firsts home from kept (inr at) = kept.homes home from at
 
 -- no request enters at a core that isn't there
-pub none_above : (places : List (Option Request)) (first : ℕ) (firsts : List ℕ) (home : ℕ) → IsKept places first firsts → 8 ≤ home → NoneBefore places home (length places)
+pub none_above : (places : List (Option PendingRequest)) (first : ℕ) (firsts : List ℕ) (home : ℕ) → IsKept places first firsts → 8 ≤ home → NoneBefore places home (length places)
 none_above places first firsts home kept above = record { inside = omega arith; none = λ k request less here. λ (same : request.home ≡ home). omega (arith, (kept.asked k request here).low, same, above) }
 
-pub kept_note : (places : List (Option Request)) (first : ℕ) (firsts firsts' : List ℕ) (home place : ℕ) → IsKept places first firsts → NoneBefore places home place
+pub kept_note : (places : List (Option PendingRequest)) (first : ℕ) (firsts firsts' : List ℕ) (home place : ℕ) → IsKept places first firsts → NoneBefore places home place
     → ((core from : ℕ) → slice_get firsts' core ≡ Some from → (slice_get firsts core ≡ Some from) ⊎ ((core ≡ home) × (from ≡ place))) → IsKept places first firsts'
 kept_note places first firsts firsts' home place kept none noted = record { asked = kept.asked; empty = kept.empty; homes = λ core from at. by core from (noted core from at) }
   where
@@ -52,7 +52,7 @@ set_get (y ∷ xs) (suc i) v (suc k) x h = by (set_get xs i v k x h)
 
 -- One request more, or one less
 
-pushed_get : (xs : List (Option Request)) (x : Option Request) (k : ℕ) (r : Request) → slice_get (xs ++ x ∷ []) k ≡ Some (Some r) → (slice_get xs k ≡ Some (Some r)) ⊎ ((k ≡ length xs) × (x ≡ Some r))
+pushed_get : (xs : List (Option PendingRequest)) (x : Option PendingRequest) (k : ℕ) (r : PendingRequest) → slice_get (xs ++ x ∷ []) k ≡ Some (Some r) → (slice_get xs k ≡ Some (Some r)) ⊎ ((k ≡ length xs) × (x ≡ Some r))
 pushed_get [] x zero r h = inr (refl, cc)
 pushed_get [] x (suc k) r h = absurd cc
 pushed_get (y ∷ xs) x zero r h = inl h
@@ -62,15 +62,15 @@ pushed_get (y ∷ xs) x (suc k) r h = by (pushed_get xs x k r h)
     by (inl e) = inl e
     by (inr e) = inr (ap suc e.0, e.1)
 
-removed_get : (xs : List (Option Request)) (i k : ℕ) (r : Request) → slice_get (slice_set xs i None) k ≡ Some (Some r) → slice_get xs k ≡ Some (Some r)
+removed_get : (xs : List (Option PendingRequest)) (i k : ℕ) (r : PendingRequest) → slice_get (slice_set xs i None) k ≡ Some (Some r) → slice_get xs k ≡ Some (Some r)
 removed_get [] i k r h = absurd cc
 removed_get (x ∷ xs) zero zero r h = absurd cc
 removed_get (x ∷ xs) zero (suc k) r h = h
 removed_get (x ∷ xs) (suc i) zero r h = h
 removed_get (x ∷ xs) (suc i) (suc k) r h = removed_get xs i k r h
 
-module _ (places : List (Option Request)) (first : ℕ) (firsts : List ℕ) (kept : IsKept places first firsts) where
-  pub kept_push : (request : Request) → IsWellAsked request → IsKept (places ++ Some request ∷ []) first firsts
+module _ (places : List (Option PendingRequest)) (first : ℕ) (firsts : List ℕ) (kept : IsKept places first firsts) where
+  pub kept_push : (request : PendingRequest) → IsWellAsked request → IsKept (places ++ Some request ∷ []) first firsts
   kept_push request asked = record {
     asked = λ k r at. by_asked k r (pushed_get places (Some request) k r at);
     empty = record { inside = omega (arith, kept.empty.inside, long); empty = λ k r less at. by_empty k r less (pushed_get places (Some request) k r at) };
@@ -81,15 +81,15 @@ module _ (places : List (Option Request)) (first : ℕ) (firsts : List ℕ) (kep
       long : length (places ++ Some request ∷ []) ≡ length places + 1
       long = length-append places (Some request ∷ [])
 
-      by_asked : (k : ℕ) (r : Request) → (slice_get places k ≡ Some (Some r)) ⊎ ((k ≡ length places) × (Some request ≡ Some r)) → IsWellAsked r
+      by_asked : (k : ℕ) (r : PendingRequest) → (slice_get places k ≡ Some (Some r)) ⊎ ((k ≡ length places) × (Some request ≡ Some r)) → IsWellAsked r
       by_asked k r (inl e) = kept.asked k r e
       by_asked k r (inr e) = let same : request ≡ r = some_is request r e.1 in subst IsWellAsked same asked
 
-      by_empty : (k : ℕ) (r : Request) → k < first → (slice_get places k ≡ Some (Some r)) ⊎ ((k ≡ length places) × (Some request ≡ Some r)) → ⊥
+      by_empty : (k : ℕ) (r : PendingRequest) → k < first → (slice_get places k ≡ Some (Some r)) ⊎ ((k ≡ length places) × (Some request ≡ Some r)) → ⊥
       by_empty k r less (inl e) = kept.empty.empty k r less e
       by_empty k r less (inr e) = omega (arith, less, e.0, kept.empty.inside)
 
-      by_home : (home from : ℕ) → NoneBefore places home from → (k : ℕ) (r : Request) → k < from → (slice_get places k ≡ Some (Some r)) ⊎ ((k ≡ length places) × (Some request ≡ Some r)) → r.home ≢ home
+      by_home : (home from : ℕ) → NoneBefore places home from → (k : ℕ) (r : PendingRequest) → k < from → (slice_get places k ≡ Some (Some r)) ⊎ ((k ≡ length places) × (Some request ≡ Some r)) → r.home ≢ home
       by_home home from none k r less (inl e) = none.none k r less e
       by_home home from none k r less (inr e) = absurd (omega (arith, less, e.0, none.inside))
 
@@ -106,49 +106,49 @@ module _ (places : List (Option Request)) (first : ℕ) (firsts : List ℕ) (kep
 
 -- The requests that are left
 
-tail_none : (place : Option Request) (places : List (Option Request)) (home n : ℕ) → NoneBefore (place ∷ places) home (suc n) → NoneBefore places home n
+tail_none : (place : Option PendingRequest) (places : List (Option PendingRequest)) (home n : ℕ) → NoneBefore (place ∷ places) home (suc n) → NoneBefore places home n
 tail_none place places home n h = record { inside = omega (arith, h.inside); none = λ k request less here. h.none (suc k) request (omega arith) here }
 
-tail_empty : (place : Option Request) (places : List (Option Request)) (n : ℕ) → EmptyBefore (place ∷ places) (suc n) → EmptyBefore places n
+tail_empty : (place : Option PendingRequest) (places : List (Option PendingRequest)) (n : ℕ) → EmptyBefore (place ∷ places) (suc n) → EmptyBefore places n
 tail_empty place places n h = record { inside = omega (arith, h.inside); empty = λ k request less here. h.empty (suc k) request (omega arith) here }
 
-pub none_left : (places : List (Option Request)) (home : ℕ) → NoneBefore places home (length places) → NoneAt home (left places)
+pub none_left : (places : List (Option PendingRequest)) (home : ℕ) → NoneBefore places home (length places) → NoneAt home (left places)
 none_left [] home h = cc
 none_left (None ∷ places) home h = none_left places home (tail_none None places home (length places) h)
 none_left (Some request ∷ places) home h = (h.none 0 request (omega arith) refl, none_left places home (tail_none (Some request) places home (length places) h))
 
-pub first_left : (places : List (Option Request)) (home place : ℕ) (request : Request) → slice_get places place ≡ Some (Some request) → request.home ≡ home → NoneBefore places home place
+pub first_left : (places : List (Option PendingRequest)) (home place : ℕ) (request : PendingRequest) → slice_get places place ≡ Some (Some request) → request.home ≡ home → NoneBefore places home place
     → FirstAt home (left places) request (left (slice_set places place None))
 first_left [] home place request at here h = absurd cc
 first_left (None ∷ places) home zero request at here h = absurd cc
 first_left (Some other ∷ places) home zero request at here h =
     let same : other ≡ request = cc at in
-    record { earlier = []; later = left places; is = ap (λ (r : Request). r ∷ left places) same; at_home = here; none_earlier = cc; without = refl }
+    record { earlier = []; later = left places; is = ap (λ (r : PendingRequest). r ∷ left places) same; at_home = here; none_earlier = cc; without = refl }
 first_left (None ∷ places) home (suc place) request at here h = first_left places home place request at here (tail_none None places home place h)
 first_left (Some other ∷ places) home (suc place) request at here h =
     let rest = first_left places home place request at here (tail_none (Some other) places home place h) in
     record {
       earlier = other ∷ rest.earlier;
       later = rest.later;
-      is = ap (λ (rs : List Request). other ∷ rs) rest.is;
+      is = ap (λ (rs : List PendingRequest). other ∷ rs) rest.is;
       at_home = here;
       none_earlier = (h.none 0 other (omega arith) refl, rest.none_earlier);
-      without = ap (λ (rs : List Request). other ∷ rs) rest.without;
+      without = ap (λ (rs : List PendingRequest). other ∷ rs) rest.without;
     }
 
-pub empty_left : (places : List (Option Request)) → EmptyBefore places (length places) → left places ≡ []
+pub empty_left : (places : List (Option PendingRequest)) → EmptyBefore places (length places) → left places ≡ []
 empty_left [] h = refl
 empty_left (None ∷ places) h = empty_left places (tail_empty None places (length places) h)
 empty_left (Some request ∷ places) h = absurd (h.empty 0 request (omega arith) refl)
 
-pub next_left : (places : List (Option Request)) (place : ℕ) (request : Request) → slice_get places place ≡ Some (Some request) → EmptyBefore places place → left places ≡ request ∷ left (slice_set places place None)
+pub next_left : (places : List (Option PendingRequest)) (place : ℕ) (request : PendingRequest) → slice_get places place ≡ Some (Some request) → EmptyBefore places place → left places ≡ request ∷ left (slice_set places place None)
 next_left [] place request at h = absurd cc
 next_left (None ∷ places) zero request at h = absurd cc
-next_left (Some other ∷ places) zero request at h = let same : other ≡ request = cc at in ap (λ (r : Request). r ∷ left places) same
+next_left (Some other ∷ places) zero request at h = let same : other ≡ request = cc at in ap (λ (r : PendingRequest). r ∷ left places) same
 next_left (None ∷ places) (suc place) request at h = next_left places place request at (tail_empty None places place h)
 next_left (Some other ∷ places) (suc place) request at h = absurd (h.empty 0 other (omega arith) refl)
 
-pub left_push : (places : List (Option Request)) (request : Request) → left (places ++ Some request ∷ []) ≡ left places ++ request ∷ []
+pub left_push : (places : List (Option PendingRequest)) (request : PendingRequest) → left (places ++ Some request ∷ []) ≡ left places ++ request ∷ []
 left_push [] request = refl
 left_push (None ∷ places) request = left_push places request
-left_push (Some other ∷ places) request = ap (λ (rs : List Request). other ∷ rs) (left_push places request)
+left_push (Some other ∷ places) request = ap (λ (rs : List PendingRequest). other ∷ rs) (left_push places request)

@@ -3,7 +3,7 @@ use Rattle.std.proofs.Common.{◌≡◌, zero, suc, take, drop, ℕ, Option, Lis
 use Rattle.std.proofs.lemmas.List.{append_assoc, append-nil}
 use Rattle.std.specs.Prelude.{Result, Ok, Err, OnOk}
 use Rattle.world_model.specs.Worlds.{World}
-use Rattle.sim_engine.specs.declared.requests.Request.{Request}
+use Rattle.sim_engine.specs.declared.requests.PendingRequest.{PendingRequest}
 use Rattle.mk_script.specs.declared.script.Item.{Item}
 use Rattle.sim_engine.specs.Simulations.{Simulation, Does, Performs}
 use Rattle.sim_engine.specs.Writing.{Wrote}
@@ -11,7 +11,7 @@ use Rattle.console.specs.declared.sink.Sink.{Sink}
 use Rattle.console.specs.Devices.{Writes}
 use Rattle.console.proofs.KnownBytesLemmas.{writes-then}
 
-abbrev pub the_sim : World → List Request → Simulation
+abbrev pub the_sim : World → List PendingRequest → Simulation
 the_sim w rs = record { world = w; pending = rs }
 
 pub on_ok : {A E P Q : Type 0} (r : Result A E) → OnOk r P → (P → Q) → OnOk r Q

@@ -13,7 +13,7 @@ use Rattle.world_events.specs.declared.event.Done.{Done}
 use Rattle.world_model.specs.Cases.{Outgoing, nothing, to_all, to_one, outgoing, sent_up, raised, TakesUpAt}
 use Rattle.world_model.specs.Worlds.{Peer, World, newest, send, sent_out, sent_to_one, gave, HappensStart, HappensStartFor, HappensSubmit, HappensUp, HappensDown, Happens}
 use Rattle.world_core.specs.Refusals.{IsNext, Settles, waiting_at}
-use Rattle.sim_engine.specs.declared.requests.Request.{Request}
+use Rattle.sim_engine.specs.declared.requests.PendingRequest.{PendingRequest}
 use Rattle.sim_engine.specs.Ways.{event_of, way_of}
 use Rattle.sim_engine.specs.Simulations.{Simulation, BeginsNext, begun, Next, waits, asked, Quiets}
 use Rattle.sim_engine.specs.Settling.{is_submit, submits, under_way, is_waiting, all_waiting, submitted, most_left}
@@ -133,13 +133,13 @@ asked_more : (w w' : World) (home : ℕ) (op : Op) (answer : Answer) → Happens
 asked_more w w' zero op answer h = omega (arith, started w w' op answer h)
 asked_more w w' (suc entry) op answer h = omega (arith, asked_for w w' entry op answer h)
 
-next_less : (s : Simulation) (w : World) (event : Event) (rest : List Request) (answer : Answer) → Next s event rest → Happens s.world event w answer → 2 * length rest + submitted w < most_left s
+next_less : (s : Simulation) (w : World) (event : Event) (rest : List PendingRequest) (answer : Answer) → Next s event rest → Happens s.world event w answer → 2 * length rest + submitted w < most_left s
 next_less s w event rest answer (waits core op at least is same) h = rw same (omega (arith, waits_less s.world w core op answer at (subst (λ (e : Event). Happens s.world e w answer) is h)))
 next_less s w event rest answer (asked first none is same) h =
     rw is (omega (arith, asked_more s.world w first.home first.op answer (subst (λ (e : Event). Happens s.world e w answer) same h)))
 
 -- what is begun and followed by all messages leaves less
-pub begun_leaves : (s : Simulation) (w w' : World) (event : Event) (rest : List Request) (answer : Answer) (text : List ℕ) → Next s event rest → Happens s.world event w answer → Quiets w w' text
+pub begun_leaves : (s : Simulation) (w w' : World) (event : Event) (rest : List PendingRequest) (answer : Answer) (text : List ℕ) → Next s event rest → Happens s.world event w answer → Quiets w w' text
     → most_left (record { world = w'; pending = rest }) < most_left s
 begun_leaves s w w' event rest answer text next happens quiet = omega (arith, quieted w w' quiet.taken quiet.settles, next_less s w event rest answer next happens)
 

@@ -17,7 +17,7 @@ use Rattle.sim_lines.specs.Events.{event_line, done_line}
 use Rattle.sim_lines.specs.Tables.{table_text}
 use Rattle.mk_script.specs.declared.script.Item.{Item}
 use Rattle.mk_script.specs.declared.script.Item.TheVariants as item
-use Rattle.sim_engine.specs.declared.requests.Request.{Request}
+use Rattle.sim_engine.specs.declared.requests.PendingRequest.{PendingRequest}
 use Rattle.sim_engine.specs.declared.way.Way.{Way}
 use Rattle.sim_engine.specs.declared.way.Way.TheVariants as way
 use Rattle.sim_engine.specs.Pending.{FirstAt, NoneAt, left}
@@ -26,9 +26,9 @@ use Rattle.sim_engine.specs.Ways.{home_of, event_of, way_of}
 -- the world, and the requests that were asked for and not begun, in order
 pub record Simulation : Type 0 where
   pub world : World
-  pub pending : List Request
+  pub pending : List PendingRequest
 
-abbrev pub sim : World → List (Option Request) → Simulation
+abbrev pub sim : World → List (Option PendingRequest) → Simulation
 sim w places = record { world = w; pending = left places }
 
 -- nothing is asked for
@@ -53,9 +53,9 @@ nothing_line (way.Submit core) = codes "submit " ++ decimal core ++ codes ": fau
 -- the first request of the way's core is begun, and leaves the list where its event is done
 pub data Begins (s : Simulation) (by : Way) (s' : Simulation) (text : List ℕ) : Type 0 where
   nothing : NoneAt (home_of by) s.pending → s' ≡ s → text ≡ nothing_line by → Begins s by s' text
-  done : (first : Request) → FirstAt (home_of by) s.pending first s'.pending → (answer : Answer) → Tells s.world (event_of by first.op) (Ok answer) s'.world
+  done : (first : PendingRequest) → FirstAt (home_of by) s.pending first s'.pending → (answer : Answer) → Tells s.world (event_of by first.op) (Ok answer) s'.world
       → text ≡ event_line (event_of by first.op) (Ok answer) → Begins s by s' text
-  refused : (first : Request) → (rest : List Request) → FirstAt (home_of by) s.pending first rest → (fault : WorldFault) → Tells s.world (event_of by first.op) (Err fault) s'.world
+  refused : (first : PendingRequest) → (rest : List PendingRequest) → FirstAt (home_of by) s.pending first rest → (fault : WorldFault) → Tells s.world (event_of by first.op) (Err fault) s'.world
       → s' ≡ s → text ≡ event_line (event_of by first.op) (Err fault) → Begins s by s' text
 
 -- Settling
@@ -65,10 +65,10 @@ abbrev pub NoneWaits : World → Type 0
 NoneWaits w = (core : ℕ) → core < 8 → waiting_at w core ≡ None
 
 -- what settling begins next, and what is pending without it: the request that the least core has waiting, else the first
-pub data Next (s : Simulation) (event : Event) (rest : List Request) : Type 0 where
+pub data Next (s : Simulation) (event : Event) (rest : List PendingRequest) : Type 0 where
   waits : (core : ℕ) (op : Op) → waiting_at s.world core ≡ Some op → ((less : ℕ) → less < core → waiting_at s.world less ≡ None)
       → event ≡ StartFor core → rest ≡ s.pending → Next s event rest
-  asked : (first : Request) → NoneWaits s.world → s.pending ≡ first ∷ rest
+  asked : (first : PendingRequest) → NoneWaits s.world → s.pending ≡ first ∷ rest
       → event ≡ event_of (way_of first.home) first.op → Next s event rest
 
 pub record NothingLeft (s : Simulation) : Type 0 where
@@ -85,15 +85,15 @@ pub record Quiets (w : World) (w' : World) (text : List ℕ) : Type 0 where
 -- what is left is begun, one after the other, each followed by all messages, up to a fault
 pub data Drains : Simulation → Simulation → List ℕ → Type 0 where
   ends : (s : Simulation) → NothingLeft s → Drains s s []
-  stops : (s : Simulation) (event : Event) (rest : List Request) (fault : WorldFault) → Next s event rest → Tells s.world event (Err fault) s.world
+  stops : (s : Simulation) (event : Event) (rest : List PendingRequest) (fault : WorldFault) → Next s event rest → Tells s.world event (Err fault) s.world
       → Drains s s (event_line event (Err fault))
-  goes_on : (s s' : Simulation) (event : Event) (rest : List Request) (answer : Answer) (begun quiet : World) (taken later : List ℕ)
+  goes_on : (s s' : Simulation) (event : Event) (rest : List PendingRequest) (answer : Answer) (begun quiet : World) (taken later : List ℕ)
       → Next s event rest → Tells s.world event (Ok answer) begun → Quiets begun quiet taken → Drains (record { world = quiet; pending = rest }) s' later
       → Drains s s' (event_line event (Ok answer) ++ taken ++ later)
 
 -- something is begun, or what is left has come to its end
 pub data BeginsNext (s s' : Simulation) (text : List ℕ) : Bool → Type 0 where
-  begun : (event : Event) (rest : List Request) (answer : Answer) → Next s event rest → Tells s.world event (Ok answer) s'.world → s'.pending ≡ rest
+  begun : (event : Event) (rest : List PendingRequest) (answer : Answer) → Next s event rest → Tells s.world event (Ok answer) s'.world → s'.pending ≡ rest
       → text ≡ event_line event (Ok answer) → BeginsNext s s' text true
   last : Drains s s' text → BeginsNext s s' text false
 

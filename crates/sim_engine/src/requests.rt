@@ -3,7 +3,7 @@
 ghost use Rattle.std.specs.Prelude.{◌≡◌, ◌+◌, ◌<◌, ◌++◌, ◌∷◌, [], ℕ, List, Option, Some, None, length, slice_get, slice_set, ◌⊎◌, MatchOption, OnOk, IfOk, IfSome, IfNone, IsTrue, IsFalse, ◌≢◌};
 ghost use Rattle.filter_table.specs.Tables.{HasShortProgram};
 ghost use Rattle.sim_engine.specs.Keeping.{IsKept, EmptyBefore, NoneBefore, IsFirst, IsFirstAt};
-ghost use Rattle.sim_engine.specs.declared.requests.Request.{Request as GhostRequest};
+ghost use Rattle.sim_engine.specs.declared.requests.PendingRequest.{PendingRequest as GhostRequest};
 
 use filter_table::Op;
 use std::alloc::{AllocError, Global};
@@ -14,18 +14,18 @@ pub(crate) const CORES: u16 = 8;
 
 /// A request, and the core that it enters at.
 #[derive(Drop)]
-pub struct Request {
+pub struct PendingRequest {
     pub home: u16,
     pub op: Op,
 }
 
-impl Request {
+impl PendingRequest {
     /// A request of an equal operation.
-    pub(crate) fn new(home: u16, op: &Op) -> Result<Request, AllocError>
+    pub(crate) fn new(home: u16, op: &Op) -> Result<PendingRequest, AllocError>
         ensures { IfOk result (λ request. request ≡ record { home = home; op = op.now }) }
     {
         let op = op.clone()?;
-        Ok(Request { home, op })
+        Ok(PendingRequest { home, op })
     }
 }
 
@@ -33,7 +33,7 @@ impl Request {
 /// They enter at cores below 8, and their programs are short enough to be sent.
 #[derive(Drop)]
 pub(crate) struct Requests {
-    places: Vec<Option<Request>>,
+    places: Vec<Option<PendingRequest>>,
     /// The places before this one are empty.
     first: usize,
     /// Of each core, a place before which no request enters there.
@@ -42,10 +42,10 @@ pub(crate) struct Requests {
 
 impl Model for Requests {
     ghost use Rattle.std.specs.Prelude.{List, Option};
-    ghost use Rattle.sim_engine.specs.declared.requests.Request.{Request};
+    ghost use Rattle.sim_engine.specs.declared.requests.PendingRequest.{PendingRequest};
     ghost use Rattle.sim_engine.specs.Keeping.{IsKept};
 
-    ghost Value = { List (Option Request) };
+    ghost Value = { List (Option PendingRequest) };
 
     ghost view = { λ r. r.places.items };
 
@@ -65,7 +65,7 @@ impl Requests {
     }
 
     /// One more request, last.
-    pub(crate) fn push(&mut self, request: Request) -> Result<(), AllocError>
+    pub(crate) fn push(&mut self, request: PendingRequest) -> Result<(), AllocError>
         requires low { request.home < 8 }
         requires short { HasShortProgram request.op }
         ensures { OnOk result (self.new ≡ self.old ++ Some request ∷ []) }
@@ -75,7 +75,7 @@ impl Requests {
     }
 
     /// The request at a place.
-    pub(crate) fn at(&self, place: usize) -> Option<&Request>
+    pub(crate) fn at(&self, place: usize) -> Option<&PendingRequest>
         ensures some { IfSome result (λ request. slice_get self.now place ≡ Some (Some request.now)) }
         ensures short { IfSome result (λ request. HasShortProgram request.now.op) }
         ensures none { IfNone result ((request : GhostRequest) → slice_get self.now place ≡ Some (Some request) → ⊥) }
@@ -125,7 +125,7 @@ impl Requests {
 }
 
 /// The first place from this one on that isn't empty, or the end.
-fn next_place(places: &[Option<Request>], from: usize) -> usize
+fn next_place(places: &[Option<PendingRequest>], from: usize) -> usize
     requires { EmptyBefore places.now from }
     ensures empty { EmptyBefore places.now result }
     ensures found { result < length places.now → IsFirst places.now result }
@@ -160,7 +160,7 @@ fn note(firsts: &mut Vec<usize>, home: u16, place: usize)
 }
 
 /// The first place from this one on whose request enters at the core, or the end.
-fn next_at(places: &[Option<Request>], home: u16, from: usize) -> usize
+fn next_at(places: &[Option<PendingRequest>], home: u16, from: usize) -> usize
     requires { NoneBefore places.now home from }
     ensures none { NoneBefore places.now home result }
     ensures found { result < length places.now → IsFirstAt places.now home result }
@@ -174,7 +174,7 @@ fn next_at(places: &[Option<Request>], home: u16, from: usize) -> usize
 }
 
 /// Whether there is a request that enters at the core.
-fn enters_at(place: &Option<Request>, home: u16) -> bool
+fn enters_at(place: &Option<PendingRequest>, home: u16) -> bool
     ensures yes { IsTrue result → (request : GhostRequest) × (place.now ≡ Some request) × (request.home ≡ home) }
     ensures no { IsFalse result → (request : GhostRequest) → place.now ≡ Some request → request.home ≢ home }
 {

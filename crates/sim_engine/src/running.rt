@@ -7,11 +7,11 @@ ghost use Rattle.std.specs.List.{All};
 ghost use Rattle.mk_script.specs.Limits.{EntersBelow, IsLimited};
 ghost use Rattle.world_core.specs.Refusals.{IsShortEvent};
 ghost use Rattle.mk_script.specs.declared.script.Item.{Item as GhostItem};
-ghost use Rattle.sim_engine.specs.declared.requests.Request.{Request as GhostRequest};
+ghost use Rattle.sim_engine.specs.declared.requests.PendingRequest.{PendingRequest as GhostRequest};
 ghost use Rattle.sim_engine.specs.Writing.{Wrote};
 ghost use Rattle.sim_engine.specs.Simulations.{Applies, Does, Performs, Simulation, sim, just};
 
-use crate::requests::{Request, Requests};
+use crate::requests::{PendingRequest, Requests};
 use crate::simulation::{begin, settle, show, tell};
 use crate::way::Way;
 use console::{BLOCK, EngineFault, Sink, write_bytes};
@@ -78,7 +78,7 @@ fn perform<C: Channel>(
 {
     match item {
         Item::Ask(home, op) => {
-            let request = Request::new(*home, op)?;
+            let request = PendingRequest::new(*home, op)?;
             requests.push(request)
         }
         Item::Begin => begin(alloc, world, requests, Way::Start, text),

@@ -2,7 +2,7 @@
 
 ghost use Rattle.std.specs.Prelude.{◌≡◌, ◌<◌, ◌++◌, ◌∷◌, ℕ, List, Some, None, Result, IfOk, OnOk, MatchOption, is_ok};
 ghost use Rattle.std.specs.List.{flat_map};
-ghost use Rattle.sim_engine.specs.declared.requests.Request.{Request};
+ghost use Rattle.sim_engine.specs.declared.requests.PendingRequest.{PendingRequest};
 ghost use Rattle.sim_engine.specs.Pending.{left, IsLeft};
 ghost use Rattle.filter_table.specs.Tables.{HasShortProgram};
 ghost use Rattle.filter_table.specs.declared.operation.Op.{Op as GhostOp};
@@ -213,7 +213,7 @@ fn begin_at<C: Channel>(
     text: &mut Vec<u8>,
 ) -> Result<bool, AllocError>
     requires { IsFirst requests.old place }
-    ensures { IfOk result (λ done. (first : Request) × (rest : List Request) × (told : Result GhostAnswer GhostFault) × (left requests.old ≡ first ∷ rest)
+    ensures { IfOk result (λ done. (first : PendingRequest) × (rest : List PendingRequest) × (told : Result GhostAnswer GhostFault) × (left requests.old ≡ first ∷ rest)
         × Tells world.old (event_of (way_of first.home) first.op) told world.new
         × (text.new.items ≡ text.old.items ++ event_line (event_of (way_of first.home) first.op) told) × (done ≡ is_ok told) × IsLeft done (first ∷ rest) rest (left requests.new)) }
 {

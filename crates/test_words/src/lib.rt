@@ -6,6 +6,6 @@ mod told;
 
 pub use asks::{ALL, ARP, Ask, REQUEST, THREE, op, program};
 pub use told::{
-    CAP, FILTER, NO_FILTER, NO_MEMORY_ON_1, OVER_BUDGET_OF_1, OVER_BUDGET_OF_2, TAKEN, Told,
+    CAP, EventWords, FILTER, NO_FILTER, NO_MEMORY_ON_1, OVER_BUDGET_OF_1, OVER_BUDGET_OF_2, TAKEN,
     is_for_memory, no_memory, tells,
 };

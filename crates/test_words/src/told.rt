@@ -6,7 +6,7 @@ use world_model::Answer;
 
 /// What an event tells. Of the endpoints that get a packet, it has how many there are and the first, with so many bytes, or zeros.
 #[derive(Clone, Copy, PartialEq, Eq, Debug)]
-pub enum Told {
+pub enum EventWords {
     Prepared(u64),
     Decided(Decision),
     Submitted,
@@ -21,23 +21,28 @@ pub enum Told {
 }
 
 /// What an answer tells.
-pub fn tells(answer: &Answer) -> Told {
+pub fn tells(answer: &Answer) -> EventWords {
     match answer {
-        Answer::Prepared { txn } => Told::Prepared(*txn),
-        Answer::Decided(decision) => Told::Decided(*decision),
-        Answer::Submitted => Told::Submitted,
-        Answer::TookPrepare { txn, vote } => Told::TookPrepare(*txn, *vote),
-        Answer::TookVote { txn, vote, decided } => Told::TookVote(*txn, *vote, *decided),
-        Answer::TookCommit { txn, version } => Told::TookCommit(*txn, *version),
-        Answer::TookAbort { txn, version } => Told::TookAbort(*txn, *version),
-        Answer::TookAck { txn } => Told::TookAck(*txn),
-        Answer::TookSubmit => Told::TookSubmit,
-        Answer::TookReply { decision } => Told::TookReply(*decision),
+        Answer::Prepared { txn } => EventWords::Prepared(*txn),
+        Answer::Decided(decision) => EventWords::Decided(*decision),
+        Answer::Submitted => EventWords::Submitted,
+        Answer::TookPrepare { txn, vote } => EventWords::TookPrepare(*txn, *vote),
+        Answer::TookVote { txn, vote, decided } => EventWords::TookVote(*txn, *vote, *decided),
+        Answer::TookCommit { txn, version } => EventWords::TookCommit(*txn, *version),
+        Answer::TookAbort { txn, version } => EventWords::TookAbort(*txn, *version),
+        Answer::TookAck { txn } => EventWords::TookAck(*txn),
+        Answer::TookSubmit => EventWords::TookSubmit,
+        Answer::TookReply { decision } => EventWords::TookReply(*decision),
         Answer::Delivered { version, kept } => {
             let kept = kept.as_slice();
             match kept.first() {
-                Some(first) => Told::Delivered(*version, kept.len(), first.endpoint, first.kept),
-                None => Told::Delivered(*version, 0, 0, 0),
+                Some(first) => EventWords::Delivered(
+                    *version,
+                    kept.len(),
+                    first.endpoint,
+                    first.kept,
+                ),
+                None => EventWords::Delivered(*version, 0, 0, 0),
             }
         }
     }

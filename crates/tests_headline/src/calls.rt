@@ -16,7 +16,7 @@ use pcap_reader::SharedPacket;
 use seq::Shared;
 use std::alloc::{AllocError, Global};
 use std::process::Abort;
-use test_words::{ALL, ARP, REQUEST, Told, program, tells};
+use test_words::{ALL, ARP, REQUEST, EventWords, program, tells};
 
 /// A core halts after so many idle turns, which no test comes to.
 const LIMIT: u64 = 50_000_000;
@@ -96,7 +96,7 @@ fn a_machine_does_its_events(rt: HostRuntime) {
     equal(
         &rt,
         did.events.last().map(|done| tells(&done.answer)),
-        Some(Told::Delivered(2, 1, 7, 14)),
+        Some(EventWords::Delivered(2, 1, 7, 14)),
     );
     drop(did);
 }

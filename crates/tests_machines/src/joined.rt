@@ -21,7 +21,7 @@ use std::alloc::{AllocError, Global};
 use std::collections::VecDeque;
 use std::process::Abort;
 use table_replica::Op;
-use test_words::{ARP, CAP, FILTER, REQUEST, Told, program, tells};
+use test_words::{ARP, CAP, FILTER, REQUEST, EventWords, program, tells};
 use ump_ring::ring;
 use world_model::{Answer, Done, Event};
 
@@ -44,7 +44,7 @@ fn kind_of(event: &Event) -> Asked {
 }
 
 /// The list has just these events.
-fn lists(rt: &impl Abort, list: &[Done], wanted: &[(Asked, Told)]) {
+fn lists(rt: &impl Abort, list: &[Done], wanted: &[(Asked, EventWords)]) {
     equal(rt, list.len(), wanted.len());
     for (done, wanted) in list.iter().zip(wanted.iter()) {
         equal(rt, (kind_of(&done.event), tells(&done.answer)), *wanted);
@@ -195,10 +195,10 @@ fn run_of(
     merge(alloc, &conclude(alloc, cores)?)
 }
 
-static ALONE: [(Asked, Told); 3] = [
-    (("start", 0, 0, 0), Told::Decided(CAP)),
-    (("start", 0, 0, 0), Told::Decided(FILTER)),
-    (("rx", 0, 0, 7), Told::Delivered(2, 1, 5, 14)),
+static ALONE: [(Asked, EventWords); 3] = [
+    (("start", 0, 0, 0), EventWords::Decided(CAP)),
+    (("start", 0, 0, 0), EventWords::Decided(FILTER)),
+    (("rx", 0, 0, 7), EventWords::Delivered(2, 1, 5, 14)),
 ];
 
 #[test]
@@ -209,33 +209,33 @@ fn a_core_alone(rt: HostRuntime) {
     lists(&rt, &list, &ALONE);
 }
 
-static INSTALLED: [(Asked, Told); 12] = [
-    (("start", 0, 0, 0), Told::Prepared(1)),
-    (("take", 1, 0, 0), Told::TookPrepare(1, Vote::Yes)),
-    (("take", 0, 1, 0), Told::TookVote(1, Vote::Yes, Some(CAP))),
-    (("take", 1, 0, 0), Told::TookCommit(1, 1)),
-    (("take", 0, 1, 0), Told::TookAck(1)),
-    (("start", 0, 0, 0), Told::Prepared(2)),
-    (("take", 1, 0, 0), Told::TookPrepare(2, Vote::Yes)),
+static INSTALLED: [(Asked, EventWords); 12] = [
+    (("start", 0, 0, 0), EventWords::Prepared(1)),
+    (("take", 1, 0, 0), EventWords::TookPrepare(1, Vote::Yes)),
+    (("take", 0, 1, 0), EventWords::TookVote(1, Vote::Yes, Some(CAP))),
+    (("take", 1, 0, 0), EventWords::TookCommit(1, 1)),
+    (("take", 0, 1, 0), EventWords::TookAck(1)),
+    (("start", 0, 0, 0), EventWords::Prepared(2)),
+    (("take", 1, 0, 0), EventWords::TookPrepare(2, Vote::Yes)),
     (
         ("take", 0, 1, 0),
-        Told::TookVote(2, Vote::Yes, Some(FILTER)),
+        EventWords::TookVote(2, Vote::Yes, Some(FILTER)),
     ),
-    (("rx", 0, 0, 7), Told::Delivered(2, 1, 5, 14)),
-    (("take", 1, 0, 0), Told::TookCommit(2, 2)),
-    (("take", 0, 1, 0), Told::TookAck(2)),
-    (("rx", 1, 0, 8), Told::Delivered(2, 1, 5, 14)),
+    (("rx", 0, 0, 7), EventWords::Delivered(2, 1, 5, 14)),
+    (("take", 1, 0, 0), EventWords::TookCommit(2, 2)),
+    (("take", 0, 1, 0), EventWords::TookAck(2)),
+    (("rx", 1, 0, 8), EventWords::Delivered(2, 1, 5, 14)),
 ];
 
-static SUBMITTED: [(Asked, Told); 8] = [
-    (("submit", 1, 0, 0), Told::Submitted),
-    (("take", 0, 1, 0), Told::TookSubmit),
-    (("start for", 1, 0, 0), Told::Prepared(1)),
-    (("take", 1, 0, 0), Told::TookPrepare(1, Vote::Yes)),
-    (("take", 0, 1, 0), Told::TookVote(1, Vote::Yes, Some(CAP))),
-    (("take", 1, 0, 0), Told::TookCommit(1, 1)),
-    (("take", 0, 1, 0), Told::TookAck(1)),
-    (("take", 1, 0, 0), Told::TookReply(CAP)),
+static SUBMITTED: [(Asked, EventWords); 8] = [
+    (("submit", 1, 0, 0), EventWords::Submitted),
+    (("take", 0, 1, 0), EventWords::TookSubmit),
+    (("start for", 1, 0, 0), EventWords::Prepared(1)),
+    (("take", 1, 0, 0), EventWords::TookPrepare(1, Vote::Yes)),
+    (("take", 0, 1, 0), EventWords::TookVote(1, Vote::Yes, Some(CAP))),
+    (("take", 1, 0, 0), EventWords::TookCommit(1, 1)),
+    (("take", 0, 1, 0), EventWords::TookAck(1)),
+    (("take", 1, 0, 0), EventWords::TookReply(CAP)),
 ];
 
 // Two cores install and receive; then core 0 decides a request of core 1.
@@ -251,27 +251,27 @@ fn two_cores_beside_each_other(rt: HostRuntime) {
 }
 
 /// Takes of messages by hand: the core, the stamp, the core that each message is from, and what is told.
-type Took = (u16, u64, u16, Told);
+type Took = (u16, u64, u16, EventWords);
 
 /// Histories of four cores, the last one empty.
 static HISTORIES: [&[Took]; 4] = [
-    &[(0, 4, 1, Told::TookSubmit), (0, 7, 2, Told::TookAck(3))],
+    &[(0, 4, 1, EventWords::TookSubmit), (0, 7, 2, EventWords::TookAck(3))],
     &[
-        (1, 4, 0, Told::TookPrepare(3, Vote::NoMemory)),
-        (1, 9, 0, Told::TookAbort(3, 0)),
+        (1, 4, 0, EventWords::TookPrepare(3, Vote::NoMemory)),
+        (1, 9, 0, EventWords::TookAbort(3, 0)),
     ],
     &[
-        (2, 3, 0, Told::TookPrepare(3, Vote::Budget)),
-        (2, 4, 0, Told::TookAbort(3, 0)),
+        (2, 3, 0, EventWords::TookPrepare(3, Vote::Budget)),
+        (2, 4, 0, EventWords::TookAbort(3, 0)),
     ],
     &[],
 ];
 
-fn answer(told: Told) -> Answer {
+fn answer(told: EventWords) -> Answer {
     match told {
-        Told::TookPrepare(txn, vote) => Answer::TookPrepare { txn, vote },
-        Told::TookAbort(txn, version) => Answer::TookAbort { txn, version },
-        Told::TookAck(txn) => Answer::TookAck { txn },
+        EventWords::TookPrepare(txn, vote) => Answer::TookPrepare { txn, vote },
+        EventWords::TookAbort(txn, version) => Answer::TookAbort { txn, version },
+        EventWords::TookAck(txn) => Answer::TookAck { txn },
         _ => Answer::TookSubmit,
     }
 }
@@ -301,16 +301,16 @@ fn by_hand(alloc: Global) -> Result<Vec<Done>, AllocError> {
     merge(alloc, &Histories { cores })
 }
 
-static BY_STAMP_AND_CORE: [(Asked, Told); 6] = [
-    (("take", 2, 0, 0), Told::TookPrepare(3, Vote::Budget)),
-    (("take", 0, 1, 0), Told::TookSubmit),
+static BY_STAMP_AND_CORE: [(Asked, EventWords); 6] = [
+    (("take", 2, 0, 0), EventWords::TookPrepare(3, Vote::Budget)),
+    (("take", 0, 1, 0), EventWords::TookSubmit),
     (
         ("take short of memory", 1, 0, 0),
-        Told::TookPrepare(3, Vote::NoMemory),
+        EventWords::TookPrepare(3, Vote::NoMemory),
     ),
-    (("take", 2, 0, 0), Told::TookAbort(3, 0)),
-    (("take", 0, 2, 0), Told::TookAck(3)),
-    (("take", 1, 0, 0), Told::TookAbort(3, 0)),
+    (("take", 2, 0, 0), EventWords::TookAbort(3, 0)),
+    (("take", 0, 2, 0), EventWords::TookAck(3)),
+    (("take", 1, 0, 0), EventWords::TookAbort(3, 0)),
 ];
 
 #[test]

@@ -19,7 +19,7 @@ use std::sync::atomic::{AtomicBool, AtomicU64, Ordering};
 use std::thread::Threads;
 use std::time::Clock;
 use table_replica::Op;
-use test_words::{ALL, Told, is_for_memory, program, tells};
+use test_words::{ALL, EventWords, is_for_memory, program, tells};
 use world_model::{Done, Event};
 
 // A limit that is never met.
@@ -72,7 +72,7 @@ fn worked_run<R: Abort + Threads + Wait + Clock + Sync>(
 }
 
 // The last event of a core where that is a receipt: the job's number, and what is told.
-fn last_receipt(ended: &Ended, place: usize) -> Option<(u64, Told)> {
+fn last_receipt(ended: &Ended, place: usize) -> Option<(u64, EventWords)> {
     let last = ended.cores.get(place)?.events().last()?;
     match &last.done.event {
         Event::Rx { number, .. } => Some((*number, tells(&last.done.answer))),
@@ -93,7 +93,7 @@ fn ends_as_worked(rt: &impl Abort, ended: &Ended, cores: usize) {
         let core = core.core();
         equal(rt, (core.version(), core.pending()), (2, 0));
     }
-    let received = Told::Delivered(2, 1, 7, 5);
+    let received = EventWords::Delivered(2, 1, 7, 5);
     equal(rt, last_receipt(ended, 1), Some((1, received)));
     equal(rt, left(ended), Some((1, 2, 1)));
 }
@@ -200,7 +200,7 @@ fn two_cores_wait_for_each_other(rt: HostRuntime) {
     let ended = meeting_run(&rt, rt.alloc(), &gate);
     equal(&rt, ended.halted, None);
     equal(&rt, gate.met.load(Ordering::SeqCst), 2);
-    let nobody = Told::Delivered(0, 0, 0, 0);
+    let nobody = EventWords::Delivered(0, 0, 0, 0);
     equal(&rt, last_receipt(&ended, 0), Some((1, nobody)));
     equal(&rt, last_receipt(&ended, 1), Some((2, nobody)));
     equal(&rt, left(&ended), None);

@@ -15,7 +15,7 @@ use std::alloc::Global;
 use table_replica::{Made, OpFault};
 use test_words::{
     ALL, ARP, Ask, CAP, FILTER, NO_FILTER, NO_MEMORY_ON_1, OVER_BUDGET_OF_1, REQUEST, TAKEN, THREE,
-    Told,
+    EventWords,
 };
 use world_core::{BootFault, Lines, Messages, World, WorldFault};
 
@@ -97,25 +97,25 @@ const REPLACE_BY_THREE: Asked = Asked::Start(Ask::Replace(1, 1, THREE));
 
 /// Core 1 agrees to the first capability.
 const CAP_IS_AGREED_ON: Step = Step::Settles(&[
-    (1, 0, Told::TookPrepare(1, Vote::Yes)),
-    (0, 1, Told::TookVote(1, Vote::Yes, Some(CAP))),
-    (1, 0, Told::TookCommit(1, 1)),
-    (0, 1, Told::TookAck(1)),
+    (1, 0, EventWords::TookPrepare(1, Vote::Yes)),
+    (0, 1, EventWords::TookVote(1, Vote::Yes, Some(CAP))),
+    (1, 0, EventWords::TookCommit(1, 1)),
+    (0, 1, EventWords::TookAck(1)),
 ]);
 
 const GREATEST_VERDICT: Run = (
     &[10],
     &[
-        Step::Does(CREATE, Told::Decided(CAP)),
+        Step::Does(CREATE, EventWords::Decided(CAP)),
         Step::Does(
             Asked::Start(Ask::Install(1, 1, "1,6 0 0 10")),
-            Told::Decided(FILTER),
+            EventWords::Decided(FILTER),
         ),
         Step::Does(
             Asked::Start(Ask::Install(1, 1, "1,6 0 0 60")),
-            Told::Decided(OTHER_FILTER),
+            EventWords::Decided(OTHER_FILTER),
         ),
-        Step::Does(Asked::Rx(0, &[0; 64], 0), Told::Delivered(3, 1, 7, 60)),
+        Step::Does(Asked::Rx(0, &[0; 64], 0), EventWords::Delivered(3, 1, 7, 60)),
     ],
 );
 
@@ -123,19 +123,19 @@ const GREATEST_VERDICT: Run = (
 const TWO_PHASES: Run = (
     &[100, 100],
     &[
-        Step::Does(CREATE, Told::Prepared(1)),
+        Step::Does(CREATE, EventWords::Prepared(1)),
         CAP_IS_AGREED_ON,
-        Step::Does(Asked::Start(Ask::Install(1, 1, ARP)), Told::Prepared(2)),
+        Step::Does(Asked::Start(Ask::Install(1, 1, ARP)), EventWords::Prepared(2)),
         Step::Shows(0, 1, 1, 0, 0),
-        Step::Does(Asked::Take(1, 0), Told::TookPrepare(2, Vote::Yes)),
+        Step::Does(Asked::Take(1, 0), EventWords::TookPrepare(2, Vote::Yes)),
         Step::Does(
             Asked::Take(0, 1),
-            Told::TookVote(2, Vote::Yes, Some(FILTER)),
+            EventWords::TookVote(2, Vote::Yes, Some(FILTER)),
         ),
-        Step::Does(Asked::Rx(1, &REQUEST, 0), Told::Delivered(1, 0, 0, 0)),
-        Step::Does(Asked::Rx(0, &REQUEST, 0), Told::Delivered(2, 1, 7, 14)),
-        Step::Does(Asked::Take(1, 0), Told::TookCommit(2, 2)),
-        Step::Does(Asked::Rx(1, &REQUEST, 0), Told::Delivered(2, 1, 7, 14)),
+        Step::Does(Asked::Rx(1, &REQUEST, 0), EventWords::Delivered(1, 0, 0, 0)),
+        Step::Does(Asked::Rx(0, &REQUEST, 0), EventWords::Delivered(2, 1, 7, 14)),
+        Step::Does(Asked::Take(1, 0), EventWords::TookCommit(2, 2)),
+        Step::Does(Asked::Rx(1, &REQUEST, 0), EventWords::Delivered(2, 1, 7, 14)),
         Step::Fails(Asked::Rx(1, &REQUEST, 3), WorldFault::NotReady),
     ],
 );
@@ -143,25 +143,25 @@ const TWO_PHASES: Run = (
 const BUDGET_VETO: Run = (
     &[100, 3],
     &[
-        Step::Does(CREATE, Told::Prepared(1)),
+        Step::Does(CREATE, EventWords::Prepared(1)),
         CAP_IS_AGREED_ON,
-        Step::Does(Asked::Start(Ask::Install(1, 1, ARP)), Told::Prepared(2)),
+        Step::Does(Asked::Start(Ask::Install(1, 1, ARP)), EventWords::Prepared(2)),
         Step::Settles(&[
-            (1, 0, Told::TookPrepare(2, Vote::Budget)),
+            (1, 0, EventWords::TookPrepare(2, Vote::Budget)),
             (
                 0,
                 1,
-                Told::TookVote(2, Vote::Budget, Some(OVER_BUDGET_OF_1)),
+                EventWords::TookVote(2, Vote::Budget, Some(OVER_BUDGET_OF_1)),
             ),
-            (1, 0, Told::TookAbort(2, 1)),
-            (0, 1, Told::TookAck(2)),
+            (1, 0, EventWords::TookAbort(2, 1)),
+            (0, 1, EventWords::TookAck(2)),
         ]),
-        Step::Does(Asked::Start(Ask::Install(1, 1, THREE)), Told::Prepared(3)),
+        Step::Does(Asked::Start(Ask::Install(1, 1, THREE)), EventWords::Prepared(3)),
         Step::Settles(&[
-            (1, 0, Told::TookPrepare(3, Vote::Yes)),
-            (0, 1, Told::TookVote(3, Vote::Yes, Some(FILTER))),
-            (1, 0, Told::TookCommit(3, 2)),
-            (0, 1, Told::TookAck(3)),
+            (1, 0, EventWords::TookPrepare(3, Vote::Yes)),
+            (0, 1, EventWords::TookVote(3, Vote::Yes, Some(FILTER))),
+            (1, 0, EventWords::TookCommit(3, 2)),
+            (0, 1, EventWords::TookAck(3)),
         ]),
     ],
 );
@@ -170,26 +170,26 @@ const BUDGET_VETO: Run = (
 const REVOKED: Run = (
     &[100],
     &[
-        Step::Does(CREATE, Told::Decided(CAP)),
+        Step::Does(CREATE, EventWords::Decided(CAP)),
         Step::Does(
             Asked::Start(Ask::Mint(1, 1, 2, Rights::R)),
-            Told::Decided(OTHER_CAP),
+            EventWords::Decided(OTHER_CAP),
         ),
         Step::Does(
             Asked::Start(Ask::Install(2, 2, ALL)),
-            Told::Decided(FILTER_AT_3),
+            EventWords::Decided(FILTER_AT_3),
         ),
         Step::Does(
             Asked::Rx(0, &[1, 2, 3, 4, 5], 0),
-            Told::Delivered(3, 1, 7, 5),
+            EventWords::Delivered(3, 1, 7, 5),
         ),
-        Step::Does(Asked::Start(Ask::Revoke(1, 1)), Told::Decided(NOTHING_AT_4)),
+        Step::Does(Asked::Start(Ask::Revoke(1, 1)), EventWords::Decided(NOTHING_AT_4)),
         Step::Does(
             Asked::Rx(0, &[1, 2, 3, 4, 5], 0),
-            Told::Delivered(4, 0, 0, 0),
+            EventWords::Delivered(4, 0, 0, 0),
         ),
-        Step::Does(Asked::Start(Ask::Install(2, 2, ALL)), Told::Decided(NO_CAP)),
-        Step::Does(Asked::Start(Ask::Remove(1, 1)), Told::Decided(NOT_OWNER)),
+        Step::Does(Asked::Start(Ask::Install(2, 2, ALL)), EventWords::Decided(NO_CAP)),
+        Step::Does(Asked::Start(Ask::Remove(1, 1)), EventWords::Decided(NOT_OWNER)),
         Step::Shows(0, 4, 1, 1, 1),
         Step::Cap,
         Step::Filter(2, 2),
@@ -200,21 +200,21 @@ const REVOKED: Run = (
 const SHORT: Run = (
     &[9, 9],
     &[
-        Step::Does(CREATE, Told::Prepared(1)),
-        Step::Does(Asked::Short(1), Told::TookPrepare(1, Vote::NoMemory)),
+        Step::Does(CREATE, EventWords::Prepared(1)),
+        Step::Does(Asked::Short(1), EventWords::TookPrepare(1, Vote::NoMemory)),
         Step::Does(
             Asked::Take(0, 1),
-            Told::TookVote(1, Vote::NoMemory, Some(NO_MEMORY_ON_1)),
+            EventWords::TookVote(1, Vote::NoMemory, Some(NO_MEMORY_ON_1)),
         ),
-        Step::Does(Asked::Take(1, 0), Told::TookAbort(1, 0)),
-        Step::Does(Asked::Take(0, 1), Told::TookAck(1)),
+        Step::Does(Asked::Take(1, 0), EventWords::TookAbort(1, 0)),
+        Step::Does(Asked::Take(0, 1), EventWords::TookAck(1)),
     ],
 );
 
 const FAULTS: Run = (
     &[9, 9],
     &[
-        Step::Does(CREATE, Told::Prepared(1)),
+        Step::Does(CREATE, EventWords::Prepared(1)),
         Step::Fails(Asked::Start(Ask::Create(1, 8)), NOT_IDLE),
         Step::Fails(Asked::StartFor(1), NOT_IDLE),
         Step::Fails(Asked::Take(0, 1), WorldFault::Nothing),
@@ -236,22 +236,22 @@ const HOME: Run = (
     &[9, 9],
     &[
         Step::Fails(Asked::StartFor(1), WorldFault::NoneWaiting),
-        Step::Does(Asked::Submit(1, 7), Told::Submitted),
+        Step::Does(Asked::Submit(1, 7), EventWords::Submitted),
         Step::Fails(Asked::Submit(1, 7), WorldFault::Outstanding),
         Step::Waits(1, false),
-        Step::Does(Asked::Take(0, 1), Told::TookSubmit),
+        Step::Does(Asked::Take(0, 1), EventWords::TookSubmit),
         Step::WaitsToCreate(1),
-        Step::Does(Asked::StartFor(1), Told::Prepared(1)),
+        Step::Does(Asked::StartFor(1), EventWords::Prepared(1)),
         Step::Waits(1, false),
-        Step::Does(Asked::Take(1, 0), Told::TookPrepare(1, Vote::Yes)),
-        Step::Does(Asked::Take(0, 1), Told::TookVote(1, Vote::Yes, Some(CAP))),
-        Step::Does(Asked::Take(1, 0), Told::TookCommit(1, 1)),
-        Step::Does(Asked::Take(0, 1), Told::TookAck(1)),
-        Step::Does(Asked::Take(1, 0), Told::TookReply(CAP)),
-        Step::Does(Asked::Submit(1, 7), Told::Submitted),
-        Step::Settles(&[(0, 1, Told::TookSubmit)]),
-        Step::Does(Asked::StartFor(1), Told::Decided(TAKEN)),
-        Step::Settles(&[(1, 0, Told::TookReply(TAKEN))]),
+        Step::Does(Asked::Take(1, 0), EventWords::TookPrepare(1, Vote::Yes)),
+        Step::Does(Asked::Take(0, 1), EventWords::TookVote(1, Vote::Yes, Some(CAP))),
+        Step::Does(Asked::Take(1, 0), EventWords::TookCommit(1, 1)),
+        Step::Does(Asked::Take(0, 1), EventWords::TookAck(1)),
+        Step::Does(Asked::Take(1, 0), EventWords::TookReply(CAP)),
+        Step::Does(Asked::Submit(1, 7), EventWords::Submitted),
+        Step::Settles(&[(0, 1, EventWords::TookSubmit)]),
+        Step::Does(Asked::StartFor(1), EventWords::Decided(TAKEN)),
+        Step::Settles(&[(1, 0, EventWords::TookReply(TAKEN))]),
     ],
 );
 
@@ -259,25 +259,25 @@ const HOME: Run = (
 const BUSY: Run = (
     &[9, 9, 9],
     &[
-        Step::Does(Asked::Submit(2, 7), Told::Submitted),
-        Step::Does(Asked::Take(0, 2), Told::TookSubmit),
-        Step::Does(Asked::StartFor(2), Told::Prepared(1)),
-        Step::Does(Asked::Short(2), Told::TookPrepare(1, Vote::NoMemory)),
-        Step::Does(Asked::Submit(1, 8), Told::Submitted),
+        Step::Does(Asked::Submit(2, 7), EventWords::Submitted),
+        Step::Does(Asked::Take(0, 2), EventWords::TookSubmit),
+        Step::Does(Asked::StartFor(2), EventWords::Prepared(1)),
+        Step::Does(Asked::Short(2), EventWords::TookPrepare(1, Vote::NoMemory)),
+        Step::Does(Asked::Submit(1, 8), EventWords::Submitted),
         Step::Settles(&[
-            (1, 0, Told::TookPrepare(1, Vote::Yes)),
-            (0, 1, Told::TookSubmit),
-            (0, 1, Told::TookVote(1, Vote::Yes, None)),
+            (1, 0, EventWords::TookPrepare(1, Vote::Yes)),
+            (0, 1, EventWords::TookSubmit),
+            (0, 1, EventWords::TookVote(1, Vote::Yes, None)),
             (
                 0,
                 2,
-                Told::TookVote(1, Vote::NoMemory, Some(NO_MEMORY_ON_2)),
+                EventWords::TookVote(1, Vote::NoMemory, Some(NO_MEMORY_ON_2)),
             ),
-            (1, 0, Told::TookAbort(1, 0)),
-            (2, 0, Told::TookAbort(1, 0)),
-            (0, 1, Told::TookAck(1)),
-            (0, 2, Told::TookAck(1)),
-            (2, 0, Told::TookReply(NO_MEMORY_ON_2)),
+            (1, 0, EventWords::TookAbort(1, 0)),
+            (2, 0, EventWords::TookAbort(1, 0)),
+            (0, 1, EventWords::TookAck(1)),
+            (0, 2, EventWords::TookAck(1)),
+            (2, 0, EventWords::TookReply(NO_MEMORY_ON_2)),
         ]),
         Step::Waits(1, true),
         Step::Shows(2, 0, 0, 0, 0),
@@ -288,26 +288,26 @@ const BUSY: Run = (
 const REPLACED: Run = (
     &[3],
     &[
-        Step::Does(CREATE, Told::Decided(CAP)),
-        Step::Does(INSTALL_ALL, Told::Decided(FILTER)),
-        Step::Does(INSTALL_ALL, Told::Decided(OTHER_FILTER)),
-        Step::Does(REPLACE_BY_THREE, Told::Decided(OVER_BUDGET_OF_0)),
-        Step::Does(Asked::Start(Ask::Remove(1, 2)), Told::Decided(NOTHING_AT_4)),
-        Step::Does(REPLACE_BY_THREE, Told::Decided(NOTHING_AT_5)),
+        Step::Does(CREATE, EventWords::Decided(CAP)),
+        Step::Does(INSTALL_ALL, EventWords::Decided(FILTER)),
+        Step::Does(INSTALL_ALL, EventWords::Decided(OTHER_FILTER)),
+        Step::Does(REPLACE_BY_THREE, EventWords::Decided(OVER_BUDGET_OF_0)),
+        Step::Does(Asked::Start(Ask::Remove(1, 2)), EventWords::Decided(NOTHING_AT_4)),
+        Step::Does(REPLACE_BY_THREE, EventWords::Decided(NOTHING_AT_5)),
         Step::Shows(0, 5, 1, 1, 3),
         Step::Does(
             Asked::Start(Ask::Replace(2, 1, ALL)),
-            Told::Decided(NOT_OWNER),
+            EventWords::Decided(NOT_OWNER),
         ),
         Step::Does(
             Asked::Start(Ask::Replace(1, 9, ALL)),
-            Told::Decided(NO_FILTER),
+            EventWords::Decided(NO_FILTER),
         ),
         Step::Does(
             Asked::Start(Ask::DropCap(1, 1)),
-            Told::Decided(NOTHING_AT_6),
+            EventWords::Decided(NOTHING_AT_6),
         ),
-        Step::Does(Asked::Start(Ask::Replace(1, 1, ALL)), Told::Decided(NO_CAP)),
+        Step::Does(Asked::Start(Ask::Replace(1, 1, ALL)), EventWords::Decided(NO_CAP)),
         Step::Shows(0, 6, 0, 1, 3),
         Step::Filter(1, 1),
     ],

@@ -7,10 +7,10 @@ use Rattle.std.proofs.Math.Seq.{take-append-add, take-append_seam}
 use Rattle.std.proofs.lemmas.List.Elements.{filter-append}
 use Rattle.std.proofs.lemmas.Bool.{cases_lt, le-leb, lt-leb, eqb-true, and_parts}
 use Rattle.std.proofs.lemmas.Bool.Decides.{nat_tests}
-use Rattle.trace_lines.specs.declared.event.Event.{Event}
+use Rattle.trace_lines.specs.declared.event.TraceEvent.{TraceEvent}
 use Rattle.trace_lines.specs.declared.messages.Effect.{Effect}
 use Rattle.trace_lines.specs.declared.messages.Front.{Front}
-use Rattle.trace_lines.specs.declared.messages.Message.{Message}
+use Rattle.trace_lines.specs.declared.messages.TraceMessage.{TraceMessage}
 use Rattle.trace_lines.specs.declared.messages.State.{State}
 use Rattle.trace_lines.specs.declared.lines.Line.{Line}
 use Rattle.trace_lines.specs.declared.picture.Row.{Row}
@@ -87,7 +87,7 @@ front-push v fs place at past from to = push_first v from to fs (subst (λ n. le
 -- An event
 
 -- what it sends follows
-pub follows_next : (highest : ℕ) (past : List Event) (event : Event) (effect : Effect) (mid new : State) → HasTaken highest past (ends_at event.act event.told) mid
+pub follows_next : (highest : ℕ) (past : List TraceEvent) (event : TraceEvent) (effect : Effect) (mid new : State) → HasTaken highest past (ends_at event.act event.told) mid
     → effect ≡ effect_at event.act event.told
     → new.asker ≡ asker_after effect mid.asker → ((n : ℕ) → mid.acks ≡ highest - n → new.acks ≡ highest - acks_after effect n)
     → new.messages.items ≡ mid.messages.items ++ sends highest past effect → new.fronts.items ≡ mid.fronts.items
@@ -107,7 +107,7 @@ follows_next highest past event effect mid new so is asker_is acks_are messages 
 -- The messages under way
 
 -- of a message that passes a test: it is at a front or after it, if as many that pass are before it as before the front
-after_front : (p : Message → Bool) (done rest : List Message) (m : Message) (k count : ℕ) → p m ≡ true
+after_front : (p : TraceMessage → Bool) (done rest : List TraceMessage) (m : TraceMessage) (k count : ℕ) → p m ≡ true
     → length (filter p (take k (done ++ m ∷ rest))) ≡ count → nat_le k (length done) ≡ nat_le count (length (filter p done))
 after_front p done rest m k count passes counted = elim (cases_lt (length done) k) [
   | inl past ↦
@@ -124,10 +124,10 @@ after_front p done rest m k count passes counted = elim (cases_lt (length done) 
       le-leb k (length done) before ∙ sym (le-leb count (length (filter p done)) (omega arith))
 ]
 
-between_own : (m : Message) → is_between m.from m.to m ≡ true
+between_own : (m : TraceMessage) → is_between m.from m.to m ≡ true
 between_own m = grind (arith, nat_tests)
 
-left_from : (highest : ℕ) (past : List Event) (state : State) → Follows highest past state → (done rest : List Message) → done ++ rest ≡ sent highest past
+left_from : (highest : ℕ) (past : List TraceEvent) (state : State) → Follows highest past state → (done rest : List TraceMessage) → done ++ rest ≡ sent highest past
     → flat_map (λ at. kept (nat_le (front at.1.from at.1.to state.fronts.items) at.0) at.1) (enumerate_from (length done) rest)
     ≡ flat_map (λ at. kept (is_under_way highest past at.0 at.1) at.1) (enumerate_from (length done) rest)
 left_from highest past state so done [] whole = refl
@@ -142,7 +142,7 @@ left_from highest past state so done (m ∷ rest) whole =
     let later = rw longer at (left_from highest past state so (done ++ m ∷ []) rest (append_assoc done (m ∷ []) rest ∙ whole)) in
     rw (test, later) refl
 
-pub all_left : (highest : ℕ) (past : List Event) (state : State) → Follows highest past state
+pub all_left : (highest : ℕ) (past : List TraceEvent) (state : State) → Follows highest past state
     → flat_map (λ at. kept (nat_le (front at.1.from at.1.to state.fronts.items) at.0) at.1) (enumerate_from 0 state.messages.items) ≡ under_way highest past
 all_left highest past state so =
     ap (λ ms. flat_map (λ at. kept (nat_le (front at.1.from at.1.to state.fronts.items) at.0) at.1) (enumerate_from 0 ms)) so.messages
@@ -152,7 +152,7 @@ all_left highest past state so =
 
 -- the rows so far, and the events that are still to be drawn
 pub record Linked (highest row : ℕ) (all : List Shown) (rows : List Drawn) (rest : List Shown) (state : State) : Type 0 where
-  pub past : List Event
+  pub past : List TraceEvent
   pub counted : row ≡ length past
   pub drawn : rows ++ drawn_from highest past rest ≡ drawn_from highest [] all
   pub ends : past_after past rest ≡ past_after [] all

@@ -5,9 +5,9 @@ use Rattle.std.specs.Str.{bytes_eq}
 use Rattle.bpf_insn.specs.Texts.{words_of}
 use Rattle.trace_lines.specs.declared.event.Act.{Act}
 use Rattle.trace_lines.specs.declared.event.Act.TheVariants as act
-use Rattle.trace_lines.specs.declared.event.Told.{Told}
-use Rattle.trace_lines.specs.declared.event.Told.TheVariants as told
-use Rattle.trace_lines.specs.declared.event.Event.{Event}
+use Rattle.trace_lines.specs.declared.event.TraceAnswer.{TraceAnswer}
+use Rattle.trace_lines.specs.declared.event.TraceAnswer.TheVariants as told
+use Rattle.trace_lines.specs.declared.event.TraceEvent.{TraceEvent}
 use Rattle.trace_lines.specs.Words.{is_number, says, says_number, is_plain, is_no, is_other}
 use Rattle.line_words.specs.Words.{word_at}
 
@@ -41,32 +41,32 @@ act_of (word ∷ core ∷ other ∷ []) =
 act_of _ = None
 
 -- the answer of a request that core 0 begins
-abbrev pub begun : List (List ℕ) → Option Told
+abbrev pub begun : List (List ℕ) → Option TraceAnswer
 begun words =
     if says_number (codes "prepared") words then Some told.Prepared
     else if says_number (codes "committed") words then Some told.Committed
     else if says (codes "refused") words then Some told.Refused else None
 
 -- what a vote decides, by the words after it
-abbrev pub vote_told : List ℕ → Option Told
+abbrev pub vote_told : List ℕ → Option TraceAnswer
 vote_told word = if bytes_eq word (codes "committed") then Some told.VoteCommits else if bytes_eq word (codes "refused") then Some told.VoteRefuses else if length word == 0 then Some told.Vote else None
 
 -- the answer of core 0 that takes a message
-abbrev pub taken_up : List (List ℕ) → Option Told
+abbrev pub taken_up : List (List ℕ) → Option TraceAnswer
 taken_up words =
     if says_number (codes "vote") words then vote_told (word_at words 3)
     else if says_number (codes "ack") words then Some told.Ack
     else if says (codes "submit") words then Some told.Submit else None
 
 -- the answer of another core that does
-abbrev pub taken_down : List (List ℕ) → Option Told
+abbrev pub taken_down : List (List ℕ) → Option TraceAnswer
 taken_down words =
     if says_number (codes "prepare") words then Some told.Prepare
     else if says_number (codes "commit") words then Some told.Commit
     else if says_number (codes "abort") words then Some told.Abort
     else if says (codes "reply") words then Some told.Reply else None
 
-abbrev pub answer_of : Act → List (List ℕ) → Option Told
+abbrev pub answer_of : Act → List (List ℕ) → Option TraceAnswer
 answer_of act.Start words = begun words
 answer_of (act.StartFor core) words = begun words
 answer_of (act.Submit core) words = if says (codes "sent") words then Some told.Sent else None
@@ -75,11 +75,11 @@ answer_of (act.TakeDown to) words = taken_down words
 answer_of (act.Rx core) words = if says_number (codes "version") words then Some told.Delivered else None
 
 -- the answer, by the words after the colon; or the event was not done
-abbrev pub told_of : Act → List (List ℕ) → Option Told
+abbrev pub told_of : Act → List (List ℕ) → Option TraceAnswer
 told_of a words = if says (codes "fault") words then Some told.Fault else answer_of a words
 
 -- the version that the core comes to, or no bytes where it stays
-abbrev pub version_of : Told → List (List ℕ) → List ℕ
+abbrev pub version_of : TraceAnswer → List (List ℕ) → List ℕ
 version_of told.Committed words = word_at words 1
 version_of told.VoteCommits words = word_at words 4
 version_of told.Commit words = word_at words 3
@@ -87,7 +87,7 @@ version_of _ words = []
 
 -- an event that is drawn
 pub record Shown : Type 0 where
-  pub event : Event
+  pub event : TraceEvent
   -- whether it is refused, vetoed or not done
   pub no : Bool
   pub version : List ℕ
@@ -104,7 +104,7 @@ pub data Said : Type 0 where
 abbrev pub is_skipped : List (List ℕ) → Bool
 is_skipped words = is_other (word_at words 0) || bytes_eq (word_at words (length words - 1)) (codes "NoSuchCore")
 
-abbrev pub said_told : List ℕ → List (List ℕ) → Act → Option Told → Said
+abbrev pub said_told : List ℕ → List (List ℕ) → Act → Option TraceAnswer → Said
 said_told line words a None = Bad
 said_told line words a (Some t) = Done (record { event = record { act = a; told = t }; no = list_any is_no words; version = version_of t words; text = line })
 

@@ -4,19 +4,19 @@ use Rattle.std.specs.Prelude.{ℕ, ◌+◌, ◌==◌, ◌&&◌, not, nat_le, if�
 use Rattle.std.specs.List.{flat_map, enumerate_from}
 use Rattle.trace_lines.specs.declared.event.Act.{Act}
 use Rattle.trace_lines.specs.declared.event.Act.TheVariants as act
-use Rattle.trace_lines.specs.declared.event.Told.{Told}
-use Rattle.trace_lines.specs.declared.event.Told.TheVariants as told
-use Rattle.trace_lines.specs.declared.event.Event.{Event}
-use Rattle.trace_lines.specs.declared.messages.Kind.{Kind}
-use Rattle.trace_lines.specs.declared.messages.Kind.TheVariants as kind
+use Rattle.trace_lines.specs.declared.event.TraceAnswer.{TraceAnswer}
+use Rattle.trace_lines.specs.declared.event.TraceAnswer.TheVariants as told
+use Rattle.trace_lines.specs.declared.event.TraceEvent.{TraceEvent}
+use Rattle.trace_lines.specs.declared.messages.MessageKind.{MessageKind}
+use Rattle.trace_lines.specs.declared.messages.MessageKind.TheVariants as kind
 use Rattle.trace_lines.specs.declared.messages.Effect.{Effect}
 use Rattle.trace_lines.specs.declared.messages.Effect.TheVariants.{Nothing, Asks, Decides, Down, Up, Acked}
-use Rattle.trace_lines.specs.declared.messages.Message.{Message}
+use Rattle.trace_lines.specs.declared.messages.TraceMessage.{TraceMessage}
 use Rattle.trace_lines.specs.Lines.{Shown}
 
 -- What an event sends
 
-abbrev pub effect_at : Act → Told → Effect
+abbrev pub effect_at : Act → TraceAnswer → Effect
 effect_at act.Start told.Prepared = Asks 0
 effect_at (act.StartFor core) told.Prepared = Asks core
 effect_at (act.StartFor core) told.Committed = Down core kind.Reply
@@ -31,17 +31,17 @@ effect_at (act.TakeUp core) told.Ack = Acked
 effect_at a t = Nothing
 
 -- the cores that an event's message went from and to, if it took one
-abbrev pub ends_at : Act → Told → Option (ℕ × ℕ)
+abbrev pub ends_at : Act → TraceAnswer → Option (ℕ × ℕ)
 ends_at a told.Fault = None
 ends_at (act.TakeUp core) t = Some (core, 0)
 ends_at (act.TakeDown core) t = Some (0, core)
 ends_at a t = None
 
-abbrev pub message : Kind → ℕ → ℕ → ℕ → Message
+abbrev pub message : MessageKind → ℕ → ℕ → ℕ → TraceMessage
 message k row from to = record { kind = k; from = from; to = to; row = row }
 
 -- to each core but core 0
-abbrev pub to_others : ℕ → Kind → ℕ → List Message
+abbrev pub to_others : ℕ → MessageKind → ℕ → List TraceMessage
 to_others highest k row = map (λ core. message k row 0 core) (take (min highest 7) (1 ∷ 2 ∷ 3 ∷ 4 ∷ 5 ∷ 6 ∷ 7 ∷ []))
 
 -- Lists of events that are past have the latest event first.
@@ -51,7 +51,7 @@ abbrev pub asker_after : Effect → ℕ → ℕ
 asker_after (Asks core) before = core
 asker_after e before = before
 
-abbrev pub asker : List Event → ℕ
+abbrev pub asker : List TraceEvent → ℕ
 asker [] = 0
 asker (e ∷ past) = asker_after (effect_at e.act e.told) (asker past)
 
@@ -61,16 +61,16 @@ acks_after (Asks core) before = 0
 acks_after Acked before = before + 1
 acks_after e before = before
 
-abbrev pub acks : List Event → ℕ
+abbrev pub acks : List TraceEvent → ℕ
 acks [] = 0
 acks (e ∷ past) = acks_after (effect_at e.act e.told) (acks past)
 
 -- at the last acknowledgement the core that asked is told, unless it is core 0
-abbrev pub reply : ℕ → List Event → List Message
+abbrev pub reply : ℕ → List TraceEvent → List TraceMessage
 reply highest past = if acks past + 1 == highest && not (asker past == 0) then message kind.Reply (length past) 0 (asker past) ∷ [] else []
 
 -- what an event sends after these events, on a machine whose last core is this: at most one message to a core
-abbrev pub sends : ℕ → List Event → Effect → List Message
+abbrev pub sends : ℕ → List TraceEvent → Effect → List TraceMessage
 sends highest past Nothing = []
 sends highest past (Asks core) = to_others highest kind.Prepare (length past)
 sends highest past (Decides k) = to_others highest k (length past)
@@ -79,15 +79,15 @@ sends highest past (Up core k) = message k (length past) core 0 ∷ []
 sends highest past Acked = reply highest past
 
 -- all messages that were sent, in order
-abbrev pub sent : ℕ → List Event → List Message
+abbrev pub sent : ℕ → List TraceEvent → List TraceMessage
 sent highest [] = []
 sent highest (e ∷ past) = sent highest past ++ sends highest past (effect_at e.act e.told)
 
-abbrev pub is_between : ℕ → ℕ → Message → Bool
+abbrev pub is_between : ℕ → ℕ → TraceMessage → Bool
 is_between from to m = m.from == from && m.to == to
 
 -- those between two cores
-abbrev pub sent_between : ℕ → ℕ → ℕ → List Event → List Message
+abbrev pub sent_between : ℕ → ℕ → ℕ → List TraceEvent → List TraceMessage
 sent_between highest from to past = filter (is_between from to) (sent highest past)
 
 -- an event takes a message between these two cores
@@ -97,29 +97,29 @@ takes from to (Some ends) = ends.0 == from && ends.1 == to
 
 -- How many messages between two cores were taken. Where all that were sent are taken, a further one was sent before the
 -- first event, and doesn't count.
-abbrev pub taken : ℕ → ℕ → ℕ → List Event → ℕ
+abbrev pub taken : ℕ → ℕ → ℕ → List TraceEvent → ℕ
 taken highest from to [] = 0
 taken highest from to (e ∷ past) =
     if takes from to (ends_at e.act e.told) then min (taken highest from to past + 1) (length (sent_between highest from to past))
     else taken highest from to past
 
 -- the row of the event that sent the message which an event takes: between two cores first in, first out
-abbrev pub sender : ℕ → List Event → Option (ℕ × ℕ) → Option ℕ
+abbrev pub sender : ℕ → List TraceEvent → Option (ℕ × ℕ) → Option ℕ
 sender highest past None = None
 sender highest past (Some ends) =
     option_map (λ m. m.row) (slice_get (sent_between highest ends.0 ends.1 past) (taken highest ends.0 ends.1 past))
 
 -- a message that was sent after so many others is under way: those between the same cores that were sent before it are as many
 -- as were taken, or more
-abbrev pub is_under_way : ℕ → List Event → ℕ → Message → Bool
+abbrev pub is_under_way : ℕ → List TraceEvent → ℕ → TraceMessage → Bool
 is_under_way highest past place m =
     nat_le (taken highest m.from m.to past) (length (filter (is_between m.from m.to) (take place (sent highest past))))
 
-abbrev pub kept : Bool → Message → List Message
+abbrev pub kept : Bool → TraceMessage → List TraceMessage
 kept under m = if under then m ∷ [] else []
 
 -- the messages under way, in the order in which they were sent
-abbrev pub under_way : ℕ → List Event → List Message
+abbrev pub under_way : ℕ → List TraceEvent → List TraceMessage
 under_way highest past = flat_map (λ at. kept (is_under_way highest past at.0 at.1) at.1) (enumerate_from 0 (sent highest past))
 
 -- The picture
@@ -131,16 +131,16 @@ pub record Drawn : Type 0 where
   pub shown : Shown
 
 -- an event after these
-abbrev pub drawn_at : ℕ → List Event → Shown → Drawn
+abbrev pub drawn_at : ℕ → List TraceEvent → Shown → Drawn
 drawn_at highest past x = record { row = length past; sender = sender highest past (ends_at x.event.act x.event.told); shown = x }
 
 -- each event after those before it
-abbrev pub drawn_from : ℕ → List Event → List Shown → List Drawn
+abbrev pub drawn_from : ℕ → List TraceEvent → List Shown → List Drawn
 drawn_from highest past [] = []
 drawn_from highest past (x ∷ xs) = drawn_at highest past x ∷ drawn_from highest (x.event ∷ past) xs
 
 -- these events after those before them
-abbrev pub past_after : List Event → List Shown → List Event
+abbrev pub past_after : List TraceEvent → List Shown → List TraceEvent
 past_after past [] = past
 past_after past (x ∷ xs) = past_after (x.event ∷ past) xs
 
@@ -164,5 +164,5 @@ highest_of xs = highest_from 0 xs
 abbrev pub drawn_of : List Shown → List Drawn
 drawn_of xs = drawn_from (highest_of xs) [] xs
 
-abbrev pub left_of : List Shown → List Message
+abbrev pub left_of : List Shown → List TraceMessage
 left_of xs = under_way (highest_of xs) (past_after [] xs)

@@ -19,7 +19,7 @@ pub enum Act {
 
 /// What the event answered.
 #[derive(Clone, Copy, Debug, PartialEq, Eq)]
-pub enum Told {
+pub enum TraceAnswer {
     /// A request is put to the vote.
     Prepared,
     /// A request is committed at once.
@@ -54,7 +54,7 @@ pub enum Told {
 
 /// An event.
 #[derive(Clone, Copy, Debug, PartialEq, Eq)]
-pub struct Event {
+pub struct TraceEvent {
     pub act: Act,
-    pub told: Told,
+    pub told: TraceAnswer,
 }

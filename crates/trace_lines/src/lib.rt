@@ -9,8 +9,8 @@ mod picture;
 mod trace;
 mod words;
 
-pub use event::{Act, Event, Told};
+pub use event::{Act, TraceAnswer, TraceEvent};
 pub use lines::{Line, Read};
-pub use messages::{Effect, Kind, Message};
+pub use messages::{Effect, MessageKind, TraceMessage};
 pub use picture::{Picture, Row, link_events};
 pub use trace::{TraceFault, read_trace};

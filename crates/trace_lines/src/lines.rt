@@ -5,7 +5,7 @@ ghost use Rattle.trace_lines.specs.Lines as spec;
 ghost use Rattle.trace_lines.specs.Views.{said};
 ghost use Rattle.line_words.specs.Words.{texts};
 
-use crate::event::{Act, Event, Told};
+use crate::event::{Act, TraceAnswer, TraceEvent};
 use crate::words::{is_number, is_other, is_plain, say_no, says, says_number};
 use line_words::{cut, word_at, words};
 use std::alloc::{AllocError, Global};
@@ -13,7 +13,7 @@ use std::alloc::{AllocError, Global};
 /// An event that is drawn.
 #[derive(Clone, Copy, Debug)]
 pub struct Line<'a> {
-    pub event: Event,
+    pub event: TraceEvent,
     /// Whether it is refused, vetoed or not done.
     pub no: bool,
     /// The version that its core comes to; no bytes where it stays.
@@ -100,99 +100,99 @@ fn act_of(words: &[&[u8]]) -> Option<Act>
 }
 
 /// The answer of a request that core 0 begins.
-fn begun(words: &[&[u8]]) -> Option<Told>
+fn begun(words: &[&[u8]]) -> Option<TraceAnswer>
     ensures { result ≡ spec.begun (texts words.now) }
 {
     if says_number(b"prepared".as_slice(), words) {
-        Some(Told::Prepared)
+        Some(TraceAnswer::Prepared)
     } else if says_number(b"committed".as_slice(), words) {
-        Some(Told::Committed)
+        Some(TraceAnswer::Committed)
     } else if says(b"refused".as_slice(), words) {
-        Some(Told::Refused)
+        Some(TraceAnswer::Refused)
     } else {
         None
     }
 }
 
 /// What a vote decides, by the word after it.
-fn vote_told(word: &[u8]) -> Option<Told>
+fn vote_told(word: &[u8]) -> Option<TraceAnswer>
     ensures { result ≡ spec.vote_told word.now }
 {
     if word == b"committed".as_slice() {
-        Some(Told::VoteCommits)
+        Some(TraceAnswer::VoteCommits)
     } else if word == b"refused".as_slice() {
-        Some(Told::VoteRefuses)
+        Some(TraceAnswer::VoteRefuses)
     } else if word.is_empty() {
-        Some(Told::Vote)
+        Some(TraceAnswer::Vote)
     } else {
         None
     }
 }
 
 /// The answer of core 0 that takes a message.
-fn taken_up(words: &[&[u8]]) -> Option<Told>
+fn taken_up(words: &[&[u8]]) -> Option<TraceAnswer>
     ensures { result ≡ spec.taken_up (texts words.now) }
 {
     if says_number(b"vote".as_slice(), words) {
         vote_told(word_at(words, 3))
     } else if says_number(b"ack".as_slice(), words) {
-        Some(Told::Ack)
+        Some(TraceAnswer::Ack)
     } else if says(b"submit".as_slice(), words) {
-        Some(Told::Submit)
+        Some(TraceAnswer::Submit)
     } else {
         None
     }
 }
 
 /// The answer of another core that does.
-fn taken_down(words: &[&[u8]]) -> Option<Told>
+fn taken_down(words: &[&[u8]]) -> Option<TraceAnswer>
     ensures { result ≡ spec.taken_down (texts words.now) }
 {
     if says_number(b"prepare".as_slice(), words) {
-        Some(Told::Prepare)
+        Some(TraceAnswer::Prepare)
     } else if says_number(b"commit".as_slice(), words) {
-        Some(Told::Commit)
+        Some(TraceAnswer::Commit)
     } else if says_number(b"abort".as_slice(), words) {
-        Some(Told::Abort)
+        Some(TraceAnswer::Abort)
     } else if says(b"reply".as_slice(), words) {
-        Some(Told::Reply)
+        Some(TraceAnswer::Reply)
     } else {
         None
     }
 }
 
-fn answer_of(act: Act, words: &[&[u8]]) -> Option<Told>
+fn answer_of(act: Act, words: &[&[u8]]) -> Option<TraceAnswer>
     ensures { result ≡ spec.answer_of act (texts words.now) }
 {
     match act {
         Act::Start | Act::StartFor(_) => begun(words),
-        Act::Submit(_) if says(b"sent".as_slice(), words) => Some(Told::Sent),
+        Act::Submit(_) if says(b"sent".as_slice(), words) => Some(TraceAnswer::Sent),
         Act::TakeUp(_) => taken_up(words),
         Act::TakeDown(_) => taken_down(words),
-        Act::Rx(_) if says_number(b"version".as_slice(), words) => Some(Told::Delivered),
+        Act::Rx(_) if says_number(b"version".as_slice(), words) => Some(TraceAnswer::Delivered),
         Act::Submit(_) | Act::Rx(_) => None,
     }
 }
 
 /// The answer, by the words after the colon.
-fn told_of(act: Act, words: &[&[u8]]) -> Option<Told>
+fn told_of(act: Act, words: &[&[u8]]) -> Option<TraceAnswer>
     ensures { result ≡ spec.told_of act (texts words.now) }
 {
     if says(b"fault".as_slice(), words) {
-        Some(Told::Fault)
+        Some(TraceAnswer::Fault)
     } else {
         answer_of(act, words)
     }
 }
 
 /// The version that the core comes to.
-fn version_of<'a>(told: Told, words: &[&'a [u8]]) -> &'a [u8]
+fn version_of<'a>(told: TraceAnswer, words: &[&'a [u8]]) -> &'a [u8]
     ensures { result.now ≡ spec.version_of told (texts words.now) }
 {
     match told {
-        Told::Committed => word_at(words, 1),
-        Told::VoteCommits => word_at(words, 4),
-        Told::Commit => word_at(words, 3),
+        TraceAnswer::Committed => word_at(words, 1),
+        TraceAnswer::VoteCommits => word_at(words, 4),
+        TraceAnswer::Commit => word_at(words, 3),
         _ => &[],
     }
 }
@@ -214,7 +214,7 @@ fn read_act<'a>(line: &'a [u8], words: &[&'a [u8]], act: Option<Act>) -> Read<'a
         return Read::Bad;
     };
     Read::Done(Line {
-        event: Event { act, told },
+        event: TraceEvent { act, told },
         no: say_no(words),
         version: version_of(told, words),
         text: line,

@@ -2,16 +2,16 @@
 
 ghost use Rattle.std.specs.Prelude.{◌≡◌, ◌≤◌, ◌+◌, ◌-◌, ◌==◌, ◌&&◌, ◌∷◌, ◌++◌, ℕ, List, length, filter, min, take, slice_get, option_map, if◌then◌else◌, OnOk, IfOk};
 ghost use Rattle.std.specs.List.{position_or_len};
-ghost use Rattle.trace_lines.specs.declared.event.Event.{Event as Past};
+ghost use Rattle.trace_lines.specs.declared.event.TraceEvent.{TraceEvent as Past};
 ghost use Rattle.trace_lines.specs.Following.{Follows, HasTaken, front, is_front};
 ghost use Rattle.trace_lines.specs.Links as spec;
 
-use crate::event::{Act, Event, Told};
+use crate::event::{Act, TraceAnswer, TraceEvent};
 use std::alloc::{AllocError, Global};
 
 /// The words of the protocol.
 #[derive(Clone, Copy, Debug, PartialEq, Eq)]
-pub enum Kind {
+pub enum MessageKind {
     Prepare,
     Vote,
     Commit,
@@ -28,19 +28,19 @@ pub enum Effect {
     /// Core 0 asks each other core to vote on a request of this core.
     Asks(u16),
     /// Core 0 sends each other core what was decided.
-    Decides(Kind),
+    Decides(MessageKind),
     /// Core 0 sends this core a message.
-    Down(u16, Kind),
+    Down(u16, MessageKind),
     /// This core sends core 0 a message.
-    Up(u16, Kind),
+    Up(u16, MessageKind),
     /// Core 0 takes an acknowledgement.
     Acked,
 }
 
 /// A message.
 #[derive(Clone, Copy, Debug, PartialEq, Eq)]
-pub struct Message {
-    pub kind: Kind,
+pub struct TraceMessage {
+    pub kind: MessageKind,
     pub from: u16,
     pub to: u16,
     /// The place of the event that sent it, from 0.
@@ -63,7 +63,7 @@ pub(crate) struct Front {
 #[derive(Drop)]
 pub(crate) struct State {
     /// All messages, in the order in which they were sent.
-    pub messages: Vec<Message>,
+    pub messages: Vec<TraceMessage>,
     /// A front for each two cores between which a message was taken.
     pub fronts: Vec<Front>,
     /// The core whose request was put to the vote last.
@@ -72,42 +72,48 @@ pub(crate) struct State {
     pub acks: u16,
 }
 
-fn effect_at(act: Act, told: Told) -> Effect
+fn effect_at(act: Act, told: TraceAnswer) -> Effect
     ensures { result ≡ spec.effect_at act told }
 {
     match (act, told) {
-        (Act::Start, Told::Prepared) => Effect::Asks(0),
-        (Act::StartFor(core), Told::Prepared) => Effect::Asks(core),
-        (Act::StartFor(core), Told::Committed | Told::Refused) => Effect::Down(core, Kind::Reply),
-        (Act::Submit(core), Told::Sent) => Effect::Up(core, Kind::Submit),
-        (Act::TakeDown(core), Told::Prepare) => Effect::Up(core, Kind::Vote),
-        (Act::TakeDown(core), Told::Commit | Told::Abort) => Effect::Up(core, Kind::Ack),
-        (Act::TakeUp(_), Told::VoteCommits) => Effect::Decides(Kind::Commit),
-        (Act::TakeUp(_), Told::VoteRefuses) => Effect::Decides(Kind::Abort),
-        (Act::TakeUp(_), Told::Ack) => Effect::Acked,
+        (Act::Start, TraceAnswer::Prepared) => Effect::Asks(0),
+        (Act::StartFor(core), TraceAnswer::Prepared) => Effect::Asks(core),
+        (Act::StartFor(core), TraceAnswer::Committed | TraceAnswer::Refused) => Effect::Down(
+            core,
+            MessageKind::Reply,
+        ),
+        (Act::Submit(core), TraceAnswer::Sent) => Effect::Up(core, MessageKind::Submit),
+        (Act::TakeDown(core), TraceAnswer::Prepare) => Effect::Up(core, MessageKind::Vote),
+        (Act::TakeDown(core), TraceAnswer::Commit | TraceAnswer::Abort) => Effect::Up(
+            core,
+            MessageKind::Ack,
+        ),
+        (Act::TakeUp(_), TraceAnswer::VoteCommits) => Effect::Decides(MessageKind::Commit),
+        (Act::TakeUp(_), TraceAnswer::VoteRefuses) => Effect::Decides(MessageKind::Abort),
+        (Act::TakeUp(_), TraceAnswer::Ack) => Effect::Acked,
         _ => Effect::Nothing,
     }
 }
 
-fn ends_at(act: Act, told: Told) -> Option<(u16, u16)>
+fn ends_at(act: Act, told: TraceAnswer) -> Option<(u16, u16)>
     ensures { result ≡ spec.ends_at act told }
 {
     match (act, told) {
-        (_, Told::Fault) => None,
+        (_, TraceAnswer::Fault) => None,
         (Act::TakeUp(core), _) => Some((core, 0)),
         (Act::TakeDown(core), _) => Some((0, core)),
         _ => None,
     }
 }
 
-fn is_between(from: u16, to: u16, message: &Message) -> bool
+fn is_between(from: u16, to: u16, message: &TraceMessage) -> bool
     ensures { result ≡ spec.is_between from to message.now }
 {
     message.from == from && message.to == to
 }
 
 /// The place of the first message between two cores, or the number of messages.
-fn first_between(from: u16, to: u16, messages: &[Message]) -> usize
+fn first_between(from: u16, to: u16, messages: &[TraceMessage]) -> usize
     ensures place { result ≡ position_or_len (spec.is_between from to) messages.now }
     ensures within { result ≤ length messages.now }
 {
@@ -155,7 +161,12 @@ fn set_front(fronts: &mut Vec<Front>, set: Front) -> Result<(), AllocError>
 }
 
 /// The row of the sender of the first message between two cores from a place on, and the place after that message.
-fn next_between(from: u16, to: u16, messages: &[Message], start: usize) -> (Option<usize>, usize)
+fn next_between(
+    from: u16,
+    to: u16,
+    messages: &[TraceMessage],
+    start: usize,
+) -> (Option<usize>, usize)
     requires { start ≤ length messages.now }
     ensures sender { result.0 ≡ option_map (λ m. m.row) (slice_get (filter (spec.is_between from to) messages.now)
         (length (filter (spec.is_between from to) (take start messages.now)))) }
@@ -188,16 +199,16 @@ fn take(state: &mut State, ends: Option<(u16, u16)>) -> Result<Option<usize>, Al
 
 /// Sends a message to each core but core 0.
 fn send_to_others(
-    messages: &mut Vec<Message>,
+    messages: &mut Vec<TraceMessage>,
     highest: u16,
-    kind: Kind,
+    kind: MessageKind,
     row: usize,
 ) -> Result<(), AllocError>
     ensures { OnOk result (messages.new.items ≡ messages.old.items ++ spec.to_others highest kind row) }
 {
     let count = usize::from(highest).min(7);
     for to in &OTHERS[..count] {
-        messages.push(Message {
+        messages.push(TraceMessage {
             kind,
             from: 0,
             to: *to,
@@ -216,8 +227,8 @@ fn acknowledge(state: &mut State, row: usize) -> Result<(), AllocError>
     ensures fronts { OnOk result (state.new.fronts.items ≡ state.old.fronts.items) }
 {
     if state.acks == 1 && state.asker != 0 {
-        let message = Message {
-            kind: Kind::Reply,
+        let message = TraceMessage {
+            kind: MessageKind::Reply,
             from: 0,
             to: state.asker,
             row,
@@ -239,14 +250,14 @@ fn apply(state: &mut State, highest: u16, row: usize, effect: Effect) -> Result<
     match effect {
         Effect::Nothing => Ok(()),
         Effect::Asks(core) => {
-            send_to_others(&mut state.messages, highest, Kind::Prepare, row)?;
+            send_to_others(&mut state.messages, highest, MessageKind::Prepare, row)?;
             state.asker = core;
             state.acks = highest;
             Ok(())
         }
         Effect::Decides(kind) => send_to_others(&mut state.messages, highest, kind, row),
         Effect::Down(core, kind) => {
-            let message = Message {
+            let message = TraceMessage {
                 kind,
                 from: 0,
                 to: core,
@@ -256,7 +267,7 @@ fn apply(state: &mut State, highest: u16, row: usize, effect: Effect) -> Result<
             Ok(())
         }
         Effect::Up(core, kind) => {
-            let message = Message {
+            let message = TraceMessage {
                 kind,
                 from: core,
                 to: 0,
@@ -274,7 +285,7 @@ pub(crate) fn follow(
     state: &mut State,
     highest: u16,
     row: usize,
-    event: Event,
+    event: TraceEvent,
 ) -> Result<Option<usize>, AllocError>
     requires { (from to : ℕ) → front from to state.old.fronts.items ≤ length state.old.messages.items }
     ensures sender { IfOk result (λ sender. (past : List Past) → Follows highest past state.old
@@ -282,14 +293,14 @@ pub(crate) fn follow(
     ensures follows { OnOk result ((past : List Past) → row ≡ length past → Follows highest past state.old
         → Follows highest (event ∷ past) state.new) }
 {
-    let Event { act, told } = event;
+    let TraceEvent { act, told } = event;
     let sender = take(state, ends_at(act, told))?;
     apply(state, highest, row, effect_at(act, told))?;
     Ok(sender)
 }
 
 /// The messages under way.
-pub(crate) fn under_way(alloc: Global, state: &State) -> Result<Vec<Message>, AllocError>
+pub(crate) fn under_way(alloc: Global, state: &State) -> Result<Vec<TraceMessage>, AllocError>
     ensures { IfOk result (λ left. (highest : ℕ) (past : List Past) → Follows highest past state.now → left.items ≡ spec.under_way highest past) }
 {
     let mut left = Vec::new(alloc);
@@ -300,7 +311,11 @@ pub(crate) fn under_way(alloc: Global, state: &State) -> Result<Vec<Message>, Al
     Ok(left)
 }
 
-fn push_if(left: &mut Vec<Message>, under_way: bool, message: Message) -> Result<(), AllocError>
+fn push_if(
+    left: &mut Vec<TraceMessage>,
+    under_way: bool,
+    message: TraceMessage,
+) -> Result<(), AllocError>
     ensures { OnOk result (left.new.items ≡ left.old.items ++ spec.kept under_way message) }
 {
     if under_way {

@@ -6,7 +6,7 @@ ghost use Rattle.trace_lines.specs.Views.{drawn, shown};
 
 use crate::event::Act;
 use crate::lines::Line;
-use crate::messages::{Message, State, follow, under_way};
+use crate::messages::{State, TraceMessage, follow, under_way};
 use std::alloc::{AllocError, Global};
 
 /// An event of a picture.
@@ -26,7 +26,7 @@ pub struct Picture<'a> {
     pub highest: u16,
     pub rows: Vec<Row<'a>>,
     /// The messages under way at the end.
-    pub left: Vec<Message>,
+    pub left: Vec<TraceMessage>,
 }
 
 fn core_in(act: Act) -> u16

@@ -15,7 +15,7 @@ use Rattle.core_loop.specs.Cores.{begins}
 use Rattle.sim_lines.specs.Events.{event_line, done_line}
 use Rattle.mk_script.specs.declared.script.Item.{Item}
 use Rattle.mk_script.specs.declared.script.Item.TheVariants as item
-use Rattle.sim_engine.specs.declared.requests.Request.{Request}
+use Rattle.sim_engine.specs.declared.requests.PendingRequest.{PendingRequest}
 use Rattle.sim_engine.specs.Simulations.{Simulation, Does, done, Performs}
 use Rattle.run_engine.specs.Work.{requests_of}
 use Rattle.trace_text.specs.Traces.{item_of, trace_item, asks_of}
@@ -24,7 +24,7 @@ use Rattle.trace_runs.specs.Repeats.{BeginInOrder, CanRepeat}
 use Rattle.trace_runs.proofs.Pending.{ops_at, AreFirst, begins_it, begun_first, as_request, ops_for}
 use Rattle.trace_runs.proofs.Retake.{happens_retold}
 
-abbrev pub at : World → List Request → Simulation
+abbrev pub at : World → List PendingRequest → Simulation
 at w pending = record { world = w; pending = pending }
 
 -- what the core begins with one event
@@ -32,11 +32,11 @@ abbrev pub begun_with : ℕ → Event → List Op
 begun_with core event = if core_of event == core then begins event else []
 
 -- the requests that these events begin are the first that are pending, at each core
-abbrev pub Begin : List Done → List Request → Type 0
+abbrev pub Begin : List Done → List PendingRequest → Type 0
 Begin events pending = AreFirst (λ core. begun_at core events) pending
 
 -- one event more
-abbrev pub BeginWith : Event → List Done → List Request → Type 0
+abbrev pub BeginWith : Event → List Done → List PendingRequest → Type 0
 BeginWith event later pending = (core : ℕ) → IsPrefix (begun_with core event ++ begun_at core later) (ops_at core pending)
 
 none_begun : (test : Bool) (rest : List Op) → (if test then [] else []) ++ rest ≡ rest
@@ -44,19 +44,19 @@ none_begun true rest = refl
 none_begun false rest = refl
 
 -- an event that begins nothing
-pub begin_still : (event : Event) (later : List Done) (pending : List Request) → begins event ≡ [] → BeginWith event later pending → Begin later pending
+pub begin_still : (event : Event) (later : List Done) (pending : List PendingRequest) → begins event ≡ [] → BeginWith event later pending → Begin later pending
 begin_still event later pending e h core =
     let is : begun_with core event ++ begun_at core later ≡ begun_at core later = rw e (none_begun (core_of event == core) (begun_at core later)) in
     subst (λ (ops : List Op). IsPrefix ops (ops_at core pending)) is (h core)
 
 -- One event
 
-record Stepped (w w' : World) (event : Event) (answer : Answer) (later : List Done) (pending : List Request) : Type 0 where
-  pub rest : List Request
+record Stepped (w w' : World) (event : Event) (answer : Answer) (later : List Done) (pending : List PendingRequest) : Type 0 where
+  pub rest : List PendingRequest
   pub does : Does (at w pending) (item_of event answer) (at w' rest) (event_line event (Ok answer))
   pub begin : Begin later rest
 
-step : (w w' : World) (event : Event) (answer : Answer) (later : List Done) (pending : List Request) → Happens w event w' answer → BeginWith event later pending → Stepped w w' event answer later pending
+step : (w w' : World) (event : Event) (answer : Answer) (later : List Done) (pending : List PendingRequest) → Happens w event w' answer → BeginWith event later pending → Stepped w w' event answer later pending
 step w w' (Start op) answer later pending h b =
     let f = begins_it 0 op (λ core. begun_at core later) pending b in
     let g = begun_first 0 op (λ core. begun_at core later) pending f.0 f.1 b f.2 in
@@ -73,12 +73,12 @@ step w w' (Rx core number packet floor) answer later pending h b =
 
 -- All events
 
-record Again (w w' : World) (events : List Done) (pending : List Request) : Type 0 where
+record Again (w w' : World) (events : List Done) (pending : List PendingRequest) : Type 0 where
   pub end : Simulation
   pub performs : Performs (at w pending) (map trace_item events) end (flat_map done_line events)
   pub same_world : end.world ≡ w'
 
-again : (w w' : World) (events : List Done) (pending : List Request) → Runs w events w' → Begin events pending → Again w w' events pending
+again : (w w' : World) (events : List Done) (pending : List PendingRequest) → Runs w events w' → Begin events pending → Again w w' events pending
 again w w' [] pending r b = record { end = at w pending; performs = (refl, refl); same_world = sym r }
 again w w' (d ∷ ds) pending r b =
     let s = step w r.0 d.event d.answer ds pending r.1 b in
@@ -87,18 +87,18 @@ again w w' (d ∷ ds) pending r b =
 
 -- The requests first
 
-abbrev pub asked : List Item → List Request
+abbrev pub asked : List Item → List PendingRequest
 asked items = map as_request (requests_of items)
 
-performs_asks : (w : World) (pending : List Request) (items later : List Item) (end : Simulation) (text : List ℕ) → Performs (at w (pending ++ asked items)) later end text → Performs (at w pending) (asks_of items ++ later) end text
-performs_asks w pending [] later end text p = subst (λ (rs : List Request). Performs (at w rs) later end text) (append-nil pending) p
+performs_asks : (w : World) (pending : List PendingRequest) (items later : List Item) (end : Simulation) (text : List ℕ) → Performs (at w (pending ++ asked items)) later end text → Performs (at w pending) (asks_of items ++ later) end text
+performs_asks w pending [] later end text p = subst (λ (rs : List PendingRequest). Performs (at w rs) later end text) (append-nil pending) p
 performs_asks w pending (item.Ask home op ∷ items) later end text p =
     let more : pending ++ as_request (home, op) ∷ asked items ≡ (pending ++ as_request (home, op) ∷ []) ++ asked items = sym (append_assoc pending (as_request (home, op) ∷ []) (asked items)) in (
       at w (pending ++ as_request (home, op) ∷ []),
       [],
       text,
       (refl, refl),
-      performs_asks w (pending ++ as_request (home, op) ∷ []) items later end text (subst (λ (rs : List Request). Performs (at w rs) later end text) more p),
+      performs_asks w (pending ++ as_request (home, op) ∷ []) items later end text (subst (λ (rs : List PendingRequest). Performs (at w rs) later end text) more p),
       refl,
     )
 performs_asks w pending (item.Begin ∷ items) later end text p = performs_asks w pending items later end text p

@@ -18,7 +18,7 @@ use Rattle.world_progress.proofs.SameRuns.{happens_once}
 use Rattle.sim_lines.specs.Events.{event_line, done_line}
 use Rattle.mk_script.specs.declared.script.Item.{Item}
 use Rattle.mk_script.specs.declared.script.Item.TheVariants as item
-use Rattle.sim_engine.specs.declared.requests.Request.{Request}
+use Rattle.sim_engine.specs.declared.requests.PendingRequest.{PendingRequest}
 use Rattle.sim_engine.proofs.Twice.{stands}
 use Rattle.sim_engine.specs.declared.way.Way.{Way}
 use Rattle.sim_engine.specs.declared.way.Way.TheVariants as way
@@ -84,7 +84,7 @@ module _ (budget : ℕ) (budgets : List ℕ) (before : List Done) (w mid : World
   by_told event answer later s' now told (as_before e is) line begin = goes_on is (line ∙ ap (event_line event) e) begin
   by_told event answer later s' now told (lacking other out e) line begin = lacked other out (line ∙ ap (event_line event) e)
 
-  found_begun : (by : Way) (op : Op) (answer : Answer) (later : List Done) (pending : List Request) (s' : Simulation) (now : List ℕ) → Happens w (event_of by op) mid answer → (LacksMemory (event_of by op) answer → ⊥)
+  found_begun : (by : Way) (op : Op) (answer : Answer) (later : List Done) (pending : List PendingRequest) (s' : Simulation) (now : List ℕ) → Happens w (event_of by op) mid answer → (LacksMemory (event_of by op) answer → ⊥)
       → BeginsFirst (home_of by) op (λ core. begun_at core later) pending → Begins (at w pending) by s' now → Found (event_of by op) answer later s' now
   found_begun by op answer later pending s' now h had b (nothing none is line) = absurd (not_none (home_of by) op (λ core. begun_at core later) pending b none)
   found_begun by op answer later pending s' now h had b (done first f other tells line) =
@@ -96,12 +96,12 @@ module _ (budget : ℕ) (budgets : List ℕ) (before : List Done) (w mid : World
       let g = begun_first (home_of by) op (λ core. begun_at core later) pending first rest b f in
       absurd (not_refused (event_of by op) answer fault s'.world h (subst (λ (o : Op). Tells w (event_of by o) (Err fault) s'.world) g.is_op tells))
 
-  found_applied : (event : Event) (answer : Answer) (later : List Done) (pending : List Request) (s' : Simulation) (now : List ℕ) → begins event ≡ [] → Happens w event mid answer → (LacksMemory event answer → ⊥) → BeginWith event later pending
+  found_applied : (event : Event) (answer : Answer) (later : List Done) (pending : List PendingRequest) (s' : Simulation) (now : List ℕ) → begins event ≡ [] → Happens w event mid answer → (LacksMemory event answer → ⊥) → BeginWith event later pending
       → Applies (at w pending) event s' now → Found event answer later s' now
   found_applied event answer later pending s' now none h had b does =
       by_told event answer later s' now does.0 (told_once event answer s'.world does.0 h had does.1) does.3 (subst (Begin later) (sym does.2) (begin_still event later pending none b))
 
-  found : (event : Event) (answer : Answer) (later : List Done) (pending : List Request) (s' : Simulation) (now : List ℕ) → Happens w event mid answer → (LacksMemory event answer → ⊥) → BeginWith event later pending
+  found : (event : Event) (answer : Answer) (later : List Done) (pending : List PendingRequest) (s' : Simulation) (now : List ℕ) → Happens w event mid answer → (LacksMemory event answer → ⊥) → BeginWith event later pending
       → Does (at w pending) (item_for event) s' now → Found event answer later s' now
   found (Start op) answer later pending s' now h had b does = found_begun way.Start op answer later pending s' now h had b does
   found (Submit core op) answer later pending s' now h had b does = found_begun (way.Submit core) op answer later pending s' now h had b does
@@ -118,7 +118,7 @@ retold_line (StartFor core) answer told = refl
 retold_line (Take to from short) answer told = refl
 retold_line (Rx core number packet floor) answer told = refl
 
-retold_begins : (event : Event) (answer : Answer) (later : List Done) (pending : List Request) → BeginWith event later pending → BeginWith (retold event answer) later pending
+retold_begins : (event : Event) (answer : Answer) (later : List Done) (pending : List PendingRequest) → BeginWith event later pending → BeginWith (retold event answer) later pending
 retold_begins (Start op) answer later pending b = b
 retold_begins (Submit core op) answer later pending b = b
 retold_begins (StartFor core) answer later pending b = b
@@ -139,7 +139,7 @@ one_more d ds w' end now later text line whole (short_of_memory x) = short_of_me
   printed = whole ∙ (rw (line, x.printed) (sym (append_assoc (done_line d) (flat_map done_line x.before) (event_line x.done.event (Ok x.answer) ++ x.more))));
 })
 
-whatever : (budget : ℕ) (budgets : List ℕ) (before events : List Done) (w w' : World) (pending : List Request) (end : Simulation) (text : List ℕ) → Run budget budgets before w → Runs w events w' → Begin events pending → All WasNotRefused events
+whatever : (budget : ℕ) (budgets : List ℕ) (before events : List Done) (w w' : World) (pending : List PendingRequest) (end : Simulation) (text : List ℕ) → Run budget budgets before w → Runs w events w' → Begin events pending → All WasNotRefused events
     → Performs (at w pending) (map trace_item events) end text → Repeats events w' end.world text
 whatever budget budgets before [] w w' pending end text run r b had p = same p.1 (ap (λ (s : Simulation). s.world) p.0 ∙ sym r)
 whatever budget budgets before (d ∷ ds) w w' pending end text run r b had p =
@@ -164,14 +164,14 @@ whatever budget budgets before (d ∷ ds) w w' pending end text run r b had p =
 
 -- The requests first
 
-after_asks : (w : World) (pending : List Request) (items later : List Item) (end : Simulation) (text : List ℕ) → Performs (at w pending) (asks_of items ++ later) end text → Performs (at w (pending ++ asked items)) later end text
-after_asks w pending [] later end text p = subst (λ (rs : List Request). Performs (at w rs) later end text) (sym (append-nil pending)) p
+after_asks : (w : World) (pending : List PendingRequest) (items later : List Item) (end : Simulation) (text : List ℕ) → Performs (at w pending) (asks_of items ++ later) end text → Performs (at w (pending ++ asked items)) later end text
+after_asks w pending [] later end text p = subst (λ (rs : List PendingRequest). Performs (at w rs) later end text) (sym (append-nil pending)) p
 after_asks w pending (item.Ask home op ∷ items) later end text p =
     let more : (pending ++ as_request (home, op) ∷ []) ++ asked items ≡ pending ++ as_request (home, op) ∷ asked items = append_assoc pending (as_request (home, op) ∷ []) (asked items) in
     let printed : text ≡ p.2 = p.5 ∙ ap (λ (xs : List ℕ). xs ++ p.2) p.3.1 in
     let rest : Performs (at w (pending ++ as_request (home, op) ∷ [])) (asks_of items ++ later) end p.2 = subst (λ (s : Simulation). Performs s (asks_of items ++ later) end p.2) p.3.0 p.4 in
     subst (λ (xs : List ℕ). Performs (at w (pending ++ as_request (home, op) ∷ asked items)) later end xs) (sym printed)
-    (subst (λ (rs : List Request). Performs (at w rs) later end p.2) more (after_asks w (pending ++ as_request (home, op) ∷ []) items later end p.2 rest))
+    (subst (λ (rs : List PendingRequest). Performs (at w rs) later end p.2) more (after_asks w (pending ++ as_request (home, op) ∷ []) items later end p.2 rest))
 after_asks w pending (item.Begin ∷ items) later end text p = after_asks w pending items later end text p
 after_asks w pending (item.Submit core ∷ items) later end text p = after_asks w pending items later end text p
 after_asks w pending (item.StartFor core ∷ items) later end text p = after_asks w pending items later end text p

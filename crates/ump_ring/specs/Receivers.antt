@@ -15,6 +15,10 @@ lines_received r = ring.received r.consumer
 abbrev pub stopped : Receiver → Option LineFault
 stopped r = r.joiner.fault
 
+-- the last pull received a line
+abbrev pub has_moved : Receiver → Bool
+has_moved r = r.moved
+
 -- the whole message that was received and not taken
 abbrev pub message_kept : Receiver → Option (List ℕ)
 message_kept r = if r.kept then message_shown r.joiner else None

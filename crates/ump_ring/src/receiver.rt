@@ -14,6 +14,8 @@ pub struct Receiver {
     joiner: Joiner,
     // A whole message was read and is not given up.
     kept: bool,
+    // The last `pull` received a line.
+    moved: bool,
     ghost receiving: { IsReceiving joiner (received consumer) },
     ghost keeps: { KeepsMessage kept joiner },
 }
@@ -25,6 +27,7 @@ impl Drop for Receiver {
             consumer: _,
             joiner: _,
             kept: _,
+            moved: _,
         } = self;
     }
 }
@@ -33,7 +36,7 @@ impl Drop for Receiver {
 const LINES_MOST: u32 = 587;
 
 impl Receiver {
-    ghost use Rattle.std.specs.Prelude.{◌≡◌, ◌≢◌, ◌≤◌, ◌+◌, ◌++◌, [], None, Some, Err, IsTrue, IsFalse, IfErr, OnOk, length};
+    ghost use Rattle.std.specs.Prelude.{◌≡◌, ◌≢◌, ◌<◌, ◌≤◌, ◌+◌, ◌++◌, [], true, false, None, Some, Err, IsTrue, IsFalse, IfErr, OnOk, length};
     ghost use mathlib.Core.List.{IsPrefix};
     ghost use Rattle.rtrb.specs.Ring.{received};
     ghost use Rattle.ump_ring.specs.Lines.{messages_in};
@@ -41,7 +44,7 @@ impl Receiver {
     ghost use Rattle.ump_ring.specs.Joiners.{AfterLines, shown_items, shown_list};
     ghost use Rattle.std.specs.Borrow.{sem};
     ghost use Rattle.ump_ring.specs.Lending.{LendsLook, LendsTake};
-    ghost use Rattle.ump_ring.specs.Receivers.{lines_received, lines_known, messages_taken, message_kept, stopped, SameReceiver, message_last};
+    ghost use Rattle.ump_ring.specs.Receivers.{lines_received, lines_known, messages_taken, message_kept, stopped, has_moved, SameReceiver, message_last};
 
     /// The receiving end over a ring's consumer of which nothing was received, whatever writes to the ring, with a
     /// joiner that has read nothing. Takes no memory.
@@ -56,6 +59,7 @@ impl Receiver {
             consumer,
             joiner,
             kept: false,
+            moved: false,
         }
     }
 
@@ -72,7 +76,10 @@ impl Receiver {
         ensures ok { OnOk result (stopped self.new ≡ None) }
         ensures spent { OnOk result (message_kept self.new ≡ None → lines_known self.new ≡ []) }
         ensures err { IfErr result (λ fault. (stopped self.new ≡ Some fault) × StopsAt fault (lines_received self.new)) }
+        ensures still { has_moved self.new ≡ false → lines_received self.new ≡ lines_received self.old }
+        ensures moved { has_moved self.new ≡ true → length (lines_received self.old) < length (lines_received self.new) }
     {
+        self.moved = false;
         if let Some(fault) = self.joiner.fault() {
             return Err(fault);
         }
@@ -83,12 +90,20 @@ impl Receiver {
             let Ok(line) = self.consumer.pop() else {
                 break;
             };
+            self.moved = true;
             if self.joiner.line(&line)? {
                 self.kept = true;
                 return Ok(());
             }
         }
         Ok(())
+    }
+
+    /// Whether the last `pull` received a line, and so made room in the ring. Takes no memory.
+    pub fn moved(&self) -> bool
+        ensures { result ≡ has_moved self.now }
+    {
+        self.moved
     }
 
     /// A receiver that has not stopped has received no line with a fault: whatever is wrong with a line, `pull` reports it. A law:

@@ -13,7 +13,7 @@ use std::alloc::{AllocError, Global};
 use std::collections::VecDeque;
 use std::process::Abort;
 use table_replica::Op;
-use test_words::{ALL, CAP, FILTER, Told, is_for_memory, program, tells};
+use test_words::{ALL, CAP, FILTER, EventWords, is_for_memory, program, tells};
 
 // Requests to create endpoint 7 and to install a filter that accepts every packet.
 fn installation(rt: &impl Abort, alloc: Global) -> VecDeque<Op> {
@@ -37,27 +37,27 @@ fn core_0(rt: &impl Abort, alloc: Global, capacity: usize) -> (Recorded<ListLink
 }
 
 // The history has just these stamps and answers.
-fn has(rt: &impl Abort, history: &[Stamped], wanted: &[(u64, Told)]) {
+fn has(rt: &impl Abort, history: &[Stamped], wanted: &[(u64, EventWords)]) {
     equal(rt, history.len(), wanted.len());
     for (event, wanted) in history.iter().zip(wanted) {
         equal(rt, (event.stamp, tells(&event.done.answer)), *wanted);
     }
 }
 
-static FIRST: [(u64, Told); 6] = [
-    (1, Told::Prepared(1)),
-    (3, Told::TookVote(1, Vote::Yes, Some(CAP))),
-    (5, Told::TookAck(1)),
-    (6, Told::Prepared(2)),
-    (8, Told::TookVote(2, Vote::Yes, Some(FILTER))),
-    (10, Told::TookAck(2)),
+static FIRST: [(u64, EventWords); 6] = [
+    (1, EventWords::Prepared(1)),
+    (3, EventWords::TookVote(1, Vote::Yes, Some(CAP))),
+    (5, EventWords::TookAck(1)),
+    (6, EventWords::Prepared(2)),
+    (8, EventWords::TookVote(2, Vote::Yes, Some(FILTER))),
+    (10, EventWords::TookAck(2)),
 ];
 
-static OTHER: [(u64, Told); 4] = [
-    (2, Told::TookPrepare(1, Vote::Yes)),
-    (4, Told::TookCommit(1, 1)),
-    (7, Told::TookPrepare(2, Vote::Yes)),
-    (9, Told::TookCommit(2, 2)),
+static OTHER: [(u64, EventWords); 4] = [
+    (2, EventWords::TookPrepare(1, Vote::Yes)),
+    (4, EventWords::TookCommit(1, 1)),
+    (7, EventWords::TookPrepare(2, Vote::Yes)),
+    (9, EventWords::TookCommit(2, 2)),
 ];
 
 // A turn; one that is refused memory changes nothing, and the next is as the first would have been.
@@ -102,7 +102,7 @@ fn commit_and_receive(
     has(rt, first.events(), &FIRST);
     let (agreed, received) = other.events().split_at(other.events().len().min(4));
     has(rt, agreed, &OTHER);
-    has(rt, received, &[(10, Told::Delivered(2, 1, 7, 5))]);
+    has(rt, received, &[(10, EventWords::Delivered(2, 1, 7, 5))]);
     holds(rt, first.core().idle() && other.core().idle());
     equal(rt, front(other), Some(2));
 }

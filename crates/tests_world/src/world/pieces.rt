@@ -5,7 +5,7 @@ use crate::facts::equal;
 use monitor_messages::Message;
 use std::alloc::{AllocError, Global};
 use std::process::Abort;
-use test_words::{ARP, Ask, TAKEN, Told};
+use test_words::{ARP, Ask, TAKEN, EventWords};
 use world_core::{Channel, Lines, Messages, WorldOver};
 
 /// A channel that makes no piece while one that it made isn't put.
@@ -63,7 +63,7 @@ fn taken<C: Channel>(
     ask: Ask,
 ) -> usize {
     let told = outcome(rt, alloc, world, Asked::Start(ask));
-    equal(rt, told, Ok(Told::Prepared(number)));
+    equal(rt, told, Ok(EventWords::Prepared(number)));
     settled(rt, alloc, world).len()
 }
 
@@ -79,7 +79,7 @@ fn sends_all<C: Channel>(rt: &impl Abort, alloc: Global) {
     );
     // What core 0 refuses at once is sent to nobody, and no message is left of it.
     let refused = outcome(rt, alloc, &mut world, Asked::Start(Ask::Create(1, 7)));
-    equal(rt, refused, Ok(Told::Decided(TAKEN)));
+    equal(rt, refused, Ok(EventWords::Decided(TAKEN)));
     equal(rt, taken(rt, alloc, &mut world, 3, Ask::Create(1, 8)), 28);
     drop(world);
 }

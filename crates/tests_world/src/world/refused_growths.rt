@@ -7,7 +7,7 @@ use crate::facts::{equal, holds};
 use monitor_messages::Vote;
 use std::alloc::Global;
 use std::process::Abort;
-use test_words::{ARP, Ask, CAP, FILTER, REQUEST, TAKEN, Told, no_memory};
+use test_words::{ARP, Ask, CAP, FILTER, REQUEST, TAKEN, EventWords, no_memory};
 use world_core::{Channel, Lines, Messages, WorldFault, WorldOver};
 
 /// The events tell this, one after the other.
@@ -15,7 +15,7 @@ fn tell<C: Channel>(
     rt: &impl Abort,
     alloc: Global,
     world: &mut WorldOver<C>,
-    events: &[(Asked, Told)],
+    events: &[(Asked, EventWords)],
 ) {
     for (asked, wanted) in events {
         equal(rt, outcome(rt, alloc, world, *asked), Ok(*wanted));
@@ -56,17 +56,17 @@ fn two_phase<C: Channel>(rt: &impl Abort, alloc: Global) {
         &[
             (
                 Asked::Take(0, 1),
-                Told::TookVote(txn, Vote::Yes, Some(FILTER)),
+                EventWords::TookVote(txn, Vote::Yes, Some(FILTER)),
             ),
-            (Asked::Rx(1, &REQUEST, 0), Told::Delivered(1, 0, 0, 0)),
-            (Asked::Rx(0, &REQUEST, 0), Told::Delivered(2, 1, 7, 14)),
-            (Asked::Take(1, 0), Told::TookCommit(txn, 2)),
-            (Asked::Rx(1, &REQUEST, 0), Told::Delivered(2, 1, 7, 14)),
+            (Asked::Rx(1, &REQUEST, 0), EventWords::Delivered(1, 0, 0, 0)),
+            (Asked::Rx(0, &REQUEST, 0), EventWords::Delivered(2, 1, 7, 14)),
+            (Asked::Take(1, 0), EventWords::TookCommit(txn, 2)),
+            (Asked::Rx(1, &REQUEST, 0), EventWords::Delivered(2, 1, 7, 14)),
         ],
     );
     let late = Asked::Rx(1, &REQUEST, 3);
     fails(rt, alloc, &mut world, late, WorldFault::NotReady);
-    settles(rt, alloc, &mut world, &[(0, 1, Told::TookAck(txn))]);
+    settles(rt, alloc, &mut world, &[(0, 1, EventWords::TookAck(txn))]);
     are_equal(rt, &world);
     drop(world);
 }
@@ -74,7 +74,7 @@ fn two_phase<C: Channel>(rt: &impl Abort, alloc: Global) {
 /// The number under which core 1 is asked.
 fn asks<C: Channel>(rt: &impl Abort, alloc: Global, world: &mut WorldOver<C>, ask: Ask) -> u64 {
     match outcome(rt, alloc, world, Asked::Start(ask)) {
-        Ok(Told::Prepared(txn)) => txn,
+        Ok(EventWords::Prepared(txn)) => txn,
         _ => panic!(rt; "core 1 is asked"),
     }
 }
@@ -88,18 +88,18 @@ fn is_created<C: Channel>(rt: &impl Abort, alloc: Global, world: &mut WorldOver<
         .replica(0)
         .is_some_and(|replica| replica.version() == 1);
     let (vote, decision, end) = if is_committed {
-        (Vote::Yes, CAP, Told::TookCommit(txn, 1))
+        (Vote::Yes, CAP, EventWords::TookCommit(txn, 1))
     } else {
-        (Vote::NoMemory, no_memory(1), Told::TookAbort(txn, 0))
+        (Vote::NoMemory, no_memory(1), EventWords::TookAbort(txn, 0))
     };
     are_told(
         rt,
         &done,
         &[
-            (1, 0, Told::TookPrepare(txn, vote)),
-            (0, 1, Told::TookVote(txn, vote, Some(decision))),
+            (1, 0, EventWords::TookPrepare(txn, vote)),
+            (0, 1, EventWords::TookVote(txn, vote, Some(decision))),
             (1, 0, end),
-            (0, 1, Told::TookAck(txn)),
+            (0, 1, EventWords::TookAck(txn)),
         ],
     );
     is_committed
@@ -120,10 +120,10 @@ fn installs<C: Channel>(rt: &impl Abort, alloc: Global, world: &mut WorldOver<C>
             (
                 0,
                 1,
-                Told::TookVote(txn, Vote::NoMemory, Some(no_memory(1))),
+                EventWords::TookVote(txn, Vote::NoMemory, Some(no_memory(1))),
             ),
-            (1, 0, Told::TookAbort(txn, 1)),
-            (0, 1, Told::TookAck(txn)),
+            (1, 0, EventWords::TookAbort(txn, 1)),
+            (0, 1, EventWords::TookAck(txn)),
         ],
     );
     are_equal(rt, world);
@@ -138,10 +138,10 @@ fn votes_yes<C: Channel>(
     txn: u64,
 ) -> bool {
     let told = outcome(rt, alloc, world, Asked::Take(1, 0));
-    if told == Ok(Told::TookPrepare(txn, Vote::Yes)) {
+    if told == Ok(EventWords::TookPrepare(txn, Vote::Yes)) {
         return true;
     }
-    equal(rt, told, Ok(Told::TookPrepare(txn, Vote::NoMemory)));
+    equal(rt, told, Ok(EventWords::TookPrepare(txn, Vote::NoMemory)));
     false
 }
 
@@ -165,17 +165,17 @@ fn home<C: Channel>(rt: &impl Abort, alloc: Global) {
         alloc,
         &mut world,
         &[
-            (Asked::Take(0, 1), Told::TookVote(txn, Vote::Yes, Some(CAP))),
-            (Asked::Take(1, 0), Told::TookCommit(txn, 1)),
-            (Asked::Take(0, 1), Told::TookAck(txn)),
-            (Asked::Take(1, 0), Told::TookReply(CAP)),
-            (Asked::Submit(1, 7), Told::Submitted),
+            (Asked::Take(0, 1), EventWords::TookVote(txn, Vote::Yes, Some(CAP))),
+            (Asked::Take(1, 0), EventWords::TookCommit(txn, 1)),
+            (Asked::Take(0, 1), EventWords::TookAck(txn)),
+            (Asked::Take(1, 0), EventWords::TookReply(CAP)),
+            (Asked::Submit(1, 7), EventWords::Submitted),
         ],
     );
-    settles(rt, alloc, &mut world, &[(0, 1, Told::TookSubmit)]);
-    let taken = Told::Decided(TAKEN);
+    settles(rt, alloc, &mut world, &[(0, 1, EventWords::TookSubmit)]);
+    let taken = EventWords::Decided(TAKEN);
     tell(rt, alloc, &mut world, &[(Asked::StartFor(1), taken)]);
-    settles(rt, alloc, &mut world, &[(1, 0, Told::TookReply(TAKEN))]);
+    settles(rt, alloc, &mut world, &[(1, 0, EventWords::TookReply(TAKEN))]);
     are_equal(rt, &world);
     drop(world);
 }
@@ -187,22 +187,22 @@ fn creates_for<C: Channel>(
     world: &mut WorldOver<C>,
 ) -> Option<u64> {
     let submit = Asked::Submit(1, 7);
-    tell(rt, alloc, world, &[(submit, Told::Submitted)]);
+    tell(rt, alloc, world, &[(submit, EventWords::Submitted)]);
     fails(rt, alloc, world, submit, WorldFault::Outstanding);
-    tell(rt, alloc, world, &[(Asked::Take(0, 1), Told::TookSubmit)]);
+    tell(rt, alloc, world, &[(Asked::Take(0, 1), EventWords::TookSubmit)]);
     holds(rt, world.waiting(1).is_some());
     let begun = outcome(rt, alloc, world, Asked::StartFor(1));
     holds(rt, world.waiting(1).is_none());
     match begun {
-        Ok(Told::Prepared(txn)) => {
+        Ok(EventWords::Prepared(txn)) => {
             if votes_yes(rt, alloc, world, txn) {
                 return Some(txn);
             }
             given_up(rt, alloc, world, txn);
         }
         _ => {
-            equal(rt, begun, Ok(Told::Decided(no_memory(0))));
-            settles(rt, alloc, world, &[(1, 0, Told::TookReply(no_memory(0)))]);
+            equal(rt, begun, Ok(EventWords::Decided(no_memory(0))));
+            settles(rt, alloc, world, &[(1, 0, EventWords::TookReply(no_memory(0)))]);
         }
     }
     are_equal(rt, world);
@@ -217,10 +217,10 @@ fn given_up<C: Channel>(rt: &impl Abort, alloc: Global, world: &mut WorldOver<C>
         alloc,
         world,
         &[
-            (0, 1, Told::TookVote(txn, Vote::NoMemory, Some(none))),
-            (1, 0, Told::TookAbort(txn, 0)),
-            (0, 1, Told::TookAck(txn)),
-            (1, 0, Told::TookReply(none)),
+            (0, 1, EventWords::TookVote(txn, Vote::NoMemory, Some(none))),
+            (1, 0, EventWords::TookAbort(txn, 0)),
+            (0, 1, EventWords::TookAck(txn)),
+            (1, 0, EventWords::TookReply(none)),
         ],
     );
 }

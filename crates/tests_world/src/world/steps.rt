@@ -10,7 +10,7 @@ use seq::Shared;
 use std::alloc::{AllocError, Global};
 use std::process::Abort;
 use table_replica::Op;
-use test_words::{Ask, Told, no_memory, op, tells};
+use test_words::{Ask, EventWords, no_memory, op, tells};
 use world_core::{Channel, Done, Event, WorldFault, WorldOver};
 
 /// An event.
@@ -30,13 +30,13 @@ pub(crate) enum Asked {
 }
 
 /// A take of a message: the core that takes it, the core that it is from, and what is told.
-pub(crate) type Taken = (u16, u16, Told);
+pub(crate) type Taken = (u16, u16, EventWords);
 
 /// What is done with a machine, or seen of it.
 #[derive(Clone, Copy)]
 pub(crate) enum Step {
     /// The event tells this.
-    Does(Asked, Told),
+    Does(Asked, EventWords),
     /// The event isn't done, for this fault.
     Fails(Asked, WorldFault),
     /// Settling does these takes.
@@ -108,7 +108,7 @@ pub(crate) fn event(rt: &impl Abort, alloc: Global, asked: Asked) -> Event
     }
 }
 
-fn outcome_once<C: Channel>(world: &mut WorldOver<C>, event: &Event) -> Result<Told, WorldFault>
+fn outcome_once<C: Channel>(world: &mut WorldOver<C>, event: &Event) -> Result<EventWords, WorldFault>
     requires { IsShortEvent event.now }
 {
     let answer = world.apply(event)?;
@@ -122,11 +122,11 @@ pub(crate) fn outcome<C: Channel>(
     alloc: Global,
     world: &mut WorldOver<C>,
     asked: Asked,
-) -> Result<Told, WorldFault> {
+) -> Result<EventWords, WorldFault> {
     let event = event(rt, alloc, asked);
     let before = sights(world);
     let first = outcome_once(world, &event);
-    let own = matches!(asked, Asked::Start(_)) && first == Ok(Told::Decided(no_memory(0)));
+    let own = matches!(asked, Asked::Start(_)) && first == Ok(EventWords::Decided(no_memory(0)));
     if first == Err(WorldFault::NoMemory) || own {
         equal(rt, sights(world), before);
         return outcome_once(world, &event);

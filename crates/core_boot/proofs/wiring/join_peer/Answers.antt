@@ -1,4 +1,4 @@
-use Rattle.std.proofs.Common.{rules}
+use Rattle.std.proofs.Common.{false, rules}
 use Rattle.core_boot.proofs.Wires.{silent_link, silent_alone, alone, holding}
 use Rattle.core_boot.proofs.wiring.join_peer.Goals as goal
 
@@ -8,9 +8,9 @@ returns-clause-silent c =
     let down = c.in_ok-to_peer in
     let first = c.join.new.self in
     let links = c.join-2.new.self in (
-      silent_link first c.args.peer (record { sender = down.to_peer; receiver = up.from_peer }) c.join.ensures.joined down.ensures.sender.0 up.ensures.receiver.0,
+      silent_link first c.args.peer (record { sender = down.to_peer; receiver = up.from_peer; moved = false }) c.join.ensures.joined down.ensures.sender.0 up.ensures.receiver.0,
       silent_alone c.in_ok-links.links links 0 c.in_ok-links.ensures.empty c.join-2.ensures.others
-          (silent_link links 0 (record { sender = up.to_first; receiver = down.from_first }) c.join-2.ensures.joined up.ensures.sender.0 down.ensures.receiver.0),
+          (silent_link links 0 (record { sender = up.to_first; receiver = down.from_first; moved = false }) c.join-2.ensures.joined up.ensures.sender.0 down.ensures.receiver.0),
     )
 
 pub returns-clause-no_other : goal.returns-clause-no_other
@@ -22,5 +22,5 @@ returns-clause-holds c =
     let down = c.in_ok-to_peer in
     let first = c.join.new.self in
     let links = c.join-2.new.self in
-    holding first links (record { sender = down.to_peer; receiver = up.from_peer }) (record { sender = up.to_first; receiver = down.from_first })
+    holding first links (record { sender = down.to_peer; receiver = up.from_peer; moved = false }) (record { sender = up.to_first; receiver = down.from_first; moved = false })
     (search rules) (search rules) down.ensures.capacity.0 up.ensures.capacity.0

@@ -31,6 +31,7 @@ loop-entry-preserved g c = elim c.match-pop.branch [
             let b = i.4 stamp m coded in
             let q = All-pop (IsPiece stamp m) c.loop-entry.pieces.items c.pop.new.self.items (Some w.in-Some.piece) e b.0 in
             (q.0, rw w.links-is (hands_below_next stamp m (view c.args.links.now) (view c.loop-entry.links) (view w.hand.new.links) c.loop-entry.entry (c.loop-entry.entry + 1) at b.1 i.3 (w.hand.ensures.there stamp m q.1) w.hand.ensures.elsewhere)),
+        rw w.links-is (λ p. w.hand.ensures.lines p ∙ i.5 p),
       )
   | in-None w ↦ absurd (omega (arith, w.in-None.ensures.cases, c.loop-entry.pieces.ok.0, c.loop-entry.invariant.0, c.loop-entry-test.true))
 ]

@@ -9,3 +9,4 @@ invariant-loop-entry g l =
     (length l.pieces.items + l.entry ≡ l.others) × All CanBeHanded l.pieces.items × g.L.Links.same l.initial.links l.links
     × SameFrom (g.L.Links.view l.initial.links) (g.L.Links.view l.links) l.entry
     × ((stamp : ℕ) (m : Message) → All (IsPiece stamp m) l.initial.pieces.items → All (IsPiece stamp m) l.pieces.items × HandsBelow stamp m (g.L.Links.view l.initial.links) (g.L.Links.view l.links) l.entry)
+    × ((p : ℕ) → g.L.Links.flow l.links p ≡ g.L.Links.flow l.initial.links p)

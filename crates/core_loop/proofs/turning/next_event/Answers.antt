@@ -1,8 +1,8 @@
-use Rattle.std.proofs.Common.{◌≡◌, ◌<◌, ◌++◌, ◌∙◌, inl, ℕ, false, List, Option, None, Some, sym, ap, subst}
+use Rattle.std.proofs.Common.{◌≡◌, ◌<◌, ◌++◌, ◌∙◌, inl, ℕ, true, false, List, Option, None, Some, sym, ap, subst}
 use Rattle.std.specs.Prelude.{IfSome, IfNone}
 use Rattle.core_links.specs.Views.{LinkView}
-use Rattle.core_links.specs.Flows.{Flow, FlowsOn}
-use Rattle.core_loop.proofs.Flowing.{on_along, out_on}
+use Rattle.core_links.specs.Flows.{Flow, FlowsOn, IsLooked, HasMoved}
+use Rattle.core_loop.proofs.Flowing.{on_along, out_on, pumped_still, pumped_moved}
 use Rattle.rx_queue.specs.declared.job.Job.{Job}
 use Rattle.rx_queue.specs.Queue.{jobs_seen, jobs_taken}
 use Rattle.world_histories.proofs.Lists.{prefix_then}
@@ -143,3 +143,25 @@ returns-clause-dry g c =
     let flow = g.L.Links.flow in
     on_idle_both c.first_event.result (λ n e. subst (λ (l : g.row.L.Denot). ((p : ℕ) → p < c.args.context.cores → ShowsNothing (view l p)) → (p : ℕ) → p < c.args.context.cores → (flow l p).known ≡ 0) (sym e.1)
     (dry_of c.args.context.cores (view c.least_showing.new.links) (flow c.least_showing.new.links) c.in-Ok.shown c.in-Ok.ensures.least c.in-Ok.ensures.dry)) c.first_event.ensures.idle_message c.first_event.ensures.same
+
+pub returns-in-Err-clause-still : goal.returns-in-Err-clause-still
+returns-in-Err-clause-still g c = λ p. pumped_still _ _ _ _ (c.pump.ensures.lines p) (c.least_showing.ensures.moved p)
+
+pub returns-in-Err-clause-moved : goal.returns-in-Err-clause-moved
+returns-in-Err-clause-moved g c = λ p. pumped_moved _ _ _ _ (c.pump.ensures.lines p) (c.least_showing.ensures.lines p) (c.least_showing.ensures.moved p)
+
+pub returns-then-not-has_work-clause-still : goal.returns-then-not-has_work-clause-still
+returns-then-not-has_work-clause-still g c = λ p. pumped_still _ _ _ _ (c.pump.ensures.lines p) (c.least_showing.ensures.moved p)
+
+pub returns-then-not-has_work-clause-moved : goal.returns-then-not-has_work-clause-moved
+returns-then-not-has_work-clause-moved g c = λ p. pumped_moved _ _ _ _ (c.pump.ensures.lines p) (c.least_showing.ensures.lines p) (c.least_showing.ensures.moved p)
+
+pub returns-clause-still : goal.returns-clause-still
+returns-clause-still g c = λ p.
+    let flow = g.L.Links.flow in
+    subst (λ (f : Flow). f.moved ≡ false → IsLooked (flow c.args.links.now p) f) (sym (c.first_event.ensures.lines p)) (pumped_still _ _ _ _ (c.pump.ensures.lines p) (c.least_showing.ensures.moved p))
+
+pub returns-clause-moved : goal.returns-clause-moved
+returns-clause-moved g c = λ p.
+    let flow = g.L.Links.flow in
+    subst (λ (f : Flow). f.moved ≡ true → HasMoved (flow c.args.links.now p) f) (sym (c.first_event.ensures.lines p)) (pumped_moved _ _ _ _ (c.pump.ensures.lines p) (c.least_showing.ensures.lines p) (c.least_showing.ensures.moved p))

@@ -26,6 +26,10 @@ returns-clause-turned c =
       no_memory = e.no_memory;
       idle_message = e.idle_message;
       idle = e.idle;
+      still = e.still;
+      moved = e.moved;
+      full = e.full;
+      dry = e.dry;
     } in
     let answer : c.match-turn.result ≡ turn_answer turn = elim c.match-turn.branch [
       | in-Did w ↦ w.result-is ∙ sym (ap turn_answer w.in-Did.is)
@@ -41,4 +45,6 @@ returns-clause-turned c =
       | in-Spent w ↦ w.turned-is ∙ sym (ap (turn_report number) w.in-Spent.is)
       | in-NoMemory w ↦ w.turned-is ∙ sym (ap (turn_report number) w.in-NoMemory.is)
     ] in
-    subst (λ (n : ℕ). HasTurned n c.match-turn.turned old new) (sym answer) (subst (λ (t : Turned). HasTurned (turn_answer turn) t old new) (sym report) (has_turned old new number c.decided-number.ensures turn says))
+    let woken = c.woken.result in let more = c.more_after.result in
+    subst (λ (n : ℕ). HasTurned n (record c.match-turn.turned { woken = woken; more = more }) old new) (sym answer) (subst (λ (t : Turned). HasTurned (turn_answer turn) (record t { woken = woken; more = more }) old new) (sym report)
+    (has_turned old new number woken more c.decided-number.ensures turn says c.woken.ensures (rw answer at c.more_after.ensures)))

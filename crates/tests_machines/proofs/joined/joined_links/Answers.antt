@@ -1,4 +1,4 @@
-use Rattle.std.proofs.Common.{suc, ◌∙◌, arith, rules}
+use Rattle.std.proofs.Common.{false, suc, ◌∙◌, arith, rules}
 use Rattle.core_boot.proofs.Wires.{holding}
 use Rattle.core_loop.proofs.Silent.{silent_empty, silent_more}
 use Rattle.tests_machines.proofs.joined.joined_links.Goals as goal
@@ -17,5 +17,5 @@ returns-clause-alone c = (
 
 pub returns-clause-holds : goal.returns-clause-holds
 returns-clause-holds c =
-    holding c.join.new.self c.join-2.new.self (record { sender = c.in_ok-to_second.to_second; receiver = c.in_ok-to_first.from_second }) (record { sender = c.in_ok-to_first.to_first; receiver = c.in_ok-to_second.from_first })
+    holding c.join.new.self c.join-2.new.self (record { sender = c.in_ok-to_second.to_second; receiver = c.in_ok-to_first.from_second; moved = false }) (record { sender = c.in_ok-to_first.to_first; receiver = c.in_ok-to_second.from_first; moved = false })
     (search rules) (search rules) c.in_ok-to_second.ensures.capacity.0 c.in_ok-to_first.ensures.capacity.0

@@ -2,7 +2,6 @@ use Rattle.std.proofs.Common.{◌≡◌, ◌≢◌, ℕ, List, [], ◌∷◌, Op
 use mathlib.Core.List.{IsPrefix}
 use Rattle.ump_ring.specs.declared.fault.LineFault.{LineFault}
 use Rattle.ump_ring.specs.Joiners.{shown_list}
-use Rattle.core_links.proofs.Flowing.{prefix_longer, dry_at}
 use Rattle.core_links.proofs.ring_links.Link.pull.Goals as goal
 
 kept_prefix : (x y : Option (List ℕ)) → (x ≢ None → y ≡ x) → IsPrefix (shown_list x) (shown_list y)
@@ -20,19 +19,10 @@ returns-clause-pulled c = record {
     sent = refl;
     ready = λ e. e;
     told = refl;
-    stays = c.pull.ensures.stays;
-    kept = kept_prefix _ _ c.pull.ensures.kept;
+    stays = c.pull-pulled.ensures.stays;
+    kept = kept_prefix _ _ c.pull-pulled.ensures.kept;
     all = λ e. absurd (cc);
   };
-  taken = c.pull.ensures.taken;
-  answer = answered _ c.pull.result _ c.pull.ensures.ok c.pull.ensures.err;
-}
-
-pub returns-clause-lines : goal.returns-clause-lines
-returns-clause-lines c = record {
-  out = refl;
-  room = refl;
-  come = prefix_longer _ _ c.pull.ensures.lines;
-  known = c.pull.ensures.known;
-  dry = dry_at c.pull.result _ _ c.pull.ensures.spent;
+  taken = c.pull-pulled.ensures.taken;
+  answer = answered _ c.pull-pulled.result _ c.pull-pulled.ensures.ok c.pull-pulled.ensures.err;
 }

@@ -1,6 +1,6 @@
-use Rattle.std.proofs.Common.{◌≡◌, ◌∙◌, ◌++◌, ◌-◌, ◌^◌, ℕ, List, length, min, refl, sym, ap, subst}
+use Rattle.std.proofs.Common.{◌≡◌, ◌∙◌, ◌++◌, ◌-◌, ◌^◌, ℕ, true, false, List, length, min, refl, sym, ap, subst}
 use Rattle.filter_table.specs.declared.operation.Op.{Op}
-use Rattle.core_links.specs.Flows.{FlowsOn}
+use Rattle.core_links.specs.Flows.{FlowsOn, IsLooked, HasMoved}
 use Rattle.world_histories.specs.declared.history.Stamped.{Stamped}
 use Rattle.core_loop.specs.declared.part.Part.{Part}
 use Rattle.core_loop.specs.Keeping.{IsStanding, replica_of}
@@ -230,3 +230,43 @@ returns-in-Ok-None-clause-full g c = λ _. rw c.in-Ok-None.field-0-is at c.in-Ok
 
 pub returns-in-Ok-None-clause-dry : goal.returns-in-Ok-None-clause-dry
 returns-in-Ok-None-clause-dry g c = λ _. rw c.in-Ok-None.field-0-is at c.in-Ok-None.ensures.dry
+
+pub returns-in-Ok-None-clause-still : goal.returns-in-Ok-None-clause-still
+returns-in-Ok-None-clause-still g c =
+    subst (λ (l : g.row.L.Denot). (p : ℕ) → (g.L.Links.flow c.next_event.new.links p).moved ≡ false → IsLooked (g.L.Links.flow l p) (g.L.Links.flow c.next_event.new.links p)) (ap (λ (x : CoreState g.row.L.Denot). x.links) c.self.view_is) c.next_event.ensures.still
+
+pub returns-in-Ok-None-clause-moved : goal.returns-in-Ok-None-clause-moved
+returns-in-Ok-None-clause-moved g c = λ _.
+    subst (λ (l : g.row.L.Denot). (p : ℕ) → (g.L.Links.flow c.next_event.new.links p).moved ≡ true → HasMoved (g.L.Links.flow l p) (g.L.Links.flow c.next_event.new.links p)) (ap (λ (x : CoreState g.row.L.Denot). x.links) c.self.view_is) c.next_event.ensures.moved
+
+pub returns-in-Ok-Some-clause-still : goal.returns-in-Ok-Some-clause-still
+returns-in-Ok-Some-clause-still g c =
+    subst (λ (l : g.row.L.Denot). (p : ℕ) → (g.L.Links.flow c.next_event.new.links p).moved ≡ false → IsLooked (g.L.Links.flow l p) (g.L.Links.flow c.next_event.new.links p)) (ap (λ (x : CoreState g.row.L.Denot). x.links) c.self.view_is) c.next_event.ensures.still
+
+pub returns-in-Ok-Some-clause-moved : goal.returns-in-Ok-Some-clause-moved
+returns-in-Ok-Some-clause-moved g c = λ _.
+    subst (λ (l : g.row.L.Denot). (p : ℕ) → (g.L.Links.flow c.next_event.new.links p).moved ≡ true → HasMoved (g.L.Links.flow l p) (g.L.Links.flow c.next_event.new.links p)) (ap (λ (x : CoreState g.row.L.Denot). x.links) c.self.view_is) c.next_event.ensures.moved
+
+pub returns-in-Err-Spent-clause-still : goal.returns-in-Err-Spent-clause-still
+returns-in-Err-Spent-clause-still g c =
+    subst (λ (l : g.row.L.Denot). (p : ℕ) → (g.L.Links.flow c.next_event.new.links p).moved ≡ false → IsLooked (g.L.Links.flow l p) (g.L.Links.flow c.next_event.new.links p)) (ap (λ (x : CoreState g.row.L.Denot). x.links) c.self.view_is) c.next_event.ensures.still
+
+pub returns-in-Err-Spent-clause-moved : goal.returns-in-Err-Spent-clause-moved
+returns-in-Err-Spent-clause-moved g c = λ _.
+    subst (λ (l : g.row.L.Denot). (p : ℕ) → (g.L.Links.flow c.next_event.new.links p).moved ≡ true → HasMoved (g.L.Links.flow l p) (g.L.Links.flow c.next_event.new.links p)) (ap (λ (x : CoreState g.row.L.Denot). x.links) c.self.view_is) c.next_event.ensures.moved
+
+pub returns-in-Err-NoMemory-clause-still : goal.returns-in-Err-NoMemory-clause-still
+returns-in-Err-NoMemory-clause-still g c =
+    subst (λ (l : g.row.L.Denot). (p : ℕ) → (g.L.Links.flow c.next_event.new.links p).moved ≡ false → IsLooked (g.L.Links.flow l p) (g.L.Links.flow c.next_event.new.links p)) (ap (λ (x : CoreState g.row.L.Denot). x.links) c.self.view_is) c.next_event.ensures.still
+
+pub returns-in-Err-NoMemory-clause-moved : goal.returns-in-Err-NoMemory-clause-moved
+returns-in-Err-NoMemory-clause-moved g c = λ _.
+    subst (λ (l : g.row.L.Denot). (p : ℕ) → (g.L.Links.flow c.next_event.new.links p).moved ≡ true → HasMoved (g.L.Links.flow l p) (g.L.Links.flow c.next_event.new.links p)) (ap (λ (x : CoreState g.row.L.Denot). x.links) c.self.view_is) c.next_event.ensures.moved
+
+pub returns-in-Err-Stopped-clause-still : goal.returns-in-Err-Stopped-clause-still
+returns-in-Err-Stopped-clause-still g c =
+    subst (λ (l : g.row.L.Denot). (p : ℕ) → (g.L.Links.flow c.next_event.new.links p).moved ≡ false → IsLooked (g.L.Links.flow l p) (g.L.Links.flow c.next_event.new.links p)) (ap (λ (x : CoreState g.row.L.Denot). x.links) c.self.view_is) c.next_event.ensures.still
+
+pub returns-in-Err-Stopped-clause-moved : goal.returns-in-Err-Stopped-clause-moved
+returns-in-Err-Stopped-clause-moved g c = λ _.
+    subst (λ (l : g.row.L.Denot). (p : ℕ) → (g.L.Links.flow c.next_event.new.links p).moved ≡ true → HasMoved (g.L.Links.flow l p) (g.L.Links.flow c.next_event.new.links p)) (ap (λ (x : CoreState g.row.L.Denot). x.links) c.self.view_is) c.next_event.ensures.moved

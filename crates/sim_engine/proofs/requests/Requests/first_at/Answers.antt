@@ -1,5 +1,5 @@
 use Rattle.std.proofs.Common.{◌≡◌, ◌⊎◌, ℕ, List, Option, Some, slice_get, subst}
-use Rattle.sim_engine.specs.declared.requests.Request.{Request}
+use Rattle.sim_engine.specs.declared.requests.PendingRequest.{PendingRequest}
 use Rattle.sim_engine.specs.Keeping.{NoneBefore}
 use Rattle.sim_engine.proofs.Places.{kept_from, kept_note, none_above}
 use Rattle.sim_engine.proofs.requests.Requests.first_at.Goals as goal
@@ -10,7 +10,7 @@ next_at-place-requires c = rw c.deref-2.ensures.value (kept_from c.self.inside.p
 
 pub invariant_of-self : goal.invariant_of-self
 invariant_of-self c = kept_note c.self.inside.places.items c.self.inside.first c.self.inside.firsts.items c.note.new.firsts.items c.args.home c.next_at-place.result c.self.invariant
-    (subst (λ (ps : List (Option Request)). NoneBefore ps c.args.home c.next_at-place.result) c.deref-2.ensures.value c.next_at-place.ensures.none) c.note.ensures
+    (subst (λ (ps : List (Option PendingRequest)). NoneBefore ps c.args.home c.next_at-place.result) c.deref-2.ensures.value c.next_at-place.ensures.none) c.note.ensures
 
 pub returns-then-home-ge-CORES-clause-found : goal.returns-then-home-ge-CORES-clause-found
 returns-then-home-ge-CORES-clause-found c = rw (← c.self.view_is) (none_above c.self.inside.places.items c.self.inside.first c.self.inside.firsts.items c.args.home c.self.invariant c.if-home-ge-CORES.true)

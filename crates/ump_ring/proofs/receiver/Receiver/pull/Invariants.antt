@@ -1,4 +1,4 @@
-use Rattle.std.proofs.Common.{◌≡◌, ◌≤◌, ◌<◌, ◌*◌, ◌+◌, length, None, false}
+use Rattle.std.proofs.Common.{◌≡◌, ◌≤◌, ◌<◌, ◌*◌, ◌+◌, length, None, true, false}
 use mathlib.Core.List.{IsPrefix}
 use Rattle.ump_ring.specs.Receivers.{lines_received, lines_known, messages_taken, stopped, SameReceiver}
 use Rattle.ump_ring.proofs.receiver.Receiver.pull.Given as goal
@@ -13,4 +13,6 @@ invariant-loop l = record {
   none_kept : l.self.kept ≡ false;
   many : 1 ≤ l.counter → (56 * l.counter ≤ length l.self.joiner.bytes.items) × (length l.self.joiner.bytes.items < l.self.joiner.size);
   none_before : l.initial.self.kept ≡ false;
+  still : l.self.moved ≡ false → lines_received l.self ≡ lines_received l.initial.self;
+  moved : l.self.moved ≡ true → length (lines_received l.initial.self) < length (lines_received l.self);
 }
