@@ -2,13 +2,13 @@
 use Rattle.std.proofs.Common.{◌≡◌, ◌+◌, ◌==◌, ◌⊎◌, ◌||◌, inl, inr, ℕ, Bool, true, false, Option, None, Some, is_none, List, [], ◌∷◌, map, filter, not, take, slice_get, Contains, refl, ap, ◌∙◌, subst, arith}
 use Rattle.std.proofs.lemmas.Bool.Decides.{nat_tests}
 use Rattle.std.proofs.lemmas.List.Elements.{Contains-push_cases}
-use Rattle.bpf_insn.specs.declared.insn.Insn.{Insn}
 use Rattle.endpoint_caps.specs.declared.Cap.{Cap}
 use Rattle.endpoint_caps.specs.Capabilities.{CapTable, cap_at, is_under, revoked, dropped}
 use Rattle.endpoint_caps.proofs.Keeping.{at-filter}
 use Rattle.filter_table.specs.Listed.{ListedFilter}
 use Rattle.filter_table.proofs.Lists.{never, in_head, in_tail, first_or_later, take_at, was_mapped, eq_true}
 use Rattle.table_replica.specs.declared.filters.Row.{Row}
+use Rattle.table_replica.specs.declared.programs.KeptPrograms.{KeptPrograms}
 use Rattle.table_replica.specs.Keeping.{listed_row, AreFewer, AreHeldAlike}
 
 -- a capability of the list is found by its id
@@ -68,7 +68,7 @@ fewer_dropped table cap = fewer_by (λ id. not ((id == cap) || is_under table.he
 
 -- Rows under none of what is lost
 
-pub held_alike : (old new : CapTable) (lost : List ℕ) (programs : List (List Insn)) (rows : List Row) → AreFewer old.held new.held
+pub held_alike : (old new : CapTable) (lost : List ℕ) (programs : KeptPrograms) (rows : List Row) → AreFewer old.held new.held
     → ((id : ℕ) → is_none (cap_at old.held id) ≡ false → (is_none (cap_at new.held id) ≡ false) ⊎ Contains lost id) → ((row : Row) → Contains rows row → Contains lost row.cap → ⊥)
     → AreHeldAlike old new (map (listed_row programs) rows)
 held_alike old new lost programs rows fewer known none f among =

@@ -2,10 +2,11 @@ pub mod Refusals
 pub mod Shared
 pub mod Trimming
 pub mod Chained
-pub mod Moves
+pub mod Filing
 pub mod Places
 pub mod Ordered
 pub mod Receivers
 pub mod Reaching
 pub mod Gone
 pub mod Soundness
+pub mod Marking

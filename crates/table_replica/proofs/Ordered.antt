@@ -11,7 +11,6 @@ use Rattle.std.proofs.lemmas.List.Filters.{All-dedup}
 use Rattle.table_replica.specs.declared.reaches.Reach.{Reach}
 use Rattle.table_replica.specs.contracts.reaches.ReachPartialEq.TheImpl.{eq-value}
 use Rattle.table_replica.specs.contracts.reaches.ReachOrd.TheImpl.{cmp-value}
-use Rattle.table_replica.specs.Keeping.{lowered_reach}
 use Rattle.filter_table.proofs.Lists.{never, first_or_later, three}
 
 -- Equal reaches
@@ -65,10 +64,14 @@ pub dedup_ordered : (rs : List Reach) → AreOrdered rs → AreOrdered (dedup eq
 dedup_ordered [] h = h
 dedup_ordered (r ∷ rs) h = dedup_from_ordered r rs h
 
-pub lowered_ordered : (taken last : ℕ) (rs : List Reach) → AreOrdered rs → AreOrdered (map (lowered_reach taken last) rs)
-lowered_ordered taken last [] h = h
-lowered_ordered taken last (r ∷ rs) h = ordered (lowered_reach taken last r) (map (lowered_reach taken last) rs)
-    (All-map (λ (s : Reach). r.endpoint ≤ s.endpoint) (lowered_reach taken last) rs (head_first r rs h)) (lowered_ordered taken last rs (tail_ordered r rs h))
+-- a reach whose program gets another place
+abbrev pub moved_reach : (ℕ → ℕ) → Reach → Reach
+moved_reach h reach = record reach { program = h reach.program }
+
+pub moved_ordered : (h : ℕ → ℕ) (rs : List Reach) → AreOrdered rs → AreOrdered (map (moved_reach h) rs)
+moved_ordered h [] o = o
+moved_ordered h (r ∷ rs) o = ordered (moved_reach h r) (map (moved_reach h) rs)
+    (All-map (λ (s : Reach). r.endpoint ≤ s.endpoint) (moved_reach h) rs (head_first r rs o)) (moved_ordered h rs (tail_ordered r rs o))
 
 -- a sort by endpoint, and then by program
 pub not_before : (a b : Reach) → is_lt (cmp-value.it b a) ≡ false → a.endpoint ≤ b.endpoint

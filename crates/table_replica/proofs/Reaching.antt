@@ -2,22 +2,22 @@
 use Rattle.std.proofs.Common.{◌≡◌, ◌<◌, ◌≤◌, ◌+◌, ◌==◌, ◌⊎◌, ◌↔◌, inl, inr, ℕ, Bool, true, false, not, Option, None, Some, is_none, is_some, Bor, List, [], ◌∷◌, ◌++◌, map, filter, length, take, insert, slice_get, get_or, Contains, refl, ap, sym, ◌∙◌, subst, arith}
 use Rattle.std.specs.Bool.{Decides}
 use Rattle.std.specs.Option.{option_copied}
-use Rattle.std.specs.List.{All, list_any}
+use Rattle.std.specs.List.{list_any}
 use Rattle.std.specs.List.Retain.{IsFiltered, DiffersFromLast}
 use Rattle.std.specs.List.Sorted.{IsPermutation, IsSorted}
-use Rattle.std.proofs.lemmas.List.Elements.{Contains-append_left, Contains-push, Contains-push_cases, Contains-get_or}
+use Rattle.std.proofs.lemmas.List.Elements.{Contains-append_left, Contains-push, Contains-push_cases}
 use Rattle.std.proofs.lemmas.List.Filters.{dedup_is}
 use Rattle.std.proofs.lemmas.List.Kept.{IsNonDecreasingBy-filter, Contains-dedup, Contains-from_dedup}
 use Rattle.std.proofs.lemmas.List.Sorted.{IsNonDecreasingBy-insert, IsNonDecreasingBy-from_all_adjacent, Contains-permutation, IsPermutation-insert, IsPermutation-sym, IsPermutation-filter_both}
-use Rattle.bpf_insn.specs.declared.insn.Insn.{Insn}
 use Rattle.endpoint_caps.specs.declared.Cap.{Cap}
 use Rattle.endpoint_caps.specs.Capabilities.{CapTable, cap_at}
 use Rattle.table_replica.specs.declared.filters.Row.{Row}
+use Rattle.table_replica.specs.declared.programs.KeptPrograms.{KeptPrograms}
 use Rattle.table_replica.specs.declared.reaches.Reach.{Reach}
 use Rattle.table_replica.specs.contracts.reaches.ReachPartialEq.TheImpl.{eq-value}
 use Rattle.table_replica.specs.contracts.reaches.ReachOrd.TheImpl.{cmp-value}
-use Rattle.table_replica.specs.Keeping.{listed_row, ArePlaced, reach_of, placed_row, IsLive, AreReaches, AreLost, AreHeldAlike}
-use Rattle.filter_table.proofs.Lists.{never, in_head, in_tail, first_or_later, in_map, was_mapped, in_filter, from_filter, take_at, get_some}
+use Rattle.table_replica.specs.Keeping.{listed_row, reach_of, placed_row, IsLive, AreReaches, AreLost, AreHeldAlike, HeldRun}
+use Rattle.filter_table.proofs.Lists.{never, in_head, in_tail, first_or_later, in_map, was_mapped, in_filter, from_filter, take_at}
 use Rattle.table_replica.proofs.Ordered.{reach_decides, reach_equivalence, dedup_ordered, not_before}
 
 pub any_is : (lost : List Reach) (r : Reach) → Decides (list_any (λ other. eq-value.it other r) lost) (Contains lost r)
@@ -47,7 +47,7 @@ not_held (Some b) x e t = absurd cc
 -- Rows that come and go
 
 -- capabilities that are held alike have the same reaches
-pub reaches_held : (old new : CapTable) (programs : List (List Insn)) (rows : List Row) (reaches : List Reach) → AreHeldAlike old new (map (listed_row programs) rows)
+pub reaches_held : (old new : CapTable) (programs : KeptPrograms) (rows : List Row) (reaches : List Reach) → AreHeldAlike old new (map (listed_row programs) rows)
     → AreReaches old.held rows reaches → AreReaches new.held rows reaches
 reaches_held old new programs rows reaches same h = record { ordered = h.ordered; each = λ r. (λ at. to r ((h.each r).0 at), λ live. (h.each r).1 (back r live)) }
   where
@@ -59,6 +59,11 @@ reaches_held old new programs rows reaches same h = record { ordered = h.ordered
 
     back : (r : Reach) → IsLive new.held rows r → IsLive old.held rows r
     back r live = record { row = live.row; listed = live.listed; held = sym (alike_at live.row live.listed) ∙ live.held; is = live.is }
+
+-- and their programs run
+pub rows_held : (old new : CapTable) (programs : KeptPrograms) (rows : List Row) → AreHeldAlike old new (map (listed_row programs) rows) → HeldRun old.held rows → HeldRun new.held rows
+rows_held old new programs rows same run row at held =
+    run row at (sym (ap (λ (o : Option Cap). is_none o) (same (listed_row programs row) (in_map (listed_row programs) rows row at))) ∙ held)
 
 module _ (caps : List Cap) where
   alike : (rows rows' : List Row) → ((row : Row) → Contains rows row → Contains rows' row) → (r : Reach) → IsLive caps rows r → IsLive caps rows' r
@@ -235,12 +240,3 @@ module _ (caps : List Cap) where
       reaches_alike (filter (λ row. not (row.id == id)) rows' ++ filter (λ row. row.id == id) rows') rows' reaches
       (λ row at. Contains-permutation _ rows' row (IsPermutation-sym rows' _ parted) at) (λ row at. Contains-permutation rows' _ row parted at)
       (subst (λ (rs : List Row). AreReaches caps (rs ++ filter (λ row. row.id == id) rows') reaches) (sym stay) h)
-
-  -- Rows that are built again
-
-  pub reaches_placed : (rows : List Row) (reaches : List Reach) (places : ℕ) → ArePlaced rows places → AreReaches caps rows reaches → All (λ (r : Reach). r.program < places) reaches
-  reaches_placed rows reaches places placed h k d lt =
-      let live = (h.each (get_or reaches k d)).0 (Contains-get_or reaches k d lt) in
-      let low = placed live.listed.0 live.row (get_some rows live.listed.0 live.row live.listed.1 ∙ ap (λ (x : Row). Some x) live.listed.2) in
-      let is = ap (λ (r : Reach). r.program) live.is in
-      omega arith

@@ -1,5 +1,5 @@
 -- How the list of receivers grows, filter by filter.
-use Rattle.std.proofs.Common.{◌≡◌, ◌≢◌, ◌<◌, ◌≤◌, ◌+◌, ◌-◌, ◌==◌, ◌⊎◌, ◌↔◌, inl, inr, ℕ, zero, suc, true, false, Some, is_none, List, [], ◌∷◌, ◌++◌, length, take, min, max, refl, ap, sym, ◌∙◌, subst, arith, ltb, Contains, get_or, set, map, slice_get, replicate}
+use Rattle.std.proofs.Common.{◌≡◌, ◌≢◌, ◌<◌, ◌≤◌, ◌+◌, ◌-◌, ◌==◌, ◌⊎◌, ◌↔◌, inl, inr, ℕ, zero, suc, Bool, true, false, Some, is_none, List, [], ◌∷◌, ◌++◌, length, take, min, max, refl, ap, sym, ◌∙◌, subst, arith, ltb, Contains, get_or, set, map, slice_get, replicate}
 use Rattle.std.proofs.lemmas.Bool.Decides.{nat_tests}
 use Rattle.std.proofs.lemmas.List.Elements.{Contains-append_left, Contains-push, Contains-push_cases, Contains-get_or}
 use Rattle.bpf_insn.specs.declared.insn.Insn.{Insn}
@@ -11,8 +11,9 @@ use Rattle.filter_table.specs.declared.delivery.Kept.{Kept}
 use Rattle.filter_table.specs.Tables.{Hands, Gets, AreReceivers, IsIncreasing}
 use Rattle.table_replica.specs.Receiving.{at_endpoint, raised, one_cap, filter_of, ReceiversSoFar, IsVerdict, VerdictAt, AreVerdicts, AreVerdictsSoFar, AreReached}
 use Rattle.table_replica.specs.declared.filters.Row.{Row}
+use Rattle.table_replica.specs.declared.programs.KeptPrograms.{KeptPrograms}
 use Rattle.table_replica.specs.declared.reaches.Reach.{Reach}
-use Rattle.table_replica.specs.Keeping.{listed_row, or_nothing, reach_of, AreReaches}
+use Rattle.table_replica.specs.Keeping.{listed_row, or_nothing, reach_of, AreFiled, list_of}
 use Rattle.filter_table.proofs.Lists.{never, in_head, in_tail, first_or_later, was_mapped, in_map, three, take_at, map-append'}
 use Rattle.table_replica.proofs.Shared.{get_at}
 use Rattle.table_replica.proofs.Ordered.{below_last}
@@ -506,40 +507,46 @@ module _ (programs : List (List Insn)) (packet : Packet) where
       omega arith
 
 -- what they hand on, the filters do
-module _ (caps : List Cap) (programs : List (List Insn)) (rows : List Row) (reaches : List Reach) (packet : Packet) (are : AreReaches caps rows reaches) where
-  by_filters : (e v : ℕ) → Hands one_cap (map (filter_of programs) reaches) packet e v → Hands caps (map (listed_row programs) rows) packet e v
+module _ (caps : List Cap) (programs : KeptPrograms) (rows : List Row) (reaches : List Reach) (packet : Packet) (filed : AreFiled caps rows programs reaches) where
+  by_filters : (e v : ℕ) → Hands one_cap (map (filter_of programs.running) reaches) packet e v → Hands caps (map (listed_row programs) rows) packet e v
   by_filters e v h =
-      let r = was_mapped (filter_of programs) reaches h.accepted_by h.listed in
-      let live = (are.each r.0).0 r.1 in
+      let r = was_mapped (filter_of programs.running) reaches h.accepted_by h.listed in
+      let live = (filed.reached.each r.0).0 r.1 in
+      let runs = filed.held_run live.row live.listed live.held in
       record {
         accepted_by = listed_row programs live.row;
         listed = in_map (listed_row programs) rows live.row live.listed;
         of_endpoint = ap (λ (x : Reach). x.endpoint) live.is ∙ (ap (λ (f : ListedFilter). f.endpoint) r.2 ∙ h.of_endpoint);
         cap_held = live.held;
         steps = h.steps;
-        ends = subst (λ (p : List Insn). Ends p packet v h.steps) (sym (ap (λ (f : ListedFilter). f.program) r.2) ∙ ap (λ (x : Reach). or_nothing (slice_get programs x.program)) (sym live.is)) h.ends;
+        ends = subst (λ (p : List Insn). Ends p packet v h.steps)
+            (sym (ap (λ (f : ListedFilter). f.program) r.2) ∙ (ap (λ (x : Reach). or_nothing (slice_get programs.running x.program)) (sym live.is)
+            ∙ ap (λ (b : Bool). or_nothing (slice_get (list_of b programs) live.row.program)) (sym runs))) h.ends;
         above_zero = h.above_zero;
       }
 
-  by_reaches : (e v : ℕ) → Hands caps (map (listed_row programs) rows) packet e v → Hands one_cap (map (filter_of programs) reaches) packet e v
+  by_reaches : (e v : ℕ) → Hands caps (map (listed_row programs) rows) packet e v → Hands one_cap (map (filter_of programs.running) reaches) packet e v
   by_reaches e v h =
       let row = was_mapped (listed_row programs) rows h.accepted_by h.listed in
+      let held = ap (λ (f : ListedFilter). is_none (cap_at caps f.cap)) row.2 ∙ h.cap_held in
+      let runs = filed.held_run row.0 row.1 held in
       record {
-        accepted_by = filter_of programs (reach_of row.0);
-        listed = in_map (filter_of programs) reaches (reach_of row.0)
-            ((are.each (reach_of row.0)).1 (record { row = row.0; listed = row.1; held = ap (λ (f : ListedFilter). is_none (cap_at caps f.cap)) row.2 ∙ h.cap_held; is = refl }));
+        accepted_by = filter_of programs.running (reach_of row.0);
+        listed = in_map (filter_of programs.running) reaches (reach_of row.0)
+            ((filed.reached.each (reach_of row.0)).1 (record { row = row.0; listed = row.1; held = held; is = refl }));
         of_endpoint = ap (λ (f : ListedFilter). f.endpoint) row.2 ∙ h.of_endpoint;
         cap_held = refl;
         steps = h.steps;
-        ends = subst (λ (p : List Insn). Ends p packet v h.steps) (sym (ap (λ (f : ListedFilter). f.program) row.2)) h.ends;
+        ends = subst (λ (p : List Insn). Ends p packet v h.steps)
+            (sym (ap (λ (f : ListedFilter). f.program) row.2) ∙ ap (λ (b : Bool). or_nothing (slice_get (list_of b programs) row.0.program)) runs) h.ends;
         above_zero = h.above_zero;
       }
 
-  pub reached_receive : (kept : List Kept) → AreReached programs reaches packet kept → AreReceivers caps (map (listed_row programs) rows) packet kept
+  pub reached_receive : (kept : List Kept) → AreReached programs.running reaches packet kept → AreReceivers caps (map (listed_row programs) rows) packet kept
   reached_receive kept h = record { increasing = h.increasing; each = λ e b. (λ at. to e b ((h.each e b).0 at), λ gets. (h.each e b).1 (back e b gets)) }
     where
-      to : (e b : ℕ) → Gets one_cap (map (filter_of programs) reaches) packet e b → Gets caps (map (listed_row programs) rows) packet e b
+      to : (e b : ℕ) → Gets one_cap (map (filter_of programs.running) reaches) packet e b → Gets caps (map (listed_row programs) rows) packet e b
       to e b g = record { greatest = g.greatest; hands = by_filters e g.greatest g.hands; above_all = λ v h. g.above_all v (by_reaches e v h); is_kept = g.is_kept }
 
-      back : (e b : ℕ) → Gets caps (map (listed_row programs) rows) packet e b → Gets one_cap (map (filter_of programs) reaches) packet e b
+      back : (e b : ℕ) → Gets caps (map (listed_row programs) rows) packet e b → Gets one_cap (map (filter_of programs.running) reaches) packet e b
       back e b g = record { greatest = g.greatest; hands = by_reaches e g.greatest g.hands; above_all = λ v h. g.above_all v (by_filters e v h); is_kept = g.is_kept }

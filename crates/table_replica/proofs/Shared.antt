@@ -1,13 +1,17 @@
--- One more filter, its program kept once.
-use Rattle.std.proofs.Common.{◌≡◌, ◌<◌, ◌+◌, ◌⊎◌, inl, inr, ℕ, zero, suc, Some, List, [], ◌∷◌, ◌++◌, map, length, slice_get, refl, ap, sym, ◌∙◌, subst, arith, length-append, get_or}
-use Rattle.bpf_insn.specs.declared.insn.Insn.{Insn}
-use Rattle.filter_table.specs.Listed.{ListedFilter}
-use Rattle.table_replica.specs.declared.filters.Row.{Row}
-use Rattle.table_replica.specs.Keeping.{listed_row, or_nothing, IsShared, Keeps, there, added}
-use Rattle.table_replica.specs.Lent.{IsIn, AreDifferent}
-use Rattle.filter_table.specs.Tables.{instructions_of}
-use Rattle.filter_table.proofs.Lists.{instructions-push, map-append', map-get}
+-- Programs in two lists, each once: how many filters have them.
+use Rattle.std.proofs.Common.{◌≡◌, ◌<◌, ◌+◌, ◌⊎◌, inl, inr, ℕ, zero, suc, Bool, true, false, not, Some, is_none, List, [], ◌∷◌, ◌++◌, map, length, slice_get, Contains, refl, ap, sym, ◌∙◌, arith}
 use Rattle.std.proofs.lemmas.Option.{slice_get_within as within}
+use Rattle.bpf_insn.specs.declared.insn.Insn.{Insn}
+use Rattle.endpoint_caps.specs.declared.Cap.{Cap}
+use Rattle.endpoint_caps.specs.Capabilities.{cap_at}
+use Rattle.filter_group.proofs.Edits.{at_contains, contains_at}
+use Rattle.filter_table.specs.Listed.{ListedFilter}
+use Rattle.filter_table.proofs.Lists.{in_map, was_mapped, in_filter, from_filter}
+use Rattle.table_replica.specs.declared.filters.Row.{Row}
+use Rattle.table_replica.specs.declared.programs.KeptPrograms.{KeptPrograms}
+use Rattle.table_replica.specs.declared.reaches.Reach.{Reach}
+use Rattle.table_replica.specs.Keeping.{listed_row, list_of, or_nothing, source, AreFiled, HasReach, HasRest}
+use Rattle.table_replica.specs.Lent.{IsIn, AreDifferent, held_filters}
 
 pub get_front : {A : Type 0} (xs ys : List A) (i : ℕ) (x : A) → slice_get xs i ≡ Some x → slice_get (xs ++ ys) i ≡ Some x
 get_front [] ys i x h = absurd cc
@@ -38,110 +42,109 @@ map-get' f [] i y h = absurd cc
 map-get' f (x ∷ xs) zero y h = (x, refl, cc)
 map-get' f (x ∷ xs) (suc i) y h = map-get' f xs i y h
 
--- rows show the same programs after one more is kept
-same-rows : (programs more : List (List Insn)) (rows : List Row) → ((k : ℕ) (row : Row) → slice_get rows k ≡ Some row → row.program < length programs)
-    → map (listed_row (programs ++ more)) rows ≡ map (listed_row programs) rows
-same-rows programs more [] placed = refl
-same-rows programs more (row ∷ rows) placed =
-    let at = get_at programs row.program (placed 0 row refl) in
-    let same : slice_get (programs ++ more) row.program ≡ slice_get programs row.program = get_front programs more row.program at.0 at.1 ∙ sym at.1 in
-    rw (same, same-rows programs more rows (λ k r h. placed (suc k) r h)) refl
+-- an item of two lists
+pub get_later : {A : Type 0} (xs ys : List A) (i n : ℕ) → n ≡ length xs + i → slice_get (xs ++ ys) n ≡ slice_get ys i
+get_later [] ys i n e = let same : n ≡ i = omega (arith, e) in ap (slice_get ys) same
+get_later (x ∷ xs) ys i zero e = absurd (omega (arith, e))
+get_later (x ∷ xs) ys i (suc n) e = get_later xs ys i n (omega (arith, e))
 
-pub view-keep : (rows : List Row) (programs after : List (List Insn)) (total : ℕ) (program : List Insn) (row : Row) → IsShared rows programs total → Keeps programs program after row.program
-    → map (listed_row after) (rows ++ row ∷ []) ≡ map (listed_row programs) rows ++ record { id = row.id; owner = row.owner; cap = row.cap; endpoint = row.endpoint; program = program } ∷ []
-view-keep rows programs after total program row shared (there same at) =
-    map-append' (listed_row after) rows (row ∷ []) ∙ rw (same, at) refl
-view-keep rows programs after total program row shared (added same place fresh) =
-    let here : slice_get after row.program ≡ Some program = rw (same, place) (last programs program) in
-    map-append' (listed_row after) rows (row ∷ []) ∙ (rw here refl ∙ ap (λ (fs : List ListedFilter). fs ++ record { id = row.id; owner = row.owner; cap = row.cap; endpoint = row.endpoint; program = program } ∷ [])
-    (ap (λ ps. map (listed_row ps) rows) same ∙ same-rows programs (program ∷ []) rows shared.placed))
-
-pub shared-keep : (rows : List Row) (programs after : List (List Insn)) (total : ℕ) (program : List Insn) (row : Row) → IsShared rows programs total → Keeps programs program after row.program
-    → IsShared (rows ++ row ∷ []) after (total + length program)
-shared-keep rows programs after total program row shared kept = record {
-  total = sum;
-  placed = placed kept;
-  distinct = distinct kept;
-  used = used kept;
-}
+pub in_either : {A : Type 0} (xs ys : List A) (i : ℕ) (x : A) → slice_get (xs ++ ys) i ≡ Some x → (slice_get xs i ≡ Some x) ⊎ ((k : ℕ) × (i ≡ length xs + k) × (slice_get ys k ≡ Some x))
+in_either [] ys i x at = inr (i, omega arith, at)
+in_either (y ∷ xs) ys zero x at = inl at
+in_either {A} (y ∷ xs) ys (suc i) x at = by_rest (in_either xs ys i x at)
   where
-    sum : total + length program ≡ instructions_of (map (listed_row after) (rows ++ row ∷ []))
-    sum = sym (ap instructions_of (view-keep rows programs after total program row shared kept)
-        ∙ (instructions-push (map (listed_row programs) rows) _ ∙ ap (λ n. n + length program) (sym shared.total)))
+    by_rest : (slice_get xs i ≡ Some x) ⊎ ((k : ℕ) × (i ≡ length xs + k) × (slice_get ys k ≡ Some x))
+        → (slice_get (y ∷ xs) (suc i) ≡ Some x) ⊎ ((k : ℕ) × (suc i ≡ length (y ∷ xs) + k) × (slice_get ys k ≡ Some x))
+    by_rest (inl e) = inl e
+    by_rest (inr e) = inr (e.0, omega (arith, e.1), e.2)
 
-    placed : Keeps programs program after row.program → (k : ℕ) (r : Row) → slice_get (rows ++ row ∷ []) k ≡ Some r → r.program < length after
-    placed (there same at) k r h = by_old (split rows row k r h)
-      where
-        by_old : (slice_get rows k ≡ Some r) ⊎ ((k ≡ length rows) × (row ≡ r)) → r.program < length after
-        by_old (inl old) = rw same (shared.placed k r old)
-        by_old (inr new) = let mine : row.program ≡ r.program = ap (λ (x : Row). x.program) new.1 in rw (same, ← mine) (within programs row.program program at)
-    placed (added same place fresh) k r h = by_old (split rows row k r h)
-      where
-        longer : length after ≡ length programs + 1
-        longer = ap length same ∙ length-append programs (program ∷ [])
+-- the rows of a table's filters, each program in one list
+module _ (caps : List Cap) (rows : List Row) (programs : KeptPrograms) (reaches : List Reach) (filed : AreFiled caps rows programs reaches) where
+  -- a row shows the program at its place
+  shows : (row : Row) (program : List Insn) → source programs row ≡ Some program → (listed_row programs row).program ≡ program
+  shows row program at = ap or_nothing at
 
-        by_old : (slice_get rows k ≡ Some r) ⊎ ((k ≡ length rows) × (row ≡ r)) → r.program < length after
-        by_old (inl old) = omega (arith, longer, shared.placed k r old)
-        by_old (inr new) = let mine : row.program ≡ r.program = ap (λ (x : Row). x.program) new.1 in omega (arith, longer, place, mine)
+  is_source : (row : Row) → Contains rows row → source programs row ≡ Some (listed_row programs row).program
+  is_source row at = let p = get_at (list_of row.rests programs) row.program (filed.placed row at) in p.1 ∙ ap (λ (x : List Insn). Some x) (sym (ap or_nothing p.1))
 
-    distinct : Keeps programs program after row.program → (i j : ℕ) (p : List Insn) → slice_get after i ≡ Some p → slice_get after j ≡ Some p → i ≡ j
-    distinct (there same at) i j p h k = shared.distinct i j p (rw same at h) (rw same at k)
-    distinct (added same place fresh) i j p h k = both (split programs program i p (rw same at h)) (split programs program j p (rw same at k))
-      where
-        both : (slice_get programs i ≡ Some p) ⊎ ((i ≡ length programs) × (program ≡ p)) → (slice_get programs j ≡ Some p) ⊎ ((j ≡ length programs) × (program ≡ p)) → i ≡ j
-        both (inl a) (inl b) = shared.distinct i j p a b
-        both (inl a) (inr b) = absurd (fresh (i, a ∙ ap (λ (x : List Insn). Some x) (sym b.1)))
-        both (inr a) (inl b) = absurd (fresh (j, b ∙ ap (λ (x : List Insn). Some x) (sym a.1)))
-        both (inr a) (inr b) = a.0 ∙ sym b.0
+  -- the rows of which the capability is held have just the programs that run
+  pub running_different : ((place : ℕ) → place < length programs.running → HasReach reaches place) → AreDifferent (held_filters caps (map (listed_row programs) rows)) (length programs.running)
+  running_different live = record {
+    programs = programs.running;
+    distinct = filed.apart.running;
+    each = λ program. (to program, from program);
+    counted = refl;
+  }
+    where
+      is_held : ListedFilter → Bool
+      is_held f = not (is_none (cap_at caps f.cap))
 
-    used : Keeps programs program after row.program → (i : ℕ) → i < length after → (k : ℕ) × (r : Row) × (slice_get (rows ++ row ∷ []) k ≡ Some r) × (r.program ≡ i)
-    used (there same at) i lt = let old = shared.used i (rw same at lt) in (old.0, old.1, get_front rows (row ∷ []) old.0 old.1 old.2, old.3)
-    used (added same place fresh) i lt = by_old (split' i lt)
-      where
-        split' : (i : ℕ) → i < length after → (i < length programs) ⊎ (i ≡ length programs)
-        split' i lt = let longer : length after ≡ length programs + 1 = ap length same ∙ length-append programs (program ∷ []) in less_or_same i (length programs) (omega arith)
-          where
-            less_or_same : (a b : ℕ) → a < b + 1 → (a < b) ⊎ (a ≡ b)
-            less_or_same a b h = grind arith
+      to : (program : List Insn) → IsIn programs.running program → (k : ℕ) × (f : ListedFilter) × (slice_get (held_filters caps (map (listed_row programs) rows)) k ≡ Some f) × (f.program ≡ program)
+      to program at =
+          let reach = live at.0 (within programs.running at.0 program at.1) in
+          let row = (filed.reached.each reach.0).0 reach.1 in
+          let runs = filed.held_run row.row row.listed row.held in
+          let place : row.row.program ≡ at.0 = ap (λ (r : Reach). r.program) row.is ∙ reach.2 in
+          let has : source programs row.row ≡ Some program = ap (λ (b : Bool). slice_get (list_of b programs) row.row.program) runs ∙ (ap (slice_get programs.running) place ∙ at.1) in
+          let among = in_filter (λ (f : ListedFilter). not (is_none (cap_at caps f.cap))) (map (listed_row programs) rows) (listed_row programs row.row) (in_map (listed_row programs) rows row.row row.listed) (ap not row.held) in
+          let there = at_contains (held_filters caps (map (listed_row programs) rows)) (listed_row programs row.row) among in
+          (there.0, listed_row programs row.row, there.1, shows row.row program has)
 
-        by_old : (i < length programs) ⊎ (i ≡ length programs) → (k : ℕ) × (r : Row) × (slice_get (rows ++ row ∷ []) k ≡ Some r) × (r.program ≡ i)
-        by_old (inl old) = let u = shared.used i old in (u.0, u.1, get_front rows (row ∷ []) u.0 u.1 u.2, u.3)
-        by_old (inr new) = (length rows, row, last rows row, place ∙ sym new)
+      from : (program : List Insn) → (k : ℕ) × (f : ListedFilter) × (slice_get (held_filters caps (map (listed_row programs) rows)) k ≡ Some f) × (f.program ≡ program) → IsIn programs.running program
+      from program has =
+          let f = from_filter (λ (f : ListedFilter). not (is_none (cap_at caps f.cap))) (map (listed_row programs) rows) has.1 (contains_at (held_filters caps (map (listed_row programs) rows)) has.0 has.1 has.2) in
+          let row = was_mapped (listed_row programs) rows has.1 f.0 in
+          let held = ap (λ (g : ListedFilter). is_none (cap_at caps g.cap)) row.2 ∙ is_false (is_none (cap_at caps has.1.cap)) f.1 in
+          let runs = filed.held_run row.0 row.1 held in
+          (row.0.program, sym (ap (λ (b : Bool). slice_get (list_of b programs) row.0.program) runs) ∙ (is_source row.0 row.1 ∙ ap (λ (x : List Insn). Some x) (ap (λ (g : ListedFilter). g.program) row.2 ∙ has.3)))
+        where
+          is_false : (b : Bool) → not b ≡ true → b ≡ false
+          is_false true h = absurd cc
+          is_false false h = refl
 
-pub different : (rows : List Row) (programs : List (List Insn)) (total : ℕ) → IsShared rows programs total → AreDifferent (map (listed_row programs) rows) (length programs)
-different rows programs total shared = record {
-  programs = programs;
-  distinct = shared.distinct;
-  each = λ program. (to program, from program);
-  counted = refl;
-}
-  where
-    to : (program : List Insn) → IsIn programs program → (k : ℕ) × (f : ListedFilter) × (slice_get (map (listed_row programs) rows) k ≡ Some f) × (f.program ≡ program)
-    to program at =
-        let u = shared.used at.0 (within programs at.0 program at.1) in
-        (u.0, listed_row programs u.1, map-get (listed_row programs) rows u.0 u.1 u.2, ap or_nothing (ap (slice_get programs) u.3 ∙ at.1))
+  -- all rows have just those of both lists
+  pub all_different : ((place : ℕ) → place < length programs.running → HasReach reaches place) → ((place : ℕ) → place < length programs.resting → HasRest rows place)
+      → AreDifferent (map (listed_row programs) rows) (length (programs.running ++ programs.resting))
+  all_different live rest = record {
+    programs = programs.running ++ programs.resting;
+    distinct = λ i j program at at'. both i j program (in_either programs.running programs.resting i program at) (in_either programs.running programs.resting j program at');
+    each = λ program. (to program, from program);
+    counted = refl;
+  }
+    where
+      both : (i j : ℕ) (program : List Insn)
+          → (slice_get programs.running i ≡ Some program) ⊎ ((k : ℕ) × (i ≡ length programs.running + k) × (slice_get programs.resting k ≡ Some program))
+          → (slice_get programs.running j ≡ Some program) ⊎ ((k : ℕ) × (j ≡ length programs.running + k) × (slice_get programs.resting k ≡ Some program)) → i ≡ j
+      both i j program (inl a) (inl b) = filed.apart.running i j program a b
+      both i j program (inl a) (inr b) = absurd (filed.apart.apart program (i, a) (b.0, b.2))
+      both i j program (inr a) (inl b) = absurd (filed.apart.apart program (j, b) (a.0, a.2))
+      both i j program (inr a) (inr b) = let same = filed.apart.resting a.0 b.0 program a.2 b.2 in a.1 ∙ (ap (λ (n : ℕ). length programs.running + n) same ∙ sym b.1)
 
-    from : (program : List Insn) → (k : ℕ) × (f : ListedFilter) × (slice_get (map (listed_row programs) rows) k ≡ Some f) × (f.program ≡ program) → IsIn programs program
-    from program has =
-        let r = map-get' (listed_row programs) rows has.0 has.1 has.2 in
-        let at = get_at programs r.0.program (shared.placed has.0 r.0 r.1) in
-        let same : at.0 ≡ program = sym (ap or_nothing at.1) ∙ (ap (λ (f : ListedFilter). f.program) r.2 ∙ has.3) in
-        (r.0.program, at.1 ∙ ap (λ (x : List Insn). Some x) same)
+      found : (row : Row) (program : List Insn) → Contains rows row → source programs row ≡ Some program → (k : ℕ) × (f : ListedFilter) × (slice_get (map (listed_row programs) rows) k ≡ Some f) × (f.program ≡ program)
+      found row program at has =
+          let there = at_contains (map (listed_row programs) rows) (listed_row programs row) (in_map (listed_row programs) rows row at) in
+          (there.0, listed_row programs row, there.1, shows row program has)
 
--- A search for a program
+      to : (program : List Insn) → IsIn (programs.running ++ programs.resting) program → (k : ℕ) × (f : ListedFilter) × (slice_get (map (listed_row programs) rows) k ≡ Some f) × (f.program ≡ program)
+      to program at = by_list (in_either programs.running programs.resting at.0 program at.1)
+        where
+          by_list : (slice_get programs.running at.0 ≡ Some program) ⊎ ((k : ℕ) × (at.0 ≡ length programs.running + k) × (slice_get programs.resting k ≡ Some program))
+              → (k : ℕ) × (f : ListedFilter) × (slice_get (map (listed_row programs) rows) k ≡ Some f) × (f.program ≡ program)
+          by_list (inl a) =
+              let reach = live at.0 (within programs.running at.0 program a) in
+              let row = (filed.reached.each reach.0).0 reach.1 in
+              let runs = filed.held_run row.row row.listed row.held in
+              let place : row.row.program ≡ at.0 = ap (λ (r : Reach). r.program) row.is ∙ reach.2 in
+              found row.row program row.listed (ap (λ (b : Bool). slice_get (list_of b programs) row.row.program) runs ∙ (ap (slice_get programs.running) place ∙ a))
+          by_list (inr b) =
+              let row = rest b.0 (within programs.resting b.0 program b.2) in
+              found row.0 program row.1 (ap (λ (t : Bool). slice_get (list_of t programs) row.0.program) row.2 ∙ (ap (slice_get programs.resting) row.3 ∙ b.2))
 
-pub get_is : (xs : List (List Insn)) (i : ℕ) (x : List Insn) → i < length xs → x ≡ get_or xs i x → slice_get xs i ≡ Some x
-get_is [] i x lt h = absurd (omega arith)
-get_is (y ∷ xs) zero x lt h = ap (λ (z : List Insn). Some z) (sym h)
-get_is (y ∷ xs) (suc i) x lt h = get_is xs i x (omega arith) h
-
--- A row that was pushed, in the words of the calls
-
-module _ (rows : List Row) (programs : List (List Insn)) (total : ℕ) (program : List Insn) (after : List (List Insn)) (row : Row)
-    (shared : IsShared rows programs total) (keeps : Keeps programs program after row.program) (rows' : List Row) (pushed : rows' ≡ rows ++ row ∷ []) where
-  pub shared_after : (n : ℕ) → n ≡ total + length program → IsShared rows' after n
-  shared_after n counted = subst (IsShared rows' after) (sym counted)
-      (subst (λ (rs : List Row). IsShared rs after (total + length program)) (sym pushed) (shared-keep rows programs after total program row shared keeps))
-
-  pub view_after : map (listed_row after) rows' ≡ map (listed_row programs) rows ++ record { id = row.id; owner = row.owner; cap = row.cap; endpoint = row.endpoint; program = program } ∷ []
-  view_after = ap (map (listed_row after)) pushed ∙ view-keep rows programs after total program row shared keeps
+      from : (program : List Insn) → (k : ℕ) × (f : ListedFilter) × (slice_get (map (listed_row programs) rows) k ≡ Some f) × (f.program ≡ program) → IsIn (programs.running ++ programs.resting) program
+      from program has =
+          let row = was_mapped (listed_row programs) rows has.1 (contains_at (map (listed_row programs) rows) has.0 has.1 has.2) in
+          by_list row.0.rests refl row.0.program (is_source row.0 row.1 ∙ ap (λ (x : List Insn). Some x) (ap (λ (g : ListedFilter). g.program) row.2 ∙ has.3))
+        where
+          by_list : (b : Bool) → {r : Bool} → r ≡ b → (place : ℕ) → slice_get (list_of r programs) place ≡ Some program → IsIn (programs.running ++ programs.resting) program
+          by_list true e place at = (length programs.running + place, get_later programs.running programs.resting place (length programs.running + place) refl ∙ (sym (ap (λ (t : Bool). slice_get (list_of t programs) place) e) ∙ at))
+          by_list false e place at = (place, get_front programs.running programs.resting place program (sym (ap (λ (t : Bool). slice_get (list_of t programs) place) e) ∙ at))

@@ -1,6 +1,8 @@
 -- What is lent of the filters of a table, and how many different programs they have.
-use Rattle.std.specs.Prelude.{◌≡◌, ◌↔◌, ℕ, Some, List, length, slice_get}
+use Rattle.std.specs.Prelude.{◌≡◌, ◌↔◌, ℕ, Some, is_none, not, List, filter, length, slice_get}
 use Rattle.bpf_insn.specs.declared.insn.Insn.{Insn}
+use Rattle.endpoint_caps.specs.declared.Cap.{Cap}
+use Rattle.endpoint_caps.specs.Capabilities.{cap_at}
 use Rattle.filter_table.specs.Listed.{ListedFilter}
 use Rattle.table_replica.specs.declared.filters.Filter.{Filter}
 
@@ -18,3 +20,7 @@ pub record AreDifferent (filters : List ListedFilter) (count : ℕ) : Type 0 whe
   pub distinct : (i j : ℕ) (program : List Insn) → slice_get programs i ≡ Some program → slice_get programs j ≡ Some program → i ≡ j
   pub each : (program : List Insn) → IsIn programs program ↔ ((k : ℕ) × (f : ListedFilter) × (slice_get filters k ≡ Some f) × (f.program ≡ program))
   pub counted : count ≡ length programs
+
+-- the filters whose capability is held
+abbrev pub held_filters : List Cap → List ListedFilter → List ListedFilter
+held_filters caps filters = filter (λ f. not (is_none (cap_at caps f.cap))) filters

@@ -1,13 +1,9 @@
 //! The filters of a table.
 ghost use Rattle.std.specs.Prelude.{◌≡◌, ◌==◌, ◌+◌, ◌<◌, ◌≤◌, ◌++◌, [], ◌∷◌, length, filter, not, Some, slice_get, IfOk};
-ghost use Rattle.table_replica.specs.Chains.{AreChained};
-ghost use Rattle.table_replica.specs.Distinct.{AreDistinct};
-ghost use Rattle.table_replica.specs.Keeping.{Keeps, ArePlaced, AreReaches, AreHeldAlike, AreFewer, IsTrimming, IsUnused, lowered_row, placed_row};
-ghost use Rattle.std.specs.Prelude.{List, MatchOption, ℕ};
-ghost use Rattle.endpoint_caps.specs.declared.Cap.{Cap};
-ghost use Rattle.filter_table.specs.Listed.{ListedFilter};
+ghost use Rattle.table_replica.specs.Keeping.{ArePlaced, AreReaches, AreHeldAlike, AreFewer, AreFiled, placed_row, shifted_rows};
+ghost use Rattle.std.specs.Prelude.{List};
 ghost use Rattle.table_replica.specs.declared.filters.Row.{Row as GhostRow};
-ghost use Rattle.table_replica.specs.Lent.{shown_filter, IsIn, AreDifferent};
+ghost use Rattle.table_replica.specs.Lent.{shown_filter, AreDifferent, held_filters};
 ghost use Rattle.filter_table.specs.Tables.{instructions_of, replaced, filter_at};
 ghost use Rattle.std.specs.Prelude.{leb, OnOk};
 ghost use Rattle.std.specs.Iterator.{YieldsFirstBy, item_count};
@@ -18,13 +14,15 @@ ghost use Rattle.filter_table.specs.Tables.{AreReceivers};
 
 use crate::Kept;
 use crate::lost::{are_under_none, lost_ids};
+use crate::programs::KeptPrograms;
 use crate::reaches::{
-    Chains, Reach, add_reach, all_reaches, chained, lowered_reaches, place_after, reaches_and,
-    reaches_without, receivers, receivers_with,
+    Chains, Reach, add_reach, all_reaches, reaches_and, reaches_without, receivers, receivers_with,
 };
+use crate::settling::{Settling, settled, trimmed};
+use crate::shifts::{Shift, rows_after};
 use bpf_insn::Insn;
 use endpoint_caps::Caps;
-use filter_group::{Lists, Programs, Shared};
+use filter_group::Lists;
 use filter_verify::Verified;
 use std::alloc::{AllocError, Global};
 use std::marker::Model;
@@ -79,16 +77,20 @@ impl Scratch {
 #[derive(Clone, Copy)]
 pub(crate) struct Row {
     pub(crate) id: u32,
-    owner: u16,
+    pub(crate) owner: u16,
     pub(crate) cap: u32,
     pub(crate) endpoint: u16,
+    /// Whether its program is one of those that rest.
+    pub(crate) rests: bool,
+    /// The place of its program among those that rest, or those that run.
     pub(crate) program: usize,
 }
 
-/// The filters in order of installation, under the capabilities of their table. Each program is kept once.
+/// The filters in order of installation, under the capabilities of their table. Each program is kept once, and a packet is run on
+/// those of the filters whose capability is held.
 pub(crate) struct Filters {
     rows: Vec<Row>,
-    programs: Programs,
+    programs: KeptPrograms,
     /// Of the filters whose capability is held.
     reaches: Vec<Reach>,
     chains: Chains,
@@ -129,7 +131,7 @@ impl Filters {
     {
         Filters {
             rows: Vec::new(alloc),
-            programs: Programs::new(alloc),
+            programs: KeptPrograms::none(alloc),
             reaches: Vec::new(alloc),
             chains: Chains::none(alloc),
             instructions: 0,
@@ -162,7 +164,7 @@ impl Filters {
             owner: row.owner,
             cap: row.cap,
             endpoint: row.endpoint,
-            program: self.programs.at(row.program).verified(),
+            program: self.programs.of(row),
         }
     }
 
@@ -178,23 +180,24 @@ impl Filters {
         ensures { IfOk result (λ filters. filters ≡ record { listed = self.now.listed ++ shown_filter filter.entry ∷ []; under = caps.now }) }
     {
         let instructions = self.instructions + filter.program.code().len() as u32;
-        let (programs, program) = keeping(alloc, &self.programs, filter.program)?;
+        let (programs, program, wakes) = self.programs.with_running(alloc, filter.program)?;
         let row = Row {
             id: filter.id,
             owner: filter.owner,
             cap: filter.cap,
             endpoint: filter.endpoint,
+            rests: false,
             program,
         };
-        let (rows, reaches, chains) = lists_and(alloc, &self.rows, &self.reaches, caps, row)?;
-        Ok(Filters {
+        let reaches = reaches_and(alloc, &self.reaches, caps, &row)?;
+        let mut rows = rows_after(alloc, &self.rows, wakes)?;
+        rows.push(row)?;
+        let all = Settling {
             rows,
             programs,
             reaches,
-            chains,
-            instructions,
-            under: Snapshot::of(caps),
-        })
+        };
+        rebuilt(alloc, caps, all, instructions)
     }
 
     /// The same filters under capabilities that hold those of the filters as before.
@@ -236,23 +239,21 @@ impl Filters {
         }
     }
 
-    /// The same filters under any capabilities.
+    /// The same filters under capabilities of which some may be gone.
     fn under_others(&self, alloc: Global, caps: &Caps) -> Result<Filters, AllocError>
+        requires { AreFewer self.now.under.held caps.now.held }
         ensures { IfOk result (λ filters. filters ≡ record { listed = self.now.listed; under = caps.now }) }
     {
         let instructions = self.instructions;
         let rows = Vec::from_slice(alloc, &self.rows)?;
         let programs = self.programs.copy(alloc)?;
         let reaches = all_reaches(alloc, &self.rows, caps)?;
-        let chains = chained(alloc, &reaches)?;
-        Ok(Filters {
+        let all = Settling {
             rows,
             programs,
             reaches,
-            chains,
-            instructions,
-            under: Snapshot::of(caps),
-        })
+        };
+        rebuilt(alloc, caps, all, instructions)
     }
 
     /// The endpoints that get a packet, in increasing order, each with the number of bytes that it keeps.
@@ -268,7 +269,7 @@ impl Filters {
             alloc,
             &self.reaches,
             &self.chains,
-            &self.programs,
+            &self.programs.running,
             bytes,
             original,
         )
@@ -286,7 +287,7 @@ impl Filters {
         receivers_with(
             &self.reaches,
             &self.chains,
-            &self.programs,
+            &self.programs.running,
             bytes,
             original,
             &mut scratch.lists,
@@ -300,6 +301,13 @@ impl Filters {
         ensures { AreDifferent self.now.listed result }
     {
         self.programs.len()
+    }
+
+    /// How many programs a packet is run on.
+    pub(crate) fn running_programs(&self) -> usize
+        ensures { AreDifferent (held_filters self.now.under.held self.now.listed) result }
+    {
+        self.programs.count(false)
     }
 
     /// The filter with this id.
@@ -344,7 +352,7 @@ impl Filters {
         let rows = rows_without(alloc, &self.rows, id)?;
         let reaches = reaches_without(alloc, &self.reaches, caps, &self.rows, id)?;
         let programs = self.programs.copy(alloc)?;
-        let all = Trimming {
+        let all = Settling {
             rows,
             programs,
             reaches,
@@ -364,11 +372,12 @@ impl Filters {
         requires fits { instructions_of (replaced self.now.listed id program.now) < 4294967296 }
         ensures { IfOk result (λ filters. filters ≡ record { listed = replaced self.now.listed id program.now; under = caps.now }) }
     {
-        let mut reaches = reaches_without(alloc, &self.reaches, caps, &self.rows, id)?;
-        let (programs, place) = keeping(alloc, &self.programs, program)?;
-        let rows = rows_with(alloc, caps, &self.rows, &mut reaches, id, place)?;
+        let (programs, place, wakes) = self.programs.with_running(alloc, program)?;
+        let rows = rows_after(alloc, &self.rows, wakes)?;
+        let mut reaches = reaches_without(alloc, &self.reaches, caps, &rows, id)?;
+        let rows = rows_with(alloc, caps, &rows, &mut reaches, id, place)?;
         let instructions = total_of(&rows, &programs);
-        let all = Trimming {
+        let all = Settling {
             rows,
             programs,
             reaches,
@@ -410,26 +419,6 @@ impl<'a> Iterator for FilterIter<'a> {
     }
 }
 
-/// The rows and their reaches, and those of one more row.
-fn lists_and(
-    alloc: Global,
-    rows: &[Row],
-    reaches: &[Reach],
-    caps: &Caps,
-    row: Row,
-) -> Result<(Vec<Row>, Vec<Reach>, Chains), AllocError>
-    ensures rows { IfOk result (λ lists. lists.0.items ≡ rows.now ++ row ∷ []) }
-    ensures reaches { IfOk result (λ lists. AreReaches caps.now.held rows.now reaches.now → AreReaches caps.now.held (rows.now ++ row ∷ []) lists.1.items) }
-    ensures chained { IfOk result (λ lists. AreChained 0 lists.1.items lists.2.first.items lists.2.next.items) }
-{
-    let reaches = reaches_and(alloc, reaches, caps, &row)?;
-    let chains = chained(alloc, &reaches)?;
-    let mut all = Vec::with_capacity(alloc, rows.len() + 1)?;
-    all.extend_from_slice(rows)?;
-    all.push(row)?;
-    Ok((all, reaches, chains))
-}
-
 /// The rows but those of one filter.
 fn rows_without(alloc: Global, rows: &[Row], id: u32) -> Result<Vec<Row>, AllocError>
     ensures { IfOk result (λ left. left.items ≡ filter (λ row. not (row.id == id)) rows.now) }
@@ -443,7 +432,7 @@ fn rows_without(alloc: Global, rows: &[Row], id: u32) -> Result<Vec<Row>, AllocE
     Ok(left)
 }
 
-/// The rows, the program of one filter replaced, and their reaches beside those of the other rows.
+/// The rows, the program of one filter replaced by one that runs, and their reaches beside those of the other rows.
 fn rows_with(
     alloc: Global,
     caps: &Caps,
@@ -459,6 +448,7 @@ fn rows_with(
     for row in rows {
         if row.id == id {
             let row = Row {
+                rests: false,
                 program: place,
                 ..*row
             };
@@ -471,29 +461,19 @@ fn rows_with(
     Ok(after)
 }
 
-/// Rows with their programs and reaches, while programs that no row has are taken out.
-#[derive(Drop)]
-struct Trimming {
-    rows: Vec<Row>,
-    programs: Programs,
-    reaches: Vec<Reach>,
-}
-
-/// The filters that are left once each program that no row has is taken out, of so many instructions.
+/// The filters of rows and reaches, of so many instructions, once each program is where it belongs.
 fn rebuilt(
     alloc: Global,
     caps: &Caps,
-    all: Trimming,
+    all: Settling,
     instructions: u32,
 ) -> Result<Filters, AllocError>
-    requires distinct { AreDistinct all.programs }
-    requires placed { ArePlaced all.rows.items (length all.programs) }
-    requires reached { AreReaches caps.now.held all.rows.items all.reaches.items }
+    requires filed { AreFiled caps.now.held all.rows.items all.programs all.reaches.items }
     requires total { instructions ≡ instructions_of (map (listed_row all.programs) all.rows.items) }
     ensures { IfOk result (λ filters. filters ≡ record { listed = map (listed_row all.programs) all.rows.items; under = caps.now }) }
 {
-    let left = trimmed(alloc, caps, all)?;
-    let chains = chained(alloc, &left.reaches)?;
+    let (left, chains) = settled(alloc, caps, all)?;
+    let left = trimmed(alloc, caps, left)?;
     Ok(Filters {
         rows: left.rows,
         programs: left.programs,
@@ -505,15 +485,15 @@ fn rebuilt(
 }
 
 /// The instructions of the rows of one filter.
-fn instructions_with(rows: &[Row], programs: &Programs, id: u32) -> u32
-    requires placed { ArePlaced rows.now (length programs.now) }
+fn instructions_with(rows: &[Row], programs: &KeptPrograms, id: u32) -> u32
+    requires placed { ArePlaced programs.now rows.now }
     requires fits { instructions_of (map (listed_row programs.now) rows.now) < 4294967296 }
     ensures { result + instructions_of (filter (λ f. not (f.id == id)) (map (listed_row programs.now) rows.now)) ≡ instructions_of (map (listed_row programs.now) rows.now) }
 {
     let mut total = 0;
     for row in rows {
         if row.id == id {
-            let code = programs.at(row.program).verified().code();
+            let code = programs.of(row).code();
             total += code.len() as u32;
         }
     }
@@ -521,108 +501,15 @@ fn instructions_with(rows: &[Row], programs: &Programs, id: u32) -> u32
 }
 
 /// The instructions of all rows.
-fn total_of(rows: &[Row], programs: &Programs) -> u32
-    requires placed { ArePlaced rows.now (length programs.now) }
+fn total_of(rows: &[Row], programs: &KeptPrograms) -> u32
+    requires placed { ArePlaced programs.now rows.now }
     requires fits { instructions_of (map (listed_row programs.now) rows.now) < 4294967296 }
     ensures { result ≡ instructions_of (map (listed_row programs.now) rows.now) }
 {
     let mut total = 0;
     for row in rows {
-        let code = programs.at(row.program).verified().code();
+        let code = programs.of(row).code();
         total += code.len() as u32;
     }
     total
-}
-
-/// What is left once each program that no row has is taken out.
-fn trimmed(alloc: Global, caps: &Caps, mut left: Trimming) -> Result<Trimming, AllocError>
-    requires distinct { AreDistinct left.programs }
-    requires placed { ArePlaced left.rows.items (length left.programs) }
-    requires reached { AreReaches caps.now.held left.rows.items left.reaches.items }
-    ensures trimmed { IfOk result (λ after. IsTrimming caps.now.held (map (listed_row left.programs) left.rows.items) after) }
-    ensures used { IfOk result (λ after. (place : ℕ) → place < length after.programs → IsUnused after.rows.items place → ⊥) }
-{
-    'trim: loop {
-        match unused(alloc, &left.rows, left.programs.len())? {
-            None => return Ok(left),
-            Some(place) => left = lowered(alloc, left, place)?,
-        }
-    }
-}
-
-/// A place below a number at which no row has its program.
-fn unused(alloc: Global, rows: &[Row], count: usize) -> Result<Option<usize>, AllocError>
-    requires { ArePlaced rows.now count }
-    ensures { IfOk result (λ found. MatchOption found ((place : ℕ) → place < count → IsUnused rows.now place → ⊥) (λ place. (place < count) × IsUnused rows.now place)) }
-{
-    let mut used = vec![in alloc; false; count]?;
-    for row in rows {
-        used[row.program] = true;
-    }
-    for place in 0..count {
-        if !used[place] {
-            return Ok(Some(place));
-        }
-    }
-    Ok(None)
-}
-
-/// What is left once one program that no row has is taken out.
-fn lowered(alloc: Global, left: Trimming, taken: usize) -> Result<Trimming, AllocError>
-    requires inside { taken < length left.programs }
-    requires unused { IsUnused left.rows.items taken }
-    ensures fewer { IfOk result (λ after. length after.programs + 1 ≡ length left.programs) }
-    ensures left { IfOk result (λ after. (caps : List Cap) (listed : List ListedFilter) → IsTrimming caps listed left → IsTrimming caps listed after) }
-{
-    let Trimming {
-        rows,
-        programs,
-        reaches,
-    } = left;
-    let programs = programs.without(alloc, taken)?;
-    let last = programs.len();
-    let rows = lowered_rows(alloc, &rows, taken, last)?;
-    let reaches = lowered_reaches(alloc, &reaches, taken, last)?;
-    Ok(Trimming {
-        rows,
-        programs,
-        reaches,
-    })
-}
-
-/// The rows once the program at a place is taken out, which the last then gets.
-fn lowered_rows(
-    alloc: Global,
-    rows: &[Row],
-    taken: usize,
-    last: usize,
-) -> Result<Vec<Row>, AllocError>
-    ensures { IfOk result (λ after. after.items ≡ map (lowered_row taken last) rows.now) }
-{
-    let mut lowered = Vec::with_capacity(alloc, rows.len() + 1)?;
-    for row in rows {
-        lowered.push(Row {
-            program: place_after(taken, last, row.program),
-            ..*row
-        })?;
-    }
-    Ok(lowered)
-}
-
-/// The programs with one more, unless it is among them, and its place.
-fn keeping(
-    alloc: Global,
-    programs: &Programs,
-    program: &Verified,
-) -> Result<(Programs, usize), AllocError>
-    ensures { IfOk result (λ kept. Keeps programs.now program.now kept.0 kept.1) }
-{
-    let program = Shared::new(alloc, program.clone()?)?;
-    match programs.place_of(&program) {
-        Some(place) => Ok((programs.copy(alloc)?, place)),
-        None => {
-            let all = programs.with(alloc, &program)?;
-            Ok((all, programs.len()))
-        }
-    }
 }

@@ -7,8 +7,11 @@
 mod contents;
 mod filters;
 mod lost;
+mod programs;
 mod reaches;
 mod replica;
+mod settling;
+mod shifts;
 
 use contents::Contents;
 pub use filter_table::{Kept, Made, Op, OpFault, Program, StageFault};

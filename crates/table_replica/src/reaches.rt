@@ -1,10 +1,10 @@
 //! Which endpoints get what which programs accept.
-ghost use Rattle.std.specs.Prelude.{◌≡◌, ◌==◌, ◌+◌, ◌<◌, ◌≤◌, ◌++◌, [], ◌∷◌, List, length, map, filter, min, not, IsTrue, ◌↔◌, IfOk, OnOk, MatchOption, replicate, take, ℕ, Some, slice_get};
+ghost use Rattle.std.specs.Prelude.{◌≡◌, ◌==◌, ◌+◌, ◌<◌, ◌≤◌, ◌++◌, [], ◌∷◌, List, length, map, filter, min, not, IsTrue, ◌↔◌, IfOk, OnOk, MatchOption, replicate, take, ℕ, true, false, Some, slice_get};
 ghost use Rattle.std.specs.List.{All, Contains};
 ghost use Rattle.std.specs.List.Sorted.{IsNonDecreasingBy};
 ghost use Rattle.table_replica.specs.declared.filters.Row.{Row as GhostRow};
 ghost use Rattle.table_replica.specs.declared.reaches.Reach.{Reach as GhostReach};
-ghost use Rattle.table_replica.specs.Keeping.{reach_of, IsLive, AreReaches, AreLost, lowered_reach, place_after};
+ghost use Rattle.table_replica.specs.Keeping.{reach_of, HasReach, IsIdle, IsLive, AreReaches, AreLost, lowered_reach, place_after};
 ghost use Rattle.filter_table.specs.Tables.{IsIncreasing};
 ghost use Rattle.filter_table.specs.declared.delivery.Kept.{Kept as GhostKept};
 ghost use Rattle.table_replica.specs.Chains.{AreChained};
@@ -183,6 +183,14 @@ impl Chains {
         let first = Vec::from_slice(alloc, &self.first)?;
         let next = Vec::from_slice(alloc, &self.next)?;
         Ok(Chains { first, next })
+    }
+
+    /// Whether the program at a place has a reach.
+    pub(crate) fn has(&self, place: usize) -> bool
+        ensures some { result ≡ true → (reaches : List GhostReach) → AreChained 0 reaches self.now.first.items self.now.next.items → HasReach reaches place }
+        ensures none { result ≡ false → (reaches : List GhostReach) → AreChained 0 reaches self.now.first.items self.now.next.items → IsIdle reaches place }
+    {
+        place < self.first.len() && self.first[place] > 0
     }
 }
 

@@ -1,7 +1,7 @@
 //! The replica of a core: the table that it shows, and the one that is staged beside it.
 ghost use Rattle.std.specs.Prelude.{◌≡◌, ◌≤◌, [], None, Some, IsSome, is_some, IsOk, IfOk, IfErr, OnOk, OnErr};
 ghost use Rattle.filter_table.specs.Tables.{Accepting, Allowed, after, instructions, instructions_of, made, program_of};
-ghost use Rattle.table_replica.specs.Lent.{AreDifferent};
+ghost use Rattle.table_replica.specs.Lent.{AreDifferent, held_filters};
 ghost use Rattle.filter_table.specs.Staging.{CannotStage, VerifierAsks};
 ghost use Rattle.filter_table.specs.Soundness.{IsSoundTable, IdsGrow};
 ghost use Rattle.filter_table.specs.declared.operation.Op.{Op as GhostOp};
@@ -109,6 +109,14 @@ impl Replica {
         ensures { AreDifferent self.now.shown.filters result }
     {
         self.shown.filters().distinct_programs()
+    }
+
+    /// How many programs a packet is run on: the different ones of the filters whose capability is held. So a filter whose
+    /// capability is gone costs no packet, though it is listed and its instructions are counted.
+    pub fn running_programs(&self) -> usize
+        ensures { AreDifferent (held_filters self.now.shown.caps.held self.now.shown.filters) result }
+    {
+        self.shown.filters().running_programs()
     }
 
     /// Whether an operation is staged.

@@ -61,8 +61,8 @@ enum Step {
     Hands(usize, &'static [(u16, u32)]),
     /// The version, and the instructions of all filters.
     Is(u64, u32),
-    /// How many different programs are listed.
-    Programs(usize),
+    /// How many different programs are listed, and how many a packet is run on.
+    Programs(usize, usize),
     /// The capabilities that are held: id, endpoint and holder, each with all rights and no parent.
     Caps(&'static [(u32, u16, u16)]),
     Filters(&'static [Listed]),
@@ -171,6 +171,11 @@ fn is_at(rt: &impl Abort, replica: &Replica, wanted: (u64, u32), place: &Place<'
     equal_at(rt, found, wanted, place);
 }
 
+fn has_programs(rt: &impl Abort, replica: &Replica, wanted: (usize, usize), place: &Place<'_>) {
+    let found = (replica.distinct_programs(), replica.running_programs());
+    equal_at(rt, found, wanted, place);
+}
+
 fn repeats(rt: &impl Abort, alloc: Global, replica: &mut Replica, ask: Ask, times: u32) {
     let op = asked(rt, alloc, ask);
     for _ in 0..times {
@@ -211,7 +216,7 @@ fn take_step(rt: &impl Abort, alloc: Global, replica: &mut Replica, step: Step, 
         Step::Aborts(wanted) => equal_at(rt, replica.abort(), wanted, place),
         Step::Hands(captured, wanted) => hands(rt, alloc, replica, captured, wanted),
         Step::Is(version, instructions) => is_at(rt, replica, (version, instructions), place),
-        Step::Programs(count) => equal_at(rt, replica.distinct_programs(), count, place),
+        Step::Programs(listed, running) => has_programs(rt, replica, (listed, running), place),
         Step::Caps(wanted) => holds_caps(rt, replica, wanted),
         Step::Filters(wanted) => lists(rt, replica, wanted),
     }
@@ -288,7 +293,7 @@ const REPLACED_IN_ORDER: Run = (
         Step::Hands(80, &[(3, 80), (7, 64)]),
         Step::Does(Ask::Remove(1, 2), Ok(Made::Nothing)),
         Step::Does(Ask::Replace(1, 1, FIVE), Ok(Made::Nothing)),
-        Step::Programs(1),
+        Step::Programs(1, 1),
         Step::Hands(80, &[(3, 5), (7, 5)]),
     ],
 );
@@ -333,14 +338,50 @@ const KEPT_ONCE: Run = (
         Step::Does(Ask::Install(1, 1, ALL), Ok(Made::Filter(1))),
         Step::Does(Ask::Install(1, 1, ALL), Ok(Made::Filter(2))),
         Step::Does(Ask::Install(1, 1, THREE), Ok(Made::Filter(3))),
-        Step::Programs(2),
+        Step::Programs(2, 2),
         Step::Is(4, 5),
         Step::Does(Ask::Remove(1, 1), Ok(Made::Nothing)),
-        Step::Programs(2),
+        Step::Programs(2, 2),
         Step::Is(5, 4),
         Step::Does(Ask::Remove(1, 2), Ok(Made::Nothing)),
-        Step::Programs(1),
+        Step::Programs(1, 1),
         Step::Is(6, 3),
+    ],
+);
+
+/// A program runs while a filter that has it has its capability held. Until the last of its filters is removed it is listed.
+const RESTING: Run = (
+    "programs of revoked filters rest",
+    100,
+    &[
+        CREATED,
+        Step::Does(Ask::Mint(1, 1, 2, Rights::R), Ok(Made::Cap(2))),
+        Step::Does(Ask::Install(1, 1, ALL), Ok(Made::Filter(1))),
+        Step::Does(Ask::Install(2, 2, FIVE), Ok(Made::Filter(2))),
+        Step::Does(Ask::Install(2, 2, ALL), Ok(Made::Filter(3))),
+        Step::Programs(2, 2),
+        Step::Does(Ask::Revoke(1, 1), Ok(Made::Nothing)),
+        Step::Programs(2, 1),
+        Step::Is(6, 3),
+        Step::Filters(&[(1, 1, 1, 7, 1), (2, 2, 2, 7, 1), (3, 2, 2, 7, 1)]),
+        Step::Hands(64, &[(7, 64)]),
+        // A program that rests runs again.
+        Step::Does(Ask::Install(1, 1, FIVE), Ok(Made::Filter(4))),
+        Step::Programs(2, 2),
+        Step::Does(Ask::Replace(1, 1, THREE), Ok(Made::Nothing)),
+        Step::Programs(3, 2),
+        Step::Hands(4, &[(7, 4)]),
+        Step::Does(Ask::Replace(1, 1, ALL), Ok(Made::Nothing)),
+        Step::Programs(2, 2),
+        Step::Does(Ask::DropCap(1, 1), Ok(Made::Nothing)),
+        Step::Programs(2, 0),
+        Step::Hands(64, &[]),
+        Step::Does(Ask::Remove(2, 2), Ok(Made::Nothing)),
+        Step::Programs(2, 0),
+        Step::Does(Ask::Remove(1, 4), Ok(Made::Nothing)),
+        Step::Programs(1, 0),
+        Step::Is(12, 2),
+        Step::Filters(&[(1, 1, 1, 7, 1), (3, 2, 2, 7, 1)]),
     ],
 );
 
@@ -402,7 +443,7 @@ const BAD_PROGRAMS: Run = (
 );
 
 /// The worked runs, each on a replica of its own.
-static RUNS: [Run; 10] = [
+static RUNS: [Run; 11] = [
     (
         "keeps the greatest verdict",
         10,
@@ -433,6 +474,7 @@ static RUNS: [Run; 10] = [
     REPLACED_IN_ORDER,
     FULL,
     KEPT_ONCE,
+    RESTING,
     // What is aborted is never shown.
     (
         "aborts",
@@ -589,12 +631,13 @@ fn is_copied(rt: &impl Abort, alloc: Global, replica: &Replica) {
 }
 
 /// What is seen of a replica.
-fn seen(replica: &Replica) -> (bool, u64, u32, usize, usize) {
+fn seen(replica: &Replica) -> (bool, u64, u32, usize, usize, usize) {
     (
         replica.staged(),
         replica.version(),
         replica.total_instructions(),
         replica.distinct_programs(),
+        replica.running_programs(),
         replica.caps().list().len(),
     )
 }

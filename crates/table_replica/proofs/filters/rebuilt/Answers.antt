@@ -1,16 +1,24 @@
-use Rattle.std.proofs.Common.{sym, subst, map, List}
+use Rattle.std.proofs.Common.{◌<◌, ◌∙◌, List, ap, sym, subst, length}
+use Rattle.bpf_insn.specs.declared.insn.Insn.{Insn}
 use Rattle.endpoint_caps.specs.Capabilities.{CapTable}
+use Rattle.filter_table.specs.Tables.{instructions_of}
 use Rattle.table_replica.specs.declared.reaches.Reach.{Reach}
 use Rattle.table_replica.specs.Chains.{AreChained}
-use Rattle.table_replica.specs.Keeping.{AreReaches, listed_row}
-use Rattle.table_replica.proofs.Trimming.{trimmed_shared}
+use Rattle.table_replica.specs.Keeping.{AreFiled, HasReach}
 use Rattle.table_replica.proofs.filters.rebuilt.Goals as goal
 
 pub invariant_of-result : goal.invariant_of-result
 invariant_of-result c =
-    let listed = map (listed_row c.args.all.programs) c.args.all.rows.items in
+    let settled = c.in_ok-left.ensures in
+    let trimmed = c.in_ok-left-2.ensures in
+    let left = c.in_ok-left-2.left in
     record {
-      shared = trimmed_shared c.args.caps.now.held listed c.in_ok-left.left c.args.instructions c.in_ok-left.ensures.trimmed c.requires.total c.in_ok-left.ensures.used;
-      reached = subst (λ (t : CapTable). AreReaches t.held c.in_ok-left.left.rows.items c.in_ok-left.left.reaches.items) (sym c.of.ensures) c.in_ok-left.ensures.trimmed.reached;
-      chained = subst (λ (rs : List Reach). AreChained 0 rs c.in_ok-chains.chains.first.items c.in_ok-chains.chains.next.items) c.deref.ensures.value c.in_ok-chains.ensures;
+      filed = subst (λ (t : CapTable). AreFiled t.held left.rows.items left.programs left.reaches.items) (sym c.of.ensures) trimmed.like.filed;
+      live = λ place low. subst (λ (rs : List Reach). HasReach rs place) (sym trimmed.reaches) (settled.live place (subst (λ (l : List (List Insn)). place < length l) trimmed.running low));
+      rest = trimmed.listed;
+      total = c.requires.total ∙ ap instructions_of (sym (trimmed.like.same ∙ settled.like.same));
+      chained = subst (λ (rs : List Reach). AreChained 0 rs c.in_ok-left.chains.first.items c.in_ok-left.chains.next.items) (sym trimmed.reaches) settled.chained;
     }
+
+pub returns : goal.returns
+returns c = λ j. record { listed = (c.in_ok-left-2.ensures.like.same ∙ c.in_ok-left.ensures.like.same) j; under = c.of.ensures j }

@@ -1,11 +1,11 @@
-use Rattle.std.proofs.Common.{◌∙◌, inl, inr, take, take_all, subst, List, Contains, get_or, ap, sym, arith}
+use Rattle.std.proofs.Common.{◌∙◌, inl, inr, take, take_all, subst, List, Contains, get_or, ap, sym, arith, false}
 use Rattle.std.proofs.lemmas.List.Elements.{Contains-push_cases}
 use Rattle.table_replica.specs.declared.filters.Row.{Row}
 use Rattle.filter_table.proofs.Lists.{never, get_some, take_at, eq_true}
 use Rattle.table_replica.proofs.lost.are_under_none.Goals as goal
 
 abbrev no_row : Row
-no_row = record { id = 0; owner = 0; cap = 0; endpoint = 0; program = 0 }
+no_row = record { id = 0; owner = 0; cap = 0; endpoint = 0; rests = false; program = 0 }
 
 pub loop-row-init : goal.loop-row-init
 loop-row-init c = λ row at. absurd (never row at)

@@ -1,4 +1,4 @@
-use Rattle.std.proofs.Common.{◌==◌, ◌∙◌, List, refl, ap, sym, subst, not, filter, take_all, get_or, arith}
+use Rattle.std.proofs.Common.{◌==◌, ◌∙◌, List, refl, ap, sym, subst, not, filter, take_all, get_or, arith, false}
 use Rattle.std.proofs.lemmas.List.Elements.{Contains-get_or}
 use Rattle.table_replica.specs.declared.filters.Row.{Row}
 use Rattle.table_replica.specs.Keeping.{IsLive}
@@ -9,7 +9,7 @@ use Rattle.table_replica.proofs.reaches.is_live_without.Goals as goal
 use Rattle.table_replica.proofs.reaches.is_live_without.Goals.{else-row-id-via-then-row-id+then-eq+else-is_some, else-row-id-via-then-row-id+else-eq, else-row-id-via-else-row-id}
 
 abbrev no_row : Row
-no_row = record { id = 0; owner = 0; cap = 0; endpoint = 0; program = 0 }
+no_row = record { id = 0; owner = 0; cap = 0; endpoint = 0; rests = false; program = 0 }
 
 pub returns-then-is_some : goal.returns-then-is_some
 returns-then-is_some c = (

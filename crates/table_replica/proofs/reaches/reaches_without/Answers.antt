@@ -1,4 +1,4 @@
-use Rattle.std.proofs.Common.{◌==◌, ◌++◌, ◌∷◌, [], ◌∙◌, List, ap, sym, subst, not, filter, take, take_all, get_or, arith}
+use Rattle.std.proofs.Common.{◌==◌, ◌++◌, ◌∷◌, [], ◌∙◌, List, ap, sym, subst, not, filter, take, take_all, get_or, arith, false}
 use Rattle.std.specs.List.{list_any}
 use Rattle.table_replica.specs.declared.filters.Row.{Row}
 use Rattle.table_replica.specs.declared.reaches.Reach.{Reach}
@@ -11,7 +11,7 @@ use Rattle.table_replica.proofs.reaches.reaches_without.Goals.{then-row-id+then-
 use Rattle.table_replica.proofs.reaches.reaches_without.Goals.{then-not-contains+in_ok-push-2, else-not-contains}
 
 abbrev no_row : Row
-no_row = record { id = 0; owner = 0; cap = 0; endpoint = 0; program = 0 }
+no_row = record { id = 0; owner = 0; cap = 0; endpoint = 0; rests = false; program = 0 }
 
 abbrev no_reach : Reach
 no_reach = record { endpoint = 0; program = 0 }

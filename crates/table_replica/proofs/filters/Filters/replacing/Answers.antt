@@ -1,43 +1,66 @@
-use Rattle.std.proofs.Common.{◌==◌, ◌∙◌, ap, filter, not, map, arith}
+use Rattle.std.proofs.Common.{◌==◌, ◌∙◌, ap, sym, subst, filter, not, map, arith}
+use Rattle.endpoint_caps.specs.Capabilities.{CapTable}
 use Rattle.filter_table.specs.Listed.{FilterTable}
 use Rattle.filter_table.specs.Tables.{instructions_of, replaced}
 use Rattle.table_replica.specs.declared.filters.Row.{Row}
-use Rattle.table_replica.specs.Keeping.{placed_row}
-use Rattle.table_replica.proofs.Moves.{kept_distinct, kept_placed, kept_shows, shows_ok}
+use Rattle.table_replica.specs.Keeping.{AreFiled, ArePlaced, placed_row, shifted_rows}
+use Rattle.table_replica.proofs.Filing.{woken_reached, replacing_placed, replacing_filed, replacing_shows, shows_ok}
 use Rattle.table_replica.proofs.Reaching.{replaced_reached}
 use Rattle.table_replica.proofs.filters.Filters.replacing.Goals as goal
 
+pub reaches_without-requires : goal.reaches_without-requires
+reaches_without-requires c =
+    let i = c.self.inside in
+    let held = c.args.caps.now.held in
+    let kept = c.in_ok-programs in
+    let filed = subst (λ (t : CapTable). AreFiled t.held i.rows.items i.programs i.reaches.items) (ap (λ (t : FilterTable). t.under) c.self.view_is ∙ sym c.requires.caps) c.self.invariant.filed in
+    let woken = c.in_ok-rows.ensures ∙ ap (shifted_rows kept.wakes) c.deref.ensures.value in
+    rw (c.deref-3.ensures.value, c.deref-2.ensures.value, woken)
+    (woken_reached held i.programs kept.programs c.args.program.now kept.place kept.wakes i.rows.items i.reaches.items kept.ensures filed)
+
 pub total_of-instructions-requires-clause-placed : goal.total_of-instructions-requires-clause-placed
 total_of-instructions-requires-clause-placed c =
-    rw c.deref-4.ensures.value
-    (kept_placed c.self.inside.programs c.in_ok-programs.programs c.args.program.now c.self.inside.rows.items c.in_ok-rows.rows.items c.args.id c.in_ok-programs.place c.self.invariant.shared.placed c.in_ok-programs.ensures
-    (c.in_ok-rows.ensures.rows ∙ ap (map (placed_row c.args.id c.in_ok-programs.place)) c.deref-3.ensures.value))
+    let i = c.self.inside in
+    let held = c.args.caps.now.held in
+    let kept = c.in_ok-programs in
+    let filed = subst (λ (t : CapTable). AreFiled t.held i.rows.items i.programs i.reaches.items) (ap (λ (t : FilterTable). t.under) c.self.view_is ∙ sym c.requires.caps) c.self.invariant.filed in
+    let woken = c.in_ok-rows.ensures ∙ ap (shifted_rows kept.wakes) c.deref.ensures.value in
+    let rows = c.in_ok-rows-2.ensures.rows ∙ ap (map (placed_row c.args.id kept.place)) (c.deref-4.ensures.value ∙ woken) in
+    subst (ArePlaced kept.programs) (sym c.deref-5.ensures.value) (replacing_placed held i.programs kept.programs c.args.program.now kept.place kept.wakes i.rows.items i.reaches.items kept.ensures filed c.args.id c.in_ok-rows-2.rows.items rows)
 
 pub total_of-instructions-requires-clause-fits : goal.total_of-instructions-requires-clause-fits
 total_of-instructions-requires-clause-fits c =
-    let shows = kept_shows c.self.inside.programs c.in_ok-programs.programs c.args.program.now c.self.inside.rows.items c.in_ok-rows.rows.items c.args.id c.in_ok-programs.place c.self.invariant.shared.placed c.in_ok-programs.ensures
-    (c.in_ok-rows.ensures.rows ∙ ap (map (placed_row c.args.id c.in_ok-programs.place)) c.deref-3.ensures.value) in
+    let i = c.self.inside in
+    let held = c.args.caps.now.held in
+    let kept = c.in_ok-programs in
+    let filed = subst (λ (t : CapTable). AreFiled t.held i.rows.items i.programs i.reaches.items) (ap (λ (t : FilterTable). t.under) c.self.view_is ∙ sym c.requires.caps) c.self.invariant.filed in
+    let woken = c.in_ok-rows.ensures ∙ ap (shifted_rows kept.wakes) c.deref.ensures.value in
+    let rows = c.in_ok-rows-2.ensures.rows ∙ ap (map (placed_row c.args.id kept.place)) (c.deref-4.ensures.value ∙ woken) in
+    let shows = replacing_shows held i.programs kept.programs c.args.program.now kept.place kept.wakes i.rows.items i.reaches.items kept.ensures filed c.args.id c.in_ok-rows-2.rows.items rows in
     let same = ap instructions_of (shows ∙ ap (λ (t : FilterTable). replaced t.listed c.args.id c.args.program.now) c.self.view_is) in
-    rw c.deref-4.ensures.value (omega (arith, same, c.requires.fits))
+    let fits = c.requires.fits in
+    rw c.deref-5.ensures.value (omega (arith, same, fits))
 
-pub rebuilt-requires-clause-distinct : goal.rebuilt-requires-clause-distinct
-rebuilt-requires-clause-distinct c = kept_distinct c.self.inside.programs c.in_ok-programs.programs c.args.program.now c.in_ok-programs.place c.self.invariant.shared.distinct c.in_ok-programs.ensures
-
-pub rebuilt-requires-clause-placed : goal.rebuilt-requires-clause-placed
-rebuilt-requires-clause-placed c =
-    kept_placed c.self.inside.programs c.in_ok-programs.programs c.args.program.now c.self.inside.rows.items c.in_ok-rows.rows.items c.args.id c.in_ok-programs.place c.self.invariant.shared.placed c.in_ok-programs.ensures
-    (c.in_ok-rows.ensures.rows ∙ ap (map (placed_row c.args.id c.in_ok-programs.place)) c.deref-3.ensures.value)
-
-pub rebuilt-requires-clause-reached : goal.rebuilt-requires-clause-reached
-rebuilt-requires-clause-reached c =
-    let others = filter (λ (row : Row). not (row.id == c.args.id)) c.self.inside.rows.items in
-    let added = c.in_ok-rows.ensures.reached others (rw c.deref-2.ensures.value at c.in_ok-reaches.ensures) in
-    replaced_reached c.args.caps.now.held c.self.inside.rows.items c.in_ok-rows.rows.items c.args.id c.in_ok-programs.place _ (c.in_ok-rows.ensures.rows ∙ ap (map (placed_row c.args.id c.in_ok-programs.place)) c.deref-3.ensures.value) added
+pub rebuilt-requires-clause-filed : goal.rebuilt-requires-clause-filed
+rebuilt-requires-clause-filed c =
+    let i = c.self.inside in
+    let held = c.args.caps.now.held in
+    let kept = c.in_ok-programs in
+    let filed = subst (λ (t : CapTable). AreFiled t.held i.rows.items i.programs i.reaches.items) (ap (λ (t : FilterTable). t.under) c.self.view_is ∙ sym c.requires.caps) c.self.invariant.filed in
+    let woken = c.in_ok-rows.ensures ∙ ap (shifted_rows kept.wakes) c.deref.ensures.value in
+    let rows = c.in_ok-rows-2.ensures.rows ∙ ap (map (placed_row c.args.id kept.place)) (c.deref-4.ensures.value ∙ woken) in
+    let others = filter (λ (row : Row). not (row.id == c.args.id)) (shifted_rows kept.wakes i.rows.items) in
+    let added = c.in_ok-rows-2.ensures.reached others (rw (c.deref-3.ensures.value, woken) at c.in_ok-reaches.ensures) in
+    replacing_filed held i.programs kept.programs c.args.program.now kept.place kept.wakes i.rows.items i.reaches.items kept.ensures filed c.args.id c.in_ok-rows-2.rows.items c.rows_with.new.reaches.items rows
+    (replaced_reached held (shifted_rows kept.wakes i.rows.items) c.in_ok-rows-2.rows.items c.args.id kept.place c.rows_with.new.reaches.items rows added)
 
 pub returns : goal.returns
 returns c =
-    shows_ok c.rebuilt.result c.args.caps.now _ _
-    (kept_shows c.self.inside.programs c.in_ok-programs.programs c.args.program.now c.self.inside.rows.items c.in_ok-rows.rows.items c.args.id c.in_ok-programs.place c.self.invariant.shared.placed c.in_ok-programs.ensures
-    (c.in_ok-rows.ensures.rows ∙ ap (map (placed_row c.args.id c.in_ok-programs.place)) c.deref-3.ensures.value)
-    ∙ ap (λ (t : FilterTable). replaced t.listed c.args.id c.args.program.now) c.self.view_is)
-    c.rebuilt.ensures
+    let i = c.self.inside in
+    let held = c.args.caps.now.held in
+    let kept = c.in_ok-programs in
+    let filed = subst (λ (t : CapTable). AreFiled t.held i.rows.items i.programs i.reaches.items) (ap (λ (t : FilterTable). t.under) c.self.view_is ∙ sym c.requires.caps) c.self.invariant.filed in
+    let woken = c.in_ok-rows.ensures ∙ ap (shifted_rows kept.wakes) c.deref.ensures.value in
+    let rows = c.in_ok-rows-2.ensures.rows ∙ ap (map (placed_row c.args.id kept.place)) (c.deref-4.ensures.value ∙ woken) in
+    let shows = replacing_shows held i.programs kept.programs c.args.program.now kept.place kept.wakes i.rows.items i.reaches.items kept.ensures filed c.args.id c.in_ok-rows-2.rows.items rows in
+    shows_ok c.rebuilt.result c.args.caps.now _ _ (shows ∙ ap (λ (t : FilterTable). replaced t.listed c.args.id c.args.program.now) c.self.view_is) c.rebuilt.ensures

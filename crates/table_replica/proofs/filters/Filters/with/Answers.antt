@@ -1,33 +1,48 @@
-use Rattle.std.proofs.Common.{◌+◌, ◌++◌, [], ◌∷◌, ◌∙◌, ℕ, List, ap, sym, subst, length}
+use Rattle.std.proofs.Common.{◌≡◌, ◌++◌, [], ◌∷◌, ◌∙◌, List, false, refl, ap, sym, subst, length, map, arith}
+use Rattle.bpf_insn.specs.declared.insn.Insn.{Insn}
 use Rattle.endpoint_caps.specs.Capabilities.{CapTable}
 use Rattle.filter_table.specs.Listed.{FilterTable}
+use Rattle.filter_table.specs.Tables.{instructions_of}
+use Rattle.filter_table.proofs.Lists.{instructions-push}
 use Rattle.table_replica.specs.declared.filters.Row.{Row}
-use Rattle.table_replica.specs.declared.reaches.Reach.{Reach}
-use Rattle.table_replica.specs.Keeping.{AreReaches}
+use Rattle.table_replica.specs.Keeping.{AreFiled, AreReaches, listed_row, shifted_rows}
 use Rattle.table_replica.specs.Lent.{shown_filter}
-use Rattle.table_replica.proofs.Shared.{shared_after, view_after}
+use Rattle.table_replica.proofs.Filing.{woken_reached, with_filed, with_shows, shows_ok}
 use Rattle.table_replica.proofs.filters.Filters.with.Goals as goal
 
-pub invariant_of-result : goal.invariant_of-result
-invariant_of-result c =
-    let row : Row = record { id = c.args.filter.id; owner = c.args.filter.owner; cap = c.args.filter.cap; endpoint = c.args.filter.endpoint; program = c.in_ok-programs.program } in
-    let pushed = c.in_ok-rows.ensures.rows ∙ ap (λ (rs : List Row). rs ++ row ∷ []) c.deref.ensures.value in
-    let keeps = c.in_ok-programs.ensures in
-    let before = subst (λ (t : CapTable). AreReaches t.held c.self.inside.rows.items c.self.inside.reaches.items) (ap (λ (t : FilterTable). t.under) c.self.view_is ∙ sym c.requires.caps) c.self.invariant.reached in
-    let lent = subst (λ (rs : List Reach). AreReaches c.args.caps.now.held c.self.inside.rows.items rs) (sym c.deref-2.ensures.value) before in
-    record {
-      shared = shared_after c.self.inside.rows.items c.self.inside.programs c.self.inside.instructions c.args.filter.program.now c.in_ok-programs.programs row c.self.invariant.shared keeps
-          c.in_ok-rows.rows.items pushed _ (ap (λ (n : ℕ). c.self.inside.instructions + n) (ap length c.code.ensures.code));
-      reached = rw (c.of.ensures, c.in_ok-rows.ensures.rows) (c.in_ok-rows.ensures.reaches
-          (subst (λ (rows : List Row). AreReaches c.args.caps.now.held rows c.deref-2.result.now) (sym c.deref.ensures.value) lent));
-      chained = c.in_ok-rows.ensures.chained;
-    }
+pub rebuilt-requires-clause-filed : goal.rebuilt-requires-clause-filed
+rebuilt-requires-clause-filed c =
+    let i = c.self.inside in
+    let held = c.args.caps.now.held in
+    let kept = c.in_ok-programs in
+    let filter = c.args.filter in
+    let row : Row = record { id = filter.id; owner = filter.owner; cap = filter.cap; endpoint = filter.endpoint; rests = false; program = kept.program } in
+    let filed = subst (λ (t : CapTable). AreFiled t.held i.rows.items i.programs i.reaches.items) (ap (λ (t : FilterTable). t.under) c.self.view_is ∙ sym c.requires.caps) c.self.invariant.filed in
+    let pushed = c.in_ok-push.ensures.items ∙ ap (λ (rs : List Row). rs ++ row ∷ []) (c.in_ok-rows.ensures ∙ ap (shifted_rows kept.wakes) c.deref-2.ensures.value) in
+    let reached = c.in_ok-reaches.ensures (shifted_rows kept.wakes i.rows.items)
+    (subst (AreReaches held (shifted_rows kept.wakes i.rows.items)) (sym c.deref.ensures.value)
+    (woken_reached held i.programs kept.programs filter.program.now kept.program kept.wakes i.rows.items i.reaches.items kept.ensures filed)) in
+    with_filed held i.programs kept.programs filter.program.now kept.program kept.wakes i.rows.items i.reaches.items kept.ensures filed row c.push.new.self.items c.in_ok-reaches.reaches.items refl refl pushed reached
+
+pub rebuilt-requires-clause-total : goal.rebuilt-requires-clause-total
+rebuilt-requires-clause-total c =
+    let i = c.self.inside in
+    let kept = c.in_ok-programs in
+    let filter = c.args.filter in
+    let row : Row = record { id = filter.id; owner = filter.owner; cap = filter.cap; endpoint = filter.endpoint; rests = false; program = kept.program } in
+    let pushed = c.in_ok-push.ensures.items ∙ ap (λ (rs : List Row). rs ++ row ∷ []) (c.in_ok-rows.ensures ∙ ap (shifted_rows kept.wakes) c.deref-2.ensures.value) in
+    let shows = with_shows i.under.value.held i.programs kept.programs filter.program.now kept.program kept.wakes i.rows.items i.reaches.items kept.ensures c.self.invariant.filed row c.push.new.self.items refl refl pushed in
+    let sum = ap instructions_of shows ∙ instructions-push (map (listed_row i.programs) i.rows.items) (shown_filter filter) in
+    let long : length c.code.result.now ≡ length filter.program.now = ap (length {A = Insn}) c.code.ensures.code in
+    let total = c.self.invariant.total in
+    omega (arith, sum, long, total)
 
 pub returns : goal.returns
 returns c =
-    let row : Row = record { id = c.args.filter.id; owner = c.args.filter.owner; cap = c.args.filter.cap; endpoint = c.args.filter.endpoint; program = c.in_ok-programs.program } in
-    let pushed = c.in_ok-rows.ensures.rows ∙ ap (λ (rs : List Row). rs ++ row ∷ []) c.deref.ensures.value in
-    let keeps = c.in_ok-programs.ensures in
-    let listed = view_after c.self.inside.rows.items c.self.inside.programs c.self.inside.instructions c.args.filter.program.now c.in_ok-programs.programs row c.self.invariant.shared keeps
-    c.in_ok-rows.rows.items pushed ∙ ap (λ (t : FilterTable). t.listed ++ shown_filter c.args.filter ∷ []) c.self.view_is in
-    λ j. record { listed = listed j; under = c.of.ensures j }
+    let i = c.self.inside in
+    let kept = c.in_ok-programs in
+    let filter = c.args.filter in
+    let row : Row = record { id = filter.id; owner = filter.owner; cap = filter.cap; endpoint = filter.endpoint; rests = false; program = kept.program } in
+    let pushed = c.in_ok-push.ensures.items ∙ ap (λ (rs : List Row). rs ++ row ∷ []) (c.in_ok-rows.ensures ∙ ap (shifted_rows kept.wakes) c.deref-2.ensures.value) in
+    let shows = with_shows i.under.value.held i.programs kept.programs filter.program.now kept.program kept.wakes i.rows.items i.reaches.items kept.ensures c.self.invariant.filed row c.push.new.self.items refl refl pushed in
+    shows_ok c.rebuilt.result c.args.caps.now _ _ (shows ∙ ap (λ (t : FilterTable). t.listed ++ shown_filter filter ∷ []) c.self.view_is) c.rebuilt.ensures

@@ -1,0 +1,30 @@
+use Rattle.std.proofs.Common.{◌≡◌, ◌++◌, ◌∷◌, [], ◌∙◌, List, ap, sym, subst, map, false, refl, Some}
+use Rattle.bpf_insn.specs.declared.insn.Insn.{Insn}
+use Rattle.filter_group.specs.Programs.{AreWithout}
+use Rattle.table_replica.specs.declared.filters.Row.{Row}
+use Rattle.table_replica.specs.declared.shifts.Shift.{Shift}
+use Rattle.table_replica.specs.Keeping.{AreFiled, IsShift, listed_row, shift_row}
+use Rattle.table_replica.proofs.Filing.{rested_filed}
+use Rattle.table_replica.proofs.settling.rested.Goals as goal
+
+pub returns-clause-like : goal.returns-clause-like
+returns-clause-like c = λ caps filed.
+    let left = c.args.left in
+    let without = c.in_ok-programs.programs in
+    let after = c.in_ok-programs-2.programs in
+    let program = c.in_ok-program.program in
+    let shift : Shift = record { rests = false; taken = c.args.taken; last = c.count-last.result; to = c.count-to.result } in
+    let shifts : IsShift left.programs program shift after = record {
+      was = c.at.ensures ∙ ap (λ (p : List Insn). Some p) (sym c.in_ok-program.ensures);
+      left = subst (AreWithout left.programs.running c.args.taken) (sym c.in_ok-programs-2.ensures.running) c.in_ok-programs.ensures.left;
+      last = c.count-last.ensures;
+      gets = c.in_ok-programs-2.ensures.resting ∙ ap (λ (l : List (List Insn)). l ++ program ∷ []) c.in_ok-programs.ensures.others;
+      to = c.count-to.ensures;
+    } in
+    let like = rested_filed caps left.programs after program shift left.rows.items left.reaches.items shifts refl c.requires.idle filed in
+    let rows : c.in_ok-rows.rows.items ≡ map (shift_row shift) left.rows.items = c.in_ok-rows.ensures ∙ ap (map (shift_row shift)) c.deref.ensures.value in
+    record {
+      filed = subst (λ (rs : List Row). AreFiled caps rs after c.in_ok-reaches.reaches.items) (sym rows)
+          (subst (AreFiled caps (map (shift_row shift) left.rows.items) after) (sym c.in_ok-reaches.ensures) like.filed);
+      same = ap (map (listed_row after)) rows ∙ like.same;
+    }

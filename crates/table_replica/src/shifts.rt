@@ -1,0 +1,123 @@
+//! The places of programs in rows and reaches, once a program is taken out of a list.
+ghost use Rattle.std.specs.Prelude.{◌≡◌, map, IfOk};
+ghost use Rattle.table_replica.specs.Keeping.{lowered_row, reaches_after, shift_row, shifted_rows, is_in};
+
+use crate::filters::Row;
+use crate::reaches::{Reach, lowered_reaches, place_after};
+use std::alloc::{AllocError, Global};
+
+/// A program that goes from one list to the end of the other.
+#[derive(Clone, Copy)]
+pub(crate) struct Shift {
+    /// Whether it rested, or else ran.
+    pub(crate) rests: bool,
+    /// Its place before.
+    pub(crate) taken: usize,
+    /// The last place of its list before: the program there gets its place.
+    pub(crate) last: usize,
+    /// Its place after.
+    pub(crate) to: usize,
+}
+
+/// Whether the program of a row is one of those that rest, or run.
+pub(crate) fn is_in(rests: bool, row: &Row) -> bool
+    ensures { result ≡ is_in rests row.now }
+{
+    row.rests == rests
+}
+
+/// A row once the program at a place of a list is taken out, which the last then gets.
+fn lowered_row(row: &Row, rests: bool, taken: usize, last: usize) -> Row
+    ensures { result ≡ lowered_row rests taken last row.now }
+{
+    if is_in(rests, row) {
+        Row {
+            program: place_after(taken, last, row.program),
+            ..*row
+        }
+    } else {
+        *row
+    }
+}
+
+/// A row once a program has gone to the other list.
+fn shifted_row(row: &Row, shift: Shift) -> Row
+    ensures { result ≡ shift_row shift row.now }
+{
+    if is_in(shift.rests, row) && row.program == shift.taken {
+        Row {
+            rests: !shift.rests,
+            program: shift.to,
+            ..*row
+        }
+    } else {
+        lowered_row(row, shift.rests, shift.taken, shift.last)
+    }
+}
+
+/// The rows once the program at a place of a list is taken out, which the last then gets.
+pub(crate) fn lowered_rows(
+    alloc: Global,
+    rows: &[Row],
+    rests: bool,
+    taken: usize,
+    last: usize,
+) -> Result<Vec<Row>, AllocError>
+    ensures { IfOk result (λ after. after.items ≡ map (lowered_row rests taken last) rows.now) }
+{
+    let mut after = Vec::with_capacity(alloc, rows.len())?;
+    for row in rows {
+        after.push(lowered_row(row, rests, taken, last))?;
+    }
+    Ok(after)
+}
+
+/// The rows once a program has gone to the other list, with room for one more.
+pub(crate) fn shifted_rows(
+    alloc: Global,
+    rows: &[Row],
+    shift: Shift,
+) -> Result<Vec<Row>, AllocError>
+    ensures { IfOk result (λ after. after.items ≡ map (shift_row shift) rows.now) }
+{
+    let mut after = Vec::with_capacity(alloc, rows.len() + 1)?;
+    for row in rows {
+        after.push(shifted_row(row, shift))?;
+    }
+    Ok(after)
+}
+
+/// The rows after a shift, if there is one, with room for one more.
+pub(crate) fn rows_after(
+    alloc: Global,
+    rows: &[Row],
+    shift: Option<Shift>,
+) -> Result<Vec<Row>, AllocError>
+    ensures { IfOk result (λ after. after.items ≡ shifted_rows shift rows.now) }
+{
+    match shift {
+        Some(shift) => shifted_rows(alloc, rows, shift),
+        None => {
+            let mut after = Vec::with_capacity(alloc, rows.len() + 1)?;
+            after.extend_from_slice(rows)?;
+            Ok(after)
+        }
+    }
+}
+
+/// The reaches once the program at a place of a list is taken out. They have programs that run.
+pub(crate) fn reaches_after(
+    alloc: Global,
+    reaches: Vec<Reach>,
+    rests: bool,
+    taken: usize,
+    last: usize,
+) -> Result<Vec<Reach>, AllocError>
+    ensures { IfOk result (λ after. after.items ≡ reaches_after rests taken last reaches.items) }
+{
+    if rests {
+        Ok(reaches)
+    } else {
+        lowered_reaches(alloc, &reaches, taken, last)
+    }
+}
