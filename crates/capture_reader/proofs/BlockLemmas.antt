@@ -4,19 +4,22 @@ use Rattle.std.specs.Result.{IsErrAnd}
 use Rattle.std.proofs.lemmas.List.{append-nil}
 use Rattle.pcapng_reader.specs.declared.block.Content.{Content}
 use Rattle.pcapng_reader.specs.declared.block.Content.TheVariants.{Other}
+use Rattle.pcapng_reader.specs.declared.block.Content.TheVariants as blocks
 use Rattle.pcapng_reader.specs.declared.fault.CaptureFault.{CaptureFault}
 use Rattle.pcapng_reader.specs.declared.feed.BlockFeed.{BlockFeed}
 use Rattle.pcapng_reader.specs.declared.feed.Step.{Step}
 use Rattle.pcapng_reader.specs.declared.feed.Step.TheVariants as steps
 use Rattle.pcapng_reader.specs.declared.seen.Block.{Block}
+use Rattle.pcapng_reader.specs.declared.seen.Skimmed.{Skimmed}
 use Rattle.pcapng_reader.specs.Grammar.{WholeBlock, start}
-use Rattle.pcapng_reader.specs.Held.{Adds as AddsBlock, Advances as AdvancesBlock, HoldsAfter as HoldsBlocks, held_block, held_fault, seen_block}
+use Rattle.pcapng_reader.specs.Held.{Adds as AddsBlock, Advances as AdvancesBlock, HoldsAfter as HoldsBlocks, Skims, held_block, held_fault, place_of, seen_block}
 use Rattle.pcapng_reader.proofs.FeedLemmas.{open_of}
 use Rattle.pcapng_reader.proofs.LawLemmas.{block_least}
+use Rattle.capture_reader.specs.declared.entry.Entry.TheVariants.{Packet}
 use Rattle.capture_reader.specs.declared.entry.Item.{Item}
 use Rattle.capture_reader.specs.declared.entry.Found.{Found}
 use Rattle.capture_reader.specs.declared.entry.Found.TheVariants.{Item as Seen, Held, Nothing}
-use Rattle.capture_reader.specs.Entries.{EntryBytes, block_entry, listed, pcapng_entries}
+use Rattle.capture_reader.specs.Entries.{EntryBytes, block_entry, block_info, listed, pcapng_entries}
 use Rattle.capture_reader.specs.Steps.{Adds, AdvancesBy, seen_item}
 use Rattle.capture_reader.specs.Holding.{HoldsPcapng, StopsPcapng, entry_of}
 
@@ -85,6 +88,16 @@ takes_item bytes rest old new b item found says tells takes = record {
   parts = takes.parts;
   adds = λ given fed held short. adds_item given held.0 (fed ++ takes.front) new b item found held.2 says tells (takes.adds held.0 fed held.1 short);
 }
+
+pub takes_skimmed : (bytes rest : List ℕ) (old new : BlockFeed) (seen : Skimmed) (item : Item) → Skims bytes rest old new seen → item.entry ≡ Packet (block_info seen.packet) → item.bytes.now ≡ seen.bytes.now
+    → AdvancesBy {E = CaptureFault} (HoldsPcapng old) (HoldsPcapng new) StopsPcapng (entry_of (held_block new)) bytes rest (Ok (Seen item))
+takes_skimmed bytes rest old new seen item skims says lies = takes_item bytes rest old new block (Some item) (Seen item) told refl skims.takes
+  where
+    block : Block
+    block = record { offset = (place_of old).offset; bytes = seen.block; content = blocks.Packet seen.packet }
+
+    told : block_entry (blocks.Packet seen.packet) seen.block.now ≡ Some (seen_item item)
+    told = rw (says, lies, skims.captured) refl
 
 -- what is told of the block that is held
 abbrev pub IsHeldAs : Option EntryBytes → Found → Type 0

@@ -127,6 +127,12 @@ pcapng_goes bytes rest old new blocks blocks' found going is going' is' takes = 
       adds_pcapng given (fed ++ takes.front) new blocks' found going' is' (told-on fed takes.front (told_long fed was.0) ∙ was.0) (takes.adds given fed was.1 short);
 }
 
+-- a packet that lies whole, if one does
+pub pcapng_goes_whole : (bytes rest : List ℕ) (old new : CaptureFeed) (blocks blocks' : BlockFeed) (item : Option Item) → old.fault ≡ None → old.format ≡ Pcapng blocks → new.fault ≡ None → new.format ≡ Pcapng blocks'
+    → IfSome item (λ i. AdvancesBy {E = PcapngFault} (HoldsPcapng blocks) (HoldsPcapng blocks') StopsPcapng (entry_of (held_block blocks')) bytes rest (Ok (Seen i))) → IfSome item (λ i. Advances bytes rest old new (Ok (Seen i)))
+pcapng_goes_whole bytes rest old new blocks blocks' (Some i) going is going' is' takes = pcapng_goes bytes rest old new blocks blocks' (Seen i) going is going' is' takes
+pcapng_goes_whole bytes rest old new blocks blocks' None going is going' is' takes = tt
+
 pub pcapng_stops : (bytes rest : List ℕ) (old new : CaptureFeed) (blocks blocks' : BlockFeed) (r : Result Found ReadFault) (fault : PcapngFault) → IsErrAnd r (λ g. g ≡ OfPcapng fault) → old.fault ≡ None → old.format ≡ Pcapng blocks
     → AdvancesBy {E = PcapngFault} (HoldsPcapng blocks) (HoldsPcapng blocks') StopsPcapng (entry_of (held_block blocks')) bytes rest (Err fault) → Advances bytes rest old new r
 pcapng_stops bytes rest old new blocks blocks' (Ok found) fault handed going is stops = absurd handed

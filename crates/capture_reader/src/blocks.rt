@@ -1,6 +1,6 @@
 //! Captures in pcapng that come in pieces, entry by entry.
 
-ghost use Rattle.std.specs.Prelude.{◌≡◌, ◌<◌, [], Some, None, length, IfOk, IfErr, IsSome, MatchOption};
+ghost use Rattle.std.specs.Prelude.{◌≡◌, ◌<◌, [], Some, None, Ok, length, IfOk, IfErr, IfSome, IsSome, MatchOption};
 ghost use Rattle.pcapng_reader.specs.Held.{held_block, held_fault};
 ghost use Rattle.capture_reader.specs.Entries.{block_entry, block_info, time_of};
 ghost use Rattle.capture_reader.specs.Holding.{HoldsPcapng, StopsPcapng, entry_of};
@@ -37,6 +37,24 @@ pub(crate) fn next_block<'b>(
         Step::Held => Ok(held(feed)),
         Step::Passed | Step::More => Ok(Found::Nothing),
     }
+}
+
+/// The packet of the block at the front of `rest`, which is taken off, where it is an enhanced packet block, lies whole there and
+/// has nothing wrong; else nothing changes.
+#[inline(always)]
+pub(crate) fn next_whole_packet<'b>(
+    feed: &mut BlockFeed,
+    rest: &mut &'b [u8],
+) -> Option<Item<'b>>
+    ensures advances { IfSome result (λ item. AdvancesBy {E = CaptureFault} (HoldsPcapng feed.old) (HoldsPcapng feed.new) StopsPcapng (entry_of (held_block feed.new)) rest.old.now rest.new.now (Ok (Found.Item item))) }
+    ensures shorter { IfSome result (λ _. IsShorter rest.old.now rest.new.now) }
+    ensures same { result ≡ None → (feed.new ≡ feed.old) × (rest.new.now ≡ rest.old.now) }
+{
+    let skimmed = feed.skim(rest)?;
+    Some(Item {
+        entry: Entry::Packet(info_of(skimmed.packet)),
+        bytes: skimmed.bytes,
+    })
 }
 
 /// An item that was seen, if there is one.
@@ -85,6 +103,7 @@ pub(crate) fn item_of<'b>(block: Block<'b>) -> Option<Item<'b>>
 }
 
 /// What a block says of its packet.
+#[inline(always)]
 fn info_of(entry: PacketEntry) -> PacketInfo
     ensures { result ≡ block_info entry }
 {
@@ -98,6 +117,7 @@ fn info_of(entry: PacketEntry) -> PacketInfo
 }
 
 /// When the packet of a block was seen.
+#[inline(always)]
 fn time_of(time: Option<Time>) -> PacketTime
     ensures { result ≡ time_of time }
 {

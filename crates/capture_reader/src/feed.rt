@@ -3,7 +3,7 @@
 ghost use Rattle.std.specs.Prelude.{◌≡◌, [], length, IfOk, IfErr};
 ghost use Rattle.capture_reader.specs.Holding.{HoldsAs, StopsAs};
 
-use crate::blocks::{begun, item_of, next_block};
+use crate::blocks::{begun, item_of, next_block, next_whole_packet};
 use crate::entry::{Found, Item};
 use crate::fault::ReadFault;
 use crate::records::RecordFeed;
@@ -75,9 +75,11 @@ impl CaptureFeed {
         }
     }
 
-    /// The record of a savefile that lies whole at the front of `rest`, which is taken off; else nothing changes.
-    #[inline]
-    fn next_whole<'b>(&mut self, rest: &mut &'b [u8]) -> Option<Item<'b>>
+    /// Takes the next entry off the front of `rest`, where it is a packet that lies whole there and has nothing wrong.
+    ///
+    /// Where it takes nothing, which it may do at any entry, `next` goes on. It does less than `next`.
+    #[inline(always)]
+    pub fn next_whole<'b>(&mut self, rest: &mut &'b [u8]) -> Option<Item<'b>>
         ensures advances { IfSome result (λ item. Advances rest.old.now rest.new.now self.old self.new (Ok (Found.Item item))) }
         ensures shorter { IfSome result (λ _. IsShorter rest.old.now rest.new.now) }
         ensures going { IfSome result (λ _. (held_fault self.old ≡ None) × (held_fault self.new ≡ None)) }
@@ -88,11 +90,14 @@ impl CaptureFeed {
         }
         match &mut self.format {
             Format::Savefile(records) => records.next_whole(rest),
-            Format::Unknown | Format::Pcapng(_) => None,
+            Format::Pcapng(blocks) => next_whole_packet(blocks, rest),
+            Format::Unknown => None,
         }
     }
 
+    // Apart from `next`, so that a packet that lies whole has a short way.
     /// Takes bytes as `next` does, of whatever they are.
+    #[inline(never)]
     fn go_on<'b>(&mut self, rest: &mut &'b [u8]) -> Result<Found<'b>, ReadFault>
         ensures advances { Advances rest.old.now rest.new.now self.old self.new result }
         ensures shorter { IfOk result (λ _. IsShorter rest.old.now rest.new.now) }

@@ -79,7 +79,7 @@ impl RecordFeed {
     /// The record that lies whole at the front of `rest`, which is taken off, unless one is open or held; else nothing changes.
     ///
     /// It finds what `next` finds most often, in the fewest steps.
-    #[inline]
+    #[inline(always)]
     pub fn next_whole<'b>(&mut self, rest: &mut &'b [u8]) -> Option<Item<'b>>
         ensures advances { IfSome result (λ item. AdvancesBy {E = CaptureFault} (HoldsRecords self.old) (HoldsRecords self.new) StopsRecords (held_record self.new) rest.old.now rest.new.now (Ok (Found.Item item))) }
         ensures shorter { IfSome result (λ _. IsShorter rest.old.now rest.new.now) }
@@ -170,7 +170,7 @@ impl RecordFeed {
     }
 
     /// Takes a whole record of so many bytes.
-    #[inline]
+    #[inline(always)]
     fn pass<'b>(&mut self, header: Header, length: usize, rest: &mut &'b [u8]) -> Item<'b>
         requires between { (self.old.held ≡ None) × (self.old.header ≡ Some header) × (self.old.part.items ≡ []) }
         requires whole { IsNext header.big rest.old.now (NextRecord.Whole length) }
@@ -220,6 +220,7 @@ impl RecordFeed {
 }
 
 /// What bytes begin with that follow a header or a record.
+#[inline(always)]
 fn next_record(big: bool, bytes: &[u8]) -> NextRecord
     ensures { IsNext big bytes.now result }
 {
@@ -249,6 +250,7 @@ fn wanted(big: bool, part: &[u8]) -> usize
 }
 
 /// What the header of a record says of its packet.
+#[inline(always)]
 fn info_of(header: Header, bytes: &[u8]) -> PacketInfo
     requires { 16 ≤ length bytes.now }
     ensures { result ≡ record_info header bytes.now }
@@ -267,6 +269,7 @@ fn info_of(header: Header, bytes: &[u8]) -> PacketInfo
 }
 
 /// The number in the first four bytes.
+#[inline(always)]
 fn word_at(big: bool, bytes: &[u8]) -> u32
     requires { 4 ≤ length bytes.now }
     ensures { result ≡ number big 4 bytes.now }

@@ -1,5 +1,5 @@
 -- What is read of a front of some bytes is read of them all.
-use Rattle.std.proofs.Common.{◌≡◌, ◌≢◌, ℕ, ◌-◌, ◌%◌, ◌≤◌, ◌<◌, ◌==◌, ◌||◌, ◌⊎◌, not, nat_lt, Bool, true, false, if◌then◌else◌, List, [], ◌++◌, length, take, drop, arith, refl, ap, sym, ◌∙◌, inl, inr, length-append, length-take-le, eq-eqb, Result, Ok, Err}
+use Rattle.std.proofs.Common.{◌≡◌, ◌≢◌, ℕ, ◌-◌, ◌%◌, ◌≤◌, ◌<◌, ◌==◌, ◌||◌, ◌⊎◌, not, nat_lt, Bool, true, false, if◌then◌else◌, List, [], ◌++◌, length, take, drop, arith, refl, ap, sym, ◌∙◌, inl, inr, length-append, length-take-le, Result, Ok, Err}
 use Rattle.std.proofs.lemmas.List.{take-append-le, take-take, take-append-drop}
 use Rattle.std.proofs.lemmas.Bool.{cases_lt}
 use Rattle.std.proofs.lemmas.Bool.Decides.{nat_tests}
@@ -7,14 +7,11 @@ use Rattle.pcap_reader.specs.Savefile.{number}
 use Rattle.pcap_reader.proofs.Fronts.{word-front, word_at-front}
 use Rattle.pcapng_reader.specs.declared.frame.Frame.{Frame}
 use Rattle.pcapng_reader.specs.declared.front.Front.TheVariants.{Short, Wrong, Whole}
-use Rattle.pcapng_reader.specs.declared.front.PacketFront.{PacketFront}
-use Rattle.pcapng_reader.specs.declared.block.Content.TheVariants.{Packet}
-use Rattle.pcapng_reader.specs.Growth.{IsFramedPacket, IsPacketFront}
 use Rattle.pcapng_reader.specs.declared.block.InterfaceDescription.{InterfaceDescription}
 use Rattle.pcapng_reader.specs.declared.block.Content.{Content}
 use Rattle.pcapng_reader.specs.declared.block.BlockError.{BlockError}
 use Rattle.pcapng_reader.specs.declared.block.BlockError.TheVariants.{NoSection, BadLength, TooLong}
-use Rattle.pcapng_reader.specs.Blocks.{IsFrame, least_of, order_in, measure_of, measure_in, frame_in, content_in, enhanced_in}
+use Rattle.pcapng_reader.specs.Blocks.{IsFrame, least_of, order_in, measure_of, measure_in, frame_in, content_in}
 use Rattle.pcapng_reader.specs.Grammar.{outcome_of, framed_in, front_in}
 
 order-on : (xs ys : List ℕ) → 12 ≤ length xs → order_in (drop 8 (xs ++ ys)) ≡ order_in (drop 8 xs)
@@ -208,30 +205,3 @@ front_kind sections big interfaces bytes short long (begins_all frame many frame
 pub front_of_short : (sections : ℕ) (big : Bool) (interfaces : List InterfaceDescription) (bytes : List ℕ) → front_in sections big interfaces bytes ≡ Short → 12 ≤ length bytes
     → (frame : Frame) × (frame_in sections big bytes ≡ Ok frame) × (length bytes < frame.total)
 front_of_short sections big interfaces bytes short long = front_kind sections big interfaces bytes short long (begins sections big interfaces bytes)
-
--- Enhanced packet blocks
-
-content_enhanced : (sections : ℕ) (interfaces : List InterfaceDescription) (frame : Frame) (block : List ℕ) → frame.kind ≡ 6 → number frame.big 4 (drop (length block - 4) block) ≡ frame.total
-    → content_in sections interfaces frame block ≡ enhanced_in sections interfaces frame.big block
-unfolding content_in
-content_enhanced sections interfaces frame block kind repeated =
-    let same : (number frame.big 4 (drop (length block - 4) block) == frame.total) ≡ true = eq-eqb _ _ repeated in
-    rw same (rw kind refl)
-
--- bytes with a good front that begin with one
-pub packet_front : (sections : ℕ) (big : Bool) (interfaces : List InterfaceDescription) (bytes : List ℕ) (frame : Frame) (front : PacketFront) → 12 ≤ length bytes → frame_in sections big bytes ≡ Ok frame
-    → IsFramedPacket interfaces frame bytes front → IsPacketFront sections big interfaces bytes front
-packet_front sections big interfaces bytes frame front long framed is =
-    let block = take frame.total bytes in
-    let has = is.skimmed in
-    record {
-      entry = has.entry sections;
-      whole = front_long sections big interfaces bytes long ∙ (ap (λ f. framed_in sections interfaces f bytes) framed
-          ∙ (framed_all sections interfaces frame bytes is.within
-          ∙ (ap (outcome_of frame.total) (content_enhanced sections interfaces frame block is.kind is.repeated ∙ has.says sections) ∙ ap (λ n. Whole n (Packet (has.entry sections))) (sym is.total))));
-      start = has.start sections;
-      captured = has.captured_is sections;
-      original = has.original sections;
-      fits = omega (arith, has.fits, is.total, length-take-le frame.total bytes is.within);
-      within = omega (arith, is.total, is.within);
-    }

@@ -50,6 +50,23 @@ packets_within : (sections : ℕ) (interfaces : List InterfaceDescription) (inte
 unfolding packet_in
 packets_within sections interfaces interface big block entry e = packet_within sections _ interface big block entry e
 
+-- those of an enhanced packet block begin behind its fields
+fitting_start : (r : Result (Unit {0}) BlockError) (packet entry : PacketEntry) → if_fitting r packet ≡ Ok (Packet entry) → entry.start ≡ packet.start
+fitting_start (Err error) packet entry e = absurd (cc)
+fitting_start (Ok done) packet entry e = let same : packet ≡ entry = cc in rw same refl
+
+packet_start : (sections : ℕ) (described : Option InterfaceDescription) (interface : ℕ) (big : Bool) (block : List ℕ) (entry : PacketEntry) → packet_of sections described interface big block ≡ Ok (Packet entry) → entry.start ≡ 28
+packet_start sections None interface big block entry e = absurd (cc)
+packet_start sections (Some described) interface big block entry e = fitting_start (fitting 28 (number big 4 (drop 20 block)) (length block)) _ entry e
+
+pub enhanced_start : (sections : ℕ) (interfaces : List InterfaceDescription) (big : Bool) (block : List ℕ) (entry : PacketEntry) → enhanced_in sections interfaces big block ≡ Ok (Packet entry) → entry.start ≡ 28
+unfolding enhanced_in packet_in
+enhanced_start sections interfaces big block entry e = packet_start sections (slice_get interfaces (number big 4 (drop 8 block))) (number big 4 (drop 8 block)) big block entry e
+
+pub enhanced_within : (sections : ℕ) (interfaces : List InterfaceDescription) (big : Bool) (block : List ℕ) (entry : PacketEntry) → enhanced_in sections interfaces big block ≡ Ok (Packet entry) → IsWithin entry (length block)
+unfolding enhanced_in
+enhanced_within sections interfaces big block entry e = packets_within sections interfaces (number big 4 (drop 8 block)) big block entry e
+
 header_apart : (big : Bool) (block : List ℕ) (entry : PacketEntry) → header_in big block ≡ Ok (Packet entry) → ⊥
 unfolding header_in
 header_apart big block entry e = elim (chosen (number big 2 (drop 12 block) == 1) _ _ _ e) [ inl one ↦ section_apart one.1 | inr other ↦ error_apart other.1 ]

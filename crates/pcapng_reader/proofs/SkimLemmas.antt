@@ -1,56 +1,47 @@
--- Enhanced packet blocks of which little is looked at.
-use Rattle.std.proofs.Common.{◌≡◌, ℕ, ◌+◌, ◌-◌, ◌<◌, ◌≤◌, inl, inr, nat_lt, if◌then◌else◌, Bool, List, length, take, drop, slice_get, arith, refl, sym, Option, Some, None, Ok, Err}
+-- Enhanced packet blocks, apart from other blocks.
+use Rattle.std.proofs.Common.{◌≡◌, ℕ, ◌+◌, ◌-◌, ◌≤◌, ◌==◌, Bool, true, List, length, take, drop, arith, refl, ap, sym, ◌∙◌, length-take-le, eq-eqb, Option, Some, None, Ok}
 use Rattle.std.specs.Prelude.{IfSome}
-use Rattle.std.proofs.lemmas.Bool.Decides.{nat_tests}
-use Rattle.std.proofs.lemmas.Option.{slice_get_cases}
 use Rattle.pcap_reader.specs.Savefile.{number}
-use Rattle.pcapng_reader.specs.declared.block.BlockError.TheVariants.{BadCaptured, TooLong}
+use Rattle.pcapng_reader.specs.declared.block.Content.TheVariants.{Packet}
 use Rattle.pcapng_reader.specs.declared.block.InterfaceDescription.{InterfaceDescription}
 use Rattle.pcapng_reader.specs.declared.block.PacketEntry.{PacketEntry}
-use Rattle.pcapng_reader.specs.declared.content.Lengths.{Lengths}
 use Rattle.pcapng_reader.specs.declared.frame.Frame.{Frame}
+use Rattle.pcapng_reader.specs.declared.front.Front.TheVariants.{Whole}
 use Rattle.pcapng_reader.specs.declared.front.PacketFront.{PacketFront}
-use Rattle.pcapng_reader.specs.Blocks.{enhanced_in, fitting, frame_in, packet_in, units_in}
-use Rattle.pcapng_reader.specs.Growth.{IsFramedPacket, IsPacketFront, IsSkimmed}
+use Rattle.pcapng_reader.specs.Blocks.{content_in, enhanced_in, frame_in}
+use Rattle.pcapng_reader.specs.Grammar.{framed_in, outcome_of}
+use Rattle.pcapng_reader.specs.Growth.{IsFramedPacket, IsPacketFront}
 use Rattle.pcapng_reader.specs.Packets.{captured_in}
-use Rattle.pcapng_reader.proofs.FrontLemmas.{guard_ok, packet_front}
+use Rattle.pcapng_reader.proofs.FrontLemmas.{framed_all, front_long}
+use Rattle.pcapng_reader.proofs.PacketLemmas.{enhanced_start, enhanced_within}
 
-fits_within : (captured total : ℕ) → fitting 28 captured total ≡ Ok tt → 28 + captured + 4 ≤ total
-fits_within captured total e =
-    let second = guard_ok (nat_lt total (28 + captured + 4)) BadCaptured (Ok tt) tt (guard_ok (nat_lt 262144 captured) TooLong (if nat_lt total (28 + captured + 4) then Err BadCaptured else Ok tt) tt e).1 in
-    grind (arith, nat_tests, second.0)
+content_enhanced : (sections : ℕ) (interfaces : List InterfaceDescription) (frame : Frame) (block : List ℕ) → frame.kind ≡ 6 → number frame.big 4 (drop (length block - 4) block) ≡ frame.total
+    → content_in sections interfaces frame block ≡ enhanced_in sections interfaces frame.big block
+unfolding content_in
+content_enhanced sections interfaces frame block kind repeated =
+    let same : (number frame.big 4 (drop (length block - 4) block) == frame.total) ≡ true = eq-eqb _ _ repeated in
+    rw same (rw kind refl)
 
-described : (interfaces : List InterfaceDescription) (big : Bool) (block : List ℕ) (lengths : Lengths) (is : InterfaceDescription) → slice_get interfaces (number big 4 (drop 8 block)) ≡ Some is → fitting 28 lengths.captured (length block) ≡ Ok tt
-    → lengths.captured ≡ number big 4 (drop 20 block) → lengths.original ≡ number big 4 (drop 24 block) → IsSkimmed interfaces big block lengths
-unfolding enhanced_in packet_in
-described interfaces big block lengths is some fits captured original = record {
-  entry = λ sections. record {
-    section = sections - 1;
-    interface = number big 4 (drop 8 block);
-    link = is.link;
-    time = Some (record { units = units_in big block; resolution = is.resolution; offset = is.offset });
-    start = 28;
-    captured = number big 4 (drop 20 block);
-    original = number big 4 (drop 24 block);
-  };
-  says = λ sections. let good : fitting 28 (number big 4 (drop 20 block)) (length block) ≡ Ok tt = rw captured at fits in rw some (rw good refl);
-  start = λ sections. refl;
-  captured_is = λ sections. sym captured;
-  original = λ sections. sym original;
-  fits = fits_within lengths.captured (length block) fits;
-}
+-- bytes with a good front that begin with one
+packet_front : (sections : ℕ) (big : Bool) (interfaces : List InterfaceDescription) (bytes : List ℕ) (frame : Frame) (front : PacketFront) → 12 ≤ length bytes → frame_in sections big bytes ≡ Ok frame
+    → IsFramedPacket sections interfaces frame bytes front → IsPacketFront sections big interfaces bytes front
+packet_front sections big interfaces bytes frame front long framed is =
+    let block = take frame.total bytes in
+    let room = (enhanced_within sections interfaces frame.big block front.packet is.says).room in
+    let start = enhanced_start sections interfaces frame.big block front.packet is.says in
+    record {
+      whole = front_long sections big interfaces bytes long ∙ (ap (λ f. framed_in sections interfaces f bytes) framed
+          ∙ (framed_all sections interfaces frame bytes is.within
+          ∙ (ap (outcome_of frame.total) (content_enhanced sections interfaces frame block is.kind is.repeated ∙ is.says) ∙ ap (λ n. Whole n (Packet front.packet)) (sym is.total))));
+      start = start;
+      fits = omega (arith, room, start, is.total, length-take-le frame.total bytes is.within);
+      within = omega (arith, is.total, is.within);
+    }
 
-pub skimmed : (interfaces : List InterfaceDescription) (big : Bool) (block : List ℕ) (lengths : Lengths) → number big 4 (drop 8 block) < length interfaces → fitting 28 lengths.captured (length block) ≡ Ok tt
-    → lengths.captured ≡ number big 4 (drop 20 block) → lengths.original ≡ number big 4 (drop 24 block) → IsSkimmed interfaces big block lengths
-skimmed interfaces big block lengths within fits captured original = elim (slice_get_cases interfaces (number big 4 (drop 8 block))).1 [
-  | inl has ↦ described interfaces big block lengths has.0 has.2 fits captured original
-  | inr none ↦ absurd (omega (arith, none.0, within))
-]
-
-pub front_of_packet : (sections : ℕ) (big : Bool) (interfaces : List InterfaceDescription) (bytes : List ℕ) (frame : Frame) (o : Option PacketFront) → 12 ≤ length bytes → frame_in sections big bytes ≡ Ok frame → IfSome o (IsFramedPacket interfaces frame bytes)
-    → IfSome o (IsPacketFront sections big interfaces bytes)
+pub front_of_packet : (sections : ℕ) (big : Bool) (interfaces : List InterfaceDescription) (bytes : List ℕ) (frame : Frame) (o : Option PacketFront) → 12 ≤ length bytes → frame_in sections big bytes ≡ Ok frame
+    → IfSome o (IsFramedPacket sections interfaces frame bytes) → IfSome o (IsPacketFront sections big interfaces bytes)
 front_of_packet sections big interfaces bytes frame None long framed is = tt
 front_of_packet sections big interfaces bytes frame (Some front) long framed is = packet_front sections big interfaces bytes frame front long framed is
 
-pub captured_bytes : (entry : PacketEntry) (block : List ℕ) (n : ℕ) → entry.start ≡ 28 → entry.captured ≡ n → take (28 + n - 28) (drop 28 block) ≡ captured_in entry block
-captured_bytes entry block n start captured = let same : 28 + n - 28 ≡ n = omega arith in rw (same, start, captured) refl
+pub captured_bytes : (entry : PacketEntry) (block : List ℕ) → entry.start ≡ 28 → take (28 + entry.captured - 28) (drop 28 block) ≡ captured_in entry block
+captured_bytes entry block start = let same : 28 + entry.captured - 28 ≡ entry.captured = omega arith in rw (same, start) refl

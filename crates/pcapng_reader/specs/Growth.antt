@@ -6,10 +6,8 @@ use Rattle.pcapng_reader.specs.Grammar.{WholeBlock, Place, start, front_at, fron
 use Rattle.pcapng_reader.specs.Held.{place_of, open_part, HasStopped, Adds}
 use Rattle.pcapng_reader.specs.declared.frame.Frame.{Frame}
 use Rattle.pcapng_reader.specs.declared.front.Front.TheVariants.{Whole}
-use Rattle.pcapng_reader.specs.declared.content.Lengths.{Lengths}
 use Rattle.pcapng_reader.specs.declared.front.PacketFront.{PacketFront}
 use Rattle.pcapng_reader.specs.declared.block.InterfaceDescription.{InterfaceDescription}
-use Rattle.pcapng_reader.specs.declared.block.PacketEntry.{PacketEntry}
 use Rattle.pcapng_reader.specs.declared.block.Content.TheVariants.{Packet}
 use Rattle.pcapng_reader.specs.declared.block.Content.{Content}
 use Rattle.pcapng_reader.specs.declared.fault.CaptureFault.{CaptureFault}
@@ -84,30 +82,18 @@ pub record IsNeedless (old new : BlockFeed) : Type 0 where
   pub fault : new.fault ≡ old.fault
   pub copies : new.copies ≡ old.copies
 
--- an enhanced packet block with nothing wrong, whose packet has these lengths
-pub record IsSkimmed (interfaces : List InterfaceDescription) (big : Bool) (block : List ℕ) (lengths : Lengths) : Type 0 where
-  pub entry : ℕ → PacketEntry
-  pub says : (sections : ℕ) → enhanced_in sections interfaces big block ≡ Ok (Packet (entry sections))
-  pub start : (sections : ℕ) → (entry sections).start ≡ 28
-  pub captured_is : (sections : ℕ) → (entry sections).captured ≡ lengths.captured
-  pub original : (sections : ℕ) → (entry sections).original ≡ lengths.original
-  pub fits : 28 + lengths.captured + 4 ≤ length block
-
--- bytes with this front begin with such a block
-pub record IsFramedPacket (interfaces : List InterfaceDescription) (frame : Frame) (bytes : List ℕ) (front : PacketFront) : Type 0 where
+-- bytes with this front begin with an enhanced packet block with nothing wrong
+pub record IsFramedPacket (sections : ℕ) (interfaces : List InterfaceDescription) (frame : Frame) (bytes : List ℕ) (front : PacketFront) : Type 0 where
   pub kind : frame.kind ≡ 6
   pub within : frame.total ≤ length bytes
   pub total : front.total ≡ frame.total
   pub repeated : number frame.big 4 (drop (length (take frame.total bytes) - 4) (take frame.total bytes)) ≡ frame.total
-  pub skimmed : IsSkimmed interfaces frame.big (take frame.total bytes) front.packet
+  pub says : enhanced_in sections interfaces frame.big (take frame.total bytes) ≡ Ok (Packet front.packet)
 
 -- bytes begin with a whole enhanced packet block
 pub record IsPacketFront (sections : ℕ) (big : Bool) (interfaces : List InterfaceDescription) (bytes : List ℕ) (front : PacketFront) : Type 0 where
-  pub entry : PacketEntry
-  pub whole : front_in sections big interfaces bytes ≡ Whole front.total (Packet entry)
-  pub start : entry.start ≡ 28
-  pub captured : entry.captured ≡ front.packet.captured
-  pub original : entry.original ≡ front.packet.original
+  pub whole : front_in sections big interfaces bytes ≡ Whole front.total (Packet front.packet)
+  pub start : front.packet.start ≡ 28
   pub fits : 28 + front.packet.captured + 4 ≤ front.total
   pub within : front.total ≤ length bytes
 

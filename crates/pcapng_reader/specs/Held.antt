@@ -12,7 +12,6 @@ use Rattle.pcapng_reader.specs.declared.feed.Passing.{Passing}
 use Rattle.pcapng_reader.specs.declared.feed.Held.{Held as HeldBlock}
 use Rattle.pcapng_reader.specs.declared.seen.Block.{Block as SeenBlock}
 use Rattle.pcapng_reader.specs.declared.seen.Skimmed.{Skimmed}
-use Rattle.pcapng_reader.specs.declared.block.PacketEntry.{PacketEntry}
 use Rattle.pcapng_reader.specs.Packets.{captured_in}
 use Rattle.pcapng_reader.specs.declared.feed.Step.{Step}
 use Rattle.pcapng_reader.specs.declared.feed.Step.TheVariants.{Block, Held, Passed, More}
@@ -122,10 +121,8 @@ IsFrugal feed = IsFrugalAt feed.copies (place_of feed) feed.passing feed.held fe
 
 -- the next block was taken, which lies in the bytes and has this packet
 pub record Skims (bytes rest : List ℕ) (old new : BlockFeed) (seen : Skimmed) : Type 0 where
-  pub entry : PacketEntry
-  pub takes : Takes bytes rest old new (Block (record { offset = (place_of old).offset; bytes = seen.block; content = Packet entry }))
-  pub captured : seen.bytes.now ≡ captured_in entry seen.block.now
-  pub original : seen.original ≡ entry.original
+  pub takes : Takes bytes rest old new (Block (record { offset = (place_of old).offset; bytes = seen.block; content = Packet seen.packet }))
+  pub captured : seen.bytes.now ≡ captured_in seen.packet seen.block.now
   pub going : (held_fault old ≡ None) × (held_fault new ≡ None)
   pub copies : copies_all new ≡ copies_all old
   pub shorter : length rest < length bytes

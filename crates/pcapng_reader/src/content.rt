@@ -1,8 +1,7 @@
 //! What a whole block says.
 
-ghost use Rattle.std.specs.Prelude.{◌≡◌, ◌≤◌, length, IfSome};
+ghost use Rattle.std.specs.Prelude.{◌≡◌, ◌≤◌, length};
 ghost use Rattle.pcapng_reader.specs.Blocks.{IsFrame, content_in, described_in, enhanced_in, fitting, header_in, interface_in, obsolete_in, packet_in, simple_captured, simple_in};
-ghost use Rattle.pcapng_reader.specs.Growth.{IsSkimmed};
 
 use crate::block::{BlockError, Content, InterfaceDescription, PacketEntry, SectionHeader};
 use crate::fields::{short_at, word_at};
@@ -98,7 +97,8 @@ fn interface_of(big: bool, block: &[u8]) -> InterfaceDescription
 
 /// What an enhanced packet block says.
 #[tactic(auto, unfolding(crate::specs::Blocks::enhanced_in))]
-fn enhanced_of(
+#[inline(always)]
+pub fn enhanced_of(
     sections: u64,
     interfaces: &[InterfaceDescription],
     big: bool,
@@ -109,34 +109,6 @@ fn enhanced_of(
 {
     let interface = word_at(big, &block[8..]);
     packet_of(sections, interfaces, interface, big, block)
-}
-
-/// The lengths of a packet.
-#[derive(Clone, Copy, Debug)]
-pub struct Lengths {
-    /// How many bytes of it were captured.
-    pub captured: u32,
-    /// Its length in bytes when it was seen.
-    pub original: u32,
-}
-
-/// The lengths of the packet of an enhanced packet block, if nothing is wrong with it.
-pub fn lengths_of(interfaces: &[InterfaceDescription], big: bool, block: &[u8]) -> Option<Lengths>
-    requires { (32 ≤ length block.now) × (length block.now ≤ 16777216) }
-    ensures { IfSome result (IsSkimmed interfaces.now big block.now) }
-{
-    let interface = word_at(big, &block[8..]);
-    if interface as usize >= interfaces.len() {
-        return None;
-    }
-    let captured = word_at(big, &block[20..]);
-    match fits(block, PACKET_START, captured) {
-        Ok(()) => Some(Lengths {
-            captured,
-            original: word_at(big, &block[24..]),
-        }),
-        Err(_) => None,
-    }
 }
 
 /// What an obsolete packet block says.
@@ -156,6 +128,7 @@ fn obsolete_of(
 
 /// What a block says of a packet with a time stamp.
 #[tactic(auto, unfolding(crate::specs::Blocks::packet_in))]
+#[inline(always)]
 fn packet_of(
     sections: u64,
     interfaces: &[InterfaceDescription],
@@ -228,6 +201,7 @@ fn captured_of(snaplen: u32, original: u32) -> u32
 }
 
 /// Sees that so many captured bytes from a place on are not too many, and lie in a block.
+#[inline(always)]
 fn fits(block: &[u8], start: u32, captured: u32) -> Result<(), BlockError>
     requires { (length block.now ≤ 16777216) × (start ≤ 28) }
     ensures { result ≡ fitting start captured (length block.now) }

@@ -145,8 +145,8 @@ impl BlockFeed {
 
     /// Takes the next block off the front of `rest`, where it is an enhanced packet block, lies whole there and has nothing wrong.
     ///
-    /// Where it takes nothing, which it may do at any block, `next` goes on. It is for callers who need no time and no interface, and
-    /// does less than `next`.
+    /// Where it takes nothing, which it may do at any block, `next` goes on. It does less than `next`.
+    #[inline(always)]
     pub fn skim<'b>(&mut self, rest: &mut &'b [u8]) -> Option<Skimmed<'b>>
         ensures skims { MatchOption result ((self.new ≡ self.old) × (rest.new.now ≡ rest.old.now)) (Skims rest.old.now rest.new.now self.old self.new) }
         ensures frugal { IsFrugal self.old → IsFrugal self.new }
@@ -162,11 +162,12 @@ impl BlockFeed {
         Some(Skimmed {
             block,
             bytes: &block[PACKET..PACKET + front.packet.captured as usize],
-            original: front.packet.original,
+            packet: front.packet,
         })
     }
 
     /// Whether it has no fault, and nothing of the next block.
+    #[inline(always)]
     fn is_at_a_block(&self) -> bool
         ensures { IsTrue result → (self.now.fault ≡ None) × (self.now.held ≡ None) × (self.now.passing ≡ None) × (self.now.part.items ≡ []) }
     {
@@ -177,6 +178,7 @@ impl BlockFeed {
     }
 
     /// Takes in that there was a packet block of so many bytes.
+    #[inline(always)]
     fn pass_packet(&mut self, total: u32)
         ensures { (entry : PacketEntry) → Enters self.old self.new (Packet entry) total }
     {

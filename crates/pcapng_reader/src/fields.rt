@@ -19,6 +19,7 @@ pub fn short_at(big: bool, bytes: &[u8]) -> u16
 }
 
 /// The number in the first four bytes.
+#[inline(always)]
 pub fn word_at(big: bool, bytes: &[u8]) -> u32
     requires { 4 ≤ length bytes.now }
     ensures { result ≡ number big 4 bytes.now }

@@ -53,6 +53,7 @@ pub fn is_pcapng(bytes: &[u8]) -> bool
 
 /// The front of a block after so many section headers, the last of which had this byte order.
 #[tactic(auto, unfolding(crate::specs::Blocks::frame_in))]
+#[inline(always)]
 pub fn frame_of(sections: u64, big: bool, bytes: &[u8]) -> Result<Frame, BlockError>
     requires { 12 ≤ length bytes.now }
     ensures is { result ≡ frame_in sections big bytes.now }
@@ -84,6 +85,7 @@ fn order_of(bytes: &[u8]) -> Result<bool, BlockError>
 
 /// The front of a block of a type, whose total length these bytes begin with.
 #[tactic(auto, unfolding(crate::specs::Blocks::measure_of))]
+#[inline(always)]
 fn measured(big: bool, kind: u32, bytes: &[u8]) -> Result<Frame, BlockError>
     requires { 4 ≤ length bytes.now }
     ensures is { result ≡ measure_of big kind bytes.now }
@@ -100,6 +102,7 @@ fn measured(big: bool, kind: u32, bytes: &[u8]) -> Result<Frame, BlockError>
 }
 
 /// How many bytes a block of a type has at least.
+#[inline(always)]
 fn least(kind: u32) -> u32
     ensures { result ≡ least_of kind }
 {

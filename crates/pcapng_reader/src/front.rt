@@ -5,8 +5,8 @@ ghost use Rattle.pcapng_reader.specs.Blocks.{IsFrame};
 ghost use Rattle.pcapng_reader.specs.Grammar.{framed_in, front_in};
 ghost use Rattle.pcapng_reader.specs.Growth.{IsFramedPacket, IsPacketFront};
 
-use crate::block::{BlockError, Content, InterfaceDescription};
-use crate::content::{Lengths, content_of, lengths_of};
+use crate::block::{BlockError, Content, InterfaceDescription, PacketEntry};
+use crate::content::{content_of, enhanced_of};
 use crate::fields::word_at;
 use crate::frame::{ENHANCED, FRAME, Frame, frame_of};
 
@@ -26,8 +26,8 @@ pub enum Front {
 pub struct PacketFront {
     /// How many bytes the block has.
     pub total: u32,
-    /// The lengths of its packet.
-    pub packet: Lengths,
+    /// What it says.
+    pub packet: PacketEntry,
 }
 
 /// What bytes begin with, after so many section headers; the last section had this byte order, and has described these
@@ -66,6 +66,7 @@ fn whole_of(sections: u64, interfaces: &[InterfaceDescription], frame: Frame, by
 }
 
 /// The enhanced packet block that bytes begin with, where one lies whole in them that has nothing wrong.
+#[inline(always)]
 pub fn packet_front(
     sections: u64,
     big: bool,
@@ -74,19 +75,25 @@ pub fn packet_front(
 ) -> Option<PacketFront>
     ensures { IfSome result (IsPacketFront sections big interfaces.now bytes.now) }
 {
-    if bytes.len() < FRAME {
+    if bytes.len() < FRAME || word_at(big, bytes) != ENHANCED {
         return None;
     }
     match frame_of(sections, big, bytes) {
-        Ok(frame) => packet_in(interfaces, frame, bytes),
+        Ok(frame) => packet_in(sections, interfaces, frame, bytes),
         Err(_) => None,
     }
 }
 
 /// The same of bytes that have this front.
-fn packet_in(interfaces: &[InterfaceDescription], frame: Frame, bytes: &[u8]) -> Option<PacketFront>
+#[inline(always)]
+fn packet_in(
+    sections: u64,
+    interfaces: &[InterfaceDescription],
+    frame: Frame,
+    bytes: &[u8],
+) -> Option<PacketFront>
     requires { IsFrame frame }
-    ensures { IfSome result (IsFramedPacket interfaces.now frame bytes.now) }
+    ensures { IfSome result (IsFramedPacket sections interfaces.now frame bytes.now) }
 {
     let total = frame.total as usize;
     if frame.kind != ENHANCED || bytes.len() < total {
@@ -96,9 +103,11 @@ fn packet_in(interfaces: &[InterfaceDescription], frame: Frame, bytes: &[u8]) ->
     if word_at(frame.big, &block[total - 4..]) != frame.total {
         return None;
     }
-    let packet = lengths_of(interfaces, frame.big, block)?;
-    Some(PacketFront {
-        total: frame.total,
-        packet,
-    })
+    match enhanced_of(sections, interfaces, frame.big, block) {
+        Ok(Content::Packet(packet)) => Some(PacketFront {
+            total: frame.total,
+            packet,
+        }),
+        _ => None,
+    }
 }

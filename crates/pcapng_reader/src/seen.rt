@@ -16,15 +16,15 @@ pub struct Block<'b> {
     pub content: Content,
 }
 
-/// A whole enhanced packet block, without what it says of its interface and its time.
+/// A whole enhanced packet block.
 #[derive(Clone, Copy, Debug)]
 pub struct Skimmed<'b> {
     /// Its bytes, from its type to the total length at its end.
     pub block: &'b [u8],
     /// The captured bytes of its packet.
     pub bytes: &'b [u8],
-    /// The packet's length in bytes when it was seen.
-    pub original: u32,
+    /// What it says of its packet.
+    pub packet: PacketEntry,
 }
 
 impl<'b> Block<'b> {
