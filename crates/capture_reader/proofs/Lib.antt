@@ -1,6 +1,5 @@
 pub mod RecordLemmas
 pub mod BlockLemmas
 pub mod FeedLemmas
-pub mod HeaderLemmas
 pub mod LawLemmas
 pub mod SharingLemmas

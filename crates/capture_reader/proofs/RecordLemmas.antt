@@ -10,6 +10,10 @@ use Rattle.pcap_reader.specs.declared.capture.CaptureFault.TheVariants.{BadMagic
 use Rattle.pcap_reader.specs.Savefile.{number, captured, HasNoHeader, IsHeader, IsLasting, IsLong, IsPart, IsRecord}
 use Rattle.pcap_reader.proofs.Fronts.{reads-lasts, word_at-front}
 use Rattle.pcap_reader.proofs.FeedLemmas.{AllZip-push}
+use Rattle.pcap_reader.specs.declared.feed.Seen.{Seen as SeenPacket}
+use Rattle.pcap_reader.specs.Held.{seen_packet}
+use Rattle.savefile_front.specs.declared.front.Front.TheVariants.{Record}
+use Rattle.savefile_front.specs.Fronts.{IsFront}
 use Rattle.capture_reader.specs.declared.entry.Entry.TheVariants.{Packet, Savefile}
 use Rattle.capture_reader.specs.declared.entry.PacketInfo.{PacketInfo}
 use Rattle.capture_reader.specs.declared.entry.Found.{Found}
@@ -17,11 +21,10 @@ use Rattle.capture_reader.specs.declared.entry.Found.TheVariants.{Item as Seen, 
 use Rattle.capture_reader.specs.declared.entry.Item.{Item}
 use Rattle.std.specs.Result.{IsErrAnd}
 use Rattle.capture_reader.specs.declared.records.RecordFeed.{RecordFeed}
-use Rattle.capture_reader.specs.declared.records.NextRecord.TheVariants.{Whole, Part}
 use Rattle.capture_reader.specs.Captures.{HasSavefile}
 use Rattle.capture_reader.specs.Entries.{EntryBytes, record_entry, record_info, savefile_entries}
 use Rattle.capture_reader.specs.Steps.{Adds, AdvancesBy}
-use Rattle.capture_reader.specs.Recording.{EndsRecords, HasGrown, HasRead, HasSavefileFront, HoldsBy, HoldsRecords, IsApart, IsNext, IsWanted, Looks, StopsRecords, held_record, open_part}
+use Rattle.capture_reader.specs.Recording.{EndsRecords, HasGrown, HasRead, HasSavefileFront, HoldsBy, HoldsRecords, IsApart, IsWanted, IsWhole, Looks, StopsRecords, held_record, open_part}
 
 -- The header
 
@@ -219,27 +222,11 @@ refused_by bytes rest old new (Err g) handed = λ given fed held short. rw hande
 
 -- Records in front of some bytes
 
-pub whole_record : (big : Bool) (bytes : List ℕ) (n : ℕ) → n ≡ 16 + captured big bytes → captured big bytes ≤ 262144 → n ≤ length bytes → IsNext big bytes (Whole n)
-whole_record big bytes n is few within =
-    let front = take n bytes in
-    let size : length front ≡ n = length-take-le n bytes within in
-    let same : captured big bytes ≡ captured big front = ap (captured big) (sym (take-append-drop n bytes)) ∙ word_at-front big 8 front (drop n bytes) (omega (arith, size, is)) in (
-      omega (arith, is),
-      within,
-      (
-        record { bytes = drop 16 front; original = number big 4 (drop 12 front) },
-        record {
-          header = omega (arith, size, is);
-          length_is = omega (arith, same, is, size, length-drop 16 front);
-          short = omega (arith, same, few);
-          original = refl;
-          body = refl;
-        },
-      ),
-    )
+pub whole_front : (big : Bool) (bytes : List ℕ) (n : ℕ) (packet : SeenPacket) → IsFront big bytes (Record n packet) → IsWhole big bytes n
+whole_front big bytes n packet is = (omega (arith, is.1.header, is.0, length-take-le n bytes is.0), is.0, (seen_packet packet, is.1))
 
 -- how long a record is
-pub record_size : (big : Bool) (bytes : List ℕ) (n : ℕ) → IsNext big bytes (Whole n) → n ≡ 16 + captured big bytes
+pub record_size : (big : Bool) (bytes : List ℕ) (n : ℕ) → IsWhole big bytes n → n ≡ 16 + captured big bytes
 record_size big bytes n next =
     let front = take n bytes in
     let size : length front ≡ n = length-take-le n bytes next.1 in
@@ -247,7 +234,7 @@ record_size big bytes n next =
     omega (arith, same, next.2.1.length_is, ap length next.2.1.body, length-drop 16 front, size, next.0)
 
 -- a part that is a whole record is nothing but that
-pub record_exact : (big : Bool) (part : List ℕ) (n : ℕ) → IsNext big part (Whole n) → (length part ≤ 16) ⊎ ((captured big part ≤ 262144) × (length part ≤ 16 + captured big part)) → length part ≡ n
+pub record_exact : (big : Bool) (part : List ℕ) (n : ℕ) → IsWhole big part n → (length part ≤ 16) ⊎ ((captured big part ≤ 262144) × (length part ≤ 16 + captured big part)) → length part ≡ n
 record_exact big part n next (inl few) = omega (arith, next.0, next.1, few)
 record_exact big part n next (inr few) = omega (arith, next.1, few.1, record_size big part n next)
 
@@ -287,7 +274,7 @@ goes_apart bytes rest count old new (Err fault) left is goes = λ given fed held
     (goes given fed held (omega (arith, short, ap length all, length-append (fed ++ take count bytes) (drop count bytes)))))
 
 -- what is held after a look
-pub looks_whole : (given : List EntryBytes) (fed : List ℕ) (h : Header) (old new : RecordFeed) (n : ℕ) (info : PacketInfo) → HasGrown given fed h old → length fed < 18446744073709551616 → IsNext h.big old.part.items (Whole n)
+pub looks_whole : (given : List EntryBytes) (fed : List ℕ) (h : Header) (old new : RecordFeed) (n : ℕ) (info : PacketInfo) → HasGrown given fed h old → length fed < 18446744073709551616 → IsWhole h.big old.part.items n
     → info ≡ record_info h old.part.items → new.held ≡ Some info → new.part.items ≡ old.part.items → new.header ≡ Some h → (old.offset + n < 18446744073709551616 → new.offset ≡ old.offset + n)
     → Adds (HoldsRecords new) (held_record new) given fed Held
 looks_whole given fed h old new n info grown short next says holds part has moved =
@@ -297,7 +284,7 @@ looks_whole given fed h old new n info grown short next says holds part has move
     let read = one_more given fed old.part.items h old.offset new.offset n grown.head grown.records grown.packets next.2.0 grown.parts grown.header grown.each grown.entries grown.place one size moved short in
     (record_entry h old.part.items, rw (holds, part, says) refl, holds_read (given ++ record_entry h old.part.items ∷ []) fed new h [] has (rw holds refl) read)
 
-pub looks_part : (given : List EntryBytes) (fed : List ℕ) (h : Header) (feed : RecordFeed) → HasGrown given fed h feed → feed.held ≡ None → feed.header ≡ Some h → IsNext h.big feed.part.items Part → HoldsRecords feed given fed
+pub looks_part : (given : List EntryBytes) (fed : List ℕ) (h : Header) (feed : RecordFeed) → HasGrown given fed h feed → feed.held ≡ None → feed.header ≡ Some h → (feed.part.items ≡ []) ⊎ IsPart h.big feed.part.items → HoldsRecords feed given fed
 looks_part given fed h feed grown none has next = holds_read given fed feed h feed.part.items has (rw none refl) (record {
   head = grown.head;
   records = grown.records;
@@ -334,7 +321,7 @@ stops_long given fed h offset head records packets rest parts header each entrie
 
 -- a whole record lies in some bytes
 pub takes_whole : (bytes front rest : List ℕ) (old new : RecordFeed) (h : Header) (n : ℕ) (info : PacketInfo) (item : Item) → old.held ≡ None → old.header ≡ Some h → old.part.items ≡ []
-    → IsNext h.big bytes (Whole n) → front ≡ take n bytes → rest ≡ drop n bytes → info ≡ record_info h front → item.entry ≡ Packet info → item.bytes.now ≡ drop 16 front
+    → IsWhole h.big bytes n → front ≡ take n bytes → rest ≡ drop n bytes → info ≡ record_info h front → item.entry ≡ Packet info → item.bytes.now ≡ drop 16 front
     → new.held ≡ None → new.header ≡ Some h → new.part.items ≡ [] → (old.offset + n < 18446744073709551616 → new.offset ≡ old.offset + n)
     → AdvancesBy {E = CaptureFault} (HoldsRecords old) (HoldsRecords new) StopsRecords (held_record new) bytes rest (Ok (Seen item))
 takes_whole bytes front rest old new h n info item none has empty next is left says entry body none' has' empty' moved = record {

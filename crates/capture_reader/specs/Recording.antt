@@ -6,23 +6,19 @@ use Rattle.pcap_reader.specs.declared.capture.Header.{Header}
 use Rattle.pcap_reader.specs.declared.capture.CapturedPacket.{CapturedPacket}
 use Rattle.pcap_reader.specs.declared.capture.CaptureFault.{CaptureFault}
 use Rattle.pcap_reader.specs.declared.capture.CaptureFault.TheVariants.{NoMemory, TruncatedHeader}
-use Rattle.pcap_reader.specs.Savefile.{captured, HasNoHeader, IsHeader, IsLasting, IsLong, IsPart, IsRecord}
+use Rattle.pcap_reader.specs.Savefile.{captured, HasNoHeader, IsHeader, IsLasting, IsPart, IsRecord}
 use Rattle.capture_reader.specs.declared.entry.Entry.TheVariants.{Packet}
 use Rattle.capture_reader.specs.declared.entry.PacketInfo.{PacketInfo}
 use Rattle.capture_reader.specs.declared.entry.Found.{Found}
 use Rattle.capture_reader.specs.declared.entry.Found.TheVariants.{Item}
 use Rattle.capture_reader.specs.declared.records.RecordFeed.{RecordFeed}
-use Rattle.capture_reader.specs.declared.records.NextRecord.{NextRecord}
-use Rattle.capture_reader.specs.declared.records.NextRecord.TheVariants.{Whole, Part, TooLong}
 use Rattle.capture_reader.specs.Entries.{EntryBytes, savefile_entries}
 use Rattle.capture_reader.specs.Captures.{HasSavefile}
 use Rattle.capture_reader.specs.Steps.{Adds}
 
--- bytes begin with a whole record of so many bytes, or with a part of one, if with anything, or with one that is too long
-abbrev pub IsNext : Bool → List ℕ → NextRecord → Type 0
-IsNext big bytes (Whole n) = (16 ≤ n) × (n ≤ length bytes) × ((packet : CapturedPacket) × IsRecord big (take n bytes) packet)
-IsNext big bytes Part = (bytes ≡ []) ⊎ IsPart big bytes
-IsNext big bytes TooLong = IsLong big bytes
+-- bytes begin with a whole record of so many bytes
+abbrev pub IsWhole : Bool → List ℕ → ℕ → Type 0
+IsWhole big bytes n = (16 ≤ n) × (n ≤ length bytes) × ((packet : CapturedPacket) × IsRecord big (take n bytes) packet)
 
 -- the record that a feed holds
 abbrev pub record_in : Option PacketInfo → List ℕ → Option EntryBytes

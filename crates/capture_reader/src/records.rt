@@ -1,21 +1,17 @@
 //! Savefiles that come in pieces, record by record.
 
 ghost use Rattle.std.specs.Prelude.{◌≡◌, ◌≤◌, ◌<◌, ◌^◌, length};
-ghost use Rattle.pcap_reader.specs.Savefile.{number};
-ghost use Rattle.capture_reader.specs.Recording.{IsNext, IsWanted};
+ghost use Rattle.capture_reader.specs.Recording.{IsWanted};
 ghost use Rattle.capture_reader.specs.Entries.{record_info};
 
 use crate::entry::{Entry, Found, Item, PacketInfo, PacketTime};
-use crate::header::{FILE_HEADER, header_of};
-use byteorder::{BigEndian, ByteOrder, LittleEndian};
+use crate::header::header_of;
 use pcap_reader::{CaptureFault, Header};
+use savefile_front::{FILE_HEADER, Front, front_of, word_at};
 use std::alloc::Global;
 
 /// The length of a record's header.
 const RECORD_HEADER: usize = 16;
-
-/// The most captured bytes of a record.
-const MOST_CAPTURED: u32 = 262_144;
 
 /// A savefile that comes in pieces, cut anywhere, and is taken record by record.
 #[derive(Drop)]
@@ -30,21 +26,10 @@ pub struct RecordFeed {
     held: Option<PacketInfo>,
 }
 
-/// What bytes begin with.
-#[derive(Clone, Copy, Debug)]
-pub enum NextRecord {
-    /// A whole record of so many bytes.
-    Whole(usize),
-    /// A part of a record, or nothing.
-    Part,
-    /// The header of a record that is too long.
-    TooLong,
-}
-
 impl RecordFeed {
     ghost use Rattle.std.specs.Prelude.{◌≡◌, ◌≢◌, ◌<◌, ◌≤◌, ◌^◌, ◌++◌, [], ℕ, List, Option, Some, None, Ok, length, IfOk, IfErr, IfSome, OnOk, MatchOption};
     ghost use Rattle.capture_reader.specs.Entries.{EntryBytes};
-    ghost use Rattle.capture_reader.specs.Recording.{EndsRecords, HasGrown, HoldsRecords, IsApart, Looks, StopsRecords, held_record, open_part};
+    ghost use Rattle.capture_reader.specs.Recording.{EndsRecords, HasGrown, HoldsRecords, IsApart, IsWhole, Looks, StopsRecords, held_record, open_part};
     ghost use Rattle.capture_reader.specs.Steps.{Adds, AdvancesBy, IsShorter, seen_item};
 
     /// A feed that was given the first bytes of a savefile, fewer than its header has.
@@ -89,9 +74,9 @@ impl RecordFeed {
         if self.held.is_some() || !self.part.is_empty() {
             return None;
         }
-        match next_record(header.big, *rest) {
-            NextRecord::Whole(length) => Some(self.pass(header, length, rest)),
-            NextRecord::Part | NextRecord::TooLong => None,
+        match front_of(header.big, *rest) {
+            Front::Record { length, .. } => Some(self.pass(header, length, rest)),
+            Front::Part | Front::TooLong => None,
         }
     }
 
@@ -162,10 +147,10 @@ impl RecordFeed {
         ensures advances { AdvancesBy (HoldsRecords self.old) (HoldsRecords self.new) StopsRecords (held_record self.new) rest.old.now rest.new.now result }
         ensures shorter { IfOk result (λ _. IsShorter rest.old.now rest.new.now) }
     {
-        match next_record(header.big, *rest) {
-            NextRecord::Whole(length) => Ok(Found::Item(self.pass(header, length, rest))),
-            NextRecord::Part => self.fill(header, rest),
-            NextRecord::TooLong => Err(CaptureFault::TooLong(self.offset)),
+        match front_of(header.big, *rest) {
+            Front::Record { length, .. } => Ok(Found::Item(self.pass(header, length, rest))),
+            Front::Part => self.fill(header, rest),
+            Front::TooLong => Err(CaptureFault::TooLong(self.offset)),
         }
     }
 
@@ -173,7 +158,7 @@ impl RecordFeed {
     #[inline(always)]
     fn pass<'b>(&mut self, header: Header, length: usize, rest: &mut &'b [u8]) -> Item<'b>
         requires between { (self.old.held ≡ None) × (self.old.header ≡ Some header) × (self.old.part.items ≡ []) }
-        requires whole { IsNext header.big rest.old.now (NextRecord.Whole length) }
+        requires whole { IsWhole header.big rest.old.now length }
         ensures advances { AdvancesBy {E = CaptureFault} (HoldsRecords self.old) (HoldsRecords self.new) StopsRecords (held_record self.new) rest.old.now rest.new.now (Ok (Found.Item result)) }
         ensures shorter { IsShorter rest.old.now rest.new.now }
     {
@@ -207,35 +192,16 @@ impl RecordFeed {
         ensures looks { (given : List EntryBytes) (fed : List ℕ) → HasGrown given fed header self.old → length fed < 2 ^ 64 → Looks given fed self.new result }
         ensures apart { IfOk result IsApart }
     {
-        match next_record(header.big, self.part.as_slice()) {
-            NextRecord::Whole(length) => {
+        match front_of(header.big, self.part.as_slice()) {
+            Front::Record { length, .. } => {
                 self.offset = self.offset.saturating_add(length as u64);
                 self.held = Some(info_of(header, self.part.as_slice()));
                 Ok(Found::Held)
             }
-            NextRecord::Part => Ok(Found::Nothing),
-            NextRecord::TooLong => Err(CaptureFault::TooLong(self.offset)),
+            Front::Part => Ok(Found::Nothing),
+            Front::TooLong => Err(CaptureFault::TooLong(self.offset)),
         }
     }
-}
-
-/// What bytes begin with that follow a header or a record.
-#[inline(always)]
-fn next_record(big: bool, bytes: &[u8]) -> NextRecord
-    ensures { IsNext big bytes.now result }
-{
-    if bytes.len() < RECORD_HEADER {
-        return NextRecord::Part;
-    }
-    let captured = word_at(big, &bytes[8..]);
-    if captured > MOST_CAPTURED {
-        return NextRecord::TooLong;
-    }
-    let length = RECORD_HEADER + captured as usize;
-    if bytes.len() < length {
-        return NextRecord::Part;
-    }
-    NextRecord::Whole(length)
 }
 
 /// How many bytes a part lacks to be looked at again.
@@ -265,18 +231,5 @@ fn info_of(header: Header, bytes: &[u8]) -> PacketInfo
             nano: header.nano,
         },
         original: word_at(header.big, &bytes[12..]),
-    }
-}
-
-/// The number in the first four bytes.
-#[inline(always)]
-fn word_at(big: bool, bytes: &[u8]) -> u32
-    requires { 4 ≤ length bytes.now }
-    ensures { result ≡ number big 4 bytes.now }
-{
-    if big {
-        BigEndian::read_u32(bytes)
-    } else {
-        LittleEndian::read_u32(bytes)
     }
 }

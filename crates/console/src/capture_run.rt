@@ -91,6 +91,18 @@ impl CaptureRun {
     {
         let mut rest = piece;
         while !rest.is_empty() {
+            if let Some(item) = self.feed.next_whole(&mut rest) {
+                run_found(
+                    program,
+                    self.link,
+                    self.stamped,
+                    Some(item),
+                    &mut self.links,
+                    outcomes,
+                    stamps,
+                )?;
+                continue;
+            }
             if self.run_next(program, &mut rest, outcomes, stamps)? {
                 return Ok(true);
             }
@@ -170,6 +182,7 @@ impl CaptureRun {
 
 /// Runs the filter on the packet of an entry, if there is one that is chosen, and appends the outcome, and the time if times are
 /// kept. Of an interface it adds the link type.
+#[inline(always)]
 fn run_found(
     program: &Predecoded,
     link: Option<u32>,
@@ -201,6 +214,7 @@ fn run_found(
 }
 
 /// Whether a link type is the one that is named, if one is.
+#[inline(always)]
 pub fn is_link(one: Option<u32>, link: u32) -> bool
     ensures { result ≡ is_link one link }
 {
