@@ -148,8 +148,9 @@ each block that is no packet or whose packet is kept. A filter that accepts ever
 The capture may be of any length and come over any time: each packet is written as soon as it is whole and what has been
 read is handled, and it takes memory for the longest packet or block only.
 
-With --link N only packets of link type N are run, as 1 for Ethernet, and no others are kept, with --not neither. Without it
-one line on standard error says where the interfaces of a capture have several link types, since a filter is written for one.
+With --link N the filter runs on packets of link type N alone, as 1 for Ethernet, and no packet of another link type is
+copied, with --not neither. Without it one line on standard error says where the interfaces of a capture have several link
+types, since a filter is written for one.
 
 Standard output is a capture, so each line about what is wrong is on standard error. What was whole before a fault of the
 capture is written, then `fault NAME` is printed, with the fault's place in the file where it has one, and the status is 1.

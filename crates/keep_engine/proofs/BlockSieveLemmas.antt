@@ -181,17 +181,13 @@ has_block false block = tt
 no_stay : (fault : CaptureFault) (o : Option CaptureFault) {A : Type 0} → o ≡ None → o ≡ Some fault → A
 no_stay fault o none some = let e : ◌≡◌ {A = Option CaptureFault} None (Some fault) = sym none ∙ some in absurd (cc)
 
-any_link : (wanted : Wanted) (link other : ℕ) (outcome : Outcome) → wanted.link ≡ None → is_kept wanted link outcome ≡ is_kept wanted other outcome
-any_link wanted link other outcome unnamed = rw unnamed refl
-
-pub skim_sifts : (program : List Insn) (wanted : Wanted) (rest rest' : List ℕ) (old new : BlockSieve) (skimmed : Skimmed) (before after : List ℕ) → (skims : Skims rest rest' old.feed new.feed skimmed) → new.fault ≡ old.fault → wanted.link ≡ None → KeepsSkimmed program wanted skimmed before after
+pub skim_sifts : (program : List Insn) (wanted : Wanted) (rest rest' : List ℕ) (old new : BlockSieve) (skimmed : Skimmed) (before after : List ℕ) → (skims : Skims rest rest' old.feed new.feed skimmed) → new.fault ≡ old.fault → KeepsSkimmed program wanted skimmed before after
     → Sifts (HasSiftedBlocks program wanted) skims.takes.front old new before after
-skim_sifts program wanted rest rest' old new skimmed before after skims same unnamed (outcome, ran, pushed) =
-    let block : SeenBlock = record { offset = (place_of old.feed).offset; bytes = skimmed.block; content = Packet skims.entry } in
-    let was : AnswersCaptured program (record { bytes = captured_in skims.entry skimmed.block.now; original = skims.entry.original }) outcome = rw (sym skims.captured, sym skims.original) ran in
-    let any = any_link wanted 0 skims.entry.link outcome unnamed in
+skim_sifts program wanted rest rest' old new skimmed before after skims same (outcome, ran, pushed) =
+    let block : SeenBlock = record { offset = (place_of old.feed).offset; bytes = skimmed.block; content = Packet skimmed.packet } in
+    let was : AnswersCaptured program (record { bytes = captured_in skimmed.packet skimmed.block.now; original = skimmed.packet.original }) outcome = rw (sym skims.captured) ran in
     step_sifts program wanted rest rest' old new (Block block) before after skims.takes (has_block (copies_all old.feed) block) skims.copies skims.going.1 (λ fault met. no_stay fault (held_fault old.feed) skims.going.0 met) same
-    ((if is_kept wanted 0 outcome then skimmed.block.now else []), (outcome, was, ap (λ k. if k then skimmed.block.now else []) any), pushed)
+    ((if is_kept wanted skimmed.packet.link outcome then skimmed.block.now else []), (outcome, was, refl), pushed)
 
 -- a fault in the bytes that are left
 pub fault_sifts : (program : List Insn) (wanted : Wanted) (rest rest' : List ℕ) (old new : BlockSieve) (fault : CaptureFault) (before : List ℕ) → Advances rest rest' old.feed new.feed (Err fault) → fault ≢ NoMemory

@@ -1,3 +1,4 @@
+pub mod ChoiceLemmas
 pub mod RecordLemmas
 pub mod RecordSieveLemmas
 pub mod BlockSieveLemmas

@@ -105,10 +105,11 @@ HasStoppedRecords sieve = StoppedAt sieve.header sieve.long
 abbrev pub KeepsBlock : List Insn → Wanted → WholeBlock → List ℕ → List ℕ → Type 0
 KeepsBlock program wanted block before after = (text : List ℕ) × Leaves program wanted block text × (after ≡ before ++ text)
 
--- the same for a packet block that was skimmed, where no link type is named, so that any may stand for its own
+-- the same for a packet block that was skimmed
 abbrev pub KeepsSkimmed : List Insn → Wanted → Skimmed → List ℕ → List ℕ → Type 0
 KeepsSkimmed program wanted skimmed before after = (outcome : Outcome)
-    × AnswersCaptured program (record { bytes = skimmed.bytes.now; original = skimmed.original }) outcome × (after ≡ before ++ (if is_kept wanted 0 outcome then skimmed.block.now else []))
+    × AnswersCaptured program (record { bytes = skimmed.bytes.now; original = skimmed.packet.original }) outcome
+    × (after ≡ before ++ (if is_kept wanted skimmed.packet.link outcome then skimmed.block.now else []))
 
 -- the same for a block that a feed holds, if it holds one
 abbrev pub KeepsHeld : List Insn → Wanted → Option WholeBlock → List ℕ → List ℕ → Type 0

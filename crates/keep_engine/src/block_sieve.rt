@@ -1,8 +1,8 @@
 //! A capture in pcapng that comes in pieces, of which all is kept but some packets.
 
-ghost use Rattle.std.specs.Prelude.{◌≡◌, ◌≢◌, IfSome, IsSome, IsTrue, List, MatchOption, None, OnOk, Some, ℕ, []};
+ghost use Rattle.std.specs.Prelude.{◌≡◌, ◌≢◌, IsSome, IsTrue, List, OnOk, Some, ℕ, []};
 ghost use Rattle.bpf_insn.specs.declared.insn.Insn.{Insn};
-ghost use Rattle.pcapng_reader.specs.Held.{Skims, seen_block};
+ghost use Rattle.pcapng_reader.specs.Held.{seen_block};
 ghost use Rattle.keep_engine.specs.declared.choice.Wanted.{Wanted as Wants};
 ghost use Rattle.keep_engine.specs.Keeping.{KeepsBlocks};
 ghost use Rattle.keep_engine.specs.Sieving.{HasSiftedBlocks, KeepsBlock, KeepsSkimmed, KeepsStep, Sifts};
@@ -49,7 +49,7 @@ impl BlockSieve {
     {
         let mut rest = piece;
         while !rest.is_empty() {
-            if let Some(skimmed) = self.skim(wanted, &mut rest) {
+            if let Some(skimmed) = self.feed.skim(&mut rest) {
                 keep_skimmed(program, wanted, skimmed, kept)?;
                 continue;
             }
@@ -62,18 +62,6 @@ impl BlockSieve {
             }
         }
         Ok(())
-    }
-
-    /// The packet block that lies whole at the front of `rest`, with no interface, where no link type is named.
-    fn skim<'b>(&mut self, wanted: Wanted, rest: &mut &'b [u8]) -> Option<Skimmed<'b>>
-        ensures skims { MatchOption result ((self.new.feed ≡ self.old.feed) × (rest.new.now ≡ rest.old.now)) (Skims rest.old.now rest.new.now self.old.feed self.new.feed) }
-        ensures unnamed { IfSome result (λ _. wanted.link ≡ None) }
-        ensures same { (self.new.fault ≡ self.old.fault) × (self.new.links ≡ self.old.links) }
-    {
-        if wanted.link.is_some() {
-            return None;
-        }
-        self.feed.skim(rest)
     }
 
     /// The link types of the interfaces in what was taken.
@@ -136,23 +124,25 @@ fn links_with(links: LinkTypes, feed: &BlockFeed, step: Step) -> LinkTypes {
 }
 
 /// Appends a block that was skimmed, unless its packet isn't kept.
+#[inline(always)]
 fn keep_skimmed(
     program: &Predecoded,
     wanted: Wanted,
     skimmed: Skimmed,
     kept: &mut Vec<u8>,
 ) -> Result<(), AllocError>
-    requires { wanted.link ≡ None }
     ensures { OnOk result (KeepsSkimmed program.now wanted skimmed.entry kept.old.items kept.new.items) }
 {
     let packet = Seen {
         bytes: skimmed.bytes,
-        original: skimmed.original,
+        original: skimmed.packet.original,
     };
-    keep_one(program, wanted, 0, packet, skimmed.block, kept)
+    let link = u32::from(skimmed.packet.link);
+    keep_one(program, wanted, link, packet, skimmed.block, kept)
 }
 
 /// Appends what is kept of the block that a step made whole, if it did.
+#[inline(never)]
 fn keep_step(
     program: &Predecoded,
     wanted: Wanted,

@@ -30,6 +30,7 @@ pub enum Front<'b> {
 }
 
 /// What the bytes after a header or a record begin with.
+#[inline(always)]
 pub fn front_of<'b>(big: bool, bytes: &'b [u8]) -> Front<'b>
     ensures { IsFront big bytes.now result }
 {
@@ -62,6 +63,7 @@ pub fn length_of(big: bool, bytes: &[u8]) -> usize
 }
 
 /// The number in the first four bytes.
+#[inline(always)]
 pub fn word_at(big: bool, bytes: &[u8]) -> u32
     requires { 4 ≤ length bytes.now }
     ensures { result ≡ number big 4 bytes.now }

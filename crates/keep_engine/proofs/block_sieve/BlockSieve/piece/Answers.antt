@@ -1,4 +1,4 @@
-use Rattle.std.proofs.Common.{◌++◌, ◌∙◌, ap, append_assoc, sym}
+use Rattle.std.proofs.Common.{◌++◌, ◌∙◌, ap, append_assoc, refl, sym}
 use Rattle.keep_engine.specs.declared.block_sieve.BlockSieve.{BlockSieve}
 use Rattle.keep_engine.specs.Sieving.{HasSiftedBlocks}
 use Rattle.keep_engine.proofs.BlockSieveLemmas.{sifts_then, skim_sifts, step_sifts, stopped_sifts}
@@ -8,11 +8,11 @@ pub loop-rest-preserved-in-Some : goal.loop-rest-preserved-in-Some
 loop-rest-preserved-in-Some c =
     let so = c.loop-rest.invariant in
     let skims = c.in-Some.ensures.skims in
-    let new : BlockSieve = c.skim.new.self in (
+    let new : BlockSieve = record c.loop-rest.self { feed = c.skim.new.self } in (
       so.0 ++ skims.takes.front,
       so.1 ∙ ap (λ t. so.0 ++ t) skims.takes.parts ∙ sym (append_assoc so.0 skims.takes.front c.skim.new.rest.now),
       sifts_then (HasSiftedBlocks c.args.program.now c.args.wanted) so.0 skims.takes.front c.args.self.now c.loop-rest.self new _ c.loop-rest.kept.items _ so.2
-          (skim_sifts c.args.program.now c.args.wanted _ _ c.loop-rest.self new c.in-Some.skimmed _ _ skims c.skim.ensures.same.0 c.in-Some.ensures.unnamed c.in_ok-keep_skimmed.ensures),
+          (skim_sifts c.args.program.now c.args.wanted _ _ c.loop-rest.self new c.in-Some.skimmed _ _ skims refl c.in_ok-keep_skimmed.ensures),
     )
 
 pub loop-rest-preserved : goal.loop-rest-preserved
@@ -21,11 +21,11 @@ loop-rest-preserved c =
     let same = c.in_default.ensures.skims in
     let next = rw (same.0, same.1) at c.in-Ok.ensures in
     let takes = next.advances in
-    let new : BlockSieve = record c.skim.new.self { feed = c.next.new.self; links = c.links_with-self.result } in (
+    let new : BlockSieve = record c.loop-rest.self { feed = c.next.new.self; links = c.links_with-self.result } in (
       so.0 ++ takes.front,
       so.1 ∙ ap (λ t. so.0 ++ t) takes.parts ∙ sym (append_assoc so.0 takes.front c.next.new.rest.now),
       sifts_then (HasSiftedBlocks c.args.program.now c.args.wanted) so.0 takes.front c.args.self.now c.loop-rest.self new _ c.loop-rest.kept.items _ so.2
-          (step_sifts c.args.program.now c.args.wanted _ _ c.loop-rest.self new c.in-Ok.step _ _ takes next.every next.copies next.says next.stays c.skim.ensures.same.0 c.in_ok-keep_step-in-Ok.ensures),
+          (step_sifts c.args.program.now c.args.wanted _ _ c.loop-rest.self new c.in-Ok.step _ _ takes next.every next.copies next.says next.stays refl c.in_ok-keep_step-in-Ok.ensures),
     )
 
 pub returns-in-Err : goal.returns-in-Err
