@@ -45,10 +45,11 @@ impl Drop for CaptureRun {
 }
 
 impl CaptureRun {
-    ghost use Rattle.std.specs.Prelude.{◌≡◌, ◌≢◌, ◌<◌, ℕ, List, [], length, All, Option, IfOk, OnOk, IsTrue, IsSome};
+    ghost use Rattle.std.specs.Prelude.{◌≡◌, ◌≢◌, ◌<◌, ℕ, List, [], length, All, Option, None, Ok, IfOk, IfSome, OnOk, IsTrue, IsSome};
     ghost use Rattle.bpf_insn.specs.declared.insn.Insn.{Insn};
     ghost use Rattle.filter_vm.specs.declared.machine.Outcome.{Outcome as Ended};
     ghost use Rattle.capture_reader.specs.declared.entry.PacketTime.{PacketTime as Time};
+    ghost use Rattle.capture_reader.specs.Holding.{Advances};
     ghost use Rattle.console.specs.Running.{EndsRun, HasRun, IsStopped, RunsOn};
 
     /// A run that was given nothing. Takes no memory.
@@ -91,11 +92,11 @@ impl CaptureRun {
     {
         let mut rest = piece;
         while !rest.is_empty() {
-            if let Some(item) = self.feed.next_whole(&mut rest) {
+            if let Some(item) = self.next_whole(&mut rest) {
                 run_found(
                     program,
                     self.link,
-                    self.stamped,
+                    false,
                     Some(item),
                     &mut self.links,
                     outcomes,
@@ -108,6 +109,23 @@ impl CaptureRun {
             }
         }
         Ok(false)
+    }
+
+    /// The packet that lies whole at the front of `rest`, which is taken off, where the times of packets aren't kept; else nothing
+    /// changes.
+    // A packet whose time nobody looks at takes fewer steps.
+    #[inline(always)]
+    fn next_whole<'b>(&mut self, rest: &mut &'b [u8]) -> Option<Item<'b>>
+        ensures advances { IfSome result (λ item. Advances rest.old.now rest.new.now self.old.feed self.new.feed (Ok (Found.Item item))) }
+        ensures shorter { IfSome result (λ _. rest.old.now ≢ [] → length rest.new.now < length rest.old.now) }
+        ensures plain { IfSome result (λ _. self.old.stamped ≡ false) }
+        ensures none { result ≡ None → (self.new ≡ self.old) × (rest.new.now ≡ rest.old.now) }
+        ensures same { self.new ≡ record self.old { feed = self.new.feed } }
+    {
+        if self.stamped {
+            return None;
+        }
+        self.feed.next_whole(rest)
     }
 
     /// Takes bytes off the front of a piece, up to the end of an entry at most, and runs the filter on its packet, if it has

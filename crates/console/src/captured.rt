@@ -86,6 +86,10 @@ fn keep_piece(
 {
     let mut rest = piece;
     while !rest.is_empty() {
+        if let Some(item) = feed.next_whole(&mut rest) {
+            keep_found(alloc, Some(item), entries)?;
+            continue;
+        }
         keep_next(alloc, feed, &mut rest, entries)?;
     }
     Ok(())
@@ -116,6 +120,7 @@ fn keep_next(
 }
 
 /// Keeps an entry that was seen, if there is one.
+#[inline(always)]
 fn keep_found(
     alloc: Global,
     item: Option<Item<'_>>,
