@@ -1,9 +1,10 @@
 -- The steps of a copy.
-use Rattle.std.proofs.Common.{◌≡◌, ℕ, ◌+◌, ◌*◌, ◌^◌, ◌<◌, ◌≤◌, ◌⊎◌, inl, inr, List, [], ◌∷◌, ◌++◌, length, Bool, true, false, Option, Some, None, Result, Ok, Err, arith, refl, sym, ap, ◌∙◌, append_assoc, length-append}
+use Rattle.std.proofs.Common.{◌≡◌, ℕ, zero, suc, take, ◌+◌, ◌*◌, ◌^◌, ◌<◌, ◌≤◌, ◌⊎◌, inl, inr, List, [], ◌∷◌, ◌++◌, length, Bool, true, false, Option, Some, None, Result, Ok, Err, arith, refl, sym, ap, ◌∙◌, append_assoc, length-append}
 use Rattle.std.specs.Prelude.{IsSome, OnErr}
 use Rattle.std.specs.List.{AllZip, concat}
 use Rattle.std.specs.Io.KnownBytes.{IsAtEnd}
 use Rattle.std.proofs.lemmas.List.{append-nil}
+use Rattle.std.proofs.lemmas.Bool.{cases_lt}
 use Rattle.bpf_insn.specs.declared.insn.Insn.{Insn}
 use Rattle.filter_vm.specs.declared.machine.Outcome.{Outcome}
 use Rattle.pcap_reader.specs.declared.capture.Header.{Header}
@@ -16,6 +17,7 @@ use Rattle.pcapng_reader.specs.Held.{HasStopped, IsOpen, held_fault, open_part, 
 use Rattle.pcapng_reader.proofs.LawLemmas.{block_least}
 use Rattle.pcapng_reader.proofs.SectionLemmas.{section_begun}
 use Rattle.console.specs.declared.streaming.TheConstants.{STREAM_READS}
+use Rattle.keep_engine.specs.declared.keeping.TheConstants.{BLOCK, MANY, SMALL}
 use Rattle.console.specs.declared.source.Source.{Source}
 use Rattle.console.specs.declared.sink.Sink.{Sink}
 use Rattle.console.specs.Devices.{Gets, GetsNothing, Writes}
@@ -130,9 +132,22 @@ front_of_front program wanted input text whole (more, is) (inl none) = inl (noth
 front_of_front program wanted input text whole (more, is) (inr (front, rest, all, parts, keeps, (others, begins))) =
     inr (front, rest, all, parts, keeps, (more ++ others, begins ∙ ap (λ t. t ++ others) is ∙ append_assoc text more others))
 
+-- so many bytes at most
+pub take_few : (n : ℕ) (xs : List ℕ) → length (take n xs) ≤ n
+take_few zero xs = omega arith
+take_few (suc n) [] = omega arith
+take_few (suc n) (x ∷ xs) = omega (arith, take_few n xs)
+
+-- a read after so many turns
+pub few_more : (taken taken' count turn room : ℕ) → taken ≤ MANY + BLOCK + SMALL * turn → count ≤ room → room ≤ BLOCK → (MANY ≤ taken → room ≤ SMALL) → taken' ≡ taken + count → taken' ≤ MANY + BLOCK + SMALL * (turn + 1)
+few_more taken taken' count turn room few most large small more = elim (cases_lt taken MANY) [
+  | inl less ↦ omega (arith, most, large, more, less)
+  | inr many ↦ omega (arith, few, most, small many, more)
+]
+
 -- all reads together gave less than 2^64 bytes
-pub few_enough : (taken taken' count turn left left' : ℕ) → taken ≤ 65536 * turn → count ≤ 65536 → taken' ≡ taken + count → left ≡ left' + 1 → left + turn ≡ STREAM_READS → taken' < 2 ^ 64
-few_enough taken taken' count turn left left' few most more one all = omega (arith, few, most, more, one, all)
+pub few_enough : (taken taken' count turn room : ℕ) → taken ≤ MANY + BLOCK + SMALL * turn → count ≤ room → room ≤ BLOCK → (MANY ≤ taken → room ≤ SMALL) → taken' ≡ taken + count → turn < STREAM_READS → taken' < 2 ^ 64
+few_enough taken taken' count turn room few most large small more one = omega (arith, few_more taken taken' count turn room few most large small more, one)
 
 -- nothing was read yet
 pub copied_none : (program : List Insn) (wanted : Wanted) {R W : Type 0} {remaining : R → Option (List ℕ)} {contents : W → Option (List ℕ)} (from : Source R) (old : Sink W) (sieve : Sieve) → from.taken ≡ 0 → HasSifted program wanted [] sieve []

@@ -1,6 +1,6 @@
 //! `keep`: keeps the packets of a capture that a filter accepts.
 
-ghost use Rattle.std.specs.Prelude.{◌≡◌, ◌⊎◌, ◌++◌, ℕ, List, [], IfOk, IfErr, OnErr, IsSome, false, true, string_bytes};
+ghost use Rattle.std.specs.Prelude.{◌≡◌, ◌≤◌, ◌<◌, ◌⊎◌, ◌++◌, ℕ, List, [], IfOk, IfErr, OnErr, IsSome, false, true, string_bytes};
 ghost use Rattle.std.specs.Io.KnownBytes.{IsAtEnd};
 ghost use Rattle.bpf_insn.specs.declared.insn.Insn.{Insn};
 ghost use Rattle.console.specs.Code.{IsGoodCode, ShowsBadCode};
@@ -12,12 +12,21 @@ use crate::choice::Wanted;
 use crate::sieve::Sieve;
 use capture_reader::ReadFault;
 use console::{
-    BLOCK, EngineFault, Got, LinkTypes, STREAM_READS, Sink, Source, push_read_words, read_code,
+    EngineFault, Got, LinkTypes, STREAM_READS, Sink, Source, push_read_words, read_code,
     write_bytes,
 };
 use filter_predecode::Predecoded;
 use std::alloc::{AllocError, Global};
 use std::io::{Read, Write};
+
+/// How many bytes one read may give at most. Each read and each write costs the system something, however few bytes it moves.
+const BLOCK: usize = 262_144;
+
+/// How many bytes one read may give after `MANY`.
+const SMALL: usize = 32_768;
+
+/// So many bytes that smaller reads must follow, for all reads of a stream to give fewer than 2^64.
+const MANY: u64 = 4_611_686_018_427_387_904;
 
 /// Copies a capture of any length, but of its packets only those that are wanted: that the filter accepts which `code` spells, in
 /// decimal text; or, inverted, those that it doesn't accept; and of one link type alone, where one is named. Answers the status.
@@ -36,7 +45,7 @@ use std::io::{Read, Write};
 ///
 /// It holds the longest record or block at most, and what one read completed. `writer` is never flushed.
 ///
-/// Answers `ReadFailed` where a read fails, or after 2^48 - 1 reads of at most 65,536 bytes; `WriteFailed`; and `NoMemory`. A
+/// Answers `ReadFailed` where a read fails, or after 2^48 - 1 reads of at most 262,144 bytes; `WriteFailed`; and `NoMemory`. A
 /// front of what is kept was written then.
 pub fn run_keep<R: Read, W: Write>(
     alloc: Global,
@@ -113,10 +122,11 @@ fn copy<R: Read, W: Write>(
     let mut kept = Vec::new(alloc);
     let mut block = [0u8; BLOCK];
     for _turn in 0..STREAM_READS {
-        match reader.read(&mut block) {
+        let buffer = &mut block[..room(reader.taken())];
+        match reader.read(buffer) {
             Got::End => return Ok(sieve.ending(reader.taken())),
             Got::Bytes(count) => {
-                sieve.piece(program, wanted, &block[..count], &mut kept)?;
+                sieve.piece(program, wanted, &buffer[..count], &mut kept)?;
                 *links = sieve.links();
                 write_bytes(writer, kept.as_slice())?;
                 kept.clear();
@@ -129,4 +139,13 @@ fn copy<R: Read, W: Write>(
         }
     }
     Err(EngineFault::ReadFailed)
+}
+
+/// How many bytes the next read may give, after so many.
+fn room(taken: u64) -> usize
+    ensures some { 0 < result }
+    ensures most { result ≤ BLOCK }
+    ensures small { MANY ≤ taken → result ≤ SMALL }
+{
+    if taken < MANY { BLOCK } else { SMALL }
 }

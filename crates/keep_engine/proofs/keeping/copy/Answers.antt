@@ -1,7 +1,7 @@
 use Rattle.std.proofs.Common.{arith, inl, inr, length-take-le}
 use Rattle.console.proofs.KnownBytesLemmas.{gets-end}
 use Rattle.console.proofs.StreamLemmas.{keeps_itself}
-use Rattle.keep_engine.proofs.CopyLemmas.{copied_kept, copied_next, few_enough, left_kept, left_read, left_wrote}
+use Rattle.keep_engine.proofs.CopyLemmas.{copied_kept, copied_next, few_enough, few_more, left_kept, left_read, left_wrote, take_few}
 use Rattle.keep_engine.proofs.keeping.copy.Goals.{in-Bytes+in_ok-piece-in-Bytes+in_ok-write_bytes-in-Bytes+else-has_stopped, in-Again}
 use Rattle.keep_engine.proofs.keeping.copy.Goals as goal
 
@@ -21,14 +21,14 @@ returns-in_err-piece-in-Bytes-clause-left g c = left_read c.from_residual.result
 
 pub returns-in_err-write_bytes-in-Bytes-clause-left : goal.returns-in_err-write_bytes-in-Bytes-clause-left
 returns-in_err-write_bytes-in-Bytes-clause-left g c =
-    left_wrote c.from_residual-in_err-write_bytes-in-Bytes.result _ _ _ _ _ _ _ _ _ _ _ c.loop-turn.kept.items c.piece.new.kept.items c.loop-turn.invariant.so c.in-Bytes.ensures.3 (omega (arith, c.in-Bytes.ensures.0.1, length-take-le c.in-Bytes.count c.read.new.buffer c.in-Bytes.ensures.2)) (few_enough _ _ c.in-Bytes.count c.loop-turn._turn _ _ c.loop-turn.invariant.few (omega (arith, c.in-Bytes.ensures.2)) c.in-Bytes.ensures.0.1 c.in-Bytes.ensures.0.0 c.loop-turn.invariant.left)
+    left_wrote c.from_residual-in_err-write_bytes-in-Bytes.result _ _ _ _ _ _ _ _ _ _ _ c.loop-turn.kept.items c.piece.new.kept.items c.loop-turn.invariant.so c.in-Bytes.ensures.3 (omega (arith, c.in-Bytes.ensures.0.1, length-take-le c.in-Bytes.count c.read.new.buffer c.in-Bytes.ensures.2)) (few_enough _ _ c.in-Bytes.count c.loop-turn._turn c.room.result c.loop-turn.invariant.few (omega (arith, c.in-Bytes.ensures.2, take_few c.room.result c.loop-turn.block)) c.room.ensures.most (rw c.taken.ensures at c.room.ensures.small) c.in-Bytes.ensures.0.1 c.loop-turn-test.true)
     c.loop-turn.invariant.none c.in_ok-piece-in-Bytes.ensures
     (rw c.as_slice.ensures.value at c.in_err-write_bytes-in-Bytes.ensures.front)
 
 pub returns-then-has_stopped-clause-kept : goal.returns-then-has_stopped-clause-kept
 returns-then-has_stopped-clause-kept g c =
     let so = copied_next _ _ _ _ _ _ _ _ _ _ _ c.loop-turn.kept.items c.piece.new.kept.items c.in-Bytes.count c.loop-turn.invariant.so c.in-Bytes.ensures.3 c.in-Bytes.ensures.0.1
-    (length-take-le c.in-Bytes.count c.read.new.buffer c.in-Bytes.ensures.2) (few_enough _ _ c.in-Bytes.count c.loop-turn._turn _ _ c.loop-turn.invariant.few (omega (arith, c.in-Bytes.ensures.2)) c.in-Bytes.ensures.0.1 c.in-Bytes.ensures.0.0 c.loop-turn.invariant.left) c.loop-turn.invariant.none c.in_ok-piece-in-Bytes.ensures (rw c.as_slice.ensures.value at c.in_ok-write_bytes-in-Bytes.ensures.written) in (
+    (length-take-le c.in-Bytes.count c.read.new.buffer c.in-Bytes.ensures.2) (few_enough _ _ c.in-Bytes.count c.loop-turn._turn c.room.result c.loop-turn.invariant.few (omega (arith, c.in-Bytes.ensures.2, take_few c.room.result c.loop-turn.block)) c.room.ensures.most (rw c.taken.ensures at c.room.ensures.small) c.in-Bytes.ensures.0.1 c.loop-turn-test.true) c.loop-turn.invariant.none c.in_ok-piece-in-Bytes.ensures (rw c.as_slice.ensures.value at c.in_ok-write_bytes-in-Bytes.ensures.written) in (
       so.input,
       so.lost,
       so.text,
@@ -44,9 +44,9 @@ pub loop-turn-preserved : goal.loop-turn-preserved
 loop-turn-preserved g c = elim c.match-read.branch [
   | in-Bytes+in_ok-piece-in-Bytes+in_ok-write_bytes-in-Bytes+else-has_stopped w ↦ rw (w.writer-is, w.sieve-is, w.kept-is) (record {
     so = copied_next _ _ _ _ _ _ _ _ _ _ _ c.loop-turn.kept.items w.piece.new.kept.items w.in-Bytes.count c.loop-turn.invariant.so w.in-Bytes.ensures.3 w.in-Bytes.ensures.0.1
-        (length-take-le w.in-Bytes.count c.read.new.buffer w.in-Bytes.ensures.2) (few_enough _ _ w.in-Bytes.count c.loop-turn._turn _ _ c.loop-turn.invariant.few (omega (arith, w.in-Bytes.ensures.2)) w.in-Bytes.ensures.0.1 w.in-Bytes.ensures.0.0 c.loop-turn.invariant.left) c.loop-turn.invariant.none w.in_ok-piece-in-Bytes.ensures (rw w.as_slice.ensures.value at w.in_ok-write_bytes-in-Bytes.ensures.written);
+        (length-take-le w.in-Bytes.count c.read.new.buffer w.in-Bytes.ensures.2) (few_enough _ _ w.in-Bytes.count c.loop-turn._turn c.room.result c.loop-turn.invariant.few (omega (arith, w.in-Bytes.ensures.2, take_few c.room.result c.loop-turn.block)) c.room.ensures.most (rw c.taken.ensures at c.room.ensures.small) w.in-Bytes.ensures.0.1 c.loop-turn-test.true) c.loop-turn.invariant.none w.in_ok-piece-in-Bytes.ensures (rw w.as_slice.ensures.value at w.in_ok-write_bytes-in-Bytes.ensures.written);
     left = omega (arith, w.in-Bytes.ensures.0.0, c.loop-turn.invariant.left);
-    few = omega (arith, w.in-Bytes.ensures.0.1, w.in-Bytes.ensures.2, c.loop-turn.invariant.few);
+    few = few_more _ _ w.in-Bytes.count c.loop-turn._turn c.room.result c.loop-turn.invariant.few (omega (arith, w.in-Bytes.ensures.2, take_few c.room.result c.loop-turn.block)) c.room.ensures.most (rw c.taken.ensures at c.room.ensures.small) w.in-Bytes.ensures.0.1;
     open_end = (w.in-Bytes.ensures.0.2, w.in-Bytes.ensures.0.3);
     good = w.in_ok-write_bytes-in-Bytes.ensures.good;
     none = w.clear.ensures.items;
