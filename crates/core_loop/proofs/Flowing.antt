@@ -1,5 +1,5 @@
 -- Lines that move while a core looks at its links.
-use Rattle.std.proofs.Common.{◌≡◌, ◌≢◌, ◌<◌, ◌≤◌, ◌+◌, ◌⊎◌, inl, inr, ℕ, zero, suc, Bool, true, false, List, [], Result, MatchResult, Ok, Err, refl, ap, sym, ◌∙◌, subst, arith}
+use Rattle.std.proofs.Common.{◌≡◌, ◌≢◌, ◌<◌, ◌+◌, ◌⊎◌, inl, inr, ℕ, zero, suc, Bool, true, false, List, Result, refl, ap, sym, ◌∙◌, subst, arith}
 use Rattle.core_links.specs.Views.{LinkView, Pulled}
 use Rattle.ump_ring.specs.declared.fault.LineFault.{LineFault}
 use Rattle.core_links.specs.Flows.{Flow, FlowsOn, FlowsIn, FlowsOut, IsLooked, HasMoved, SaysMoved}

@@ -1,12 +1,9 @@
 -- The core whose request was begun last, as a history grows, and what core 0 begins next.
-use Rattle.std.proofs.Common.{◌≡◌, ◌≢◌, ◌<◌, ◌≤◌, ◌+◌, ◌⊎◌, inl, inr, ◌∙◌, ℕ, zero, suc, List, [], ◌∷◌, ◌++◌, Option, Some, None, refl, sym, ap, subst, arith, slice_get}
+use Rattle.std.proofs.Common.{◌≡◌, ◌<◌, ◌≤◌, ◌⊎◌, inl, inr, ◌∙◌, ℕ, zero, suc, List, [], ◌∷◌, ◌++◌, Some, refl, sym, ap, arith, slice_get}
 use Rattle.filter_table.specs.declared.operation.Op.{Op}
-use Rattle.world_events.specs.declared.event.Event.{Event}
 use Rattle.world_histories.specs.declared.history.Stamped.{Stamped}
-use Rattle.core_links.specs.Views.{LinkView}
 use Rattle.core_steps.specs.declared.core0.Core0.{Core0 as First}
-use Rattle.core_loop.specs.declared.part.Part.{Part}
-use Rattle.core_loop.specs.InTurn.{last_begun_with, last_begun, last_begun_after, ComesBefore, Asks, IsNextInTurn}
+use Rattle.core_loop.specs.InTurn.{last_begun_with, last_begun, last_begun_after, Asks, IsNextInTurn}
 
 after_more : (last : ℕ) (h : List Stamped) (s : Stamped) → last_begun_after last (h ++ s ∷ []) ≡ last_begun_with (last_begun_after last h) s.done.event
 after_more last [] s = refl

@@ -1,15 +1,14 @@
 -- While a core's request waits, each other core is begun at most once.
-use Rattle.std.proofs.Common.{◌≡◌, ◌≢◌, ◌<◌, ◌≤◌, ◌+◌, ◌-◌, ◌⊎◌, inl, inr, ◌∙◌, ℕ, zero, suc, List, [], ◌∷◌, ◌++◌, Option, Some, None, refl, sym, ap, subst, arith, slice_get}
+use Rattle.std.proofs.Common.{◌≡◌, ◌≢◌, ◌<◌, ◌≤◌, ◌⊎◌, inl, inr, ◌∙◌, ℕ, zero, suc, List, [], ◌∷◌, Some, refl, sym, ap, subst, arith, slice_get}
 use Rattle.filter_table.specs.declared.operation.Op.{Op}
 use Rattle.world_events.specs.declared.event.Event.{Event}
 use Rattle.world_events.specs.declared.event.Event.TheVariants.{Start, StartFor, Submit, Take, Rx}
-use Rattle.world_histories.specs.declared.history.Stamped.{Stamped}
 use Rattle.core_links.specs.Views.{LinkView}
 use Rattle.core_loop.specs.declared.part.Part.{Part}
 use Rattle.core_loop.specs.declared.part.Part.TheVariants as part
 use Rattle.core_loop.specs.InTurn.{last_begun_with, last_begun, ComesBefore}
 use Rattle.core_loop.specs.Choosing.{IsNext}
-use Rattle.core_loop.specs.Cores.{CoreState, DidOne}
+use Rattle.core_loop.specs.Cores.{CoreState}
 use Rattle.core_loop.specs.Passing.{AsksPart, BeginsFor, PassesOver, IsOnceEach}
 use Rattle.core_loop.proofs.InTurn.{begun_more}
 

@@ -1,11 +1,11 @@
 -- A core that has stopped stays stopped for what its links show.
-use Rattle.std.proofs.Common.{◌≡◌, ◌≢◌, ◌<◌, ◌⊎◌, inl, inr, ℕ, Option, Some, None, List, [], ◌∷◌, ◌++◌, refl, sym, ap, subst, ◌∙◌}
+use Rattle.std.proofs.Common.{◌≡◌, ◌⊎◌, inl, inr, ℕ, Option, Some, None, List, [], ◌∷◌, ◌++◌, sym, ap, subst, ◌∙◌}
 use Rattle.std.specs.Prelude.{Result, Ok, Err, OnOk, IfErr}
 use Rattle.ump_ring.specs.declared.sender.Busy.{Busy}
 use Rattle.world_model.proofs.Lists.{same_or_not}
 use Rattle.world_histories.specs.Histories.{Stamping}
 use Rattle.core_links.specs.declared.list_links.ListLinks.{ListLinks}
-use Rattle.core_links.specs.ListSlots.{list_view, list_to, list_link_view, SameLists, GivesMessage}
+use Rattle.core_links.specs.ListSlots.{list_view, list_link_view, SameLists, GivesMessage}
 use Rattle.core_links.specs.Slots.{place_view}
 use Rattle.core_links.specs.Views.{LinkView, AtPeer, IsSameView, first_of}
 use Rattle.core_loop.specs.declared.part.Part.{Part}

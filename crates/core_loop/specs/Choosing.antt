@@ -1,14 +1,13 @@
 -- What a core does next: it takes the first message of the least peer that shows one; where none can be taken, it begins a request; where none
 -- can be begun, it receives a job. What it sees is what its links show once it has looked at each peer up to the first that shows a message.
-use Rattle.std.specs.Prelude.{◌≡◌, ◌≢◌, ◌⊎◌, ◌<◌, ◌-◌, [], ℕ, suc, false, List, None, Some, slice_get}
+use Rattle.std.specs.Prelude.{◌≡◌, ◌≢◌, ◌⊎◌, ◌<◌, ◌-◌, [], ℕ, false, List, None}
 use Rattle.filter_table.specs.declared.operation.Op.{Op}
 use Rattle.monitor_messages.specs.declared.message.Message.{Message}
 use Rattle.monitor_messages.specs.Coding.{Coded}
 use Rattle.world_events.specs.declared.event.Event.{Event}
-use Rattle.world_events.specs.declared.event.Event.TheVariants.{Start, StartFor, Submit, Take, Rx}
+use Rattle.world_events.specs.declared.event.Event.TheVariants.{Submit, Take, Rx}
 use Rattle.world_histories.specs.Histories.{Stamping}
 use Rattle.core_links.specs.Views.{LinkView}
-use Rattle.core_steps.specs.declared.core0.Core0.{Core0 as First}
 use Rattle.core_loop.specs.declared.part.Part.{Part}
 use Rattle.core_loop.specs.declared.part.Part.TheVariants as part
 use Rattle.core_loop.specs.declared.refusal.Refusal.TheVariants as refusal

@@ -16,6 +16,7 @@ ghost use Rattle.core_loop.specs.Receipts.{receives};
 ghost use Rattle.core_loop.specs.Beginning.{CanBegin0};
 ghost use Rattle.core_loop.specs.InTurn.{Asks, BeginsInTurn, IsNextInTurn};
 
+use crate::queue::next_request;
 use crate::refusal::{Refusal, next_stamp};
 use crate::sending::{Ready, all_ready, can_carry, make_ready, send};
 use core_links::Links;
@@ -154,7 +155,7 @@ pub(crate) fn start<L: Links>(
         core.withdraw();
         return Err(Refusal::NoMemory);
     };
-    let Some(op) = requests.pop_front() else {
+    let Some(op) = next_request(requests) else {
         unreachable!()
     };
     let told = core.begin(fault);

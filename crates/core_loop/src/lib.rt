@@ -14,6 +14,7 @@ mod looking;
 mod noting;
 mod other;
 mod part;
+mod queue;
 mod receiving;
 mod refusal;
 mod running;

@@ -19,6 +19,7 @@ ghost use Rattle.core_loop.specs.Beginning.{CanBeginOther};
 ghost use Rattle.core_loop.specs.Choosing.{IsSubmission};
 ghost use Rattle.core_loop.specs.Events.{ActsOther, CannotTakeOther, CannotSubmit};
 
+use crate::queue::next_request;
 use crate::refusal::{Refusal, next_stamp};
 use crate::sending::hand;
 use core_links::Links;
@@ -159,7 +160,7 @@ pub(crate) fn submit<L: Links>(
     let Ok(piece) = submission(alloc, stamp, op) else {
         return Err(Refusal::NoMemory);
     };
-    let Some(op) = requests.pop_front() else {
+    let Some(op) = next_request(requests) else {
         unreachable!()
     };
     let answer = core.submit();

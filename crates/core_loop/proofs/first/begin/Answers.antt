@@ -1,4 +1,4 @@
-use Rattle.std.proofs.Common.{◌≡◌, inl, inr, ℕ, suc, refl, sym, subst}
+use Rattle.std.proofs.Common.{inl, inr, ℕ, suc, refl, sym, subst}
 use Rattle.world_events.specs.declared.event.Event.{Event}
 use Rattle.core_loop.specs.InTurn.{BeginsInTurn, IsNextInTurn}
 use Rattle.core_loop.proofs.first.begin.Goals as goal

@@ -1,4 +1,4 @@
-use Rattle.std.proofs.Common.{◌≡◌, ◌<◌, ◌-◌, ℕ, suc, true, false, sym, subst, arith}
+use Rattle.std.proofs.Common.{◌≡◌, ◌<◌, ◌-◌, ℕ, suc, sym, subst, arith}
 use Rattle.core_links.specs.Flows.{IsResting, ring_flow}
 use Rattle.core_links.specs.RingSlots.{ring_view}
 use Rattle.core_loop.proofs.joined.all_rest.Goals as goal

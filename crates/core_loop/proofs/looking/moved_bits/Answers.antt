@@ -1,4 +1,4 @@
-use Rattle.std.proofs.Common.{◌≡◌, ◌<◌, ◌≤◌, ◌-◌, ℕ, Bool, refl, sym, ap, ◌∙◌, subst, arith}
+use Rattle.std.proofs.Common.{◌≡◌, ◌<◌, ◌≤◌, ◌-◌, ℕ, Bool, sym, ap, ◌∙◌, subst, arith}
 use Rattle.core_loop.specs.Waking.{bits_from}
 use Rattle.core_loop.proofs.Waking.{below_63, byte_least, one_before}
 use Rattle.core_loop.proofs.looking.moved_bits.Goals as goal

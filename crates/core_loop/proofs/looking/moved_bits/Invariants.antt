@@ -1,4 +1,4 @@
-use Rattle.std.proofs.Common.{◌≡◌, ◌≤◌, ◌-◌, ℕ}
+use Rattle.std.proofs.Common.{◌≡◌, ◌-◌}
 use Rattle.core_loop.specs.Waking.{bits_from}
 use Rattle.core_loop.proofs.looking.moved_bits.Given as goal
 

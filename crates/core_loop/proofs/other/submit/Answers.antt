@@ -12,9 +12,9 @@ pub returns-clause-acts : goal.returns-clause-acts
 returns-clause-acts g c = λ entry number.
     let view = g.L.Links.view in
     let front = c.in-Some-front.op.now in
-    let popped = c.in-Some-pop_front.op in
+    let popped = c.in-Some-next_request.op in
     let first : front ≡ slice_index_or c.args.requests.now.items 0 front = search rules in
-    let rest : c.args.requests.now.items ≡ popped ∷ c.pop_front.new.self.items = search rules in
+    let rest : c.args.requests.now.items ≡ popped ∷ c.next_request.new.requests.items = search rules in
     let same : front ≡ popped = first ∙ (rw rest refl) in
     let piece : IsPiece c.in-Some.stamp (message.Submit popped) c.in-Ok.piece = subst (λ (o : Op). IsPiece c.in-Some.stamp (message.Submit o) c.in-Ok.piece) same c.in-Ok.ensures.1 in
     let answer = c.submit-answer.ensures.submits.is_answer in

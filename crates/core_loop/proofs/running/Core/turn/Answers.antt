@@ -15,7 +15,6 @@ use Rattle.core_loop.proofs.Acting.{acts_stand, acts_budget}
 use Rattle.core_loop.proofs.Answering.{decides_next}
 use Rattle.core_loop.proofs.InTurn.{begun_more as last_more}
 use Rattle.core_loop.proofs.Stopped.{not_stopped, stopped_now}
-use Rattle.core_loop.specs.InTurn.{last_begun}
 use Rattle.core_loop.proofs.Resting.{did_is, stands_quiet, rest_stands, short_rest, begun_more, was_running, seen_same, seen_idle, seen_done}
 use Rattle.core_loop.proofs.running.Core.turn.Goals as goal
 
