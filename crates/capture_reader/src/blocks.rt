@@ -42,10 +42,7 @@ pub(crate) fn next_block<'b>(
 /// The packet of the block at the front of `rest`, which is taken off, where it is an enhanced packet block, lies whole there and
 /// has nothing wrong; else nothing changes.
 #[inline(always)]
-pub(crate) fn next_whole_packet<'b>(
-    feed: &mut BlockFeed,
-    rest: &mut &'b [u8],
-) -> Option<Item<'b>>
+pub(crate) fn next_whole_packet<'b>(feed: &mut BlockFeed, rest: &mut &'b [u8]) -> Option<Item<'b>>
     ensures advances { IfSome result (λ item. AdvancesBy {E = CaptureFault} (HoldsPcapng feed.old) (HoldsPcapng feed.new) StopsPcapng (entry_of (held_block feed.new)) rest.old.now rest.new.now (Ok (Found.Item item))) }
     ensures shorter { IfSome result (λ _. IsShorter rest.old.now rest.new.now) }
     ensures same { result ≡ None → (feed.new ≡ feed.old) × (rest.new.now ≡ rest.old.now) }

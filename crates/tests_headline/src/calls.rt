@@ -16,7 +16,7 @@ use pcap_reader::SharedPacket;
 use seq::Shared;
 use std::alloc::{AllocError, Global};
 use std::process::Abort;
-use test_words::{ALL, ARP, REQUEST, EventWords, program, tells};
+use test_words::{ALL, ARP, EventWords, REQUEST, program, tells};
 
 /// A core halts after so many idle turns, which no test comes to.
 const LIMIT: u64 = 50_000_000;

@@ -21,7 +21,7 @@ use std::alloc::{AllocError, Global};
 use std::collections::VecDeque;
 use std::process::Abort;
 use table_replica::Op;
-use test_words::{ARP, CAP, FILTER, REQUEST, EventWords, program, tells};
+use test_words::{ARP, CAP, EventWords, FILTER, REQUEST, program, tells};
 use ump_ring::ring;
 use world_model::{Answer, Done, Event};
 
@@ -212,7 +212,10 @@ fn a_core_alone(rt: HostRuntime) {
 static INSTALLED: [(Asked, EventWords); 12] = [
     (("start", 0, 0, 0), EventWords::Prepared(1)),
     (("take", 1, 0, 0), EventWords::TookPrepare(1, Vote::Yes)),
-    (("take", 0, 1, 0), EventWords::TookVote(1, Vote::Yes, Some(CAP))),
+    (
+        ("take", 0, 1, 0),
+        EventWords::TookVote(1, Vote::Yes, Some(CAP)),
+    ),
     (("take", 1, 0, 0), EventWords::TookCommit(1, 1)),
     (("take", 0, 1, 0), EventWords::TookAck(1)),
     (("start", 0, 0, 0), EventWords::Prepared(2)),
@@ -232,7 +235,10 @@ static SUBMITTED: [(Asked, EventWords); 8] = [
     (("take", 0, 1, 0), EventWords::TookSubmit),
     (("start for", 1, 0, 0), EventWords::Prepared(1)),
     (("take", 1, 0, 0), EventWords::TookPrepare(1, Vote::Yes)),
-    (("take", 0, 1, 0), EventWords::TookVote(1, Vote::Yes, Some(CAP))),
+    (
+        ("take", 0, 1, 0),
+        EventWords::TookVote(1, Vote::Yes, Some(CAP)),
+    ),
     (("take", 1, 0, 0), EventWords::TookCommit(1, 1)),
     (("take", 0, 1, 0), EventWords::TookAck(1)),
     (("take", 1, 0, 0), EventWords::TookReply(CAP)),
@@ -255,7 +261,10 @@ type Took = (u16, u64, u16, EventWords);
 
 /// Histories of four cores, the last one empty.
 static HISTORIES: [&[Took]; 4] = [
-    &[(0, 4, 1, EventWords::TookSubmit), (0, 7, 2, EventWords::TookAck(3))],
+    &[
+        (0, 4, 1, EventWords::TookSubmit),
+        (0, 7, 2, EventWords::TookAck(3)),
+    ],
     &[
         (1, 4, 0, EventWords::TookPrepare(3, Vote::NoMemory)),
         (1, 9, 0, EventWords::TookAbort(3, 0)),

@@ -14,8 +14,8 @@ use monitor_messages::{Decision, Veto, Vote};
 use std::alloc::Global;
 use table_replica::{Made, OpFault};
 use test_words::{
-    ALL, ARP, Ask, CAP, FILTER, NO_FILTER, NO_MEMORY_ON_1, OVER_BUDGET_OF_1, REQUEST, TAKEN, THREE,
-    EventWords,
+    ALL, ARP, Ask, CAP, EventWords, FILTER, NO_FILTER, NO_MEMORY_ON_1, OVER_BUDGET_OF_1, REQUEST,
+    TAKEN, THREE,
 };
 use world_core::{BootFault, Lines, Messages, World, WorldFault};
 
@@ -115,7 +115,10 @@ const GREATEST_VERDICT: Run = (
             Asked::Start(Ask::Install(1, 1, "1,6 0 0 60")),
             EventWords::Decided(OTHER_FILTER),
         ),
-        Step::Does(Asked::Rx(0, &[0; 64], 0), EventWords::Delivered(3, 1, 7, 60)),
+        Step::Does(
+            Asked::Rx(0, &[0; 64], 0),
+            EventWords::Delivered(3, 1, 7, 60),
+        ),
     ],
 );
 
@@ -125,7 +128,10 @@ const TWO_PHASES: Run = (
     &[
         Step::Does(CREATE, EventWords::Prepared(1)),
         CAP_IS_AGREED_ON,
-        Step::Does(Asked::Start(Ask::Install(1, 1, ARP)), EventWords::Prepared(2)),
+        Step::Does(
+            Asked::Start(Ask::Install(1, 1, ARP)),
+            EventWords::Prepared(2),
+        ),
         Step::Shows(0, 1, 1, 0, 0),
         Step::Does(Asked::Take(1, 0), EventWords::TookPrepare(2, Vote::Yes)),
         Step::Does(
@@ -133,9 +139,15 @@ const TWO_PHASES: Run = (
             EventWords::TookVote(2, Vote::Yes, Some(FILTER)),
         ),
         Step::Does(Asked::Rx(1, &REQUEST, 0), EventWords::Delivered(1, 0, 0, 0)),
-        Step::Does(Asked::Rx(0, &REQUEST, 0), EventWords::Delivered(2, 1, 7, 14)),
+        Step::Does(
+            Asked::Rx(0, &REQUEST, 0),
+            EventWords::Delivered(2, 1, 7, 14),
+        ),
         Step::Does(Asked::Take(1, 0), EventWords::TookCommit(2, 2)),
-        Step::Does(Asked::Rx(1, &REQUEST, 0), EventWords::Delivered(2, 1, 7, 14)),
+        Step::Does(
+            Asked::Rx(1, &REQUEST, 0),
+            EventWords::Delivered(2, 1, 7, 14),
+        ),
         Step::Fails(Asked::Rx(1, &REQUEST, 3), WorldFault::NotReady),
     ],
 );
@@ -145,7 +157,10 @@ const BUDGET_VETO: Run = (
     &[
         Step::Does(CREATE, EventWords::Prepared(1)),
         CAP_IS_AGREED_ON,
-        Step::Does(Asked::Start(Ask::Install(1, 1, ARP)), EventWords::Prepared(2)),
+        Step::Does(
+            Asked::Start(Ask::Install(1, 1, ARP)),
+            EventWords::Prepared(2),
+        ),
         Step::Settles(&[
             (1, 0, EventWords::TookPrepare(2, Vote::Budget)),
             (
@@ -156,7 +171,10 @@ const BUDGET_VETO: Run = (
             (1, 0, EventWords::TookAbort(2, 1)),
             (0, 1, EventWords::TookAck(2)),
         ]),
-        Step::Does(Asked::Start(Ask::Install(1, 1, THREE)), EventWords::Prepared(3)),
+        Step::Does(
+            Asked::Start(Ask::Install(1, 1, THREE)),
+            EventWords::Prepared(3),
+        ),
         Step::Settles(&[
             (1, 0, EventWords::TookPrepare(3, Vote::Yes)),
             (0, 1, EventWords::TookVote(3, Vote::Yes, Some(FILTER))),
@@ -183,13 +201,22 @@ const REVOKED: Run = (
             Asked::Rx(0, &[1, 2, 3, 4, 5], 0),
             EventWords::Delivered(3, 1, 7, 5),
         ),
-        Step::Does(Asked::Start(Ask::Revoke(1, 1)), EventWords::Decided(NOTHING_AT_4)),
+        Step::Does(
+            Asked::Start(Ask::Revoke(1, 1)),
+            EventWords::Decided(NOTHING_AT_4),
+        ),
         Step::Does(
             Asked::Rx(0, &[1, 2, 3, 4, 5], 0),
             EventWords::Delivered(4, 0, 0, 0),
         ),
-        Step::Does(Asked::Start(Ask::Install(2, 2, ALL)), EventWords::Decided(NO_CAP)),
-        Step::Does(Asked::Start(Ask::Remove(1, 1)), EventWords::Decided(NOT_OWNER)),
+        Step::Does(
+            Asked::Start(Ask::Install(2, 2, ALL)),
+            EventWords::Decided(NO_CAP),
+        ),
+        Step::Does(
+            Asked::Start(Ask::Remove(1, 1)),
+            EventWords::Decided(NOT_OWNER),
+        ),
         Step::Shows(0, 4, 1, 1, 1),
         Step::Cap,
         Step::Filter(2, 2),
@@ -244,7 +271,10 @@ const HOME: Run = (
         Step::Does(Asked::StartFor(1), EventWords::Prepared(1)),
         Step::Waits(1, false),
         Step::Does(Asked::Take(1, 0), EventWords::TookPrepare(1, Vote::Yes)),
-        Step::Does(Asked::Take(0, 1), EventWords::TookVote(1, Vote::Yes, Some(CAP))),
+        Step::Does(
+            Asked::Take(0, 1),
+            EventWords::TookVote(1, Vote::Yes, Some(CAP)),
+        ),
         Step::Does(Asked::Take(1, 0), EventWords::TookCommit(1, 1)),
         Step::Does(Asked::Take(0, 1), EventWords::TookAck(1)),
         Step::Does(Asked::Take(1, 0), EventWords::TookReply(CAP)),
@@ -292,7 +322,10 @@ const REPLACED: Run = (
         Step::Does(INSTALL_ALL, EventWords::Decided(FILTER)),
         Step::Does(INSTALL_ALL, EventWords::Decided(OTHER_FILTER)),
         Step::Does(REPLACE_BY_THREE, EventWords::Decided(OVER_BUDGET_OF_0)),
-        Step::Does(Asked::Start(Ask::Remove(1, 2)), EventWords::Decided(NOTHING_AT_4)),
+        Step::Does(
+            Asked::Start(Ask::Remove(1, 2)),
+            EventWords::Decided(NOTHING_AT_4),
+        ),
         Step::Does(REPLACE_BY_THREE, EventWords::Decided(NOTHING_AT_5)),
         Step::Shows(0, 5, 1, 1, 3),
         Step::Does(
@@ -307,7 +340,10 @@ const REPLACED: Run = (
             Asked::Start(Ask::DropCap(1, 1)),
             EventWords::Decided(NOTHING_AT_6),
         ),
-        Step::Does(Asked::Start(Ask::Replace(1, 1, ALL)), EventWords::Decided(NO_CAP)),
+        Step::Does(
+            Asked::Start(Ask::Replace(1, 1, ALL)),
+            EventWords::Decided(NO_CAP),
+        ),
         Step::Shows(0, 6, 0, 1, 3),
         Step::Filter(1, 1),
     ],

@@ -13,7 +13,7 @@ use std::alloc::{AllocError, Global};
 use std::collections::VecDeque;
 use std::process::Abort;
 use table_replica::Op;
-use test_words::{ALL, CAP, FILTER, EventWords, is_for_memory, program, tells};
+use test_words::{ALL, CAP, EventWords, FILTER, is_for_memory, program, tells};
 
 // Requests to create endpoint 7 and to install a filter that accepts every packet.
 fn installation(rt: &impl Abort, alloc: Global) -> VecDeque<Op> {

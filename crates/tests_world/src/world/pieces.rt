@@ -5,7 +5,7 @@ use crate::facts::equal;
 use monitor_messages::Message;
 use std::alloc::{AllocError, Global};
 use std::process::Abort;
-use test_words::{ARP, Ask, TAKEN, EventWords};
+use test_words::{ARP, Ask, EventWords, TAKEN};
 use world_core::{Channel, Lines, Messages, WorldOver};
 
 /// A channel that makes no piece while one that it made isn't put.

@@ -7,7 +7,7 @@ use crate::facts::{equal, holds};
 use monitor_messages::Vote;
 use std::alloc::Global;
 use std::process::Abort;
-use test_words::{ARP, Ask, CAP, FILTER, REQUEST, TAKEN, EventWords, no_memory};
+use test_words::{ARP, Ask, CAP, EventWords, FILTER, REQUEST, TAKEN, no_memory};
 use world_core::{Channel, Lines, Messages, WorldFault, WorldOver};
 
 /// The events tell this, one after the other.
@@ -59,9 +59,15 @@ fn two_phase<C: Channel>(rt: &impl Abort, alloc: Global) {
                 EventWords::TookVote(txn, Vote::Yes, Some(FILTER)),
             ),
             (Asked::Rx(1, &REQUEST, 0), EventWords::Delivered(1, 0, 0, 0)),
-            (Asked::Rx(0, &REQUEST, 0), EventWords::Delivered(2, 1, 7, 14)),
+            (
+                Asked::Rx(0, &REQUEST, 0),
+                EventWords::Delivered(2, 1, 7, 14),
+            ),
             (Asked::Take(1, 0), EventWords::TookCommit(txn, 2)),
-            (Asked::Rx(1, &REQUEST, 0), EventWords::Delivered(2, 1, 7, 14)),
+            (
+                Asked::Rx(1, &REQUEST, 0),
+                EventWords::Delivered(2, 1, 7, 14),
+            ),
         ],
     );
     let late = Asked::Rx(1, &REQUEST, 3);
@@ -165,7 +171,10 @@ fn home<C: Channel>(rt: &impl Abort, alloc: Global) {
         alloc,
         &mut world,
         &[
-            (Asked::Take(0, 1), EventWords::TookVote(txn, Vote::Yes, Some(CAP))),
+            (
+                Asked::Take(0, 1),
+                EventWords::TookVote(txn, Vote::Yes, Some(CAP)),
+            ),
             (Asked::Take(1, 0), EventWords::TookCommit(txn, 1)),
             (Asked::Take(0, 1), EventWords::TookAck(txn)),
             (Asked::Take(1, 0), EventWords::TookReply(CAP)),
@@ -175,7 +184,12 @@ fn home<C: Channel>(rt: &impl Abort, alloc: Global) {
     settles(rt, alloc, &mut world, &[(0, 1, EventWords::TookSubmit)]);
     let taken = EventWords::Decided(TAKEN);
     tell(rt, alloc, &mut world, &[(Asked::StartFor(1), taken)]);
-    settles(rt, alloc, &mut world, &[(1, 0, EventWords::TookReply(TAKEN))]);
+    settles(
+        rt,
+        alloc,
+        &mut world,
+        &[(1, 0, EventWords::TookReply(TAKEN))],
+    );
     are_equal(rt, &world);
     drop(world);
 }
@@ -189,7 +203,12 @@ fn creates_for<C: Channel>(
     let submit = Asked::Submit(1, 7);
     tell(rt, alloc, world, &[(submit, EventWords::Submitted)]);
     fails(rt, alloc, world, submit, WorldFault::Outstanding);
-    tell(rt, alloc, world, &[(Asked::Take(0, 1), EventWords::TookSubmit)]);
+    tell(
+        rt,
+        alloc,
+        world,
+        &[(Asked::Take(0, 1), EventWords::TookSubmit)],
+    );
     holds(rt, world.waiting(1).is_some());
     let begun = outcome(rt, alloc, world, Asked::StartFor(1));
     holds(rt, world.waiting(1).is_none());
@@ -202,7 +221,12 @@ fn creates_for<C: Channel>(
         }
         _ => {
             equal(rt, begun, Ok(EventWords::Decided(no_memory(0))));
-            settles(rt, alloc, world, &[(1, 0, EventWords::TookReply(no_memory(0)))]);
+            settles(
+                rt,
+                alloc,
+                world,
+                &[(1, 0, EventWords::TookReply(no_memory(0)))],
+            );
         }
     }
     are_equal(rt, world);

@@ -108,7 +108,10 @@ pub(crate) fn event(rt: &impl Abort, alloc: Global, asked: Asked) -> Event
     }
 }
 
-fn outcome_once<C: Channel>(world: &mut WorldOver<C>, event: &Event) -> Result<EventWords, WorldFault>
+fn outcome_once<C: Channel>(
+    world: &mut WorldOver<C>,
+    event: &Event,
+) -> Result<EventWords, WorldFault>
     requires { IsShortEvent event.now }
 {
     let answer = world.apply(event)?;
