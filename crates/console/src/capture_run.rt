@@ -45,11 +45,10 @@ impl Drop for CaptureRun {
 }
 
 impl CaptureRun {
-    ghost use Rattle.std.specs.Prelude.{◌≡◌, ◌≢◌, ◌<◌, ℕ, List, [], length, All, Option, None, Ok, IfOk, IfSome, OnOk, IsTrue, IsSome};
+    ghost use Rattle.std.specs.Prelude.{◌≡◌, ◌≢◌, ◌<◌, ℕ, List, [], length, All, Option, IfOk, OnOk, IsTrue, IsSome};
     ghost use Rattle.bpf_insn.specs.declared.insn.Insn.{Insn};
     ghost use Rattle.filter_vm.specs.declared.machine.Outcome.{Outcome as Ended};
     ghost use Rattle.capture_reader.specs.declared.entry.PacketTime.{PacketTime as Time};
-    ghost use Rattle.capture_reader.specs.Holding.{Advances};
     ghost use Rattle.console.specs.Running.{EndsRun, HasRun, IsStopped, RunsOn};
 
     /// A run that was given nothing. Takes no memory.
@@ -90,13 +89,38 @@ impl CaptureRun {
         ensures plain { self.old.stamped ≡ false → stamps.new.items ≡ stamps.old.items }
         ensures bytes { All (λ byte. byte < 256) piece.now }
     {
+        // Apart, since a packet whose time nobody looks at takes fewer steps.
+        if self.stamped {
+            self.run_all(true, program, piece, outcomes, stamps)
+        } else {
+            self.run_all(false, program, piece, outcomes, stamps)
+        }
+    }
+
+    /// Takes a piece as `run_piece` does; `stamped` says whether times are kept.
+    #[inline(always)]
+    fn run_all(
+        &mut self,
+        stamped: bool,
+        program: &Predecoded,
+        piece: &[u8],
+        outcomes: &mut Vec<Outcome>,
+        stamps: &mut Vec<PacketTime>,
+    ) -> Result<bool, AllocError>
+        requires { self.old.stamped ≡ stamped }
+        ensures runs { OnOk result (RunsOn program.now piece.now [] self.old self.new outcomes.old.items outcomes.new.items stamps.old.items stamps.new.items) }
+        ensures stopped { IfOk result (λ stopped. IsTrue stopped → IsStopped self.new) }
+        ensures same { (self.new.link ≡ self.old.link) × (self.new.stamped ≡ self.old.stamped) }
+        ensures plain { self.old.stamped ≡ false → stamps.new.items ≡ stamps.old.items }
+        ensures bytes { All (λ byte. byte < 256) piece.now }
+    {
         let mut rest = piece;
         while !rest.is_empty() {
-            if let Some(item) = self.next_whole(&mut rest) {
+            if let Some(item) = self.feed.next_whole(&mut rest) {
                 run_found(
                     program,
                     self.link,
-                    false,
+                    stamped,
                     Some(item),
                     &mut self.links,
                     outcomes,
@@ -109,23 +133,6 @@ impl CaptureRun {
             }
         }
         Ok(false)
-    }
-
-    /// The packet that lies whole at the front of `rest`, which is taken off, where the times of packets aren't kept; else nothing
-    /// changes.
-    // A packet whose time nobody looks at takes fewer steps.
-    #[inline(always)]
-    fn next_whole<'b>(&mut self, rest: &mut &'b [u8]) -> Option<Item<'b>>
-        ensures advances { IfSome result (λ item. Advances rest.old.now rest.new.now self.old.feed self.new.feed (Ok (Found.Item item))) }
-        ensures shorter { IfSome result (λ _. rest.old.now ≢ [] → length rest.new.now < length rest.old.now) }
-        ensures plain { IfSome result (λ _. self.old.stamped ≡ false) }
-        ensures none { result ≡ None → (self.new ≡ self.old) × (rest.new.now ≡ rest.old.now) }
-        ensures same { self.new ≡ record self.old { feed = self.new.feed } }
-    {
-        if self.stamped {
-            return None;
-        }
-        self.feed.next_whole(rest)
     }
 
     /// Takes bytes off the front of a piece, up to the end of an entry at most, and runs the filter on its packet, if it has

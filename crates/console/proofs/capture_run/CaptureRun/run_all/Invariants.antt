@@ -1,6 +1,6 @@
 use Rattle.std.proofs.Common.{◌≡◌, false, length}
 use Rattle.console.specs.Running.{RunsOn}
-use Rattle.console.proofs.capture_run.CaptureRun.run_piece.Given as goal
+use Rattle.console.proofs.capture_run.CaptureRun.run_all.Given as goal
 
 abbrev pub invariant-loop-rest : goal.invariant-loop-rest
 invariant-loop-rest l = record {
