@@ -1,7 +1,8 @@
 /* What a neighbour's filters cost. 995 filters `udp dst port N` of one domain share a table with up to 8 of another domain, which are
  * like them but for a constant, so that they belong to the same group: in the first instruction, in each instruction in turn, in all at
- * random. What a packet for one of the first takes: nanoseconds of processor time, the least of some rounds, and the ratio to what it
- * takes without a neighbour. Built by neighbours.sh over the C library of cores and libpcap. */
+ * random. Then 800 share a table with 200 of another domain of 4,096 instructions, whose capability is dropped. What a packet for one of
+ * the first takes: nanoseconds of processor time, the least of some rounds, and the ratio to what it takes without a neighbour. Built by
+ * neighbours.sh over the C library of cores and libpcap. */
 #include <pcap.h>
 #include <stdio.h>
 #include <stdlib.h>
@@ -11,6 +12,7 @@
 #include "mkdemux_cores.h"
 
 enum { FILTERS = 995, NEIGHBOURS = 8, FIRST_PORT = 1000, ROUNDS = 9, PACKETS = 500, LENGTH = 60, MOST_INSNS = 64 };
+enum { BESIDE = 800, REVOKED = 200, LONG = 4096, FEW_PACKETS = 5 };
 
 static mkdemux_core core = {NULL};
 static uint64_t seed = 1;
@@ -51,24 +53,24 @@ static void make_packet(uint8_t *packet, uint32_t port)
     packet[37] = (uint8_t)port;
 }
 
-/* The least time that a packet for one of the first domain's filters takes. */
-static double packet_time(void)
+/* The least time that a packet for one of the first domain's filters takes, which are so many, in rounds of so many packets. */
+static double packet_time(uint32_t filters, int packets)
 {
     double least = 1e18;
     for (int round = 0; round < ROUNDS; round++) {
         double begin = now();
-        for (int i = 0; i < PACKETS; i++) {
+        for (int i = 0; i < packets; i++) {
             uint8_t packet[LENGTH];
             struct mkdemux_kept room[FILTERS + NEIGHBOURS];
             size_t count = 0;
-            make_packet(packet, FIRST_PORT + draw() % FILTERS);
+            make_packet(packet, FIRST_PORT + draw() % filters);
             mkdemux_receive(&core, packet, LENGTH, LENGTH, room, FILTERS + NEIGHBOURS, &count);
             if (count < 1) {
                 fprintf(stderr, "a packet was lost\n");
                 exit(2);
             }
         }
-        double time = (now() - begin) / PACKETS;
+        double time = (now() - begin) / packets;
         if (time < least) least = time;
     }
     return least;
@@ -98,7 +100,7 @@ static double with_neighbours(const char *name, int place, double alone)
             if (place == (int)at || (place < 0 && draw() % 2)) made[at].k = is_load ? (uint32_t)i : made[at].k + 1 + (uint32_t)i;
         }
         ids[i] = decided(mkdemux_ask_install(&core, 2, 2, made, length));
-        double ratio = packet_time() / alone;
+        double ratio = packet_time(FILTERS, PACKETS) / alone;
         if (ratio > most) most = ratio;
         if (name) printf("and %d of another domain, %s: %.2f\n", i + 1, name, ratio);
     }
@@ -106,9 +108,43 @@ static double with_neighbours(const char *name, int place, double alone)
     return most;
 }
 
-int main(void)
+/* Boots a machine of one core with an endpoint for each domain, and so many filters of the first. Gives what a packet for one of these takes. */
+static double alone_time(uint32_t filters)
 {
     uint32_t budget = 1u << 20;
+    if (mkdemux_boot(&budget, 1, &core) != MKDEMUX_CORE_OK) exit(2);
+    decided(mkdemux_ask_create(&core, 1, 7));
+    decided(mkdemux_ask_create(&core, 2, 8));
+    for (uint32_t i = 0; i < filters; i++) {
+        struct mkdemux_insn made[MOST_INSNS];
+        make_program(made, FIRST_PORT + i);
+        decided(mkdemux_ask_install(&core, 1, 1, made, length));
+    }
+    double alone = packet_time(filters, PACKETS);
+    printf("%u filters of one domain: %.0f ns a packet\n", filters, alone);
+    return alone;
+}
+
+/* Installs 200 filters of the neighbour, each of another shape and of 4,096 instructions that all run, and drops its capability. */
+static void with_revoked(void)
+{
+    static struct mkdemux_insn made[LONG];
+    double alone = alone_time(BESIDE);
+    const struct mkdemux_insn load = {48, 0, 0, 0}, move = {7, 0, 0, 0}, end = {6, 0, 0, 1};
+    for (size_t at = 0; at < LONG; at++) made[at] = at + 1 < LONG ? load : end;
+    for (size_t i = 0; i < REVOKED; i++) {
+        made[i] = move;
+        decided(mkdemux_ask_install(&core, 2, 2, made, LONG));
+        made[i] = load;
+    }
+    printf("and %d of another domain, of %d instructions: %.0f\n", REVOKED, LONG, packet_time(BESIDE, FEW_PACKETS) / alone);
+    decided(mkdemux_ask_drop(&core, 2, 2));
+    printf("once their capability is dropped: %.2f\n", packet_time(BESIDE, FEW_PACKETS) / alone);
+    mkdemux_close(&core);
+}
+
+int main(void)
+{
     struct bpf_program compiled;
     pcap_t *pcap = pcap_open_dead(DLT_EN10MB, 262144);
     char text[32];
@@ -117,16 +153,7 @@ int main(void)
     length = compiled.bf_len;
     for (size_t i = 0; i < length; i++)
         code[i] = (struct mkdemux_insn){compiled.bf_insns[i].code, compiled.bf_insns[i].jt, compiled.bf_insns[i].jf, compiled.bf_insns[i].k};
-    if (mkdemux_boot(&budget, 1, &core) != MKDEMUX_CORE_OK) return 2;
-    decided(mkdemux_ask_create(&core, 1, 7));
-    decided(mkdemux_ask_create(&core, 2, 8));
-    for (uint32_t i = 0; i < FILTERS; i++) {
-        struct mkdemux_insn made[MOST_INSNS];
-        make_program(made, FIRST_PORT + i);
-        decided(mkdemux_ask_install(&core, 1, 1, made, length));
-    }
-    double alone = packet_time();
-    printf("%d filters of one domain: %.0f ns a packet\n", FILTERS, alone);
+    double alone = alone_time(FILTERS);
     with_neighbours("whose first load is elsewhere", 0, alone);
     double most = 0;
     for (size_t place = 0; place < length; place++) {
@@ -141,5 +168,6 @@ int main(void)
     }
     printf("up to 8 that differ in half of them at random, 8 sets: at most %.2f\n", most);
     mkdemux_close(&core);
+    with_revoked();
     return 0;
 }

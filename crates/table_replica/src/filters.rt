@@ -314,10 +314,9 @@ impl Filters {
     pub(crate) fn find(&self, id: u32) -> Option<Filter<'_>>
         ensures { option_map shown_filter result ≡ filter_at self.now.listed id }
     {
-        for index in 0..self.len() {
-            let filter = self.at(index);
-            if filter.id == id {
-                return Some(filter);
+        for index in 0..self.rows.len() {
+            if self.rows[index].id == id {
+                return Some(self.at(index));
             }
         }
         None

@@ -52,11 +52,12 @@ impl KeptPrograms {
         ensures { IfOk result (λ programs. programs ≡ self.now) }
     {
         let running = self.running.copy(alloc)?;
-        let resting = self.resting.copy(alloc)?;
+        let resting = resting_copy(alloc, &self.resting)?;
         Ok(KeptPrograms { running, resting })
     }
 
     /// The program of a row.
+    #[inline(always)]
     pub(crate) fn of(&self, row: &Row) -> &Verified
         requires { row.now.program < length (list_of row.now.rests self.now) }
         ensures { source self.now row.now ≡ Some result.now }
@@ -140,7 +141,7 @@ impl KeptPrograms {
     {
         let place = self.running.len();
         let running = self.running.with(alloc, program)?;
-        let resting = self.resting.copy(alloc)?;
+        let resting = resting_copy(alloc, &self.resting)?;
         match self.resting.place_of(program) {
             None => Ok((KeptPrograms { running, resting }, place, None)),
             Some(taken) => {
@@ -154,5 +155,16 @@ impl KeptPrograms {
                 Ok((KeptPrograms { running, resting }, place, Some(wakes)))
             }
         }
+    }
+}
+
+/// The same programs. Most often there are none, and then it takes no memory.
+fn resting_copy(alloc: Global, resting: &Programs) -> Result<Programs, AllocError>
+    ensures { IfOk result (λ programs. programs ≡ resting.now) }
+{
+    if resting.len() == 0 {
+        Ok(Programs::new(alloc))
+    } else {
+        resting.copy(alloc)
     }
 }

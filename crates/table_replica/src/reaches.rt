@@ -130,22 +130,23 @@ fn is_live_without(reach: Reach, caps: &Caps, rows: &[Row], id: u32) -> bool
 }
 
 /// The reaches once the program at a place is taken out, which the last then gets.
-pub(crate) fn lowered_reaches(
-    alloc: Global,
-    reaches: &[Reach],
-    taken: usize,
-    last: usize,
-) -> Result<Vec<Reach>, AllocError>
-    ensures { IfOk result (λ after. after.items ≡ map (lowered_reach taken last) reaches.now) }
+pub(crate) fn lowered_reaches(mut reaches: Vec<Reach>, taken: usize, last: usize) -> Vec<Reach>
+    ensures { result.items ≡ map (lowered_reach taken last) reaches.items }
 {
-    let mut after = Vec::with_capacity(alloc, reaches.len() + 1)?;
-    for reach in reaches {
-        after.push(Reach {
+    lower_reaches(reaches.as_mut_slice(), taken, last);
+    reaches
+}
+
+fn lower_reaches(reaches: &mut [Reach], taken: usize, last: usize)
+    ensures { reaches.new ≡ map (lowered_reach taken last) reaches.old }
+{
+    for place in 0..reaches.len() {
+        let reach = reaches[place];
+        reaches[place] = Reach {
             endpoint: reach.endpoint,
             program: place_after(taken, last, reach.program),
-        })?;
+        };
     }
-    Ok(after)
 }
 
 /// The place of a program once the one at a place is taken out, which the last then gets.

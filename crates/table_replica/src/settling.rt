@@ -146,8 +146,8 @@ fn rested(alloc: Global, left: Settling, taken: usize) -> Result<Settling, Alloc
         last,
         to,
     };
-    let rows = shifted_rows(alloc, &rows, shift)?;
-    let reaches = reaches_after(alloc, reaches, false, taken, last)?;
+    let rows = shifted_rows(rows, shift);
+    let reaches = reaches_after(reaches, false, taken, last);
     Ok(Settling {
         rows,
         programs,
@@ -171,8 +171,8 @@ fn dropped(alloc: Global, left: Settling, rests: bool, taken: usize) -> Result<S
     } = left;
     let programs = programs.without(alloc, rests, taken)?;
     let last = programs.count(rests);
-    let rows = lowered_rows(alloc, &rows, rests, taken, last)?;
-    let reaches = reaches_after(alloc, reaches, rests, taken, last)?;
+    let rows = lowered_rows(rows, rests, taken, last);
+    let reaches = reaches_after(reaches, rests, taken, last);
     Ok(Settling {
         rows,
         programs,

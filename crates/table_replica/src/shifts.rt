@@ -56,38 +56,38 @@ fn shifted_row(row: &Row, shift: Shift) -> Row
 }
 
 /// The rows once the program at a place of a list is taken out, which the last then gets.
-pub(crate) fn lowered_rows(
-    alloc: Global,
-    rows: &[Row],
-    rests: bool,
-    taken: usize,
-    last: usize,
-) -> Result<Vec<Row>, AllocError>
-    ensures { IfOk result (λ after. after.items ≡ map (lowered_row rests taken last) rows.now) }
+pub(crate) fn lowered_rows(mut rows: Vec<Row>, rests: bool, taken: usize, last: usize) -> Vec<Row>
+    ensures { result.items ≡ map (lowered_row rests taken last) rows.items }
 {
-    let mut after = Vec::with_capacity(alloc, rows.len())?;
-    for row in rows {
-        after.push(lowered_row(row, rests, taken, last))?;
-    }
-    Ok(after)
+    lower_rows(rows.as_mut_slice(), rests, taken, last);
+    rows
 }
 
-/// The rows once a program has gone to the other list, with room for one more.
-pub(crate) fn shifted_rows(
-    alloc: Global,
-    rows: &[Row],
-    shift: Shift,
-) -> Result<Vec<Row>, AllocError>
-    ensures { IfOk result (λ after. after.items ≡ map (shift_row shift) rows.now) }
+fn lower_rows(rows: &mut [Row], rests: bool, taken: usize, last: usize)
+    ensures { rows.new ≡ map (lowered_row rests taken last) rows.old }
 {
-    let mut after = Vec::with_capacity(alloc, rows.len() + 1)?;
-    for row in rows {
-        after.push(shifted_row(row, shift))?;
+    for place in 0..rows.len() {
+        rows[place] = lowered_row(&rows[place], rests, taken, last);
     }
-    Ok(after)
 }
 
-/// The rows after a shift, if there is one, with room for one more.
+/// The rows once a program has gone to the other list.
+pub(crate) fn shifted_rows(mut rows: Vec<Row>, shift: Shift) -> Vec<Row>
+    ensures { result.items ≡ map (shift_row shift) rows.items }
+{
+    shift_rows(rows.as_mut_slice(), shift);
+    rows
+}
+
+fn shift_rows(rows: &mut [Row], shift: Shift)
+    ensures { rows.new ≡ map (shift_row shift) rows.old }
+{
+    for place in 0..rows.len() {
+        rows[place] = shifted_row(&rows[place], shift);
+    }
+}
+
+/// A copy of the rows after a shift, if there is one, with room for one more.
 pub(crate) fn rows_after(
     alloc: Global,
     rows: &[Row],
@@ -95,29 +95,26 @@ pub(crate) fn rows_after(
 ) -> Result<Vec<Row>, AllocError>
     ensures { IfOk result (λ after. after.items ≡ shifted_rows shift rows.now) }
 {
+    let mut after = Vec::with_capacity(alloc, rows.len() + 1)?;
+    after.extend_from_slice(rows)?;
     match shift {
-        Some(shift) => shifted_rows(alloc, rows, shift),
-        None => {
-            let mut after = Vec::with_capacity(alloc, rows.len() + 1)?;
-            after.extend_from_slice(rows)?;
-            Ok(after)
-        }
+        Some(shift) => Ok(shifted_rows(after, shift)),
+        None => Ok(after),
     }
 }
 
 /// The reaches once the program at a place of a list is taken out. They have programs that run.
 pub(crate) fn reaches_after(
-    alloc: Global,
     reaches: Vec<Reach>,
     rests: bool,
     taken: usize,
     last: usize,
-) -> Result<Vec<Reach>, AllocError>
-    ensures { IfOk result (λ after. after.items ≡ reaches_after rests taken last reaches.items) }
+) -> Vec<Reach>
+    ensures { result.items ≡ reaches_after rests taken last reaches.items }
 {
     if rests {
-        Ok(reaches)
+        reaches
     } else {
-        lowered_reaches(alloc, &reaches, taken, last)
+        lowered_reaches(reaches, taken, last)
     }
 }

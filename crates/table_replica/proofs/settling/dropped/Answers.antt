@@ -11,9 +11,9 @@ returns-clause-like c = λ caps filed.
     let end = c.count-last.result in
     let like = dropped_filed caps left.programs after c.args.rests c.args.taken end left.rows.items left.reaches.items c.requires.inside c.in_ok-programs.ensures.left c.in_ok-programs.ensures.others
     c.count-last.ensures c.requires.unused filed in
-    let rows : c.in_ok-rows.rows.items ≡ map (lowered_row c.args.rests c.args.taken end) left.rows.items = c.in_ok-rows.ensures ∙ ap (map (lowered_row c.args.rests c.args.taken end)) c.deref.ensures.value in
+    let rows : c.lowered_rows-rows.result.items ≡ map (lowered_row c.args.rests c.args.taken end) left.rows.items = c.lowered_rows-rows.ensures in
     record {
-      filed = subst (λ (rs : List Row). AreFiled caps rs after c.in_ok-reaches.reaches.items) (sym rows)
-          (subst (AreFiled caps (map (lowered_row c.args.rests c.args.taken end) left.rows.items) after) (sym c.in_ok-reaches.ensures) like.filed);
+      filed = subst (λ (rs : List Row). AreFiled caps rs after c.reaches_after-reaches.result.items) (sym rows)
+          (subst (AreFiled caps (map (lowered_row c.args.rests c.args.taken end) left.rows.items) after) (sym c.reaches_after-reaches.ensures) like.filed);
       same = ap (map (listed_row after)) rows ∙ like.same;
     }

@@ -22,9 +22,9 @@ returns-clause-like c = λ caps filed.
       to = c.count-to.ensures;
     } in
     let like = rested_filed caps left.programs after program shift left.rows.items left.reaches.items shifts refl c.requires.idle filed in
-    let rows : c.in_ok-rows.rows.items ≡ map (shift_row shift) left.rows.items = c.in_ok-rows.ensures ∙ ap (map (shift_row shift)) c.deref.ensures.value in
+    let rows : c.shifted_rows-rows.result.items ≡ map (shift_row shift) left.rows.items = c.shifted_rows-rows.ensures in
     record {
-      filed = subst (λ (rs : List Row). AreFiled caps rs after c.in_ok-reaches.reaches.items) (sym rows)
-          (subst (AreFiled caps (map (shift_row shift) left.rows.items) after) (sym c.in_ok-reaches.ensures) like.filed);
+      filed = subst (λ (rs : List Row). AreFiled caps rs after c.reaches_after-reaches.result.items) (sym rows)
+          (subst (AreFiled caps (map (shift_row shift) left.rows.items) after) (sym c.reaches_after-reaches.ensures) like.filed);
       same = ap (map (listed_row after)) rows ∙ like.same;
     }
