@@ -19,10 +19,10 @@ use Rattle.table_replica.specs.declared.reaches.Reach.{Reach}
 use Rattle.table_replica.specs.declared.shifts.Shift.{Shift}
 use Rattle.table_replica.specs.Distinct.{AreDistinct}
 use Rattle.table_replica.specs.Lent.{IsIn}
-use Rattle.table_replica.specs.Keeping.{or_nothing, list_of, source, listed_row, ArePlaced, AreApart, IsShift, Runs, there, added, woken, is_in, lowered_row, shift_row, shifted_rows, place_after, reaches_after, placed_row, reach_of, IsLive, AreReaches, AreFiled, AreFewer, IsIdle, IsUnused}
+use Rattle.table_replica.specs.Keeping.{or_nothing, list_of, source, listed_row, ArePlaced, AreApart, IsShift, Runs, there, added, woken, is_in, lowered_row, shifted_row, rows_after, place_after, reaches_after, placed_row, reach_of, IsLive, AreReaches, AreFiled, AreFewer, IsIdle, IsUnused}
 use Rattle.table_replica.proofs.Ordered.{moved_reach, moved_ordered}
 use Rattle.table_replica.proofs.Shared.{get_front, last, split, get_at}
-use Rattle.table_replica.proofs.Trimming.{stays, left_distinct, left_in, left_gone}
+use Rattle.table_replica.proofs.Without.{stays, left_distinct, left_in, left_gone}
 
 -- Which list a row's program is in
 
@@ -58,13 +58,13 @@ lowered_out rests taken last row out = rw out refl
 pub lowered_in : (rests : Bool) (taken last : ℕ) (row : Row) → is_in rests row ≡ true → lowered_row rests taken last row ≡ record row { program = place_after taken last row.program }
 lowered_in rests taken last row inside = rw inside refl
 
-pub shift_out : (s : Shift) (row : Row) → is_in s.rests row ≡ false → shift_row s row ≡ row
+pub shift_out : (s : Shift) (row : Row) → is_in s.rests row ≡ false → shifted_row s row ≡ row
 shift_out s row out = rw out refl
 
-pub shift_it : (s : Shift) (row : Row) → is_in s.rests row ≡ true → (row.program == s.taken) ≡ true → shift_row s row ≡ record row { rests = not s.rests; program = s.to }
+pub shift_it : (s : Shift) (row : Row) → is_in s.rests row ≡ true → (row.program == s.taken) ≡ true → shifted_row s row ≡ record row { rests = not s.rests; program = s.to }
 shift_it s row inside it = rw (inside, it) refl
 
-pub shift_in : (s : Shift) (row : Row) → is_in s.rests row ≡ true → (row.program == s.taken) ≡ false → shift_row s row ≡ record row { program = place_after s.taken s.last row.program }
+pub shift_in : (s : Shift) (row : Row) → is_in s.rests row ≡ true → (row.program == s.taken) ≡ false → shifted_row s row ≡ record row { program = place_after s.taken s.last row.program }
 shift_in s row inside other = rw (inside, other) refl
 
 -- Programs that come into a list
@@ -156,10 +156,10 @@ nat_not : (x y : ℕ) → (x == y) ≡ false → x ≡ y → ⊥
 nat_not x y h e = let t = eq_true x y e in absurd cc
 
 pub shift_goes : (before after : KeptPrograms) (program : List Insn) (s : Shift) (row : Row) → IsShift before program s after → row.program < length (list_of row.rests before)
-    → Goes before after row (shift_row s row)
+    → Goes before after row (shifted_row s row)
 shift_goes before after program s row h inside = by_test (is_in s.rests row) refl (row.program == s.taken) refl
   where
-    by_test : (i : Bool) → is_in s.rests row ≡ i → (t : Bool) → (row.program == s.taken) ≡ t → Goes before after row (shift_row s row)
+    by_test : (i : Bool) → is_in s.rests row ≡ i → (t : Bool) → (row.program == s.taken) ≡ t → Goes before after row (shifted_row s row)
     by_test false i t e =
         let away = out_is s.rests row i in
         record {
@@ -297,16 +297,16 @@ pub record FiledLike (caps : List Cap) (before : KeptPrograms) (rows : List Row)
   pub same : map (listed_row after) rows' ≡ map (listed_row before) rows
 
 pub rested_filed : (caps : List Cap) (before after : KeptPrograms) (program : List Insn) (s : Shift) (rows : List Row) (reaches : List Reach) → IsShift before program s after → s.rests ≡ false
-    → IsIdle reaches s.taken → AreFiled caps rows before reaches → FiledLike caps before rows after (map (shift_row s) rows) (map (moved_reach (place_after s.taken s.last)) reaches)
+    → IsIdle reaches s.taken → AreFiled caps rows before reaches → FiledLike caps before rows after (map (shifted_row s) rows) (map (moved_reach (place_after s.taken s.last)) reaches)
 rested_filed caps before after program s rows reaches h runs idle filed = record {
-  filed = gone_filed caps before after rows (shift_row s) reaches (place_after s.taken s.last) filed goes live (shift_apart before after program s h filed.apart);
-  same = gone_same caps before after rows (shift_row s) reaches (place_after s.taken s.last) filed goes live;
+  filed = gone_filed caps before after rows (shifted_row s) reaches (place_after s.taken s.last) filed goes live (shift_apart before after program s h filed.apart);
+  same = gone_same caps before after rows (shifted_row s) reaches (place_after s.taken s.last) filed goes live;
 }
   where
-    goes : (row : Row) → Contains rows row → Goes before after row (shift_row s row)
+    goes : (row : Row) → Contains rows row → Goes before after row (shifted_row s row)
     goes row at = shift_goes before after program s row h (filed.placed row at)
 
-    live : (row : Row) → row.rests ≡ false → Contains reaches (reach_of row) → Contains rows row → shift_row s row ≡ record row { program = place_after s.taken s.last row.program }
+    live : (row : Row) → row.rests ≡ false → Contains reaches (reach_of row) → Contains rows row → shifted_row s row ≡ record row { program = place_after s.taken s.last row.program }
     live row here has at = shift_in s row (is_there s.rests row (here ∙ sym runs)) (eq_false row.program s.taken (λ same. idle (reach_of row) has same))
 
 pub dropped_filed : (caps : List Cap) (before after : KeptPrograms) (rests : Bool) (taken end : ℕ) (rows : List Row) (reaches : List Reach) → taken < length (list_of rests before)
@@ -344,12 +344,12 @@ runs_at before after program place wakes (woken s rests h is new some) =
     ap (slice_get after.running) (is ∙ to) ∙ (ap (λ (l : List (List Insn)). slice_get l (length before.running)) gets ∙ last before.running program)
 
 pub runs_filed : (caps : List Cap) (before after : KeptPrograms) (program : List Insn) (place : ℕ) (wakes : Option Shift) (rows : List Row) (reaches : List Reach) → Runs before program after place wakes
-    → AreFiled caps rows before reaches → FiledLike caps before rows after (shifted_rows wakes rows) reaches
+    → AreFiled caps rows before reaches → FiledLike caps before rows after (rows_after wakes rows) reaches
 runs_filed caps before after program place wakes rows reaches (there same at none) filed =
-    subst (λ (w : Option Shift). FiledLike caps before rows after (shifted_rows w rows) reaches) (sym none)
+    subst (λ (w : Option Shift). FiledLike caps before rows after (rows_after w rows) reaches) (sym none)
     (subst (λ (ps : KeptPrograms). FiledLike caps before rows ps rows reaches) (sym same) (record { filed = filed; same = refl }))
 runs_filed caps before after program place wakes rows reaches (added gets same is new fresh none) filed =
-    subst (λ (w : Option Shift). FiledLike caps before rows after (shifted_rows w rows) reaches) (sym none) (record {
+    subst (λ (w : Option Shift). FiledLike caps before rows after (rows_after w rows) reaches) (sym none) (record {
       filed = subst (AreFiled caps rows after) (map_id reaches) (subst (λ (rs : List Row). AreFiled caps rs after (map (moved_reach (λ n. n)) reaches)) (map_id rows)
           (gone_filed caps before after rows (λ row. row) reaches (λ n. n) filed goes live apart));
       same = ap (map (listed_row after)) (sym (map_id rows)) ∙ gone_same caps before after rows (λ row. row) reaches (λ n. n) filed goes live;
@@ -380,15 +380,15 @@ runs_filed caps before after program place wakes rows reaches (added gets same i
         apart_at q (inl old) r = filed.apart.apart q old r
         apart_at q (inr it) r = fresh (subst (IsIn before.resting) (sym it) r)
 runs_filed caps before after program place wakes rows reaches (woken s rests h is new some) filed =
-    subst (λ (w : Option Shift). FiledLike caps before rows after (shifted_rows w rows) reaches) (sym some) (record {
-      filed = subst (AreFiled caps (map (shift_row s) rows) after) (map_id reaches) (gone_filed caps before after rows (shift_row s) reaches (λ n. n) filed goes live (shift_apart before after program s h filed.apart));
-      same = gone_same caps before after rows (shift_row s) reaches (λ n. n) filed goes live;
+    subst (λ (w : Option Shift). FiledLike caps before rows after (rows_after w rows) reaches) (sym some) (record {
+      filed = subst (AreFiled caps (map (shifted_row s) rows) after) (map_id reaches) (gone_filed caps before after rows (shifted_row s) reaches (λ n. n) filed goes live (shift_apart before after program s h filed.apart));
+      same = gone_same caps before after rows (shifted_row s) reaches (λ n. n) filed goes live;
     })
   where
-    goes : (row : Row) → Contains rows row → Goes before after row (shift_row s row)
+    goes : (row : Row) → Contains rows row → Goes before after row (shifted_row s row)
     goes row at = shift_goes before after program s row h (filed.placed row at)
 
-    live : (row : Row) → row.rests ≡ false → Contains reaches (reach_of row) → Contains rows row → shift_row s row ≡ record row { program = row.program }
+    live : (row : Row) → row.rests ≡ false → Contains reaches (reach_of row) → Contains rows row → shifted_row s row ≡ record row { program = row.program }
     live row here has at = shift_out s row (is_away s.rests row (here ∙ ap not (sym rests)))
 
 -- Rows that are added, replaced, or gone
@@ -474,6 +474,16 @@ left_shows programs (row ∷ rows) id = by_test (row.id == id) refl (left_shows 
     by_test true t rest = rw t rest
     by_test false t rest = rw t (ap (λ (l : List ListedFilter). listed_row programs row ∷ l) rest)
 
+-- the other filters stay when one is replaced
+pub others_stay : (fs : List ListedFilter) (id : ℕ) (program : List Insn) → filter (λ f. not (f.id == id)) (replaced fs id program) ≡ filter (λ f. not (f.id == id)) fs
+others_stay [] id program = refl
+others_stay (f ∷ fs) id program = by_test (f.id == id) refl (others_stay fs id program)
+  where
+    by_test : (t : Bool) → (f.id == id) ≡ t → filter (λ g. not (g.id == id)) (replaced fs id program) ≡ filter (λ g. not (g.id == id)) fs
+        → filter (λ g. not (g.id == id)) (replaced (f ∷ fs) id program) ≡ filter (λ g. not (g.id == id)) (f ∷ fs)
+    by_test true t rest = rw (t, t) rest
+    by_test false t rest = rw (t, t) (ap (λ (l : List ListedFilter). f ∷ l) rest)
+
 -- capabilities of which some are gone
 pub fewer_filed : (old new : List Cap) (programs : KeptPrograms) (rows : List Row) (reaches reaches' : List Reach) → AreFewer old new → AreFiled old rows programs reaches → AreReaches new rows reaches'
     → AreFiled new rows programs reaches'
@@ -504,36 +514,36 @@ shows_ok r caps xs ys e h = IfOk-weaker r (λ fs. fs ≡ record { listed = xs; u
 -- a filter that is added: its program runs, and its row is pushed
 module _ (caps : List Cap) (before after : KeptPrograms) (program : List Insn) (place : ℕ) (wakes : Option Shift) (rows : List Row) (reaches : List Reach)
     (runs : Runs before program after place wakes) (filed : AreFiled caps rows before reaches) where
-  like : FiledLike caps before rows after (shifted_rows wakes rows) reaches
+  like : FiledLike caps before rows after (rows_after wakes rows) reaches
   like = runs_filed caps before after program place wakes rows reaches runs filed
 
-  pub woken_reached : AreReaches caps (shifted_rows wakes rows) reaches
+  pub woken_reached : AreReaches caps (rows_after wakes rows) reaches
   woken_reached = like.filed.reached
 
-  pub with_filed : (row : Row) (rows' : List Row) (reaches' : List Reach) → row.rests ≡ false → row.program ≡ place → rows' ≡ shifted_rows wakes rows ++ row ∷ []
-      → AreReaches caps (shifted_rows wakes rows ++ row ∷ []) reaches' → AreFiled caps rows' after reaches'
+  pub with_filed : (row : Row) (rows' : List Row) (reaches' : List Reach) → row.rests ≡ false → row.program ≡ place → rows' ≡ rows_after wakes rows ++ row ∷ []
+      → AreReaches caps (rows_after wakes rows ++ row ∷ []) reaches' → AreFiled caps rows' after reaches'
   with_filed row rows' reaches' here is rows_are reached =
       subst (λ (rs : List Row). AreFiled caps rs after reaches') (sym rows_are)
-      (pushed_filed caps after (shifted_rows wakes rows) reaches reaches' row program like.filed reached here (ap (slice_get after.running) is ∙ runs_at before after program place wakes runs))
+      (pushed_filed caps after (rows_after wakes rows) reaches reaches' row program like.filed reached here (ap (slice_get after.running) is ∙ runs_at before after program place wakes runs))
 
-  pub with_shows : (row : Row) (rows' : List Row) → row.rests ≡ false → row.program ≡ place → rows' ≡ shifted_rows wakes rows ++ row ∷ []
+  pub with_shows : (row : Row) (rows' : List Row) → row.rests ≡ false → row.program ≡ place → rows' ≡ rows_after wakes rows ++ row ∷ []
       → map (listed_row after) rows' ≡ map (listed_row before) rows ++ record { id = row.id; owner = row.owner; cap = row.cap; endpoint = row.endpoint; program = program } ∷ []
   with_shows row rows' here is rows_are =
       ap (map (listed_row after)) rows_are
-      ∙ (pushed_shows after (shifted_rows wakes rows) row program here (ap (slice_get after.running) is ∙ runs_at before after program place wakes runs)
+      ∙ (pushed_shows after (rows_after wakes rows) row program here (ap (slice_get after.running) is ∙ runs_at before after program place wakes runs)
       ∙ ap (λ (fs : List ListedFilter). fs ++ record { id = row.id; owner = row.owner; cap = row.cap; endpoint = row.endpoint; program = program } ∷ []) like.same)
 
-  pub replacing_placed : (id : ℕ) (rows' : List Row) → rows' ≡ map (placed_row id place) (shifted_rows wakes rows) → ArePlaced after rows'
+  pub replacing_placed : (id : ℕ) (rows' : List Row) → rows' ≡ map (placed_row id place) (rows_after wakes rows) → ArePlaced after rows'
   replacing_placed id rows' rows_are =
-      subst (ArePlaced after) (sym rows_are) (replaced_placed after (shifted_rows wakes rows) id place program like.filed.placed (runs_at before after program place wakes runs))
+      subst (ArePlaced after) (sym rows_are) (replaced_placed after (rows_after wakes rows) id place program like.filed.placed (runs_at before after program place wakes runs))
 
-  pub replacing_filed : (id : ℕ) (rows' : List Row) (reaches' : List Reach) → rows' ≡ map (placed_row id place) (shifted_rows wakes rows) → AreReaches caps rows' reaches' → AreFiled caps rows' after reaches'
+  pub replacing_filed : (id : ℕ) (rows' : List Row) (reaches' : List Reach) → rows' ≡ map (placed_row id place) (rows_after wakes rows) → AreReaches caps rows' reaches' → AreFiled caps rows' after reaches'
   replacing_filed id rows' reaches' rows_are reached =
       subst (λ (rs : List Row). AreFiled caps rs after reaches') (sym rows_are)
-      (replaced_filed caps after (shifted_rows wakes rows) reaches reaches' id place program like.filed (runs_at before after program place wakes runs)
+      (replaced_filed caps after (rows_after wakes rows) reaches reaches' id place program like.filed (runs_at before after program place wakes runs)
       (subst (λ (rs : List Row). AreReaches caps rs reaches') rows_are reached))
 
-  pub replacing_shows : (id : ℕ) (rows' : List Row) → rows' ≡ map (placed_row id place) (shifted_rows wakes rows) → map (listed_row after) rows' ≡ replaced (map (listed_row before) rows) id program
+  pub replacing_shows : (id : ℕ) (rows' : List Row) → rows' ≡ map (placed_row id place) (rows_after wakes rows) → map (listed_row after) rows' ≡ replaced (map (listed_row before) rows) id program
   replacing_shows id rows' rows_are =
       ap (map (listed_row after)) rows_are
-      ∙ (replaced_shows after (shifted_rows wakes rows) id place program (runs_at before after program place wakes runs) ∙ ap (λ (fs : List ListedFilter). replaced fs id program) like.same)
+      ∙ (replaced_shows after (rows_after wakes rows) id place program (runs_at before after program place wakes runs) ∙ ap (λ (fs : List ListedFilter). replaced fs id program) like.same)

@@ -1,6 +1,6 @@
 pub mod Refusals
 pub mod Shared
-pub mod Trimming
+pub mod Without
 pub mod Chained
 pub mod Filing
 pub mod Places

@@ -77,14 +77,14 @@ is_in false row = not row.rests
 abbrev pub lowered_row : Bool → ℕ → ℕ → Row → Row
 lowered_row rests taken last row = cond (is_in rests row) (record row { program = place_after taken last row.program }) row
 
-abbrev pub shift_row : Shift → Row → Row
-shift_row shift row =
+abbrev pub shifted_row : Shift → Row → Row
+shifted_row shift row =
     cond (is_in shift.rests row && (row.program == shift.taken)) (record row { rests = not shift.rests; program = shift.to })
     (lowered_row shift.rests shift.taken shift.last row)
 
-abbrev pub shifted_rows : Option Shift → List Row → List Row
-shifted_rows None rows = rows
-shifted_rows (Some shift) rows = map (shift_row shift) rows
+abbrev pub rows_after : Option Shift → List Row → List Row
+rows_after None rows = rows
+rows_after (Some shift) rows = map (shifted_row shift) rows
 
 abbrev pub lowered_reach : ℕ → ℕ → Reach → Reach
 lowered_reach taken last reach = record reach { program = place_after taken last reach.program }

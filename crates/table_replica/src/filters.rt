@@ -1,6 +1,6 @@
 //! The filters of a table.
 ghost use Rattle.std.specs.Prelude.{◌≡◌, ◌==◌, ◌+◌, ◌<◌, ◌≤◌, ◌++◌, [], ◌∷◌, length, filter, not, Some, slice_get, IfOk};
-ghost use Rattle.table_replica.specs.Keeping.{ArePlaced, AreReaches, AreHeldAlike, AreFewer, AreFiled, placed_row, shifted_rows};
+ghost use Rattle.table_replica.specs.Keeping.{ArePlaced, AreReaches, AreHeldAlike, AreFewer, AreFiled, placed_row, rows_after};
 ghost use Rattle.std.specs.Prelude.{List};
 ghost use Rattle.table_replica.specs.declared.filters.Row.{Row as GhostRow};
 ghost use Rattle.table_replica.specs.Lent.{shown_filter, AreDifferent, held_filters};
@@ -375,7 +375,8 @@ impl Filters {
         let rows = rows_after(alloc, &self.rows, wakes)?;
         let mut reaches = reaches_without(alloc, &self.reaches, caps, &rows, id)?;
         let rows = rows_with(alloc, caps, &rows, &mut reaches, id, place)?;
-        let instructions = total_of(&rows, &programs);
+        let left = self.instructions - instructions_with(&self.rows, &self.programs, id);
+        let instructions = left + instructions_with(&rows, &programs, id);
         let all = Settling {
             rows,
             programs,
@@ -495,20 +496,6 @@ fn instructions_with(rows: &[Row], programs: &KeptPrograms, id: u32) -> u32
             let code = programs.of(row).code();
             total += code.len() as u32;
         }
-    }
-    total
-}
-
-/// The instructions of all rows.
-fn total_of(rows: &[Row], programs: &KeptPrograms) -> u32
-    requires placed { ArePlaced programs.now rows.now }
-    requires fits { instructions_of (map (listed_row programs.now) rows.now) < 4294967296 }
-    ensures { result ≡ instructions_of (map (listed_row programs.now) rows.now) }
-{
-    let mut total = 0;
-    for row in rows {
-        let code = programs.of(row).code();
-        total += code.len() as u32;
     }
     total
 }

@@ -1,6 +1,6 @@
 //! The places of programs in rows and reaches, once a program is taken out of a list.
 ghost use Rattle.std.specs.Prelude.{◌≡◌, map, IfOk};
-ghost use Rattle.table_replica.specs.Keeping.{lowered_row, reaches_after, shift_row, shifted_rows, is_in};
+ghost use Rattle.table_replica.specs.Keeping.{lowered_row, reaches_after, shifted_row, rows_after, is_in};
 
 use crate::filters::Row;
 use crate::reaches::{Reach, lowered_reaches, place_after};
@@ -42,7 +42,7 @@ fn lowered_row(row: &Row, rests: bool, taken: usize, last: usize) -> Row
 
 /// A row once a program has gone to the other list.
 fn shifted_row(row: &Row, shift: Shift) -> Row
-    ensures { result ≡ shift_row shift row.now }
+    ensures { result ≡ shifted_row shift row.now }
 {
     if is_in(shift.rests, row) && row.program == shift.taken {
         Row {
@@ -73,14 +73,14 @@ fn lower_rows(rows: &mut [Row], rests: bool, taken: usize, last: usize)
 
 /// The rows once a program has gone to the other list.
 pub(crate) fn shifted_rows(mut rows: Vec<Row>, shift: Shift) -> Vec<Row>
-    ensures { result.items ≡ map (shift_row shift) rows.items }
+    ensures { result.items ≡ map (shifted_row shift) rows.items }
 {
     shift_rows(rows.as_mut_slice(), shift);
     rows
 }
 
 fn shift_rows(rows: &mut [Row], shift: Shift)
-    ensures { rows.new ≡ map (shift_row shift) rows.old }
+    ensures { rows.new ≡ map (shifted_row shift) rows.old }
 {
     for place in 0..rows.len() {
         rows[place] = shifted_row(&rows[place], shift);
@@ -93,7 +93,7 @@ pub(crate) fn rows_after(
     rows: &[Row],
     shift: Option<Shift>,
 ) -> Result<Vec<Row>, AllocError>
-    ensures { IfOk result (λ after. after.items ≡ shifted_rows shift rows.now) }
+    ensures { IfOk result (λ after. after.items ≡ rows_after shift rows.now) }
 {
     let mut after = Vec::with_capacity(alloc, rows.len() + 1)?;
     after.extend_from_slice(rows)?;

@@ -2,7 +2,7 @@ use Rattle.std.proofs.Common.{◌≡◌, arith, ap, get_or, length, false}
 use Rattle.filter_table.proofs.Lists.{get_some}
 use Rattle.bpf_insn.specs.declared.insn.Insn.{Insn}
 use Rattle.table_replica.specs.declared.filters.Row.{Row}
-use Rattle.table_replica.proofs.Trimming.{one_fits}
+use Rattle.table_replica.proofs.Without.{one_fits}
 use Rattle.table_replica.proofs.filters.instructions_with.Goals as goal
 
 abbrev no_row : Row

@@ -3,7 +3,7 @@ use Rattle.bpf_insn.specs.declared.insn.Insn.{Insn}
 use Rattle.filter_group.specs.Programs.{AreWithout}
 use Rattle.table_replica.specs.declared.filters.Row.{Row}
 use Rattle.table_replica.specs.declared.shifts.Shift.{Shift}
-use Rattle.table_replica.specs.Keeping.{AreFiled, IsShift, listed_row, shift_row}
+use Rattle.table_replica.specs.Keeping.{AreFiled, IsShift, listed_row, shifted_row}
 use Rattle.table_replica.proofs.Filing.{rested_filed}
 use Rattle.table_replica.proofs.settling.rested.Goals as goal
 
@@ -22,9 +22,9 @@ returns-clause-like c = λ caps filed.
       to = c.count-to.ensures;
     } in
     let like = rested_filed caps left.programs after program shift left.rows.items left.reaches.items shifts refl c.requires.idle filed in
-    let rows : c.shifted_rows-rows.result.items ≡ map (shift_row shift) left.rows.items = c.shifted_rows-rows.ensures in
+    let rows : c.shifted_rows-rows.result.items ≡ map (shifted_row shift) left.rows.items = c.shifted_rows-rows.ensures in
     record {
       filed = subst (λ (rs : List Row). AreFiled caps rs after c.reaches_after-reaches.result.items) (sym rows)
-          (subst (AreFiled caps (map (shift_row shift) left.rows.items) after) (sym c.reaches_after-reaches.ensures) like.filed);
+          (subst (AreFiled caps (map (shifted_row shift) left.rows.items) after) (sym c.reaches_after-reaches.ensures) like.filed);
       same = ap (map (listed_row after)) rows ∙ like.same;
     }

@@ -1,5 +1,5 @@
 use Rattle.std.proofs.Common.{List, subst}
-use Rattle.table_replica.proofs.Trimming.{OnOk-map}
+use Rattle.table_replica.proofs.Without.{OnOk-map}
 use Rattle.bpf_insn.specs.Machine.{Packet}
 use Rattle.filter_table.specs.Listed.{FilterTable}
 use Rattle.table_replica.specs.declared.reaches.Reach.{Reach}

@@ -8,7 +8,7 @@ use Rattle.bpf_insn.specs.declared.insn.Insn.{Insn}
 use Rattle.filter_group.specs.Programs.{AreWithout, place_before}
 use Rattle.filter_table.specs.Listed.{ListedFilter}
 use Rattle.filter_table.specs.Tables.{instructions_of}
-use Rattle.filter_table.proofs.Lists.{fits_at, instructions-append, map-get, map-append', take_at}
+use Rattle.filter_table.proofs.Lists.{fits_at, map-get}
 use Rattle.table_replica.specs.declared.filters.Row.{Row}
 use Rattle.table_replica.specs.declared.programs.KeptPrograms.{KeptPrograms}
 use Rattle.table_replica.specs.Distinct.{AreDistinct}
@@ -91,15 +91,7 @@ module _ (programs left : List (List Insn)) (taken : ℕ) (w : AreWithout progra
         | inr other ↦ let a = before_other taken (length left) at.0 other in other (sym a ∙ same)
       ]
 
--- the instructions of rows, one more
-
-pub one_counted : (programs : KeptPrograms) (rows : List Row) (i : ℕ) (row : Row) (program : List Insn) → slice_get rows i ≡ Some row → source programs row ≡ Some program
-    → instructions_of (map (listed_row programs) (take i rows)) + length program ≡ instructions_of (map (listed_row programs) (take (i + 1) rows))
-one_counted programs rows i row program at source =
-    let long : length (listed_row programs row).program ≡ length program = rw source refl in
-    let one = instructions-append (map (listed_row programs) (take i rows)) (listed_row programs row ∷ []) in
-    let more = ap instructions_of (ap (map (listed_row programs)) (take_at rows i row at) ∙ map-append' (listed_row programs) (take i rows) (row ∷ [])) in
-    omega (arith, one, more, long)
+-- the instructions of the first rows and of the next
 
 pub one_fits : (programs : KeptPrograms) (rows : List Row) (i : ℕ) (row : Row) (program : List Insn) → slice_get rows i ≡ Some row → source programs row ≡ Some program
     → instructions_of (map (listed_row programs) (take i rows)) + length program ≤ instructions_of (map (listed_row programs) rows)

@@ -1,7 +1,0 @@
-use Rattle.std.proofs.Common.{◌≡◌, map, take}
-use Rattle.filter_table.specs.Tables.{instructions_of}
-use Rattle.table_replica.specs.Keeping.{listed_row}
-use Rattle.table_replica.proofs.filters.total_of.Given as goal
-
-abbrev pub invariant-loop-row : goal.invariant-loop-row
-invariant-loop-row l = l.total ≡ instructions_of (map (listed_row l.programs) (take l.row-index l.rows))
