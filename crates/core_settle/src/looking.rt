@@ -12,7 +12,7 @@ ghost use Rattle.core_join.specs.Looking.{IsLookedAt, AreLookedAt, AreExactMachi
 use crate::member::Member;
 
 /// The cores of one machine, as they stand, however they are kept: as `core_join::agree` of core 0 and the others.
-pub(crate) fn look_at_machine<T: Member>(cores: &mut [T])
+pub fn look_at_machine<T: Member>(cores: &mut [T])
     requires { (budget : ℕ) × (budgets : List ℕ) × IsMachine budget budgets (map T.core cores.old) }
     ensures looked { AreLookedAt (map T.core cores.old) (map T.core cores.new) }
     ensures exact { AreExactMachine (map T.core cores.new) }

@@ -1,28 +1,34 @@
 -- What the joined threads come to.
 use Rattle.std.proofs.Common.{All, ◌≡◌, ◌<◌, ℕ, suc, length, List, inl, inr, Option, Some, None, slice_get, map, sym, ap, ◌∙◌, subst, arith, rules, MatchOption}
-use Rattle.std.proofs.lemmas.List.{length-map}
+use Rattle.std.proofs.lemmas.List.{length-map, map-id}
 use Rattle.world_model.proofs.Lists.{get_map}
 use Rattle.rx_queue.specs.declared.job.Job.{Job}
 use Rattle.rx_queue.specs.declared.intake.Intake.{Intake}
 use Rattle.rx_queue.specs.Queue.{SameIntake}
 use Rattle.core_links.specs.RingSlots.{ring_view}
-use Rattle.core_join.specs.Machines.{RingCore}
+use Rattle.core_join.specs.Machines.{RingCore, IsMachine, AreSameCores}
+use Rattle.core_join.specs.Looking.{AreLookedAt}
+use Rattle.core_join.specs.Conclusions.{AreRunning}
+use Rattle.core_join.proofs.Machines.{machine_ran}
+use Rattle.core_join.proofs.Along.{same_itself}
+use Rattle.core_loop.specs.Cores.{SameCore}
+use Rattle.core_links.specs.RingSlots.{SameLinks}
 use Rattle.core_threads.specs.declared.feeding.Outlet.{Outlet}
 use Rattle.core_threads.specs.declared.halt.Halt.{Halt}
 use Rattle.core_threads.specs.declared.halt.Halt.TheVariants as halt
 use Rattle.core_threads.specs.declared.threads.Ran.{Ran}
-use Rattle.core_threads.specs.Ending.{IsAtEnd, HaltsFor, HaltsRightly, AreUnstopped, unstopped, IsLeast, NoneHalts, NamesFor, NamesLeast, HaltEach}
+use Rattle.core_threads.specs.Ending.{IsDone, HaltsFor, HaltsRightly, NoneHalts, NamesFor, NamesLeast, HaltEach}
 use Rattle.core_boot.specs.Lanes.{items_for}
 use Rattle.core_threads.specs.Leaving.{SameRan, SameButTaken, AreSameRan, AllLeft}
 use Rattle.core_threads.specs.Searching.{AreInPlace, HaltedAt, NoneHalted, UnfinishedAt, IsHalt, IsWhole}
 use Rattle.core_threads.specs.Finishing.{CanFinish, Finishes}
-use Rattle.core_threads.proofs.Emptying.{below_or}
+use Rattle.core_threads.proofs.Looked.{before as before_look, ran_unstopped, rightly_along, halt_each_along}
 use Rattle.core_threads.specs.Runs.{StandsFor, StandsSo}
 use Rattle.std.proofs.lemmas.Option.{slice_get_within}
 use Rattle.filter_table.proofs.Lists.{map-get}
 use Rattle.table_replica.proofs.Shared.{get_at}
 
-abbrev cores_of : List Ran → List RingCore
+abbrev pub cores_of : List Ran → List RingCore
 cores_of ran = map (λ r. r.core) ran
 
 abbrev halts_of : List Ran → List (Option Halt)
@@ -39,6 +45,24 @@ module _ (old new : List Ran) (outlets : List Outlet) (can : CanFinish old outle
       let r = before i s at in
       let o = get_at outlets i (omega (arith, slice_get_within new i s at, same.all, can.fed.all)) in
       ap (λ (c : RingCore). c.number) r.2.core.core ∙ (can.fed.each i r.0 o.0 r.1 o.1).number
+
+  -- the cores whose jobs were left are the machine still
+  left_so : IsMachine can.budget can.budgets (cores_of new)
+  left_so = machine_ran can.budget can.budgets (cores_of old) (cores_of new) can.machine (record {
+    all = length-map new (λ r. r.core) ∙ same.all ∙ sym (length-map old (λ r. r.core));
+    each = λ i c d at_c at_d. (let r = get_map (λ (r : Ran). r.core) old i c at_c in
+        let s = get_map (λ (r : Ran). r.core) new i d at_d in
+        subst (λ (x : RingCore). SameCore SameLinks x d) (sym r.2) (subst (λ (x : RingCore). SameCore SameLinks r.0.core x) (sym s.2) (taken_same r.0.core s.0.core (same.each i r.0 s.0 r.1 s.1).core)));
+  })
+    where
+      taken_with : (c : RingCore) (intake : Intake) → SameIntake c.intake intake → SameCore SameLinks c (record c { intake = intake })
+      taken_with c intake i = (let s = same_itself c in record { number = s.number; cores = s.cores; budget = s.budget; links = s.links; intake = i })
+
+      taken_same : (c d : RingCore) → SameButTaken c d → SameCore SameLinks c d
+      taken_same c d e = subst (λ (x : RingCore). SameCore SameLinks c x) (sym e.core) (taken_with c d.intake e.intake)
+
+  pub left_machine : (slice : List RingCore) → slice ≡ cores_of new → (budget : ℕ) × (budgets : List ℕ) × IsMachine budget budgets (map (λ (c : RingCore). c) slice)
+  left_machine slice is = (can.budget, can.budgets, subst (λ (l : List RingCore). IsMachine can.budget can.budgets l) (sym (map-id slice ∙ is)) left_so)
 
   -- whatever was taken from its queue
   stands_still : (why : Halt) (c d : RingCore) → SameButTaken c d → StandsFor ring_view why c → StandsFor ring_view why d
@@ -61,51 +85,6 @@ module _ (old new : List Ran) (outlets : List Outlet) (can : CanFinish old outle
       let P : Option Halt → Type 0 = λ o. StandsSo ring_view o r.0.core in
       let stands : StandsFor ring_view why r.0.core = subst P (sym r.2.halted ∙ h.halted) (can.stands place r.0 r.1) in
       stands_still why r.0.core h.its.core r.2.core stands
-
-  unstopped_at : (i : ℕ) (s : Ran) → slice_get new i ≡ Some s → s.halted ≡ None → s.core.stopped ≡ None
-  unstopped_at i s at none =
-      let r = before i s at in
-      let P : Option Halt → Type 0 = λ o. StandsSo ring_view o r.0.core in
-      let stands : r.0.core.stopped ≡ None = subst P (sym r.2.halted ∙ none) (can.stands i r.0 r.1) in
-      ap (λ (c : RingCore). c.stopped) r.2.core.core ∙ stands
-
-  unstopped_so : (count : ℕ) → ((i : ℕ) (s : Ran) → i < count → slice_get new i ≡ Some s → s.core.stopped ≡ None) → AreUnstopped (cores_of new) count
-  unstopped_so count running i c below at =
-      let s = get_map (λ (s : Ran). s.core) new i c at in
-      ap (λ (d : RingCore). d.stopped) s.2 ∙ running i s.0 below s.1
-
-  unstopped_all : NoneHalted new → AreUnstopped (cores_of new) (length (cores_of new))
-  unstopped_all none = unstopped_so (length (cores_of new)) (λ i s below at. unstopped_at i s at (none i s at))
-
-  unstopped_upto : (place : ℕ) (why : Halt) (h : HaltedAt new place why) → h.its.core.stopped ≡ None → AreUnstopped (cores_of new) (suc place)
-  unstopped_upto place why h running = unstopped_so (suc place) (λ i s below at. elim (below_or i place (omega (arith, below))) [
-    | inl less ↦ unstopped_at i s at (h.lesser i s less at)
-    | inr is ↦ (let f : slice_get new place ≡ Some s = subst (λ (n : ℕ). slice_get new n ≡ Some s) is at in
-        let g : slice_get new place ≡ Some h.its = h.there in
-        let e : h.its ≡ s = cc in
-        subst (λ (x : Ran). x.core.stopped ≡ None) e running)
-  ])
-
-  least_so : (place : ℕ) (why : Halt) (h : HaltedAt new place why) → StandsFor ring_view why h.its.core → AreUnstopped (cores_of new) (unstopped (cores_of new) place why)
-  least_so place (halt.Cause cause) h stands = unstopped_so place (λ i s below at. unstopped_at i s at (h.lesser i s below at))
-  least_so place halt.Spent h stands = unstopped_upto place halt.Spent h stands.running
-  least_so place halt.NoMemory h stands = unstopped_upto place halt.NoMemory h stands.running
-  least_so place halt.NoRoom h stands = unstopped_upto place halt.NoRoom h stands
-  least_so place halt.Limit h stands = unstopped_upto place halt.Limit h stands.running
-  least_so place halt.Early h stands = absurd stands
-
-  pub least : (left : List (ℕ × Job)) (halted : Option (ℕ × Halt)) → MatchOption halted (IsWhole new left) (λ h. IsHalt new left h.0 h.1) → IsLeast (cores_of new) halted
-  least left None ends = unstopped_all ends.0
-  least left (Some h) (inl its) = least_so h.0 h.1 its (stands_at h.0 h.1 its)
-  least left (Some h) (inr early) = subst (λ (w : Halt). AreUnstopped (cores_of new) (unstopped (cores_of new) h.0 w)) (sym early.0) (unstopped_all early.1.0)
-
-  halts_so : (left : List (ℕ × Job)) (place : ℕ) (why : Halt) (h : HaltedAt new place why) → StandsFor ring_view why h.its.core → HaltsFor (cores_of new) left place why
-  halts_so left place (halt.Cause cause) h stands = record { core = h.its.core; there = map-get (λ r. r.core) new place h.its h.there; stopped = stands }
-  halts_so left place halt.Spent h stands = record { core = h.its.core; there = map-get (λ r. r.core) new place h.its h.there; is = stands }
-  halts_so left place halt.NoMemory h stands = record { core = h.its.core; there = map-get (λ r. r.core) new place h.its h.there; is = stands }
-  halts_so left place halt.NoRoom h stands = omega (arith, slice_get_within new place h.its h.there, length-map new (λ r. r.core))
-  halts_so left place halt.Limit h stands = record { core = h.its.core; there = map-get (λ r. r.core) new place h.its h.there; is = stands }
-  halts_so left place halt.Early h stands = absurd stands
 
   none_halts : (count : ℕ) → ((i : ℕ) (s : Ran) → i < count → slice_get new i ≡ Some s → s.halted ≡ None) → NoneHalts (halts_of new) count
   none_halts count none i h below at =
@@ -146,39 +125,55 @@ module _ (old new : List Ran) (outlets : List Outlet) (can : CanFinish old outle
       subst (λ (d : RingCore). StandsSo ring_view h d) (sym s.2) (stands_so h r.0.core s.0.core r.2.core old)
 
   pub halt_each : (cores : List RingCore) (halts : List (Option Halt)) (left : List (ℕ × Job)) (halted : Option (ℕ × Halt)) → MatchOption halted (IsWhole new left) (λ h. IsHalt new left h.0 h.1)
-      → cores ≡ cores_of new → halts ≡ halts_of new → HaltEach cores halts halted
-  halt_each cores halts left halted why is are =
-      subst (λ (l : List RingCore). HaltEach l halts halted) (sym is) (subst (λ (l : List (Option Halt)). HaltEach (cores_of new) l halted) (sym are) (record {
+      → AreLookedAt (cores_of new) cores → halts ≡ halts_of new → HaltEach cores halts halted
+  halt_each cores halts left halted why looked are =
+      halt_each_along (cores_of new) cores looked halts halted (subst (λ (l : List (Option Halt)). HaltEach (cores_of new) l halted) (sym are) (record {
         all = length-map new (λ r. r.halted) ∙ sym (length-map new (λ r. r.core));
         stand = each_stands;
         least = names left halted why;
       }))
 
-  at_end : (left : List (ℕ × Job)) (i : ℕ) (c : RingCore) → ((r : Ran) → slice_get new i ≡ Some r → IsAtEnd (items_for i left) r.core) → slice_get (cores_of new) i ≡ Some c → IsAtEnd (items_for i left) c
-  at_end left i c ends at =
+  is_done : (left : List (ℕ × Job)) (i : ℕ) (c : RingCore) → ((r : Ran) → slice_get new i ≡ Some r → IsDone (items_for i left) r.core) → slice_get (cores_of new) i ≡ Some c → IsDone (items_for i left) c
+  is_done left i c ends at =
       let r = get_map (λ (r : Ran). r.core) new i c at in
-      subst (λ (d : RingCore). IsAtEnd (items_for i left) d) (sym r.2) (ends r.0 r.1)
+      subst (λ (d : RingCore). IsDone (items_for i left) d) (sym r.2) (ends r.0 r.1)
 
   early_so : (left : List (ℕ × Job)) (place : ℕ) (why : Halt) → why ≡ halt.Early → UnfinishedAt new left place → HaltsFor (cores_of new) left place why
   early_so left place why early u = subst (λ (w : Halt). HaltsFor (cores_of new) left place w) (sym early) (record {
     core = u.its.core;
     there = map-get (λ r. r.core) new place u.its u.there;
     unfinished = u.unfinished;
-    lesser = λ i c less at. at_end left i c (λ r at_r. u.lesser i r less at_r) at;
+    lesser = λ i c less at. is_done left i c (λ r at_r. u.lesser i r less at_r) at;
   })
 
-  pub rightly : (left : List (ℕ × Job)) (halted : Option (ℕ × Halt)) → MatchOption halted (IsWhole new left) (λ h. IsHalt new left h.0 h.1) → HaltsRightly (cores_of new) left halted
-  rightly left None ends = λ i c at. at_end left i c (λ r at_r. ends.1 i r at_r) at
-  rightly left (Some h) (inl its) = halts_so left h.0 h.1 its (stands_at h.0 h.1 its)
-  rightly left (Some h) (inr early) = early_so left h.0 h.1 early.0 early.1.1
+  -- the cores are looked at, and none is stopped
+  module _ (running : AreRunning (cores_of new)) where
+    halts_so : (left : List (ℕ × Job)) (place : ℕ) (why : Halt) (h : HaltedAt new place why) → StandsFor ring_view why h.its.core → HaltsFor (cores_of new) left place why
+    halts_so left place (halt.Cause cause) h stands =
+        let none : h.its.core.stopped ≡ None = running place h.its.core (map-get (λ r. r.core) new place h.its h.there) in
+        absurd (let e : None ≡ Some cause = sym none ∙ stands in cc)
+    halts_so left place halt.Spent h stands = record { core = h.its.core; there = map-get (λ r. r.core) new place h.its h.there; is = stands }
+    halts_so left place halt.NoMemory h stands = record { core = h.its.core; there = map-get (λ r. r.core) new place h.its h.there; is = stands }
+    halts_so left place halt.NoRoom h stands = omega (arith, slice_get_within new place h.its h.there, length-map new (λ r. r.core))
+    halts_so left place halt.Limit h stands = record { core = h.its.core; there = map-get (λ r. r.core) new place h.its h.there; is = stands }
+    halts_so left place halt.Early h stands = absurd stands
 
-  pub finishes : (cores : List RingCore) (left : List (ℕ × Job)) (halted : Option (ℕ × Halt)) → AllLeft old new outlets left → MatchOption halted (IsWhole new left) (λ h. IsHalt new left h.0 h.1) → cores ≡ cores_of new
-      → Finishes old outlets cores left halted
-  finishes cores left halted rest why is = subst (λ (l : List RingCore). Finishes old outlets l left halted) (sym is) (record {
-    all = length-map new (λ r. r.core) ∙ same.all;
-    same = λ i r c at_r at_c. (let s = get_map (λ (r : Ran). r.core) new i c at_c in subst (λ (d : RingCore). SameButTaken r.core d) (sym s.2) (same.each i r s.0 at_r s.1).core);
-    each = rest.each;
-    inside = subst (λ (n : ℕ). All (λ j. j.0 < n) left) (sym (length-map new (λ r. r.core) ∙ same.all)) rest.inside;
-    why = rightly left halted why;
-    least = least left halted why;
-  })
+    rightly : (left : List (ℕ × Job)) (halted : Option (ℕ × Halt)) → MatchOption halted (IsWhole new left) (λ h. IsHalt new left h.0 h.1) → HaltsRightly (cores_of new) left halted
+    rightly left None ends = λ i c at. is_done left i c (λ r at_r. ends.1 i r at_r) at
+    rightly left (Some h) (inl its) = halts_so left h.0 h.1 its (stands_at h.0 h.1 its)
+    rightly left (Some h) (inr early) = early_so left h.0 h.1 early.0 early.1.1
+
+  pub finishes : (cores : List RingCore) (left : List (ℕ × Job)) (halted : Option (ℕ × Halt)) → AllLeft old new outlets left → MatchOption halted (IsWhole new left) (λ h. IsHalt new left h.0 h.1) → AreLookedAt (cores_of new) cores
+      → AreRunning cores → Finishes old outlets cores left halted
+  finishes cores left halted rest why looked running =
+      let long : length cores ≡ length old = looked.all ∙ length-map new (λ r. r.core) ∙ same.all in
+      record {
+        all = long;
+        same = λ i r c at_r at_c. (let d = before_look (cores_of new) cores looked i c at_c in
+            let s = get_map (λ (r : Ran). r.core) new i d.0 d.1 in
+            record { taken = d.0; same = subst (λ (x : RingCore). SameButTaken r.core x) (sym s.2) (same.each i r s.0 at_r s.1).core; looked = d.2 });
+        each = rest.each;
+        inside = subst (λ (n : ℕ). All (λ j. j.0 < n) left) (sym long) rest.inside;
+        why = rightly_along (cores_of new) cores looked left halted (rightly (ran_unstopped (cores_of new) cores looked running) left halted why);
+        running = running;
+      }

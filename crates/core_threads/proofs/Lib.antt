@@ -4,9 +4,11 @@ pub mod Outlets
 pub mod Lefts
 pub mod Emptying
 pub mod Searches
+pub mod Looked
 pub mod Finishes
 pub mod Loads
 pub mod Recording
 pub mod Turns
 pub mod Gates
 pub mod Runs
+pub mod Resting

@@ -1,10 +1,12 @@
 -- Cores get their lists, one after another.
-use Rattle.std.proofs.Common.{◌≡◌, List, [], ◌∷◌, ◌++◌, Some, slice_get, length, refl, ap, ◌∙◌, arith}
+use Rattle.std.proofs.Common.{◌≡◌, ℕ, List, [], ◌∷◌, ◌++◌, Some, slice_get, length, refl, ap, ◌∙◌, arith}
 use Rattle.std.proofs.lemmas.Option.{slice_get_within}
 use Rattle.table_replica.proofs.Shared.{get_at}
 use Rattle.rx_queue.specs.declared.port.Port.{Port}
 use Rattle.core_join.specs.Machines.{RingCore}
 use Rattle.core_boot.specs.Booted.{AreBooted}
+use Rattle.core_boot.specs.Booting.{IsMachineOf}
+use Rattle.core_threads.specs.Booted.{IsBootedMachine}
 use Rattle.core_threads.specs.Recording.{HaveNoHistories}
 
 get_next : (seen : List RingCore) (core : RingCore) (rest : List RingCore) → slice_get (seen ++ core ∷ rest) (length seen) ≡ Some core
@@ -22,3 +24,8 @@ pub booted_none : (cores : List RingCore) (ports : List Port) → AreBooted core
 booted_none cores ports booted i c at =
     let p = get_at ports i (omega (arith, slice_get_within cores i c at, booted.all)) in
     (booted.each i c p.0 at p.1).history
+
+-- cores that came up with these budgets are a machine that has done nothing
+pub booted_machine : (budgets : List ℕ) (cores : List RingCore) (ports : List Port) → IsMachineOf budgets cores → AreBooted cores ports → IsBootedMachine cores ports
+booted_machine [] cores ports m booted = absurd m
+booted_machine (budget ∷ others) cores ports m booted = record { budget = budget; budgets = others; machine = m; booted = booted }

@@ -1,5 +1,5 @@
 -- A run of a machine, from its boot to its end.
-use Rattle.std.proofs.Common.{◌≡◌, ◌++◌, ℕ, zero, suc, List, [], ◌∷◌, Option, Some, None, slice_get, length, refl, sym, ap, ◌∙◌, subst, arith, rules}
+use Rattle.std.proofs.Common.{◌≡◌, ◌++◌, ℕ, zero, suc, List, [], ◌∷◌, Option, Some, None, slice_get, length, map, refl, sym, ap, ◌∙◌, subst, arith, rules}
 use Rattle.std.specs.List.{AllZip}
 use Rattle.rx_queue.specs.declared.job.Job.{Job}
 use Rattle.rx_queue.specs.declared.port.Port.{Port}
@@ -8,13 +8,15 @@ use Rattle.rx_queue.specs.Queue.{jobs_put, jobs_taken, AreEnds, SamePort, SameIn
 use Rattle.core_links.specs.declared.ring_links.RingLinks.{RingLinks}
 use Rattle.core_links.specs.RingSlots.{SameLinks}
 use Rattle.core_loop.specs.Keeping.{replica_of}
-use Rattle.core_loop.specs.Cores.{begun, receipts}
+use Rattle.core_loop.specs.Cores.{SameCore, begun, receipts}
 use Rattle.core_join.specs.Machines.{RingCore, IsMachine}
 use Rattle.core_join.proofs.Machines.{machine_ran}
 use Rattle.core_threads.specs.declared.feeding.Outlet.{Outlet}
 use Rattle.core_threads.specs.declared.halt.Halt.{Halt}
 use Rattle.core_threads.specs.declared.threads.Ran.{Ran}
 use Rattle.core_boot.specs.Booted.{IsBooted, AreBooted}
+use Rattle.core_threads.specs.Booted.{IsBootedMachine}
+use Rattle.core_threads.proofs.Looked.{ends_along}
 use Rattle.core_threads.specs.Ending.{CoreEnds, EndsRightly}
 use Rattle.core_threads.specs.Feeding.{jobs_unput, jobs_through, SameOutlet}
 use Rattle.core_threads.specs.Finishing.{CanFinish, Finishes}
@@ -24,6 +26,8 @@ use Rattle.core_threads.specs.Leaving.{IsFedBy}
 use Rattle.core_threads.specs.Loading.{IsLoaded, AreLoaded}
 use Rattle.core_threads.specs.Runs.{ThreadRan}
 use Rattle.std.proofs.lemmas.Option.{slice_get_within}
+use Rattle.std.proofs.lemmas.List.{length-map}
+use Rattle.world_model.proofs.Lists.{get_map}
 use Rattle.table_replica.proofs.Shared.{get_at}
 
 -- the first of a pair, where the second stands at a place
@@ -47,7 +51,10 @@ intake_along : (i j k : Intake) → SameIntake i j → SameIntake j k → SameIn
 intake_along i j k a b = search rules
 
 module _ (machine : List RingCore) (ports : List Port) (jobs : List (ℕ × Job)) (start : List Outlet) (ran : List Ran) (outlets : List Outlet)
-    (booted : AreBooted machine ports) (loads : AreLoaded ports jobs start) (have_ran : HaveRan machine ran) (fed : SameOutlets start outlets) where
+    (up : IsBootedMachine machine ports) (loads : AreLoaded ports jobs start) (have_ran : HaveRan machine ran) (fed : SameOutlets start outlets) where
+  booted : AreBooted machine ports
+  booted = up.booted
+
   long_ran : length ran ≡ length machine
   long_ran = pairs_long (λ c r. ThreadRan c r.core r.halted) machine ran have_ran
 
@@ -95,8 +102,20 @@ module _ (machine : List RingCore) (ports : List Port) (jobs : List (ℕ × Job)
       let p = get_at ports i (omega (arith, slice_get_within machine i c at_c, booted.all)) in
       (booted.each i c p.0 at_c p.1).running
 
+  ran_machine : IsMachine up.budget up.budgets (map (λ (r : Ran). r.core) ran)
+  ran_machine = machine_ran up.budget up.budgets machine (map (λ (r : Ran). r.core) ran) up.machine (record {
+    all = length-map ran (λ r. r.core) ∙ long_ran;
+    each = λ i c d at_c at_d. (let r = get_map (λ (r : Ran). r.core) ran i d at_d in
+        let a = pair_at (λ c r. ThreadRan c r.core r.halted) machine ran i r.0 have_ran r.1 in
+        let e : a.0 ≡ c = (let f = a.1 in cc) in
+        subst (λ (x : RingCore). SameCore SameLinks c x) (sym r.2) (subst (λ (x : RingCore). SameCore SameLinks x r.0.core) e a.2.ran.core));
+  })
+
   pub can_finish : CanFinish ran outlets
   can_finish = record {
+    budget = up.budget;
+    budgets = up.budgets;
+    machine = ran_machine;
     fed = record { all = long_outlets; each = is_fed };
     stands = λ i r at_r. (let a = pair_at (λ c r. ThreadRan c r.core r.halted) machine ran i r have_ran at_r in a.2.stands (is_running i a.0 a.1));
   }
@@ -113,23 +132,25 @@ module _ (machine : List RingCore) (ports : List Port) (jobs : List (ℕ × Job)
         let o = get_at outlets i (omega (arith, slice_get_within machine i old at_old, long_ran, long_outlets)) in
         let a = at i r.0 o.0 r.1 o.1 in
         let e : a.core ≡ old = (let f = a.core_at in cc) in
-        let s = finishes.same i r.0 new r.1 at_new in
+        let left_so = finishes.same i r.0 new r.1 at_new in
+        let mid = left_so.taken in
+        let s = left_so.same in
         let ran_so = subst (λ (c : RingCore). ThreadRan c r.0.core r.0.halted) e a.ran_so in
         let booted_so = subst (λ (c : RingCore). IsBooted i c a.port) e a.is_booted in
-        let history : new.history ≡ r.0.core.history = ap (λ (c : RingCore). c.history) s.core in
-        let pending : new.pending ≡ r.0.core.pending = ap (λ (c : RingCore). c.pending) s.core in
+        let history : mid.history ≡ r.0.core.history = ap (λ (c : RingCore). c.history) s.core in
+        let pending : mid.pending ≡ r.0.core.pending = ap (λ (c : RingCore). c.pending) s.core in
         let received : jobs_taken r.0.core.intake ≡ receipts r.0.core.history = ran_so.ran.received (booted_so.taken ∙ sym (ap receipts booted_so.history)) in
-        record {
+        ends_along (items_for i jobs) (items_for i left) old mid new (record {
           core = record {
             number = ap (λ (c : RingCore). c.number) s.core ∙ ran_so.ran.core.number;
             cores = ap (λ (c : RingCore). c.cores) s.core ∙ ran_so.ran.core.cores;
             budget = ap (λ (c : RingCore). (replica_of c.part).budget) s.core ∙ ran_so.ran.core.budget;
             links = subst (λ (l : RingLinks). SameLinks old.links l) (sym (ap (λ (c : RingCore). c.links) s.core)) ran_so.ran.core.links;
-            intake = intake_along old.intake r.0.core.intake new.intake ran_so.ran.core.intake s.intake;
+            intake = intake_along old.intake r.0.core.intake mid.intake ran_so.ran.core.intake s.intake;
           };
-          requests = ap (λ l. begun l ++ new.pending) history ∙ ap (λ l. begun r.0.core.history ++ l) pending ∙ ran_so.ran.requests ∙ ap (λ l. begun l ++ old.pending) booted_so.history;
+          requests = ap (λ l. begun l ++ mid.pending) history ∙ ap (λ l. begun r.0.core.history ++ l) pending ∙ ran_so.ran.requests ∙ ap (λ l. begun l ++ old.pending) booted_so.history;
           received = ap (λ l. receipts l ++ items_for i left) history ∙ ap (λ l. l ++ items_for i left) (sym received) ∙ finishes.each i r.0 o.0 r.1 o.1 ∙ given i r.0 o.0 a;
-        }
+        }) left_so.looked
 
     pub ends_rightly : EndsRightly machine jobs cores left halted
     ends_rightly = record {
@@ -137,7 +158,7 @@ module _ (machine : List RingCore) (ports : List Port) (jobs : List (ℕ × Job)
       each = core_ends;
       inside = finishes.inside;
       why = finishes.why;
-      least = finishes.least;
+      running = finishes.running;
     }
 
 -- the cores of a machine that ended are its cores still

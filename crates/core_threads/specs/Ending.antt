@@ -1,12 +1,13 @@
 -- How a run ended.
-use Rattle.std.specs.Prelude.{◌≡◌, ◌<◌, ◌++◌, ℕ, suc, All, List, [], ◌∷◌, length, Option, Some, None, slice_get}
+use Rattle.std.specs.Prelude.{◌≡◌, ◌<◌, ◌++◌, ℕ, All, List, [], ◌∷◌, length, Option, Some, None, slice_get}
 use Rattle.rx_queue.specs.declared.job.Job.{Job}
 use Rattle.core_links.specs.RingSlots.{SameLinks, ring_view}
-use Rattle.core_loop.specs.declared.cause.Cause.{Cause}
 use Rattle.core_loop.specs.Beginning.{HasNothingUnderWay}
 use Rattle.core_loop.specs.Cores.{SameCore, begun, receipts}
 use Rattle.core_loop.specs.Keeping.{replica_of}
 use Rattle.core_join.specs.Machines.{RingCore}
+use Rattle.core_join.specs.Conclusions.{AreRunning}
+use Rattle.core_settle.specs.Rounds.{HasAllDecided}
 use Rattle.core_threads.specs.Reasons.{IsSpentNow, LacksMemoryNow, RestsNow}
 use Rattle.core_threads.specs.Runs.{StandsSo}
 use Rattle.core_threads.specs.declared.halt.Halt.{Halt}
@@ -20,18 +21,21 @@ pub record IsAtEnd (left : List Job) (core : RingCore) : Type 0 where
   pub idle : HasNothingUnderWay core.cores core.part (ring_view core.links)
   pub floor : (job : Job) (later : List Job) → left ≡ job ∷ later → (replica_of core.part).shown.version < job.floor
 
+-- it has nothing to do, and each request that it was asked is decided
+pub record IsDone (left : List Job) (core : RingCore) : Type 0 where
+  pub at_end : IsAtEnd left core
+  pub decided : HasAllDecided core
+
+-- so each core
+abbrev pub AreAllDone : List RingCore → List (ℕ × Job) → Type 0
+AreAllDone cores left = (i : ℕ) (c : RingCore) → slice_get cores i ≡ Some c → IsDone (items_for i left) c
+
 -- this core is the least that has something to do
 pub record IsLeastUnfinished (cores : List RingCore) (left : List (ℕ × Job)) (place : ℕ) : Type 0 where
   pub core : RingCore
   pub there : slice_get cores place ≡ Some core
   pub unfinished : IsAtEnd (items_for place left) core → ⊥
-  pub lesser : (i : ℕ) (c : RingCore) → i < place → slice_get cores i ≡ Some c → IsAtEnd (items_for i left) c
-
--- the core in this place is stopped with the cause
-pub record IsStoppedAt (cores : List RingCore) (place : ℕ) (cause : Cause) : Type 0 where
-  pub core : RingCore
-  pub there : slice_get cores place ≡ Some core
-  pub stopped : core.stopped ≡ Some cause
+  pub lesser : (i : ℕ) (c : RingCore) → i < place → slice_get cores i ≡ Some c → IsDone (items_for i left) c
 
 -- the core in this place is so
 pub record IsSoAt (cores : List RingCore) (place : ℕ) (P : RingCore → Type 0) : Type 0 where
@@ -39,35 +43,19 @@ pub record IsSoAt (cores : List RingCore) (place : ℕ) (P : RingCore → Type 0
   pub there : slice_get cores place ≡ Some core
   pub is : P core
 
--- why a core halted is right: the core in this place is one to which that happens
+-- why a core halted is right: the core in this place is one to which that happens; no core of a machine stops
 abbrev pub HaltsFor : List RingCore → List (ℕ × Job) → ℕ → Halt → Type 0
-HaltsFor cores left place (halt.Cause cause) = IsStoppedAt cores place cause
+HaltsFor cores left place (halt.Cause cause) = ⊥
 HaltsFor cores left place halt.Spent = IsSoAt cores place (IsSpentNow ring_view)
 HaltsFor cores left place halt.NoMemory = IsSoAt cores place (LacksMemoryNow ring_view)
 HaltsFor cores left place halt.NoRoom = place < length cores
 HaltsFor cores left place halt.Limit = IsSoAt cores place (RestsNow ring_view)
 HaltsFor cores left place halt.Early = IsLeastUnfinished cores left place
 
--- no core halted, and each is at its end; or a core halted for this
+-- no core halted, and each has done its work; or a core halted for this
 abbrev pub HaltsRightly : List RingCore → List (ℕ × Job) → Option (ℕ × Halt) → Type 0
-HaltsRightly cores left None = (i : ℕ) (c : RingCore) → slice_get cores i ≡ Some c → IsAtEnd (items_for i left) c
+HaltsRightly cores left None = AreAllDone cores left
 HaltsRightly cores left (Some why) = HaltsFor cores left why.0 why.1
-
--- so many cores, from core 0 on, are surely not stopped where the core in this place halted for this: those below a core that is stopped, that
--- core and those below it where it halted for something else, and all where none halted
-abbrev pub unstopped : List RingCore → ℕ → Halt → ℕ
-unstopped cores place (halt.Cause cause) = place
-unstopped cores place halt.Early = length cores
-unstopped cores place why = suc place
-
--- none of so many cores is stopped
-abbrev pub AreUnstopped : List RingCore → ℕ → Type 0
-AreUnstopped cores count = (i : ℕ) (c : RingCore) → i < count → slice_get cores i ≡ Some c → c.stopped ≡ None
-
--- no lesser core is stopped than the one that halted; where none halted, none is stopped
-abbrev pub IsLeast : List RingCore → Option (ℕ × Halt) → Type 0
-IsLeast cores None = AreUnstopped cores (length cores)
-IsLeast cores (Some halted) = AreUnstopped cores (unstopped cores halted.0 halted.1)
 
 -- none of so many cores, from core 0 on, halted
 abbrev pub NoneHalts : List (Option Halt) → ℕ → Type 0
@@ -95,11 +83,11 @@ pub record CoreEnds (jobs left : List Job) (old new : RingCore) : Type 0 where
   pub requests : begun new.history ++ new.pending ≡ old.pending
   pub received : receipts new.history ++ left ≡ jobs
 
--- the run of these cores with these jobs ended so: each core once, in order, each job received or left once, why it halted is right, and no
--- lesser core is stopped
+-- the run of these cores with these jobs ended so: each core once, in order, each job received or left once, why it halted is right, and no core
+-- is stopped
 pub record EndsRightly (machine : List RingCore) (jobs : List (ℕ × Job)) (cores : List RingCore) (left : List (ℕ × Job)) (halted : Option (ℕ × Halt)) : Type 0 where
   pub all : length cores ≡ length machine
   pub each : (i : ℕ) (old new : RingCore) → slice_get machine i ≡ Some old → slice_get cores i ≡ Some new → CoreEnds (items_for i jobs) (items_for i left) old new
   pub inside : All (λ j. j.0 < length cores) left
   pub why : HaltsRightly cores left halted
-  pub least : IsLeast cores halted
+  pub running : AreRunning cores

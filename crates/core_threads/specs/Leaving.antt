@@ -3,6 +3,7 @@ use Rattle.std.specs.Prelude.{◌≡◌, ◌<◌, ◌++◌, ℕ, All, List, map,
 use Rattle.rx_queue.specs.declared.job.Job.{Job}
 use Rattle.rx_queue.specs.Queue.{AreEnds, SameIntake, jobs_taken}
 use Rattle.core_join.specs.Machines.{RingCore}
+use Rattle.core_join.specs.Looking.{IsLookedAt}
 use Rattle.core_threads.specs.declared.feeding.Outlet.{Outlet}
 use Rattle.core_threads.specs.declared.threads.Ran.{Ran}
 use Rattle.core_threads.specs.Feeding.{jobs_through}
@@ -16,6 +17,12 @@ tagged core items = map (λ item. (core, item)) items
 pub record SameButTaken (old new : RingCore) : Type 0 where
   pub core : new ≡ record old { intake = new.intake }
   pub intake : SameIntake old.intake new.intake
+
+-- and then the core was looked at
+pub record IsLeft (old new : RingCore) : Type 0 where
+  pub taken : RingCore
+  pub same : SameButTaken old taken
+  pub looked : IsLookedAt taken new
 
 -- these jobs of a core, all of them but those taken, are left
 pub record Leaves (core : ℕ) (taken jobs : List Job) (old new : List (ℕ × Job)) : Type 0 where

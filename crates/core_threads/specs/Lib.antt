@@ -4,6 +4,7 @@ pub mod Feeding
 pub mod Joining
 pub mod Leaving
 pub mod Ending
+pub mod Settling
 pub mod Booted
 pub mod Searching
 pub mod Finishing

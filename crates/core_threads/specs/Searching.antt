@@ -1,10 +1,11 @@
 -- Which core halted, and which has something to do.
 use Rattle.std.specs.Prelude.{◌≡◌, ◌⊎◌, ◌<◌, ℕ, List, ◌∷◌, Some, None, slice_get}
 use Rattle.rx_queue.specs.declared.job.Job.{Job}
+use Rattle.core_join.specs.Machines.{RingCore}
 use Rattle.core_threads.specs.declared.halt.Halt.{Halt}
 use Rattle.core_threads.specs.declared.halt.Halt.TheVariants as halt
 use Rattle.core_threads.specs.declared.threads.Ran.{Ran}
-use Rattle.core_threads.specs.Ending.{IsAtEnd}
+use Rattle.core_threads.specs.Ending.{IsAtEnd, IsDone}
 use Rattle.core_boot.specs.Lanes.{items_for}
 
 -- each core is in its place
@@ -32,24 +33,28 @@ pub record IsFirstFloor (jobs : List Job) (floor : ℕ) : Type 0 where
   pub first : jobs ≡ job ∷ later
   pub is : job.floor ≡ floor
 
--- each core below this place has nothing to do
-abbrev pub AreAtEndBelow : List Ran → List (ℕ × Job) → ℕ → Type 0
-AreAtEndBelow ran left place = (i : ℕ) (r : Ran) → i < place → slice_get ran i ≡ Some r → IsAtEnd (items_for i left) r.core
+-- each core below this place has done its work
+abbrev pub AreDoneBelow : List Ran → List (ℕ × Job) → ℕ → Type 0
+AreDoneBelow ran left place = (i : ℕ) (r : Ran) → i < place → slice_get ran i ≡ Some r → IsDone (items_for i left) r.core
 
-abbrev pub AreAtEnd : List Ran → List (ℕ × Job) → Type 0
-AreAtEnd ran left = (i : ℕ) (r : Ran) → slice_get ran i ≡ Some r → IsAtEnd (items_for i left) r.core
+abbrev pub AreDone : List Ran → List (ℕ × Job) → Type 0
+AreDone ran left = (i : ℕ) (r : Ran) → slice_get ran i ≡ Some r → IsDone (items_for i left) r.core
+
+-- each core has nothing to do, by its number
+abbrev pub EachIsAtEnd : List RingCore → List (ℕ × Job) → Type 0
+EachIsAtEnd cores left = (i : ℕ) (c : RingCore) → slice_get cores i ≡ Some c → IsAtEnd (items_for c.number left) c
 
 -- the core in this place is the first that has something to do
 pub record UnfinishedAt (ran : List Ran) (left : List (ℕ × Job)) (place : ℕ) : Type 0 where
   pub its : Ran
   pub there : slice_get ran place ≡ Some its
   pub unfinished : IsAtEnd (items_for place left) its.core → ⊥
-  pub lesser : AreAtEndBelow ran left place
+  pub lesser : AreDoneBelow ran left place
 
 -- a core's thread says so, or none halted and there is something to do
 abbrev pub IsHalt : List Ran → List (ℕ × Job) → ℕ → Halt → Type 0
 IsHalt ran left place why = HaltedAt ran place why ⊎ ((why ≡ halt.Early) × (NoneHalted ran × UnfinishedAt ran left place))
 
--- no core halted, and each has nothing to do
+-- no core halted, and each has done its work
 abbrev pub IsWhole : List Ran → List (ℕ × Job) → Type 0
-IsWhole ran left = NoneHalted ran × AreAtEnd ran left
+IsWhole ran left = NoneHalted ran × AreDone ran left

@@ -3,7 +3,8 @@
 ghost use Rattle.std.specs.Prelude.{◌≡◌, ◌↔◌, [], map, IsTrue, IfOk, MatchOption};
 ghost use Rattle.core_threads.specs.Ending.{IsAtEnd};
 ghost use Rattle.core_boot.specs.Lanes.{items_for};
-ghost use Rattle.core_threads.specs.Searching.{AreInPlace, HaltedAt, NoneHalted, IsFirstFloor, AreAtEnd, UnfinishedAt, IsHalt, IsWhole};
+ghost use Rattle.core_settle.specs.Rounds.{HasAllDecided};
+ghost use Rattle.core_threads.specs.Searching.{AreInPlace, HaltedAt, NoneHalted, IsFirstFloor, AreDone, UnfinishedAt, IsHalt, IsWhole};
 
 use crate::halt::Halt;
 use crate::threads::Ran;
@@ -38,10 +39,12 @@ fn first_floor(number: u16, left: &[(u16, Job)]) -> Option<u64>
     None
 }
 
-// Whether a core has nothing to do, where these are the jobs that are left.
-fn is_at_end(core: &Core<RingLinks>, left: &[(u16, Job)]) -> bool
-    ensures { IsTrue result ↔ IsAtEnd (items_for core.now.number left.now) core.now }
+/// Whether a core has nothing to do, where these are the jobs that are left.
+pub(crate) fn is_at_end(core: &Core<RingLinks>, left: &[(u16, Job)]) -> bool
+    ensures at_end { IsTrue result ↔ IsAtEnd (items_for core.now.number left.now) core.now }
+    ensures decided { IsTrue result → HasAllDecided core.now }
 {
+    core.are_decided();
     if core.pending() != 0 || !core.idle() {
         return false;
     }
@@ -54,7 +57,7 @@ fn is_at_end(core: &Core<RingLinks>, left: &[(u16, Job)]) -> bool
 // The least core that has something to do, where these are the jobs that are left.
 fn first_unfinished(ran: &[Ran], left: &[(u16, Job)]) -> Option<u16>
     requires { AreInPlace ran.now }
-    ensures { MatchOption result (AreAtEnd ran.now left.now) (UnfinishedAt ran.now left.now) }
+    ensures { MatchOption result (AreDone ran.now left.now) (UnfinishedAt ran.now left.now) }
 {
     for ran in ran {
         let core = ran.core.core();

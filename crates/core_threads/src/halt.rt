@@ -9,7 +9,7 @@ use std::alloc::AllocError;
 /// Why a core halted.
 #[derive(Clone, Copy, PartialEq, Eq, Debug)]
 pub enum Halt {
-    /// The core is stopped for good.
+    /// The core is stopped for good, which no core of a machine ever is.
     Cause(Cause),
     /// The next number or stamp would be too great.
     Spent,

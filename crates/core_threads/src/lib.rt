@@ -10,6 +10,7 @@ mod gate;
 mod halt;
 mod leaving;
 mod machine;
+mod settling;
 mod threads;
 mod turning;
 
@@ -18,3 +19,4 @@ pub use core_boot::BootFault;
 pub use gate::{Free, Gate, Notes, Question};
 pub use halt::{Halt, RunFault};
 pub use machine::{Ended, Machine, run_machine};
+pub use settling::{Rested, run_to_rest};

@@ -2,7 +2,7 @@
 
 ghost use Rattle.std.specs.Prelude.{◌≡◌, ◌<◌, ℕ, All, List, length, IfOk};
 ghost use Rattle.core_join.specs.Machines.{IsMachine};
-ghost use Rattle.core_boot.specs.Booted.{AreBooted};
+ghost use Rattle.core_threads.specs.Booted.{IsBootedMachine};
 ghost use Rattle.core_threads.specs.Ending.{EndsRightly, HaltEach};
 ghost use Rattle.core_threads.specs.Finishing.{CanFinish, Finishes};
 ghost use Rattle.core_threads.specs.Loading.{AreLoaded};
@@ -18,6 +18,7 @@ use crate::turning::Bounds;
 use core_boot::by_core;
 use core_join::Recorded;
 use core_loop::RingLinks;
+use core_settle::look_at_machine;
 use rx_queue::{Job, Port};
 use std::alloc::{AllocError, Global};
 use std::marker::Model;
@@ -33,14 +34,13 @@ pub struct Machine {
 }
 
 impl Model for Machine {
-    ghost use Rattle.core_boot.specs.Booted.{AreBooted};
-    ghost use Rattle.core_threads.specs.Booted.{MachineState};
+    ghost use Rattle.core_threads.specs.Booted.{MachineState, IsBootedMachine};
 
     ghost Value = { MachineState };
 
     ghost view = { λ m. record { cores = m.cores.items; ports = m.ports.items } };
 
-    ghost invariant = { λ m. AreBooted m.cores.items m.ports.items };
+    ghost invariant = { λ m. IsBootedMachine m.cores.items m.ports.items };
 }
 
 /// A machine that has run.
@@ -52,8 +52,7 @@ pub struct Ended {
     pub halts: Vec<Option<Halt>>,
     /// The jobs that were not received, each with the number of its core, and each core's in order.
     pub left: Vec<(u16, Job)>,
-    /// The least core that halted, and why. No lesser core is stopped; nor is this one, but for a `Halt::Cause`. Where no core halted, and where
-    /// this is `Halt::Early`, none is stopped.
+    /// The least core that halted, and why, which is no `Halt::Cause`; or `Halt::Early` where none did and there is work left.
     pub halted: Option<(u16, Halt)>,
 }
 
@@ -70,7 +69,8 @@ fn finish(alloc: Global, joined: Joined) -> Result<Ended, AllocError>
     let left = leave_all(alloc, &mut ran, &mut outlets)?;
     let halted = why_halted(&ran, &left);
     let halts = halts_of(alloc, &ran)?;
-    let cores = cores_of(alloc, ran)?;
+    let mut cores = cores_of(alloc, ran)?;
+    look_at_machine(cores.as_mut_slice());
     Ok(Ended {
         cores,
         halts,
@@ -86,7 +86,7 @@ fn load(
     jobs: Vec<(u16, Job)>,
 ) -> Result<(Vec<Recorded<RingLinks>>, Vec<Outlet>), AllocError>
     requires { All (λ j. j.0 < length machine.cores) jobs.items }
-    ensures booted { AreBooted machine.cores machine.ports }
+    ensures booted { IsBootedMachine machine.cores machine.ports }
     ensures cores { IfOk result (λ r. r.0.items ≡ machine.cores) }
     ensures outlets { IfOk result (λ r. AreLoaded machine.ports jobs.items r.1.items) }
 {
@@ -110,7 +110,7 @@ fn submitted(cores: &[Recorded<RingLinks>]) -> u64 {
 
 /// Runs each core of a machine in a thread of its own, until all requests are decided and all jobs are received that can be. The
 /// calling thread puts the jobs, each in the queue of its core. A core halts after `limit` turns in a row that did nothing;
-/// where one halts, all end. After an error the machine and the jobs are gone.
+/// where one halts, all end. No core stops, so none halts for a `Halt::Cause`. After an error the machine and the jobs are gone.
 pub fn run_machine<R: Threads + Wait + Clock + Sync, G: Gate + Sync>(
     rt: &R,
     alloc: Global,
@@ -123,6 +123,7 @@ pub fn run_machine<R: Threads + Wait + Clock + Sync, G: Gate + Sync>(
     ensures ended { IfOk result (λ ended. EndsRightly machine.cores jobs.items ended.cores.items ended.left.items ended.halted) }
     ensures halts { IfOk result (λ ended. HaltEach ended.cores.items ended.halts.items ended.halted) }
     ensures machine { IfOk result (λ ended. (budget : ℕ) (budgets : List ℕ) → IsMachine budget budgets machine.cores → IsMachine budget budgets ended.cores.items) }
+    ensures one_machine { IfOk result (λ ended. (budget : ℕ) × (budgets : List ℕ) × IsMachine budget budgets ended.cores.items) }
 {
     let (cores, outlets) = load(alloc, machine, jobs)?;
     let flags = Flags::new(alloc, cores.len())?;

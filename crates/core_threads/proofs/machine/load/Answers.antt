@@ -11,5 +11,5 @@ returns-clause-outlets c =
     let lanes = c.in_ok-lanes.lanes.items in
     let outlets = c.in_ok-outlets.outlets.items in
     let ports : inside.ports.items ≡ c.args.machine.ports = ap (λ (m : MachineState). m.ports) c.machine.view_is in
-    let long : length lanes ≡ length inside.ports.items = omega (arith, c.in_ok-lanes.ensures.count, c.len.ensures, inside.cores.ok.0, c.machine.invariant.all) in
+    let long : length lanes ≡ length inside.ports.items = omega (arith, c.in_ok-lanes.ensures.count, c.len.ensures, inside.cores.ok.0, c.machine.invariant.booted.all) in
     subst (λ (l : List Port). AreLoaded l c.args.jobs.items outlets) ports (loaded inside.ports.items lanes c.args.jobs.items outlets long c.in_ok-lanes.ensures.lanes c.in_ok-outlets.ensures)

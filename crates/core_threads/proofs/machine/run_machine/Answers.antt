@@ -25,3 +25,8 @@ returns-clause-machine g c =
     let ran = subst (λ (l : List RingCore). HaveRan l c.in_ok-joined.joined.ran.items) loads.cores joined.cores in
     machine_still c.args.machine.cores c.args.jobs.items _ _ _
     (ends_rightly c.args.machine.cores c.args.machine.ports c.args.jobs.items _ _ _ loads.booted loads.outlets ran joined.outlets _ _ _ c.in_ok-ended.ensures.finishes)
+
+pub returns-clause-one_machine : goal.returns-clause-one_machine
+returns-clause-one_machine g c =
+    let up = c.in_ok-cores.ensures.booted in
+    (up.budget, up.budgets, returns-clause-machine g c up.budget up.budgets up.machine)
