@@ -27,13 +27,15 @@ use Rattle.core_join.specs.Merges.{ListsRuns}
 use Rattle.core_boot.specs.Booting.{HaveRequests, AreGivable, IsMachineOf}
 use Rattle.core_boot.specs.Lanes.{items_for}
 use Rattle.core_threads.specs.declared.halt.Halt.{Halt}
-use Rattle.core_threads.specs.declared.halt.Halt.TheVariants as halt
-use Rattle.core_threads.specs.Ending.{EndsRightly, HaltsFor, HaltsRightly, IsAtEnd}
+use Rattle.core_threads.specs.Ending.{EndsRightly, AreAllDone}
+use Rattle.core_threads.specs.Settling.{RunsToRest}
+use Rattle.core_loop.specs.Answering.{decisions}
+use Rattle.headline.specs.Decided.{decided_in}
 use Rattle.headline.specs.Headline.{ShowTables, begun_in, received_in}
 use Rattle.world_model.specs.Committed.{log_of}
 use Rattle.headline.specs.Shown.{replicas_of_cores}
 use Rattle.headline.specs.Ended.{HaveEnded}
-use Rattle.headline.proofs.OneList.{joined_tables, joined_begun, joined_received, joined_newest, joined_none_begun, joined_none_received}
+use Rattle.headline.proofs.OneList.{joined_tables, joined_begun, joined_received, joined_decided, joined_newest, joined_none_begun, joined_none_decided, joined_none_received}
 use Rattle.core_join.proofs.Told.{joined_deliver}
 
 -- the requests of cores other than 0 are short, so each can be given to its core
@@ -66,34 +68,19 @@ ended_whole budgets requests jobs machine cores left is count have ends keeps = 
   begun_all = λ i c at.
       let old = before i c at in
       let core = ends.each i old.0 c old.1 at in
-      sym (append-nil (begun c.history)) ∙ (ap (λ (rest : List Op). begun c.history ++ rest) (sym (ends.why i c at).pending) ∙ (core.requests ∙ have i old.0 old.1));
+      sym (append-nil (begun c.history)) ∙ (ap (λ (rest : List Op). begun c.history ++ rest) (sym (ends.why i c at).at_end.pending) ∙ (core.requests ∙ have i old.0 old.1));
   received_all = λ i c at. let old = before i c at in (ends.each i old.0 c old.1 at).received;
   left_inside = subst (λ (n : ℕ). All (λ (j : ℕ × Job). j.0 < n) left) (ends.all ∙ count) ends.inside;
-  ended = ends.why;
+  done = ends.why;
 }
   where
     before : (i : ℕ) (c : RingCore) → slice_get cores i ≡ Some c → (old : RingCore) × (slice_get machine i ≡ Some old)
     before i c at = get_at machine i (omega (arith, ends.all, slice_get_within cores i c at))
 
-pub have_ended : (budgets : List ℕ) (requests : List (ℕ × Op)) (jobs : List (ℕ × Job)) (machine cores : List RingCore) (left : List (ℕ × Job)) (halted : Option (ℕ × Halt)) → halted ≡ None → IsMachineOf budgets machine → length machine ≡ length budgets
-    → HaveRequests requests machine → EndsRightly machine jobs cores left halted → ((budget : ℕ) (others : List ℕ) → IsMachine budget others machine → IsMachine budget others cores) → HaveEnded budgets requests jobs cores left
-have_ended budgets requests jobs machine cores left halted none is count have ends keeps =
-    ended_whole budgets requests jobs machine cores left is count have (subst (EndsRightly machine jobs cores left) none ends) keeps
-
--- a core that halted is one of the cores
-halts_within : (cores : List RingCore) (left : List (ℕ × Job)) (place : ℕ) (why : Halt) → HaltsFor cores left place why → place < length cores
-halts_within cores left place (halt.Cause cause) h = slice_get_within cores place h.core h.there
-halts_within cores left place halt.Spent h = slice_get_within cores place h.core h.there
-halts_within cores left place halt.NoMemory h = slice_get_within cores place h.core h.there
-halts_within cores left place halt.NoRoom h = h
-halts_within cores left place halt.Limit h = slice_get_within cores place h.core h.there
-halts_within cores left place halt.Early h = slice_get_within cores place h.core h.there
-
-pub halted_within : (budgets : List ℕ) (jobs : List (ℕ × Job)) (machine cores : List RingCore) (left : List (ℕ × Job)) (halted : Option (ℕ × Halt)) (core : ℕ) (why : Halt) → halted ≡ Some (core, why) → length machine ≡ length budgets
-    → EndsRightly machine jobs cores left halted → core < length budgets
-halted_within budgets jobs machine cores left halted core why is count ends =
-    let within : core < length cores = halts_within cores left core why (subst (HaltsRightly cores left) is ends.why) in
-    omega (arith, within, ends.all, count)
+pub have_ended : (budgets : List ℕ) (requests : List (ℕ × Op)) (jobs : List (ℕ × Job)) (machine cores : List RingCore) (left : List (ℕ × Job)) (named : Option (ℕ × Halt)) → named ≡ None → IsMachineOf budgets machine → length machine ≡ length budgets
+    → HaveRequests requests machine → RunsToRest machine jobs cores left named → ((budget : ℕ) (others : List ℕ) → IsMachine budget others machine → IsMachine budget others cores) → HaveEnded budgets requests jobs cores left
+have_ended budgets requests jobs machine cores left named none is count have rests keeps =
+    ended_whole budgets requests jobs machine cores left is count have (subst (RunsToRest machine jobs cores left) none rests) keeps
 
 -- they are a machine
 pub ended_machine : (budgets : List ℕ) (requests : List (ℕ × Op)) (jobs : List (ℕ × Job)) (cores : List RingCore) (left : List (ℕ × Job)) → HaveEnded budgets requests jobs cores left → (budget : ℕ) × (others : List ℕ) × IsMachine budget others cores
@@ -111,15 +98,17 @@ module _ (budgets : List ℕ) (requests : List (ℕ × Op)) (jobs : List (ℕ ×
     delivers : Delivers (log_of list) list
     tables : ShowTables list (replicas_of_cores cores)
     begun_each : (core : ℕ) (c : RingCore) → slice_get cores core ≡ Some c → begun_in core list ≡ begun c.history
+    decided_each : (core : ℕ) (c : RingCore) → slice_get cores core ≡ Some c → decided_in core list ≡ decisions c.history
     received_each : (core : ℕ) (c : RingCore) → slice_get cores core ≡ Some c → received_in core list ≡ receipts c.history
     newest : All (λ (r : ReplicaState). r.shown.version ≡ length (log_of list)) (replicas_of_cores cores)
     none_begun : (core : ℕ) → length cores ≤ core → begun_in core list ≡ []
+    none_decided : (core : ℕ) → length cores ≤ core → decided_in core list ≡ []
     none_received : (core : ℕ) → length cores ≤ core → received_in core list ≡ []
 
   said : (cores : List RingCore) → HaveEnded budgets requests jobs cores left → OfMachine cores Concludes → ListsRuns (histories_of cores) list → Said cores
-  said cores e computes lists = by_machine cores (ended_machine budgets requests jobs cores left e) e.ended computes lists
+  said cores e computes lists = by_machine cores (ended_machine budgets requests jobs cores left e) e.done computes lists
     where
-      by_machine : (cores : List RingCore) → ((budget : ℕ) × (others : List ℕ) × IsMachine budget others cores) → ((i : ℕ) (c : RingCore) → slice_get cores i ≡ Some c → IsAtEnd (items_for i left) c)
+      by_machine : (cores : List RingCore) → ((budget : ℕ) × (others : List ℕ) × IsMachine budget others cores) → AreAllDone cores left
           → OfMachine cores Concludes → ListsRuns (histories_of cores) list → Said cores
       by_machine [] m ended computes lists = absurd m.2
       by_machine (first ∷ others) m ended computes lists =
@@ -128,9 +117,11 @@ module _ (budgets : List ℕ) (requests : List (ℕ × Op)) (jobs : List (ℕ ×
             delivers = joined_deliver m.0 m.1 first others list con lists;
             tables = joined_tables m.0 m.1 first others list con lists;
             begun_each = joined_begun m.0 m.1 first others list con lists;
+            decided_each = joined_decided m.0 m.1 first others list con lists;
             received_each = joined_received m.0 m.1 first others list con lists;
-            newest = joined_newest m.0 m.1 first others list con lists (idle_at first.cores first.part first.links (length m.1) first.clock con.end (ended 0 first refl).idle con.ends0);
+            newest = joined_newest m.0 m.1 first others list con lists (idle_at first.cores first.part first.links (length m.1) first.clock con.end (ended 0 first refl).at_end.idle con.ends0);
             none_begun = joined_none_begun m.0 m.1 first others list con lists;
+            none_decided = joined_none_decided m.0 m.1 first others list con lists;
             none_received = joined_none_received m.0 m.1 first others list con lists;
           }
 
@@ -149,7 +140,7 @@ module _ (budgets : List ℕ) (requests : List (ℕ × Op)) (jobs : List (ℕ ×
       → (core : ℕ) (job : Job) (later : List Job) → items_for core left ≡ job ∷ later → length (log_of list) < job.floor
   ended_left cores e computes lists core job later is = elim (cases_lt core (length budgets)) [
     | inl within ↦ (let c = get_at cores core (omega (arith, within, e.count)) in
-        let waits : (replica_of c.0.part).shown.version < job.floor = (e.ended core c.0 c.1).floor job later is in
+        let waits : (replica_of c.0.part).shown.version < job.floor = (e.done core c.0 c.1).at_end.floor job later is in
         let newest : (replica_of c.0.part).shown.version ≡ length (log_of list) = at_core cores core c.0 c.1 (said cores e computes lists).newest in
         omega (arith, waits, newest))
     | inr beyond ↦ absurd (let none : [] ≡ job ∷ later = sym (items_none core (length budgets) left e.left_inside beyond) ∙ is in cc)
@@ -167,6 +158,17 @@ module _ (budgets : List ℕ) (requests : List (ℕ × Op)) (jobs : List (ℕ ×
     | inl within ↦ (let c = get_at cores core (omega (arith, within, e.count)) in
         (said cores e computes lists).begun_each core c.0 c.1 ∙ e.begun_all core c.0 c.1)
     | inr beyond ↦ (said cores e computes lists).none_begun core (omega (arith, beyond, e.count)) ∙ sym (items_none core (length budgets) requests inside beyond)
+  ]
+
+  -- each request is decided
+  pub ended_decided : (cores : List RingCore) → All (λ (r : ℕ × Op). r.0 < length budgets) requests → HaveEnded budgets requests jobs cores left → OfMachine cores Concludes → ListsRuns (histories_of cores) list
+      → (core : ℕ) → length (decided_in core list) ≡ length (items_for core requests)
+  ended_decided cores inside e computes lists core = elim (cases_lt core (length budgets)) [
+    | inl within ↦ (let c = get_at cores core (omega (arith, within, e.count)) in
+        let its = e.done core c.0 c.1 in
+        let all : begun c.0.history ++ c.0.pending ≡ items_for core requests = ap (λ (rest : List Op). begun c.0.history ++ rest) its.at_end.pending ∙ (append-nil (begun c.0.history) ∙ e.begun_all core c.0 c.1) in
+        ap length ((said cores e computes lists).decided_each core c.0 c.1) ∙ (its.decided ∙ ap length all))
+    | inr beyond ↦ ap length ((said cores e computes lists).none_decided core (omega (arith, beyond, e.count))) ∙ sym (ap length (items_none core (length budgets) requests inside beyond))
   ]
 
   pub ended_received : (cores : List RingCore) → All (λ (j : ℕ × Job). j.0 < length budgets) jobs → HaveEnded budgets requests jobs cores left → OfMachine cores Concludes → ListsRuns (histories_of cores) list

@@ -31,7 +31,8 @@ use Rattle.core_join.specs.Conclusions.{Concludes, histories_of}
 use Rattle.core_join.specs.Merges.{ListsRuns}
 use Rattle.headline.specs.Headline.{ShowTables, begun_by, begun_in}
 use Rattle.world_model.specs.Committed.{Told, nothing_told, told_with, log_of}
-use Rattle.headline.specs.Starts.{events_at, started_for, submitted_by, submitted_in, StartOneByOne}
+use Rattle.headline.specs.Decided.{events_at}
+use Rattle.headline.specs.Starts.{started_for, submitted_by, submitted_in, StartOneByOne}
 use Rattle.headline.proofs.Ordering.{count_first, submitted_count}
 
 -- A take that is listed as short tells what it tells without

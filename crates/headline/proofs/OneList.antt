@@ -1,5 +1,5 @@
 -- What holds of the cores of a machine that were joined, by their one list of events.
-use Rattle.std.proofs.Common.{All, ◌≡◌, ◌==◌, ◌<◌, ◌≤◌, ◌∷◌, ◌⊎◌, inl, inr, ℕ, zero, suc, Bool, true, cond, Some, List, [], length, slice_get, get_or, refl, ap, sym, ◌∙◌, subst, arith}
+use Rattle.std.proofs.Common.{All, ◌≡◌, ◌==◌, ◌<◌, ◌≤◌, ◌∷◌, ◌⊎◌, inl, inr, ℕ, zero, suc, Bool, true, false, cond, Some, List, [], length, slice_get, get_or, refl, ap, sym, ◌∙◌, subst, arith}
 use Rattle.std.specs.Prelude.{option_map}
 use Rattle.std.proofs.lemmas.List.{length-map}
 use Rattle.std.proofs.lemmas.Option.{slice_get_within, slice_get-get_or}
@@ -23,7 +23,7 @@ use Rattle.world_model.proofs.RunLaws.{run_agrees, run_versions}
 use Rattle.world_model.proofs.Submissions.{eq_self, eq_other}
 use Rattle.world_histories.specs.declared.history.Stamped.{Stamped}
 use Rattle.world_histories.specs.Histories.{Other}
-use Rattle.world_histories.specs.Merging.{core_of, part, as_short, as_listed}
+use Rattle.world_histories.specs.Merging.{core_of, part, as_short, listed, as_listed}
 use Rattle.world_histories.proofs.Parts.{part_own, part_other}
 use Rattle.core_loop.specs.declared.part.Part.{Part}
 use Rattle.core_loop.specs.declared.part.Part.TheVariants as role
@@ -33,6 +33,8 @@ use Rattle.core_loop.specs.Receipts.{receives}
 use Rattle.core_join.specs.Machines.{RingCore}
 use Rattle.core_join.specs.Conclusions.{Concludes, StandsAtOther, IsIdle0, histories_of, version_of_core}
 use Rattle.core_join.specs.Merges.{ListsRuns, ListsRun}
+use Rattle.core_loop.specs.Answering.{own_decision, is_own, decisions_from, decisions}
+use Rattle.headline.specs.Decided.{events_at, decided_from, decided_in}
 use Rattle.headline.specs.Headline.{ShowTables, begun_by, begun_in, received_by, received_in}
 use Rattle.world_model.specs.Committed.{log_of}
 use Rattle.headline.specs.Shown.{replicas_of_cores}
@@ -136,6 +138,36 @@ received_part core (x ∷ xs) = by_core (same_or_not (core_of x.done.event) core
     by_core (inl own) rest = rw (received_own core x.done.event x.done.answer own, part_own core x xs own, rest) refl
     by_core (inr other) rest = rw (received_other core x.done.event x.done.answer other, part_other core x xs other) rest
 
+-- the events of a core are listed in its order, and tell of the same decisions
+core_same : (e : Event) (a : Answer) → core_of (as_short e a) ≡ core_of e
+core_same (Take to from short) (TookPrepare txn vote.NoMemory) = refl
+core_same e a = refl
+
+own_same : (own : Bool) (e : Event) (a : Answer) → own_decision own (as_short e a) a ≡ own_decision own e a
+own_same true (Take to from short) (TookPrepare txn vote.NoMemory) = refl
+own_same false (Take to from short) (TookPrepare txn vote.NoMemory) = refl
+own_same own e a = refl
+
+is_own_same : (own : Bool) (e : Event) (a : Answer) → is_own own (as_short e a) ≡ is_own own e
+is_own_same own (Take to from short) (TookPrepare txn vote.NoMemory) = refl
+is_own_same own e a = refl
+
+listed_part : (core : ℕ) (xs : List Stamped) → events_at core (as_listed xs) ≡ as_listed (part core xs)
+listed_part core [] = refl
+listed_part core (x ∷ xs) =
+    ap (λ (n : ℕ). cond (n == core) (listed x ∷ events_at core (as_listed xs)) (events_at core (as_listed xs))) (core_same x.done.event x.done.answer) ∙ by_test (core_of x.done.event == core) (listed_part core xs)
+  where
+    by_test : (b : Bool) → events_at core (as_listed xs) ≡ as_listed (part core xs) → cond b (listed x ∷ events_at core (as_listed xs)) (events_at core (as_listed xs)) ≡ as_listed (cond b (x ∷ part core xs) (part core xs))
+    by_test true rest = ap (λ (ds : List Done). listed x ∷ ds) rest
+    by_test false rest = rest
+
+decided_listed : (own : Bool) (xs : List Stamped) → decided_from own (as_listed xs) ≡ decisions_from own xs
+decided_listed own [] = refl
+decided_listed own (x ∷ xs) = rw (own_same own x.done.event x.done.answer, is_own_same own x.done.event x.done.answer, decided_listed (is_own own x.done.event) xs) refl
+
+decided_part : (core : ℕ) (events : List Stamped) → decided_in core (as_listed events) ≡ decisions (part core events)
+decided_part core events = ap (decided_from false) (listed_part core events) ∙ decided_listed false (part core events)
+
 pub history_at : (cores : List RingCore) (core : ℕ) (c : RingCore) → slice_get cores core ≡ Some c → slice_get (histories_of cores) core ≡ Some c.history
 history_at [] core c at = absurd cc
 history_at (x ∷ cores) zero c at = (let e : x ≡ c = cc in rw e refl)
@@ -157,6 +189,12 @@ pub joined_received : (budget : ℕ) (budgets : List ℕ) (first : RingCore) (ot
 joined_received budget budgets first others list con lists core c at =
     let l = one_list budget budgets first others list con lists in
     ap (received_in core) l.is_listed ∙ (received_part core l.merged ∙ ap receipts (of_history budget budgets first others list con l core c at))
+
+pub joined_decided : (budget : ℕ) (budgets : List ℕ) (first : RingCore) (others : List RingCore) (list : List Done) → Concludes budget budgets first others → ListsRuns (histories_of (first ∷ others)) list
+    → (core : ℕ) (c : RingCore) → slice_get (first ∷ others) core ≡ Some c → decided_in core list ≡ decisions c.history
+joined_decided budget budgets first others list con lists core c at =
+    let l = one_list budget budgets first others list con lists in
+    ap (decided_in core) l.is_listed ∙ (decided_part core l.merged ∙ ap decisions (of_history budget budgets first others list con l core c at))
 
 -- The list has no event of a core beyond them
 
@@ -183,3 +221,9 @@ pub joined_none_received : (budget : ℕ) (budgets : List ℕ) (first : RingCore
 joined_none_received budget budgets first others list con lists core beyond =
     let l = one_list budget budgets first others list con lists in
     ap (received_in core) l.is_listed ∙ (received_part core l.merged ∙ ap receipts (no_part budget budgets first others list con l core beyond))
+
+pub joined_none_decided : (budget : ℕ) (budgets : List ℕ) (first : RingCore) (others : List RingCore) (list : List Done) → Concludes budget budgets first others → ListsRuns (histories_of (first ∷ others)) list
+    → (core : ℕ) → length (first ∷ others) ≤ core → decided_in core list ≡ []
+joined_none_decided budget budgets first others list con lists core beyond =
+    let l = one_list budget budgets first others list con lists in
+    ap (decided_in core) l.is_listed ∙ (decided_part core l.merged ∙ ap decisions (no_part budget budgets first others list con l core beyond))

@@ -24,7 +24,8 @@ use Rattle.core_drive.specs.Steps.{IsOf, did, of_core}
 use Rattle.headline.specs.Headline.{begun_by, begun_in}
 use Rattle.world_model.specs.Committed.{Told, nothing_told, asked, committing, told_with, log_of}
 use Rattle.headline.specs.Served.{events_of}
-use Rattle.headline.specs.Starts.{events_at, started_for, submitted_by, submitted_in, StartOneByOne}
+use Rattle.headline.specs.Decided.{events_at}
+use Rattle.headline.specs.Starts.{started_for, submitted_by, submitted_in, StartOneByOne}
 
 -- The events of a core
 

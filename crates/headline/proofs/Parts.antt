@@ -18,7 +18,8 @@ use Rattle.world_histories.proofs.Lists.{found}
 use Rattle.world_histories.proofs.Parts.{placed}
 use Rattle.headline.specs.Headline.{ShowTables}
 use Rattle.world_model.specs.Committed.{log_of}
-use Rattle.headline.specs.Starts.{events_at, StartOneByOne}
+use Rattle.headline.specs.Decided.{events_at}
+use Rattle.headline.specs.Starts.{StartOneByOne}
 use Rattle.headline.proofs.Ordering.{at_own_first, at_other_first, at_more, Silent, silent_front, count_at, SameParts, commits0, log_parts}
 use Rattle.headline.proofs.Listed.{events_part}
 use Rattle.headline.proofs.Counts.{commits}

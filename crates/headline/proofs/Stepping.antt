@@ -37,7 +37,8 @@ use Rattle.core_join.proofs.Machines.{machine_ran}
 use Rattle.headline.specs.Headline.{begun_in}
 use Rattle.headline.specs.Shown.{replicas_of_cores}
 use Rattle.headline.specs.Served.{events_of}
-use Rattle.headline.specs.Starts.{events_at, StartOneByOne}
+use Rattle.headline.specs.Decided.{events_at}
+use Rattle.headline.specs.Starts.{StartOneByOne}
 use Rattle.headline.proofs.Ordering.{begun_at, AllOf, all_at, steps_own, steps_at, Silent, submits_parts, starts_parts, SameParts}
 use Rattle.headline.proofs.OneList.{joined_tables, joined_begun, joined_none_begun, none_beyond, history_at}
 use Rattle.core_join.proofs.Told.{joined_deliver}

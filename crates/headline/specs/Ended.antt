@@ -1,11 +1,11 @@
--- Cores that were threads and have ended with nothing to do.
+-- Cores that were threads, were settled, and have done their work.
 -- No public clause cites these.
 use Rattle.std.specs.Prelude.{◌≡◌, ◌<◌, ◌++◌, ℕ, All, List, Some, length, slice_get}
 use Rattle.filter_table.specs.declared.operation.Op.{Op}
 use Rattle.rx_queue.specs.declared.job.Job.{Job}
 use Rattle.core_loop.specs.Cores.{begun, receipts}
 use Rattle.core_join.specs.Machines.{RingCore}
-use Rattle.core_threads.specs.Ending.{IsAtEnd}
+use Rattle.core_threads.specs.Ending.{AreAllDone}
 use Rattle.core_boot.specs.Lanes.{items_for}
 use Rattle.core_boot.specs.Booting.{IsMachineOf}
 
@@ -16,4 +16,4 @@ pub record HaveEnded (budgets : List ℕ) (requests : List (ℕ × Op)) (jobs : 
   pub begun_all : (i : ℕ) (c : RingCore) → slice_get cores i ≡ Some c → begun c.history ≡ items_for i requests
   pub received_all : (i : ℕ) (c : RingCore) → slice_get cores i ≡ Some c → receipts c.history ++ items_for i left ≡ items_for i jobs
   pub left_inside : All (λ j. j.0 < length budgets) left
-  pub ended : (i : ℕ) (c : RingCore) → slice_get cores i ≡ Some c → IsAtEnd (items_for i left) c
+  pub done : AreAllDone cores left

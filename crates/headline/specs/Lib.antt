@@ -1,4 +1,5 @@
 pub mod Headline
+pub mod Decided
 pub mod Shown
 pub mod Ended
 pub mod Served

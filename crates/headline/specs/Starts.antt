@@ -1,17 +1,12 @@
 -- The order in which core 0 starts the requests of the other cores.
 -- No public clause cites these.
-use Rattle.std.specs.Prelude.{◌≡◌, ◌==◌, ◌+◌, ◌++◌, ℕ, List, [], ◌∷◌, length, filter, flat_map, count_by, if◌then◌else◌}
+use Rattle.std.specs.Prelude.{◌≡◌, ◌==◌, ◌+◌, ◌++◌, ℕ, List, [], ◌∷◌, length, flat_map, count_by, if◌then◌else◌}
 use Rattle.filter_table.specs.declared.operation.Op.{Op}
 use Rattle.world_events.specs.declared.event.Event.{Event}
 use Rattle.world_events.specs.declared.event.Event.TheVariants.{Submit, StartFor}
 use Rattle.world_events.specs.declared.event.Answer.{Answer}
 use Rattle.world_events.specs.declared.event.Done.{Done}
-use Rattle.world_histories.specs.Merging.{core_of}
 use Rattle.world_histories.specs.Answers.{begins_for}
-
--- the events of a core, in order
-abbrev pub events_at : ℕ → List Done → List Done
-events_at core events = filter (λ done. core_of done.event == core) events
 
 -- the requests that a core submits in these events, in order
 abbrev pub submitted_by : ℕ → Event → List Op

@@ -14,7 +14,7 @@ pub enum Fault {
     CoreCount,
     /// A core can't do its event, for this.
     Refused(WorldFault),
-    /// This core halted.
+    /// This core has no memory or no number for what it would do next, or it halted before a job that can be received was.
     Halted(u16),
     /// A thread could not be started.
     Spawn,

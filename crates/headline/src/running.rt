@@ -6,6 +6,7 @@ ghost use Rattle.world_model.specs.Decisions.{Delivers};
 ghost use Rattle.rx_queue.specs.declared.job.Job.{Job as GhostJob};
 ghost use Rattle.core_boot.specs.Lanes.{items_for};
 ghost use Rattle.headline.specs.declared.fault.Fault.TheVariants.{CoreCount, Halted};
+ghost use Rattle.headline.specs.Decided.{decided_in};
 ghost use Rattle.headline.specs.Headline.{ShowTables, AreEqualByVersion, begun_in, received_in};
 ghost use Rattle.world_model.specs.Committed.{log_of};
 ghost use Rattle.headline.specs.Ended.{HaveEnded};
@@ -15,7 +16,7 @@ use crate::joined::conclude_all;
 use crate::machine::Did;
 use core_join::Recorded;
 use core_loop::RingLinks;
-use core_threads::{BootFault, Free, boot, run_machine};
+use core_threads::{BootFault, Free, boot, run_to_rest};
 use filter_table::Op;
 use rx_queue::Job;
 use std::alloc::Global;
@@ -28,7 +29,9 @@ use std::time::Clock;
 /// a request of a core other than 0 has a program of at most 4,096 instructions. A core halts after `limit` turns in a row that
 /// did nothing.
 ///
-/// It gives what the cores did in one order, that of their clocks, and the jobs that are left, which wait for a later version.
+/// Where a core halts, the cores are settled once the threads are joined, so that each request is decided. It gives what the
+/// cores did in one order, that of their clocks, and the jobs that are left, which wait for a later version. Else it names the
+/// core that has no memory or no number for what it would do next, or that halted before a job which can be received was.
 pub fn threads<R: Threads + Wait + Clock + Sync>(
     rt: &R,
     alloc: Global,
@@ -47,12 +50,15 @@ pub fn threads<R: Threads + Wait + Clock + Sync>(
     ensures delivers { IfOk result (λ ran. Delivers (log_of ran.0.events.items) ran.0.events.items) }
     ensures newest { IfOk result (λ ran. All (λ replica. replica.shown.version ≡ length (log_of ran.0.events.items)) ran.0.replicas) }
 
+    // Each request is decided: the n-th decision of a core is that on its n-th request.
+    ensures decided { IfOk result (λ ran. (core : ℕ) → length (decided_in core ran.0.events.items) ≡ length (items_for core requests.items)) }
+
     // Of each core, each request is begun once, and each job is received or left once, in the order in which they were given.
     ensures begun { IfOk result (λ ran. (core : ℕ) → begun_in core ran.0.events.items ≡ items_for core requests.items) }
     ensures received { IfOk result (λ ran. (core : ℕ) → received_in core ran.0.events.items ++ items_for core ran.1.items ≡ items_for core jobs.items) }
     ensures left { IfOk result (λ ran. (core : ℕ) (job : GhostJob) (later : List GhostJob) → items_for core ran.1.items ≡ job ∷ later → length (log_of ran.0.events.items) < job.floor) }
 
-    // A core that halted is one of the machine's.
+    // A core that is named is one of the machine's.
     ensures halted { (core : ℕ) → result ≡ Err (Halted core) → core < length budgets.now }
 {
     let (cores, left) = run_cores(rt, alloc, budgets, requests, jobs, limit)?;
@@ -81,9 +87,9 @@ fn run_cores<R: Threads + Wait + Clock + Sync>(
         Err(BootFault::CoreCount) => return Err(Fault::CoreCount),
         Err(BootFault::NoMemory) => return Err(Fault::NoMemory),
     };
-    let ended = run_machine(rt, alloc, machine, jobs, &Free, limit)?;
-    match ended.halted {
+    let rested = run_to_rest(rt, alloc, machine, jobs, &Free, limit)?;
+    match rested.undone {
         Some((core, _)) => Err(Fault::Halted(core)),
-        None => Ok((ended.cores, ended.left)),
+        None => Ok((rested.cores, rested.left)),
     }
 }

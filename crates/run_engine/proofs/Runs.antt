@@ -21,6 +21,7 @@ use Rattle.core_join.specs.Merges.{ListsRuns}
 use Rattle.core_threads.specs.declared.halt.Halt.{Halt}
 use Rattle.core_boot.specs.Booting.{HaveRequests, IsMachineOf}
 use Rattle.core_threads.specs.Ending.{EndsRightly, IsAtEnd}
+use Rattle.core_threads.specs.Settling.{RunsToRest}
 use Rattle.core_boot.specs.Lanes.{items_for}
 use Rattle.world_model.specs.Committed.{log_of}
 use Rattle.core_join.proofs.Told.{joined_deliver}
@@ -46,8 +47,11 @@ core_did : (machine cores : List RingCore) (items : List Item) (left : List (ℕ
 core_did machine cores items left ends have i c at =
     let old = beside machine cores i c ends.all at in
     let core = ends.each i old.0 c old.1 at in
+    let its = ends.why i c at in
+    let none : begun c.history ++ c.pending ≡ begun c.history = ap (λ rest. begun c.history ++ rest) its.at_end.pending ∙ append-nil (begun c.history) in
     record {
-      requests = sym (append-nil (begun c.history)) ∙ ap (λ rest. begun c.history ++ rest) (sym (ends.why i c at).pending) ∙ core.requests ∙ have i old.0 old.1;
+      requests = sym none ∙ core.requests ∙ have i old.0 old.1;
+      decided = its.decided ∙ ap (λ (ops : List Op). length ops) none;
       jobs = core.received;
     }
 
@@ -60,28 +64,28 @@ done_by (budget ∷ others) items machine cores left is count have ends keeps = 
   are_budgets = refl;
   machine = keeps budget others is;
   work = core_did machine cores items left ends have;
-  ended = ends.why;
+  ended = λ i c at. (ends.why i c at).at_end;
   at_cores = subst (λ (n : ℕ). All (λ l. l.0 < n) left) (ends.all ∙ count) ends.inside;
 }
 
--- a machine that was booted with these requests ran with these jobs, and no core halted
-pub have_done : (budgets : List ℕ) (items : List Item) (requests : List (ℕ × Op)) (jobs : List (ℕ × Job)) (machine cores : List RingCore) (left : List (ℕ × Job)) (halted : Option (ℕ × Halt))
-    → requests ≡ requests_of items → jobs ≡ jobs_of items → halted ≡ None → IsMachineOf budgets machine → length machine ≡ length budgets → HaveRequests requests machine
-    → EndsRightly machine jobs cores left halted → ((budget : ℕ) (others : List ℕ) → IsMachine budget others machine → IsMachine budget others cores) → HaveDone budgets items cores left
-have_done budgets items requests jobs machine cores left halted are_requests are_jobs none is count have ends keeps =
+-- a machine that was booted with these requests ran with these jobs, and its work is done
+pub have_done : (budgets : List ℕ) (items : List Item) (requests : List (ℕ × Op)) (jobs : List (ℕ × Job)) (machine cores : List RingCore) (left : List (ℕ × Job)) (named : Option (ℕ × Halt))
+    → requests ≡ requests_of items → jobs ≡ jobs_of items → named ≡ None → IsMachineOf budgets machine → length machine ≡ length budgets → HaveRequests requests machine
+    → RunsToRest machine jobs cores left named → ((budget : ℕ) (others : List ℕ) → IsMachine budget others machine → IsMachine budget others cores) → HaveDone budgets items cores left
+have_done budgets items requests jobs machine cores left named are_requests are_jobs none is count have rests keeps =
     done_by budgets items machine cores left is count (subst (λ (rs : List (ℕ × Op)). HaveRequests rs machine) are_requests have)
-    (subst (λ (js : List (ℕ × Job)). EndsRightly machine js cores left None) are_jobs (subst (EndsRightly machine jobs cores left) none ends)) keeps
+    (subst (λ (js : List (ℕ × Job)). EndsRightly machine js cores left None) are_jobs (subst (RunsToRest machine jobs cores left) none rests)) keeps
 
--- such a machine ran, and a core halted
-pub has_halted : (budgets : List ℕ) (items : List Item) (requests : List (ℕ × Op)) (jobs : List (ℕ × Job)) (machine cores : List RingCore) (left : List (ℕ × Job)) (halted : Option (ℕ × Halt)) (core : ℕ) (why : Halt)
-    → requests ≡ requests_of items → jobs ≡ jobs_of items → halted ≡ Some (core, why) → IsMachineOf budgets machine → HaveRequests requests machine → EndsRightly machine jobs cores left halted → HasHalted budgets items core why
-has_halted budgets items requests jobs machine cores left halted core why are_requests are_jobs is machine_is have ends = record {
+-- such a machine ran, and its work is not done
+pub has_halted : (budgets : List ℕ) (items : List Item) (requests : List (ℕ × Op)) (jobs : List (ℕ × Job)) (machine cores : List RingCore) (left : List (ℕ × Job)) (named : Option (ℕ × Halt)) (core : ℕ) (why : Halt)
+    → requests ≡ requests_of items → jobs ≡ jobs_of items → named ≡ Some (core, why) → IsMachineOf budgets machine → HaveRequests requests machine → RunsToRest machine jobs cores left named → HasHalted budgets items core why
+has_halted budgets items requests jobs machine cores left named core why are_requests are_jobs is machine_is have rests = record {
   machine = machine;
   cores = cores;
   left = left;
   is_machine = machine_is;
   has_requests = subst (λ (rs : List (ℕ × Op)). HaveRequests rs machine) are_requests have;
-  ended = subst (λ (js : List (ℕ × Job)). EndsRightly machine js cores left (Some (core, why))) are_jobs (subst (EndsRightly machine jobs cores left) is ends);
+  rests = subst (λ (js : List (ℕ × Job)). RunsToRest machine js cores left (Some (core, why))) are_jobs (subst (RunsToRest machine jobs cores left) is rests);
 }
 
 -- core 0's history ends where no request is being decided

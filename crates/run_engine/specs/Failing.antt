@@ -6,7 +6,7 @@ use Rattle.core_boot.specs.Booting.{IsMachineOf, HaveRequests}
 use Rattle.core_threads.specs.declared.halt.Halt.{Halt}
 use Rattle.core_threads.specs.declared.halt.RunFault.{RunFault}
 use Rattle.core_threads.specs.declared.halt.RunFault.TheVariants as run_fault
-use Rattle.core_threads.specs.Ending.{EndsRightly}
+use Rattle.core_threads.specs.Settling.{RunsToRest}
 use Rattle.mk_script.specs.declared.script.Item.{Item}
 use Rattle.mk_script.specs.declared.script.Script.{Script}
 use Rattle.mk_script.specs.Scripts.{Stands}
@@ -25,14 +25,15 @@ abbrev pub IsFault : RunFault → RunFailure → Type 0
 IsFault run_fault.Spawn failure = failure ≡ Spawn
 IsFault run_fault.NoMemory failure = failure ≡ Engine NoMemory
 
--- cores that were booted with these budgets and the requests of these items ran with their jobs, and ended so: this core halted, for this
+-- cores that were booted with these budgets and the requests of these items ran with their jobs, and were settled; the work isn't done, for this
+-- core, and this
 pub record HasHalted (budgets : List ℕ) (items : List Item) (core : ℕ) (why : Halt) : Type 0 where
   pub machine : List RingCore
   pub cores : List RingCore
   pub left : List (ℕ × Job)
   pub is_machine : IsMachineOf budgets machine
   pub has_requests : HaveRequests (requests_of items) machine
-  pub ended : EndsRightly machine (jobs_of items) cores left (Some (core, why))
+  pub rests : RunsToRest machine (jobs_of items) cores left (Some (core, why))
 
 -- A run of cores reads nothing and writes nothing: of an engine's faults it has NoMemory alone. No public clause cites this,
 -- nor the next.
@@ -41,7 +42,7 @@ IsOfCores budgets items (Engine fault) = fault ≡ NoMemory
 IsOfCores budgets items Spawn = ⊤
 IsOfCores budgets items (Halted core why) = HasHalted budgets items core why
 
--- where a core halted, it was a core of this script, and did so
+-- where a core is named, it is one of this script's, and the work isn't done for it
 abbrev pub HaltsOf : Script → RunFailure → Type 0
 HaltsOf script (Halted core why) = HasHalted script.budgets script.items core why
 HaltsOf script failure = ⊤

@@ -8,6 +8,7 @@ use Rattle.world_model.specs.Decisions.{Delivers}
 use Rattle.world_histories.specs.declared.history.Stamped.{Stamped}
 use Rattle.world_histories.specs.Histories.{Core0, Other, Computation}
 use Rattle.world_histories.specs.Merging.{Merged, as_listed}
+use Rattle.core_loop.specs.Answering.{decisions}
 use Rattle.core_loop.specs.Cores.{begun, receipts}
 use Rattle.core_boot.specs.Lanes.{items_for}
 use Rattle.world_model.specs.Committed.{log_of}
@@ -22,9 +23,11 @@ use Rattle.console.specs.Reading.{ShowsTooLong}
 use Rattle.script_input.specs.Inputs.{AllShort, SomeLong}
 use Rattle.run_engine.specs.Work.{requests_of, jobs_of}
 
--- the core began all requests that the script has for it, in order, and received the jobs that it has for it, in order, but for those left
+-- The core began all requests that the script has for it, in order, and each is decided: the n-th decision is that on the n-th request. It
+-- received the jobs that the script has for it, in order, but for those left.
 pub record DidItsWork (items : List Item) (left : List (ℕ × Job)) (core : ℕ) (history : List Stamped) : Type 0 where
   pub requests : begun history ≡ items_for core (requests_of items)
+  pub decided : length (decisions history) ≡ length (begun history)
   pub jobs : receipts history ++ items_for core left ≡ items_for core (jobs_of items)
 
 -- Cores with these budgets did the script's work, and these jobs are left. Core 0's history and the others' are a computation, at whose end

@@ -15,7 +15,7 @@ use crate::lines::{push_all_left, push_events};
 use crate::work::{Work, work_of};
 use console::{EngineFault, Sink, Source, refuse_long, write_bytes};
 use core_join::{conclude, in_order};
-use core_threads::{BootFault, Ended, Gate, Halt, RunFault, boot, run_machine};
+use core_threads::{BootFault, Gate, Halt, Rested, RunFault, boot, run_to_rest};
 use mk_script::{Item, Script, read_script};
 use script_input::{read_inputs, refuse};
 use seq::Shared;
@@ -32,7 +32,9 @@ pub enum RunFailure {
     Engine(EngineFault),
     /// A thread could not be started.
     Spawn,
-    /// This core halted before the work was done.
+    /// The work isn't done, for this core: the machine was settled once its threads were joined, and the core had no
+    /// memory or no number left for what it would do next. Or all requests are decided, and a job is left that can be
+    /// received, since this core had halted.
     Halted(u16, Halt),
 }
 
@@ -79,8 +81,9 @@ impl From<RunFault> for RunFailure {
 /// or a file of more than 64 MiB only `fault InputTooLong` is printed, status 1. The gate is asked before each receipt, and told
 /// after it.
 ///
-/// Nothing is written before the run has ended, and nothing where it halted, or where an input or memory failed. Where a write
-/// fails, a front of the text may have been written.
+/// Where a core halts, since memory ran out in its thread, the machine is settled once the threads are joined, so that each
+/// request is decided. Nothing is written before the run has ended, and nothing where its work isn't done, or where an input or
+/// memory failed. Where a write fails, a front of the text may have been written.
 pub fn run_run<T: Threads + Wait + Clock + Sync, G: Gate + Sync, R: Read, F: Read, W: Write>(
     rt: &T,
     alloc: Global,
@@ -166,8 +169,8 @@ fn text_of_run<T: Threads + Wait + Clock + Sync, G: Gate + Sync>(
     ensures failure { IfErr result (IsOfCores script.budgets script.items) }
 {
     let Script { budgets, items } = script;
-    let ended = run_cores(rt, alloc, gate, budgets.as_slice(), items.into_vec())?;
-    let Ended { cores, left, .. } = ended;
+    let rested = run_cores(rt, alloc, gate, budgets.as_slice(), items.into_vec())?;
+    let Rested { cores, left, .. } = rested;
     let histories = conclude(alloc, cores)?;
     let events = in_order(alloc, &histories)?;
     let mut text = String::new(alloc);
@@ -183,11 +186,11 @@ fn run_cores<T: Threads + Wait + Clock + Sync, G: Gate + Sync>(
     gate: &G,
     budgets: &[u32],
     items: Vec<Item>,
-) -> Result<Ended, RunFailure>
+) -> Result<Rested, RunFailure>
     requires count { (1 ≤ length budgets.now) × (length budgets.now ≤ 8) }
     requires limited { All IsLimited items.items }
     requires at_cores { All (IsForThreads (length budgets.now)) items.items }
-    ensures done { IfOk result (λ ended. HaveDone budgets.now items.items ended.cores.items ended.left.items) }
+    ensures done { IfOk result (λ rested. HaveDone budgets.now items.items rested.cores.items rested.left.items) }
     ensures failure { IfErr result (IsOfCores budgets.now items.items) }
 {
     let Work { requests, jobs } = work_of(alloc, items, budgets.len())?;
@@ -196,9 +199,9 @@ fn run_cores<T: Threads + Wait + Clock + Sync, G: Gate + Sync>(
         Err(BootFault::CoreCount) => unreachable!(),
         Err(BootFault::NoMemory) => return Err(RunFailure::Engine(EngineFault::NoMemory)),
     };
-    let ended = run_machine(rt, alloc, machine, jobs, gate, u64::MAX)?;
-    match ended.halted {
+    let rested = run_to_rest(rt, alloc, machine, jobs, gate, u64::MAX)?;
+    match rested.undone {
         Some((core, why)) => Err(RunFailure::Halted(core, why)),
-        None => Ok(ended),
+        None => Ok(rested),
     }
 }

@@ -6,12 +6,12 @@ use Rattle.headline.proofs.running.run_cores.Goals as goal
 pub boot-requires-clause-short : goal.boot-requires-clause-short
 boot-requires-clause-short g c = givable c.args.requests.items c.requires.short
 
-pub run_machine-requires-after_bounds : goal.run_machine-requires-after_bounds
-run_machine-requires-after_bounds g c =
+pub run_to_rest-requires-after_bounds : goal.run_to_rest-requires-after_bounds
+run_to_rest-requires-after_bounds g c =
     let inside = subst (λ (n : ℕ). All (λ (j : ℕ × Job). j.0 < n) c.args.jobs.items) (sym c.in-Ok.ensures.cores) c.requires.jobs in
     search inside
 
 pub returns-in-None-clause-ended : goal.returns-in-None-clause-ended
 returns-in-None-clause-ended g c =
-    have_ended c.args.budgets.now c.args.requests.items c.args.jobs.items c.in-Ok.machine.cores c.in_ok-ended.ended.cores.items c.in_ok-ended.ended.left.items c.in_ok-ended.ended.halted
-    c.in-None.is c.in-Ok.ensures.machine c.in-Ok.ensures.cores c.in-Ok.ensures.requests c.in_ok-ended.ensures.ended c.in_ok-ended.ensures.machine
+    have_ended c.args.budgets.now c.args.requests.items c.args.jobs.items c.in-Ok.machine.cores c.in_ok-rested.rested.cores.items c.in_ok-rested.rested.left.items c.in_ok-rested.rested.undone
+    c.in-None.is c.in-Ok.ensures.machine c.in-Ok.ensures.cores c.in-Ok.ensures.requests c.in_ok-rested.ensures.rests c.in_ok-rested.ensures.machine

@@ -1,4 +1,4 @@
-use Rattle.headline.proofs.Ending.{ended_machine, ended_deliver, ended_tables, ended_newest, ended_left, ended_begun, ended_received, count_replicas}
+use Rattle.headline.proofs.Ending.{ended_machine, ended_deliver, ended_tables, ended_newest, ended_left, ended_begun, ended_decided, ended_received, count_replicas}
 use Rattle.headline.proofs.Shown.{equal_shown}
 use Rattle.headline.proofs.running.threads.Goals as goal
 
@@ -28,6 +28,10 @@ returns-clause-delivers g c =
 pub returns-clause-begun : goal.returns-clause-begun
 returns-clause-begun g c =
     ended_begun c.args.budgets.now c.args.requests.items c.args.jobs.items c.in_ok-cores.left.items c.in_ok-did.did.events.items c.in_ok-cores.cores.items c.requires.requests c.in_ok-cores.ensures.ended c.in_ok-did.ensures.concludes c.in_ok-did.ensures.list
+
+pub returns-clause-decided : goal.returns-clause-decided
+returns-clause-decided g c =
+    ended_decided c.args.budgets.now c.args.requests.items c.args.jobs.items c.in_ok-cores.left.items c.in_ok-did.did.events.items c.in_ok-cores.cores.items c.requires.requests c.in_ok-cores.ensures.ended c.in_ok-did.ensures.concludes c.in_ok-did.ensures.list
 
 pub returns-clause-received : goal.returns-clause-received
 returns-clause-received g c =
