@@ -128,6 +128,19 @@ fn threads_end_at_one_version(rt: HostRuntime) {
     drop((did, left));
 }
 
+/// Each core halts after one idle turn. What they had not decided is decided once they are joined.
+#[test]
+fn requests_are_decided_after_cores_halt(rt: HostRuntime) {
+    let requests = requests(&rt, rt.alloc());
+    let none = Vec::new(rt.alloc());
+    let ran = threads(&rt, rt.alloc(), &[100, 100], requests, none, 1);
+    let (did, left) = ran.expect(&rt, "the cores are settled");
+    equal(&rt, last_version(&did.replicas, 0), Some(2));
+    equal(&rt, last_version(&did.replicas, 1), Some(2));
+    equal(&rt, left.len(), 0);
+    drop((did, left));
+}
+
 /// A step of core 0.
 fn of_core_0(task: Task) -> CoreStep
     ensures core { result.core ≡ 0 }
