@@ -108,7 +108,7 @@ static double with_neighbours(const char *name, int place, double alone)
     return most;
 }
 
-/* Boots a machine of one core with an endpoint for each domain, and so many filters of the first. Gives what a packet for one of these takes. */
+/* Boots a machine of one core with an endpoint for each domain, and so many filters of the first. Gives the time of a packet for one. */
 static double alone_time(uint32_t filters)
 {
     uint32_t budget = 1u << 20;
@@ -139,7 +139,7 @@ static void with_revoked(void)
     }
     printf("and %d of another domain, of %d instructions: %.0f\n", REVOKED, LONG, packet_time(BESIDE, FEW_PACKETS) / alone);
     decided(mkdemux_ask_drop(&core, 2, 2));
-    printf("once their capability is dropped: %.2f\n", packet_time(BESIDE, FEW_PACKETS) / alone);
+    printf("once their capability is dropped: %.2f\n", packet_time(BESIDE, PACKETS) / alone);
     mkdemux_close(&core);
 }
 
