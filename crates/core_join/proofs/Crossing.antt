@@ -9,7 +9,7 @@ use Rattle.std.proofs.vec.Vec.TheSendSync as vec
 use Rattle.std.proofs.collections.VecDeque.TheSendSync as deque
 use Rattle.std.specs.contracts.snapshot.Snapshot as snapshot
 use Rattle.endpoint_caps.proofs.table.Caps.TheSendSync as caps
-use Rattle.filter_group.proofs.programs.Programs.TheSendSync as programs
+use Rattle.table_replica.proofs.programs.KeptPrograms.TheSendSync as programs
 use Rattle.table_replica.proofs.filters.Row.TheSendSync as row
 use Rattle.table_replica.proofs.reaches.Reach.TheSendSync as reach
 use Rattle.table_replica.proofs.reaches.Chains.TheSendSync as chains
@@ -41,7 +41,7 @@ snapshot_send : (R : RattleType) → IsSend (snapshot.the_row R)
 snapshot_send R = record { owned = λ d vs. ((λ vss. (tt, ((λ uss. (tt, tt)), tt))), tt); leaving = λ k f vs. tt }
 
 filters_send : IsSend filters.the_row
-filters_send = search (sendable, heap.the_send, blocks.the_frees, vec.the_send, snapshot_send, programs.the_send, row.the_send, reach.the_send, chains.the_send) depth 14
+filters_send = search (sendable, heap.the_send, blocks.the_frees, vec.the_send, snapshot_send, programs.the_field_send, row.the_send, reach.the_send, chains.the_send) depth 14
 
 contents_send : IsSend contents.the_row
 contents_send = search (sendable, caps.the_send, filters_send) depth 14
