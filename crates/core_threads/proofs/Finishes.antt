@@ -1,12 +1,12 @@
 -- What the joined threads come to.
-use Rattle.std.proofs.Common.{All, ◌≡◌, ◌<◌, ℕ, suc, length, List, inl, inr, Option, Some, None, slice_get, map, sym, ap, ◌∙◌, subst, arith, rules, MatchOption}
+use Rattle.std.proofs.Common.{All, ◌≡◌, ◌<◌, ℕ, length, List, inl, inr, Option, Some, None, slice_get, map, sym, ap, ◌∙◌, subst, arith, rules, MatchOption}
 use Rattle.std.proofs.lemmas.List.{length-map, map-id}
 use Rattle.world_model.proofs.Lists.{get_map}
 use Rattle.rx_queue.specs.declared.job.Job.{Job}
 use Rattle.rx_queue.specs.declared.intake.Intake.{Intake}
 use Rattle.rx_queue.specs.Queue.{SameIntake}
 use Rattle.core_links.specs.RingSlots.{ring_view}
-use Rattle.core_join.specs.Machines.{RingCore, IsMachine, AreSameCores}
+use Rattle.core_join.specs.Machines.{RingCore, IsMachine}
 use Rattle.core_join.specs.Looking.{AreLookedAt}
 use Rattle.core_join.specs.Conclusions.{AreRunning}
 use Rattle.core_join.proofs.Machines.{machine_ran}

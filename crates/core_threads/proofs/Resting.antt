@@ -1,6 +1,6 @@
 -- Cores that were settled after they were joined.
 use Rattle.std.proofs.Common.{◌≡◌, ◌∙◌, ◌↔◌, ◌<◌, ◌≤◌, ◌⊎◌, ◌++◌, inl, inr, All, ℕ, zero, suc, Bool, List, [], ◌∷◌, Option, Some, None, map, slice_get, get_or, length, take, drop, refl, sym, ap, subst, arith}
-use Rattle.std.specs.Prelude.{IsTrue, IfNone, IfSome}
+use Rattle.std.specs.Prelude.{IsTrue, IfSome}
 use Rattle.std.proofs.lemmas.Bool.{cases_lt}
 use Rattle.std.proofs.lemmas.List.{map-id}
 use Rattle.std.proofs.lemmas.Option.{slice_get_within, slice_get-get_or}
