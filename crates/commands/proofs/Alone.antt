@@ -3,7 +3,7 @@ use Rattle.std.proofs.Common.{◌≡◌, ◌++◌, [], ℕ, Option, List, Result
 use Rattle.std.specs.Prelude.{IfErr, IsErrOf}
 use Rattle.std.proofs.lemmas.List.{append-nil}
 use Rattle.command_line.specs.declared.request.Request.{Request}
-use Rattle.command_line.specs.declared.request.Request.TheVariants.{Match, MatchView, Explain, Keep, Check, Graph, Dump, Sim, Run, Draw}
+use Rattle.command_line.specs.declared.request.Request.TheVariants.{Match, View, Explain, Keep, Check, Graph, Dump, Sim, Run, Draw}
 use Rattle.console.specs.declared.source.Source.{Source}
 use Rattle.console.specs.declared.sink.Sink.{Sink}
 use Rattle.console.specs.declared.fault.EngineFault.{EngineFault}
@@ -18,7 +18,7 @@ use Rattle.commands.specs.Commands.{IsFailure, Shows, ShowsAlone, ShowsText}
 pub shown_alone : {R F : Type 0} (request : Request) (link : Option ℕ) (remaining : R → Option (List ℕ)) (old new : Source R) (left : F → Option (List ℕ)) (captures captures' : List (Source F)) (status : ℕ) (text line : List ℕ)
     → ShowsAlone request link remaining old new status text line → Shows request link remaining old new left captures captures' status text line
 shown_alone (Match code pcap stream) link remaining old new left captures captures' status text line s = s
-shown_alone (MatchView code pcap view) link remaining old new left captures captures' status text line s = s
+shown_alone (View code pcap view) link remaining old new left captures captures' status text line s = s
 shown_alone (Explain code) link remaining old new left captures captures' status text line s = s
 shown_alone (Keep code inverted) link remaining old new left captures captures' status text line s = s
 shown_alone (Check asm) link remaining old new left captures captures' status text line s = s
@@ -31,7 +31,7 @@ shown_alone (Run files) link remaining old new left captures captures' status te
 -- a request whose text is all that is shown has no line on standard error
 text_alone : {R : Type 0} (request : Request) (link : Option ℕ) (remaining : R → Option (List ℕ)) (old new : Source R) (status : ℕ) (text : List ℕ) → ShowsText request link remaining old new status text → ShowsAlone request link remaining old new status text []
 text_alone (Match code pcap stream) link remaining old new status text s = (refl, s)
-text_alone (MatchView code pcap view) link remaining old new status text s = (refl, s)
+text_alone (View code pcap view) link remaining old new status text s = (refl, s)
 text_alone (Explain code) link remaining old new status text s = (refl, s)
 text_alone (Keep code inverted) link remaining old new status text s = absurd s
 text_alone (Check asm) link remaining old new status text s = (refl, s)
@@ -59,7 +59,7 @@ shows_script (Err e) contents from to before Text s = tt
 -- an engine's fault is a failure of each request
 is_failure : (request : Request) (fault : EngineFault) → IsFailure request (Engine fault)
 is_failure (Match code pcap stream) fault = (fault, refl)
-is_failure (MatchView code pcap view) fault = (fault, refl)
+is_failure (View code pcap view) fault = (fault, refl)
 is_failure (Explain code) fault = (fault, refl)
 is_failure (Keep code inverted) fault = (fault, refl)
 is_failure (Check asm) fault = (fault, refl)

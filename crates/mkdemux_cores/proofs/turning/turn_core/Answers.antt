@@ -31,12 +31,12 @@ returns-clause-turned c =
       full = e.full;
       dry = e.dry;
     } in
-    let answer : c.match-turn.result ≡ turn_answer turn = elim c.match-turn.branch [
-      | in-Did w ↦ w.result-is ∙ sym (ap turn_answer w.in-Did.is)
-      | in-Idle w ↦ w.result-is ∙ sym (ap turn_answer w.in-Idle.is)
-      | in-Stopped w ↦ w.result-is ∙ sym (ap turn_answer w.in-Stopped.is)
-      | in-Spent w ↦ w.result-is ∙ sym (ap turn_answer w.in-Spent.is)
-      | in-NoMemory w ↦ w.result-is ∙ sym (ap turn_answer w.in-NoMemory.is)
+    let answer : c.match-turn.answer ≡ turn_answer turn = elim c.match-turn.branch [
+      | in-Did w ↦ w.answer-is ∙ sym (ap turn_answer w.in-Did.is)
+      | in-Idle w ↦ w.answer-is ∙ sym (ap turn_answer w.in-Idle.is)
+      | in-Stopped w ↦ w.answer-is ∙ sym (ap turn_answer w.in-Stopped.is)
+      | in-Spent w ↦ w.answer-is ∙ sym (ap turn_answer w.in-Spent.is)
+      | in-NoMemory w ↦ w.answer-is ∙ sym (ap turn_answer w.in-NoMemory.is)
     ] in
     let report : c.match-turn.turned ≡ turn_report number turn = elim c.match-turn.branch [
       | in-Did w ↦ w.turned-is ∙ w.report.ensures ∙ sym (ap (turn_report number) w.in-Did.is)
