@@ -67,6 +67,10 @@ said_reported number (Some (Refused core (veto.Rule fault))) woken more = refl
 said_reported number (Some (Refused core veto.Budget)) woken more = refl
 said_reported number (Some (Refused core veto.NoMemory)) woken more = refl
 
+-- 1 after an answer with which a further turn may do something
+abbrev pub more_for : ℕ → ℕ
+more_for answer = cond ((answer == DONE) || (answer == NO_MEMORY)) 1 0
+
 -- what C is told of the turn, with whom it woke and whether there is more
 abbrev pub turn_told : ℕ → Turn → ℕ → ℕ → Turned
 turn_told number turn woken more = record (turn_report number turn) { woken = woken; more = more }
@@ -151,7 +155,7 @@ module _ (old new : RingCore) (number woken more : ℕ) (counts : IsNumber numbe
   lacks_memory Spent e = absurd (omega (arith, e))
 
   pub has_turned : (turn : Turn) → Says turn old new → woken ≡ bits_below new.cores (λ p. (ring_flow new.links p).moved)
-      → more ≡ cond ((turn_answer turn == DONE) || (turn_answer turn == NO_MEMORY)) 1 0 → HasTurned (turn_answer turn) (turn_told number turn woken more) old new
+      → more ≡ more_for (turn_answer turn) → HasTurned (turn_answer turn) (turn_told number turn woken more) old new
   has_turned turn says bits further = record {
     same = says.core;
     requests = says.requests;

@@ -2,7 +2,7 @@ use Rattle.std.proofs.Common.{◌≡◌, ℕ, refl, sym, ap, ◌∙◌, subst}
 use Rattle.core_join.specs.Machines.{RingCore}
 use Rattle.mkdemux_cores.specs.declared.turned.Turned.{Turned}
 use Rattle.mkdemux_cores.specs.Turns.{HasTurned}
-use Rattle.mkdemux_cores.proofs.Telling.{Says, turn_answer, turn_report, has_turned}
+use Rattle.mkdemux_cores.proofs.Telling.{Says, more_for, turn_answer, turn_report, has_turned}
 use Rattle.mkdemux_cores.proofs.turning.turn_core.Goals.{in-Did, in-Idle, in-Stopped, in-Spent, in-NoMemory}
 use Rattle.mkdemux_cores.proofs.turning.turn_core.Goals as goal
 
@@ -45,6 +45,7 @@ returns-clause-turned c =
       | in-Spent w ↦ w.turned-is ∙ sym (ap (turn_report number) w.in-Spent.is)
       | in-NoMemory w ↦ w.turned-is ∙ sym (ap (turn_report number) w.in-NoMemory.is)
     ] in
-    let woken = c.woken.result in let more = c.more_after.result in
+    let woken = c.woken-turned.result in let more = c.more_after-turned.result in
+    let further : more ≡ more_for (turn_answer turn) = subst (λ (n : ℕ). more ≡ more_for n) answer c.more_after-turned.ensures in
     subst (λ (n : ℕ). HasTurned n (record c.match-turn.turned { woken = woken; more = more }) old new) (sym answer) (subst (λ (t : Turned). HasTurned (turn_answer turn) (record t { woken = woken; more = more }) old new) (sym report)
-    (has_turned old new number woken more c.decided-number.ensures turn says c.woken.ensures (rw answer at c.more_after.ensures)))
+    (has_turned old new number woken more c.decided-number.ensures turn says c.woken-turned.ensures further))
