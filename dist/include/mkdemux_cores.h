@@ -188,20 +188,25 @@ typedef struct mkdemux_turned {
     uint32_t core;     /* REFUSED: 0. VETOED: the lowest-numbered core that says so */
     uint64_t request;  /* of a DECISION: the number of the request that it is on, from 1 in the order in which this
                           core was asked */
+    uint64_t woken;    /* the cores that this turn sent something, or made room for: 1 << i for core i. These may
+                          now do what they couldn't */
+    uint32_t more;     /* 1: a further turn of this core may do something by itself. 0: it can't */
 } mkdemux_turned;
 
 /* Does at most one thing: takes a message from another core, or else begins the core's next request.
  * Each turn, even one that answers IDLE, also passes on the messages that the core has to send and fetches
  * those sent to it, a long message in parts. So all cores may answer IDLE, more than once, while a request
- * is open: go on turning each of them. A core that is turned until it has answered, and then no more, may
- * keep its message.
+ * is open. A core has to be turned after it was asked, after `woken` of another core's turn named it, and
+ * after a turn of its own with `more`; otherwise its thread may sleep. Who turns cores in a loop needs neither.
  * OK: `turned` says what it did. The n-th DECISION of a core is on its n-th request. IDLE: no message was
  * complete, and no request could begin. NO_MEMORY: nothing was done; a later turn may do it. STOPPED,
  * SPENT: nothing was done, nor will a later turn do anything.
  * Proved: with OK the core went on by one event of the protocol, and a reported decision is the one on its
  * oldest request that had none, with that decision's number, version, id, rule, place and core; STOPPED, SPENT and
- * NO_MEMORY are answered only for a cause that holds. `turned` is written, except for a closed core. Takes
- * memory. */
+ * NO_MEMORY are answered only for a cause that holds. `woken` names each core that got a line or room from this
+ * turn, and, unless the core had stopped before, no other; `more` is 1 exactly for OK and NO_MEMORY; with IDLE, what
+ * waits to go out waits for room, and all that had come has been read, unless a message waits for such room.
+ * `turned` is written, except for a closed core. Takes memory. */
 uint32_t mkdemux_turn(mkdemux_core *core, mkdemux_turned *turned);
 
 /* Turns all cores of one machine, round by round, until nothing is left to do. It waits for nobody, so it ends.
