@@ -870,7 +870,7 @@ static void says(void)
     CHECK(!strcmp(mkdemux_core_rule_word(MKDEMUX_RULE_MEMORY), "NoMemory"));
     CHECK(!strcmp(mkdemux_core_rule_word(MKDEMUX_RULE_BAD_PROGRAM + 9), "BadProgram"));
     CHECK(!strcmp(mkdemux_core_rule_word(0), "?") && !strcmp(mkdemux_core_rule_word(15), "?"));
-    CHECK(sizeof(mkdemux_turned) == 40 && sizeof(struct mkdemux_kept) == 8 && sizeof(struct mkdemux_insn) == 8);
+    CHECK(sizeof(mkdemux_turned) == 56 && sizeof(struct mkdemux_kept) == 8 && sizeof(struct mkdemux_insn) == 8);
 }
 
 /* ---- Memory refused ---- */

@@ -335,7 +335,7 @@ static void look(struct lane *lane, const struct request **next)
         struct asked *asked = &lane->asked[i];
         mkdemux_turned turned = judge(&asked->request);
         turned.request = i + 1;
-        if (memcmp(&turned, &asked->turned, sizeof turned))
+        if (memcmp(&turned, &asked->turned, offsetof(mkdemux_turned, woken))) /* whom a turn wakes is not the model's */
             continue;
         CHECK(lane, turned.decision != MKDEMUX_COMMITTED || !*next);
         asked->is_right = true;
