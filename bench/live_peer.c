@@ -616,8 +616,8 @@ static void *turn_when_rung(void *argument)
 {
     struct thread *thread = argument;
     while (!atomic_load_explicit(&stop, memory_order_relaxed)) {
+        turn_and_ring(thread->number); /* first, since booting may have left something to do */
         sleep_at(thread->number);
-        turn_and_ring(thread->number);
     }
     return NULL;
 }
@@ -642,6 +642,7 @@ static void measure_asleep(size_t count, size_t asker, int rounds)
     for (size_t i = 0; i < count; i++)
         if (i != asker && pthread_create(&threads[i].id, NULL, turn_when_rung, &threads[i]))
             die("no thread");
+    turn_and_ring(asker);
     for (int done = 0; done < rounds; done++) {
         const struct bpf_program *program = &programs[16 + done % 2];
         double begin = now();
