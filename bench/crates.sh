@@ -21,14 +21,33 @@ build_library() {
     }
 }
 
-# build_program FOLDER NAME LINE CRATE..: proves and builds the program of NAME.rattle, with the proofs of NAME.proofs if it needs some, over
-# these crates; LINE is what crates.txt says of it.
+# needed LINE: the crates of the repository that a crate with this line of crates.txt stands on, in the order of crates.txt.
+needed() {
+    python3 - "$here/../crates.txt" "$1" <<'EOF'
+import sys
+stands_on = {}
+for line in open(sys.argv[1]):
+    names, colon, below = line.partition(":")
+    if colon and not line.startswith("#"):
+        stands_on[names.split()[0]] = below.split()
+wanted, open_now = set(), sys.argv[2].partition(":")[2].split()
+while open_now:
+    name = open_now.pop()
+    if name in stands_on and name not in wanted:
+        wanted.add(name)
+        open_now += stands_on[name]
+print(" ".join(name for name in stands_on if name in wanted))
+EOF
+}
+
+# build_program FOLDER NAME LINE: proves and builds the program of NAME.rattle, with the proofs of NAME.proofs if it needs some. LINE is what
+# crates.txt says of it: options, a colon, and the crates that it names.
 # Takes what the repository's own checks have kept of the crates. From nothing, their proofs take half an hour to an hour.
 build_program() {
     work=$1
     program=$2
     line=$3
-    shift 3
+    set -- $(needed "$line")
     take_crates "$work" "$@"
     for name in "$@"; do
         kept=$here/../crates/$name/out

@@ -9,8 +9,5 @@ set -e
 here=$(cd "$(dirname "$0")" && pwd)
 work=${1:-$(mktemp -d)}
 . "$here/crates.sh"
-build_program "$work" loop ': seq bpf_insn pcap_reader rx_queue table_replica ump_ring core_links world_core core_loop core_boot' \
-    seq bpf_insn filter_verify filter_vm filter_group pcap_reader endpoint_caps filter_table table_replica rx_queue ump_ring monitor_messages \
-    monitor_2pc world_events world_model \
-    world_histories core_steps ghost_log world_channels world_core core_links core_loop core_join core_boot
+build_program "$work" loop ': seq bpf_insn pcap_reader rx_queue table_replica ump_ring core_links world_core core_loop core_boot'
 "$work/crates/loop_bench/out/loop_bench" | python3 "$here/loop.py"

@@ -12,9 +12,6 @@ work=${1:-$(mktemp -d)}
 rounds=${2:-21}
 if [ $# -gt 2 ]; then shift 2; else set --; fi
 . "$here/crates.sh"
-build_program "$work" threads ' may_wait=3: seq bpf_insn pcap_reader rx_queue table_replica core_loop core_boot core_threads' \
-    seq bpf_insn filter_verify filter_vm filter_group pcap_reader endpoint_caps filter_table table_replica rx_queue ump_ring monitor_messages \
-    monitor_2pc world_events world_model \
-    world_histories core_steps ghost_log core_links core_loop core_join core_boot core_threads
+build_program "$work" threads ' may_wait=3: seq bpf_insn pcap_reader rx_queue table_replica core_loop core_boot core_threads'
 clang -O2 -o "$work/threads_peer" "$here/threads_peer.c" -lpthread
 python3 "$here/threads.py" "$work/crates/threads_bench/out/threads_bench" "$work/threads_peer" "$rounds" "$@"
