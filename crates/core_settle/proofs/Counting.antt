@@ -11,7 +11,7 @@ use Rattle.core_loop.specs.Cores.{begins, begun}
 use Rattle.core_join.specs.Machines.{RingCore}
 use Rattle.core_join.specs.Conclusions.{histories_of}
 use Rattle.core_settle.specs.Ahead.{requests_of, events_in_all}
-use Rattle.core_settle.proofs.Turning.{Went, Stayed, steps_grow}
+use Rattle.core_settle.proofs.Turning.{Went, steps_grow}
 
 -- the requests that a history begins are counted
 begins_counted : (e : Event) → length (begins e) ≡ is_request e
@@ -42,45 +42,45 @@ steps_within budget budgets first others end ends long c = most (per_request (le
 
 -- Cores before and after
 
-pub record AllWent (old new : List RingCore) : Type 0 where
+pub record AllWent (P : RingCore → RingCore → Type 0) (old new : List RingCore) : Type 0 where
   pub all : length new ≡ length old
-  pub each : (i : ℕ) (c d : RingCore) → slice_get old i ≡ Some c → slice_get new i ≡ Some d → Went c d
+  pub each : (i : ℕ) (c d : RingCore) → slice_get old i ≡ Some c → slice_get new i ≡ Some d → Went P c d
 
-rest_went : (c d : RingCore) (cs ds : List RingCore) → AllWent (c ∷ cs) (d ∷ ds) → AllWent cs ds
-rest_went c d cs ds w = record { all = (let e = w.all in omega (arith, e)); each = λ i x y at at'. w.each (suc i) x y at at' }
+rest_went : (P : RingCore → RingCore → Type 0) (c d : RingCore) (cs ds : List RingCore) → AllWent P (c ∷ cs) (d ∷ ds) → AllWent P cs ds
+rest_went P c d cs ds w = record { all = (let e = w.all in omega (arith, e)); each = λ i x y at at'. w.each (suc i) x y at at' }
 
-pub same_requests : (old new : List RingCore) → AllWent old new → requests_of new ≡ requests_of old
-same_requests [] [] w = refl
-same_requests [] (d ∷ ds) w = absurd (let e = w.all in omega (arith, e))
-same_requests (c ∷ cs) [] w = absurd (let e = w.all in omega (arith, e))
-same_requests (c ∷ cs) (d ∷ ds) w =
-    let rest = same_requests cs ds (rest_went c d cs ds w) in
+pub same_requests : (P : RingCore → RingCore → Type 0) (old new : List RingCore) → AllWent P old new → requests_of new ≡ requests_of old
+same_requests P [] [] w = refl
+same_requests P [] (d ∷ ds) w = absurd (let e = w.all in omega (arith, e))
+same_requests P (c ∷ cs) [] w = absurd (let e = w.all in omega (arith, e))
+same_requests P (c ∷ cs) (d ∷ ds) w =
+    let rest = same_requests P cs ds (rest_went P c d cs ds w) in
     let first = ap (λ (l : List Op). length l) (w.each 0 c d refl refl).keeps.asked_same in
     omega (arith, rest, first)
 
-pub record Counted (old new : List RingCore) : Type 0 where
+pub record Counted (P : RingCore → RingCore → Type 0) (old new : List RingCore) : Type 0 where
   pub grow : total steps (histories_of old) ≤ total steps (histories_of new)
-  pub either : (total steps (histories_of old) < total steps (histories_of new)) ⊎ ((i : ℕ) (c d : RingCore) → slice_get old i ≡ Some c → slice_get new i ≡ Some d → Stayed c d)
+  pub either : (total steps (histories_of old) < total steps (histories_of new)) ⊎ ((i : ℕ) (c d : RingCore) → slice_get old i ≡ Some c → slice_get new i ≡ Some d → P c d)
 
-counted_more : (c d : RingCore) (cs ds : List RingCore) → Went c d → Counted cs ds → Counted (c ∷ cs) (d ∷ ds)
-counted_more c d cs ds first rest = record { grow = omega (arith, rest.grow, first_grows); either = by_either first.either rest.either }
+counted_more : (P : RingCore → RingCore → Type 0) (c d : RingCore) (cs ds : List RingCore) → Went P c d → Counted P cs ds → Counted P (c ∷ cs) (d ∷ ds)
+counted_more P c d cs ds first rest = record { grow = omega (arith, rest.grow, first_grows); either = by_either first.either rest.either }
   where
     first_grows : steps (unstamped c.history) ≤ steps (unstamped d.history)
     first_grows = steps_grow c.history d.history first.keeps.history
 
-    all_stayed : Stayed c d → ((i : ℕ) (x y : RingCore) → slice_get cs i ≡ Some x → slice_get ds i ≡ Some y → Stayed x y)
-        → (i : ℕ) (x y : RingCore) → slice_get (c ∷ cs) i ≡ Some x → slice_get (d ∷ ds) i ≡ Some y → Stayed x y
-    all_stayed s r zero x y at at' = let e : c ≡ x = cc in let f : d ≡ y = cc in subst (λ (z : RingCore). Stayed z y) e (subst (λ (z : RingCore). Stayed c z) f s)
+    all_stayed : P c d → ((i : ℕ) (x y : RingCore) → slice_get cs i ≡ Some x → slice_get ds i ≡ Some y → P x y)
+        → (i : ℕ) (x y : RingCore) → slice_get (c ∷ cs) i ≡ Some x → slice_get (d ∷ ds) i ≡ Some y → P x y
+    all_stayed s r zero x y at at' = let e : c ≡ x = cc in let f : d ≡ y = cc in subst (λ (z : RingCore). P z y) e (subst (λ (z : RingCore). P c z) f s)
     all_stayed s r (suc i) x y at at' = r i x y at at'
 
-    by_either : (steps (unstamped c.history) < steps (unstamped d.history)) ⊎ Stayed c d → (total steps (histories_of cs) < total steps (histories_of ds)) ⊎ ((i : ℕ) (x y : RingCore) → slice_get cs i ≡ Some x → slice_get ds i ≡ Some y → Stayed x y)
-        → (total steps (histories_of (c ∷ cs)) < total steps (histories_of (d ∷ ds))) ⊎ ((i : ℕ) (x y : RingCore) → slice_get (c ∷ cs) i ≡ Some x → slice_get (d ∷ ds) i ≡ Some y → Stayed x y)
+    by_either : (steps (unstamped c.history) < steps (unstamped d.history)) ⊎ P c d → (total steps (histories_of cs) < total steps (histories_of ds)) ⊎ ((i : ℕ) (x y : RingCore) → slice_get cs i ≡ Some x → slice_get ds i ≡ Some y → P x y)
+        → (total steps (histories_of (c ∷ cs)) < total steps (histories_of (d ∷ ds))) ⊎ ((i : ℕ) (x y : RingCore) → slice_get (c ∷ cs) i ≡ Some x → slice_get (d ∷ ds) i ≡ Some y → P x y)
     by_either (inl l) r = inl (omega (arith, l, rest.grow))
     by_either (inr s) (inl l) = inl (omega (arith, l, first_grows))
     by_either (inr s) (inr r) = inr (all_stayed s r)
 
-pub counted : (old new : List RingCore) → AllWent old new → Counted old new
-counted [] [] w = record { grow = omega arith; either = inr (λ i c d at. absurd (cc)) }
-counted [] (d ∷ ds) w = absurd (let e = w.all in omega (arith, e))
-counted (c ∷ cs) [] w = absurd (let e = w.all in omega (arith, e))
-counted (c ∷ cs) (d ∷ ds) w = counted_more c d cs ds (w.each 0 c d refl refl) (counted cs ds (rest_went c d cs ds w))
+pub counted : (P : RingCore → RingCore → Type 0) (old new : List RingCore) → AllWent P old new → Counted P old new
+counted P [] [] w = record { grow = omega arith; either = inr (λ i c d at. absurd (cc)) }
+counted P [] (d ∷ ds) w = absurd (let e = w.all in omega (arith, e))
+counted P (c ∷ cs) [] w = absurd (let e = w.all in omega (arith, e))
+counted P (c ∷ cs) (d ∷ ds) w = counted_more P c d cs ds (w.each 0 c d refl refl) (counted P cs ds (rest_went P c d cs ds w))

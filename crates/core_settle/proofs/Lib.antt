@@ -6,3 +6,4 @@ pub mod Rounding
 pub mod Answering
 pub mod Listing
 pub mod Ending
+pub mod Naming

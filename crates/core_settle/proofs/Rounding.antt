@@ -12,7 +12,7 @@ use Rattle.core_join.proofs.Machines.{machine_ran}
 use Rattle.core_join.proofs.Along.{looked_same}
 use Rattle.core_settle.specs.Ahead.{asked, work_ahead}
 use Rattle.core_settle.specs.Rounds.{Keeps, AllKeep, AreSeen, Round, Rounds, AreAtRest, SomeRests}
-use Rattle.core_settle.proofs.Turning.{went, keeps_itself, keeps_along}
+use Rattle.core_settle.proofs.Turning.{Stayed, went, keeps_itself, keeps_along}
 use Rattle.core_settle.proofs.Counting.{AllWent}
 use Rattle.core_settle.proofs.Falling.{falls}
 
@@ -45,7 +45,7 @@ kept_same cs ds long k = record { all = long; each = λ i c d at at'. (k i c d a
 
 -- A round
 
-pub round_went : (old new : List RingCore) → (r : Round old new) → AllWent old r.turned
+pub round_went : (old new : List RingCore) → (r : Round old new) → AllWent Stayed old r.turned
 round_went old new r = record { all = r.all; each = λ i c d at at'. let t = r.turns i c d at at' in went t.0 c d t.1 }
 
 pub round_keeps : (old new : List RingCore) → Round old new → AllKeep old new
@@ -62,7 +62,7 @@ round_falls budget budgets old new machine exact r =
     let mid = machine_ran budget budgets old r.turned machine (kept_same old r.turned r.all (λ i c d at at'. ((round_went old new r).each i c d at at').keeps)) in
     by_lists old r.turned new machine exact (round_went old new r) r.seen.looked (round_machine budget budgets old new r machine) r.seen.exact (r.seen.concludes budget budgets mid)
   where
-    by_lists : (old mid new : List RingCore) → IsMachine budget budgets old → AreExactMachine old → AllWent old mid → AreLookedAt mid new → IsMachine budget budgets new → AreExactMachine new → Conclude budget budgets new
+    by_lists : (old mid new : List RingCore) → IsMachine budget budgets old → AreExactMachine old → AllWent Stayed old mid → AreLookedAt mid new → IsMachine budget budgets new → AreExactMachine new → Conclude budget budgets new
         → AreAtRest new ⊎ (work_ahead new < work_ahead old)
     by_lists [] mid new machine exact all_went looked machine' exact' con = absurd machine
     by_lists (f ∷ os) [] new machine exact all_went looked machine' exact' con = absurd (let e = all_went.all in omega (arith, e))

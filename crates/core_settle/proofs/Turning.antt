@@ -52,7 +52,13 @@ one_step h k s is none =
 
 -- All turns of one core in a round
 
--- it did nothing in them
+-- it did no event in them
+pub record Passed (old new : RingCore) : Type 0 where
+  pub history : new.history ≡ old.history
+  pub sent : (p : ℕ) → (ring_view new.links p).sent ≡ (ring_view old.links p).sent
+  pub lines : (p : ℕ) → FlowsOn (ring_flow old.links p) (ring_flow new.links p)
+
+-- nor could it do more
 pub record Stayed (old new : RingCore) : Type 0 where
   pub history : new.history ≡ old.history
   pub sent : (p : ℕ) → (ring_view new.links p).sent ≡ (ring_view old.links p).sent
@@ -62,11 +68,22 @@ pub record Stayed (old new : RingCore) : Type 0 where
   pub full : (p : ℕ) → (ring_view new.links p).ready ≡ false → (ring_flow new.links p).room ≡ 0
   pub dry : ((p : ℕ) → p < new.cores → ShowsNothing (ring_view new.links p)) → (p : ℕ) → p < new.cores → (ring_flow new.links p).known ≡ 0
 
-pub record Went (old new : RingCore) : Type 0 where
+-- it did an event, or this holds of it
+pub record Went (P : RingCore → RingCore → Type 0) (old new : RingCore) : Type 0 where
   pub keeps : Keeps old new
-  pub either : (steps (unstamped old.history) < steps (unstamped new.history)) ⊎ Stayed old new
+  pub either : (steps (unstamped old.history) < steps (unstamped new.history)) ⊎ P old new
 
-stayed_once : (old new : RingCore) → Idled old new → Stayed old new
+pub passed : (old new : RingCore) → Stayed old new → Passed old new
+passed old new s = record { history = s.history; sent = s.sent; lines = s.lines }
+
+pub went_passed : (old new : RingCore) → Went Stayed old new → Went Passed old new
+went_passed old new w = record { keeps = w.keeps; either = by_either w.either }
+  where
+    by_either : (steps (unstamped old.history) < steps (unstamped new.history)) ⊎ Stayed old new → (steps (unstamped old.history) < steps (unstamped new.history)) ⊎ Passed old new
+    by_either (inl l) = inl l
+    by_either (inr s) = inr (passed old new s)
+
+pub stayed_once : (old new : RingCore) → Idled old new → Stayed old new
 stayed_once old new i = record {
   history = i.nothing.history;
   sent = λ p. (i.nothing.links p).sent_same;
@@ -77,7 +94,7 @@ stayed_once old new i = record {
   dry = i.dry;
 }
 
-went_once : (old new : RingCore) → GoesOn old new → Went old new
+pub went_once : (old new : RingCore) → GoesOn old new → Went Stayed old new
 went_once old new g = record { keeps = g.keeps; either = by_turn g.turned }
   where
     by_turn : DidEvent old new ⊎ Idled old new → (steps (unstamped old.history) < steps (unstamped new.history)) ⊎ Stayed old new
@@ -100,7 +117,7 @@ stayed_along a b c h k = record {
   dry = k.dry;
 }
 
-went_more : (old mid new : RingCore) → Went old mid → Went mid new → Went old new
+went_more : (old mid new : RingCore) → Went Stayed old mid → Went Stayed mid new → Went Stayed old new
 went_more old mid new front last = record { keeps = keeps_along old mid new front.keeps last.keeps; either = by_either front.either last.either }
   where
     by_either : (steps (unstamped old.history) < steps (unstamped mid.history)) ⊎ Stayed old mid → (steps (unstamped mid.history) < steps (unstamped new.history)) ⊎ Stayed mid new
@@ -109,6 +126,6 @@ went_more old mid new front last = record { keeps = keeps_along old mid new fron
     by_either (inr s) (inl l) = inl (omega (arith, l, ap (λ (h : List Stamped). steps (unstamped h)) s.history))
     by_either (inr s) (inr k) = inr (stayed_along old mid new s k)
 
-pub went : (more : ℕ) (old new : RingCore) → Turns more old new → Went old new
+pub went : (more : ℕ) (old new : RingCore) → Turns more old new → Went Stayed old new
 went zero old new t = went_once old new t
 went (suc more) old new t = went_more old t.0 new (went more old t.0 t.1) (went_once t.0 new t.2)

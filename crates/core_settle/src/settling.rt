@@ -96,8 +96,8 @@ fn turn_each<T: Member>(cores: &mut [T]) -> Option<(u16, Halt)>
     }
 }
 
-// Whether all cores are at rest. They were looked at just now.
-fn at_rest<T: Member>(cores: &[T]) -> bool
+/// Whether all cores are at rest, as far as they were looked at. Then each of their requests is decided.
+pub fn at_rest<T: Member>(cores: &[T]) -> bool
     ensures rests { IsTrue result ↔ AreAtRest (map T.core cores.now) }
     ensures decided { IsTrue result → All HasAllDecided (map T.core cores.now) }
 {
