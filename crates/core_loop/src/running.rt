@@ -227,6 +227,13 @@ impl<L: Links> Core<L> {
         moved_bits(&self.links, self.cores)
     }
 
+    /// Whether lines went to this peer in the last turn, or came from it, as `woken` says of all.
+    pub fn names(&self, peer: u16) -> bool
+        ensures { result ≡ (L.flow self.now.links peer).moved }
+    {
+        self.links.moved(peer)
+    }
+
     /// While a core's request waits at core 0, core 0 begins at most one request of each other core, and one of its own, before it. A
     /// law of core 0's turns, whatever else happens between them: nothing is done.
     pub fn passes_each_once()

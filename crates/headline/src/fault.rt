@@ -5,20 +5,26 @@ ghost use Rattle.headline.specs.declared.fault.Fault.TheVariants as fault;
 
 use core_threads::RunFault;
 use std::alloc::AllocError;
+use thiserror::Error;
 use world_core::WorldFault;
 
 /// Why a machine has not done all that it was given. The machine is gone then.
-#[derive(Clone, Copy, PartialEq, Eq, Debug, Drop)]
+#[derive(Clone, Copy, PartialEq, Eq, Debug, Drop, Error)]
 pub enum Fault {
     /// A machine has 1 to 8 cores.
+    #[error("a machine has 1 to 8 cores")]
     CoreCount,
     /// A core can't do its event, for this.
+    #[error(transparent)]
     Refused(WorldFault),
     /// This core has no memory or no number for what it would do next, or it halted before a job that can be received was.
+    #[error("core {0} halted with work left")]
     Halted(u16),
     /// A thread could not be started.
+    #[error("a thread could not be started")]
     Spawn,
     /// There was no memory.
+    #[error("out of memory")]
     NoMemory,
 }
 
