@@ -10,19 +10,24 @@ use crate::number::{HUGE, number};
 use crate::pieces::{first_piece, first_word};
 use crate::{Insn, MAX_INSNS};
 use std::alloc::{AllocError, AllocFailed, Global};
+use thiserror::Error;
 
 /// Why a text spells no program. The first that applies is reported: the count, then its bound, then the number of
 /// instructions, then the instructions in order.
-#[derive(Clone, Copy, Debug, PartialEq, Eq)]
+#[derive(Clone, Copy, Debug, PartialEq, Eq, Error)]
 pub enum TextFault {
     /// The piece at this place is not what belongs there: at 0, the count, or at N, the four numbers of the Nth
     /// instruction, each in the range of its field.
+    #[error("entry {0} of the text is not what belongs there")]
     BadNumber(u32),
     /// The count isn't the number of instructions that follow it.
+    #[error("the count is not the number of instructions that follow it")]
     CountMismatch,
     /// The count is above `MAX_INSNS`.
+    #[error("the count is too large")]
     TooLong,
     /// Memory ran out. This says nothing of the text but that its count is right.
+    #[error("out of memory")]
     NoMemory,
 }
 

@@ -7,8 +7,8 @@ use Rattle.pcapng_reader.specs.declared.block.Content.TheVariants.{Other}
 use Rattle.pcapng_reader.specs.declared.block.Content.TheVariants as blocks
 use Rattle.pcapng_reader.specs.declared.fault.CaptureFault.{CaptureFault}
 use Rattle.pcapng_reader.specs.declared.feed.BlockFeed.{BlockFeed}
-use Rattle.pcapng_reader.specs.declared.feed.Step.{Step}
-use Rattle.pcapng_reader.specs.declared.feed.Step.TheVariants as steps
+use Rattle.pcapng_reader.specs.declared.feed.FeedStep.{FeedStep}
+use Rattle.pcapng_reader.specs.declared.feed.FeedStep.TheVariants as steps
 use Rattle.pcapng_reader.specs.declared.seen.Block.{Block}
 use Rattle.pcapng_reader.specs.declared.seen.Skimmed.{Skimmed}
 use Rattle.pcapng_reader.specs.Grammar.{WholeBlock, start}
@@ -16,9 +16,9 @@ use Rattle.pcapng_reader.specs.Held.{Adds as AddsBlock, Advances as AdvancesBloc
 use Rattle.pcapng_reader.proofs.FeedLemmas.{open_of}
 use Rattle.pcapng_reader.proofs.LawLemmas.{block_least}
 use Rattle.capture_reader.specs.declared.entry.Entry.TheVariants.{Packet}
-use Rattle.capture_reader.specs.declared.entry.Item.{Item}
+use Rattle.capture_reader.specs.declared.entry.SeenEntry.{SeenEntry}
 use Rattle.capture_reader.specs.declared.entry.Found.{Found}
-use Rattle.capture_reader.specs.declared.entry.Found.TheVariants.{Item as Seen, Held, Nothing}
+use Rattle.capture_reader.specs.declared.entry.Found.TheVariants.{SeenEntry as Seen, Held, Nothing}
 use Rattle.capture_reader.specs.Entries.{EntryBytes, block_entry, block_info, listed, pcapng_entries}
 use Rattle.capture_reader.specs.Steps.{Adds, AdvancesBy, seen_item}
 use Rattle.capture_reader.specs.Holding.{HoldsPcapng, StopsPcapng, entry_of}
@@ -33,7 +33,7 @@ few_no_block fed b feed few none held =
     let stands = open_of (b ∷ []) fed feed none held in
     omega (arith, few, ap length stands.parts, length-append (b.bytes ++ []) stands.part, length-append b.bytes [], block_least start b stands.follow.0)
 
-few_nothing : (fed : List ℕ) (feed : BlockFeed) (step : Step) → length fed < 12 → held_fault feed ≡ None → AddsBlock [] fed feed step → HoldsBlocks [] fed feed
+few_nothing : (fed : List ℕ) (feed : BlockFeed) (step : FeedStep) → length fed < 12 → held_fault feed ≡ None → AddsBlock [] fed feed step → HoldsBlocks [] fed feed
 few_nothing fed feed (steps.Block b) few none adds = absurd (few_no_block fed (seen_block b) feed few none adds)
 few_nothing fed feed steps.Held few none adds = absurd (few_no_block fed adds.0 feed few none adds.2)
 few_nothing fed feed steps.Passed few none adds = absurd (few_no_block fed adds.0 feed few none adds.2)
@@ -46,7 +46,7 @@ pub record HasBegun (first rest : List ℕ) (feed : BlockFeed) : Type 0 where
   pub going : held_fault feed ≡ None
   pub holds : HoldsBlocks [] done feed
 
-pub begun_next : (first rest rest' : List ℕ) (old new : BlockFeed) (step : Step) → length first < 12 → HasBegun first rest old → AdvancesBlock rest rest' old new (Ok step) → held_fault new ≡ None → HasBegun first rest' new
+pub begun_next : (first rest rest' : List ℕ) (old new : BlockFeed) (step : FeedStep) → length first < 12 → HasBegun first rest old → AdvancesBlock rest rest' old new (Ok step) → held_fault new ≡ None → HasBegun first rest' new
 begun_next first rest rest' old new step few begun takes going =
     let parts : first ≡ (begun.done ++ takes.front) ++ rest' = begun.parts ∙ ap (λ t. begun.done ++ t) takes.parts ∙ sym (append_assoc begun.done takes.front rest') in
     let short : length (begun.done ++ takes.front) < 12 = omega (arith, few, ap length parts, length-append (begun.done ++ takes.front) rest') in
@@ -74,13 +74,13 @@ begun_whole first rest feed none begun =
 pub adds_block : (given : List EntryBytes) (whole : List WholeBlock) (b : WholeBlock) (e : Option EntryBytes) → given ≡ pcapng_entries whole → block_entry b.content b.bytes ≡ e → given ++ listed e ≡ pcapng_entries (whole ++ b ∷ [])
 adds_block given whole b e is says = ap (λ t. t ++ listed e) is ∙ ap (λ x. pcapng_entries whole ++ listed x) (sym says) ∙ sym (pcapng_entries-push whole b)
 
-adds_item : (given : List EntryBytes) (whole : List WholeBlock) (fed : List ℕ) (new : BlockFeed) (b : Block) (item : Option Item) (found : Found) → given ≡ pcapng_entries whole
+adds_item : (given : List EntryBytes) (whole : List WholeBlock) (fed : List ℕ) (new : BlockFeed) (b : Block) (item : Option SeenEntry) (found : Found) → given ≡ pcapng_entries whole
     → MatchOption item (block_entry b.content b.bytes.now ≡ None) (λ i. block_entry b.content b.bytes.now ≡ Some (seen_item i)) → MatchOption item (found ≡ Nothing) (λ i. found ≡ Seen i)
     → HoldsBlocks (whole ++ seen_block b ∷ []) fed new → Adds (HoldsPcapng new) (entry_of (held_block new)) given fed found
 adds_item given whole fed new b None found is says tells held = rw tells (whole ++ seen_block b ∷ [], held, sym (append-nil given) ∙ adds_block given whole (seen_block b) None is says)
 adds_item given whole fed new b (Some item) found is says tells held = rw tells (whole ++ seen_block b ∷ [], held, adds_block given whole (seen_block b) (Some (seen_item item)) is says)
 
-pub takes_item : (bytes rest : List ℕ) (old new : BlockFeed) (b : Block) (item : Option Item) (found : Found)
+pub takes_item : (bytes rest : List ℕ) (old new : BlockFeed) (b : Block) (item : Option SeenEntry) (found : Found)
     → MatchOption item (block_entry b.content b.bytes.now ≡ None) (λ i. block_entry b.content b.bytes.now ≡ Some (seen_item i)) → MatchOption item (found ≡ Nothing) (λ i. found ≡ Seen i)
     → AdvancesBlock bytes rest old new (Ok (steps.Block b)) → AdvancesBy {E = CaptureFault} (HoldsPcapng old) (HoldsPcapng new) StopsPcapng (entry_of (held_block new)) bytes rest (Ok found)
 takes_item bytes rest old new b item found says tells takes = record {
@@ -89,7 +89,7 @@ takes_item bytes rest old new b item found says tells takes = record {
   adds = λ given fed held short. adds_item given held.0 (fed ++ takes.front) new b item found held.2 says tells (takes.adds held.0 fed held.1 short);
 }
 
-pub takes_skimmed : (bytes rest : List ℕ) (old new : BlockFeed) (seen : Skimmed) (item : Item) → Skims bytes rest old new seen → item.entry ≡ Packet (block_info seen.packet) → item.bytes.now ≡ seen.bytes.now
+pub takes_skimmed : (bytes rest : List ℕ) (old new : BlockFeed) (seen : Skimmed) (item : SeenEntry) → Skims bytes rest old new seen → item.entry ≡ Packet (block_info seen.packet) → item.bytes.now ≡ seen.bytes.now
     → AdvancesBy {E = CaptureFault} (HoldsPcapng old) (HoldsPcapng new) StopsPcapng (entry_of (held_block new)) bytes rest (Ok (Seen item))
 takes_skimmed bytes rest old new seen item skims says lies = takes_item bytes rest old new block (Some item) (Seen item) told refl skims.takes
   where

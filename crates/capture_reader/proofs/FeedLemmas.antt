@@ -15,8 +15,8 @@ use Rattle.pcapng_reader.specs.Held.{Ends as EndsBlocks, HasStopped as StopsBloc
 use Rattle.pcapng_reader.specs.Grammar.{WholeBlock, IsLasting as IsLastingPcapng, Reads as ReadsPcapng, bytes_of}
 use Rattle.pcapng_reader.proofs.FeedLemmas.{stopped-lasts}
 use Rattle.capture_reader.specs.declared.entry.Found.{Found}
-use Rattle.capture_reader.specs.declared.entry.Item.{Item}
-use Rattle.capture_reader.specs.declared.entry.Found.TheVariants.{Item as Seen, Held, Nothing}
+use Rattle.capture_reader.specs.declared.entry.SeenEntry.{SeenEntry}
+use Rattle.capture_reader.specs.declared.entry.Found.TheVariants.{SeenEntry as Seen, Held, Nothing}
 use Rattle.capture_reader.specs.declared.fault.ReadFault.{ReadFault}
 use Rattle.capture_reader.specs.declared.fault.ReadFault.TheVariants.{Savefile as OfSavefile, Pcapng as OfPcapng}
 use Rattle.capture_reader.specs.declared.feed.CaptureFeed.{CaptureFeed}
@@ -98,7 +98,7 @@ savefile_goes bytes rest old new records records' found going is going' is' take
 }
 
 -- a record that lies whole, if one does
-pub savefile_goes_whole : (bytes rest : List ℕ) (old new : CaptureFeed) (records records' : RecordFeed) (item : Option Item) → old.fault ≡ None → old.format ≡ Savefile records → new.fault ≡ None → new.format ≡ Savefile records'
+pub savefile_goes_whole : (bytes rest : List ℕ) (old new : CaptureFeed) (records records' : RecordFeed) (item : Option SeenEntry) → old.fault ≡ None → old.format ≡ Savefile records → new.fault ≡ None → new.format ≡ Savefile records'
     → IfSome item (λ i. AdvancesBy {E = SavefileFault} (HoldsRecords records) (HoldsRecords records') StopsRecords (held_record records') bytes rest (Ok (Seen i))) → IfSome item (λ i. Advances bytes rest old new (Ok (Seen i)))
 savefile_goes_whole bytes rest old new records records' (Some i) going is going' is' takes = savefile_goes bytes rest old new records records' (Seen i) going is going' is' takes
 savefile_goes_whole bytes rest old new records records' None going is going' is' takes = tt
@@ -128,7 +128,7 @@ pcapng_goes bytes rest old new blocks blocks' found going is going' is' takes = 
 }
 
 -- a packet that lies whole, if one does
-pub pcapng_goes_whole : (bytes rest : List ℕ) (old new : CaptureFeed) (blocks blocks' : BlockFeed) (item : Option Item) → old.fault ≡ None → old.format ≡ Pcapng blocks → new.fault ≡ None → new.format ≡ Pcapng blocks'
+pub pcapng_goes_whole : (bytes rest : List ℕ) (old new : CaptureFeed) (blocks blocks' : BlockFeed) (item : Option SeenEntry) → old.fault ≡ None → old.format ≡ Pcapng blocks → new.fault ≡ None → new.format ≡ Pcapng blocks'
     → IfSome item (λ i. AdvancesBy {E = PcapngFault} (HoldsPcapng blocks) (HoldsPcapng blocks') StopsPcapng (entry_of (held_block blocks')) bytes rest (Ok (Seen i))) → IfSome item (λ i. Advances bytes rest old new (Ok (Seen i)))
 pcapng_goes_whole bytes rest old new blocks blocks' (Some i) going is going' is' takes = pcapng_goes bytes rest old new blocks blocks' (Seen i) going is going' is' takes
 pcapng_goes_whole bytes rest old new blocks blocks' None going is going' is' takes = tt

@@ -17,8 +17,8 @@ use Rattle.savefile_front.specs.Fronts.{IsFront}
 use Rattle.capture_reader.specs.declared.entry.Entry.TheVariants.{Packet, Savefile}
 use Rattle.capture_reader.specs.declared.entry.PacketInfo.{PacketInfo}
 use Rattle.capture_reader.specs.declared.entry.Found.{Found}
-use Rattle.capture_reader.specs.declared.entry.Found.TheVariants.{Item as Seen, Held, Nothing}
-use Rattle.capture_reader.specs.declared.entry.Item.{Item}
+use Rattle.capture_reader.specs.declared.entry.Found.TheVariants.{SeenEntry as Seen, Held, Nothing}
+use Rattle.capture_reader.specs.declared.entry.SeenEntry.{SeenEntry}
 use Rattle.std.specs.Result.{IsErrAnd}
 use Rattle.capture_reader.specs.declared.records.RecordFeed.{RecordFeed}
 use Rattle.capture_reader.specs.Captures.{HasSavefile}
@@ -193,7 +193,7 @@ begins_nothing bytes rest count n old new left none has none' has' offset grew c
 }
 
 -- it is whole
-pub begins_header : (bytes rest part : List ℕ) (count n : ℕ) (old new : RecordFeed) (h : Header) (item : Item) → item.entry ≡ Savefile h → item.bytes.now ≡ [] → rest ≡ drop count bytes → old.held ≡ None → old.header ≡ None → new.held ≡ None → new.header ≡ Some h
+pub begins_header : (bytes rest part : List ℕ) (count n : ℕ) (old new : RecordFeed) (h : Header) (item : SeenEntry) → item.entry ≡ Savefile h → item.bytes.now ≡ [] → rest ≡ drop count bytes → old.held ≡ None → old.header ≡ None → new.held ≡ None → new.header ≡ Some h
     → new.offset ≡ old.offset → new.part.items ≡ [] → part ≡ old.part.items ++ take count bytes → count ≡ min (max (24 - length old.part.items) 1) (length bytes) → n ≡ min (length part) 24 → IsHeader (take n part) h
     → AdvancesBy {E = CaptureFault} (HoldsRecords old) (HoldsRecords new) StopsRecords (held_record new) bytes rest (Ok (Seen item))
 begins_header bytes rest part count n old new h item says body left none has none' has' offset empty grew counted is good = record {
@@ -320,7 +320,7 @@ stops_long given fed h offset head records packets rest parts header each entrie
 )
 
 -- a whole record lies in some bytes
-pub takes_whole : (bytes front rest : List ℕ) (old new : RecordFeed) (h : Header) (n : ℕ) (info : PacketInfo) (item : Item) → old.held ≡ None → old.header ≡ Some h → old.part.items ≡ []
+pub takes_whole : (bytes front rest : List ℕ) (old new : RecordFeed) (h : Header) (n : ℕ) (info : PacketInfo) (item : SeenEntry) → old.held ≡ None → old.header ≡ Some h → old.part.items ≡ []
     → IsWhole h.big bytes n → front ≡ take n bytes → rest ≡ drop n bytes → info ≡ record_info h front → item.entry ≡ Packet info → item.bytes.now ≡ drop 16 front
     → new.held ≡ None → new.header ≡ Some h → new.part.items ≡ [] → (old.offset + n < 18446744073709551616 → new.offset ≡ old.offset + n)
     → AdvancesBy {E = CaptureFault} (HoldsRecords old) (HoldsRecords new) StopsRecords (held_record new) bytes rest (Ok (Seen item))

@@ -15,7 +15,7 @@ use Rattle.pcapng_reader.specs.declared.block.PacketEntry.{PacketEntry}
 use Rattle.pcapng_reader.specs.declared.fault.CaptureFault.{CaptureFault}
 use Rattle.pcapng_reader.specs.declared.fault.CaptureFault.TheVariants.{BadBlock, Truncated, NoMemory}
 use Rattle.pcapng_reader.specs.declared.feed.BlockFeed.{BlockFeed}
-use Rattle.pcapng_reader.specs.declared.feed.Step.TheVariants as steps
+use Rattle.pcapng_reader.specs.declared.feed.FeedStep.TheVariants as steps
 use Rattle.pcapng_reader.specs.declared.seen.Block.{Block}
 use Rattle.pcapng_reader.specs.Grammar.{WholeBlock, Reads}
 use Rattle.pcapng_reader.specs.Held.{Advances, Ends, HasStopped, HoldsAfter, held_block, seen_block}

@@ -10,7 +10,7 @@ use Rattle.pcap_reader.specs.Savefile.{captured, HasNoHeader, IsHeader, IsLastin
 use Rattle.capture_reader.specs.declared.entry.Entry.TheVariants.{Packet}
 use Rattle.capture_reader.specs.declared.entry.PacketInfo.{PacketInfo}
 use Rattle.capture_reader.specs.declared.entry.Found.{Found}
-use Rattle.capture_reader.specs.declared.entry.Found.TheVariants.{Item}
+use Rattle.capture_reader.specs.declared.entry.Found.TheVariants.{SeenEntry}
 use Rattle.capture_reader.specs.declared.records.RecordFeed.{RecordFeed}
 use Rattle.capture_reader.specs.Entries.{EntryBytes, savefile_entries}
 use Rattle.capture_reader.specs.Captures.{HasSavefile}
@@ -86,7 +86,7 @@ pub record HasGrown (given : List EntryBytes) (fed : List ℕ) (h : Header) (fee
 
 -- nothing was seen in place
 abbrev pub IsApart : Found → Type 0
-IsApart (Item item) = ⊥
+IsApart (SeenEntry item) = ⊥
 IsApart found = ⊤
 
 -- after a look at a part nothing new is there, or the record is held, or a fault stands in it

@@ -1,12 +1,12 @@
 -- How a feed goes on, by what it holds before and after.
 use Rattle.std.specs.Prelude.{◌≡◌, ◌≢◌, ℕ, ◌^◌, ◌<◌, List, [], ◌∷◌, ◌++◌, length, Option, Some, Result, Ok, Err}
-use Rattle.capture_reader.specs.declared.entry.Item.{Item}
+use Rattle.capture_reader.specs.declared.entry.SeenEntry.{SeenEntry}
 use Rattle.capture_reader.specs.declared.entry.Found.{Found}
-use Rattle.capture_reader.specs.declared.entry.Found.TheVariants.{Item as Seen, Held, Nothing}
+use Rattle.capture_reader.specs.declared.entry.Found.TheVariants.{SeenEntry as Seen, Held, Nothing}
 use Rattle.capture_reader.specs.Entries.{EntryBytes}
 
 -- an entry that was seen in place
-abbrev pub seen_item : Item → EntryBytes
+abbrev pub seen_item : SeenEntry → EntryBytes
 seen_item item = (item.entry, item.bytes.now)
 
 -- what a step adds to the entries that were given, where so much is held after it

@@ -6,8 +6,8 @@ ghost use Rattle.capture_reader.specs.Entries.{block_entry, block_info, time_of}
 ghost use Rattle.capture_reader.specs.Holding.{HoldsPcapng, StopsPcapng, entry_of};
 ghost use Rattle.capture_reader.specs.Steps.{AdvancesBy, IsShorter, seen_item};
 
-use crate::entry::{Entry, Found, Item, PacketInfo, PacketTime};
-use pcapng_reader::{Block, BlockFeed, CaptureFault, Content, PacketEntry, Step, Time};
+use crate::entry::{Entry, Found, PacketInfo, PacketTime, SeenEntry};
+use pcapng_reader::{Block, BlockFeed, CaptureFault, Content, FeedStep, PacketEntry, Time};
 use std::alloc::Global;
 
 /// A feed that was given the first bytes of a capture, fewer than a block has.
@@ -33,33 +33,36 @@ pub(crate) fn next_block<'b>(
     ensures shorter { IfOk result (λ _. IsShorter rest.old.now rest.new.now) }
 {
     match feed.next(rest)? {
-        Step::Block(block) => Ok(found(item_of(block))),
-        Step::Held => Ok(held(feed)),
-        Step::Passed | Step::More => Ok(Found::Nothing),
+        FeedStep::Block(block) => Ok(found(item_of(block))),
+        FeedStep::Held => Ok(held(feed)),
+        FeedStep::Passed | FeedStep::More => Ok(Found::Nothing),
     }
 }
 
 /// The packet of the block at the front of `rest`, which is taken off, where it is an enhanced packet block, lies whole there and
 /// has nothing wrong; else nothing changes.
 #[inline(always)]
-pub(crate) fn next_whole_packet<'b>(feed: &mut BlockFeed, rest: &mut &'b [u8]) -> Option<Item<'b>>
-    ensures advances { IfSome result (λ item. AdvancesBy {E = CaptureFault} (HoldsPcapng feed.old) (HoldsPcapng feed.new) StopsPcapng (entry_of (held_block feed.new)) rest.old.now rest.new.now (Ok (Found.Item item))) }
+pub(crate) fn next_whole_packet<'b>(
+    feed: &mut BlockFeed,
+    rest: &mut &'b [u8],
+) -> Option<SeenEntry<'b>>
+    ensures advances { IfSome result (λ item. AdvancesBy {E = CaptureFault} (HoldsPcapng feed.old) (HoldsPcapng feed.new) StopsPcapng (entry_of (held_block feed.new)) rest.old.now rest.new.now (Ok (Found.SeenEntry item))) }
     ensures shorter { IfSome result (λ _. IsShorter rest.old.now rest.new.now) }
     ensures same { result ≡ None → (feed.new ≡ feed.old) × (rest.new.now ≡ rest.old.now) }
 {
     let skimmed = feed.skim(rest)?;
-    Some(Item {
+    Some(SeenEntry {
         entry: Entry::Packet(info_of(skimmed.packet)),
         bytes: skimmed.bytes,
     })
 }
 
 /// An item that was seen, if there is one.
-fn found<'b>(item: Option<Item<'b>>) -> Found<'b>
-    ensures { MatchOption item.entry (result ≡ Found.Nothing) (λ i. result ≡ Found.Item i) }
+fn found<'b>(item: Option<SeenEntry<'b>>) -> Found<'b>
+    ensures { MatchOption item.entry (result ≡ Found.Nothing) (λ i. result ≡ Found.SeenEntry i) }
 {
     match item {
-        Some(item) => Found::Item(item),
+        Some(item) => Found::SeenEntry(item),
         None => Found::Nothing,
     }
 }
@@ -76,21 +79,21 @@ fn held<'b>(feed: &BlockFeed) -> Found<'b>
 }
 
 /// What a block says, and the captured bytes of its packet, if it is looked at.
-pub(crate) fn item_of<'b>(block: Block<'b>) -> Option<Item<'b>>
+pub(crate) fn item_of<'b>(block: Block<'b>) -> Option<SeenEntry<'b>>
     ensures { MatchOption result (block_entry block.entry.content block.entry.bytes.now ≡ None) (λ item. block_entry block.entry.content block.entry.bytes.now ≡ Some (seen_item item)) }
 {
     match block.content {
-        Content::Section(header) => Some(Item {
+        Content::Section(header) => Some(SeenEntry {
             entry: Entry::Section(header),
             bytes: &[],
         }),
-        Content::Interface(described) => Some(Item {
+        Content::Interface(described) => Some(SeenEntry {
             entry: Entry::Interface(described),
             bytes: &[],
         }),
         Content::Packet(_) => {
             let (entry, bytes) = block.packet()?;
-            Some(Item {
+            Some(SeenEntry {
                 entry: Entry::Packet(info_of(entry)),
                 bytes,
             })

@@ -51,7 +51,7 @@ pub enum Entry {
 
 /// An entry with its bytes, where they lie.
 #[derive(Clone, Copy, Debug)]
-pub struct Item<'b> {
+pub struct SeenEntry<'b> {
     /// What it says.
     pub entry: Entry,
     /// The captured bytes of a packet, from its first byte on; none for any other entry.
@@ -62,7 +62,7 @@ pub struct Item<'b> {
 #[derive(Clone, Copy, Debug)]
 pub enum Found<'b> {
     /// The next entry, which lies in them.
-    Item(Item<'b>),
+    SeenEntry(SeenEntry<'b>),
     /// They end the next entry, which was cut: the feed holds it until it is given more.
     Held,
     /// They end no entry.

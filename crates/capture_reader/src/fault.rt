@@ -4,13 +4,16 @@ ghost use Rattle.std.specs.Prelude.{◌≡◌};
 ghost use Rattle.capture_reader.specs.Faults.{is_refusal};
 
 use std::alloc::AllocError;
+use thiserror::Error;
 
 /// Why a capture ends early: a fault of its format, or that memory was refused while it was read.
-#[derive(Clone, Copy, Debug, PartialEq, Eq)]
+#[derive(Clone, Copy, Debug, PartialEq, Eq, Error)]
 pub enum ReadFault {
     /// Of a savefile.
+    #[error(transparent)]
     Savefile(pcap_reader::CaptureFault),
     /// Of a capture in pcapng.
+    #[error(transparent)]
     Pcapng(pcapng_reader::CaptureFault),
 }
 

@@ -4,7 +4,7 @@ ghost use Rattle.std.specs.Prelude.{◌≡◌, [], length, IfOk, IfErr};
 ghost use Rattle.capture_reader.specs.Holding.{HoldsAs, StopsAs};
 
 use crate::blocks::{begun, item_of, next_block, next_whole_packet};
-use crate::entry::{Found, Item};
+use crate::entry::{Found, SeenEntry};
 use crate::fault::ReadFault;
 use crate::records::RecordFeed;
 use pcapng_reader::{BlockFeed, is_pcapng};
@@ -70,7 +70,7 @@ impl CaptureFeed {
         ensures stays { (fault : ReadFault) → held_fault self.old ≡ Some fault → self.new ≡ self.old }
     {
         match self.next_whole(rest) {
-            Some(item) => Ok(Found::Item(item)),
+            Some(item) => Ok(Found::SeenEntry(item)),
             None => self.go_on(rest),
         }
     }
@@ -79,8 +79,8 @@ impl CaptureFeed {
     ///
     /// Where it takes nothing, which it may do at any entry, `next` goes on. It does less than `next`.
     #[inline(always)]
-    pub fn next_whole<'b>(&mut self, rest: &mut &'b [u8]) -> Option<Item<'b>>
-        ensures advances { IfSome result (λ item. Advances rest.old.now rest.new.now self.old self.new (Ok (Found.Item item))) }
+    pub fn next_whole<'b>(&mut self, rest: &mut &'b [u8]) -> Option<SeenEntry<'b>>
+        ensures advances { IfSome result (λ item. Advances rest.old.now rest.new.now self.old self.new (Ok (Found.SeenEntry item))) }
         ensures shorter { IfSome result (λ _. IsShorter rest.old.now rest.new.now) }
         ensures going { IfSome result (λ _. (held_fault self.old ≡ None) × (held_fault self.new ≡ None)) }
         ensures same { result ≡ None → (self.new ≡ self.old) × (rest.new.now ≡ rest.old.now) }
@@ -117,7 +117,7 @@ impl CaptureFeed {
     }
 
     /// The entry that is held, after `Found::Held`.
-    pub fn held(&self) -> Option<Item<'_>>
+    pub fn held(&self) -> Option<SeenEntry<'_>>
         ensures { MatchOption result (held_entry self.now ≡ None) (λ item. held_entry self.now ≡ Some (seen_item item)) }
     {
         match &self.format {

@@ -17,7 +17,7 @@ mod laws;
 mod records;
 mod sharing;
 
-pub use entry::{Entry, Found, Item, PacketInfo, PacketTime};
+pub use entry::{Entry, Found, PacketInfo, PacketTime, SeenEntry};
 pub use fault::ReadFault;
 pub use feed::CaptureFeed;
 pub use laws::{captured_bytes_are_few, captures_have_one_reading, savefiles_are_read_as_such};

@@ -4,7 +4,7 @@ ghost use Rattle.std.specs.Prelude.{◌≡◌, ◌≤◌, ◌<◌, ◌^◌, leng
 ghost use Rattle.capture_reader.specs.Recording.{IsWanted};
 ghost use Rattle.capture_reader.specs.Entries.{record_info};
 
-use crate::entry::{Entry, Found, Item, PacketInfo, PacketTime};
+use crate::entry::{Entry, Found, PacketInfo, PacketTime, SeenEntry};
 use crate::header::header_of;
 use pcap_reader::{CaptureFault, Header};
 use savefile_front::{FILE_HEADER, Front, front_of, word_at};
@@ -65,8 +65,8 @@ impl RecordFeed {
     ///
     /// It finds what `next` finds most often, in the fewest steps.
     #[inline(always)]
-    pub fn next_whole<'b>(&mut self, rest: &mut &'b [u8]) -> Option<Item<'b>>
-        ensures advances { IfSome result (λ item. AdvancesBy {E = CaptureFault} (HoldsRecords self.old) (HoldsRecords self.new) StopsRecords (held_record self.new) rest.old.now rest.new.now (Ok (Found.Item item))) }
+    pub fn next_whole<'b>(&mut self, rest: &mut &'b [u8]) -> Option<SeenEntry<'b>>
+        ensures advances { IfSome result (λ item. AdvancesBy {E = CaptureFault} (HoldsRecords self.old) (HoldsRecords self.new) StopsRecords (held_record self.new) rest.old.now rest.new.now (Ok (Found.SeenEntry item))) }
         ensures shorter { IfSome result (λ _. IsShorter rest.old.now rest.new.now) }
         ensures same { result ≡ None → (self.new ≡ self.old) × (rest.new.now ≡ rest.old.now) }
     {
@@ -81,12 +81,12 @@ impl RecordFeed {
     }
 
     /// The record that is held, after `Found::Held`.
-    pub fn held(&self) -> Option<Item<'_>>
+    pub fn held(&self) -> Option<SeenEntry<'_>>
         ensures { MatchOption result (held_record self.now ≡ None) (λ item. held_record self.now ≡ Some (seen_item item)) }
     {
         let info = self.held?;
         let part = self.part.as_slice();
-        Some(Item {
+        Some(SeenEntry {
             entry: Entry::Packet(info),
             bytes: &part[part.len().min(RECORD_HEADER)..],
         })
@@ -133,7 +133,7 @@ impl RecordFeed {
             Some(header) => {
                 self.header = Some(header);
                 self.part.clear();
-                Ok(Found::Item(Item {
+                Ok(Found::SeenEntry(SeenEntry {
                     entry: Entry::Savefile(header),
                     bytes: &[],
                 }))
@@ -148,7 +148,7 @@ impl RecordFeed {
         ensures shorter { IfOk result (λ _. IsShorter rest.old.now rest.new.now) }
     {
         match front_of(header.big, *rest) {
-            Front::Record { length, .. } => Ok(Found::Item(self.pass(header, length, rest))),
+            Front::Record { length, .. } => Ok(Found::SeenEntry(self.pass(header, length, rest))),
             Front::Part => self.fill(header, rest),
             Front::TooLong => Err(CaptureFault::TooLong(self.offset)),
         }
@@ -156,16 +156,16 @@ impl RecordFeed {
 
     /// Takes a whole record of so many bytes.
     #[inline(always)]
-    fn pass<'b>(&mut self, header: Header, length: usize, rest: &mut &'b [u8]) -> Item<'b>
+    fn pass<'b>(&mut self, header: Header, length: usize, rest: &mut &'b [u8]) -> SeenEntry<'b>
         requires between { (self.old.held ≡ None) × (self.old.header ≡ Some header) × (self.old.part.items ≡ []) }
         requires whole { IsWhole header.big rest.old.now length }
-        ensures advances { AdvancesBy {E = CaptureFault} (HoldsRecords self.old) (HoldsRecords self.new) StopsRecords (held_record self.new) rest.old.now rest.new.now (Ok (Found.Item result)) }
+        ensures advances { AdvancesBy {E = CaptureFault} (HoldsRecords self.old) (HoldsRecords self.new) StopsRecords (held_record self.new) rest.old.now rest.new.now (Ok (Found.SeenEntry result)) }
         ensures shorter { IsShorter rest.old.now rest.new.now }
     {
         let (whole, more) = rest.split_at(length);
         *rest = more;
         self.offset = self.offset.saturating_add(length as u64);
-        Item {
+        SeenEntry {
             entry: Entry::Packet(info_of(header, whole)),
             bytes: &whole[RECORD_HEADER..],
         }

@@ -9,7 +9,7 @@ ghost use Rattle.capture_reader.specs.Sharing.{IsLastOf, SharesOn, StopsSharing,
 
 use crate::fault::ReadFault;
 use pcap_reader::{SharedPacket, SharedPackets, share_capture};
-use pcapng_reader::{Block, BlockFeed, CaptureFault, Step, is_pcapng};
+use pcapng_reader::{Block, BlockFeed, CaptureFault, FeedStep, is_pcapng};
 use seq::{Seq, Shared};
 use std::alloc::{AllocError, Global};
 
@@ -54,9 +54,9 @@ fn share_next(
     ensures shorter { OnOk result (rest.old.now ≢ [] → length rest.new.now < length rest.old.now) }
 {
     match feed.next(rest)? {
-        Step::Block(block) => Ok(share_block(file, rest, block, packets)?),
-        Step::Held => Ok(copy_block(alloc, feed.held(), packets)?),
-        Step::Passed | Step::More => Ok(()),
+        FeedStep::Block(block) => Ok(share_block(file, rest, block, packets)?),
+        FeedStep::Held => Ok(copy_block(alloc, feed.held(), packets)?),
+        FeedStep::Passed | FeedStep::More => Ok(()),
     }
 }
 

@@ -4,11 +4,11 @@ use Rattle.std.specs.Prelude.{IfErr, IsErrOf}
 use Rattle.std.proofs.lemmas.List.{append-nil}
 use Rattle.command_line.specs.declared.request.Request.{Request}
 use Rattle.command_line.specs.declared.request.Request.TheVariants.{Match, View, Explain, Keep, Check, Graph, Dump, Sim, Run, Draw}
-use Rattle.console.specs.declared.source.Source.{Source}
-use Rattle.console.specs.declared.sink.Sink.{Sink}
-use Rattle.console.specs.declared.fault.EngineFault.{EngineFault}
-use Rattle.console.specs.declared.fault.EngineFault.TheVariants.{ReadFailed, WriteFailed, NoMemory}
-use Rattle.console.specs.Devices.{EndsEarly, Writes}
+use Rattle.engine_io.specs.declared.source.Source.{Source}
+use Rattle.engine_io.specs.declared.sink.Sink.{Sink}
+use Rattle.engine_io.specs.declared.fault.EngineFault.{EngineFault}
+use Rattle.engine_io.specs.declared.fault.EngineFault.TheVariants.{ReadFailed, WriteFailed, NoMemory}
+use Rattle.engine_io.specs.Devices.{EndsEarly, Writes}
 use Rattle.run_engine.specs.Failing.{RunEndsEarly}
 use Rattle.run_engine.specs.declared.engine.RunFailure.{RunFailure}
 use Rattle.run_engine.specs.declared.engine.RunFailure.TheVariants.{Engine}

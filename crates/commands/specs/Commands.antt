@@ -9,18 +9,18 @@ use Rattle.console.specs.Checking.{ShowsCheck}
 use Rattle.console.specs.Code.{ShowsBadCode}
 use Rattle.console.specs.Dumping.{ShowsDump}
 use Rattle.console.specs.Matching.{ShowsGoodCode}
-use Rattle.console.specs.Devices.{Gets}
-use Rattle.console.specs.Reading.{IsInput}
+use Rattle.engine_io.specs.Devices.{Gets}
+use Rattle.engine_io.specs.Reading.{IsInput}
 use Rattle.console.specs.Streaming.{StreamShows}
 use Rattle.console.specs.Views.{IsFound, ShowsViewCode, ViewShows}
-use Rattle.console.specs.declared.source.Source.{Source}
+use Rattle.engine_io.specs.declared.source.Source.{Source}
 use Rattle.console.specs.declared.form.PacketForm.{PacketForm}
 use Rattle.console.specs.declared.form.PacketForm.TheVariants.{Digits, Capture}
 use Rattle.console.specs.declared.view.View.{View as Shown}
 use Rattle.console.specs.declared.view.View.TheVariants as shown
-use Rattle.console.specs.declared.input.TheConstants.{INPUT_READS}
+use Rattle.engine_io.specs.declared.input.TheConstants.{INPUT_READS}
 use Rattle.console.specs.declared.streaming.TheConstants.{STREAM_READS}
-use Rattle.console.specs.declared.fault.EngineFault.{EngineFault}
+use Rattle.engine_io.specs.declared.fault.EngineFault.{EngineFault}
 use Rattle.draw_engine.specs.Drawing.{ShowsDraw}
 use Rattle.graph_engine.specs.Explaining.{ShowsExplained}
 use Rattle.graph_engine.specs.Showing.{ShowsGraph}

@@ -1,18 +1,18 @@
 //! Each request by its engine.
 
 ghost use Rattle.std.specs.Prelude.{◌≡◌, ◌⊎◌, ◌++◌, ℕ, List, [], true, false, IfErr, IfOk, IsErrOf, string_bytes};
-ghost use Rattle.console.specs.Devices.{EndsEarly, IsFresh, Writes};
+ghost use Rattle.engine_io.specs.Devices.{EndsEarly, IsFresh, Writes};
 ghost use Rattle.run_engine.specs.Failing.{RunEndsEarly};
 ghost use Rattle.script_input.specs.Inputs.{AllFresh, AreReadInOrder};
 ghost use Rattle.commands.specs.Commands.{IsFailure, Shows, ShowsAlone, ShowsMatch, form_of, is_stream, reads_at, reads_of, shown_as, takes_captures};
 
 use command_line::{MatchView, Request};
 use console::{
-    EngineFault, INPUT_READS, LinkTypes, PacketForm, STREAM_READS, Sink, Source, run_check,
-    run_dump, run_match, run_stream, run_view,
+    LinkTypes, PacketForm, STREAM_READS, run_check, run_dump, run_match, run_stream, run_view,
 };
 use core_threads::Gate;
 use draw_engine::run_draw;
+use engine_io::{EngineFault, INPUT_READS, Sink, Source};
 use graph_engine::{run_explain, run_graph};
 use keep_engine::{Wanted, run_keep};
 use run_engine::{RunFailure, run_run};

@@ -8,16 +8,16 @@ use Rattle.capture_reader.specs.Entries.{packets_in}
 use Rattle.console.specs.declared.capture_run.CaptureRun.{CaptureRun}
 use Rattle.console.specs.declared.form.PacketForm.TheVariants.{Capture}
 use Rattle.console.specs.Choosing.{chosen}
-use Rattle.console.specs.declared.sink.Sink.{Sink}
-use Rattle.console.specs.Devices.{Writes}
-use Rattle.console.specs.declared.fault.EngineFault.{EngineFault}
-use Rattle.console.specs.Reading.{BeginsWith}
+use Rattle.engine_io.specs.declared.sink.Sink.{Sink}
+use Rattle.engine_io.specs.Devices.{Writes}
+use Rattle.engine_io.specs.declared.fault.EngineFault.{EngineFault}
+use Rattle.engine_io.specs.Reading.{BeginsWith}
 use Rattle.console.specs.Faults.{fault_status, fault_text}
 use Rattle.console.specs.Matching.{ShowsBytes, ShowsPackets, outcome_line}
 use Rattle.console.specs.Running.{EndsRun, HasRun}
 use Rattle.console.specs.declared.view.View.TheVariants.{Lines}
 use Rattle.console.specs.Views.{shown_at_once}
-use Rattle.console.proofs.KnownBytesLemmas.{writes-then}
+use Rattle.engine_io.proofs.KnownBytesLemmas.{writes-then}
 use Rattle.console.proofs.ViewLemmas.{lines_flat}
 
 module _ (run : CaptureRun) (outcomes : List Outcome) (fault : Option ReadFault) (ends : (program : List Insn) (fed : List ℕ) (outcomes : List Outcome) (stamps : List PacketTime) → HasRun program fed run outcomes stamps → EndsRun program run.link fed outcomes fault) where

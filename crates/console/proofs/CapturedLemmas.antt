@@ -1,7 +1,7 @@
 -- What was kept of a capture.
 use Rattle.std.proofs.Common.{◌≡◌, ℕ, ◌+◌, ◌<◌, List, [], ◌++◌, length, inl, inr, Bool, true, false, Option, None, Some, Result, Ok, Err, MatchOption, arith, refl, ap, sym, ◌∙◌, append_assoc, length-append}
 use Rattle.std.proofs.lemmas.List.{append-nil}
-use Rattle.capture_reader.specs.declared.entry.Item.{Item}
+use Rattle.capture_reader.specs.declared.entry.SeenEntry.{SeenEntry}
 use Rattle.std.specs.Prelude.{OnOk}
 use Rattle.capture_reader.specs.declared.entry.Found.{Found}
 use Rattle.capture_reader.specs.declared.entry.Found.TheVariants.{Held}
@@ -13,11 +13,11 @@ use Rattle.capture_reader.specs.Entries.{EntryBytes}
 use Rattle.capture_reader.specs.Faults.{is_refusal}
 use Rattle.capture_reader.specs.Steps.{seen_item}
 use Rattle.console.specs.declared.captured.KeptEntry.{KeptEntry}
-use Rattle.console.specs.declared.source.Source.{Source}
-use Rattle.console.specs.Devices.{Gets, GetsNothing}
+use Rattle.engine_io.specs.declared.source.Source.{Source}
+use Rattle.engine_io.specs.Devices.{Gets, GetsNothing}
 use Rattle.console.specs.Reading.{HasKept, KeepsOn, entries_of}
 use Rattle.console.specs.Running.{item_entries}
-use Rattle.console.proofs.KnownBytesLemmas.{gets-kept, gets-then}
+use Rattle.engine_io.proofs.KnownBytesLemmas.{gets-kept, gets-then}
 use Rattle.console.proofs.RunningLemmas.{IsFound, adds_item}
 
 -- nothing was taken
@@ -40,7 +40,7 @@ keep_then bytes mid rest old then new before between after first next = record {
 }
 
 -- an entry that was seen in place, or is held, or none
-pub keep_item : (bytes rest : List ℕ) (old new : CaptureFeed) (found : Found) (item : Option Item) (before after : List KeptEntry) → Advances bytes rest old new (Ok found) → IsFound new found item
+pub keep_item : (bytes rest : List ℕ) (old new : CaptureFeed) (found : Found) (item : Option SeenEntry) (before after : List KeptEntry) → Advances bytes rest old new (Ok found) → IsFound new found item
     → entries_of after ≡ entries_of before ++ item_entries item → KeepsOn bytes rest old new before after
 keep_item bytes rest old new found item before after takes is pushed = record {
   front = takes.front;
@@ -81,7 +81,7 @@ pub so_kept_kept : {R : Type 0} {remaining : R → Option (List ℕ)} (old mid n
 so_kept_kept old mid new feed entries taken taken' so kept same = record { given = so.given; lost = gets-kept old mid new so.given so.lost kept; has = so.has; count = same ∙ so.count }
 
 -- the entry that is held
-pub found_held : (feed : CaptureFeed) (item : Option Item) → MatchOption item (held_entry feed ≡ None) (λ i. held_entry feed ≡ Some (seen_item i)) → IsFound feed Held item
+pub found_held : (feed : CaptureFeed) (item : Option SeenEntry) → MatchOption item (held_entry feed ≡ None) (λ i. held_entry feed ≡ Some (seen_item i)) → IsFound feed Held item
 found_held feed None held = held
 found_held feed (Some i) held = held
 

@@ -1,11 +1,12 @@
 -- What `dump` has shown of what it read.
 use Rattle.std.proofs.Common.{◌≡◌, ℕ, List, ◌++◌, append_assoc, Option, Some, refl, inl, inr}
 use Rattle.console.specs.declared.captured.Captured.{Captured}
-use Rattle.console.specs.declared.source.Source.{Source}
-use Rattle.console.specs.Reading.{BeginsWith, GaveCapture, IsInput, entries_of}
+use Rattle.engine_io.specs.declared.source.Source.{Source}
+use Rattle.engine_io.specs.Reading.{BeginsWith, IsInput}
+use Rattle.console.specs.Reading.{GaveCapture, entries_of}
 use Rattle.console.specs.Faults.{fault_status}
 use Rattle.console.specs.Dumping.{ShowsDump, ShowsDumpPart, dump_text}
-use Rattle.console.proofs.MatchingLemmas.{whole_input}
+use Rattle.engine_io.proofs.InputLemmas.{whole_input}
 
 -- an input that was read
 pub dump_read : (link : Option ℕ) {R : Type 0} {remaining : R → Option (List ℕ)} (old new : Source R) (c : Captured) → GaveCapture remaining old new (Some c)

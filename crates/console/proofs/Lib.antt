@@ -1,5 +1,3 @@
-pub mod KnownBytesLemmas
-pub mod DeviceLemmas
 pub mod LineLemmas
 pub mod LineFeedLemmas
 pub mod ViewLemmas
@@ -12,7 +10,6 @@ pub mod BadCodeLemmas
 pub mod MatchingLemmas
 pub mod CodeLemmas
 pub mod HexLemmas
-pub mod FeedingLemmas
 pub mod LinkLemmas
 pub mod RunningLemmas
 pub mod PrintingLemmas

@@ -5,7 +5,7 @@ use Rattle.std.proofs.lemmas.List.{append-nil}
 use Rattle.std.proofs.lemmas.List.Elements.{Contains-append_left, Contains-push, Contains-push_cases}
 use Rattle.capture_reader.specs.Entries.{EntryBytes}
 use Rattle.capture_reader.specs.declared.entry.Entry.{Entry}
-use Rattle.capture_reader.specs.declared.entry.Item.{Item}
+use Rattle.capture_reader.specs.declared.entry.SeenEntry.{SeenEntry}
 use Rattle.console.specs.declared.link_types.LinkTypes.{LinkTypes}
 use Rattle.console.specs.Running.{item_entries}
 use Rattle.console.specs.declared.link_types.LinkTypes.TheVariants.{None, One, Several}
@@ -56,8 +56,8 @@ pub adds_one : (links : List ℕ) (entry : Entry) (link : ℕ) (types : LinkType
 adds_one links entry link types one are = rw one are
 
 -- the same of an entry that was seen, if one was
-pub sees_none : (links : List ℕ) (item : Option Item) (types : LinkTypes) → links_in (item_entries item) ≡ [] → AreLinkTypes links types → AreLinkTypes (links ++ links_in (item_entries item)) types
+pub sees_none : (links : List ℕ) (item : Option SeenEntry) (types : LinkTypes) → links_in (item_entries item) ≡ [] → AreLinkTypes links types → AreLinkTypes (links ++ links_in (item_entries item)) types
 sees_none links item types none are = rw (none, append-nil links) are
 
-pub sees_one : (links : List ℕ) (item : Option Item) (entry : Entry) (types : LinkTypes) → links_in (item_entries item) ≡ entry_links entry ++ [] → AreLinkTypes (links ++ entry_links entry) types → AreLinkTypes (links ++ links_in (item_entries item)) types
+pub sees_one : (links : List ℕ) (item : Option SeenEntry) (entry : Entry) (types : LinkTypes) → links_in (item_entries item) ≡ entry_links entry ++ [] → AreLinkTypes (links ++ entry_links entry) types → AreLinkTypes (links ++ links_in (item_entries item)) types
 sees_one links item entry types one are = rw (one ∙ append-nil (entry_links entry)) are

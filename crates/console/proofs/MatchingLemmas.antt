@@ -7,19 +7,19 @@ use Rattle.hex.specs.Hex.{decode_of}
 use Rattle.bpf_insn.specs.declared.insn.Insn.{Insn}
 use Rattle.filter_vm.specs.declared.machine.Outcome.{Outcome}
 use Rattle.std.specs.Result.{IsErrOf}
-use Rattle.console.specs.declared.fault.EngineFault.{EngineFault}
-use Rattle.console.specs.declared.fault.EngineFault.TheVariants.{NoMemory}
+use Rattle.engine_io.specs.declared.fault.EngineFault.{EngineFault}
+use Rattle.engine_io.specs.declared.fault.EngineFault.TheVariants.{NoMemory}
 use Rattle.console.specs.Code.{IsGoodCode, ShowsBadCode}
-use Rattle.console.specs.declared.input.TheConstants.{INPUT_BYTES}
-use Rattle.console.specs.declared.source.Source.{Source}
-use Rattle.console.specs.declared.sink.Sink.{Sink}
+use Rattle.engine_io.specs.declared.input.TheConstants.{INPUT_BYTES}
+use Rattle.engine_io.specs.declared.source.Source.{Source}
+use Rattle.engine_io.specs.declared.sink.Sink.{Sink}
 use Rattle.console.specs.declared.form.PacketForm.{PacketForm}
-use Rattle.console.specs.Devices.{Gets, Writes}
-use Rattle.console.specs.Reading.{BeginsWith, GotTooMany, IsInput, IsKnown, too_long_line}
+use Rattle.engine_io.specs.Devices.{Gets, Writes}
+use Rattle.engine_io.specs.Reading.{BeginsWith, GotTooMany, IsInput, IsKnown, too_long_line}
 use Rattle.console.specs.declared.form.PacketForm.TheVariants.{Capture}
 use Rattle.console.specs.Matching.{Answers, ShowsBytes, ShowsLines, ShowsPackets, ShowsGoodCode, ShowsInput, ShowsPart, ShowsRead, outcome_line, bad_line}
 use Rattle.console.proofs.WholeLemmas.{packets_front}
-use Rattle.console.proofs.KnownBytesLemmas.{writes-then, writes-nothing}
+use Rattle.engine_io.proofs.KnownBytesLemmas.{writes-then, writes-nothing}
 use Rattle.pcap_reader.proofs.FeedLemmas.{AllZip-push}
 
 -- all is lines that were answered and the rest, and the answers are written but for what is kept back
@@ -107,38 +107,6 @@ so_far_bad program all bad rest n m old new last kept kept' left first so err te
   },
   writes-then old new last so.written kept' so.appended more,
 )
-
--- a source that got these bytes had them at the front of an input
-known_front : (old new : Option (List ℕ)) (got : List ℕ) → Consumes old new got → (input : List ℕ) × IsKnown old input × BeginsWith got input
-known_front None new got lost = (got, tt, ([], sym (append-nil got)))
-known_front (Some xs) None got lost = absurd lost
-known_front (Some xs) (Some ys) got lost = (xs, refl, (ys, lost))
-
--- a source that got more than so many bytes had more
-pub long_input : {R : Type 0} {remaining : R → Option (List ℕ)} (old new : Source R) (given : List ℕ) → Gets remaining old new given → INPUT_BYTES < length given
-    → (input : List ℕ) × IsInput remaining old new input × (INPUT_BYTES < length input)
-long_input old new given got long =
-    let input = known_front _ _ given got.lost in
-    (input.0, (input.1, (given, got, inr (long, input.2))), omega (arith, long, ap length input.2.1, length-append given input.2.0))
-
--- what is shown where an input is too long
-pub shown_long : (r : Result ℕ EngineFault) {R W : Type 0} {remaining : R → Option (List ℕ)} (contents : W → Option (List ℕ)) (known lost : Source R) (old new : Sink W) (Shows : List ℕ → ℕ → List ℕ → Type 0) → GotTooMany remaining known lost INPUT_BYTES
-    → ((input : List ℕ) → INPUT_BYTES < length input → Shows input 1 too_long_line) → IfOk r (λ status. (status ≡ 1) × Writes contents old new too_long_line)
-    → IfOk r (λ status. (text : List ℕ) × Writes contents old new text × ((input : List ℕ) × IsInput remaining known lost input × Shows input status text))
-shown_long (Ok status) contents known lost old new Shows gave shows wrote =
-    let input = long_input known lost gave.0 gave.1 gave.2 in
-    (too_long_line, wrote.1, (input.0, input.1, rw wrote.0 (shows input.0 input.2)))
-shown_long (Err e) contents known lost old new Shows gave shows wrote = tt
-
--- a reader that lost these bytes and then was at its end had just these
-pub known_whole : (old new : Option (List ℕ)) (held : List ℕ) → Consumes old new held → IsAtEnd new → IsKnown old held
-known_whole None new held lost end = tt
-known_whole (Some xs) None held lost end = absurd lost
-known_whole (Some xs) (Some ys) held lost end = sym (lost ∙ ap (λ rest. held ++ rest) end ∙ append-nil held)
-
--- and they are the input
-pub whole_input : {R : Type 0} {remaining : R → Option (List ℕ)} (old new : Source R) (held : List ℕ) → Gets remaining old new held → IsAtEnd (remaining new.inner) → IsInput remaining old new held
-whole_input old new held got end = (known_whole _ _ held got.lost end, (held, got, inl refl))
 
 -- what is shown of a good code is what is shown of its program
 pub shown_of : (r : Result ℕ EngineFault) (code : List ℕ) (program : List Insn) (form : PacketForm) {R W : Type 0} (remaining : R → Option (List ℕ)) (contents : W → Option (List ℕ)) (known lost : Source R) (old new : Sink W) → IsGoodCode code program

@@ -21,9 +21,10 @@ use Rattle.capture_reader.proofs.LawLemmas.{one_reading}
 use Rattle.console.specs.declared.form.PacketForm.{PacketForm}
 use Rattle.console.specs.declared.form.PacketForm.TheVariants.{Digits, Capture}
 use Rattle.console.specs.Choosing.{chosen}
-use Rattle.console.specs.Reading.{AreBytes, ShowsOne, ShowsTooLong}
+use Rattle.engine_io.specs.Reading.{ShowsTooLong}
+use Rattle.console.specs.Reading.{AreBytes, ShowsOne}
 use Rattle.console.specs.Faults.{fault_status, fault_text}
-use Rattle.console.specs.Showing.{ShowsBounded}
+use Rattle.engine_io.specs.Showing.{ShowsBounded}
 use Rattle.console.specs.Dumping.{ShowsDump, dump_text}
 use Rattle.console.specs.Checking.{IsFirstOut, ShowsAsm, ShowsCheck, ShowsProgram, asm_fault_line, jump_out_line}
 use Rattle.console.specs.Matching.{Answers, AnswersCaptured, ShowsBytes, ShowsGoodCode, ShowsInput, ShowsLines, Stops, bad_line, outcome_line}

@@ -6,12 +6,13 @@ use Rattle.capture_reader.specs.declared.fault.ReadFault.{ReadFault}
 use Rattle.console.specs.declared.captured.KeptEntry.{KeptEntry}
 use Rattle.console.specs.declared.dumping.Place.{Place}
 use Rattle.console.specs.Choosing.{chosen, is_chosen}
-use Rattle.console.specs.declared.sink.Sink.{Sink}
-use Rattle.console.specs.Devices.{Writes}
-use Rattle.console.specs.Reading.{BeginsWith, entries_of}
+use Rattle.engine_io.specs.declared.sink.Sink.{Sink}
+use Rattle.engine_io.specs.Devices.{Writes}
+use Rattle.engine_io.specs.Reading.{BeginsWith}
+use Rattle.console.specs.Reading.{entries_of}
 use Rattle.console.specs.Faults.{fault_text}
 use Rattle.console.specs.Dumping.{PrintsEntry, entry_line, entry_lines, interfaces_after, packets_after}
-use Rattle.console.proofs.KnownBytesLemmas.{writes-then}
+use Rattle.engine_io.proofs.KnownBytesLemmas.{writes-then}
 
 pub record Printing {W : Type 0} (whole left : List ℕ) (contents : W → Option (List ℕ)) (old new : Sink W) (kept : List ℕ) : Type 0 where
   pub written : List ℕ

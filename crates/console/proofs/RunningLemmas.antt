@@ -7,9 +7,9 @@ use Rattle.std.proofs.Math.Seq.{drop-append_seam, take-append_seam}
 use Rattle.bpf_insn.specs.declared.insn.Insn.{Insn}
 use Rattle.filter_vm.specs.declared.machine.Outcome.{Outcome}
 use Rattle.capture_reader.specs.declared.entry.PacketTime.{PacketTime}
-use Rattle.capture_reader.specs.declared.entry.Item.{Item}
+use Rattle.capture_reader.specs.declared.entry.SeenEntry.{SeenEntry}
 use Rattle.capture_reader.specs.declared.entry.Found.{Found}
-use Rattle.capture_reader.specs.declared.entry.Found.TheVariants.{Item as Seen, Held, Nothing}
+use Rattle.capture_reader.specs.declared.entry.Found.TheVariants.{SeenEntry as Seen, Held, Nothing}
 use Rattle.capture_reader.specs.declared.fault.ReadFault.{ReadFault}
 use Rattle.capture_reader.specs.declared.feed.CaptureFeed.{CaptureFeed}
 use Rattle.capture_reader.specs.Entries.{EntryBytes, packets_in}
@@ -18,13 +18,13 @@ use Rattle.capture_reader.specs.Holding.{Advances, HoldsAfter, held_entry, held_
 use Rattle.capture_reader.proofs.LawLemmas.{packets_in-append}
 use Rattle.console.specs.declared.capture_run.CaptureRun.{CaptureRun}
 use Rattle.console.specs.Choosing.{chosen, entry_times, is_chosen, times_in}
-use Rattle.console.specs.declared.source.Source.{Source}
-use Rattle.console.specs.Devices.{Gets, GetsNothing}
+use Rattle.engine_io.specs.declared.source.Source.{Source}
+use Rattle.engine_io.specs.Devices.{Gets, GetsNothing}
 use Rattle.console.specs.Matching.{AnswersCaptured}
 use Rattle.console.specs.Running.{HasRun, RunsItem, RunsOn, RunsTo, item_entries, times_shown}
 use Rattle.console.specs.Linking.{AreLinkTypes, links_in}
 use Rattle.console.proofs.LinkLemmas.{links_in-append}
-use Rattle.console.proofs.KnownBytesLemmas.{gets-kept, gets-then}
+use Rattle.engine_io.proofs.KnownBytesLemmas.{gets-kept, gets-then}
 
 -- nothing was taken
 pub runs_none : {S : Type 0} (Ran : List ℕ → S → List Outcome → Type 0) (bytes : List ℕ) (feed : S) (before : List Outcome) → RunsTo Ran Ran bytes bytes feed feed before before
@@ -60,13 +60,13 @@ AllZip-append R (a ∷ xs) xs' (b ∷ ys) ys' first next = (first.0, AllZip-appe
 -- Packets of a capture
 
 -- the entry that was found
-abbrev pub IsFound : CaptureFeed → Found → Option Item → Type 0
+abbrev pub IsFound : CaptureFeed → Found → Option SeenEntry → Type 0
 IsFound feed (Seen item) found = found ≡ Some item
 IsFound feed Held None = held_entry feed ≡ None
 IsFound feed Held (Some item) = held_entry feed ≡ Some (seen_item item)
 IsFound feed Nothing found = found ≡ None
 
-pub adds_item : (given : List EntryBytes) (fed : List ℕ) (feed : CaptureFeed) (found : Found) (item : Option Item) → IsFound feed found item → Adds (HoldsAfter feed) (held_entry feed) given fed found → HoldsAfter feed (given ++ item_entries item) fed
+pub adds_item : (given : List EntryBytes) (fed : List ℕ) (feed : CaptureFeed) (found : Found) (item : Option SeenEntry) → IsFound feed found item → Adds (HoldsAfter feed) (held_entry feed) given fed found → HoldsAfter feed (given ++ item_entries item) fed
 adds_item given fed feed (Seen i) item is adds = rw is adds
 adds_item given fed feed Nothing item is adds = rw (is, append-nil given) adds
 adds_item given fed feed Held None is adds = absurd (never is adds.1)
@@ -151,7 +151,7 @@ runs_added program fed front old new outcomes more stamps times entries added ha
 }
 
 -- an entry that was seen in place, or is held, or none
-pub run_item : (program : List Insn) (bytes rest : List ℕ) (old new : CaptureRun) (found : Found) (item : Option Item) (before after : List Outcome) (since upto : List PacketTime)
+pub run_item : (program : List Insn) (bytes rest : List ℕ) (old new : CaptureRun) (found : Found) (item : Option SeenEntry) (before after : List Outcome) (since upto : List PacketTime)
     → Advances bytes rest old.feed new.feed (Ok found) → IsFound new.feed found item → new.link ≡ old.link → new.stamped ≡ old.stamped → RunsItem program old.link old.stamped item before after since upto → AddsLinks (item_entries item) old new
     → RunsOn program bytes rest old new before after since upto
 run_item program bytes rest old new found item before after since upto takes is link stamped ran linked = record {

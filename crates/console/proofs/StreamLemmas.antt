@@ -6,23 +6,23 @@ use Rattle.std.specs.Io.KnownBytes.{IsAtEnd}
 use Rattle.std.proofs.lemmas.List.{append-nil}
 use Rattle.bpf_insn.specs.declared.insn.Insn.{Insn}
 use Rattle.filter_vm.specs.declared.machine.Outcome.{Outcome}
-use Rattle.console.specs.declared.source.Source.{Source}
-use Rattle.console.specs.declared.sink.Sink.{Sink}
+use Rattle.engine_io.specs.declared.source.Source.{Source}
+use Rattle.engine_io.specs.declared.sink.Sink.{Sink}
 use Rattle.console.specs.declared.form.PacketForm.{PacketForm}
-use Rattle.console.specs.Devices.{Gets, GetsNothing, Writes}
+use Rattle.engine_io.specs.Devices.{Gets, GetsNothing, Writes}
 use Rattle.console.specs.declared.ending.Ending.{Ending}
 use Rattle.console.specs.declared.packet_source.PacketSource.{PacketSource}
 use Rattle.capture_reader.specs.declared.entry.PacketTime.{PacketTime}
 use Rattle.console.specs.declared.tally.Tally.{Tally}
 use Rattle.console.specs.declared.view.View.{View}
 use Rattle.console.specs.declared.view.View.TheVariants.{Lines, Numbers, Count, Quiet}
-use Rattle.console.specs.declared.fault.EngineFault.{EngineFault}
-use Rattle.console.specs.Reading.{BeginsWith}
+use Rattle.engine_io.specs.declared.fault.EngineFault.{EngineFault}
+use Rattle.engine_io.specs.Reading.{BeginsWith}
 use Rattle.console.specs.Code.{IsGoodCode, ShowsBadCode}
 use Rattle.console.specs.Streaming.{SourceEnded, SourceRan, StampTo, StreamLeaves, StreamShows, form_of, is_stamped}
 use Rattle.console.specs.Views.{AreShown, HasCounted, IsFound, RanAll, RanFirst, ShowsEnd, ShowsView, ShowsViewCode, ShowsViewPart, ViewLeaves, ViewShows, accepted, ending_status, ending_text, other_stamps, shown_at_once, shows_stamps}
 use Rattle.console.proofs.WholeLemmas.{some_front}
-use Rattle.console.proofs.KnownBytesLemmas.{gets-kept, gets-then, keeps-itself, writes-then}
+use Rattle.engine_io.proofs.KnownBytesLemmas.{gets-kept, gets-then, keeps-itself, writes-then}
 use Rattle.console.proofs.StreamingLemmas.{Ends, EndsAtOne, Streamed, begins_itself, ended_first, ended_stamps, no_bytes, ran_aligned, ran_first, ran_stamps}
 use Rattle.console.proofs.ViewLemmas.{lines_part, lines_shows, shown-append}
 

@@ -20,13 +20,13 @@ use Rattle.console.specs.Choosing.{chosen, times_in}
 use Rattle.console.specs.Matching.{AnswersCaptured}
 use Rattle.console.specs.Stamps.{AreStamps}
 use Rattle.console.proofs.RunningLemmas.{chosen-append, times_in-append}
-use Rattle.console.specs.declared.source.Source.{Source}
-use Rattle.console.specs.declared.sink.Sink.{Sink}
-use Rattle.console.specs.Devices.{Gets, Writes}
+use Rattle.engine_io.specs.declared.source.Source.{Source}
+use Rattle.engine_io.specs.declared.sink.Sink.{Sink}
+use Rattle.engine_io.specs.Devices.{Gets, Writes}
 use Rattle.console.specs.declared.packet_source.PacketSource.{PacketSource}
 use Rattle.console.specs.declared.packet_source.PacketSource.TheVariants.{Lines, Capture as Captured}
 use Rattle.console.specs.declared.ending.Ending.{Ending}
-use Rattle.console.specs.Reading.{BeginsWith}
+use Rattle.engine_io.specs.Reading.{BeginsWith}
 use Rattle.console.specs.Faults.{fault_status, fault_text}
 use Rattle.console.specs.Running.{EndsRun, HasRun, IsStopped, times_shown}
 use Rattle.console.specs.Streaming.{SourceEnded, SourceRan, form_of, is_stamped}

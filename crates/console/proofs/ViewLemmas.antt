@@ -1,9 +1,9 @@
 -- What a view shows of some outcomes and of more.
 use Rattle.std.proofs.Common.{◌≡◌, ℕ, zero, suc, ◌+◌, ◌⊎◌, inl, inr, List, [], ◌∷◌, ◌++◌, length, flat_map, Option, None, Some, refl, sym, ap, ◌∙◌, append_assoc, add-zero, arith}
 use Rattle.std.specs.Prelude.{Result, Ok, Err, OnErr}
-use Rattle.console.specs.declared.sink.Sink.{Sink}
-use Rattle.console.specs.Devices.{Writes}
-use Rattle.console.proofs.KnownBytesLemmas.{writes-nothing}
+use Rattle.engine_io.specs.declared.sink.Sink.{Sink}
+use Rattle.engine_io.specs.Devices.{Writes}
+use Rattle.engine_io.proofs.KnownBytesLemmas.{writes-nothing}
 use Rattle.std.proofs.lemmas.List.Sums.{sum_by-append}
 use Rattle.bpf_insn.specs.declared.insn.Insn.{Insn}
 use Rattle.filter_vm.specs.declared.machine.Outcome.{Outcome}
@@ -18,7 +18,7 @@ use Rattle.console.specs.Faults.{fault_text}
 use Rattle.console.specs.Matching.{ShowsBytes, ShowsPackets, outcome_line}
 use Rattle.console.specs.Streaming.{ShowsSome}
 use Rattle.console.specs.Views.{RanFirst, ShowsEnd, ShowsView, ShowsViewPart, accepted, ending_status, ending_text, shown_after, other_stamps, shown_at_once, shown_line}
-use Rattle.console.specs.Reading.{BeginsWith}
+use Rattle.engine_io.specs.Reading.{BeginsWith}
 
 plain-append : (view : View) (n : ℕ) (first more : List Outcome) → shown_at_once view n [] (first ++ more) ≡ shown_at_once view n [] first ++ shown_at_once view (n + length first) [] more
 plain-append view n [] more = ap (λ k. shown_at_once view k [] more) (sym (add-zero n))

@@ -12,7 +12,7 @@ use Rattle.filter_vm.proofs.Totality.{has_end}
 use Rattle.pcap_reader.specs.declared.capture.CapturedPacket.{CapturedPacket}
 use Rattle.console.specs.declared.form.PacketForm.{PacketForm}
 use Rattle.console.specs.declared.form.PacketForm.TheVariants.{Digits, Capture}
-use Rattle.console.specs.Reading.{BeginsWith}
+use Rattle.engine_io.specs.Reading.{BeginsWith}
 use Rattle.console.specs.Faults.{fault_status, fault_text}
 use Rattle.console.specs.Matching.{Answers, AnswersCaptured, ShowsFirst, ShowsFront, ShowsLines, ShowsPackets, bad_line, outcome_line}
 use Rattle.console.specs.Streaming.{ShowsSome}

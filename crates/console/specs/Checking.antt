@@ -6,8 +6,8 @@ use Rattle.bpf_insn.specs.Program.{JumpsOut}
 use Rattle.bpf_insn.specs.AsmText.{IsPrintable, asm_text}
 use Rattle.bpf_insn.specs.DddText.{ddd_text}
 use Rattle.filter_asm.specs.Program.{Asm, Assembles, Fault}
-use Rattle.console.specs.declared.input.TheConstants.{INPUT_BYTES}
-use Rattle.console.specs.Reading.{ShowsTooLong}
+use Rattle.engine_io.specs.declared.input.TheConstants.{INPUT_BYTES}
+use Rattle.engine_io.specs.Reading.{ShowsTooLong}
 use Rattle.console.specs.Words.{asm_fault_name}
 
 -- the line for the first fault of a text

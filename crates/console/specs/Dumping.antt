@@ -13,11 +13,11 @@ use Rattle.capture_reader.specs.Entries.{EntryBytes}
 use Rattle.capture_reader.specs.Captures.{HasEntries}
 use Rattle.console.specs.declared.captured.KeptEntry.{KeptEntry}
 use Rattle.console.specs.declared.dumping.Place.{Place}
-use Rattle.console.specs.declared.input.TheConstants.{INPUT_BYTES}
-use Rattle.console.specs.declared.source.Source.{Source}
+use Rattle.engine_io.specs.declared.input.TheConstants.{INPUT_BYTES}
+use Rattle.engine_io.specs.declared.source.Source.{Source}
 use Rattle.console.specs.Choosing.{chosen}
 use Rattle.console.specs.Faults.{fault_status, fault_text}
-use Rattle.console.specs.Reading.{BeginsWith, IsInput, ShowsTooLong}
+use Rattle.engine_io.specs.Reading.{BeginsWith, IsInput, ShowsTooLong}
 
 abbrev pub order_name : Bool → List ℕ
 order_name true = codes "big"

@@ -1,7 +1,6 @@
 pub mod Choosing
 pub mod Linking
 pub mod Words
-pub mod Devices
 pub mod Reading
 pub mod Code
 pub mod Faults
@@ -9,7 +8,6 @@ pub mod Matching
 pub mod Running
 pub mod Streaming
 pub mod Dumping
-pub mod Showing
 pub mod Checking
 pub mod Stamps
 pub mod Views

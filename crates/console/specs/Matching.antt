@@ -15,13 +15,13 @@ use Rattle.console.specs.declared.form.PacketForm.{PacketForm}
 use Rattle.console.specs.declared.form.PacketForm.TheVariants.{Digits, Capture}
 use Rattle.console.specs.Choosing.{chosen}
 use Rattle.console.specs.Code.{IsGoodCode}
-use Rattle.console.specs.declared.input.TheConstants.{INPUT_BYTES}
-use Rattle.console.specs.declared.source.Source.{Source}
-use Rattle.console.specs.Devices.{Gets}
-use Rattle.console.specs.Reading.{BeginsWith, IsKnown, ShowsTooLong}
+use Rattle.engine_io.specs.declared.input.TheConstants.{INPUT_BYTES}
+use Rattle.engine_io.specs.declared.source.Source.{Source}
+use Rattle.engine_io.specs.Devices.{Gets}
+use Rattle.engine_io.specs.Reading.{BeginsWith, IsKnown, ShowsTooLong}
 use Rattle.console.specs.Faults.{fault_status, fault_text}
-use Rattle.console.specs.declared.fault.EngineFault.{EngineFault}
-use Rattle.console.specs.declared.fault.EngineFault.TheVariants.{ReadFailed, WriteFailed, NoMemory}
+use Rattle.engine_io.specs.declared.fault.EngineFault.{EngineFault}
+use Rattle.engine_io.specs.declared.fault.EngineFault.TheVariants.{ReadFailed, WriteFailed, NoMemory}
 
 -- a line spells a packet: an even number of hexadecimal digits of either case, two for each byte, and nothing else;
 -- the packet was captured whole
@@ -125,11 +125,3 @@ pub record ShowsGoodPart {R : Type 0} (code : List ℕ) (form : PacketForm) (rem
 -- text is nothing, or such a front
 abbrev pub ShowsPart : {R : Type 0} → List ℕ → PacketForm → (R → Option (List ℕ)) → Source R → Source R → List ℕ → Type 0
 ShowsPart code form remaining old new text = (text ≡ []) ⊎ ShowsGoodPart code form remaining old new text
-
--- what can go wrong while text is printed
-abbrev pub IsPrintFault : EngineFault → Type 0
-IsPrintFault e = (e ≡ WriteFailed) ⊎ (e ≡ NoMemory)
-
--- what can go wrong in an engine that starts no thread
-abbrev pub IsEngineFault : EngineFault → Type 0
-IsEngineFault e = (e ≡ ReadFailed) ⊎ (e ≡ WriteFailed) ⊎ (e ≡ NoMemory)

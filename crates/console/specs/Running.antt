@@ -6,22 +6,22 @@ use Rattle.bpf_insn.specs.declared.insn.Insn.{Insn}
 use Rattle.filter_vm.specs.declared.machine.Outcome.{Outcome}
 use Rattle.capture_reader.specs.declared.entry.PacketTime.{PacketTime}
 use Rattle.capture_reader.specs.declared.fault.ReadFault.{ReadFault}
-use Rattle.capture_reader.specs.declared.entry.Item.{Item}
+use Rattle.capture_reader.specs.declared.entry.SeenEntry.{SeenEntry}
 use Rattle.capture_reader.specs.Entries.{EntryBytes, packets_in}
 use Rattle.capture_reader.specs.Steps.{seen_item}
 use Rattle.capture_reader.specs.Captures.{HasEntries}
 use Rattle.capture_reader.specs.Holding.{HoldsAfter, held_fault}
-use Rattle.console.specs.declared.input.TheConstants.{INPUT_BYTES}
-use Rattle.console.specs.declared.source.Source.{Source}
+use Rattle.engine_io.specs.declared.input.TheConstants.{INPUT_BYTES}
+use Rattle.engine_io.specs.declared.source.Source.{Source}
 use Rattle.console.specs.declared.capture_run.CaptureRun.{CaptureRun}
 use Rattle.console.specs.Choosing.{chosen, times_in}
 use Rattle.console.specs.Linking.{AreLinkTypes, links_in}
-use Rattle.console.specs.Devices.{Gets}
-use Rattle.console.specs.Reading.{GotTooMany}
+use Rattle.engine_io.specs.Devices.{Gets}
+use Rattle.engine_io.specs.Reading.{GotTooMany}
 use Rattle.console.specs.Matching.{AnswersCaptured}
 
 -- an entry that was seen, if there is one
-abbrev pub item_entries : Option Item → List EntryBytes
+abbrev pub item_entries : Option SeenEntry → List EntryBytes
 item_entries None = []
 item_entries (Some item) = seen_item item ∷ []
 
@@ -40,7 +40,7 @@ pub record HasRun (program : List Insn) (fed : List ℕ) (run : CaptureRun) (out
   pub links : AreLinkTypes (links_in entries) run.links
 
 -- the packet of an entry was run, if there is one that is chosen
-pub record RunsItem (program : List Insn) (link : Option ℕ) (stamped : Bool) (item : Option Item) (before after : List Outcome) (since upto : List PacketTime) : Type 0 where
+pub record RunsItem (program : List Insn) (link : Option ℕ) (stamped : Bool) (item : Option SeenEntry) (before after : List Outcome) (since upto : List PacketTime) : Type 0 where
   pub more : List Outcome
   pub times : List PacketTime
   pub pushed : after ≡ before ++ more

@@ -21,7 +21,7 @@ use Rattle.console.specs.declared.view.View.TheVariants.{Lines, Numbers, Count, 
 use Rattle.console.specs.Code.{IsGoodCode, ShowsBadCode}
 use Rattle.console.specs.Faults.{fault_line, fault_status, fault_text}
 use Rattle.console.specs.Matching.{Answers, AnswersCaptured, Stops, bad_line, outcome_line}
-use Rattle.console.specs.Reading.{BeginsWith}
+use Rattle.engine_io.specs.Reading.{BeginsWith}
 use Rattle.console.specs.Stamps.{AreStamps, stamp_text}
 
 -- how many packets were accepted: the filter keeps a byte of each, or more

@@ -1,15 +1,14 @@
 //! The end of what is shown of a capture: the line for its fault, and the status.
 
 ghost use Rattle.std.specs.Prelude.{◌≡◌, ◌++◌, ℕ, List, IfOk, IfErr, IsErrOf, OnOk, OnErr, string_bytes, false};
-ghost use Rattle.console.specs.Devices.{StopsWriting, Writes};
+ghost use Rattle.engine_io.specs.Devices.{StopsWriting, Writes};
 ghost use Rattle.console.specs.Faults.{fault_line, fault_status, fault_text};
-ghost use Rattle.console.specs.Matching.{IsPrintFault};
-ghost use Rattle.console.specs.Reading.{BeginsWith};
+ghost use Rattle.engine_io.specs.Reading.{IsPrintFault};
+ghost use Rattle.engine_io.specs.Reading.{BeginsWith};
 
 use crate::fault_words::push_read_words;
-use crate::output::write_text;
-use crate::{EngineFault, Sink};
 use capture_reader::ReadFault;
+use engine_io::{EngineFault, Sink, write_text};
 use std::alloc::AllocError;
 use std::io::Write;
 

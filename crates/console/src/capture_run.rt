@@ -8,14 +8,14 @@ ghost use Rattle.capture_reader.specs.Entries.{packets_in};
 ghost use Rattle.capture_reader.specs.Steps.{seen_item};
 ghost use Rattle.console.specs.Choosing.{chosen, is_chosen, is_link};
 ghost use Rattle.console.specs.Matching.{AnswersCaptured};
-ghost use Rattle.console.specs.Reading.{GetsSome, IsReadFault, most_taken};
-ghost use Rattle.console.specs.Devices.{IsReadThrough, StopsReading};
+ghost use Rattle.engine_io.specs.Reading.{GetsSome, IsReadFault, most_taken};
+ghost use Rattle.engine_io.specs.Devices.{IsReadThrough, StopsReading};
 ghost use Rattle.console.specs.Linking.{AreLinkTypes, links_in};
 ghost use Rattle.console.specs.Running.{HasRun, RunsInput, RunsItem, item_entries};
 
-use crate::input::{BLOCK, INPUT_BYTES};
-use crate::{EngineFault, Got, LinkTypes, Source};
-use capture_reader::{CaptureFeed, Entry, Found, Item, PacketInfo, PacketTime, ReadFault};
+use crate::LinkTypes;
+use capture_reader::{CaptureFeed, Entry, Found, PacketInfo, PacketTime, ReadFault, SeenEntry};
+use engine_io::{EngineFault, Got, INPUT_BYTES, READ_BYTES, Source};
 use filter_predecode::Predecoded;
 use filter_vm::Outcome;
 use std::alloc::{AllocError, Global};
@@ -151,7 +151,7 @@ impl CaptureRun {
         ensures plain { self.old.stamped ≡ false → stamps.new.items ≡ stamps.old.items }
     {
         match self.feed.next(rest) {
-            Ok(Found::Item(item)) => {
+            Ok(Found::SeenEntry(item)) => {
                 run_found(
                     program,
                     self.link,
@@ -212,7 +212,7 @@ fn run_found(
     program: &Predecoded,
     link: Option<u32>,
     stamped: bool,
-    item: Option<Item<'_>>,
+    item: Option<SeenEntry<'_>>,
     links: &mut LinkTypes,
     outcomes: &mut Vec<Outcome>,
     stamps: &mut Vec<PacketTime>,
@@ -273,7 +273,7 @@ pub fn run_input<R: Read>(
     ensures taken { GetsSome R.remaining reader.old reader.new }
     ensures most { reader.new.taken ≤ most_taken }
 {
-    let mut block = [0u8; BLOCK];
+    let mut block = [0u8; READ_BYTES];
     while reader.left() > 0 {
         match reader.read(&mut block) {
             Got::Bytes(count) => {

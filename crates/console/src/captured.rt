@@ -1,13 +1,13 @@
 //! Reading a capture: its entries, up to the end or to a fault.
 
 ghost use Rattle.std.specs.Prelude.{◌≡◌, ◌≢◌, ◌≤◌, ◌<◌, ◌++◌, [], length, IfOk, IfErr, OnOk, is_some, false};
-ghost use Rattle.console.specs.Reading.{GaveCapture, EndsAs, GetsSome, IsReadFault, KeepsOn, entries_of, most_taken};
+ghost use Rattle.engine_io.specs.Reading.{GetsSome, IsReadFault, most_taken};
+ghost use Rattle.console.specs.Reading.{GaveCapture, EndsAs, KeepsOn, entries_of};
 ghost use Rattle.console.specs.Running.{item_entries};
-ghost use Rattle.console.specs.Devices.{IsReadThrough, StopsReading};
+ghost use Rattle.engine_io.specs.Devices.{IsReadThrough, StopsReading};
 
-use crate::input::{BLOCK, INPUT_BYTES};
-use crate::{EngineFault, Got, Source};
-use capture_reader::{CaptureFeed, Entry, Found, Item, ReadFault};
+use capture_reader::{CaptureFeed, Entry, Found, ReadFault, SeenEntry};
+use engine_io::{EngineFault, Got, INPUT_BYTES, READ_BYTES, Source};
 use pcap_reader::Bytes;
 use std::alloc::{AllocError, Global};
 use std::io::Read;
@@ -55,7 +55,7 @@ pub fn read_entries<R: Read>(
 {
     let mut feed = CaptureFeed::new(alloc);
     let mut entries = Vec::new(alloc);
-    let mut block = [0u8; BLOCK];
+    let mut block = [0u8; READ_BYTES];
     while reader.left() > 0 {
         match reader.read(&mut block) {
             Got::Bytes(count) => {
@@ -106,7 +106,7 @@ fn keep_next(
     ensures shorter { OnOk result (rest.old.now ≢ [] → length rest.new.now < length rest.old.now) }
 {
     match feed.next(rest) {
-        Ok(Found::Item(item)) => keep_found(alloc, Some(item), entries),
+        Ok(Found::SeenEntry(item)) => keep_found(alloc, Some(item), entries),
         Ok(Found::Held) => keep_found(alloc, feed.held(), entries),
         Ok(Found::Nothing) => Ok(()),
         Err(fault) => {
@@ -123,7 +123,7 @@ fn keep_next(
 #[inline(always)]
 fn keep_found(
     alloc: Global,
-    item: Option<Item<'_>>,
+    item: Option<SeenEntry<'_>>,
     entries: &mut Vec<KeptEntry>,
 ) -> Result<(), AllocError>
     ensures { OnOk result (entries_of entries.new.items ≡ entries_of entries.old.items ++ item_entries item.entry) }

@@ -1,21 +1,20 @@
 //! `dump`: prints what a capture holds.
 
 ghost use Rattle.std.specs.Prelude.{◌≡◌, ◌≤◌, ◌++◌, ℕ, List, IfOk, IfErr, IsErrOf, OnOk, string_bytes, false};
-ghost use Rattle.console.specs.Reading.{AreBytes, BeginsWith, GetsAtMost, IsInput, entries_of, most_taken, ShowsOne};
-ghost use Rattle.console.specs.declared.input.TheConstants.{INPUT_BYTES, INPUT_READS};
+ghost use Rattle.engine_io.specs.Reading.{BeginsWith, GetsAtMost, IsInput, most_taken};
+ghost use Rattle.console.specs.Reading.{AreBytes, entries_of, ShowsOne};
+ghost use Rattle.engine_io.specs.declared.input.TheConstants.{INPUT_BYTES, INPUT_READS};
 ghost use Rattle.console.specs.Choosing.{is_chosen};
-ghost use Rattle.console.specs.Devices.{EndsEarly, EndsWell, IsFresh, StopsWriting, Writes};
+ghost use Rattle.engine_io.specs.Devices.{EndsEarly, EndsWell, IsFresh, StopsWriting, Writes};
 ghost use Rattle.console.specs.Faults.{fault_status};
-ghost use Rattle.console.specs.Matching.{IsEngineFault, IsPrintFault};
+ghost use Rattle.engine_io.specs.Reading.{IsEngineFault, IsPrintFault};
 ghost use Rattle.console.specs.Dumping.{PrintsEntry, ShowsDump, ShowsDumpPart, digits, dump_text, entry_line, header_line, interface_line, interface_words, interfaces_after, packet_line, packets_after, resolution_text, section_line};
 
 use crate::capture_fault::write_ending;
 use crate::capture_run::is_link;
 use crate::captured::{KeptEntry, read_entries};
-use crate::output::{BLOCK, write_bytes};
-use crate::too_long::refuse_long;
-use crate::{EngineFault, Sink, Source};
 use capture_reader::{Entry, PacketInfo, ReadFault};
+use engine_io::{BLOCK, EngineFault, Sink, Source, refuse_long, write_bytes};
 use itoa::Buffer;
 use pcap_reader::Header;
 use pcapng_reader::{InterfaceDescription, SectionHeader};

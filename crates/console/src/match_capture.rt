@@ -2,16 +2,18 @@
 
 ghost use Rattle.std.specs.Prelude.{◌≡◌, ◌⊎◌, ℕ, List, [], IfOk, IfErr, IsErrOf, OnOk, true, false};
 ghost use Rattle.bpf_insn.specs.declared.insn.Insn.{Insn};
-ghost use Rattle.console.specs.Devices.{StopsWriting, Writes};
-ghost use Rattle.console.specs.Matching.{IsPrintFault, ShowsBytes, ShowsPackets};
+ghost use Rattle.engine_io.specs.Devices.{StopsWriting, Writes};
+ghost use Rattle.engine_io.specs.Reading.{IsPrintFault};
+ghost use Rattle.console.specs.Matching.{ShowsBytes, ShowsPackets};
 ghost use Rattle.capture_reader.specs.declared.entry.PacketTime.{PacketTime as Time};
 ghost use Rattle.console.specs.declared.form.PacketForm.{PacketForm as Form};
 ghost use Rattle.console.specs.Running.{HasRun};
 
+use crate::View;
 use crate::capture_fault::write_ending;
 use crate::capture_run::CaptureRun;
 use crate::output::write_outcomes;
-use crate::{EngineFault, Sink, View};
+use engine_io::{EngineFault, Sink};
 use filter_vm::Outcome;
 use std::alloc::Global;
 use std::io::Write;

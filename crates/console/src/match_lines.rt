@@ -3,13 +3,14 @@
 ghost use Rattle.std.specs.Prelude.{◌≡◌, ◌+◌, ◌<◌, ◌++◌, ◌^◌, ℕ, List, false, length, IfOk, IfErr, IsErr, IsErrOf, OnOk, MatchOption, string_bytes};
 ghost use Rattle.std.specs.Str.Lines.{lines};
 ghost use Rattle.hex.specs.Hex.{decode_of};
-ghost use Rattle.console.specs.Devices.{StopsWriting, Writes};
-ghost use Rattle.console.specs.Matching.{Answers, IsPrintFault, ShowsFirst, ShowsLines, bad_line};
+ghost use Rattle.engine_io.specs.Devices.{StopsWriting, Writes};
+ghost use Rattle.engine_io.specs.Reading.{IsPrintFault};
+ghost use Rattle.console.specs.Matching.{Answers, ShowsFirst, ShowsLines, bad_line};
 
+use crate::hexadecimal;
 use crate::lines::first_line;
 use crate::outcome::push_outcome;
-use crate::output::{BLOCK, write_text};
-use crate::{EngineFault, Sink, hexadecimal};
+use engine_io::{BLOCK, EngineFault, Sink, write_text};
 use filter_predecode::Predecoded;
 use filter_vm::Outcome;
 use std::alloc::{AllocError, Global};

@@ -3,19 +3,21 @@
 ghost use Rattle.std.specs.Prelude.{◌≡◌, ◌≤◌, ◌⊎◌, ℕ, List, IfOk, IfErr, IsErrOf, false};
 ghost use Rattle.bpf_insn.specs.declared.insn.Insn.{Insn};
 ghost use Rattle.console.specs.Code.{IsGoodCode, SameButPath, ShowsBadCode};
-ghost use Rattle.console.specs.Reading.{AreBytes, GetsAtMost, IsInput, most_taken, ShowsOne};
-ghost use Rattle.console.specs.declared.input.TheConstants.{INPUT_BYTES, INPUT_READS};
-ghost use Rattle.console.specs.Devices.{EndsEarly, EndsWell, IsFresh, Writes};
-ghost use Rattle.console.specs.Matching.{IsEngineFault, ShowsGoodCode, ShowsInput, ShowsPart, ShowsRead};
+ghost use Rattle.engine_io.specs.Reading.{GetsAtMost, IsInput, most_taken};
+ghost use Rattle.console.specs.Reading.{AreBytes, ShowsOne};
+ghost use Rattle.engine_io.specs.declared.input.TheConstants.{INPUT_BYTES, INPUT_READS};
+ghost use Rattle.engine_io.specs.Devices.{EndsEarly, EndsWell, IsFresh, Writes};
+ghost use Rattle.engine_io.specs.Reading.{IsEngineFault};
+ghost use Rattle.console.specs.Matching.{ShowsGoodCode, ShowsInput, ShowsPart, ShowsRead};
 
 use crate::capture_run::{CaptureRun, run_input};
 use crate::code::read_predecoded;
-use crate::input::{INPUT_BYTES, Input, read_bounded};
 use crate::match_capture::show_capture;
 use crate::match_lines::match_lines;
-use crate::output::write_text;
-use crate::too_long::refuse_long;
-use crate::{EngineFault, LinkTypes, PacketForm, Sink, Source};
+use crate::{LinkTypes, PacketForm};
+use engine_io::{
+    EngineFault, INPUT_BYTES, Input, Sink, Source, read_bounded, refuse_long, write_text,
+};
 use filter_predecode::Predecoded;
 use std::alloc::Global;
 use std::io::{Read, Write};

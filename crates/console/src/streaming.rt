@@ -4,18 +4,17 @@ ghost use Rattle.std.specs.Prelude.{◌≡◌, ◌⊎◌, ℕ, List, [], IfOk, I
 ghost use Rattle.std.specs.Io.KnownBytes.{IsAtEnd};
 ghost use Rattle.bpf_insn.specs.declared.insn.Insn.{Insn};
 ghost use Rattle.console.specs.Code.{IsGoodCode, ShowsBadCode};
-ghost use Rattle.console.specs.Reading.{BeginsWith};
-ghost use Rattle.console.specs.Devices.{EndsEarly, Gets, IsFresh, StopsWriting, Writes};
-ghost use Rattle.console.specs.Matching.{IsEngineFault};
+ghost use Rattle.engine_io.specs.Reading.{BeginsWith};
+ghost use Rattle.engine_io.specs.Devices.{EndsEarly, Gets, IsFresh, StopsWriting, Writes};
+ghost use Rattle.engine_io.specs.Reading.{IsEngineFault};
 ghost use Rattle.console.specs.Streaming.{SourceRan, StreamLeaves, StreamShows, form_of, is_stamped};
 ghost use Rattle.console.specs.Views.{IsFound, ShowsView, ShowsViewCode, ShowsViewPart, ViewLeaves, ViewShows, heard, shows_stamps};
 
 use crate::code::read_predecoded;
-use crate::input::BLOCK;
-use crate::output::write_text;
 use crate::packet_source::PacketSource;
 use crate::tally::Tally;
-use crate::{EngineFault, Got, LinkTypes, PacketForm, Sink, Source, View};
+use crate::{LinkTypes, PacketForm, View};
+use engine_io::{EngineFault, Got, READ_BYTES, Sink, Source, write_text};
 use filter_predecode::Predecoded;
 use std::alloc::Global;
 use std::io::{Read, Write};
@@ -162,7 +161,7 @@ fn stream<R: Read, W: Write>(
     let mut outcomes = Vec::new(alloc);
     let mut stamps = Vec::new(alloc);
     let mut tally = Tally::new(alloc, view);
-    let mut block = [0u8; BLOCK];
+    let mut block = [0u8; READ_BYTES];
     for _turn in 0..STREAM_READS {
         match reader.read(&mut block) {
             Got::End => {

@@ -3,16 +3,17 @@
 ghost use Rattle.std.specs.Prelude.{◌≡◌, ◌+◌, ◌<◌, ◌^◌, ◌++◌, ℕ, List, [], length, IfOk, IfErr, IsTrue, OnOk, OnErr, string_bytes, false};
 ghost use Rattle.filter_vm.specs.declared.machine.Outcome.{Outcome as Ended};
 ghost use Rattle.console.specs.declared.view.View.{View as Shown};
-ghost use Rattle.console.specs.Devices.{StopsWriting, Writes};
-ghost use Rattle.console.specs.Matching.{IsPrintFault};
-ghost use Rattle.console.specs.Reading.{BeginsWith};
+ghost use Rattle.engine_io.specs.Devices.{StopsWriting, Writes};
+ghost use Rattle.engine_io.specs.Reading.{IsPrintFault};
+ghost use Rattle.engine_io.specs.Reading.{BeginsWith};
 ghost use Rattle.console.specs.Views.{HasCounted, IsNoneStatus, ShowsEnd, accepted, ending_status, shown_at_once};
 
+use crate::View;
 use crate::ending::Ending;
-use crate::output::{write_outcomes, write_text};
+use crate::output::write_outcomes;
 use crate::view::push_after;
-use crate::{EngineFault, Sink, View};
 use capture_reader::PacketTime;
+use engine_io::{EngineFault, Sink, write_text};
 use filter_vm::Outcome;
 use std::alloc::{AllocError, Global};
 use std::io::Write;

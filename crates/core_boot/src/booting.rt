@@ -3,7 +3,7 @@
 ghost use Rattle.std.specs.Prelude.{◌≡◌, ◌<◌, ◌≤◌, ◌⊎◌, ◌↔◌, ℕ, All, List, length, Err, IfOk, OnOk};
 ghost use Rattle.core_loop.specs.Cores.{AreShort};
 ghost use Rattle.core_join.specs.Machines.{IsMachine};
-ghost use Rattle.core_boot.specs.declared.booting.BootFault.TheVariants.{CoreCount};
+ghost use Rattle.world_core.specs.declared.fault.BootFault.TheVariants.{CoreCount};
 ghost use Rattle.core_boot.specs.Booted.{AreBooted, HasDoneNothing};
 ghost use Rattle.core_boot.specs.Booting.{ComesUp, AddsCore, HaveComeUp, HaveRequests, AreGivable, AreShortLanes, IsMachineOf};
 ghost use Rattle.core_boot.specs.Wiring.{AreSilent};
@@ -16,15 +16,7 @@ use rx_queue::{Port, queue};
 use std::alloc::{AllocError, Global};
 use std::collections::VecDeque;
 use std::mem;
-
-/// Why there is no machine.
-#[derive(Clone, Copy, PartialEq, Eq, Debug)]
-pub enum BootFault {
-    /// A machine has 1 to 8 cores.
-    CoreCount,
-    /// There was no memory.
-    NoMemory,
-}
+use world_core::BootFault;
 
 // The jobs that a core's queue holds.
 const QUEUE_JOBS: usize = 16;

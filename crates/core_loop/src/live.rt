@@ -12,17 +12,22 @@ use core_links::Links;
 use filter_table::{Kept, Op};
 use std::alloc::AllocError;
 use table_replica::{Replica, Scratch};
+use thiserror::Error;
 
 /// Why a packet isn't received. Nothing has changed.
-#[derive(Clone, Copy, PartialEq, Eq, Debug)]
+#[derive(Clone, Copy, PartialEq, Eq, Debug, Error)]
 pub enum NotReceived {
     /// The core has stopped.
+    #[error("the core has stopped")]
     Stopped(Cause),
     /// The stamp of the event would be too great.
+    #[error("the stamp of the event would be too great")]
     Spent,
     /// So many endpoints get the packet, and there is room for fewer.
+    #[error("{0} endpoints get the packet, and there is room for fewer")]
     NoRoom(usize),
     /// Memory was refused.
+    #[error("out of memory")]
     NoMemory,
 }
 

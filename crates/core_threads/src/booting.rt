@@ -1,7 +1,7 @@
 //! How a machine comes up.
 
 ghost use Rattle.std.specs.Prelude.{◌≡◌, ◌<◌, ◌⊎◌, ◌↔◌, All, length, Err, IfOk};
-ghost use Rattle.core_boot.specs.declared.booting.BootFault.TheVariants.{CoreCount};
+ghost use Rattle.world_core.specs.declared.fault.BootFault.TheVariants.{CoreCount};
 ghost use Rattle.core_boot.specs.Booted.{AreBooted};
 ghost use Rattle.core_boot.specs.Booting.{HaveRequests, AreGivable, IsMachineOf};
 ghost use Rattle.core_threads.specs.Recording.{HaveNoHistories};

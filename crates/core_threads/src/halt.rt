@@ -5,6 +5,7 @@ ghost use Rattle.core_threads.specs.declared.halt.RunFault.TheVariants as run_fa
 
 use core_loop::Cause;
 use std::alloc::AllocError;
+use thiserror::Error;
 
 /// Why a core halted.
 #[derive(Clone, Copy, PartialEq, Eq, Debug)]
@@ -24,11 +25,13 @@ pub enum Halt {
 }
 
 /// Why there is no end of a run: its machine and its jobs are gone.
-#[derive(Clone, Copy, PartialEq, Eq, Debug)]
+#[derive(Clone, Copy, PartialEq, Eq, Debug, Error)]
 pub enum RunFault {
     /// A thread could not be started. Those that were started are joined.
+    #[error("a thread could not be started")]
     Spawn,
     /// There was no memory.
+    #[error("out of memory")]
     NoMemory,
 }
 

@@ -1,8 +1,8 @@
 -- What `draw` shows of an input: the picture of its trace, or its first bad line.
 use Rattle.std.specs.Prelude.{◌≡◌, Bool, true, false, ℕ, ◌<◌, ◌≤◌, ◌⊎◌, List, ◌++◌, length, codes, Result, Ok, Err}
 use Rattle.std.specs.Fmt.{decimal}
-use Rattle.console.specs.declared.input.TheConstants.{INPUT_BYTES}
-use Rattle.console.specs.Reading.{ShowsTooLong}
+use Rattle.engine_io.specs.declared.input.TheConstants.{INPUT_BYTES}
+use Rattle.engine_io.specs.Reading.{ShowsTooLong}
 use Rattle.trace_lines.specs.Lines.{Shown}
 use Rattle.trace_lines.specs.Traces.{trace_of}
 use Rattle.draw_engine.specs.Svg.{svg}

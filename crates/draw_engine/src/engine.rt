@@ -1,17 +1,17 @@
 //! `draw`: the picture of a trace.
 
 ghost use Rattle.std.specs.Prelude.{◌≡◌, ◌≤◌, ◌⊎◌, ℕ, List, IfOk, IfErr, Err, false};
-ghost use Rattle.console.specs.declared.input.TheConstants.{INPUT_BYTES, INPUT_READS};
-ghost use Rattle.console.specs.Devices.{EndsEarly, EndsWell, IsFresh, Writes};
-ghost use Rattle.console.specs.Matching.{IsEngineFault};
-ghost use Rattle.console.specs.Reading.{IsInput, most_taken};
+ghost use Rattle.engine_io.specs.declared.input.TheConstants.{INPUT_BYTES, INPUT_READS};
+ghost use Rattle.engine_io.specs.Devices.{EndsEarly, EndsWell, IsFresh, Writes};
+ghost use Rattle.engine_io.specs.Reading.{IsEngineFault};
+ghost use Rattle.engine_io.specs.Reading.{IsInput, most_taken};
 ghost use Rattle.draw_engine.specs.Drawing.{Shows, ShowsDraw, bad_line};
 ghost use Rattle.std.specs.Prelude.{string_bytes};
 ghost use Rattle.trace_lines.specs.Traces.{trace_of};
 
 use crate::svg::svg;
 use crate::text::draw_as_text;
-use console::{EngineFault, Shown, Sink, Source, show_input};
+use engine_io::{EngineFault, Shown, Sink, Source, show_input};
 use std::alloc::{AllocError, Global};
 use std::io::{Read, Write};
 use trace_lines::{TraceFault, link_events, read_trace};

@@ -7,6 +7,8 @@
 ghost use Rattle.std.specs.Prelude.{◌≡◌};
 ghost use Rattle.endpoint_caps.specs.Capabilities.{has_right, is_within};
 
+use thiserror::Error;
+
 mod table;
 
 pub use table::Caps;
@@ -70,22 +72,30 @@ pub struct Cap {
 }
 
 /// Why an operation on capabilities is refused.
-#[derive(Clone, Copy, PartialEq, Eq, Debug, Drop)]
+#[derive(Clone, Copy, PartialEq, Eq, Debug, Drop, Error)]
 pub enum CapFault {
     /// No capability of that id is held.
+    #[error("no capability of that id is held")]
     NoCap,
     /// Another domain holds it.
+    #[error("another domain holds the capability")]
     NotHolder,
     /// It lacks the right that is asked for.
+    #[error("the capability lacks the right")]
     NoRight,
     /// The rights asked for are not within its own.
+    #[error("the rights are not within those of the capability")]
     RightsExceed,
     /// A capability of that endpoint is held.
+    #[error("a capability of that endpoint is held")]
     EndpointTaken,
     /// As many capabilities are held as may be.
+    #[error("as many capabilities are held as may be")]
     CapsFull,
     /// The last id has been given out.
+    #[error("the last id of a capability has been given out")]
     IdsSpent,
     /// There was no memory.
+    #[error("out of memory")]
     NoMemory,
 }

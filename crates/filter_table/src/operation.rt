@@ -3,6 +3,7 @@
 use bpf_insn::Insn;
 use endpoint_caps::Rights;
 use seq::Shared;
+use thiserror::Error;
 
 /// A program that may not be verified. An equal one takes no memory.
 pub type Program = Shared<Insn>;
@@ -55,46 +56,63 @@ pub enum Op {
 }
 
 /// The rule that an operation breaks.
-#[derive(Clone, Copy, PartialEq, Eq, Debug, Drop)]
+#[derive(Clone, Copy, PartialEq, Eq, Debug, Drop, Error)]
 pub enum OpFault {
     /// No capability of that id is held.
+    #[error("no capability of that id is held")]
     NoCap,
     /// Another domain holds the capability.
+    #[error("another domain holds the capability")]
     NotHolder,
     /// The capability lacks the right.
+    #[error("the capability lacks the right")]
     NoRight,
     /// The rights asked for are not within those of the capability.
+    #[error("the rights are not within those of the capability")]
     RightsExceed,
     /// A capability of that endpoint is held.
+    #[error("a capability of that endpoint is held")]
     EndpointTaken,
     /// 1,024 capabilities are held.
+    #[error("as many capabilities are held as may be")]
     CapsFull,
     /// The last id of a capability has been given out.
+    #[error("the last id of a capability has been given out")]
     IdsSpent,
     /// No filter of that id is listed.
+    #[error("no filter of that id is listed")]
     NoFilter,
     /// Another domain owns the filter.
+    #[error("another domain owns the filter")]
     NotOwner,
     /// 1,024 filters are listed.
+    #[error("as many filters are listed as may be")]
     TableFull,
     /// The last id of a filter has been given out.
+    #[error("the last id of a filter has been given out")]
     FilterIdsSpent,
     /// The verifier refuses the program, by the rule of this number and at this place (0 where no single place is at fault).
+    #[error("the verifier refuses the program, by rule {rule} at instruction {pc}")]
     BadProgram { rule: u8, pc: u16 },
     /// The last version has been reached.
+    #[error("the last version has been reached")]
     VersionsSpent,
 }
 
 /// Why an operation is not staged.
-#[derive(Clone, Copy, PartialEq, Eq, Debug, Drop)]
+#[derive(Clone, Copy, PartialEq, Eq, Debug, Drop, Error)]
 pub enum StageFault {
     /// Another operation is staged.
+    #[error("another operation is staged")]
     AlreadyStaged,
     /// It breaks a rule, which every replica of the table says of it.
+    #[error(transparent)]
     Rule(OpFault),
     /// The instructions of the filters would exceed this replica's budget.
+    #[error("the instructions of the filters would exceed the budget")]
     Budget,
     /// There was no memory. No test but the verifier's search for unwritten words was left.
+    #[error("out of memory")]
     NoMemory,
 }
 

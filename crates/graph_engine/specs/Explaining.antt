@@ -13,8 +13,8 @@ use Rattle.bpf_insn.specs.Machine.{Packet}
 use Rattle.filter_vm.specs.Tracing.{Traces}
 use Rattle.console.specs.Code.{IsGoodCode}
 use Rattle.console.specs.Matching.{Hex, Stops, outcome_line}
-use Rattle.console.specs.Reading.{ShowsTooLong}
-use Rattle.console.specs.declared.input.TheConstants.{INPUT_BYTES}
+use Rattle.engine_io.specs.Reading.{ShowsTooLong}
+use Rattle.engine_io.specs.declared.input.TheConstants.{INPUT_BYTES}
 
 -- an instruction that was taken: its line of the assembler text, and the registers after it
 abbrev pub taken_line : List Insn → Taken → List ℕ

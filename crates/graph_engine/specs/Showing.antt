@@ -5,8 +5,8 @@ use Rattle.filter_asm.specs.Program.{Asm, Assembles, Fault}
 use Rattle.filter_verify.specs.declared.rules.Refusal.{Refusal}
 use Rattle.filter_verify.specs.Rules.{Refuses, Sound}
 use Rattle.console.specs.Checking.{asm_fault_line}
-use Rattle.console.specs.Reading.{ShowsTooLong}
-use Rattle.console.specs.declared.input.TheConstants.{INPUT_BYTES}
+use Rattle.engine_io.specs.Reading.{ShowsTooLong}
+use Rattle.engine_io.specs.declared.input.TheConstants.{INPUT_BYTES}
 use Rattle.graph_engine.specs.Graph.{graph_text}
 
 -- the verifier accepts the program, or this is the first reason for which it doesn't

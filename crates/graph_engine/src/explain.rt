@@ -10,17 +10,15 @@ ghost use Rattle.bpf_insn.specs.Program.{form_at};
 ghost use Rattle.bpf_insn.specs.declared.insn.Insn.{Insn};
 ghost use Rattle.filter_verify.specs.Rules.{Sound};
 ghost use Rattle.console.specs.Code.{IsGoodCode, ShowsBadCode};
-ghost use Rattle.console.specs.declared.input.TheConstants.{INPUT_BYTES, INPUT_READS};
-ghost use Rattle.console.specs.Devices.{EndsEarly, EndsWell, IsFresh, Writes};
-ghost use Rattle.console.specs.Matching.{IsEngineFault};
-ghost use Rattle.console.specs.Reading.{IsInput, most_taken};
+ghost use Rattle.engine_io.specs.declared.input.TheConstants.{INPUT_BYTES, INPUT_READS};
+ghost use Rattle.engine_io.specs.Devices.{EndsEarly, EndsWell, IsFresh, Writes};
+ghost use Rattle.engine_io.specs.Reading.{IsEngineFault};
+ghost use Rattle.engine_io.specs.Reading.{IsInput, most_taken};
 ghost use Rattle.graph_engine.specs.Explaining as spec;
 
 use bpf_insn::{Insn, push_form};
-use console::{
-    EngineFault, Shown, Sink, Source, decode, first_line, push_bad_line, push_outcome, read_code,
-    show_input, write_text,
-};
+use console::{decode, first_line, push_bad_line, push_outcome, read_code};
+use engine_io::{EngineFault, Shown, Sink, Source, show_input, write_text};
 use filter_verify::Verified;
 use filter_vm::{Outcome, Taken, trace_run};
 use std::alloc::{AllocError, Global};

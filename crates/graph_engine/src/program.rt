@@ -1,15 +1,16 @@
 //! `check --graph`: the control flow of a filter.
 
 ghost use Rattle.std.specs.Prelude.{◌≡◌, ◌<◌, ◌≤◌, ◌^◌, ◌⊎◌, ℕ, List, length, IfOk, IfErr, Err, false};
-ghost use Rattle.console.specs.declared.input.TheConstants.{INPUT_BYTES, INPUT_READS};
-ghost use Rattle.console.specs.Devices.{EndsEarly, EndsWell, IsFresh, Writes};
-ghost use Rattle.console.specs.Matching.{IsEngineFault};
-ghost use Rattle.console.specs.Reading.{IsInput, most_taken};
+ghost use Rattle.engine_io.specs.declared.input.TheConstants.{INPUT_BYTES, INPUT_READS};
+ghost use Rattle.engine_io.specs.Devices.{EndsEarly, EndsWell, IsFresh, Writes};
+ghost use Rattle.engine_io.specs.Reading.{IsEngineFault};
+ghost use Rattle.engine_io.specs.Reading.{IsInput, most_taken};
 ghost use Rattle.graph_engine.specs.Showing.{ShowsAsm, ShowsGraph, Verifies};
 
 use crate::graph::graph;
 use bpf_insn::Insn;
-use console::{EngineFault, Shown, Sink, Source, fault_line, show_input};
+use console::fault_line;
+use engine_io::{EngineFault, Shown, Sink, Source, show_input};
 use filter_asm::assemble;
 use filter_verify::{Refusal, verify};
 use std::alloc::{AllocError, Global};

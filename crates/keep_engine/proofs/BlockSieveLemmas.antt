@@ -14,8 +14,8 @@ use Rattle.pcapng_reader.specs.declared.fault.CaptureFault.TheVariants.{BadBlock
 use Rattle.pcapng_reader.specs.declared.feed.BlockFeed.{BlockFeed}
 use Rattle.pcapng_reader.specs.declared.seen.Block.{Block as SeenBlock}
 use Rattle.pcapng_reader.specs.declared.seen.Skimmed.{Skimmed}
-use Rattle.pcapng_reader.specs.declared.feed.Step.{Step}
-use Rattle.pcapng_reader.specs.declared.feed.Step.TheVariants.{Block, Held, Passed, More}
+use Rattle.pcapng_reader.specs.declared.feed.FeedStep.{FeedStep}
+use Rattle.pcapng_reader.specs.declared.feed.FeedStep.TheVariants.{Block, Held, Passed, More}
 use Rattle.pcapng_reader.specs.Grammar.{WholeBlock}
 use Rattle.pcapng_reader.specs.Held.{Advances, Ends, HasBytes, HoldsAfter, HoldsAt, IsFresh, Skims, Takes, copies_all, held_block, held_fault, place_of, seen_block}
 use Rattle.pcapng_reader.specs.Held.{HasStopped as HasStoppedFeed}
@@ -150,7 +150,7 @@ held_sifts program wanted rest rest' old new (Some block) before after takes is 
     one_held block other e = cc
 
 -- what a step made of the bytes that it took
-pub step_sifts : (program : List Insn) (wanted : Wanted) (rest rest' : List ℕ) (old new : BlockSieve) (step : Step) (before after : List ℕ) → (takes : Takes rest rest' old.feed new.feed step) → HasBytes (copies_all old.feed) step
+pub step_sifts : (program : List Insn) (wanted : Wanted) (rest rest' : List ℕ) (old new : BlockSieve) (step : FeedStep) (before after : List ℕ) → (takes : Takes rest rest' old.feed new.feed step) → HasBytes (copies_all old.feed) step
     → copies_all new.feed ≡ copies_all old.feed → held_fault new.feed ≡ None → ((fault : CaptureFault) → held_fault old.feed ≡ Some fault → new.feed ≡ old.feed) → new.fault ≡ old.fault → KeepsStep program wanted new.feed step before after
     → Sifts (HasSiftedBlocks program wanted) takes.front old new before after
 step_sifts program wanted rest rest' old new (Block block) before after takes bytes copies going stays same (more, leaves, pushed) = record {

@@ -18,12 +18,12 @@ use Rattle.pcapng_reader.proofs.LawLemmas.{block_least}
 use Rattle.pcapng_reader.proofs.SectionLemmas.{section_begun}
 use Rattle.console.specs.declared.streaming.TheConstants.{STREAM_READS}
 use Rattle.keep_engine.specs.declared.keeping.TheConstants.{BLOCK, MANY, SMALL}
-use Rattle.console.specs.declared.source.Source.{Source}
-use Rattle.console.specs.declared.sink.Sink.{Sink}
-use Rattle.console.specs.Devices.{Gets, GetsNothing, Writes}
+use Rattle.engine_io.specs.declared.source.Source.{Source}
+use Rattle.engine_io.specs.declared.sink.Sink.{Sink}
+use Rattle.engine_io.specs.Devices.{Gets, GetsNothing, Writes}
 use Rattle.console.specs.Matching.{AnswersCaptured}
-use Rattle.console.specs.Reading.{BeginsWith}
-use Rattle.console.proofs.KnownBytesLemmas.{gets-kept, gets-nothing, gets-then, writes-nothing, writes-then}
+use Rattle.engine_io.specs.Reading.{BeginsWith}
+use Rattle.engine_io.proofs.KnownBytesLemmas.{gets-kept, gets-nothing, gets-then, writes-nothing, writes-then}
 use Rattle.console.proofs.StreamingLemmas.{begins_itself}
 use Rattle.console.specs.Code.{IsGoodCode, ShowsBadCode}
 use Rattle.keep_engine.specs.declared.choice.Wanted.{Wanted}

@@ -21,7 +21,7 @@ use Rattle.console.specs.Choosing.{is_link}
 use Rattle.console.specs.Code.{IsGoodCode}
 use Rattle.console.specs.Faults.{fault_status, fault_text}
 use Rattle.console.specs.Matching.{AnswersCaptured}
-use Rattle.console.specs.Reading.{BeginsWith}
+use Rattle.engine_io.specs.Reading.{BeginsWith}
 use Rattle.keep_engine.specs.declared.choice.Wanted.{Wanted}
 
 -- whether the filter accepts a packet with this outcome: the verdict is above 0; or, inverted, whether it doesn't

@@ -13,14 +13,14 @@ use Rattle.pcap_reader.specs.Savefile.{HasNoHeader, IsHeader, IsLong, IsPart, Is
 use Rattle.pcapng_reader.specs.declared.fault.CaptureFault.TheVariants.{NoMemory}
 use Rattle.pcapng_reader.specs.declared.feed.BlockFeed.{BlockFeed}
 use Rattle.pcapng_reader.specs.declared.seen.Skimmed.{Skimmed}
-use Rattle.pcapng_reader.specs.declared.feed.Step.{Step}
-use Rattle.pcapng_reader.specs.declared.feed.Step.TheVariants.{Block, Held}
+use Rattle.pcapng_reader.specs.declared.feed.FeedStep.{FeedStep}
+use Rattle.pcapng_reader.specs.declared.feed.FeedStep.TheVariants.{Block, Held}
 use Rattle.pcapng_reader.specs.Blocks.{is_pcapng}
 use Rattle.pcapng_reader.specs.Grammar.{WholeBlock}
 use Rattle.pcapng_reader.specs.Held.{HoldsAfter, copies_all, held_block, held_fault, seen_block}
 use Rattle.console.specs.Matching.{AnswersCaptured}
 use Rattle.keep_engine.specs.declared.choice.Wanted.{Wanted}
-use Rattle.keep_engine.specs.declared.sifting.Taken.{Taken}
+use Rattle.keep_engine.specs.declared.sifting.TakenRecords.{TakenRecords}
 use Rattle.keep_engine.specs.declared.record_sieve.RecordSieve.{RecordSieve}
 use Rattle.keep_engine.specs.declared.block_sieve.BlockSieve.{BlockSieve}
 use Rattle.keep_engine.specs.declared.sieve.Format.{Format}
@@ -57,7 +57,7 @@ IsLeft big true rest = IsLong big rest
 IsLeft big false rest = (rest ≡ []) ⊎ IsPart big rest
 
 -- the records of so many bytes were taken, and no more are whole
-abbrev pub TakesTo : List Insn → Wanted → Header → List ℕ → List ℕ → List ℕ → Taken → Type 0
+abbrev pub TakesTo : List Insn → Wanted → Header → List ℕ → List ℕ → List ℕ → TakenRecords → Type 0
 TakesTo program wanted h bytes before after taken = (taken.count ≤ length bytes)
     × TakesRecords program wanted h bytes (drop taken.count bytes) before after × IsLeft h.big taken.long (drop taken.count bytes)
 
@@ -117,7 +117,7 @@ KeepsHeld program wanted (Some block) before after = KeepsBlock program wanted b
 KeepsHeld program wanted None before after = after ≡ before
 
 -- what is kept of the block that a step made whole was appended, if it did
-abbrev pub KeepsStep : List Insn → Wanted → BlockFeed → Step → List ℕ → List ℕ → Type 0
+abbrev pub KeepsStep : List Insn → Wanted → BlockFeed → FeedStep → List ℕ → List ℕ → Type 0
 KeepsStep program wanted feed (Block block) before after = KeepsBlock program wanted (seen_block block) before after
 KeepsStep program wanted feed Held before after = KeepsHeld program wanted (held_block feed) before after
 KeepsStep program wanted feed _ before after = after ≡ before

@@ -11,7 +11,7 @@ use crate::choice::{Wanted, keep_one};
 use console::LinkTypes;
 use filter_predecode::Predecoded;
 use pcap_reader::Seen;
-use pcapng_reader::{Block, BlockFeed, CaptureFault, Content, Skimmed, Step};
+use pcapng_reader::{Block, BlockFeed, CaptureFault, Content, FeedStep, Skimmed};
 use std::alloc::{AllocError, Global};
 
 /// A capture in pcapng that comes in pieces, cut anywhere, whose whole blocks are taken as soon as they are there.
@@ -108,14 +108,14 @@ impl BlockSieve {
 }
 
 /// The link types with that of the block that a step made whole, if it describes an interface.
-fn links_with(links: LinkTypes, feed: &BlockFeed, step: Step) -> LinkTypes {
+fn links_with(links: LinkTypes, feed: &BlockFeed, step: FeedStep) -> LinkTypes {
     let content = match step {
-        Step::Block(block) => block.content,
-        Step::Held => match feed.held() {
+        FeedStep::Block(block) => block.content,
+        FeedStep::Held => match feed.held() {
             Some(block) => block.content,
             None => return links,
         },
-        Step::Passed | Step::More => return links,
+        FeedStep::Passed | FeedStep::More => return links,
     };
     match content {
         Content::Interface(interface) => links.with(u32::from(interface.link)),
@@ -147,18 +147,18 @@ fn keep_step(
     program: &Predecoded,
     wanted: Wanted,
     feed: &BlockFeed,
-    step: Step,
+    step: FeedStep,
     kept: &mut Vec<u8>,
 ) -> Result<(), AllocError>
     ensures { OnOk result (KeepsStep program.now wanted feed.now step.entry kept.old.items kept.new.items) }
 {
     match step {
-        Step::Block(block) => keep_block(program, wanted, block, kept),
-        Step::Held => match feed.held() {
+        FeedStep::Block(block) => keep_block(program, wanted, block, kept),
+        FeedStep::Held => match feed.held() {
             Some(block) => keep_block(program, wanted, block, kept),
             None => Ok(()),
         },
-        Step::Passed | Step::More => Ok(()),
+        FeedStep::Passed | FeedStep::More => Ok(()),
     }
 }
 

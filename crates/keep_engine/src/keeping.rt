@@ -4,17 +4,15 @@ ghost use Rattle.std.specs.Prelude.{◌≡◌, ◌≤◌, ◌<◌, ◌⊎◌, �
 ghost use Rattle.std.specs.Io.KnownBytes.{IsAtEnd};
 ghost use Rattle.bpf_insn.specs.declared.insn.Insn.{Insn};
 ghost use Rattle.console.specs.Code.{IsGoodCode, ShowsBadCode};
-ghost use Rattle.console.specs.Devices.{EndsEarly, Gets, IsFresh, Writes};
-ghost use Rattle.console.specs.Matching.{IsEngineFault};
+ghost use Rattle.engine_io.specs.Devices.{EndsEarly, Gets, IsFresh, Writes};
+ghost use Rattle.engine_io.specs.Reading.{IsEngineFault};
 ghost use Rattle.keep_engine.specs.Keeping.{KeepsGoodCode, KeepsFront, KeepsPart, Keeps, Says};
 
 use crate::choice::Wanted;
 use crate::sieve::Sieve;
 use capture_reader::ReadFault;
-use console::{
-    EngineFault, Got, LinkTypes, STREAM_READS, Sink, Source, push_read_words, read_code,
-    write_bytes,
-};
+use console::{LinkTypes, STREAM_READS, push_read_words, read_code};
+use engine_io::{EngineFault, Got, Sink, Source, write_bytes};
 use filter_predecode::Predecoded;
 use std::alloc::{AllocError, Global};
 use std::io::{Read, Write};

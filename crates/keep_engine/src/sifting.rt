@@ -11,7 +11,7 @@ use std::alloc::AllocError;
 
 /// How far bytes were taken.
 #[derive(Clone, Copy, Debug)]
-pub struct Taken {
+pub struct TakenRecords {
     /// How many bytes the whole records at their front have.
     pub count: usize,
     /// Whether a record comes next that is too long.
@@ -134,7 +134,7 @@ fn sift(
     header: Header,
     bytes: &[u8],
     kept: &mut Vec<u8>,
-) -> Result<Taken, AllocError>
+) -> Result<TakenRecords, AllocError>
     ensures { IfOk result (TakesTo program.now wanted header bytes.now kept.old.items kept.new.items) }
 {
     let mut count = 0;
@@ -152,8 +152,8 @@ fn sift(
                 )?;
                 count += length;
             }
-            Front::Part => return Ok(Taken { count, long: false }),
-            Front::TooLong => return Ok(Taken { count, long: true }),
+            Front::Part => return Ok(TakenRecords { count, long: false }),
+            Front::TooLong => return Ok(TakenRecords { count, long: true }),
         }
     }
 }

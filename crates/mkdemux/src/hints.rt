@@ -2,7 +2,7 @@
 
 use crate::devices::FileInput;
 use command_line::{MatchView, Request};
-use console::{INPUT_BYTES, Source};
+use engine_io::{INPUT_BYTES, Source};
 
 /// What to say of the input of a request whose status is 1, after the line that says what is wrong.
 pub fn hint(

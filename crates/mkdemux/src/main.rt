@@ -6,7 +6,7 @@
 #![tactic(auto)]
 
 ghost use Rattle.std.specs.Prelude.{◌≡◌, IfOk, false};
-ghost use Rattle.console.specs.Devices.{IsFresh};
+ghost use Rattle.engine_io.specs.Devices.{IsFresh};
 ghost use Rattle.commands.specs.Commands.{reads_of};
 ghost use Rattle.script_input.specs.Inputs.{AllFresh};
 
@@ -19,10 +19,10 @@ use clap::Error;
 use clap::error::ErrorKind;
 use command_line::{Invocation, Request, request_of};
 use commands::{most_reads, perform};
-use console::{EngineFault, INPUT_READS, LinkTypes, Sink, Source};
+use console::LinkTypes;
 use core_loop::Cause;
 use core_threads::{Free, Halt};
-use devices::{FileInput, Output};
+use engine_io::{EngineFault, FileInput, INPUT_READS, Output, Sink, Source};
 use hints::hint;
 use progress::Progress;
 use run_engine::RunFailure;

@@ -1,6 +1,7 @@
 //! What a step of core 0 tells, and why one is not taken.
 
 use filter_table::Decision;
+use thiserror::Error;
 
 /// What core 0 says to every other core.
 #[derive(Clone, Copy, PartialEq, Eq, Debug, Drop)]
@@ -27,16 +28,20 @@ pub struct Step {
 }
 
 /// Why a request is not started.
-#[derive(Clone, Copy, PartialEq, Eq, Debug, Drop)]
+#[derive(Clone, Copy, PartialEq, Eq, Debug, Drop, Error)]
 pub enum StartFault {
     /// Another request is under way.
+    #[error("another request is under way")]
     NotIdle,
     /// The last number has been given out.
+    #[error("the last number has been given out")]
     Spent,
     /// The core has no request waiting.
+    #[error("the core has no request waiting")]
     NoneWaiting,
 }
 
 /// The message doesn't fit the place in the protocol.
-#[derive(Clone, Copy, PartialEq, Eq, Debug, Drop)]
+#[derive(Clone, Copy, PartialEq, Eq, Debug, Drop, Error)]
+#[error("the message does not fit the place in the protocol")]
 pub struct Stranger;

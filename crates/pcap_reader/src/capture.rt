@@ -4,6 +4,7 @@ ghost use Rattle.std.specs.Prelude.{◌≡◌};
 
 use seq::Seq;
 use std::alloc::{AllocError, AllocFailed};
+use thiserror::Error;
 
 /// The captured bytes of a packet, in order.
 pub type Bytes = Seq<u8>;
@@ -43,21 +44,27 @@ pub struct Capture {
 }
 
 /// Why a capture ends early.
-#[derive(Clone, Copy, Debug, PartialEq, Eq)]
+#[derive(Clone, Copy, Debug, PartialEq, Eq, Error)]
 pub enum CaptureFault {
     /// The first four bytes are none of the four magic numbers.
+    #[error("the first four bytes are no magic number")]
     BadMagic,
     /// The version isn't 2.4.
+    #[error("the version is not 2.4")]
     BadVersion,
     /// The bytes end within the header of 24 bytes, or before it.
+    #[error("the capture ends within its header")]
     TruncatedHeader,
     /// The bytes end within a record: its header of 16 bytes or its captured bytes. The offset is
     /// the place in the file of the first byte of the record's header.
+    #[error("the capture ends within the record at byte {0}")]
     TruncatedRecord(u64),
     /// A record says that more than 262,144 bytes were captured. The offset is the place in the
     /// file of the first byte of the record's header.
+    #[error("the record at byte {0} has more than 262,144 bytes")]
     TooLong(u64),
     /// Memory was refused.
+    #[error("out of memory")]
     NoMemory,
 }
 

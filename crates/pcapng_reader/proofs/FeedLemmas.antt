@@ -19,9 +19,9 @@ use Rattle.pcapng_reader.specs.declared.feed.BlockFeed.{BlockFeed}
 use Rattle.pcapng_reader.specs.declared.feed.Passing.{Passing}
 use Rattle.pcapng_reader.specs.declared.feed.Held.{Held as HeldBlock}
 use Rattle.pcapng_reader.specs.declared.seen.Block.{Block as SeenBlock}
-use Rattle.pcapng_reader.specs.declared.feed.Step.{Step}
+use Rattle.pcapng_reader.specs.declared.feed.FeedStep.{FeedStep}
 use Rattle.pcapng_reader.specs.Answers.{seen_blocks}
-use Rattle.pcapng_reader.specs.declared.feed.Step.TheVariants.{Block, Held, Passed, More}
+use Rattle.pcapng_reader.specs.declared.feed.FeedStep.TheVariants.{Block, Held, Passed, More}
 use Rattle.pcapng_reader.specs.Blocks.{frame_in, content_in, content_by, is_needed}
 use Rattle.pcapng_reader.specs.Grammar.{WholeBlock, Place, start, front_at, framed_in, outcome_of, place_after, IsBlock, Follow, bytes_of, EndsWith, Reads, ReadsFront, IsLasting}
 use Rattle.pcapng_reader.specs.Held.{seen_block, place_of, open_part, Passes, IsUnfinished, IsOpen, HasStopped, HoldsAfter, LiesIn, Takes, Advances, Ends}
@@ -180,12 +180,12 @@ grown_next given fed piece old new n going between resting held wanted more grew
     }
 
 -- what was found in a front of some bytes is found in them all
-pub goes_apart : (bytes : List ℕ) (count : ℕ) (old new : BlockFeed) (r : Result Step CaptureFault) → IfOk r IsApart
+pub goes_apart : (bytes : List ℕ) (count : ℕ) (old new : BlockFeed) (r : Result FeedStep CaptureFault) → IfOk r IsApart
     → ((given : List WholeBlock) (fed : List ℕ) → HoldsAfter given fed old → length (fed ++ take count bytes) < 18446744073709551616 → GoesOn given (fed ++ take count bytes) new r)
     → Advances bytes (take (length bytes - count) (drop count bytes)) old new r
 goes_apart bytes count old new (Ok step) is goes = record { front = take count bytes; parts = two_parts count bytes; lies = lies_apart (take count bytes) step is; adds = goes }
   where
-    lies_apart : (front : List ℕ) (step : Step) → IsApart step → LiesIn front step
+    lies_apart : (front : List ℕ) (step : FeedStep) → IsApart step → LiesIn front step
     lies_apart front (Block b) is = absurd is
     lies_apart front Held is = tt
     lies_apart front Passed is = tt
@@ -353,7 +353,7 @@ let_go given fed old new gone going held =
     let stands = open_of given fed old going held in
     holds_by given fed new old.passing (open_part old.held old.part.items) (gone.fault ∙ going) gone.held gone.passing gone.part (rw gone.place stands)
 
-pub advances_after : (bytes rest : List ℕ) (old mid new : BlockFeed) (r : Result Step CaptureFault) → IsLetGo old mid → old.fault ≡ None → Advances bytes rest mid new r → Advances bytes rest old new r
+pub advances_after : (bytes rest : List ℕ) (old mid new : BlockFeed) (r : Result FeedStep CaptureFault) → IsLetGo old mid → old.fault ≡ None → Advances bytes rest mid new r → Advances bytes rest old new r
 advances_after bytes rest old mid new (Ok step) gone going advances = record {
   front = advances.front;
   parts = advances.parts;

@@ -14,16 +14,16 @@ use Rattle.pcapng_reader.specs.declared.fault.CaptureFault.{CaptureFault}
 use Rattle.pcapng_reader.specs.declared.feed.BlockFeed.{BlockFeed}
 use Rattle.pcapng_reader.specs.declared.feed.Passing.{Passing}
 use Rattle.pcapng_reader.specs.declared.seen.Block.{Block as SeenBlock}
-use Rattle.pcapng_reader.specs.declared.feed.Step.{Step}
-use Rattle.pcapng_reader.specs.declared.feed.Step.TheVariants.{Block}
+use Rattle.pcapng_reader.specs.declared.feed.FeedStep.{FeedStep}
+use Rattle.pcapng_reader.specs.declared.feed.FeedStep.TheVariants.{Block}
 
 -- after more bytes a feed goes on, or has this fault
-abbrev pub GoesOn : List WholeBlock → List ℕ → BlockFeed → Result Step CaptureFault → Type 0
+abbrev pub GoesOn : List WholeBlock → List ℕ → BlockFeed → Result FeedStep CaptureFault → Type 0
 GoesOn given fed feed (Ok step) = Adds given fed feed step
 GoesOn given fed feed (Err fault) = HasStopped given fed fault
 
 -- no block was seen in place
-abbrev pub IsApart : Step → Type 0
+abbrev pub IsApart : FeedStep → Type 0
 IsApart (Block block) = ⊥
 IsApart _ = ⊤
 

@@ -13,8 +13,8 @@ use Rattle.pcapng_reader.specs.declared.feed.Held.{Held as HeldBlock}
 use Rattle.pcapng_reader.specs.declared.seen.Block.{Block as SeenBlock}
 use Rattle.pcapng_reader.specs.declared.seen.Skimmed.{Skimmed}
 use Rattle.pcapng_reader.specs.Packets.{captured_in}
-use Rattle.pcapng_reader.specs.declared.feed.Step.{Step}
-use Rattle.pcapng_reader.specs.declared.feed.Step.TheVariants.{Block, Held, Passed, More}
+use Rattle.pcapng_reader.specs.declared.feed.FeedStep.{FeedStep}
+use Rattle.pcapng_reader.specs.declared.feed.FeedStep.TheVariants.{Block, Held, Passed, More}
 
 -- the fault that a feed has met
 abbrev pub held_fault : BlockFeed → Option CaptureFault
@@ -79,26 +79,26 @@ abbrev pub HoldsAfter : List WholeBlock → List ℕ → BlockFeed → Type 0
 HoldsAfter given fed feed = HoldsAt given fed feed (held_fault feed)
 
 -- what a step adds to the blocks that a feed gave
-abbrev pub Adds : List WholeBlock → List ℕ → BlockFeed → Step → Type 0
+abbrev pub Adds : List WholeBlock → List ℕ → BlockFeed → FeedStep → Type 0
 Adds given fed feed (Block block) = HoldsAfter (given ++ seen_block block ∷ []) fed feed
 Adds given fed feed Held = (block : WholeBlock) × (held_block feed ≡ Some block) × HoldsAfter (given ++ block ∷ []) fed feed
 Adds given fed feed Passed = (block : WholeBlock) × (block.content ≡ Other) × HoldsAfter (given ++ block ∷ []) fed feed
 Adds given fed feed More = HoldsAfter given fed feed
 
 -- the bytes that a feed took are the block that it saw in them
-abbrev pub LiesIn : List ℕ → Step → Type 0
+abbrev pub LiesIn : List ℕ → FeedStep → Type 0
 LiesIn front (Block block) = block.bytes.now ≡ front
 LiesIn front _ = ⊤
 
 -- of some bytes a feed took a front
-pub record Takes (bytes rest : List ℕ) (old new : BlockFeed) (step : Step) : Type 0 where
+pub record Takes (bytes rest : List ℕ) (old new : BlockFeed) (step : FeedStep) : Type 0 where
   pub front : List ℕ
   pub parts : bytes ≡ front ++ rest
   pub lies : LiesIn front step
   pub adds : (given : List WholeBlock) (fed : List ℕ) → HoldsAfter given fed old → length (fed ++ front) < 2 ^ 64 → Adds given (fed ++ front) new step
 
 -- a feed took a front of some bytes, or has a fault in them after the blocks that it gave
-abbrev pub Advances : List ℕ → List ℕ → BlockFeed → BlockFeed → Result Step CaptureFault → Type 0
+abbrev pub Advances : List ℕ → List ℕ → BlockFeed → BlockFeed → Result FeedStep CaptureFault → Type 0
 Advances bytes rest old new (Ok step) = Takes bytes rest old new step
 Advances bytes rest old new (Err fault) =
     (given : List WholeBlock) (fed : List ℕ) → HoldsAfter given fed old → length (fed ++ bytes) < 2 ^ 64 → HasStopped given (fed ++ bytes) fault
@@ -132,7 +132,7 @@ abbrev pub IsFresh : Bool → BlockFeed → Type 0
 IsFresh copies feed = HoldsAfter [] [] feed × (held_fault feed ≡ None) × (copies_all feed ≡ copies) × IsFrugal feed
 
 -- a feed that keeps every block passes over none
-abbrev pub HasBytes : Bool → Step → Type 0
+abbrev pub HasBytes : Bool → FeedStep → Type 0
 HasBytes true Passed = ⊥
 HasBytes copies step = ⊤
 
@@ -141,7 +141,7 @@ abbrev pub IsShorter : List ℕ → List ℕ → Type 0
 IsShorter bytes rest = bytes ≢ [] → length rest < length bytes
 
 -- a call's answer is the feed's fault
-abbrev pub IsTold : Option CaptureFault → Result Step CaptureFault → Type 0
+abbrev pub IsTold : Option CaptureFault → Result FeedStep CaptureFault → Type 0
 IsTold fault (Ok step) = fault ≡ None
 IsTold fault (Err f) = fault ≡ Some f
 

@@ -1,27 +1,37 @@
 //! What a block says, and what can be wrong with one.
 
 use crate::time::Time;
+use thiserror::Error;
 
 /// What is wrong with a block.
-#[derive(Clone, Copy, Debug, PartialEq, Eq)]
+#[derive(Clone, Copy, Debug, PartialEq, Eq, Error)]
 pub enum BlockError {
     /// A block before the first section header.
+    #[error("it stands before the first section header")]
     NoSection,
     /// The byte-order magic of a section header reads as 1A2B3C4D in neither order.
+    #[error("its byte-order magic is in neither order")]
     BadByteOrder,
     /// A total length that isn't a multiple of 4, or is too short for the fields that such a block has: below 12 in any block.
+    #[error("its length is no multiple of 4, or too short for its fields")]
     BadLength,
     /// The total length at the end of a block isn't the one at its front.
+    #[error("the length at its end is another")]
     LengthNotRepeated,
     /// A section of another major version than 1.
+    #[error("its section is not of version 1")]
     BadVersion,
     /// A packet of an interface that its section hasn't described before it.
+    #[error("its interface is not described before it")]
     NoInterface,
     /// More captured bytes than the block has room for.
+    #[error("it has no room for so many captured bytes")]
     BadCaptured,
     /// More than 65,536 interfaces in a section.
+    #[error("its section has more than 65,536 interfaces")]
     TooManyInterfaces,
     /// More than 262,144 captured bytes, or a block of more than 16,777,216 bytes.
+    #[error("it has more than 262,144 captured bytes, or more than 16,777,216 in all")]
     TooLong,
 }
 

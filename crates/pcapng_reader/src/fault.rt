@@ -2,15 +2,19 @@
 
 use crate::block::BlockError;
 use std::alloc::{AllocError, AllocFailed};
+use thiserror::Error;
 
 /// Why a capture ends early.
-#[derive(Clone, Copy, Debug, PartialEq, Eq)]
+#[derive(Clone, Copy, Debug, PartialEq, Eq, Error)]
 pub enum CaptureFault {
     /// Something is wrong with a block, whose first byte has this place in the capture.
+    #[error("the block at byte {1} is wrong: {0}")]
     BadBlock(BlockError, u64),
     /// The bytes end within a block, whose first byte has this place in the capture; or there are none.
+    #[error("the capture ends within the block at byte {0}")]
     Truncated(u64),
     /// Memory was refused.
+    #[error("out of memory")]
     NoMemory,
 }
 

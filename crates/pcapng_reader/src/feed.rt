@@ -59,7 +59,7 @@ struct Held {
 
 /// What a feed made of the bytes that it took.
 #[derive(Clone, Copy, Debug)]
-pub enum Step<'b> {
+pub enum FeedStep<'b> {
     /// The next block, which lies in them.
     Block(Block<'b>),
     /// They end the next block, which was cut: the feed holds it until it is given more.
@@ -116,7 +116,7 @@ impl BlockFeed {
     ///
     /// The fault is a BadBlock, which stands whatever bytes follow, or NoMemory where memory was refused. After a fault each
     /// call answers the same fault, and changes nothing.
-    pub fn next<'b>(&mut self, rest: &mut &'b [u8]) -> Result<Step<'b>, CaptureFault>
+    pub fn next<'b>(&mut self, rest: &mut &'b [u8]) -> Result<FeedStep<'b>, CaptureFault>
         ensures advances { Advances rest.old.now rest.new.now self.old self.new result }
         ensures shorter { IfOk result (λ _. IsShorter rest.old.now rest.new.now) }
         ensures says { IsTold (held_fault self.new) result }
@@ -185,7 +185,7 @@ impl BlockFeed {
         self.offset = self.offset.saturating_add(u64::from(total));
     }
 
-    /// The block that is held, after `Step::Held`.
+    /// The block that is held, after `FeedStep::Held`.
     pub fn held(&self) -> Option<Block<'_>>
         ensures { MatchOption result (held_block self.now ≡ None) (λ block. held_block self.now ≡ Some (seen_block block)) }
     {
@@ -245,7 +245,7 @@ impl BlockFeed {
     }
 
     /// Takes bytes of a capture without a fault.
-    fn step<'b>(&mut self, rest: &mut &'b [u8]) -> Result<Step<'b>, CaptureFault>
+    fn step<'b>(&mut self, rest: &mut &'b [u8]) -> Result<FeedStep<'b>, CaptureFault>
         requires { self.old.fault ≡ None }
         ensures every { IfOk result (HasBytes self.old.copies) }
         ensures advances { Advances rest.old.now rest.new.now self.old self.new result }
@@ -264,7 +264,7 @@ impl BlockFeed {
             Front::Short => self.fill(rest),
             Front::Wrong(error) => Err(CaptureFault::BadBlock(error, self.offset)),
             Front::Whole(total, content) => {
-                Ok(Step::Block(self.take_block(total, content, rest)?))
+                Ok(FeedStep::Block(self.take_block(total, content, rest)?))
             }
         }
     }
@@ -327,7 +327,7 @@ impl BlockFeed {
     }
 
     /// Takes bytes that a block lacks that isn't whole yet.
-    fn fill<'b>(&mut self, rest: &mut &'b [u8]) -> Result<Step<'b>, CaptureFault>
+    fn fill<'b>(&mut self, rest: &mut &'b [u8]) -> Result<FeedStep<'b>, CaptureFault>
         requires between { (self.old.fault ≡ None) × (self.old.held ≡ None) × (self.old.passing ≡ None) }
         ensures every { IfOk result (HasBytes self.old.copies) }
         ensures advances { Advances rest.old.now rest.new.now self.old self.new result }
@@ -357,7 +357,7 @@ impl BlockFeed {
     }
 
     /// Looks at a part that has grown.
-    fn look<'b>(&mut self) -> Result<Step<'b>, CaptureFault>
+    fn look<'b>(&mut self) -> Result<FeedStep<'b>, CaptureFault>
         requires between { (self.old.fault ≡ None) × (self.old.held ≡ None) × (self.old.passing ≡ None) }
         ensures looks { (given : List WholeBlock) (fed : List ℕ) → IsGrown given fed self.old → length fed < 2 ^ 64 → GoesOn given fed self.new result }
         ensures apart { IfOk result IsApart }
@@ -368,14 +368,14 @@ impl BlockFeed {
         match self.front(self.part.as_slice()) {
             Front::Short => {
                 self.begin_passing();
-                Ok(Step::More)
+                Ok(FeedStep::More)
             }
             Front::Wrong(error) => Err(CaptureFault::BadBlock(error, self.offset)),
             Front::Whole(total, content) => {
                 let offset = self.offset;
                 self.enter(content, total)?;
                 self.held = Some(Held { offset, content });
-                Ok(Step::Held)
+                Ok(FeedStep::Held)
             }
         }
     }
@@ -397,7 +397,11 @@ impl BlockFeed {
     }
 
     /// Takes bytes of the block that is passed over.
-    fn pass<'b>(&mut self, passing: Passing, rest: &mut &'b [u8]) -> Result<Step<'b>, CaptureFault>
+    fn pass<'b>(
+        &mut self,
+        passing: Passing,
+        rest: &mut &'b [u8],
+    ) -> Result<FeedStep<'b>, CaptureFault>
         requires between { (self.old.fault ≡ None) × (self.old.held ≡ None) × (self.old.passing ≡ Some passing) }
         ensures every { IfOk result (HasBytes self.old.copies) }
         ensures advances { Advances rest.old.now rest.new.now self.old self.new result }
@@ -413,7 +417,7 @@ impl BlockFeed {
                 left: passing.left - count as u32,
             });
             *rest = &bytes[count..];
-            return Ok(Step::More);
+            return Ok(FeedStep::More);
         }
         let count = TRAILER
             .saturating_sub(self.part.len())
@@ -425,7 +429,7 @@ impl BlockFeed {
     }
 
     /// Looks at the last bytes of the block that is passed over.
-    fn end_passing<'b>(&mut self, frame: Frame) -> Result<Step<'b>, CaptureFault>
+    fn end_passing<'b>(&mut self, frame: Frame) -> Result<FeedStep<'b>, CaptureFault>
         requires between { (self.old.fault ≡ None) × (self.old.held ≡ None) × (self.old.passing ≡ Some (record { frame = frame; left = 0 })) }
         ensures looks { (given : List WholeBlock) (fed : List ℕ) → IsPassed given fed frame self.old → length fed < 2 ^ 64 → GoesOn given fed self.new result }
         ensures apart { IfOk result IsApart }
@@ -434,7 +438,7 @@ impl BlockFeed {
         ensures same { (self.new.fault ≡ None) × (self.new.copies ≡ self.old.copies) }
     {
         if self.part.len() < TRAILER {
-            return Ok(Step::More);
+            return Ok(FeedStep::More);
         }
         if word_at(frame.big, self.part.as_slice()) != frame.total {
             return Err(CaptureFault::BadBlock(BlockError::LengthNotRepeated, self.offset));
@@ -442,6 +446,6 @@ impl BlockFeed {
         self.passing = None;
         self.part.clear();
         self.offset = self.offset.saturating_add(u64::from(frame.total));
-        Ok(Step::Passed)
+        Ok(FeedStep::Passed)
     }
 }

@@ -50,7 +50,7 @@ mod time;
 
 pub use block::{BlockError, Content, InterfaceDescription, PacketEntry, SectionHeader};
 pub use fault::CaptureFault;
-pub use feed::{BlockFeed, Step};
+pub use feed::{BlockFeed, FeedStep};
 pub use frame::is_pcapng;
 pub use front::{Front, front_of};
 pub use reading::{Blocks, Stop, captured_bytes_fit, packets_are_of_their_sections, read_blocks};

@@ -11,10 +11,10 @@ use Rattle.mk_script.specs.declared.script.Item.{Item}
 use Rattle.mk_script.specs.declared.script.Script.{Script}
 use Rattle.mk_script.specs.Scripts.{Stands}
 use Rattle.mk_script.specs.Threads.{for_threads}
-use Rattle.console.specs.declared.fault.EngineFault.TheVariants.{NoMemory}
-use Rattle.console.specs.declared.sink.Sink.{Sink}
-use Rattle.console.specs.declared.source.Source.{Source}
-use Rattle.console.specs.Devices.{StopsWriting}
+use Rattle.engine_io.specs.declared.fault.EngineFault.TheVariants.{NoMemory}
+use Rattle.engine_io.specs.declared.sink.Sink.{Sink}
+use Rattle.engine_io.specs.declared.source.Source.{Source}
+use Rattle.engine_io.specs.Devices.{StopsWriting}
 use Rattle.script_input.specs.Inputs.{AreScriptInputs, NoneFailed, ScriptEndsEarly}
 use Rattle.run_engine.specs.declared.engine.RunFailure.{RunFailure}
 use Rattle.run_engine.specs.declared.engine.RunFailure.TheVariants.{Engine, Spawn, Halted}

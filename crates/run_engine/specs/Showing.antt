@@ -19,7 +19,7 @@ use Rattle.mk_script.specs.declared.fault.ScriptFault.{ScriptFault}
 use Rattle.mk_script.specs.Scripts.{Stands}
 use Rattle.mk_script.specs.Threads.{for_threads}
 use Rattle.script_input.specs.Faults.{script_fault_line}
-use Rattle.console.specs.Reading.{ShowsTooLong}
+use Rattle.engine_io.specs.Reading.{ShowsTooLong}
 use Rattle.script_input.specs.Inputs.{AllShort, SomeLong}
 use Rattle.run_engine.specs.Work.{requests_of, jobs_of}
 

@@ -1,9 +1,9 @@
 //! `run`: runs a script on cores that are threads.
 
 ghost use Rattle.std.specs.Prelude.{◌≡◌, ◌<◌, ◌≤◌, ◌^◌, ◌⊎◌, ℕ, All, List, length, IfOk, IfErr, OnOk, string_bytes, true, false};
-ghost use Rattle.console.specs.declared.input.TheConstants.{INPUT_READS};
-ghost use Rattle.console.specs.Devices.{IsFresh, Writes};
-ghost use Rattle.console.specs.Reading.{most_taken};
+ghost use Rattle.engine_io.specs.declared.input.TheConstants.{INPUT_READS};
+ghost use Rattle.engine_io.specs.Devices.{IsFresh, Writes};
+ghost use Rattle.engine_io.specs.Reading.{most_taken};
 ghost use Rattle.mk_script.specs.Limits.{HasLimits, IsLimited};
 ghost use Rattle.mk_script.specs.Threads.{IsForThreads, IsScriptForThreads};
 ghost use Rattle.script_input.specs.Inputs.{AllFresh, AreReadInOrder, AreScriptInputs, NoneFailed};
@@ -13,9 +13,9 @@ ghost use Rattle.run_engine.specs.Showing.{Shows, ShowsRun, ShowsRunScript};
 
 use crate::lines::{push_all_left, push_events};
 use crate::work::{Work, work_of};
-use console::{EngineFault, Sink, Source, refuse_long, write_bytes};
 use core_join::{conclude, in_order};
 use core_threads::{BootFault, Gate, Halt, Rested, RunFault, boot, run_to_rest};
+use engine_io::{EngineFault, Sink, Source, refuse_long, write_bytes};
 use mk_script::{Item, Script, read_script};
 use script_input::{read_inputs, refuse};
 use seq::Shared;
@@ -51,7 +51,7 @@ impl From<EngineFault> for RunFailure {
 
 impl From<AllocError> for RunFailure {
     ghost use Rattle.std.specs.Prelude.{◌≡◌};
-    ghost use Rattle.console.specs.declared.fault.EngineFault.TheVariants.{NoMemory};
+    ghost use Rattle.engine_io.specs.declared.fault.EngineFault.TheVariants.{NoMemory};
     ghost use Rattle.run_engine.specs.declared.engine.RunFailure.TheVariants.{Engine};
 
     ghost from_gives = { λ _ failure. failure ≡ Engine NoMemory };

@@ -2,13 +2,13 @@
 use Rattle.std.proofs.Common.{◌≡◌, ◌≢◌, ◌<◌, ◌≤◌, ℕ, zero, suc, true, false, Option, Some, None, List, [], ◌∷◌, ◌++◌, length, slice_get, slice_set, take, ◌⊎◌, refl, ap, sym, subst, ◌∙◌, inl, inr, arith, length-append}
 use Rattle.std.proofs.lemmas.Bool.{cases_eq, cases_lt}
 use Rattle.std.proofs.lemmas.Option.{slice_get_within}
-use Rattle.console.specs.declared.fault.EngineFault.{EngineFault}
-use Rattle.console.specs.declared.fault.EngineFault.TheVariants.{ReadFailed, WriteFailed, NoMemory}
-use Rattle.console.specs.declared.input.TheConstants.{INPUT_BYTES, INPUT_READS}
-use Rattle.console.specs.declared.source.Source.{Source}
-use Rattle.console.specs.declared.sink.Sink.{Sink}
-use Rattle.console.specs.Devices.{EndsEarly, IsFresh, IsReadThrough, StopsReading}
-use Rattle.console.specs.Reading.{IsInput, IsKnown}
+use Rattle.engine_io.specs.declared.fault.EngineFault.{EngineFault}
+use Rattle.engine_io.specs.declared.fault.EngineFault.TheVariants.{ReadFailed, WriteFailed, NoMemory}
+use Rattle.engine_io.specs.declared.input.TheConstants.{INPUT_BYTES, INPUT_READS}
+use Rattle.engine_io.specs.declared.source.Source.{Source}
+use Rattle.engine_io.specs.declared.sink.Sink.{Sink}
+use Rattle.engine_io.specs.Devices.{EndsEarly, IsFresh, IsReadThrough, StopsReading}
+use Rattle.engine_io.specs.Reading.{IsInput, IsKnown}
 use Rattle.script_input.specs.Inputs.{AllFresh, AllShort, AllWithin, AreInputs, AreKnown, AreReadInOrder, Kept, LongAmong, NoneFailed, OneLonger, ScriptEndsEarly, SomeLong, StopsFiles, had}
 
 some_input : (known : Option (List ℕ)) → (input : List ℕ) × IsKnown known input

@@ -1,12 +1,12 @@
 -- What was read of a script and its files, in which order, and why it ended early.
 use Rattle.std.specs.Prelude.{◌≡◌, ◌<◌, ◌≤◌, ◌++◌, ◌∷◌, ◌⊎◌, [], ℕ, ⊤, Bool, true, false, Option, Some, List, length, map, slice_get, take}
-use Rattle.console.specs.declared.fault.EngineFault.{EngineFault}
-use Rattle.console.specs.declared.fault.EngineFault.TheVariants.{ReadFailed, WriteFailed, NoMemory}
-use Rattle.console.specs.declared.input.TheConstants.{INPUT_BYTES, INPUT_READS}
-use Rattle.console.specs.declared.sink.Sink.{Sink}
-use Rattle.console.specs.declared.source.Source.{Source}
-use Rattle.console.specs.Devices.{CannotRead, IsFresh}
-use Rattle.console.specs.Reading.{IsInput, IsKnown}
+use Rattle.engine_io.specs.declared.fault.EngineFault.{EngineFault}
+use Rattle.engine_io.specs.declared.fault.EngineFault.TheVariants.{ReadFailed, WriteFailed, NoMemory}
+use Rattle.engine_io.specs.declared.input.TheConstants.{INPUT_BYTES, INPUT_READS}
+use Rattle.engine_io.specs.declared.sink.Sink.{Sink}
+use Rattle.engine_io.specs.declared.source.Source.{Source}
+use Rattle.engine_io.specs.Devices.{CannotRead, IsFresh}
+use Rattle.engine_io.specs.Reading.{IsInput, IsKnown}
 
 -- what the readers of these sources have, as far as that is known
 abbrev pub had : {F : Type 0} → (F → Option (List ℕ)) → List (Source F) → List (Option (List ℕ))

@@ -1,12 +1,12 @@
 //! Reading a script's files.
 
 ghost use Rattle.std.specs.Prelude.{◌≡◌, ◌++◌, ◌∷◌, [], OnOk, Option, List, ℕ, IfOk, IfErr, MatchOption};
-ghost use Rattle.console.specs.Devices.{IsFresh, IsReadThrough, StopsReading};
-ghost use Rattle.console.specs.Reading.{IsReadFault};
-ghost use Rattle.console.specs.declared.input.TheConstants.{INPUT_BYTES, INPUT_READS};
+ghost use Rattle.engine_io.specs.Devices.{IsFresh, IsReadThrough, StopsReading};
+ghost use Rattle.engine_io.specs.Reading.{IsReadFault};
+ghost use Rattle.engine_io.specs.declared.input.TheConstants.{INPUT_BYTES, INPUT_READS};
 ghost use Rattle.script_input.specs.Inputs.{AllFresh, AllWithin, AreInputs, AreReadInOrder, Kept, LongAmong, NoneFailed, StopsFiles};
 
-use console::{EngineFault, INPUT_BYTES, Input, Source, read_bounded};
+use engine_io::{EngineFault, INPUT_BYTES, Input, Source, read_bounded};
 use seq::Shared;
 use std::alloc::{AllocError, Global};
 use std::io::Read;

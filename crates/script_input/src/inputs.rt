@@ -1,13 +1,13 @@
 //! Reading a script and its files.
 
 ghost use Rattle.std.specs.Prelude.{◌≡◌, ◌≤◌, ◌⊎◌, IfOk, IfErr, OnOk, MatchOption, true, false};
-ghost use Rattle.console.specs.declared.input.TheConstants.{INPUT_READS};
-ghost use Rattle.console.specs.Devices.{IsFresh};
-ghost use Rattle.console.specs.Reading.{IsReadFault, most_taken};
+ghost use Rattle.engine_io.specs.declared.input.TheConstants.{INPUT_READS};
+ghost use Rattle.engine_io.specs.Devices.{IsFresh};
+ghost use Rattle.engine_io.specs.Reading.{IsReadFault, most_taken};
 ghost use Rattle.script_input.specs.Inputs.{AllFresh, AllShort, AreReadInOrder, AreScriptInputs, HadLong, NoneFailed, StopsInputs};
 
 use crate::files::read_files;
-use console::{EngineFault, INPUT_BYTES, Input, Source, read_bounded};
+use engine_io::{EngineFault, INPUT_BYTES, Input, Source, read_bounded};
 use seq::Shared;
 use std::alloc::Global;
 use std::io::Read;

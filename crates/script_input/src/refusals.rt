@@ -1,12 +1,12 @@
 //! What is printed in place of what a script does.
 
 ghost use Rattle.std.specs.Prelude.{◌≡◌, ◌≢◌, IfOk, IfErr, IsErrOf, OnOk, false};
-ghost use Rattle.console.specs.Devices.{StopsWriting, Writes};
-ghost use Rattle.console.specs.Matching.{IsPrintFault};
+ghost use Rattle.engine_io.specs.Devices.{StopsWriting, Writes};
+ghost use Rattle.engine_io.specs.Reading.{IsPrintFault};
 ghost use Rattle.script_input.specs.Faults.{script_fault_line};
 
 use crate::faults::fault_line;
-use console::{EngineFault, Sink, write_bytes};
+use engine_io::{EngineFault, Sink, write_bytes};
 use mk_script::{ScriptFault, ScriptFaultKind};
 use std::alloc::Global;
 use std::io::Write;

@@ -7,9 +7,9 @@ use Rattle.sim_engine.specs.declared.requests.PendingRequest.{PendingRequest}
 use Rattle.mk_script.specs.declared.script.Item.{Item}
 use Rattle.sim_engine.specs.Simulations.{Simulation, Does, Performs}
 use Rattle.sim_engine.specs.Writing.{Wrote}
-use Rattle.console.specs.declared.sink.Sink.{Sink}
-use Rattle.console.specs.Devices.{Writes}
-use Rattle.console.proofs.KnownBytesLemmas.{writes-then}
+use Rattle.engine_io.specs.declared.sink.Sink.{Sink}
+use Rattle.engine_io.specs.Devices.{Writes}
+use Rattle.engine_io.proofs.KnownBytesLemmas.{writes-then}
 
 abbrev pub the_sim : World → List PendingRequest → Simulation
 the_sim w rs = record { world = w; pending = rs }

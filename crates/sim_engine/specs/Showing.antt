@@ -6,7 +6,7 @@ use Rattle.mk_script.specs.declared.script.Script.{Script}
 use Rattle.mk_script.specs.declared.fault.ScriptFault.{ScriptFault}
 use Rattle.mk_script.specs.Scripts.{Stands}
 use Rattle.mk_script.specs.Threads.{for_simulation}
-use Rattle.console.specs.Reading.{ShowsTooLong}
+use Rattle.engine_io.specs.Reading.{ShowsTooLong}
 use Rattle.script_input.specs.Faults.{script_fault_line}
 use Rattle.script_input.specs.Inputs.{AllShort, SomeLong}
 use Rattle.sim_engine.specs.Memory.{DepartsAlone, SameButForMemory}

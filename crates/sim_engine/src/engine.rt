@@ -1,10 +1,10 @@
 //! `sim`: runs a script.
 
 ghost use Rattle.std.specs.Prelude.{◌≡◌, ◌<◌, ◌≤◌, ◌^◌, ◌++◌, ◌⊎◌, length, ℕ, List, IfOk, IfErr, IsErrOf, OnOk, true, false};
-ghost use Rattle.console.specs.declared.input.TheConstants.{INPUT_READS};
-ghost use Rattle.console.specs.Devices.{IsFresh, StopsWriting, Writes};
-ghost use Rattle.console.specs.Reading.{most_taken};
-ghost use Rattle.console.specs.Matching.{IsEngineFault, IsPrintFault};
+ghost use Rattle.engine_io.specs.declared.input.TheConstants.{INPUT_READS};
+ghost use Rattle.engine_io.specs.Devices.{IsFresh, StopsWriting, Writes};
+ghost use Rattle.engine_io.specs.Reading.{most_taken};
+ghost use Rattle.engine_io.specs.Reading.{IsEngineFault, IsPrintFault};
 ghost use Rattle.mk_script.specs.Limits.{HasLimits};
 ghost use Rattle.mk_script.specs.declared.script.Item.{Item as GhostItem};
 ghost use Rattle.mk_script.specs.Scripts.{AreFiles};
@@ -12,7 +12,7 @@ ghost use Rattle.script_input.specs.Inputs.{AllFresh, AreReadInOrder, AreScriptI
 ghost use Rattle.sim_engine.specs.Showing.{ShowsAmply, ShowsItems, ShowsOneButForMemory, ShowsPart, ShowsScript, ShowsSim};
 
 use crate::running::perform_all;
-use console::{EngineFault, Sink, Source, refuse_long};
+use engine_io::{EngineFault, Sink, Source, refuse_long};
 use mk_script::{Script, read_script};
 use script_input::{read_inputs, refuse};
 use seq::Shared;

@@ -1,8 +1,8 @@
 //! A script's items, one after the other.
 
 ghost use Rattle.std.specs.Prelude.{◌≡◌, ◌++◌, ℕ, List, OnOk, IfErr, IsErrOf, false};
-ghost use Rattle.console.specs.Devices.{StopsWriting, Writes};
-ghost use Rattle.console.specs.Matching.{IsPrintFault};
+ghost use Rattle.engine_io.specs.Devices.{StopsWriting, Writes};
+ghost use Rattle.engine_io.specs.Reading.{IsPrintFault};
 ghost use Rattle.std.specs.List.{All};
 ghost use Rattle.mk_script.specs.Limits.{EntersBelow, IsLimited};
 ghost use Rattle.world_core.specs.Refusals.{IsShortEvent};
@@ -14,7 +14,7 @@ ghost use Rattle.sim_engine.specs.Simulations.{Applies, Does, Performs, Simulati
 use crate::requests::{PendingRequest, Requests};
 use crate::simulation::{begin, settle, show, tell};
 use crate::way::Way;
-use console::{BLOCK, EngineFault, Sink, write_bytes};
+use engine_io::{BLOCK, EngineFault, Sink, write_bytes};
 use mk_script::Item;
 use std::alloc::{AllocError, Global};
 use std::io::Write;

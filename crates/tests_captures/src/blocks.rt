@@ -2,8 +2,8 @@
 
 use crate::facts::{equal, equal_at, holds};
 use pcapng_reader::{
-    Block, BlockError, BlockFeed, CaptureFault, Content, InterfaceDescription, PacketEntry,
-    SectionHeader, Step, Time, read_blocks,
+    Block, BlockError, BlockFeed, CaptureFault, Content, FeedStep, InterfaceDescription,
+    PacketEntry, SectionHeader, Time, read_blocks,
 };
 use std::alloc::Global;
 use std::process::Abort;
@@ -96,12 +96,12 @@ fn go(
     blocks: &mut Vec<Row>,
 ) -> bool {
     match feed.next(rest) {
-        Ok(Step::Block(block)) => {
+        Ok(FeedStep::Block(block)) => {
             let block = shown(rt, alloc, &block);
             add(rt, blocks, block);
             true
         }
-        Ok(Step::Held) => {
+        Ok(FeedStep::Held) => {
             if let Some(block) = feed.held() {
                 let block = shown(rt, alloc, &block);
                 add(rt, blocks, block);
@@ -473,8 +473,8 @@ fn is_first(rt: &impl Abort, feed: &mut BlockFeed, packets: usize) {
 /// Whether a feed gives a packet of the next bytes.
 fn gives_packet(feed: &mut BlockFeed, rest: &mut &[u8]) -> bool {
     match feed.next(rest) {
-        Ok(Step::Block(block)) => block.packet().is_some(),
-        Ok(Step::Held) => match feed.held() {
+        Ok(FeedStep::Block(block)) => block.packet().is_some(),
+        Ok(FeedStep::Held) => match feed.held() {
             Some(block) => block.packet().is_some(),
             None => false,
         },

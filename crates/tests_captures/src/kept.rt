@@ -2,7 +2,8 @@
 
 use crate::blocks::{ENDS, LITTLE, both};
 use crate::facts::{equal, equal_at, holds};
-use console::{EngineFault, LinkTypes, STREAM_READS, Sink, Source};
+use console::{LinkTypes, STREAM_READS};
+use engine_io::{EngineFault, Sink, Source};
 use keep_engine::{Wanted, run_keep};
 use std::alloc::Global;
 use std::io;

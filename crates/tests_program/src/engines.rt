@@ -4,11 +4,11 @@ ghost use Rattle.std.specs.Prelude.{IfOk};
 ghost use Rattle.script_input.specs.Inputs.{AllFresh};
 
 use console::{
-    EngineFault, INPUT_READS, LinkTypes, PacketForm, STREAM_READS, Sink, Source, View, run_check,
-    run_dump, run_match, run_stream, run_view,
+    LinkTypes, PacketForm, STREAM_READS, View, run_check, run_dump, run_match, run_stream, run_view,
 };
 use core_threads::Free;
 use draw_engine::run_draw;
+use engine_io::{EngineFault, INPUT_READS, Sink, Source};
 use graph_engine::{run_explain, run_graph};
 use run_engine::RunFailure;
 use std::alloc::{AllocError, Global};

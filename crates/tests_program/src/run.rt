@@ -3,7 +3,7 @@
 use crate::devices::{Pieces, Taker};
 use crate::engines::{run_run, run_sim};
 use crate::facts::{equal, equal_at, holds};
-use console::EngineFault;
+use engine_io::EngineFault;
 use run_engine::RunFailure;
 use std::alloc::{AllocError, Global};
 use std::io::Cursor;

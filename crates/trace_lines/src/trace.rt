@@ -9,13 +9,16 @@ ghost use Rattle.trace_lines.specs.declared.trace.TraceFault.TheVariants.{NoMemo
 
 use crate::lines::{Line, Read, read_line};
 use std::alloc::{AllocError, AllocFailed, Global};
+use thiserror::Error;
 
 /// Why a text is no trace.
-#[derive(Clone, Copy, Debug, PartialEq, Eq)]
+#[derive(Clone, Copy, Debug, PartialEq, Eq, Error)]
 pub enum TraceFault {
     /// The first line, from 1, that isn't one of a trace.
+    #[error("line {0} is not one of a trace")]
     BadLine(usize),
     /// Memory ran out. This says nothing of the text.
+    #[error("out of memory")]
     NoMemory,
 }
 

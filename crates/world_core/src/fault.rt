@@ -1,16 +1,19 @@
-//! Why the world does not begin.
+//! Why a machine does not begin.
 
 ghost use Rattle.std.specs.Prelude.{◌≡◌};
 ghost use Rattle.world_core.specs.declared.fault.BootFault.TheVariants as boot_fault;
 
 use std::alloc::AllocError;
+use thiserror::Error;
 
-/// Why there is no world.
-#[derive(Clone, Copy, PartialEq, Eq, Debug, Drop)]
+/// Why there is no machine.
+#[derive(Clone, Copy, PartialEq, Eq, Debug, Drop, Error)]
 pub enum BootFault {
     /// A machine has 1 to 8 cores.
+    #[error("a machine has 1 to 8 cores")]
     CoreCount,
     /// There was no memory.
+    #[error("out of memory")]
     NoMemory,
 }
 

@@ -3,7 +3,8 @@
 use crate::devices::{Pieces, Taker};
 use crate::engines::{Command, run};
 use crate::facts::equal_at;
-use console::{EngineFault, View};
+use console::View;
+use engine_io::EngineFault;
 use std::alloc::Global;
 
 const ARP_CODE: &str = "4,40 0 0 12,21 0 1 2054,6 0 0 4294967295,6 0 0 0";

@@ -2,8 +2,7 @@
 
 use crate::devices::Pieces;
 use crate::facts::{equal, equal_at};
-use console::{EngineFault, Input, Source, feed_bounded, read_bounded};
-use pcap_reader::Feed;
+use engine_io::{EngineFault, Input, Source, read_bounded};
 use std::alloc::Global;
 use std::io;
 use std::io::{ErrorKind, Read};
@@ -27,15 +26,8 @@ fn read_within(
     }
 }
 
-/// The same for a feed: whether it gets all.
-fn feed_within(alloc: Global, length: usize, bytes: u32, reads: u64) -> Result<bool, EngineFault> {
-    let mut feed = Feed::new(alloc);
-    let mut source = Source::new(Pieces::new(&[7; 5][..length.min(5)], 1, 0), reads);
-    feed_bounded(&mut source, &mut feed, u64::from(bytes))
-}
-
 #[test]
-fn reading_and_feeding_stop_at_their_limits(rt: HostRuntime) {
+fn reading_stops_at_its_limits(rt: HostRuntime) {
     let rows: [(usize, u32, u64, Result<bool, EngineFault>); 5] = [
         (5, 4, 99, Ok(false)),
         (3, 9, 3, Err(EngineFault::ReadFailed)),
@@ -45,8 +37,6 @@ fn reading_and_feeding_stop_at_their_limits(rt: HostRuntime) {
     ];
     for (length, bytes, reads, want) in rows {
         let got = read_within(&rt, rt.alloc(), length, bytes, reads);
-        equal_at(&rt, got, want, &length);
-        let got = feed_within(rt.alloc(), length, bytes, reads);
         equal_at(&rt, got, want, &length);
     }
 }

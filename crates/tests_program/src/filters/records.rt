@@ -1,7 +1,7 @@
 //! What a source and a sink record: a failing, an interrupted and a short reader and writer.
 
 use crate::facts::{equal, holds};
-use console::{EngineFault, Got, Sink, Source, read_bounded, write_bytes};
+use engine_io::{EngineFault, Got, Sink, Source, read_bounded, write_bytes};
 use std::io;
 use std::io::{ErrorKind, Read, Write};
 

@@ -4,7 +4,8 @@ use super::captures::bytes_of;
 use crate::devices::Pieces;
 use crate::engines::{Command, run};
 use crate::facts::equal_at;
-use console::{EngineFault, View};
+use console::View;
+use engine_io::EngineFault;
 use std::alloc::Global;
 use std::process::Abort;
 

@@ -4,7 +4,7 @@ use super::protocol::TWO_PHASE;
 use crate::devices::{Pieces, Taker};
 use crate::engines::run_sim;
 use crate::facts::{equal, equal_at};
-use console::EngineFault;
+use engine_io::EngineFault;
 use std::alloc::{AllocError, Global};
 use std::process::Abort;
 use world_core::Messages;

@@ -6,7 +6,7 @@ use super::tables::TABLES;
 use crate::engines::run_sim;
 use crate::facts::{equal, holds};
 use crate::page::Page;
-use console::EngineFault;
+use engine_io::EngineFault;
 use std::alloc::{AllocError, Global};
 use std::io::Cursor;
 use std::process::Abort;

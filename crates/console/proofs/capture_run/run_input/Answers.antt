@@ -1,5 +1,5 @@
 use Rattle.std.proofs.Common.{arith, ◌∙◌, ◌++◌, take, length-append, length-take-le}
-use Rattle.console.proofs.KnownBytesLemmas.{gets-end, gets-kept, gets-then}
+use Rattle.engine_io.proofs.KnownBytesLemmas.{gets-end, gets-kept, gets-then}
 use Rattle.console.proofs.RunningLemmas.{so_run_next, so_run_kept}
 use Rattle.console.proofs.capture_run.run_input.Goals as goal
 

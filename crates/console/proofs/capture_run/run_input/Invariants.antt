@@ -1,5 +1,5 @@
 use Rattle.std.proofs.Common.{◌≡◌, ◌≤◌, false}
-use Rattle.console.specs.declared.input.TheConstants.{INPUT_BYTES}
+use Rattle.engine_io.specs.declared.input.TheConstants.{INPUT_BYTES}
 use Rattle.console.proofs.RunningLemmas.{SoRun}
 use Rattle.console.proofs.capture_run.run_input.Given as goal
 

@@ -1,12 +1,12 @@
 use Rattle.std.proofs.Common.{Some, None, refl, sym, append-nil}
-use Rattle.capture_reader.specs.declared.entry.Found.TheVariants.{Item, Held, Nothing}
+use Rattle.capture_reader.specs.declared.entry.Found.TheVariants.{SeenEntry, Held, Nothing}
 use Rattle.console.proofs.CapturedLemmas.{found_held, keep_item, keep_stopped, keeps_ok}
 use Rattle.console.proofs.captured.keep_next.Goals as goal
 
-pub returns-in-Ok-Item-clause-keeps : goal.returns-in-Ok-Item-clause-keeps
-returns-in-Ok-Item-clause-keeps c =
-    keeps_ok c.keep_found.result _ _ (λ pushed. keep_item c.args.rest.now.now c.next.new.rest.now c.args.feed.now c.next.new.self (Item c.in-Ok-Item.item) (Some c.in-Ok-Item.item) c.args.entries.now.items c.keep_found.new.entries.items
-    (rw c.in-Ok-Item.field-0-is at c.in-Ok-Item.ensures.advances) refl pushed) c.keep_found.ensures
+pub returns-in-Ok-SeenEntry-clause-keeps : goal.returns-in-Ok-SeenEntry-clause-keeps
+returns-in-Ok-SeenEntry-clause-keeps c =
+    keeps_ok c.keep_found.result _ _ (λ pushed. keep_item c.args.rest.now.now c.next.new.rest.now c.args.feed.now c.next.new.self (SeenEntry c.in-Ok-SeenEntry.item) (Some c.in-Ok-SeenEntry.item) c.args.entries.now.items c.keep_found.new.entries.items
+    (rw c.in-Ok-SeenEntry.field-0-is at c.in-Ok-SeenEntry.ensures.advances) refl pushed) c.keep_found.ensures
 
 pub returns-in-Ok-Held-clause-keeps : goal.returns-in-Ok-Held-clause-keeps
 returns-in-Ok-Held-clause-keeps c =

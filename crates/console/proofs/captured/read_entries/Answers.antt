@@ -1,5 +1,5 @@
 use Rattle.std.proofs.Common.{arith, ◌++◌, take, length-append, length-take-le}
-use Rattle.console.proofs.KnownBytesLemmas.{gets-end, gets-then}
+use Rattle.engine_io.proofs.KnownBytesLemmas.{gets-end, gets-then}
 use Rattle.console.proofs.captured.read_entries.Goals as goal
 
 pub returns-then-taken-gt-INPUT_BYTES-clause-read : goal.returns-then-taken-gt-INPUT_BYTES-clause-read

@@ -1,5 +1,5 @@
 use Rattle.std.proofs.Common.{◌≡◌, ◌≤◌, false}
-use Rattle.console.specs.declared.input.TheConstants.{INPUT_BYTES}
+use Rattle.engine_io.specs.declared.input.TheConstants.{INPUT_BYTES}
 use Rattle.console.proofs.CapturedLemmas.{SoKept}
 use Rattle.console.proofs.captured.read_entries.Given as goal
 

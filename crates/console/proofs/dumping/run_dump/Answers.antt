@@ -2,9 +2,10 @@ use Rattle.std.proofs.Common.{refl, inr}
 use Rattle.std.proofs.lemmas.Result.{IfOk-weaker}
 use Rattle.console.specs.Dumping.{ShowsDump}
 use Rattle.console.proofs.DumpingLemmas.{dump_read, dump_part}
-use Rattle.console.proofs.MatchingLemmas.{shown_long}
+use Rattle.engine_io.proofs.InputLemmas.{shown_long}
 use Rattle.console.proofs.OnceLemmas.{dump_once}
-use Rattle.console.proofs.TakingLemmas.{capture_taken, on_ok}
+use Rattle.engine_io.proofs.InputLemmas.{on_ok}
+use Rattle.console.proofs.TakingLemmas.{capture_taken}
 use Rattle.console.proofs.dumping.run_dump.Goals as goal
 
 pub returns-in_default-clause-shown : goal.returns-in_default-clause-shown

@@ -1,7 +1,8 @@
 use Rattle.std.proofs.Common.{refl, inl, inr, ◌∙◌}
 use Rattle.std.proofs.lemmas.Result.{IfOk-weaker}
 use Rattle.console.specs.Matching.{ShowsInput}
-use Rattle.console.proofs.MatchingLemmas.{bytes_of_link, known_whole, packets_of_link, shown_long, whole_input}
+use Rattle.engine_io.proofs.InputLemmas.{known_whole, shown_long, whole_input}
+use Rattle.console.proofs.MatchingLemmas.{bytes_of_link, packets_of_link}
 use Rattle.console.proofs.matching.match_input.Goals as goal
 
 pub returns-in-TooLong-clause-shown : goal.returns-in-TooLong-clause-shown

@@ -1,5 +1,5 @@
 use Rattle.std.proofs.Common.{[], arith, refl, inl}
-use Rattle.console.proofs.KnownBytesLemmas.{gets-nothing}
+use Rattle.engine_io.proofs.KnownBytesLemmas.{gets-nothing}
 use Rattle.console.proofs.BadCodeLemmas.{bad_code_once, good_not_bad}
 use Rattle.console.proofs.MatchingLemmas.{shown_of, part_of}
 use Rattle.console.proofs.OnceLemmas.{good_code_once}

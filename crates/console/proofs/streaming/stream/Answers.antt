@@ -1,6 +1,6 @@
 use Rattle.std.proofs.Common.{[], arith, true, inl, inr, refl, sym, ◌∙◌}
 use Rattle.console.specs.Streaming.{SourceEnded}
-use Rattle.console.proofs.DeviceLemmas.{ends_refused, ends_writing, ends_written}
+use Rattle.engine_io.proofs.DeviceLemmas.{ends_refused, ends_writing, ends_written}
 use Rattle.console.proofs.StreamingLemmas.{no_bytes}
 use Rattle.console.proofs.StreamLemmas.{RanOrStopped, left_read, left_kept, keeps_itself, streamed_kept, took, showed, either_run, either_shown, ended_shown, left_took, left_showed, streamed_next, end_shown, end_well, end_left, found_shown, taken_bytes}
 use Rattle.console.proofs.streaming.stream.Goals.{in-Bytes+in_ok-stopped-in-Bytes+in_ok-show-in-Bytes+else-is_done+else-stopped, in-Again}

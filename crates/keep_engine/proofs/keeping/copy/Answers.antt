@@ -1,5 +1,5 @@
 use Rattle.std.proofs.Common.{arith, inl, inr, length-take-le}
-use Rattle.console.proofs.KnownBytesLemmas.{gets-end}
+use Rattle.engine_io.proofs.KnownBytesLemmas.{gets-end}
 use Rattle.console.proofs.StreamLemmas.{keeps_itself}
 use Rattle.keep_engine.proofs.CopyLemmas.{copied_kept, copied_next, few_enough, few_more, left_kept, left_read, left_wrote, take_few}
 use Rattle.keep_engine.proofs.keeping.copy.Goals.{in-Bytes+in_ok-piece-in-Bytes+in_ok-write_bytes-in-Bytes+else-has_stopped, in-Again}

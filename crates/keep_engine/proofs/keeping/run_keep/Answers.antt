@@ -1,5 +1,5 @@
 use Rattle.std.proofs.Common.{[], inl, refl, string_bytes}
-use Rattle.console.proofs.KnownBytesLemmas.{writes-nothing}
+use Rattle.engine_io.proofs.KnownBytesLemmas.{writes-nothing}
 use Rattle.keep_engine.proofs.CopyLemmas.{kept_of_code, left_none, left_of_code}
 use Rattle.keep_engine.proofs.keeping.run_keep.Goals as goal
 

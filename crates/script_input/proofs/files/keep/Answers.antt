@@ -1,5 +1,5 @@
 use Rattle.std.proofs.Common.{refl}
-use Rattle.console.proofs.MatchingLemmas.{long_input, whole_input}
+use Rattle.engine_io.proofs.InputLemmas.{long_input, whole_input}
 use Rattle.script_input.proofs.files.keep.Goals as goal
 
 pub returns-in-TooLong-clause-kept : goal.returns-in-TooLong-clause-kept

@@ -1,8 +1,8 @@
 use Rattle.std.proofs.Common.{◌≡◌, ◌∙◌, ℕ, Bool, List, true, false, slice_index_or, slice_set, suc, ◌+◌, refl, sym, subst, arith}
 use Rattle.std.proofs.lemmas.Option.{slice_get_read}
 use Rattle.std.proofs.lemmas.Result.{err_from_is_err_and}
-use Rattle.console.specs.declared.input.TheConstants.{INPUT_BYTES, INPUT_READS}
-use Rattle.console.specs.Devices.{IsFresh, IsReadThrough}
+use Rattle.engine_io.specs.declared.input.TheConstants.{INPUT_BYTES, INPUT_READS}
+use Rattle.engine_io.specs.Devices.{IsFresh, IsReadThrough}
 use Rattle.script_input.specs.Inputs.{Kept}
 use Rattle.script_input.proofs.Reading.{in_order, in_order_at, none_failed, none_failed_at, read_all, read_long, read_more, read_none, stops_at, ReadUpTo}
 use Rattle.script_input.proofs.files.read_files.Goals as goal

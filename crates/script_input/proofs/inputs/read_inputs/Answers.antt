@@ -1,5 +1,5 @@
 use Rattle.std.proofs.Common.{arith, inl, inr}
-use Rattle.console.proofs.MatchingLemmas.{long_input, whole_input}
+use Rattle.engine_io.proofs.InputLemmas.{long_input, whole_input}
 use Rattle.script_input.specs.Inputs.{had}
 use Rattle.script_input.proofs.Reading.{some_inputs}
 use Rattle.script_input.proofs.inputs.read_inputs.Goals as goal

@@ -1,6 +1,6 @@
 use Rattle.std.proofs.Common.{◌≡◌, ap, Err, inr}
 use Rattle.std.proofs.lemmas.Result.{err_from_is_err_and}
-use Rattle.console.specs.declared.fault.EngineFault.TheVariants.{NoMemory}
+use Rattle.engine_io.specs.declared.fault.EngineFault.TheVariants.{NoMemory}
 use Rattle.sim_engine.proofs.engine.run_script.Goals as goal
 
 pub returns-in_err-done-clause-part : goal.returns-in_err-done-clause-part

@@ -1,14 +1,14 @@
 use Rattle.std.proofs.Common.{◌++◌, [], List, refl, subst, sym}
 use Rattle.std.proofs.Common.{take, drop, arith, ◌+◌}
 use Rattle.std.proofs.lemmas.List.{take_all}
-use Rattle.console.specs.Devices.{Writes}
+use Rattle.engine_io.specs.Devices.{Writes}
 use Rattle.sim_engine.specs.Simulations.{Performs, just, sim}
 use Rattle.sim_engine.proofs.Printed.{Printed, printed_one, printed_wrote, halves, on_ok}
 use Rattle.sim_engine.proofs.Places.{get_at}
 use Rattle.mk_script.specs.declared.script.Item.{Item}
 use Rattle.sim_engine.proofs.running.perform_all.Goals as goal
 use Rattle.filter_table.proofs.Lists.{take_at}
-use Rattle.console.proofs.KnownBytesLemmas.{writes-nothing, writes-then}
+use Rattle.engine_io.proofs.KnownBytesLemmas.{writes-nothing, writes-then}
 
 pub returns-in_err-requests-clause-part : goal.returns-in_err-requests-clause-part
 returns-in_err-requests-clause-part g c = λ failed. ([], c.args.items.now, refl, just c.args.world.now, [], [], (refl, refl), writes-nothing c.args.writer.now)

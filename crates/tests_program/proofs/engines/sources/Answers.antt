@@ -1,5 +1,5 @@
 use Rattle.std.proofs.Common.{List, subst, sym}
-use Rattle.console.specs.declared.source.Source.{Source}
+use Rattle.engine_io.specs.declared.source.Source.{Source}
 use Rattle.script_input.specs.Inputs.{AllFresh}
 use Rattle.script_input.proofs.Reading.{fresh_push}
 use Rattle.tests_program.proofs.engines.sources.Goals as goal

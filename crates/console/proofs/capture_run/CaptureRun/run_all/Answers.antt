@@ -1,6 +1,6 @@
 use Rattle.std.proofs.Common.{refl, sym, Some, ◌∙◌, arith}
 use Rattle.pcap_reader.proofs.FeedLemmas.{are_bytes}
-use Rattle.capture_reader.specs.declared.entry.Found.TheVariants.{Item}
+use Rattle.capture_reader.specs.declared.entry.Found.TheVariants.{SeenEntry}
 use Rattle.console.specs.declared.capture_run.CaptureRun.{CaptureRun}
 use Rattle.console.proofs.RunningLemmas.{run_item, run_none, run_then}
 use Rattle.console.proofs.capture_run.CaptureRun.run_all.Goals as goal
@@ -13,7 +13,7 @@ loop-rest-preserved-in-Some c =
     let new : CaptureRun = record c.loop-rest.self { feed = c.next_whole.new.self; links = c.run_found.new.links } in
     record {
       runs = run_then c.args.program.now c.args.piece.now c.loop-rest.rest.now c.next_whole.new.rest.now c.args.self.now c.loop-rest.self new _ c.loop-rest.outcomes.items _ _ c.loop-rest.stamps.items _ c.loop-rest.invariant.runs
-          (run_item c.args.program.now c.loop-rest.rest.now c.next_whole.new.rest.now c.loop-rest.self new (Item c.in-Some.item) (Some c.in-Some.item) _ _ _ _
+          (run_item c.args.program.now c.loop-rest.rest.now c.next_whole.new.rest.now c.loop-rest.self new (SeenEntry c.in-Some.item) (Some c.in-Some.item) _ _ _ _
           c.in-Some.ensures.advances refl refl refl (rw (sym (c.loop-rest.invariant.stamped ∙ c.requires)) at c.in_ok-run_found.ensures.runs) c.run_found.ensures.links);
       link = c.loop-rest.invariant.link;
       stamped = c.loop-rest.invariant.stamped;

@@ -1,13 +1,13 @@
 use Rattle.std.proofs.Common.{Some, None, refl}
-use Rattle.capture_reader.specs.declared.entry.Found.TheVariants.{Item, Held, Nothing}
+use Rattle.capture_reader.specs.declared.entry.Found.TheVariants.{SeenEntry, Held, Nothing}
 use Rattle.console.proofs.CapturedLemmas.{found_held}
 use Rattle.console.proofs.RunningLemmas.{no_links, none_run, run_item, run_stopped}
 use Rattle.console.proofs.capture_run.CaptureRun.run_next.Goals as goal
 
-pub returns-in_ok-run_found-in-Ok-Item-clause-runs : goal.returns-in_ok-run_found-in-Ok-Item-clause-runs
-returns-in_ok-run_found-in-Ok-Item-clause-runs c =
-    run_item c.args.program.now c.args.rest.now.now c.next.new.rest.now c.args.self.now (record c.args.self.now { feed = c.next.new.self; links = c.run_found.new.links }) (Item c.in-Ok-Item.item) (Some c.in-Ok-Item.item) _ _ _ _
-    (rw c.in-Ok-Item.field-0-is at c.in-Ok-Item.ensures.advances) refl refl refl c.in_ok-run_found-in-Ok-Item.ensures.runs c.run_found.ensures.links
+pub returns-in_ok-run_found-in-Ok-SeenEntry-clause-runs : goal.returns-in_ok-run_found-in-Ok-SeenEntry-clause-runs
+returns-in_ok-run_found-in-Ok-SeenEntry-clause-runs c =
+    run_item c.args.program.now c.args.rest.now.now c.next.new.rest.now c.args.self.now (record c.args.self.now { feed = c.next.new.self; links = c.run_found.new.links }) (SeenEntry c.in-Ok-SeenEntry.item) (Some c.in-Ok-SeenEntry.item) _ _ _ _
+    (rw c.in-Ok-SeenEntry.field-0-is at c.in-Ok-SeenEntry.ensures.advances) refl refl refl c.in_ok-run_found-in-Ok-SeenEntry.ensures.runs c.run_found.ensures.links
 
 pub returns-in_ok-run_found-in-Ok-Held-clause-runs : goal.returns-in_ok-run_found-in-Ok-Held-clause-runs
 returns-in_ok-run_found-in-Ok-Held-clause-runs c =

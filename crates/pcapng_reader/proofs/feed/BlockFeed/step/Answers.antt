@@ -2,7 +2,7 @@ use Rattle.std.proofs.Common.{◌≡◌, [], sym, ◌∙◌, Ok, ap, arith}
 use Rattle.pcapng_reader.specs.Grammar.{front_at}
 use Rattle.pcapng_reader.specs.Held.{place_of}
 use Rattle.pcapng_reader.specs.declared.front.Front.TheVariants.{Whole}
-use Rattle.pcapng_reader.specs.declared.feed.Step.TheVariants.{Block}
+use Rattle.pcapng_reader.specs.declared.feed.FeedStep.TheVariants.{Block}
 use Rattle.pcap_reader.proofs.FeedLemmas.{none_left}
 use Rattle.pcapng_reader.proofs.FeedLemmas.{advances_after, shorter_rest, takes_block}
 use Rattle.pcapng_reader.proofs.FrugalLemmas.{empty_frugal, frugal_after}

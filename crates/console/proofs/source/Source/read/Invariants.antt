@@ -1,4 +1,0 @@
-use Rattle.console.proofs.source.Source.read.Given as goal
-
-abbrev pub ghost-remembered : goal.ghost-remembered
-ghost-remembered g a = a._bytes.now

@@ -1,0 +1,3 @@
+pub mod KnownBytesLemmas
+pub mod DeviceLemmas
+pub mod InputLemmas
