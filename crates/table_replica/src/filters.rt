@@ -13,6 +13,7 @@ ghost use Rattle.table_replica.specs.Keeping.{listed_row};
 ghost use Rattle.filter_table.specs.Tables.{AreReceivers};
 
 use crate::Kept;
+use crate::boxed::BoxedFilters;
 use crate::lost::{are_under_none, lost_ids};
 use crate::programs::KeptPrograms;
 use crate::reaches::{
@@ -389,7 +390,7 @@ impl Filters {
 /// The filters of a table that are still to come, in order of installation.
 #[derive(Drop)]
 pub struct FilterIter<'a> {
-    pub(crate) filters: &'a Filters,
+    pub(crate) filters: &'a BoxedFilters,
     pub(crate) next: usize,
 }
 
