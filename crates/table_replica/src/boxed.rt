@@ -53,16 +53,15 @@ impl BoxedFilters {
         }
     }
 
-    /// These filters, on the heap.
-    fn of(alloc: Global, caps: &Caps, filters: Filters) -> Result<BoxedFilters, AllocError>
-        requires { filters.under ≡ caps.now }
-        ensures { IfOk result (λ boxed. boxed ≡ filters) }
+    /// These filters.
+    fn of(caps: &Caps, filters: Box<Filters>) -> BoxedFilters
+        requires { filters.value.under ≡ caps.now }
+        ensures { result ≡ filters.value }
     {
-        let filters = Box::new(alloc, filters)?;
-        Ok(BoxedFilters {
+        BoxedFilters {
             filters: Some(filters),
             under: Snapshot::of(caps),
-        })
+        }
     }
 
     /// The filters, if there are any.
@@ -121,7 +120,7 @@ impl BoxedFilters {
         match self.get() {
             Some(filters) => {
                 let after = filters.with(alloc, caps, filter)?;
-                BoxedFilters::of(alloc, caps, after)
+                Ok(BoxedFilters::of(caps, after))
             }
             None => BoxedFilters::one(alloc, caps, filter),
         }
@@ -134,7 +133,7 @@ impl BoxedFilters {
     {
         let none = Filters::new(alloc, caps);
         let one = none.with(alloc, caps, filter)?;
-        BoxedFilters::of(alloc, caps, one)
+        Ok(BoxedFilters::of(caps, one))
     }
 
     /// The same filters under capabilities that hold those of the filters as before.
@@ -146,7 +145,7 @@ impl BoxedFilters {
         match self.get() {
             Some(filters) => {
                 let after = filters.under(alloc, caps)?;
-                BoxedFilters::of(alloc, caps, after)
+                Ok(BoxedFilters::of(caps, after))
             }
             None => Ok(BoxedFilters::new(caps)),
         }
@@ -167,7 +166,7 @@ impl BoxedFilters {
         match self.get() {
             Some(filters) => {
                 let after = filters.under_fewer(alloc, before, caps)?;
-                BoxedFilters::of(alloc, caps, after)
+                Ok(BoxedFilters::of(caps, after))
             }
             None => Ok(BoxedFilters::new(caps)),
         }
@@ -260,7 +259,7 @@ impl BoxedFilters {
         match self.get() {
             Some(filters) => {
                 let after = filters.without(alloc, caps, id)?;
-                BoxedFilters::of(alloc, caps, after)
+                Ok(BoxedFilters::of(caps, after))
             }
             None => Ok(BoxedFilters::new(caps)),
         }
@@ -282,7 +281,7 @@ impl BoxedFilters {
         match self.get() {
             Some(filters) => {
                 let after = filters.replacing(alloc, caps, id, program)?;
-                BoxedFilters::of(alloc, caps, after)
+                Ok(BoxedFilters::of(caps, after))
             }
             None => Ok(BoxedFilters::new(caps)),
         }

@@ -19,7 +19,7 @@ use crate::programs::KeptPrograms;
 use crate::reaches::{
     Chains, Reach, add_reach, all_reaches, reaches_and, reaches_without, receivers, receivers_with,
 };
-use crate::settling::{Settling, settled, trimmed};
+use crate::settling::{Settling, settle, trim};
 use crate::shifts::{Shift, rows_after};
 use bpf_insn::Insn;
 use endpoint_caps::Caps;
@@ -175,10 +175,10 @@ impl Filters {
         alloc: Global,
         caps: &Caps,
         filter: Filter<'_>,
-    ) -> Result<Filters, AllocError>
+    ) -> Result<Box<Filters>, AllocError>
         requires caps { caps.now ≡ self.now.under }
         requires fits { instructions_of self.now.listed + length filter.program.now < 4294967296 }
-        ensures { IfOk result (λ filters. filters ≡ record { listed = self.now.listed ++ shown_filter filter.entry ∷ []; under = caps.now }) }
+        ensures { IfOk result (λ filters. filters.value ≡ record { listed = self.now.listed ++ shown_filter filter.entry ∷ []; under = caps.now }) }
     {
         let instructions = self.instructions + filter.program.code().len() as u32;
         let (programs, program, wakes) = self.programs.with_running(alloc, filter.program)?;
@@ -202,23 +202,25 @@ impl Filters {
     }
 
     /// The same filters under capabilities that hold those of the filters as before.
-    pub(crate) fn under(&self, alloc: Global, caps: &Caps) -> Result<Filters, AllocError>
+    #[inline(never)]
+    pub(crate) fn under(&self, alloc: Global, caps: &Caps) -> Result<Box<Filters>, AllocError>
         requires { AreHeldAlike self.now.under caps.now self.now.listed }
-        ensures { IfOk result (λ filters. filters ≡ record { listed = self.now.listed; under = caps.now }) }
+        ensures { IfOk result (λ filters. filters.value ≡ record { listed = self.now.listed; under = caps.now }) }
     {
         let instructions = self.instructions;
         let rows = Vec::from_slice(alloc, &self.rows)?;
         let programs = self.programs.copy(alloc)?;
         let reaches = Vec::from_slice(alloc, &self.reaches)?;
         let chains = self.chains.copy(alloc)?;
-        Ok(Filters {
+        let filters = Filters {
             rows,
             programs,
             reaches,
             chains,
             instructions,
             under: Snapshot::of(caps),
-        })
+        };
+        Ok(Box::new(alloc, filters)?)
     }
 
     /// The same filters under capabilities of which some may be gone. Where no filter is under one that is gone, nothing is sorted.
@@ -227,10 +229,10 @@ impl Filters {
         alloc: Global,
         before: &Caps,
         caps: &Caps,
-    ) -> Result<Filters, AllocError>
+    ) -> Result<Box<Filters>, AllocError>
         requires before { before.now ≡ self.now.under }
         requires fewer { AreFewer before.now.held caps.now.held }
-        ensures { IfOk result (λ filters. filters ≡ record { listed = self.now.listed; under = caps.now }) }
+        ensures { IfOk result (λ filters. filters.value ≡ record { listed = self.now.listed; under = caps.now }) }
     {
         let lost = lost_ids(alloc, before, caps)?;
         if are_under_none(&self.rows, &lost) {
@@ -241,9 +243,10 @@ impl Filters {
     }
 
     /// The same filters under capabilities of which some may be gone.
-    fn under_others(&self, alloc: Global, caps: &Caps) -> Result<Filters, AllocError>
+    #[inline(never)]
+    fn under_others(&self, alloc: Global, caps: &Caps) -> Result<Box<Filters>, AllocError>
         requires { AreFewer self.now.under.held caps.now.held }
-        ensures { IfOk result (λ filters. filters ≡ record { listed = self.now.listed; under = caps.now }) }
+        ensures { IfOk result (λ filters. filters.value ≡ record { listed = self.now.listed; under = caps.now }) }
     {
         let instructions = self.instructions;
         let rows = Vec::from_slice(alloc, &self.rows)?;
@@ -344,9 +347,14 @@ impl Filters {
     }
 
     /// These filters without one.
-    pub(crate) fn without(&self, alloc: Global, caps: &Caps, id: u32) -> Result<Filters, AllocError>
+    pub(crate) fn without(
+        &self,
+        alloc: Global,
+        caps: &Caps,
+        id: u32,
+    ) -> Result<Box<Filters>, AllocError>
         requires { caps.now ≡ self.now.under }
-        ensures { IfOk result (λ filters. filters ≡ record { listed = filter (λ f. not (f.id == id)) self.now.listed; under = caps.now }) }
+        ensures { IfOk result (λ filters. filters.value ≡ record { listed = filter (λ f. not (f.id == id)) self.now.listed; under = caps.now }) }
     {
         let left = self.instructions - instructions_with(&self.rows, &self.programs, id);
         let rows = rows_without(alloc, &self.rows, id)?;
@@ -367,10 +375,10 @@ impl Filters {
         caps: &Caps,
         id: u32,
         program: &Verified,
-    ) -> Result<Filters, AllocError>
+    ) -> Result<Box<Filters>, AllocError>
         requires caps { caps.now ≡ self.now.under }
         requires fits { instructions_of (replaced self.now.listed id program.now) < 4294967296 }
-        ensures { IfOk result (λ filters. filters ≡ record { listed = replaced self.now.listed id program.now; under = caps.now }) }
+        ensures { IfOk result (λ filters. filters.value ≡ record { listed = replaced self.now.listed id program.now; under = caps.now }) }
     {
         let (programs, place, wakes) = self.programs.with_running(alloc, program)?;
         let rows = rows_after(alloc, &self.rows, wakes)?;
@@ -462,27 +470,29 @@ fn rows_with(
     Ok(after)
 }
 
-/// The filters of rows and reaches, of so many instructions, once each program is where it belongs.
+/// The filters of rows and reaches, of so many instructions, once each program is where it belongs. They lie on the heap.
+#[inline(never)]
 fn rebuilt(
     alloc: Global,
     caps: &Caps,
-    all: Settling,
+    mut all: Settling,
     instructions: u32,
-) -> Result<Filters, AllocError>
+) -> Result<Box<Filters>, AllocError>
     requires filed { AreFiled caps.now.held all.rows.items all.programs all.reaches.items }
     requires total { instructions ≡ instructions_of (map (listed_row all.programs) all.rows.items) }
-    ensures { IfOk result (λ filters. filters ≡ record { listed = map (listed_row all.programs) all.rows.items; under = caps.now }) }
+    ensures { IfOk result (λ filters. filters.value ≡ record { listed = map (listed_row all.programs) all.rows.items; under = caps.now }) }
 {
-    let (left, chains) = settled(alloc, caps, all)?;
-    let left = trimmed(alloc, caps, left)?;
-    Ok(Filters {
-        rows: left.rows,
-        programs: left.programs,
-        reaches: left.reaches,
+    let chains = settle(alloc, caps, &mut all)?;
+    trim(alloc, caps, &mut all)?;
+    let filters = Filters {
+        rows: all.rows,
+        programs: all.programs,
+        reaches: all.reaches,
         chains,
         instructions,
         under: Snapshot::of(caps),
-    })
+    };
+    Ok(Box::new(alloc, filters)?)
 }
 
 /// The instructions of the rows of one filter.

@@ -1,5 +1,5 @@
 //! The programs of the filters: those that a packet is run on, and those that rest.
-ghost use Rattle.std.specs.Prelude.{◌≡◌, ◌<◌, ◌++◌, [], ◌∷◌, length, not, IfOk};
+ghost use Rattle.std.specs.Prelude.{◌≡◌, ◌<◌, ◌++◌, [], ◌∷◌, length, not, IfOk, OnOk};
 ghost use Rattle.filter_group.specs.Programs.{AreWithout};
 ghost use Rattle.table_replica.specs.Keeping.{Runs, list_of, source};
 ghost use Rattle.table_replica.specs.Lent.{IsIn};
@@ -9,6 +9,7 @@ use crate::shifts::Shift;
 use filter_group::{Programs, Shared};
 use filter_verify::Verified;
 use std::alloc::{AllocError, Global};
+use std::mem;
 
 /// Programs, each once.
 pub(crate) struct KeptPrograms {
@@ -80,39 +81,31 @@ impl KeptPrograms {
         }
     }
 
-    /// The programs without one of those that rest, or run, whose place the last of these gets.
-    pub(crate) fn without(
-        self,
+    /// Takes one out of those that rest, or run: the last of these gets its place. Without memory that list is lost.
+    pub(crate) fn take_out(
+        &mut self,
         alloc: Global,
         rests: bool,
         taken: usize,
-    ) -> Result<KeptPrograms, AllocError>
-        requires { taken < length (list_of rests self) }
-        ensures left { IfOk result (λ after. AreWithout (list_of rests self) taken (list_of rests after)) }
-        ensures others { IfOk result (λ after. list_of (not rests) after ≡ list_of (not rests) self) }
+    ) -> Result<(), AllocError>
+        requires { taken < length (list_of rests self.old) }
+        ensures left { OnOk result (AreWithout (list_of rests self.old) taken (list_of rests self.new)) }
+        ensures others { OnOk result (list_of (not rests) self.new ≡ list_of (not rests) self.old) }
     {
-        let KeptPrograms { running, resting } = self;
         if rests {
-            let resting = resting.without(alloc, taken)?;
-            Ok(KeptPrograms { running, resting })
+            take_out_of(alloc, &mut self.resting, taken)
         } else {
-            let running = running.without(alloc, taken)?;
-            Ok(KeptPrograms { running, resting })
+            take_out_of(alloc, &mut self.running, taken)
         }
     }
 
-    /// The programs with one more of those that rest, last.
-    pub(crate) fn with_resting(
-        self,
-        alloc: Global,
-        program: &Shared,
-    ) -> Result<KeptPrograms, AllocError>
-        ensures running { IfOk result (λ after. after.running ≡ self.running) }
-        ensures resting { IfOk result (λ after. after.resting ≡ self.resting ++ program.now ∷ []) }
+    /// Adds one to those that rest, last. Without memory nothing changes.
+    pub(crate) fn add_resting(&mut self, alloc: Global, program: &Shared) -> Result<(), AllocError>
+        ensures running { self.new.running ≡ self.old.running }
+        ensures resting { OnOk result (self.new.resting ≡ self.old.resting ++ program.now ∷ []) }
     {
-        let KeptPrograms { running, resting } = self;
-        let resting = resting.with(alloc, program)?;
-        Ok(KeptPrograms { running, resting })
+        self.resting = self.resting.with(alloc, program)?;
+        Ok(())
     }
 
     /// The programs with one that runs, its place, and where programs go if it rested before.
@@ -167,4 +160,14 @@ fn resting_copy(alloc: Global, resting: &Programs) -> Result<Programs, AllocErro
     } else {
         resting.copy(alloc)
     }
+}
+
+/// Takes a program out of a list, whose last gets its place. Without memory the list is lost.
+fn take_out_of(alloc: Global, programs: &mut Programs, taken: usize) -> Result<(), AllocError>
+    requires { taken < length programs.old }
+    ensures { OnOk result (AreWithout programs.old taken programs.new) }
+{
+    let before = mem::replace(programs, Programs::new(alloc));
+    *programs = before.without(alloc, taken)?;
+    Ok(())
 }

@@ -4,7 +4,8 @@ use Rattle.filter_table.specs.Listed.{FilterTable}
 use Rattle.filter_table.specs.Tables.{instructions_of, replaced}
 use Rattle.table_replica.specs.declared.filters.Row.{Row}
 use Rattle.table_replica.specs.Keeping.{AreFiled, ArePlaced, listed_row, placed_row, rows_after}
-use Rattle.table_replica.proofs.Filing.{woken_reached, replacing_placed, replacing_filed, replacing_shows, others_stay, shows_ok}
+use Rattle.table_replica.proofs.Boxes.{shows_ok}
+use Rattle.table_replica.proofs.Filing.{woken_reached, replacing_placed, replacing_filed, replacing_shows, others_stay}
 use Rattle.table_replica.proofs.Reaching.{replaced_reached}
 use Rattle.table_replica.proofs.filters.Filters.replacing.Goals as goal
 

@@ -7,7 +7,8 @@ use Rattle.filter_table.proofs.Lists.{instructions-push}
 use Rattle.table_replica.specs.declared.filters.Row.{Row}
 use Rattle.table_replica.specs.Keeping.{AreFiled, AreReaches, listed_row, rows_after}
 use Rattle.table_replica.specs.Lent.{shown_filter}
-use Rattle.table_replica.proofs.Filing.{woken_reached, with_filed, with_shows, shows_ok}
+use Rattle.table_replica.proofs.Boxes.{shows_ok}
+use Rattle.table_replica.proofs.Filing.{woken_reached, with_filed, with_shows}
 use Rattle.table_replica.proofs.filters.Filters.with.Goals as goal
 
 pub rebuilt-requires-clause-filed : goal.rebuilt-requires-clause-filed
