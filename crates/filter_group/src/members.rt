@@ -162,6 +162,7 @@ impl Members {
     }
 
     /// The programs and one more, at this place.
+    #[inline(never)]
     pub(crate) fn with(
         &self,
         alloc: Global,
@@ -243,6 +244,7 @@ fn home_at(chunk: usize, place: usize) -> Result<Home, AllocError>
 }
 
 /// The chunks, with one more owner each, and room for one more.
+#[inline(never)]
 fn chunks_copy(alloc: Global, chunks: &[Chunk]) -> Result<Vec<Chunk>, AllocError>
     ensures { IfOk result (λ copies. copies.items ≡ chunks.now) }
 {
@@ -254,6 +256,7 @@ fn chunks_copy(alloc: Global, chunks: &[Chunk]) -> Result<Vec<Chunk>, AllocError
 }
 
 /// The chunks once a program is put into one of them.
+#[inline(never)]
 fn chunks_with(
     alloc: Global,
     chunks: &[Chunk],

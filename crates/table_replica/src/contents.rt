@@ -452,6 +452,7 @@ impl Contents {
 }
 
 /// The program that an operation brings, verified.
+#[inline(never)]
 fn verified(alloc: Global, op: &Op) -> Result<Option<Verified>, StageFault>
     ensures ok { IfOk result (λ program. program ≡ program_of op.now) }
     ensures sound { OnOk result (Verifies (program_of op.now) None) }

@@ -224,6 +224,7 @@ impl Filters {
     }
 
     /// The same filters under capabilities of which some may be gone. Where no filter is under one that is gone, nothing is sorted.
+    #[inline(never)]
     pub(crate) fn under_fewer(
         &self,
         alloc: Global,
@@ -347,6 +348,7 @@ impl Filters {
     }
 
     /// These filters without one.
+    #[inline(never)]
     pub(crate) fn without(
         &self,
         alloc: Global,
@@ -369,6 +371,7 @@ impl Filters {
     }
 
     /// These filters, the program of one replaced.
+    #[inline(never)]
     pub(crate) fn replacing(
         &self,
         alloc: Global,

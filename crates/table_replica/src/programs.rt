@@ -124,6 +124,7 @@ impl KeptPrograms {
     }
 
     /// The same for a program that doesn't run yet.
+    #[inline(never)]
     fn with_started(
         &self,
         alloc: Global,
@@ -163,6 +164,7 @@ fn resting_copy(alloc: Global, resting: &Programs) -> Result<Programs, AllocErro
 }
 
 /// Takes a program out of a list, whose last gets its place. Without memory the list is lost.
+#[inline(never)]
 fn take_out_of(alloc: Global, programs: &mut Programs, taken: usize) -> Result<(), AllocError>
     requires { taken < length programs.old }
     ensures { OnOk result (AreWithout programs.old taken programs.new) }

@@ -23,6 +23,7 @@ pub(crate) struct Settling {
 }
 
 /// Puts programs to rest until each that runs has a reach. The chains of the reaches.
+#[inline(never)]
 pub(crate) fn settle(alloc: Global, caps: &Caps, left: &mut Settling) -> Result<Chains, AllocError>
     requires { AreFiled caps.now.held left.old.rows.items left.old.programs left.old.reaches.items }
     ensures like { OnOk result (IsLike caps.now.held left.old left.new) }
@@ -39,6 +40,7 @@ pub(crate) fn settle(alloc: Global, caps: &Caps, left: &mut Settling) -> Result<
 }
 
 /// Takes programs out until each that rests has a row.
+#[inline(never)]
 pub(crate) fn trim(alloc: Global, caps: &Caps, left: &mut Settling) -> Result<(), AllocError>
     requires { AreFiled caps.now.held left.old.rows.items left.old.programs left.old.reaches.items }
     ensures like { OnOk result (IsLike caps.now.held left.old left.new) }
