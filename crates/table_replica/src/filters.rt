@@ -181,7 +181,10 @@ impl Filters {
         ensures { IfOk result (λ filters. filters.value ≡ record { listed = self.now.listed ++ shown_filter filter.entry ∷ []; under = caps.now }) }
     {
         let instructions = self.instructions + filter.program.code().len() as u32;
-        let (programs, program, wakes) = self.programs.with_running(alloc, filter.program)?;
+        let mut all = Settling::none(alloc);
+        let (program, wakes) = self
+            .programs
+            .with_running(alloc, filter.program, &mut all.programs)?;
         let row = Row {
             id: filter.id,
             owner: filter.owner,
@@ -193,11 +196,8 @@ impl Filters {
         let reaches = reaches_and(alloc, &self.reaches, caps, &row)?;
         let mut rows = rows_after(alloc, &self.rows, wakes)?;
         rows.push(row)?;
-        let all = Settling {
-            rows,
-            programs,
-            reaches,
-        };
+        all.rows = rows;
+        all.reaches = reaches;
         rebuilt(alloc, caps, all, instructions)
     }
 
@@ -383,17 +383,17 @@ impl Filters {
         requires fits { instructions_of (replaced self.now.listed id program.now) < 4294967296 }
         ensures { IfOk result (λ filters. filters.value ≡ record { listed = replaced self.now.listed id program.now; under = caps.now }) }
     {
-        let (programs, place, wakes) = self.programs.with_running(alloc, program)?;
+        let mut all = Settling::none(alloc);
+        let (place, wakes) = self
+            .programs
+            .with_running(alloc, program, &mut all.programs)?;
         let rows = rows_after(alloc, &self.rows, wakes)?;
         let mut reaches = reaches_without(alloc, &self.reaches, caps, &rows, id)?;
         let rows = rows_with(alloc, caps, &rows, &mut reaches, id, place)?;
         let left = self.instructions - instructions_with(&self.rows, &self.programs, id);
-        let instructions = left + instructions_with(&rows, &programs, id);
-        let all = Settling {
-            rows,
-            programs,
-            reaches,
-        };
+        let instructions = left + instructions_with(&rows, &all.programs, id);
+        all.rows = rows;
+        all.reaches = reaches;
         rebuilt(alloc, caps, all, instructions)
     }
 }

@@ -108,18 +108,22 @@ impl KeptPrograms {
         Ok(())
     }
 
-    /// The programs with one that runs, its place, and where programs go if it rested before.
+    /// Writes the programs with one that runs. Its place, and where programs go if it rested before.
     pub(crate) fn with_running(
         &self,
         alloc: Global,
         program: &Verified,
-    ) -> Result<(KeptPrograms, usize, Option<Shift>), AllocError>
-        ensures { IfOk result (λ kept. Runs self.now program.now kept.0 kept.1 kept.2) }
+        into: &mut KeptPrograms,
+    ) -> Result<(usize, Option<Shift>), AllocError>
+        ensures { IfOk result (λ kept. Runs self.now program.now into.new kept.0 kept.1) }
     {
         let program = Shared::new(alloc, program.clone()?)?;
         match self.running.place_of(&program) {
-            Some(place) => Ok((self.copy(alloc)?, place, None)),
-            None => self.with_started(alloc, &program),
+            Some(place) => {
+                *into = self.copy(alloc)?;
+                Ok((place, None))
+            }
+            None => self.with_started(alloc, &program, into),
         }
     }
 
@@ -129,24 +133,25 @@ impl KeptPrograms {
         &self,
         alloc: Global,
         program: &Shared,
-    ) -> Result<(KeptPrograms, usize, Option<Shift>), AllocError>
+        into: &mut KeptPrograms,
+    ) -> Result<(usize, Option<Shift>), AllocError>
         requires { IsIn self.now.running program.now → ⊥ }
-        ensures { IfOk result (λ kept. Runs self.now program.now kept.0 kept.1 kept.2) }
+        ensures { IfOk result (λ kept. Runs self.now program.now into.new kept.0 kept.1) }
     {
         let place = self.running.len();
-        let running = self.running.with(alloc, program)?;
-        let resting = resting_copy(alloc, &self.resting)?;
+        into.running = self.running.with(alloc, program)?;
+        into.resting = resting_copy(alloc, &self.resting)?;
         match self.resting.place_of(program) {
-            None => Ok((KeptPrograms { running, resting }, place, None)),
+            None => Ok((place, None)),
             Some(taken) => {
-                let resting = resting.without(alloc, taken)?;
+                take_out_of(alloc, &mut into.resting, taken)?;
                 let wakes = Shift {
                     rests: true,
                     taken,
-                    last: resting.len(),
+                    last: into.resting.len(),
                     to: place,
                 };
-                Ok((KeptPrograms { running, resting }, place, Some(wakes)))
+                Ok((place, Some(wakes)))
             }
         }
     }

@@ -22,6 +22,17 @@ pub(crate) struct Settling {
     pub(crate) reaches: Vec<Reach>,
 }
 
+impl Settling {
+    /// No row.
+    pub(crate) fn none(alloc: Global) -> Settling {
+        Settling {
+            rows: Vec::new(alloc),
+            programs: KeptPrograms::none(alloc),
+            reaches: Vec::new(alloc),
+        }
+    }
+}
+
 /// Puts programs to rest until each that runs has a reach. The chains of the reaches.
 #[inline(never)]
 pub(crate) fn settle(alloc: Global, caps: &Caps, left: &mut Settling) -> Result<Chains, AllocError>
