@@ -162,7 +162,6 @@ impl Members {
     }
 
     /// The programs and one more, at this place.
-    #[inline(never)]
     pub(crate) fn with(
         &self,
         alloc: Global,
@@ -244,7 +243,6 @@ fn home_at(chunk: usize, place: usize) -> Result<Home, AllocError>
 }
 
 /// The chunks, with one more owner each, and room for one more.
-#[inline(never)]
 fn chunks_copy(alloc: Global, chunks: &[Chunk]) -> Result<Vec<Chunk>, AllocError>
     ensures { IfOk result (λ copies. copies.items ≡ chunks.now) }
 {
@@ -256,7 +254,6 @@ fn chunks_copy(alloc: Global, chunks: &[Chunk]) -> Result<Vec<Chunk>, AllocError
 }
 
 /// The chunks once a program is put into one of them.
-#[inline(never)]
 fn chunks_with(
     alloc: Global,
     chunks: &[Chunk],

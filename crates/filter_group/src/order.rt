@@ -59,7 +59,6 @@ pub(crate) fn rank_of(placed: &Placements, order: &[usize], program: &[Insn]) ->
 }
 
 /// The place of a program of this one's shape, which is a neighbour of this one's rank if there is any.
-#[inline(never)]
 pub(crate) fn near_to(
     placed: &Placements,
     order: &[usize],
@@ -89,7 +88,6 @@ fn alike_at(placed: &Placements, order: &[usize], rank: usize, program: &Verifie
 }
 
 /// The order once a place is put into it.
-#[inline(never)]
 pub(crate) fn order_with(
     alloc: Global,
     order: &[usize],

@@ -127,7 +127,6 @@ impl BoxedFilters {
     }
 
     /// One filter alone.
-    #[inline(never)]
     fn one(alloc: Global, caps: &Caps, filter: Filter<'_>) -> Result<BoxedFilters, AllocError>
         requires { length filter.program.now < 4294967296 }
         ensures { IfOk result (λ filters. filters ≡ record { listed = shown_filter filter.entry ∷ []; under = caps.now }) }

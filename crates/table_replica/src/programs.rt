@@ -128,7 +128,6 @@ impl KeptPrograms {
     }
 
     /// The same for a program that doesn't run yet.
-    #[inline(never)]
     fn with_started(
         &self,
         alloc: Global,
