@@ -6,7 +6,7 @@ use Rattle.std.proofs.lemmas.Option.{slice_get_within}
 use Rattle.std.proofs.lemmas.Bool.Decides.{nat_tests}
 use Rattle.bpf_insn.specs.declared.insn.Insn.{Insn}
 use Rattle.endpoint_caps.specs.declared.Cap.{Cap}
-use Rattle.endpoint_caps.specs.Capabilities.{CapTable, cap_at}
+use Rattle.endpoint_caps.specs.Capabilities.{cap_at}
 use Rattle.filter_group.specs.Programs.{AreWithout}
 use Rattle.filter_table.specs.Listed.{ListedFilter}
 use Rattle.filter_table.specs.Tables.{replaced}
