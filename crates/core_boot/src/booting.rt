@@ -22,6 +22,7 @@ use world_core::BootFault;
 const QUEUE_JOBS: usize = 16;
 
 // A core that has done nothing, and the port of its queue.
+#[inline(never)]
 fn start_core(
     alloc: Global,
     links: RingLinks,
@@ -42,6 +43,7 @@ fn start_core(
 }
 
 // One more core comes up.
+#[inline(never)]
 fn add_core(
     alloc: Global,
     links: RingLinks,
@@ -65,6 +67,7 @@ fn add_core(
 }
 
 // The cores over these links come up, each with its budget and its requests.
+#[inline(never)]
 fn start_cores(
     alloc: Global,
     budgets: &[u32],

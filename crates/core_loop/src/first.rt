@@ -36,6 +36,7 @@ struct Sending {
 }
 
 /// Takes the first message that is kept of a peer, which this is, with its stamp. Core 0 has so many others.
+#[inline(never)]
 pub(crate) fn take<L: Links>(
     core: &mut Core0,
     links: &mut L,
@@ -120,6 +121,7 @@ fn ready_take<L: Links>(
 }
 
 /// Starts the first of its own requests. Core 0 is idle, and the links to its others take messages.
+#[inline(never)]
 pub(crate) fn start<L: Links>(
     core: &mut Core0,
     links: &mut L,
@@ -188,6 +190,7 @@ fn ready_start(
 }
 
 /// Starts the request that a core has waiting. Core 0 is idle, and the links to its others take messages.
+#[inline(never)]
 pub(crate) fn start_for<L: Links>(
     core: &mut Core0,
     links: &mut L,

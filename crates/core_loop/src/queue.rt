@@ -14,7 +14,9 @@ pub(crate) fn next_request(requests: &mut VecDeque<Op>) -> Option<Op>
 {
     let op = requests.pop_front()?;
     if requests.is_empty() && requests.capacity() > KEPT {
-        requests.shrink_to(0);
+        // Not `shrink_to`, which moves the items that stay through 4 KB of the stack.
+        let alloc = *requests.allocator();
+        *requests = VecDeque::new(alloc);
     }
     Some(op)
 }

@@ -59,6 +59,7 @@ fn boot_boxed(alloc: Global, budgets: &[u32]) -> Result<Vec<Box<Core<RingLinks>>
 }
 
 // Each core in a block of its own.
+#[inline(never)]
 fn boxed(
     alloc: Global,
     cores: Vec<Core<RingLinks>>,
@@ -67,12 +68,20 @@ fn boxed(
 {
     let mut boxes = Vec::with_capacity(alloc, cores.len())?;
     for core in cores {
-        let Ok(core) = Box::new(alloc, core) else {
-            return Err(AllocError);
-        };
-        boxes.push(core)?;
+        boxes.push(block_of(alloc, core)?)?;
     }
     Ok(boxes)
+}
+
+// A core in a block of its own. Not in line, so that the stack has one core at a time.
+#[inline(never)]
+fn block_of(alloc: Global, core: Core<RingLinks>) -> Result<Box<Core<RingLinks>>, AllocError>
+    ensures { IfOk result (λ b. b.value ≡ core) }
+{
+    match Box::new(alloc, core) {
+        Ok(block) => Ok(block),
+        Err(_) => Err(AllocError),
+    }
 }
 
 // Whether one of these is open.

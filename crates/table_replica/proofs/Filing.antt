@@ -1,16 +1,14 @@
 -- Rows whose programs go to another place, among those that run or those that rest.
 use Rattle.std.proofs.Common.{◌≡◌, ◌<◌, ◌==◌, ◌⊎◌, inl, inr, ℕ, Bool, true, false, not, Option, Some, None, is_none, List, [], ◌∷◌, ◌++◌, map, filter, length, get_or, slice_get, Contains, refl, ap, sym, ◌∙◌, subst, arith}
-use Rattle.std.specs.Prelude.{Result, IfOk}
 use Rattle.std.specs.List.{All}
 use Rattle.std.proofs.lemmas.List.Elements.{Contains-push_cases, Contains-get_or}
 use Rattle.std.proofs.lemmas.Option.{slice_get_within}
-use Rattle.std.proofs.lemmas.Result.{IfOk-weaker}
 use Rattle.std.proofs.lemmas.Bool.Decides.{nat_tests}
 use Rattle.bpf_insn.specs.declared.insn.Insn.{Insn}
 use Rattle.endpoint_caps.specs.declared.Cap.{Cap}
-use Rattle.endpoint_caps.specs.Capabilities.{CapTable, cap_at}
+use Rattle.endpoint_caps.specs.Capabilities.{cap_at}
 use Rattle.filter_group.specs.Programs.{AreWithout}
-use Rattle.filter_table.specs.Listed.{ListedFilter, FilterTable}
+use Rattle.filter_table.specs.Listed.{ListedFilter}
 use Rattle.filter_table.specs.Tables.{replaced}
 use Rattle.filter_table.proofs.Lists.{in_head, in_tail, in_map, was_mapped, from_filter, map-append', eq_true, eq_false}
 use Rattle.table_replica.specs.declared.filters.Row.{Row}
@@ -507,9 +505,6 @@ reaches_placed caps programs rows reaches filed k d lt =
     omega arith
 
 -- The filters that are built, in the words of the calls
-
-pub shows_ok : {E : Type 0} (r : Result FilterTable E) (caps : CapTable) (xs ys : List ListedFilter) → xs ≡ ys → IfOk r (λ fs. fs ≡ record { listed = xs; under = caps }) → IfOk r (λ fs. fs ≡ record { listed = ys; under = caps })
-shows_ok r caps xs ys e h = IfOk-weaker r (λ fs. fs ≡ record { listed = xs; under = caps }) (λ fs. fs ≡ record { listed = ys; under = caps }) (λ fs is. is ∙ ap (λ (l : List ListedFilter). record { listed = l; under = caps }) e) h
 
 -- a filter that is added: its program runs, and its row is pushed
 module _ (caps : List Cap) (before after : KeptPrograms) (program : List Insn) (place : ℕ) (wakes : Option Shift) (rows : List Row) (reaches : List Reach)

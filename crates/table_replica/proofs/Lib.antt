@@ -10,3 +10,4 @@ pub mod Reaching
 pub mod Gone
 pub mod Soundness
 pub mod Marking
+pub mod Boxes

@@ -5,3 +5,4 @@ pub mod Keeping
 pub mod Shown
 pub mod Replicas
 pub mod Receiving
+pub mod Boxed

@@ -10,7 +10,8 @@ ghost use Rattle.filter_table.specs.Staging.{CannotStage, VerifierAsks};
 ghost use Rattle.table_replica.specs.Replicas.{RefusesAs};
 ghost use Rattle.filter_table.specs.Soundness.{IsSoundTable};
 
-use crate::{Filter, Filters, Kept, Made, Op, OpFault, StageFault};
+use crate::boxed::BoxedFilters;
+use crate::{Filter, Kept, Made, Op, OpFault, StageFault};
 use bpf_insn::Insn;
 use endpoint_caps::{CapFault, Caps, Right, Rights};
 use filter_verify::{Refusal, Verified, verify};
@@ -24,7 +25,7 @@ const FILTERS: usize = 1024;
 pub(crate) struct Contents {
     version: u64,
     caps: Caps,
-    filters: Filters,
+    filters: BoxedFilters,
     next_filter: u32,
 }
 
@@ -80,7 +81,7 @@ impl Contents {
         ensures empty { IfOk result (λ table. table ≡ record { version = version; caps = record { held = []; next = next_cap }; filters = []; next_filter = next_filter }) }
     {
         let caps = Caps::resume(alloc, next_cap)?;
-        let filters = Filters::new(alloc, &caps);
+        let filters = BoxedFilters::new(&caps);
         Ok(Contents {
             version,
             caps,
@@ -101,7 +102,7 @@ impl Contents {
         &self.caps
     }
 
-    pub(crate) fn filters(&self) -> &Filters
+    pub(crate) fn filters(&self) -> &BoxedFilters
         ensures listed { result.now.listed ≡ self.now.filters }
         ensures under { result.now.under ≡ self.now.caps }
     {
@@ -300,6 +301,7 @@ impl Contents {
         }
     }
 
+    #[inline(never)]
     #[tactic(auto, unfolding(filter_table::specs::Tables::after))]
     fn created(&self, alloc: Global, domain: u16, endpoint: u16) -> Result<Contents, AllocError>
         requires version { self.now.version < 18446744073709551615 }
@@ -316,6 +318,7 @@ impl Contents {
         }
     }
 
+    #[inline(never)]
     #[tactic(auto, unfolding(filter_table::specs::Tables::after))]
     fn minted(
         &self,
@@ -339,6 +342,7 @@ impl Contents {
         }
     }
 
+    #[inline(never)]
     #[tactic(auto, unfolding(filter_table::specs::Tables::after))]
     fn revoked(&self, alloc: Global, domain: u16, cap: u32) -> Result<Contents, AllocError>
         requires { self.now.version < 18446744073709551615 }
@@ -354,6 +358,7 @@ impl Contents {
         }
     }
 
+    #[inline(never)]
     #[tactic(auto, unfolding(filter_table::specs::Tables::after))]
     fn dropped(&self, alloc: Global, domain: u16, cap: u32) -> Result<Contents, AllocError>
         requires { self.now.version < 18446744073709551615 }
@@ -369,6 +374,7 @@ impl Contents {
         }
     }
 
+    #[inline(never)]
     #[tactic(auto, unfolding(filter_table::specs::Tables::after))]
     fn installed(
         &self,
@@ -399,6 +405,7 @@ impl Contents {
         Ok(self.following(caps, filters, id + 1))
     }
 
+    #[inline(never)]
     #[tactic(auto, unfolding(filter_table::specs::Tables::after))]
     fn removed(&self, alloc: Global, domain: u16, filter: u32) -> Result<Contents, AllocError>
         requires { self.now.version < 18446744073709551615 }
@@ -410,6 +417,7 @@ impl Contents {
         Ok(self.following(caps, filters, self.next_filter))
     }
 
+    #[inline(never)]
     #[tactic(auto, unfolding(filter_table::specs::Tables::after))]
     fn replaced(
         &self,
@@ -429,7 +437,7 @@ impl Contents {
     }
 
     /// The table at the next version, with these capabilities and filters.
-    fn following(&self, caps: Caps, filters: Filters, next_filter: u32) -> Contents
+    fn following(&self, caps: Caps, filters: BoxedFilters, next_filter: u32) -> Contents
         requires version { self.now.version < 18446744073709551615 }
         requires under { filters.under ≡ caps }
         ensures { result ≡ record { version = self.now.version + 1; caps = caps; filters = filters.listed; next_filter = next_filter } }
@@ -444,6 +452,7 @@ impl Contents {
 }
 
 /// The program that an operation brings, verified.
+#[inline(never)]
 fn verified(alloc: Global, op: &Op) -> Result<Option<Verified>, StageFault>
     ensures ok { IfOk result (λ program. program ≡ program_of op.now) }
     ensures sound { OnOk result (Verifies (program_of op.now) None) }

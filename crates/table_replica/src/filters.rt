@@ -13,12 +13,13 @@ ghost use Rattle.table_replica.specs.Keeping.{listed_row};
 ghost use Rattle.filter_table.specs.Tables.{AreReceivers};
 
 use crate::Kept;
+use crate::boxed::BoxedFilters;
 use crate::lost::{are_under_none, lost_ids};
 use crate::programs::KeptPrograms;
 use crate::reaches::{
     Chains, Reach, add_reach, all_reaches, reaches_and, reaches_without, receivers, receivers_with,
 };
-use crate::settling::{Settling, settled, trimmed};
+use crate::settling::{Settling, settle, trim};
 use crate::shifts::{Shift, rows_after};
 use bpf_insn::Insn;
 use endpoint_caps::Caps;
@@ -174,13 +175,16 @@ impl Filters {
         alloc: Global,
         caps: &Caps,
         filter: Filter<'_>,
-    ) -> Result<Filters, AllocError>
+    ) -> Result<Box<Filters>, AllocError>
         requires caps { caps.now ≡ self.now.under }
         requires fits { instructions_of self.now.listed + length filter.program.now < 4294967296 }
-        ensures { IfOk result (λ filters. filters ≡ record { listed = self.now.listed ++ shown_filter filter.entry ∷ []; under = caps.now }) }
+        ensures { IfOk result (λ filters. filters.value ≡ record { listed = self.now.listed ++ shown_filter filter.entry ∷ []; under = caps.now }) }
     {
         let instructions = self.instructions + filter.program.code().len() as u32;
-        let (programs, program, wakes) = self.programs.with_running(alloc, filter.program)?;
+        let mut all = Settling::none(alloc);
+        let (program, wakes) = self
+            .programs
+            .with_running(alloc, filter.program, &mut all.programs)?;
         let row = Row {
             id: filter.id,
             owner: filter.owner,
@@ -192,44 +196,44 @@ impl Filters {
         let reaches = reaches_and(alloc, &self.reaches, caps, &row)?;
         let mut rows = rows_after(alloc, &self.rows, wakes)?;
         rows.push(row)?;
-        let all = Settling {
-            rows,
-            programs,
-            reaches,
-        };
+        all.rows = rows;
+        all.reaches = reaches;
         rebuilt(alloc, caps, all, instructions)
     }
 
     /// The same filters under capabilities that hold those of the filters as before.
-    pub(crate) fn under(&self, alloc: Global, caps: &Caps) -> Result<Filters, AllocError>
+    #[inline(never)]
+    pub(crate) fn under(&self, alloc: Global, caps: &Caps) -> Result<Box<Filters>, AllocError>
         requires { AreHeldAlike self.now.under caps.now self.now.listed }
-        ensures { IfOk result (λ filters. filters ≡ record { listed = self.now.listed; under = caps.now }) }
+        ensures { IfOk result (λ filters. filters.value ≡ record { listed = self.now.listed; under = caps.now }) }
     {
         let instructions = self.instructions;
         let rows = Vec::from_slice(alloc, &self.rows)?;
         let programs = self.programs.copy(alloc)?;
         let reaches = Vec::from_slice(alloc, &self.reaches)?;
         let chains = self.chains.copy(alloc)?;
-        Ok(Filters {
+        let filters = Filters {
             rows,
             programs,
             reaches,
             chains,
             instructions,
             under: Snapshot::of(caps),
-        })
+        };
+        Ok(Box::new(alloc, filters)?)
     }
 
     /// The same filters under capabilities of which some may be gone. Where no filter is under one that is gone, nothing is sorted.
+    #[inline(never)]
     pub(crate) fn under_fewer(
         &self,
         alloc: Global,
         before: &Caps,
         caps: &Caps,
-    ) -> Result<Filters, AllocError>
+    ) -> Result<Box<Filters>, AllocError>
         requires before { before.now ≡ self.now.under }
         requires fewer { AreFewer before.now.held caps.now.held }
-        ensures { IfOk result (λ filters. filters ≡ record { listed = self.now.listed; under = caps.now }) }
+        ensures { IfOk result (λ filters. filters.value ≡ record { listed = self.now.listed; under = caps.now }) }
     {
         let lost = lost_ids(alloc, before, caps)?;
         if are_under_none(&self.rows, &lost) {
@@ -240,9 +244,10 @@ impl Filters {
     }
 
     /// The same filters under capabilities of which some may be gone.
-    fn under_others(&self, alloc: Global, caps: &Caps) -> Result<Filters, AllocError>
+    #[inline(never)]
+    fn under_others(&self, alloc: Global, caps: &Caps) -> Result<Box<Filters>, AllocError>
         requires { AreFewer self.now.under.held caps.now.held }
-        ensures { IfOk result (λ filters. filters ≡ record { listed = self.now.listed; under = caps.now }) }
+        ensures { IfOk result (λ filters. filters.value ≡ record { listed = self.now.listed; under = caps.now }) }
     {
         let instructions = self.instructions;
         let rows = Vec::from_slice(alloc, &self.rows)?;
@@ -343,9 +348,15 @@ impl Filters {
     }
 
     /// These filters without one.
-    pub(crate) fn without(&self, alloc: Global, caps: &Caps, id: u32) -> Result<Filters, AllocError>
+    #[inline(never)]
+    pub(crate) fn without(
+        &self,
+        alloc: Global,
+        caps: &Caps,
+        id: u32,
+    ) -> Result<Box<Filters>, AllocError>
         requires { caps.now ≡ self.now.under }
-        ensures { IfOk result (λ filters. filters ≡ record { listed = filter (λ f. not (f.id == id)) self.now.listed; under = caps.now }) }
+        ensures { IfOk result (λ filters. filters.value ≡ record { listed = filter (λ f. not (f.id == id)) self.now.listed; under = caps.now }) }
     {
         let left = self.instructions - instructions_with(&self.rows, &self.programs, id);
         let rows = rows_without(alloc, &self.rows, id)?;
@@ -360,28 +371,29 @@ impl Filters {
     }
 
     /// These filters, the program of one replaced.
+    #[inline(never)]
     pub(crate) fn replacing(
         &self,
         alloc: Global,
         caps: &Caps,
         id: u32,
         program: &Verified,
-    ) -> Result<Filters, AllocError>
+    ) -> Result<Box<Filters>, AllocError>
         requires caps { caps.now ≡ self.now.under }
         requires fits { instructions_of (replaced self.now.listed id program.now) < 4294967296 }
-        ensures { IfOk result (λ filters. filters ≡ record { listed = replaced self.now.listed id program.now; under = caps.now }) }
+        ensures { IfOk result (λ filters. filters.value ≡ record { listed = replaced self.now.listed id program.now; under = caps.now }) }
     {
-        let (programs, place, wakes) = self.programs.with_running(alloc, program)?;
+        let mut all = Settling::none(alloc);
+        let (place, wakes) = self
+            .programs
+            .with_running(alloc, program, &mut all.programs)?;
         let rows = rows_after(alloc, &self.rows, wakes)?;
         let mut reaches = reaches_without(alloc, &self.reaches, caps, &rows, id)?;
         let rows = rows_with(alloc, caps, &rows, &mut reaches, id, place)?;
         let left = self.instructions - instructions_with(&self.rows, &self.programs, id);
-        let instructions = left + instructions_with(&rows, &programs, id);
-        let all = Settling {
-            rows,
-            programs,
-            reaches,
-        };
+        let instructions = left + instructions_with(&rows, &all.programs, id);
+        all.rows = rows;
+        all.reaches = reaches;
         rebuilt(alloc, caps, all, instructions)
     }
 }
@@ -389,7 +401,7 @@ impl Filters {
 /// The filters of a table that are still to come, in order of installation.
 #[derive(Drop)]
 pub struct FilterIter<'a> {
-    pub(crate) filters: &'a Filters,
+    pub(crate) filters: &'a BoxedFilters,
     pub(crate) next: usize,
 }
 
@@ -461,27 +473,29 @@ fn rows_with(
     Ok(after)
 }
 
-/// The filters of rows and reaches, of so many instructions, once each program is where it belongs.
+/// The filters of rows and reaches, of so many instructions, once each program is where it belongs. They lie on the heap.
+#[inline(never)]
 fn rebuilt(
     alloc: Global,
     caps: &Caps,
-    all: Settling,
+    mut all: Settling,
     instructions: u32,
-) -> Result<Filters, AllocError>
+) -> Result<Box<Filters>, AllocError>
     requires filed { AreFiled caps.now.held all.rows.items all.programs all.reaches.items }
     requires total { instructions ≡ instructions_of (map (listed_row all.programs) all.rows.items) }
-    ensures { IfOk result (λ filters. filters ≡ record { listed = map (listed_row all.programs) all.rows.items; under = caps.now }) }
+    ensures { IfOk result (λ filters. filters.value ≡ record { listed = map (listed_row all.programs) all.rows.items; under = caps.now }) }
 {
-    let (left, chains) = settled(alloc, caps, all)?;
-    let left = trimmed(alloc, caps, left)?;
-    Ok(Filters {
-        rows: left.rows,
-        programs: left.programs,
-        reaches: left.reaches,
+    let chains = settle(alloc, caps, &mut all)?;
+    trim(alloc, caps, &mut all)?;
+    let filters = Filters {
+        rows: all.rows,
+        programs: all.programs,
+        reaches: all.reaches,
         chains,
         instructions,
         under: Snapshot::of(caps),
-    })
+    };
+    Ok(Box::new(alloc, filters)?)
 }
 
 /// The instructions of the rows of one filter.

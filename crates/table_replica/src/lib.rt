@@ -4,6 +4,7 @@
 //! (Baumann and others, "The Multikernel", SOSP 2009: replicated state, changed by two-phase commit).
 #![tactic(auto)]
 
+mod boxed;
 mod contents;
 mod filters;
 mod lost;
@@ -15,7 +16,6 @@ mod shifts;
 
 use contents::Contents;
 pub use filter_table::{Kept, Made, Op, OpFault, Program, StageFault};
-use filters::Filters;
 pub use filters::{Filter, FilterIter, Scratch};
 pub use replica::Replica;
 

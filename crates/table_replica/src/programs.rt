@@ -1,5 +1,5 @@
 //! The programs of the filters: those that a packet is run on, and those that rest.
-ghost use Rattle.std.specs.Prelude.{◌≡◌, ◌<◌, ◌++◌, [], ◌∷◌, length, not, IfOk};
+ghost use Rattle.std.specs.Prelude.{◌≡◌, ◌<◌, ◌++◌, [], ◌∷◌, length, not, IfOk, OnOk};
 ghost use Rattle.filter_group.specs.Programs.{AreWithout};
 ghost use Rattle.table_replica.specs.Keeping.{Runs, list_of, source};
 ghost use Rattle.table_replica.specs.Lent.{IsIn};
@@ -9,6 +9,7 @@ use crate::shifts::Shift;
 use filter_group::{Programs, Shared};
 use filter_verify::Verified;
 use std::alloc::{AllocError, Global};
+use std::mem;
 
 /// Programs, each once.
 pub(crate) struct KeptPrograms {
@@ -80,53 +81,49 @@ impl KeptPrograms {
         }
     }
 
-    /// The programs without one of those that rest, or run, whose place the last of these gets.
-    pub(crate) fn without(
-        self,
+    /// Takes one out of those that rest, or run: the last of these gets its place. Without memory that list is lost.
+    pub(crate) fn take_out(
+        &mut self,
         alloc: Global,
         rests: bool,
         taken: usize,
-    ) -> Result<KeptPrograms, AllocError>
-        requires { taken < length (list_of rests self) }
-        ensures left { IfOk result (λ after. AreWithout (list_of rests self) taken (list_of rests after)) }
-        ensures others { IfOk result (λ after. list_of (not rests) after ≡ list_of (not rests) self) }
+    ) -> Result<(), AllocError>
+        requires { taken < length (list_of rests self.old) }
+        ensures left { OnOk result (AreWithout (list_of rests self.old) taken (list_of rests self.new)) }
+        ensures others { OnOk result (list_of (not rests) self.new ≡ list_of (not rests) self.old) }
     {
-        let KeptPrograms { running, resting } = self;
         if rests {
-            let resting = resting.without(alloc, taken)?;
-            Ok(KeptPrograms { running, resting })
+            take_out_of(alloc, &mut self.resting, taken)
         } else {
-            let running = running.without(alloc, taken)?;
-            Ok(KeptPrograms { running, resting })
+            take_out_of(alloc, &mut self.running, taken)
         }
     }
 
-    /// The programs with one more of those that rest, last.
-    pub(crate) fn with_resting(
-        self,
-        alloc: Global,
-        program: &Shared,
-    ) -> Result<KeptPrograms, AllocError>
-        ensures running { IfOk result (λ after. after.running ≡ self.running) }
-        ensures resting { IfOk result (λ after. after.resting ≡ self.resting ++ program.now ∷ []) }
+    /// Adds one to those that rest, last. Without memory nothing changes.
+    pub(crate) fn add_resting(&mut self, alloc: Global, program: &Shared) -> Result<(), AllocError>
+        ensures running { self.new.running ≡ self.old.running }
+        ensures resting { OnOk result (self.new.resting ≡ self.old.resting ++ program.now ∷ []) }
     {
-        let KeptPrograms { running, resting } = self;
-        let resting = resting.with(alloc, program)?;
-        Ok(KeptPrograms { running, resting })
+        self.resting = self.resting.with(alloc, program)?;
+        Ok(())
     }
 
-    /// The programs with one that runs, its place, and where programs go if it rested before.
+    /// Writes the programs with one that runs. Its place, and where programs go if it rested before.
     pub(crate) fn with_running(
         &self,
         alloc: Global,
         program: &Verified,
-    ) -> Result<(KeptPrograms, usize, Option<Shift>), AllocError>
-        ensures { IfOk result (λ kept. Runs self.now program.now kept.0 kept.1 kept.2) }
+        into: &mut KeptPrograms,
+    ) -> Result<(usize, Option<Shift>), AllocError>
+        ensures { IfOk result (λ kept. Runs self.now program.now into.new kept.0 kept.1) }
     {
         let program = Shared::new(alloc, program.clone()?)?;
         match self.running.place_of(&program) {
-            Some(place) => Ok((self.copy(alloc)?, place, None)),
-            None => self.with_started(alloc, &program),
+            Some(place) => {
+                *into = self.copy(alloc)?;
+                Ok((place, None))
+            }
+            None => self.with_started(alloc, &program, into),
         }
     }
 
@@ -135,24 +132,25 @@ impl KeptPrograms {
         &self,
         alloc: Global,
         program: &Shared,
-    ) -> Result<(KeptPrograms, usize, Option<Shift>), AllocError>
+        into: &mut KeptPrograms,
+    ) -> Result<(usize, Option<Shift>), AllocError>
         requires { IsIn self.now.running program.now → ⊥ }
-        ensures { IfOk result (λ kept. Runs self.now program.now kept.0 kept.1 kept.2) }
+        ensures { IfOk result (λ kept. Runs self.now program.now into.new kept.0 kept.1) }
     {
         let place = self.running.len();
-        let running = self.running.with(alloc, program)?;
-        let resting = resting_copy(alloc, &self.resting)?;
+        into.running = self.running.with(alloc, program)?;
+        into.resting = resting_copy(alloc, &self.resting)?;
         match self.resting.place_of(program) {
-            None => Ok((KeptPrograms { running, resting }, place, None)),
+            None => Ok((place, None)),
             Some(taken) => {
-                let resting = resting.without(alloc, taken)?;
+                take_out_of(alloc, &mut into.resting, taken)?;
                 let wakes = Shift {
                     rests: true,
                     taken,
-                    last: resting.len(),
+                    last: into.resting.len(),
                     to: place,
                 };
-                Ok((KeptPrograms { running, resting }, place, Some(wakes)))
+                Ok((place, Some(wakes)))
             }
         }
     }
@@ -167,4 +165,15 @@ fn resting_copy(alloc: Global, resting: &Programs) -> Result<Programs, AllocErro
     } else {
         resting.copy(alloc)
     }
+}
+
+/// Takes a program out of a list, whose last gets its place. Without memory the list is lost.
+#[inline(never)]
+fn take_out_of(alloc: Global, programs: &mut Programs, taken: usize) -> Result<(), AllocError>
+    requires { taken < length programs.old }
+    ensures { OnOk result (AreWithout programs.old taken programs.new) }
+{
+    let before = mem::replace(programs, Programs::new(alloc));
+    *programs = before.without(alloc, taken)?;
+    Ok(())
 }

@@ -130,14 +130,7 @@ fn is_live_without(reach: Reach, caps: &Caps, rows: &[Row], id: u32) -> bool
 }
 
 /// The reaches once the program at a place is taken out, which the last then gets.
-pub(crate) fn lowered_reaches(mut reaches: Vec<Reach>, taken: usize, last: usize) -> Vec<Reach>
-    ensures { result.items ≡ map (lowered_reach taken last) reaches.items }
-{
-    lower_reaches(reaches.as_mut_slice(), taken, last);
-    reaches
-}
-
-fn lower_reaches(reaches: &mut [Reach], taken: usize, last: usize)
+pub(crate) fn lower_reaches(reaches: &mut [Reach], taken: usize, last: usize)
     ensures { reaches.new ≡ map (lowered_reach taken last) reaches.old }
 {
     for place in 0..reaches.len() {

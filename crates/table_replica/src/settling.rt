@@ -1,5 +1,5 @@
 //! Which programs run, and which rest or go, once filters or capabilities have changed.
-ghost use Rattle.std.specs.Prelude.{◌≡◌, ◌<◌, ◌+◌, true, false, not, ℕ, List, MatchOption, length, IfOk};
+ghost use Rattle.std.specs.Prelude.{◌≡◌, ◌<◌, ◌+◌, true, false, not, ℕ, List, MatchOption, length, IfOk, OnOk};
 ghost use Rattle.std.specs.List.{Contains};
 ghost use Rattle.endpoint_caps.specs.declared.Cap.{Cap};
 ghost use Rattle.table_replica.specs.Chains.{AreChained};
@@ -10,7 +10,7 @@ ghost use Rattle.table_replica.specs.Keeping.{AreFiled, HasReach, HasRest, IsIdl
 use crate::filters::Row;
 use crate::programs::KeptPrograms;
 use crate::reaches::{Chains, Reach, chained};
-use crate::shifts::{Shift, lowered_rows, reaches_after, shifted_rows};
+use crate::shifts::{Shift, lower_all, reaches_after, shift_all};
 use endpoint_caps::Caps;
 use std::alloc::{AllocError, Global};
 
@@ -22,42 +22,47 @@ pub(crate) struct Settling {
     pub(crate) reaches: Vec<Reach>,
 }
 
-/// What is left once each program that runs has a reach, with the chains of the reaches.
-pub(crate) fn settled(
-    alloc: Global,
-    caps: &Caps,
-    mut left: Settling,
-) -> Result<(Settling, Chains), AllocError>
-    requires { AreFiled caps.now.held left.rows.items left.programs left.reaches.items }
-    ensures like { IfOk result (λ after. IsLike caps.now.held left after.0) }
-    ensures chained { IfOk result (λ after. AreChained 0 after.0.reaches.items after.1.first.items after.1.next.items) }
-    ensures live { IfOk result (λ after. (place : ℕ) → place < length after.0.programs.running → HasReach after.0.reaches.items place) }
-{
-    'settle: loop {
-        let chains = chained(alloc, &left.reaches)?;
-        match idle(&chains, left.programs.count(false)) {
-            None => return Ok((left, chains)),
-            Some(place) => left = without_idle(alloc, left, place)?,
+impl Settling {
+    /// No row.
+    pub(crate) fn none(alloc: Global) -> Settling {
+        Settling {
+            rows: Vec::new(alloc),
+            programs: KeptPrograms::none(alloc),
+            reaches: Vec::new(alloc),
         }
     }
 }
 
-/// What is left once each program that rests has a row.
-pub(crate) fn trimmed(
-    alloc: Global,
-    caps: &Caps,
-    mut left: Settling,
-) -> Result<Settling, AllocError>
-    requires { AreFiled caps.now.held left.rows.items left.programs left.reaches.items }
-    ensures like { IfOk result (λ after. IsLike caps.now.held left after) }
-    ensures reaches { IfOk result (λ after. after.reaches.items ≡ left.reaches.items) }
-    ensures running { IfOk result (λ after. after.programs.running ≡ left.programs.running) }
-    ensures listed { IfOk result (λ after. (place : ℕ) → place < length after.programs.resting → HasRest after.rows.items place) }
+/// Puts programs to rest until each that runs has a reach. The chains of the reaches.
+#[inline(never)]
+pub(crate) fn settle(alloc: Global, caps: &Caps, left: &mut Settling) -> Result<Chains, AllocError>
+    requires { AreFiled caps.now.held left.old.rows.items left.old.programs left.old.reaches.items }
+    ensures like { OnOk result (IsLike caps.now.held left.old left.new) }
+    ensures chained { IfOk result (λ chains. AreChained 0 left.new.reaches.items chains.first.items chains.next.items) }
+    ensures live { OnOk result ((place : ℕ) → place < length left.new.programs.running → HasReach left.new.reaches.items place) }
+{
+    'settle: loop {
+        let chains = chained(alloc, &left.reaches)?;
+        match idle(&chains, left.programs.count(false)) {
+            None => return Ok(chains),
+            Some(place) => take_idle(alloc, left, place)?,
+        }
+    }
+}
+
+/// Takes programs out until each that rests has a row.
+#[inline(never)]
+pub(crate) fn trim(alloc: Global, caps: &Caps, left: &mut Settling) -> Result<(), AllocError>
+    requires { AreFiled caps.now.held left.old.rows.items left.old.programs left.old.reaches.items }
+    ensures like { OnOk result (IsLike caps.now.held left.old left.new) }
+    ensures reaches { OnOk result (left.new.reaches.items ≡ left.old.reaches.items) }
+    ensures running { OnOk result (left.new.programs.running ≡ left.old.programs.running) }
+    ensures listed { OnOk result ((place : ℕ) → place < length left.new.programs.resting → HasRest left.new.rows.items place) }
 {
     'trim: loop {
         match unused(alloc, &left.rows, left.programs.count(true))? {
-            None => return Ok(left),
-            Some(place) => left = dropped(alloc, left, true, place)?,
+            None => return Ok(()),
+            Some(place) => take_unused(alloc, left, true, place)?,
         }
     }
 }
@@ -97,17 +102,17 @@ fn unused(alloc: Global, rows: &[Row], count: usize) -> Result<Option<usize>, Al
     Ok(None)
 }
 
-/// What is left once a program that runs and has no reach has gone: to rest, if a row has it.
-fn without_idle(alloc: Global, left: Settling, place: usize) -> Result<Settling, AllocError>
-    requires inside { place < length left.programs.running }
-    requires idle { IsIdle left.reaches.items place }
-    ensures fewer { IfOk result (λ after. length after.programs.running + 1 ≡ length left.programs.running) }
-    ensures like { IfOk result (λ after. (caps : List Cap) → AreFiled caps left.rows.items left.programs left.reaches.items → IsLike caps left after) }
+/// Takes a program that runs and has no reach from those that run. It rests, if a row has it.
+fn take_idle(alloc: Global, left: &mut Settling, place: usize) -> Result<(), AllocError>
+    requires inside { place < length left.old.programs.running }
+    requires idle { IsIdle left.old.reaches.items place }
+    ensures fewer { OnOk result (length left.new.programs.running + 1 ≡ length left.old.programs.running) }
+    ensures like { OnOk result ((caps : List Cap) → AreFiled caps left.old.rows.items left.old.programs left.old.reaches.items → IsLike caps left.old left.new) }
 {
     if is_run_for(&left.rows, place) {
-        rested(alloc, left, place)
+        rest(alloc, left, place)
     } else {
-        dropped(alloc, left, false, place)
+        take_unused(alloc, left, false, place)
     }
 }
 
@@ -123,59 +128,48 @@ fn is_run_for(rows: &[Row], place: usize) -> bool
     false
 }
 
-/// What is left once a program that runs and has no reach rests.
-fn rested(alloc: Global, left: Settling, taken: usize) -> Result<Settling, AllocError>
-    requires inside { taken < length left.programs.running }
-    requires idle { IsIdle left.reaches.items taken }
-    ensures fewer { IfOk result (λ after. length after.programs.running + 1 ≡ length left.programs.running) }
-    ensures like { IfOk result (λ after. (caps : List Cap) → AreFiled caps left.rows.items left.programs left.reaches.items → IsLike caps left after) }
+/// Puts a program that runs and has no reach to rest.
+#[inline(never)]
+fn rest(alloc: Global, left: &mut Settling, taken: usize) -> Result<(), AllocError>
+    requires inside { taken < length left.old.programs.running }
+    requires idle { IsIdle left.old.reaches.items taken }
+    ensures fewer { OnOk result (length left.new.programs.running + 1 ≡ length left.old.programs.running) }
+    ensures like { OnOk result ((caps : List Cap) → AreFiled caps left.old.rows.items left.old.programs left.old.reaches.items → IsLike caps left.old left.new) }
 {
-    let Settling {
-        rows,
-        programs,
-        reaches,
-    } = left;
-    let to = programs.count(true);
-    let program = programs.running.at(taken).share()?;
-    let programs = programs.without(alloc, false, taken)?;
-    let programs = programs.with_resting(alloc, &program)?;
-    let last = programs.count(false);
+    let to = left.programs.count(true);
+    let program = left.programs.running.at(taken).share()?;
+    left.programs.take_out(alloc, false, taken)?;
+    left.programs.add_resting(alloc, &program)?;
+    let last = left.programs.count(false);
     let shift = Shift {
         rests: false,
         taken,
         last,
         to,
     };
-    let rows = shifted_rows(rows, shift);
-    let reaches = reaches_after(reaches, false, taken, last);
-    Ok(Settling {
-        rows,
-        programs,
-        reaches,
-    })
+    shift_all(&mut left.rows, shift);
+    reaches_after(&mut left.reaches, false, taken, last);
+    Ok(())
 }
 
-/// What is left once a program that no row has is taken out.
-fn dropped(alloc: Global, left: Settling, rests: bool, taken: usize) -> Result<Settling, AllocError>
-    requires inside { taken < length (list_of rests left.programs) }
-    requires unused { IsUnused left.rows.items rests taken }
-    ensures fewer { IfOk result (λ after. length (list_of rests after.programs) + 1 ≡ length (list_of rests left.programs)) }
-    ensures others { IfOk result (λ after. list_of (not rests) after.programs ≡ list_of (not rests) left.programs) }
-    ensures reaches { IfOk result (λ after. rests ≡ true → after.reaches.items ≡ left.reaches.items) }
-    ensures like { IfOk result (λ after. (caps : List Cap) → AreFiled caps left.rows.items left.programs left.reaches.items → IsLike caps left after) }
+/// Takes a program that no row has out of those that rest, or run.
+#[inline(never)]
+fn take_unused(
+    alloc: Global,
+    left: &mut Settling,
+    rests: bool,
+    taken: usize,
+) -> Result<(), AllocError>
+    requires inside { taken < length (list_of rests left.old.programs) }
+    requires unused { IsUnused left.old.rows.items rests taken }
+    ensures fewer { OnOk result (length (list_of rests left.new.programs) + 1 ≡ length (list_of rests left.old.programs)) }
+    ensures others { OnOk result (list_of (not rests) left.new.programs ≡ list_of (not rests) left.old.programs) }
+    ensures reaches { OnOk result (rests ≡ true → left.new.reaches.items ≡ left.old.reaches.items) }
+    ensures like { OnOk result ((caps : List Cap) → AreFiled caps left.old.rows.items left.old.programs left.old.reaches.items → IsLike caps left.old left.new) }
 {
-    let Settling {
-        rows,
-        programs,
-        reaches,
-    } = left;
-    let programs = programs.without(alloc, rests, taken)?;
-    let last = programs.count(rests);
-    let rows = lowered_rows(rows, rests, taken, last);
-    let reaches = reaches_after(reaches, rests, taken, last);
-    Ok(Settling {
-        rows,
-        programs,
-        reaches,
-    })
+    left.programs.take_out(alloc, rests, taken)?;
+    let last = left.programs.count(rests);
+    lower_all(&mut left.rows, rests, taken, last);
+    reaches_after(&mut left.reaches, rests, taken, last);
+    Ok(())
 }

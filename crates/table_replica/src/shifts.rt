@@ -3,7 +3,7 @@ ghost use Rattle.std.specs.Prelude.{◌≡◌, map, IfOk};
 ghost use Rattle.table_replica.specs.Keeping.{lowered_row, reaches_after, shifted_row, rows_after, is_in};
 
 use crate::filters::Row;
-use crate::reaches::{Reach, lowered_reaches, place_after};
+use crate::reaches::{Reach, lower_reaches, place_after};
 use std::alloc::{AllocError, Global};
 
 /// A program that goes from one list to the end of the other.
@@ -56,11 +56,10 @@ fn shifted_row(row: &Row, shift: Shift) -> Row
 }
 
 /// The rows once the program at a place of a list is taken out, which the last then gets.
-pub(crate) fn lowered_rows(mut rows: Vec<Row>, rests: bool, taken: usize, last: usize) -> Vec<Row>
-    ensures { result.items ≡ map (lowered_row rests taken last) rows.items }
+pub(crate) fn lower_all(rows: &mut Vec<Row>, rests: bool, taken: usize, last: usize)
+    ensures { rows.new.items ≡ map (lowered_row rests taken last) rows.old.items }
 {
     lower_rows(rows.as_mut_slice(), rests, taken, last);
-    rows
 }
 
 fn lower_rows(rows: &mut [Row], rests: bool, taken: usize, last: usize)
@@ -72,11 +71,10 @@ fn lower_rows(rows: &mut [Row], rests: bool, taken: usize, last: usize)
 }
 
 /// The rows once a program has gone to the other list.
-pub(crate) fn shifted_rows(mut rows: Vec<Row>, shift: Shift) -> Vec<Row>
-    ensures { result.items ≡ map (shifted_row shift) rows.items }
+pub(crate) fn shift_all(rows: &mut Vec<Row>, shift: Shift)
+    ensures { rows.new.items ≡ map (shifted_row shift) rows.old.items }
 {
     shift_rows(rows.as_mut_slice(), shift);
-    rows
 }
 
 fn shift_rows(rows: &mut [Row], shift: Shift)
@@ -98,23 +96,19 @@ pub(crate) fn rows_after(
     let mut after = Vec::with_capacity(alloc, rows.len() + 1)?;
     after.extend_from_slice(rows)?;
     match shift {
-        Some(shift) => Ok(shifted_rows(after, shift)),
+        Some(shift) => {
+            shift_all(&mut after, shift);
+            Ok(after)
+        }
         None => Ok(after),
     }
 }
 
 /// The reaches once the program at a place of a list is taken out. They have programs that run.
-pub(crate) fn reaches_after(
-    reaches: Vec<Reach>,
-    rests: bool,
-    taken: usize,
-    last: usize,
-) -> Vec<Reach>
-    ensures { result.items ≡ reaches_after rests taken last reaches.items }
+pub(crate) fn reaches_after(reaches: &mut Vec<Reach>, rests: bool, taken: usize, last: usize)
+    ensures { reaches.new.items ≡ reaches_after rests taken last reaches.old.items }
 {
-    if rests {
-        reaches
-    } else {
-        lowered_reaches(reaches, taken, last)
+    if !rests {
+        lower_reaches(reaches.as_mut_slice(), taken, last);
     }
 }

@@ -5,8 +5,8 @@ use Rattle.table_replica.specs.Keeping.{AreHeldAlike}
 use Rattle.table_replica.proofs.Reaching.{reaches_held, rows_held}
 use Rattle.table_replica.proofs.filters.Filters.under.Goals as goal
 
-pub invariant_of-result : goal.invariant_of-result
-invariant_of-result c =
+pub invariant_of-filters : goal.invariant_of-filters
+invariant_of-filters c =
     let i = c.self.inside in
     let alike = subst (λ (t : FilterTable). AreHeldAlike t.under c.args.caps.now t.listed) (sym c.self.view_is) c.requires in
     rw (c.of.ensures, c.in_ok-rows.ensures.items, c.in_ok-programs.ensures, c.in_ok-reaches.ensures.items, c.deref.ensures.value, c.deref-2.ensures.value) (record {

@@ -5,7 +5,8 @@ use Rattle.filter_table.specs.Tables.{instructions_of}
 use Rattle.table_replica.specs.declared.filters.Row.{Row}
 use Rattle.table_replica.specs.declared.programs.KeptPrograms.{KeptPrograms}
 use Rattle.table_replica.specs.Keeping.{AreFiled, listed_row}
-use Rattle.table_replica.proofs.Filing.{left_filed, left_shows, shows_ok}
+use Rattle.table_replica.proofs.Boxes.{shows_ok}
+use Rattle.table_replica.proofs.Filing.{left_filed, left_shows}
 use Rattle.table_replica.proofs.filters.Filters.without.Goals as goal
 
 pub rebuilt-requires-clause-filed : goal.rebuilt-requires-clause-filed

@@ -1,6 +1,6 @@
 use Rattle.std.proofs.Common.{length}
 use Rattle.table_replica.specs.Keeping.{IsLike}
-use Rattle.table_replica.proofs.settling.settled.Given as goal
+use Rattle.table_replica.proofs.settling.settle.Given as goal
 
 abbrev pub invariant-settle : goal.invariant-settle
 invariant-settle l = IsLike l.caps.held l.initial.left l.left

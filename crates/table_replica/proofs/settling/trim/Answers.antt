@@ -1,7 +1,7 @@
 use Rattle.std.proofs.Common.{◌<◌, ◌∙◌, List, Bool, true, Contains, length, refl, subst, arith}
 use Rattle.table_replica.specs.declared.filters.Row.{Row}
 use Rattle.table_replica.specs.Keeping.{HasRest, IsUnused, list_of}
-use Rattle.table_replica.proofs.settling.trimmed.Goals as goal
+use Rattle.table_replica.proofs.settling.trim.Goals as goal
 
 pub unused-requires : goal.unused-requires
 unused-requires c = λ row at rests.
@@ -16,14 +16,14 @@ returns-in-None-clause-listed c = λ place low.
     let count = c.count.ensures in
     subst (λ (rs : List Row). HasRest rs place) c.deref.ensures.value (all place (omega (arith, low, count)))
 
-pub dropped-requires-clause-unused : goal.dropped-requires-clause-unused
-dropped-requires-clause-unused c =
+pub take_unused-requires-clause-unused : goal.take_unused-requires-clause-unused
+take_unused-requires-clause-unused c =
     let found = rw c.in-Some.is at c.in_ok-unused.ensures in
     subst (λ (rs : List Row). IsUnused rs true c.in-Some.place) c.deref.ensures.value found.1
 
 pub trim-preserved : goal.trim-preserved
 trim-preserved c =
-    let dropped = c.in_ok-left-in-Some.ensures in
+    let dropped = c.in_ok-take_unused-in-Some.ensures in
     let like = dropped.like c.args.caps.now.held c.trim.invariant.like.filed in
     record {
       like = record { filed = like.filed; same = like.same ∙ c.trim.invariant.like.same };

@@ -1,6 +1,6 @@
 use Rattle.std.proofs.Common.{◌≡◌, length}
 use Rattle.table_replica.specs.Keeping.{IsLike}
-use Rattle.table_replica.proofs.settling.trimmed.Given as goal
+use Rattle.table_replica.proofs.settling.trim.Given as goal
 
 abbrev pub invariant-trim : goal.invariant-trim
 invariant-trim l = record {
