@@ -42,4 +42,4 @@ pub use fault::DecodeFault;
 pub use filter_table::{Decision, Veto, Vote};
 pub use message::Message;
 pub use reading::decode;
-pub use writing::{encode, encode_ack, encode_vote};
+pub use writing::encode;

@@ -4,7 +4,6 @@ ghost use Rattle.std.specs.Prelude.{◌≡◌, ◌<◌, ◌≤◌, ◌++◌, ◌
 ghost use Rattle.std.specs.Int.{w16, w32, w64, to_le_bytes};
 ghost use Rattle.bpf_insn.specs.Table.{InRange, bytes_of};
 ghost use Rattle.filter_table.specs.Tables.{HasShortProgram};
-ghost use Rattle.monitor_messages.specs.declared.message.Message.TheVariants as message;
 ghost use Rattle.monitor_messages.specs.Coding.{fault_number, fault_bytes, made_bytes, veto_bytes, decision_bytes, rights_number, vote_number, program_bytes, op_bytes, coded, Coded, IsShort, IsNumbered, IsOp, IsMade, IsFault, IsVeto, IsDecision, IsMessage};
 
 use crate::message::Message;
@@ -23,25 +22,6 @@ pub fn encode(alloc: Global, stamp: u64, message: &Message) -> Result<Vec<u8>, A
     let mut out = Vec::new(alloc);
     put_message(&mut out, stamp, message)?;
     Ok(out)
-}
-
-/// The bytes of a vote that is sent under this stamp. Takes no memory.
-pub fn encode_vote(stamp: u64, txn: u64, vote: Vote) -> [u8; 18]
-    ensures { Coded result stamp (message.Vote txn vote) }
-{
-    let [a, b, c, d, e, f, g, h] = stamp.to_le_bytes();
-    let [i, j, k, l, m, n, o, p] = txn.to_le_bytes();
-    let vote = number_of_vote(vote);
-    [2, a, b, c, d, e, f, g, h, i, j, k, l, m, n, o, p, vote]
-}
-
-/// The bytes of an acknowledgement that is sent under this stamp. Takes no memory.
-pub fn encode_ack(stamp: u64, txn: u64) -> [u8; 17]
-    ensures { Coded result stamp (message.Ack txn) }
-{
-    let [a, b, c, d, e, f, g, h] = stamp.to_le_bytes();
-    let [i, j, k, l, m, n, o, p] = txn.to_le_bytes();
-    [5, a, b, c, d, e, f, g, h, i, j, k, l, m, n, o, p]
 }
 
 fn put_message(out: &mut Vec<u8>, stamp: u64, message: &Message) -> Result<(), AllocError>
