@@ -13,9 +13,7 @@ pub(crate) fn vote_bytes(stamp: u64, txn: u64, vote: Vote) -> [u8; 18]
     let [a, b, c, d, e, f, g, h] = stamp.to_le_bytes();
     let [i, j, k, l, m, n, o, p] = txn.to_le_bytes();
     let vote = number_of_vote(vote);
-    [
-        2, a, b, c, d, e, f, g, h, i, j, k, l, m, n, o, p, vote,
-    ]
+    [2, a, b, c, d, e, f, g, h, i, j, k, l, m, n, o, p, vote]
 }
 
 fn number_of_vote(vote: Vote) -> u8
@@ -34,7 +32,5 @@ pub(crate) fn ack_bytes(stamp: u64, txn: u64) -> [u8; 17]
 {
     let [a, b, c, d, e, f, g, h] = stamp.to_le_bytes();
     let [i, j, k, l, m, n, o, p] = txn.to_le_bytes();
-    [
-        5, a, b, c, d, e, f, g, h, i, j, k, l, m, n, o, p,
-    ]
+    [5, a, b, c, d, e, f, g, h, i, j, k, l, m, n, o, p]
 }
