@@ -150,7 +150,7 @@ fn a_short_message_over_links_of_both_kinds(rt: HostRuntime) {
     holds(&rt, !sends_short(&mut lists, 1, &[4]));
     holds(&rt, lists.mark_collected(1));
     match lists.last_collected(1) {
-        Some(bytes) => holds(&rt, bytes == &[1, 2, 3]),
+        Some(bytes) => holds(&rt, bytes == [1, 2, 3].as_slice()),
         None => holds(&rt, false),
     }
 }
