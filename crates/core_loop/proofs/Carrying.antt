@@ -113,9 +113,9 @@ submit_carries s reply old new is h still = record {
 -- what another core considers it answers by a vote, an acknowledgement or nothing, and that goes over a link that takes messages
 pub reply_goes : (short : Bool) (core : OtherCore) (m : Message) (reply : Option Message) (core' : OtherCore) (v : LinkView) → Considers short core m reply core' → (reply ≢ None → v.ready ≡ true) → CanGoUp reply v
 reply_goes short core m None core' v h ready = tt
-reply_goes short core (message.Prepare txn op) (Some (message.Vote n vote)) core' v h ready = ready (λ e. absurd cc)
-reply_goes short core (message.Commit txn) (Some (message.Ack n)) core' v h ready = ready (λ e. absurd cc)
-reply_goes short core (message.Abort txn) (Some (message.Ack n)) core' v h ready = ready (λ e. absurd cc)
+reply_goes short core (message.Prepare txn op) (Some (message.Vote n vote)) core' v h ready = (tt, ready (λ e. absurd cc))
+reply_goes short core (message.Commit txn) (Some (message.Ack n)) core' v h ready = (tt, ready (λ e. absurd cc))
+reply_goes short core (message.Abort txn) (Some (message.Ack n)) core' v h ready = (tt, ready (λ e. absurd cc))
 reply_goes short core m (Some r) core' v h ready = absurd h
 
 -- Quiet looks

@@ -36,12 +36,16 @@ IsMade others stamp out r = ⊥
 abbrev pub FitOneLine : List ℕ → Type 0
 FitOneLine bytes = (1 ≤ length bytes) × (length bytes ≤ 56)
 
+-- what another core answers at once
+abbrev pub IsShortAnswer : Message → Type 0
+IsShortAnswer (Vote txn vote) = Unit {0}
+IsShortAnswer (Ack txn) = Unit {0}
+IsShortAnswer m = ⊥
+
 -- a reply of another core can go over its link to core 0: it is a vote or an acknowledgement, and the link takes a message; or there is none
 abbrev pub CanGoUp : Option Message → LinkView → Type 0
 CanGoUp None v = Unit {0}
-CanGoUp (Some (Vote txn vote)) v = v.ready ≡ true
-CanGoUp (Some (Ack txn)) v = v.ready ≡ true
-CanGoUp (Some m) v = ⊥
+CanGoUp (Some m) v = IsShortAnswer m × (v.ready ≡ true)
 
 -- why it doesn't go
 abbrev pub CannotReply : ℕ → ℕ → Option Message → LinkView → Refusal → Type 0

@@ -8,7 +8,7 @@ ghost use Rattle.world_events.specs.declared.event.Event.TheVariants.{Submit, Ta
 ghost use Rattle.world_histories.specs.Histories.{with_stamp};
 ghost use Rattle.core_loop.specs.Carrying.{Hands, IsFirst};
 ghost use Rattle.monitor_messages.specs.declared.message.Message.TheVariants as message;
-ghost use Rattle.core_loop.specs.Sending.{CanBeHanded, CanGoUp, IsPiece, CannotReply};
+ghost use Rattle.core_loop.specs.Sending.{CanBeHanded, CanGoUp, IsPiece, IsShortAnswer, CannotReply};
 ghost use Rattle.core_loop.specs.Outcomes.{OnEvent, OnNone, OnIdle};
 ghost use Rattle.core_loop.specs.Turning.{IsUnshortened};
 ghost use Rattle.core_loop.specs.Cores.{begins};
@@ -108,11 +108,22 @@ fn send_reply<L: Links>(links: &mut L, stamp: u64, reply: &Option<Message>)
 {
     match reply {
         None => {}
-        Some(Message::Vote { txn, vote }) => {
-            hand_short(links, 0, &vote_bytes(stamp, *txn, *vote));
-        }
-        Some(Message::Ack { txn }) => hand_short(links, 0, &ack_bytes(stamp, *txn)),
-        Some(_) => unreachable!(),
+        Some(answer) => send_answer(links, stamp, answer),
+    }
+}
+
+fn send_answer<L: Links>(links: &mut L, stamp: u64, answer: &Message)
+    requires answer { IsShortAnswer answer.now }
+    requires ready { (L.view links.old 0).ready ≡ true }
+    ensures links { L.same links.old links.new }
+    ensures lines { (p : ℕ) → L.flow links.new p ≡ L.flow links.old p }
+    ensures there { Hands (L.view links.old 0) (L.view links.new 0) (with_stamp stamp (answer.now ∷ [])) }
+    ensures elsewhere { (p : ℕ) → p ≢ 0 → L.view links.new p ≡ L.view links.old p }
+{
+    match answer {
+        Message::Vote { txn, vote } => hand_short(links, 0, &vote_bytes(stamp, *txn, *vote)),
+        Message::Ack { txn } => hand_short(links, 0, &ack_bytes(stamp, *txn)),
+        _ => unreachable!(),
     }
 }
 
