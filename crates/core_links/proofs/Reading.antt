@@ -1,7 +1,8 @@
 -- A list that is read from its beginning.
-use Rattle.std.proofs.Common.{◌≡◌, ◌≢◌, ◌+◌, ◌<◌, ◌≤◌, ℕ, zero, suc, List, [], ◌∷◌, ◌++◌, take, drop, map, length, get_or, Some, Vec, refl, sym, ap, subst, ◌∙◌, arith, add-one}
+use Rattle.std.proofs.Common.{◌≡◌, ◌≢◌, ◌+◌, ◌<◌, ◌≤◌, ℕ, zero, suc, List, [], ◌∷◌, ◌++◌, take, drop, map, length, get_or, Some, refl, sym, ap, subst, ◌∙◌, arith, add-one}
 use Rattle.std.proofs.lemmas.List.{length-map}
-use Rattle.std.specs.Global.{Global}
+use Rattle.ump_ring.specs.declared.piece.Piece.{Piece}
+use Rattle.ump_ring.specs.Pieces.{bytes_of}
 use Rattle.core_links.specs.Views.{first_of, last_in}
 
 module _ {A : Type 0} where
@@ -39,15 +40,15 @@ pub last_read : (xs : List (List ℕ)) (i : ℕ) → i < length xs → last_in (
 last_read xs i lt = ap (λ (n : ℕ). last_in (take n xs)) (add-one i) ∙ last_is_first xs i lt
 
 -- the first of those not read stands at the place after those read
-pub first_left : (vs : List (Vec ℕ Global)) (i : ℕ) (d : Vec ℕ Global) → i < length vs → first_of (drop i (map (λ (v : Vec ℕ Global). v.items) vs)) ≡ Some (get_or vs i d).items
+pub first_left : (vs : List (Piece)) (i : ℕ) (d : Piece) → i < length vs → first_of (drop i (map bytes_of vs)) ≡ Some (bytes_of (get_or vs i d))
 first_left [] i d lt = absurd (let no : ⊥ = omega (arith, lt) in no)
 first_left (v ∷ vs) zero d lt = refl
 first_left (v ∷ vs) (suc i) d lt = first_left vs i d (omega (arith, lt))
 
 -- and the last of those read at the place before
-pub last_left : (vs : List (Vec ℕ Global)) (n i : ℕ) (d : Vec ℕ Global) → n ≡ i + 1 → n ≤ length vs → last_in (take n (map (λ (v : Vec ℕ Global). v.items) vs)) ≡ Some (get_or vs i d).items
+pub last_left : (vs : List (Piece)) (n i : ℕ) (d : Piece) → n ≡ i + 1 → n ≤ length vs → last_in (take n (map bytes_of vs)) ≡ Some (bytes_of (get_or vs i d))
 last_left vs n i d is le =
     let lt : i < length vs = omega (arith, is, le) in
-    ap (λ (k : ℕ). last_in (take k (map (λ (v : Vec ℕ Global). v.items) vs))) is
-    ∙ last_read (map (λ (v : Vec ℕ Global). v.items) vs) i (subst (λ (k : ℕ). i < k) (sym (length-map vs (λ (v : Vec ℕ Global). v.items))) lt)
+    ap (λ (k : ℕ). last_in (take k (map bytes_of vs))) is
+    ∙ last_read (map bytes_of vs) i (subst (λ (k : ℕ). i < k) (sym (length-map vs bytes_of)) lt)
     ∙ first_left vs i d lt

@@ -1,11 +1,11 @@
 -- What contracts see of a list of messages.
-use Rattle.std.specs.Prelude.{ℕ, Bool, nat_lt, List, length, map, take, drop, Vec}
-use Rattle.std.specs.Global.{Global}
+use Rattle.std.specs.Prelude.{ℕ, Bool, nat_lt, List, length, map, take, drop}
+use Rattle.ump_ring.specs.Pieces.{bytes_of}
 use Rattle.core_links.specs.declared.message_list.MessageList.{MessageList}
 
 -- every message, the first one first
 abbrev pub all_of : MessageList → List (List ℕ)
-all_of m = map (λ (v : Vec ℕ Global). v.items) m.messages.items
+all_of m = map bytes_of m.messages.items
 
 -- those that were read, and those that were not
 abbrev pub read_of : MessageList → List (List ℕ)

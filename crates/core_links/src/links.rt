@@ -5,11 +5,11 @@ use ump_ring::{Busy, LineFault};
 /// The links of a core to its peers, which are named by their numbers. No call takes memory. `look`, `take`, `pump` and a
 /// `send` to another peer leave a ready link ready.
 pub trait Links: Drop {
-    ghost use Rattle.std.specs.Prelude.{◌≡◌, ◌≢◌, ◌≤◌, [], ℕ, IsTrue, IsFalse, vec_len};
+    ghost use Rattle.std.specs.Prelude.{◌≡◌, ◌≢◌, ◌≤◌, [], ℕ, IsTrue, IsFalse, length, vec_len};
     ghost use Rattle.std.specs.Borrow.{sem};
     ghost use Rattle.ump_ring.specs.Joiners.{shown_items};
     ghost use Rattle.core_links.specs.Flows.{Flow, FlowsOut, FlowsIn, FlowsAt};
-    ghost use Rattle.core_links.specs.Views.{LinkView, first_of, AtPeer, Pulled, GivenUp, Looked, Taken, HandedOver, Pumped, LeavesSo};
+    ghost use Rattle.core_links.specs.Views.{LinkView, first_of, AtPeer, Pulled, GivenUp, Looked, Taken, HandedOver, HandedShort, Pumped, LeavesSo};
 
     /// What was sent to a peer and taken from it.
     ghost view: { Self → ℕ → LinkView };
@@ -63,6 +63,13 @@ pub trait Links: Drop {
     fn send(&mut self, peer: u16, message: Vec<u8>) -> Result<(), Busy>
         requires length { (1 ≤ vec_len message) × (vec_len message ≤ 32832) }
         ensures sent { AtPeer same view peer (λ v w. HandedOver v w message result) self.old self.new }
+        ensures lines { (p : ℕ) → flow self.new p ≡ flow self.old p };
+
+    /// Hands a copy of a message of 1 to 56 bytes over to be sent, and says whether the link took it: a ready one does, and no
+    /// other.
+    fn send_short(&mut self, peer: u16, message: &[u8]) -> bool
+        requires length { (1 ≤ length message.now) × (length message.now ≤ 56) }
+        ensures sent { AtPeer same view peer (λ v w. HandedShort v w message.now result) self.old self.new }
         ensures lines { (p : ℕ) → flow self.new p ≡ flow self.old p };
 
     /// Moves on what waits to be sent, as far as there is room.

@@ -221,6 +221,17 @@ impl Links for ListLinks {
         }
     }
 
+    fn send_short(&mut self, peer: u16, message: &[u8]) -> bool {
+        let place = usize::from(peer);
+        if place >= self.slots.len() {
+            return false;
+        }
+        match &mut self.slots[place] {
+            None => false,
+            Some(link) => link.sent.put_short(message),
+        }
+    }
+
     fn pump(&mut self) {}
 
     ghost same_itself = { SameLists-itself };

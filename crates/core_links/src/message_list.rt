@@ -1,13 +1,13 @@
 //! A list of messages that is written at its end and read from its beginning.
 
-ghost use Rattle.std.specs.Prelude.{◌≤◌, vec_len, vec_capacity};
+ghost use Rattle.std.specs.Prelude.{◌≤◌, vec_len, vec_capacity, length};
 
 use std::alloc::{AllocError, Global};
-use ump_ring::Busy;
+use ump_ring::{Busy, Piece};
 
 /// Messages, at most `capacity` over its life, of which the first ones were read. It keeps them all.
 pub(crate) struct MessageList {
-    messages: Vec<Vec<u8>>,
+    messages: Vec<Piece>,
     // How many of them were read.
     read: usize,
     capacity: usize,
@@ -60,8 +60,24 @@ impl MessageList {
         if !self.has_room() {
             return Err(Busy(message));
         }
-        self.messages.push_reserved(message);
+        self.messages.push_reserved(Piece::Whole(message));
         Ok(())
+    }
+
+    /// Puts a copy of a message of at most 56 bytes at the end, and says whether it did: not where the list has as many as it
+    /// takes. Takes no memory.
+    pub(crate) fn put_short(&mut self, message: &[u8]) -> bool
+        requires { length message.now ≤ 56 }
+        ensures room { result ≡ has_room self.old }
+        ensures rest { (read_of self.new ≡ read_of self.old) × (capacity_of self.new ≡ capacity_of self.old) }
+        ensures ok { IsTrue result → (all_of self.new ≡ all_of self.old ++ message.now ∷ []) × (unread_of self.new ≡ unread_of self.old ++ message.now ∷ []) }
+        ensures busy { IsFalse result → self.new ≡ self.old }
+    {
+        if !self.has_room() {
+            return false;
+        }
+        self.messages.push_reserved(Piece::short(message));
+        true
     }
 
     /// The first message that was not read.
@@ -69,7 +85,7 @@ impl MessageList {
         ensures { shown_items result ≡ first_of (unread_of self.now) }
     {
         if self.read < self.messages.len() {
-            Some(&self.messages[self.read])
+            Some(self.messages[self.read].as_slice())
         } else {
             None
         }
@@ -98,7 +114,7 @@ impl MessageList {
         if self.read == 0 {
             None
         } else {
-            Some(&self.messages[self.read - 1])
+            Some(self.messages[self.read - 1].as_slice())
         }
     }
 }

@@ -1,6 +1,6 @@
 //! Links over rings.
 
-ghost use Rattle.std.specs.Prelude.{◌≤◌, vec_len};
+ghost use Rattle.std.specs.Prelude.{◌≤◌, length, vec_len};
 
 use crate::links::Links;
 use std::alloc::{AllocError, Global};
@@ -122,7 +122,7 @@ impl Link {
     ghost use Rattle.ump_ring.specs.Receivers.{message_last};
     ghost use Rattle.ump_ring.specs.Senders.{sender_capacity};
     ghost use Rattle.core_links.specs.Flows.{FlowsOut, FlowsIn, IsExact, IsLooked, IsResting, link_flow};
-    ghost use Rattle.core_links.specs.Views.{first_of, IsSameView, Pulled, GivenUp, HandedOver, Pumped};
+    ghost use Rattle.core_links.specs.Views.{first_of, IsSameView, Pulled, GivenUp, HandedOver, HandedShort, Pumped};
     ghost use mathlib.Core.List.{IsPrefix};
     ghost use Rattle.core_links.specs.RingSlots.{link_view, SameLink, AreJoined};
 
@@ -178,6 +178,15 @@ impl Link {
         ensures lines { link_flow self.new ≡ link_flow self.old }
     {
         self.sender.offer(message)
+    }
+
+    fn send_short(&mut self, message: &[u8]) -> bool
+        requires length { (1 ≤ length message.now) × (length message.now ≤ 56) }
+        ensures link { SameLink self.old self.new }
+        ensures sent { HandedShort (link_view self.old) (link_view self.new) message.now result }
+        ensures lines { link_flow self.new ≡ link_flow self.old }
+    {
+        self.sender.offer_short(message)
     }
 
     fn pump(&mut self)
@@ -283,6 +292,17 @@ impl Links for RingLinks {
         match &mut self.slots[place] {
             None => Err(Busy(message)),
             Some(link) => link.send(message),
+        }
+    }
+
+    fn send_short(&mut self, peer: u16, message: &[u8]) -> bool {
+        let place = usize::from(peer);
+        if place >= self.slots.len() {
+            return false;
+        }
+        match &mut self.slots[place] {
+            None => false,
+            Some(link) => link.send_short(message),
         }
     }
 

@@ -1,14 +1,16 @@
 -- What an event's steps on the links come to.
-use Rattle.std.proofs.Common.{◌≡◌, ◌≢◌, ◌<◌, ◌⊎◌, inl, inr, ◌∙◌, ℕ, suc, false, Option, Some, None, List, [], ◌∷◌, ◌++◌, take, drop, refl, sym, ap, subst, arith}
-use Rattle.std.specs.Prelude.{Vec, Result, option_to_list}
+use Rattle.std.proofs.Common.{◌≡◌, ◌≢◌, ◌<◌, ◌⊎◌, inl, inr, ◌∙◌, ℕ, suc, true, false, Option, Some, None, List, [], ◌∷◌, ◌++◌, take, drop, refl, sym, ap, subst, arith}
+use Rattle.std.specs.Prelude.{Bool, Result, option_to_list}
 use Rattle.ump_ring.specs.declared.fault.LineFault.{LineFault}
-use Rattle.std.specs.Global.{Global}
-use Rattle.core_loop.specs.Sending.{IsReplyReady}
+use Rattle.core_loop.specs.Sending.{CanGoUp}
 use Rattle.std.proofs.lemmas.List.{append-nil}
 use Rattle.core_links.specs.Views.{LinkView, first_of, GivenUp, Pumped, Pulled}
 use Rattle.world_events.specs.declared.event.Event.TheVariants.{Take}
 use Rattle.world_events.specs.declared.event.Answer.{Answer}
 use Rattle.monitor_messages.specs.declared.message.Message.{Message}
+use Rattle.monitor_messages.specs.declared.message.Message.TheVariants as message
+use Rattle.core_steps.specs.declared.other_core.OtherCore.{OtherCore}
+use Rattle.core_steps.specs.OtherCoreSteps.{Considers}
 use Rattle.world_model.specs.Cases.{Outgoing, sent_up}
 use Rattle.world_model.proofs.Lists.{same_or_not}
 use Rattle.world_model.proofs.Submissions.{eq_self, eq_other}
@@ -108,12 +110,13 @@ submit_carries s reply old new is h still = record {
   elsewhere = λ p. same_quiet (old (suc p)) (new (suc p)) (still (suc p) (λ x. absurd (omega arith)));
 }
 
--- a reply that is ready stays so where the link stays ready
-pub reply_stays : (stamp : ℕ) (reply : Option Message) (piece : Option (Vec ℕ Global)) (v w : LinkView) → w.ready ≡ v.ready → IsReplyReady stamp reply piece v → IsReplyReady stamp reply piece w
-reply_stays stamp None None v w e r = tt
-reply_stays stamp None (Some p) v w e r = absurd r
-reply_stays stamp (Some m) None v w e r = absurd r
-reply_stays stamp (Some m) (Some p) v w e r = (r.0, r.1, e ∙ r.2)
+-- what another core considers it answers by a vote, an acknowledgement or nothing, and that goes over a link that takes messages
+pub reply_goes : (short : Bool) (core : OtherCore) (m : Message) (reply : Option Message) (core' : OtherCore) (v : LinkView) → Considers short core m reply core' → (reply ≢ None → v.ready ≡ true) → CanGoUp reply v
+reply_goes short core m None core' v h ready = tt
+reply_goes short core (message.Prepare txn op) (Some (message.Vote n vote)) core' v h ready = (tt, ready (λ e. absurd cc))
+reply_goes short core (message.Commit txn) (Some (message.Ack n)) core' v h ready = (tt, ready (λ e. absurd cc))
+reply_goes short core (message.Abort txn) (Some (message.Ack n)) core' v h ready = (tt, ready (λ e. absurd cc))
+reply_goes short core m (Some r) core' v h ready = absurd h
 
 -- Quiet looks
 

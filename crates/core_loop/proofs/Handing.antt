@@ -1,10 +1,11 @@
 -- What handing messages over does to the links.
-use Rattle.std.proofs.Common.{◌≡◌, ◌≢◌, ◌<◌, ◌≤◌, ◌+◌, ◌⊎◌, inl, inr, All, ◌∙◌, ℕ, suc, true, [], ◌∷◌, sym, ap, subst, arith}
+use Rattle.std.proofs.Common.{◌≡◌, ◌≢◌, ◌<◌, ◌≤◌, ◌+◌, ◌⊎◌, inl, inr, All, ◌∙◌, ℕ, suc, Bool, List, true, [], ◌∷◌, sym, ap, subst, arith}
 use Rattle.std.specs.Prelude.{Result, Ok, Err, Vec}
 use Rattle.std.specs.Global.{Global}
 use Rattle.std.proofs.lemmas.List.{append-nil}
 use Rattle.ump_ring.specs.declared.sender.Busy.{Busy}
-use Rattle.core_links.specs.Views.{LinkView, HandedOver}
+use Rattle.core_links.specs.Views.{LinkView, HandedOver, HandedShort}
+use Rattle.monitor_messages.specs.Coding.{Coded}
 use Rattle.monitor_messages.specs.declared.message.Message.{Message}
 use Rattle.world_model.specs.Cases.{Outgoing, nothing, to_all, to_one}
 use Rattle.world_model.proofs.Lists.{same_or_not}
@@ -31,6 +32,14 @@ handed v w piece (Ok u) stamp m ready h coded = record {
   still_ready = λ n. absurd (let e = n in cc);
 }
 handed v w piece (Err b) stamp m ready h coded = absurd (let no = h.answer.1 in cc)
+
+pub handed_short : (v w : LinkView) (bytes : List ℕ) (took : Bool) (stamp : ℕ) (m : Message) → v.ready ≡ true → HandedShort v w bytes took → Coded bytes stamp m → Hands v w (with_stamp stamp (m ∷ []))
+handed_short v w bytes took stamp m ready h coded = record {
+  sends = (bytes ∷ [], h.sent (h.ready ∙ ready), (coded, tt));
+  taken_same = h.taken;
+  kept_same = h.kept;
+  still_ready = λ n. absurd (let e = n in cc);
+}
 
 -- nothing goes to any
 pub hands_nothing : (others stamp : ℕ) (old new : ℕ → LinkView) → ((p : ℕ) → new p ≡ old p) → HandsOut others stamp nothing old new

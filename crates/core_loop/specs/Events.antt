@@ -89,17 +89,11 @@ IsAnswered (message.Commit txn) = Unit {0}
 IsAnswered (message.Abort txn) = Unit {0}
 IsAnswered m = ⊥
 
--- a message that it answers and that is the next one, but for the rules of an operation
-abbrev pub IsConsidered : OtherCore → Message → Type 0
-IsConsidered core (message.Prepare txn op) = (core.participant.voted ≡ None) × (txn ≡ core.participant.last + 1)
-IsConsidered core (message.Reply decision) = ⊥
-IsConsidered core m = AwaitsHere core m
-
--- why another core doesn't take a message of core 0 now
+-- why another core doesn't take a message of core 0 now: never for lack of memory, since its vote says so
 abbrev pub CannotTakeOther : ℕ → OtherCore → Stamping → (ℕ → LinkView) → Refusal → Type 0
 CannotTakeOther clock core m view refusal.NotReady = ((view 0).ready ≡ false) × IsAnswered m.message
 CannotTakeOther clock core m view refusal.Spent = 18446744073709551615 ≤ max clock m.stamp
-CannotTakeOther clock core m view refusal.NoMemory = (max clock m.stamp < 18446744073709551615) × IsConsidered core m.message
+CannotTakeOther clock core m view refusal.NoMemory = ⊥
 CannotTakeOther clock core m view refusal.Stranger = AwaitsHere core m.message → ⊥
 
 -- why it, with nothing outstanding and a link that takes messages, doesn't submit a request now

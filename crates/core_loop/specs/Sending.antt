@@ -1,7 +1,8 @@
 -- Messages that are made ready to be sent.
-use Rattle.std.specs.Prelude.{◌≡◌, ◌≢◌, ◌<◌, ◌≤◌, ℕ, max, true, false, All, Option, None, Some, length, Vec}
+use Rattle.std.specs.Prelude.{◌≡◌, ◌≢◌, ◌<◌, ◌≤◌, ℕ, max, true, false, All, List, Option, None, Some, length, Vec}
 use Rattle.std.specs.Global.{Global}
 use Rattle.monitor_messages.specs.declared.message.Message.{Message}
+use Rattle.monitor_messages.specs.declared.message.Message.TheVariants.{Vote, Ack}
 use Rattle.monitor_messages.specs.Coding.{Coded}
 use Rattle.world_model.specs.Cases.{Outgoing, nothing, to_all, to_one}
 use Rattle.core_links.specs.Views.{LinkView}
@@ -31,15 +32,24 @@ IsMade others stamp (to_one entry m) ready.Nothing = others ≤ entry
 IsMade others stamp (to_one entry m) (ready.ToOne entry' piece) = (entry' ≡ entry) × (entry < others) × IsPiece stamp m piece
 IsMade others stamp out r = ⊥
 
--- a reply of another core is ready for its link to core 0
-abbrev pub IsReplyReady : ℕ → Option Message → Option (Vec ℕ Global) → LinkView → Type 0
-IsReplyReady stamp None None v = Unit {0}
-IsReplyReady stamp (Some m) (Some piece) v = CanBeHanded piece × IsPiece stamp m piece × (v.ready ≡ true)
-IsReplyReady stamp reply piece v = ⊥
+-- these bytes fit in one line
+abbrev pub FitOneLine : List ℕ → Type 0
+FitOneLine bytes = (1 ≤ length bytes) × (length bytes ≤ 56)
 
--- why it isn't made ready
+-- what another core answers at once
+abbrev pub IsShortAnswer : Message → Type 0
+IsShortAnswer (Vote txn vote) = Unit {0}
+IsShortAnswer (Ack txn) = Unit {0}
+IsShortAnswer m = ⊥
+
+-- a reply of another core can go over its link to core 0: it is a vote or an acknowledgement, and the link takes a message; or there is none
+abbrev pub CanGoUp : Option Message → LinkView → Type 0
+CanGoUp None v = Unit {0}
+CanGoUp (Some m) v = IsShortAnswer m × (v.ready ≡ true)
+
+-- why it doesn't go
 abbrev pub CannotReply : ℕ → ℕ → Option Message → LinkView → Refusal → Type 0
 CannotReply clock sent reply v refusal.NotReady = (reply ≢ None) × (v.ready ≡ false)
 CannotReply clock sent reply v refusal.Spent = 18446744073709551615 ≤ max clock sent
-CannotReply clock sent reply v refusal.NoMemory = (reply ≢ None) × (max clock sent < 18446744073709551615)
+CannotReply clock sent reply v refusal.NoMemory = ⊥
 CannotReply clock sent reply v refusal.Stranger = ⊥

@@ -21,7 +21,6 @@ use Rattle.core_loop.specs.Events.{CannotTake0, CannotTakeOther}
 abbrev pub CannotTake : ℕ → ℕ → ℕ → Part → Stamping → (ℕ → LinkView) → Refusal → Type 0
 CannotTake cores clock peer (part.First core) m view r = CannotTake0 (cores - 1) clock peer core m view r
 CannotTake cores clock peer (part.Other core) m view refusal.Stranger = peer ≡ 0 → AwaitsHere core m.message → ⊥
-CannotTake cores clock peer (part.Other core) m view refusal.NoMemory = (peer ≡ 0) × CannotTakeOther clock core m view refusal.NoMemory
 CannotTake cores clock peer (part.Other core) m view r = CannotTakeOther clock core m view r
 
 -- why a core stops at a peer: its link has stopped so, or its first message is none that is coded, or one that fits no phase
@@ -30,7 +29,7 @@ StopsAt cores clock peer x view (cause.Line fault) = (view peer).stopped ≡ Som
 StopsAt cores clock peer x view cause.BadMessage = (bytes : List ℕ) × (first_of (view peer).kept ≡ Some bytes) × ((stamp : ℕ) (m : Message) → Coded bytes stamp m → ⊥)
 StopsAt cores clock peer x view cause.Stranger = (m : Stamping) × IsFirst (view peer) m × CannotTake cores clock peer x m view refusal.Stranger
 
--- why a core that looks at a peer's first message can't go on now: memory was refused to its program, or to what is sent once it is taken
+-- why a core that looks at a peer's first message can't go on now: memory was refused to its program, or to what core 0 sends once it is taken
 abbrev pub TakeHalts : ℕ → ℕ → ℕ → Part → (ℕ → LinkView) → Halt → Type 0
 TakeHalts cores clock peer x view halt.Spent = (m : Stamping) × IsFirst (view peer) m × (18446744073709551615 ≤ max clock m.stamp)
 TakeHalts cores clock peer x view halt.NoMemory =

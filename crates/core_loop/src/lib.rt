@@ -1,6 +1,7 @@
 //! One core's turn over its links.
 #![tactic(auto)]
 
+mod answers;
 mod cause;
 mod context;
 mod deciding;

@@ -1,16 +1,14 @@
 //! The events of a core other than core 0.
 
-ghost use Rattle.std.specs.Prelude.{◌≡◌, ◌≢◌, ◌≤◌, ◌<◌, ◌+◌, ◌∷◌, ◌++◌, [], max, true, false, suc, ℕ, Bool, All, Option, option_to_list, IfOk, IfErr, OnErr, OnOk};
+ghost use Rattle.std.specs.Prelude.{◌≡◌, ◌≢◌, ◌≤◌, ◌<◌, ◌+◌, ◌∷◌, ◌++◌, [], max, true, false, suc, ℕ, All, None, option_to_list, IfOk, IfErr, OnErr, OnOk};
 ghost use Rattle.filter_table.specs.declared.operation.Op.{Op as GhostOp};
-ghost use Rattle.monitor_messages.specs.declared.message.Message.{Message as GhostMessage};
 ghost use Rattle.filter_table.specs.Tables.{HasShortProgram};
-ghost use Rattle.core_steps.specs.declared.other_core.OtherCore.{OtherCore as GhostCore};
-ghost use Rattle.core_steps.specs.OtherCoreSteps.{IsBetweenSteps, Considers};
+ghost use Rattle.core_steps.specs.OtherCoreSteps.{IsBetweenSteps};
 ghost use Rattle.world_events.specs.declared.event.Event.TheVariants.{Submit, Take};
 ghost use Rattle.world_histories.specs.Histories.{with_stamp};
 ghost use Rattle.core_loop.specs.Carrying.{Hands, IsFirst};
 ghost use Rattle.monitor_messages.specs.declared.message.Message.TheVariants as message;
-ghost use Rattle.core_loop.specs.Sending.{CanBeHanded, IsPiece, IsReplyReady, CannotReply};
+ghost use Rattle.core_loop.specs.Sending.{CanBeHanded, CanGoUp, IsPiece, IsShortAnswer, CannotReply};
 ghost use Rattle.core_loop.specs.Outcomes.{OnEvent, OnNone, OnIdle};
 ghost use Rattle.core_loop.specs.Turning.{IsUnshortened};
 ghost use Rattle.core_loop.specs.Cores.{begins};
@@ -19,9 +17,10 @@ ghost use Rattle.core_loop.specs.Beginning.{CanBeginOther};
 ghost use Rattle.core_loop.specs.Choosing.{IsSubmission};
 ghost use Rattle.core_loop.specs.Events.{ActsOther, CannotTakeOther, CannotSubmit};
 
+use crate::answers::{ack_bytes, vote_bytes};
 use crate::queue::next_request;
 use crate::refusal::{Refusal, next_stamp};
-use crate::sending::hand;
+use crate::sending::{hand, hand_short};
 use core_links::Links;
 use core_steps::OtherCore;
 use filter_table::Op;
@@ -31,14 +30,8 @@ use std::collections::VecDeque;
 use world_events::{Done, Event};
 use world_histories::Stamped;
 
-/// The reply to a message, or none, as bytes under the stamp of the event.
-#[derive(Drop)]
-pub(crate) struct Reply {
-    pub(crate) stamp: u64,
-    pub(crate) piece: Option<Vec<u8>>,
-}
-
-/// Takes the first message that is kept of core 0, which this is, with its stamp.
+/// Takes the first message that is kept of core 0, which this is, with its stamp. Where memory is refused to the operation of
+/// a Prepare, the core votes NoMemory: neither a vote nor an acknowledgement takes memory.
 pub(crate) fn take<L: Links>(
     core: &mut OtherCore,
     links: &mut L,
@@ -61,39 +54,37 @@ pub(crate) fn take<L: Links>(
     let Ok(reply) = core.consider(alloc, message, false) else {
         return Err(Refusal::Stranger);
     };
-    match ready_reply(links, alloc, clock, sent, &reply) {
+    match stamp_of_reply(links, clock, sent, &reply) {
         Err(refusal) => {
             core.withdraw(message);
             Err(refusal)
         }
-        Ok(ready) => {
+        Ok(stamp) => {
             let answer = core.take(message, &reply);
             let _ = links.give_up(0);
-            send_reply(links, ready.piece);
+            send_reply(links, stamp, &reply);
             let event = Event::Take {
                 to: number,
                 from: 0,
                 short: false,
             };
             Ok(Stamped {
-                stamp: ready.stamp,
+                stamp,
                 done: Done { event, answer },
             })
         }
     }
 }
 
-// Makes a reply ready, which nothing is or the link to core 0 takes.
-fn ready_reply<L: Links>(
+// The stamp of a reply, where there is none or the link to core 0 takes it.
+fn stamp_of_reply<L: Links>(
     links: &L,
-    alloc: Global,
     clock: u64,
     sent: u64,
     reply: &Option<Message>,
-) -> Result<Reply, Refusal>
-    requires { (short : Bool) × (before : GhostCore) × (m : GhostMessage) × (after : GhostCore) × Considers short before m reply.now after }
-    ensures stamp { IfOk result (λ ready. ready.stamp ≡ max clock sent + 1) }
-    ensures ready { IfOk result (λ ready. IsReplyReady ready.stamp reply.now ready.piece (L.view links.now 0)) }
+) -> Result<u64, Refusal>
+    ensures stamp { IfOk result (λ stamp. stamp ≡ max clock sent + 1) }
+    ensures ready { OnOk result (reply.now ≢ None → (L.view links.now 0).ready ≡ true) }
     ensures why { IfErr result (CannotReply clock sent reply.now (L.view links.now 0)) }
 {
     if let Some(_) = reply
@@ -101,30 +92,38 @@ fn ready_reply<L: Links>(
     {
         return Err(Refusal::NotReady);
     }
-    let Some(stamp) = next_stamp(clock, sent) else {
-        return Err(Refusal::Spent);
-    };
-    match reply {
-        None => Ok(Reply { stamp, piece: None }),
-        Some(message) => match encode(alloc, stamp, message) {
-            Err(_) => Err(Refusal::NoMemory),
-            Ok(piece) => Ok(Reply {
-                stamp,
-                piece: Some(piece),
-            }),
-        },
+    match next_stamp(clock, sent) {
+        Some(stamp) => Ok(stamp),
+        None => Err(Refusal::Spent),
     }
 }
 
-fn send_reply<L: Links>(links: &mut L, piece: Option<Vec<u8>>)
-    requires { (stamp : ℕ) × (reply : Option GhostMessage) × IsReplyReady stamp reply piece (L.view links.old 0) }
+// Sends a reply under this stamp. Takes no memory.
+fn send_reply<L: Links>(links: &mut L, stamp: u64, reply: &Option<Message>)
+    requires { CanGoUp reply.now (L.view links.old 0) }
     ensures links { L.same links.old links.new }
     ensures lines { (p : ℕ) → L.flow links.new p ≡ L.flow links.old p }
-    ensures there { (stamp : ℕ) (reply : Option GhostMessage) → IsReplyReady stamp reply piece (L.view links.old 0) → Hands (L.view links.old 0) (L.view links.new 0) (with_stamp stamp (option_to_list reply)) }
+    ensures there { Hands (L.view links.old 0) (L.view links.new 0) (with_stamp stamp (option_to_list reply.now)) }
     ensures elsewhere { (p : ℕ) → p ≢ 0 → L.view links.new p ≡ L.view links.old p }
 {
-    if let Some(piece) = piece {
-        hand(links, 0, piece);
+    match reply {
+        None => {}
+        Some(answer) => send_answer(links, stamp, answer),
+    }
+}
+
+fn send_answer<L: Links>(links: &mut L, stamp: u64, answer: &Message)
+    requires answer { IsShortAnswer answer.now }
+    requires ready { (L.view links.old 0).ready ≡ true }
+    ensures links { L.same links.old links.new }
+    ensures lines { (p : ℕ) → L.flow links.new p ≡ L.flow links.old p }
+    ensures there { Hands (L.view links.old 0) (L.view links.new 0) (with_stamp stamp (answer.now ∷ [])) }
+    ensures elsewhere { (p : ℕ) → p ≢ 0 → L.view links.new p ≡ L.view links.old p }
+{
+    match answer {
+        Message::Vote { txn, vote } => hand_short(links, 0, &vote_bytes(stamp, *txn, *vote)),
+        Message::Ack { txn } => hand_short(links, 0, &ack_bytes(stamp, *txn)),
+        _ => unreachable!(),
     }
 }
 

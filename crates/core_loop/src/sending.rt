@@ -7,7 +7,8 @@ ghost use Rattle.world_model.specs.Cases.{Outgoing as GhostOutgoing, nothing, to
 ghost use Rattle.world_histories.specs.Histories.{with_stamp};
 ghost use Rattle.core_loop.specs.Carrying.{CanCarry, Hands, HandsOut};
 ghost use Rattle.core_loop.specs.Events.{IsBlocked};
-ghost use Rattle.core_loop.specs.Sending.{CanBeHanded, CanBeSent, IsMade, IsPiece};
+ghost use Rattle.monitor_messages.specs.Coding.{Coded};
+ghost use Rattle.core_loop.specs.Sending.{CanBeHanded, CanBeSent, FitOneLine, IsMade, IsPiece};
 
 use core_links::Links;
 use core_steps::Outgoing;
@@ -135,4 +136,16 @@ pub(crate) fn hand<L: Links>(links: &mut L, peer: u16, piece: Vec<u8>)
     ensures elsewhere { (p : ℕ) → p ≢ peer → L.view links.new p ≡ L.view links.old p }
 {
     let _ = links.send(peer, piece);
+}
+
+/// Hands a message that fits in one line to a peer whose link takes messages. Takes no memory.
+pub(crate) fn hand_short<L: Links>(links: &mut L, peer: u16, bytes: &[u8])
+    requires lengths { FitOneLine bytes.now }
+    requires ready { (L.view links.old peer).ready ≡ true }
+    ensures links { L.same links.old links.new }
+    ensures lines { (p : ℕ) → L.flow links.new p ≡ L.flow links.old p }
+    ensures there { (stamp : ℕ) (m : GhostMessage) → Coded bytes.now stamp m → Hands (L.view links.old peer) (L.view links.new peer) (with_stamp stamp (m ∷ [])) }
+    ensures elsewhere { (p : ℕ) → p ≢ peer → L.view links.new p ≡ L.view links.old p }
+{
+    let _ = links.send_short(peer, bytes);
 }

@@ -1,6 +1,6 @@
 //! Links of both kinds, and lines written by hand.
 
-ghost use Rattle.std.specs.Prelude.{◌≡◌, ◌≤◌, vec_len};
+ghost use Rattle.std.specs.Prelude.{◌≡◌, ◌≤◌, length, vec_len};
 ghost use Rattle.core_links.specs.RingSlots.{AreJoinedLinks};
 
 use crate::facts::{equal, holds};
@@ -23,6 +23,14 @@ fn sends<L: Links>(links: &mut L, peer: u16, bytes: Vec<u8>) -> bool
     ensures { L.same links.old links.new }
 {
     links.send(peer, bytes).is_ok()
+}
+
+// Whether the link to a peer takes this short message.
+fn sends_short<L: Links>(links: &mut L, peer: u16, bytes: &[u8]) -> bool
+    requires length { (1 ≤ length bytes.now) × (length bytes.now ≤ 56) }
+    ensures { L.same links.old links.new }
+{
+    links.send_short(peer, bytes)
 }
 
 // Whether these bytes are shown.
@@ -123,6 +131,28 @@ fn a_message_of_two_lines_through_rings_of_one(rt: HostRuntime) {
     first.pump();
     holds(&rt, first.ready(1));
     shown_in_steps(&rt, &mut second, &message(&rt, alloc, 7, 57));
+}
+
+#[test]
+fn a_short_message_over_links_of_both_kinds(rt: HostRuntime) {
+    let alloc = rt.alloc();
+    let (mut first, mut second) = joined(&rt, alloc, 1);
+    holds(&rt, sends_short(&mut first, 1, &[7; 56]));
+    holds(&rt, !sends_short(&mut first, 1, &[8]));
+    holds(&rt, !sends_short(&mut first, 0, &[8]));
+    first.pump();
+    holds(&rt, sends_short(&mut first, 1, &[8]));
+    holds(&rt, takes(&mut second, 0, &[7; 56]));
+    first.pump();
+    holds(&rt, takes(&mut second, 0, &[8]));
+    let mut lists = ListLinks::new(alloc, 0, 2, 1).expect(&rt, "there is memory");
+    holds(&rt, sends_short(&mut lists, 1, &[1, 2, 3]));
+    holds(&rt, !sends_short(&mut lists, 1, &[4]));
+    holds(&rt, lists.mark_collected(1));
+    match lists.last_collected(1) {
+        Some(bytes) => holds(&rt, bytes == [1, 2, 3].as_slice()),
+        None => holds(&rt, false),
+    }
 }
 
 #[test]

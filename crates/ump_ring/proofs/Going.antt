@@ -1,8 +1,7 @@
 -- A message that is going out was not received.
-use Rattle.std.proofs.Common.{◌≡◌, ◌≢◌, ◌*◌, ◌<◌, ◌≤◌, ◌⊎◌, inl, inr, ℕ, zero, suc, Option, Some, None, List, [], ◌∷◌, ◌++◌, length, refl, ap, sym, ◌∙◌, arith, length-append, Vec}
+use Rattle.std.proofs.Common.{◌≡◌, ◌≢◌, ◌*◌, ◌<◌, ◌≤◌, ◌⊎◌, inl, inr, ℕ, zero, suc, Option, Some, None, List, [], ◌∷◌, ◌++◌, length, refl, ap, sym, ◌∙◌, arith, length-append}
 use Rattle.std.proofs.lemmas.List.{append-nil}
 use Rattle.std.proofs.lemmas.Grind.{flat_map-append}
-use Rattle.std.specs.Global.{Global}
 use Rattle.ump_ring.specs.Lines.{payload, payloads, begun, messages_in, length_of, lines_below}
 use Rattle.ump_ring.specs.Offered.{settled}
 use Rattle.ump_ring.specs.Sending.{IsSending}
@@ -40,23 +39,23 @@ count-longer (line ∷ xs) ys =
     )
 
 -- the lines that are out are those of the messages that are out as a whole
-out-messages : (v : Vec ℕ Global) (out number : ℕ) (lines : List (List ℕ)) → IsSending (Some v) out number lines → messages_in lines ≡ messages_in (settled out lines)
+out-messages : (v : List ℕ) (out number : ℕ) (lines : List (List ℕ)) → IsSending (Some v) out number lines → messages_in lines ≡ messages_in (settled out lines)
 out-messages v out number lines is =
     let ms : List (List ℕ) = messages_in (settled out lines) in
-    let begins : List (List ℕ) = lines_below (length v.items) v.items (length (settled out lines)) out in
+    let begins : List (List ℕ) = lines_below (length v) v (length (settled out lines)) out in
     let g = is.going v refl in
-    let short : 56 * out < length v.items = omega (arith, g.1) in
+    let short : 56 * out < length v = omega (arith, g.1) in
     ap messages_in (is.split ∙ ap (λ l. l ++ begins) is.whole)
     ∙ (messages-stream 0 ms begins is.messages
-    ∙ (ap (λ l. ms ++ l) (messages-unfinished (length v.items) v.items (length (settled out lines)) out g.0.bytes short) ∙ append-nil ms))
+    ∙ (ap (λ l. ms ++ l) (messages-unfinished (length v) v (length (settled out lines)) out g.0.bytes short) ∙ append-nil ms))
 
-pub going-fewer : (message : Option (Vec ℕ Global)) (out number : ℕ) (sent lines known : List (List ℕ)) → IsSending message out number sent → lines ++ known ≡ sent → message ≢ None → length (messages_in lines) < length (all_of message out sent)
+pub going-fewer : (message : Option (List ℕ)) (out number : ℕ) (sent lines known : List (List ℕ)) → IsSending message out number sent → lines ++ known ≡ sent → message ≢ None → length (messages_in lines) < length (all_of message out sent)
 going-fewer None out number sent lines known is along some = absurd (some refl)
 going-fewer (Some v) out number sent lines known is along some =
-    omega (arith, count-longer lines known, ap (λ (l : List (List ℕ)). length (messages_in l)) along, ap length (out-messages v out number sent is), length-append (messages_in (settled out sent)) (v.items ∷ []))
+    omega (arith, count-longer lines known, ap (λ (l : List (List ℕ)). length (messages_in l)) along, ap length (out-messages v out number sent is), length-append (messages_in (settled out sent)) (v ∷ []))
 
 -- where nothing is going out the lines that are out are those of all messages
-pub none-going : (message : Option (Vec ℕ Global)) (out number : ℕ) (sent : List (List ℕ)) → IsSending message out number sent → message ≡ None → all_of message out sent ≡ messages_in sent
+pub none-going : (message : Option (List ℕ)) (out number : ℕ) (sent : List (List ℕ)) → IsSending message out number sent → message ≡ None → all_of message out sent ≡ messages_in sent
 none-going None out number sent is none =
     let same : settled out sent ≡ sent = sym (is.split ∙ ap (λ n. settled out sent ++ lines_below 0 [] (length (settled out sent)) n) (is.idle refl) ∙ append-nil (settled out sent)) in
     append-nil (messages_in (settled out sent)) ∙ ap messages_in same

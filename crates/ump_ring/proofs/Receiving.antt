@@ -1,10 +1,9 @@
 -- Steps of a receiver.
-use Rattle.std.proofs.Common.{◌≡◌, ◌≢◌, ◌↔◌, IsTrue, ◌-◌, ◌<◌, ◌≤◌, ◌∷◌, [], ◌++◌, ℕ, Bool, true, false, List, length, take, slice_index_or, refl, arith, ap, ◌∙◌, sym, subst, length-append, Option, Some, None, is_none, nat_lt, ◌&&◌, ◌==◌, if◌then◌else◌, Vec, All, append_assoc, suc, drop}
+use Rattle.std.proofs.Common.{◌≡◌, ◌≢◌, ◌↔◌, IsTrue, ◌-◌, ◌<◌, ◌≤◌, ◌∷◌, [], ◌++◌, ℕ, Bool, true, false, List, length, take, slice_index_or, refl, arith, ap, ◌∙◌, sym, subst, length-append, Option, Some, None, is_none, nat_lt, ◌&&◌, ◌==◌, if◌then◌else◌, All, append_assoc, suc, drop}
 use Rattle.std.proofs.lemmas.List.{append-nil, take-append-drop}
 use Rattle.std.proofs.Math.Seq.{take-append_seam, take-length, take-suc}
 use Rattle.ump_ring.specs.declared.fault.LineFault.{LineFault}
 use Rattle.ump_ring.specs.declared.joiner.Joiner.{Joiner}
-use Rattle.std.specs.Global.{Global}
 use mathlib.Core.List.{IsPrefix}
 use Rattle.ump_ring.specs.Lines.{messages_in, stream, IsMessage}
 use Rattle.ump_ring.specs.Reading.{HasRead, closed}
@@ -73,7 +72,7 @@ split-last lines some =
     sym (take-length lines) ∙ ap (λ n. take n lines) e ∙ take-suc lines (length lines - 1) [] h
 
 -- in a thread with both ends: the receiver has no fault, and what it took begins what was offered
-pub received-prefix : (message : Option (Vec ℕ Global)) (out number : ℕ) (sent : List (List ℕ)) (j : Joiner) (kept : Bool) (lines known : List (List ℕ))
+pub received-prefix : (message : Option (List ℕ)) (out number : ℕ) (sent : List (List ℕ)) (j : Joiner) (kept : Bool) (lines known : List (List ℕ))
     → IsSending message out number sent → IsReceiving j lines → lines ++ known ≡ sent
     → (fault_of j ≡ None) × IsPrefix (messages_of kept (messages_in (sound_lines j.fault lines))) (all_of message out sent)
 received-prefix message out number sent j kept lines known sending receiving along =

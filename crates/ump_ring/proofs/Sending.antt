@@ -1,6 +1,5 @@
 -- Steps of a sender.
-use Rattle.std.proofs.Common.{◌≡◌, ◌+◌, ◌-◌, ◌%◌, ◌<◌, ◌∷◌, [], ◌++◌, ℕ, List, length, take, refl, arith, ap, ◌∙◌, sym, subst, length-append, append_assoc, All, Option, Some, None, Vec}
-use Rattle.std.specs.Global.{Global}
+use Rattle.std.proofs.Common.{◌≡◌, ◌+◌, ◌-◌, ◌%◌, ◌<◌, ◌∷◌, [], ◌++◌, ℕ, List, length, take, refl, arith, ap, ◌∙◌, sym, subst, length-append, append_assoc, All, Option, Some, None}
 use Rattle.std.proofs.lemmas.List.{append-nil}
 use Rattle.std.proofs.Math.Seq.{take-append_seam}
 use Rattle.std.proofs.lemmas.List.Elements.{All-nil, All-append, All-cons}
@@ -16,10 +15,10 @@ settled-is b out done lines split =
     omega (arith, ap length split, length-append done (lines_below (length b) b (length done) out), length-lines_below (length b) b (length done) out) in
     ap (λ n. take n lines) long ∙ ap (take (length done)) split ∙ take-append_seam done (lines_below (length b) b (length done) out)
 
-sending-from : (message : Option (Vec ℕ Global)) (out number : ℕ) (done lines : List (List ℕ)) → number ≡ number_after (length lines)
+sending-from : (message : Option (List ℕ)) (out number : ℕ) (done lines : List (List ℕ)) → number ≡ number_after (length lines)
     → done ≡ stream 0 (messages_in done) → All IsMessage (messages_in done)
     → lines ≡ done ++ lines_below (length (bytes_going message)) (bytes_going message) (length done) out
-    → ((v : Vec ℕ Global) → message ≡ Some v → IsMessage v.items × (out < line_count (length v.items))) → (message ≡ None → out ≡ 0)
+    → ((v : List ℕ) → message ≡ Some v → IsMessage v × (out < line_count (length v))) → (message ≡ None → out ≡ 0)
     → IsSending message out number lines
 sending-from message out number done lines numbered whole messages split going idle =
     let b : List ℕ = bytes_going message in
@@ -34,25 +33,25 @@ sending-from message out number done lines numbered whole messages split going i
     }
 
 -- some lines more, not all
-pub sending-more : (v : Vec ℕ Global) (out count number new : ℕ) (lines now : List (List ℕ)) → IsSending (Some v) out number lines
-    → now ≡ settled out lines ++ lines_below (length v.items) v.items (length (settled out lines)) (out + count) → out + count < line_count (length v.items) → new ≡ number_after (length now)
+pub sending-more : (v : List ℕ) (out count number new : ℕ) (lines now : List (List ℕ)) → IsSending (Some v) out number lines
+    → now ≡ settled out lines ++ lines_below (length v) v (length (settled out lines)) (out + count) → out + count < line_count (length v) → new ≡ number_after (length now)
     → IsSending (Some v) (out + count) new now × (messages_in (settled (out + count) now) ≡ messages_in (settled out lines))
 sending-more v out count number new lines now is are fewer numbered =
-    let is_message : IsMessage v.items = (is.going v refl).0 in (
+    let is_message : IsMessage v = (is.going v refl).0 in (
       sending-from (Some v) (out + count) new (settled out lines) now numbered is.whole is.messages are
-          (λ w e. let f : v ≡ w = cc in subst (λ (u : Vec ℕ Global). IsMessage u.items × (out + count < line_count (length u.items))) f (is_message, fewer))
+          (λ w e. let f : v ≡ w = cc in subst (λ (u : List ℕ). IsMessage u × (out + count < line_count (length u))) f (is_message, fewer))
           (λ e. cc),
-      ap messages_in (settled-is v.items (out + count) (settled out lines) now are),
+      ap messages_in (settled-is v (out + count) (settled out lines) now are),
     )
 
 -- all lines of the message
-pub sending-whole : (v : Vec ℕ Global) (out count number new : ℕ) (lines now : List (List ℕ)) → IsSending (Some v) out number lines
-    → now ≡ settled out lines ++ lines_below (length v.items) v.items (length (settled out lines)) (out + count) → out + count ≡ line_count (length v.items) → new ≡ number_after (length now)
-    → IsSending None 0 new now × (messages_in (settled 0 now) ≡ messages_in (settled out lines) ++ v.items ∷ [])
+pub sending-whole : (v : List ℕ) (out count number new : ℕ) (lines now : List (List ℕ)) → IsSending (Some v) out number lines
+    → now ≡ settled out lines ++ lines_below (length v) v (length (settled out lines)) (out + count) → out + count ≡ line_count (length v) → new ≡ number_after (length now)
+    → IsSending None 0 new now × (messages_in (settled 0 now) ≡ messages_in (settled out lines) ++ v ∷ [])
 sending-whole v out count number new lines now is are all numbered =
     let done : List (List ℕ) = settled out lines in
     let ms : List (List ℕ) = messages_in done in
-    let b : List ℕ = v.items in
+    let b : List ℕ = v in
     let is_message : IsMessage b = (is.going v refl).0 in
     let long : length done ≡ 0 + lines_in ms = ap length is.whole ∙ length-stream 0 ms ∙ omega arith in
     let lines_are : now ≡ stream 0 ms ++ lines_of b (0 + lines_in ms) =
@@ -67,11 +66,11 @@ sending-whole v out count number new lines now is are all numbered =
       ap messages_in (settled-is [] 0 now now is_split) ∙ read,
     )
 
-abbrev pub all_of : Option (Vec ℕ Global) → ℕ → List (List ℕ) → List (List ℕ)
+abbrev pub all_of : Option (List ℕ) → ℕ → List (List ℕ) → List (List ℕ)
 all_of message out lines = messages_in (settled out lines) ++ message_list message
 
 -- what is pushed are the first lines of the messages
-pub sending-along : (message : Option (Vec ℕ Global)) (out number : ℕ) (lines : List (List ℕ)) → IsSending message out number lines
+pub sending-along : (message : Option (List ℕ)) (out number : ℕ) (lines : List (List ℕ)) → IsSending message out number lines
     → (rest : List (List ℕ)) × (lines ++ rest ≡ stream 0 (all_of message out lines)) × All IsMessage (all_of message out lines)
 sending-along None out number lines is =
     let ms : List (List ℕ) = messages_in (settled out lines) in
@@ -81,7 +80,7 @@ sending-along None out number lines is =
 sending-along (Some v) out number lines is =
     let done : List (List ℕ) = settled out lines in
     let ms : List (List ℕ) = messages_in done in
-    let b : List ℕ = v.items in
+    let b : List ℕ = v in
     let long : length done ≡ 0 + lines_in ms = ap length is.whole ∙ length-stream 0 ms ∙ omega arith in
     let whole : List (List ℕ) = lines_below (length b) b (length done) (line_count (length b)) in
     let begun : List (List ℕ) = lines_below (length b) b (length done) out in
@@ -93,34 +92,34 @@ sending-along (Some v) out number lines is =
       All-append IsMessage ms (b ∷ []) is.messages (All-cons IsMessage b [] (is.going v refl).0 (All-nil IsMessage)),
     )
 
-module _ (message : Option (Vec ℕ Global)) (v : Vec ℕ Global) (out count number : ℕ) (lines now : List (List ℕ)) (bytes : List ℕ) where
-  lines-after : bytes ≡ v.items → IsSending (Some v) out number lines
+module _ (message : Option (List ℕ)) (v : List ℕ) (out count number : ℕ) (lines now : List (List ℕ)) (bytes : List ℕ) where
+  lines-after : bytes ≡ v → IsSending (Some v) out number lines
       → ((before : List (List ℕ)) → lines ≡ before ++ lines_below (length bytes) bytes (length before) out → now ≡ before ++ lines_below (length bytes) bytes (length before) (out + count))
-      → now ≡ settled out lines ++ lines_below (length v.items) v.items (length (settled out lines)) (out + count)
+      → now ≡ settled out lines ++ lines_below (length v) v (length (settled out lines)) (out + count)
   lines-after same is pushed =
       pushed (settled out lines) (is.split ∙ ap (λ b. settled out lines ++ lines_below (length b) b (length (settled out lines)) out) (sym same))
       ∙ ap (λ b. settled out lines ++ lines_below (length b) b (length (settled out lines)) (out + count)) same
 
   -- the message went out as a whole
-  pub pushed-whole : message ≡ Some v → bytes ≡ v.items → IsSending message out number lines
+  pub pushed-whole : message ≡ Some v → bytes ≡ v → IsSending message out number lines
       → ((before : List (List ℕ)) → lines ≡ before ++ lines_below (length bytes) bytes (length before) out → now ≡ before ++ lines_below (length bytes) bytes (length before) (out + count))
-      → length now ≡ length lines + count → out + count ≡ line_count (length v.items)
+      → length now ≡ length lines + count → out + count ≡ line_count (length v)
       → IsSending None 0 ((number + count) % 0x1_0000_0000) now × (all_of None 0 now ≡ all_of message out lines)
   pushed-whole e same is pushed long all =
-      let was : IsSending (Some v) out number lines = subst (λ (m : Option (Vec ℕ Global)). IsSending m out number lines) e is in
+      let was : IsSending (Some v) out number lines = subst (λ (m : Option (List ℕ)). IsSending m out number lines) e is in
       let n : (number + count) % 0x1_0000_0000 ≡ number_after (length now) = omega (arith, was.numbered) in
       let (sending, read) = sending-whole v out count number ((number + count) % 0x1_0000_0000) lines now was (lines-after same was pushed) all n in
       (sending, append-nil (messages_in (settled 0 now)) ∙ read ∙ ap (λ m. all_of m out lines) (sym e))
 
   -- some lines of the message went out, and some did not
-  pub pushed-more : message ≡ Some v → bytes ≡ v.items → IsSending message out number lines
+  pub pushed-more : message ≡ Some v → bytes ≡ v → IsSending message out number lines
       → ((before : List (List ℕ)) → lines ≡ before ++ lines_below (length bytes) bytes (length before) out → now ≡ before ++ lines_below (length bytes) bytes (length before) (out + count))
-      → length now ≡ length lines + count → out + count < line_count (length v.items)
+      → length now ≡ length lines + count → out + count < line_count (length v)
       → IsSending message (out + count) ((number + count) % 0x1_0000_0000) now × (all_of message (out + count) now ≡ all_of message out lines)
   pushed-more e same is pushed long fewer =
-      let was : IsSending (Some v) out number lines = subst (λ (m : Option (Vec ℕ Global)). IsSending m out number lines) e is in
+      let was : IsSending (Some v) out number lines = subst (λ (m : Option (List ℕ)). IsSending m out number lines) e is in
       let n : (number + count) % 0x1_0000_0000 ≡ number_after (length now) = omega (arith, was.numbered) in
       let (sending, read) = sending-more v out count number ((number + count) % 0x1_0000_0000) lines now was (lines-after same was pushed) fewer n in (
-        subst (λ (m : Option (Vec ℕ Global)). IsSending m (out + count) ((number + count) % 0x1_0000_0000) now) (sym e) sending,
+        subst (λ (m : Option (List ℕ)). IsSending m (out + count) ((number + count) % 0x1_0000_0000) now) (sym e) sending,
         ap (λ ms. ms ++ message_list message) read,
       )

@@ -3,6 +3,7 @@ pub mod Joiners
 pub mod Lending
 pub mod Lines
 pub mod Offered
+pub mod Pieces
 pub mod Reading
 pub mod Receivers
 pub mod Receiving

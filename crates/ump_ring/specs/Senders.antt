@@ -1,14 +1,14 @@
 -- What contracts see of the end of a ring that sends.
-use Rattle.std.specs.Prelude.{◌++◌, ℕ, List, Option, Vec}
-use Rattle.std.specs.Global.{Global}
+use Rattle.std.specs.Prelude.{◌++◌, ℕ, List, Option}
 use Rattle.rtrb.specs.Ring as ring
 use Rattle.ump_ring.specs.declared.sender.Sender.{Sender}
 use Rattle.ump_ring.specs.Lines.{messages_in}
 use Rattle.ump_ring.specs.Offered.{message_list, settled}
+use Rattle.ump_ring.specs.Pieces.{going}
 
 -- the message that is going out
-abbrev pub current : Sender → Option (Vec ℕ Global)
-current s = s.message
+abbrev pub current : Sender → Option (List ℕ)
+current s = going s.message
 
 -- every line that was pushed, the first one first
 abbrev pub lines_sent : Sender → List (List ℕ)
@@ -16,7 +16,7 @@ lines_sent s = ring.sent s.producer
 
 -- every message that was offered and taken, the first one first
 abbrev pub messages_offered : Sender → List (List ℕ)
-messages_offered s = messages_in (settled s.out (ring.sent s.producer)) ++ message_list s.message
+messages_offered s = messages_in (settled s.out (ring.sent s.producer)) ++ message_list (going s.message)
 
 -- the same end of the same ring, before and after a call
 abbrev pub SameSender : Sender → Sender → Type 0

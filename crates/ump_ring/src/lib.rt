@@ -21,6 +21,7 @@
 mod fault;
 mod joiner;
 mod line;
+mod piece;
 mod receiver;
 mod rings;
 mod sender;
@@ -28,6 +29,7 @@ mod sender;
 pub use fault::LineFault;
 pub use joiner::Joiner;
 pub use line::{Line, MESSAGE_MOST, line_at};
+pub use piece::{Piece, SHORT_MOST};
 pub use receiver::Receiver;
 pub use rings::{beside, ring};
 pub use sender::{Busy, Pushed, Sender};

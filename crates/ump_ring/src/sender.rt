@@ -2,22 +2,24 @@
 ghost use Rattle.std.specs.Prelude.{◌≡◌, ◌+◌, ◌<◌, ◌≤◌, ◌++◌, ℕ, List, length};
 ghost use mathlib.Core.List.{IsPrefix};
 ghost use Rattle.ump_ring.specs.Lines.{line_count, lines_below, number_after};
+ghost use Rattle.ump_ring.specs.Pieces.{going};
 ghost use Rattle.ump_ring.specs.Sending.{IsSending};
 ghost use Rattle.rtrb.specs.Ring.{sent, known_free, SameProducer};
 
 use crate::line::{Line, MESSAGE_MOST, line_at};
+use crate::piece::{Piece, SHORT_MOST};
 use rtrb::Producer;
 
 /// The end of a ring that sends messages, one at a time.
 pub struct Sender {
     pub(crate) producer: Producer<Line>,
     // The message that goes out, or nothing.
-    message: Option<Vec<u8>>,
+    message: Option<Piece>,
     // How many of its lines are out.
     out: u32,
     // The number of the next line.
     number: u32,
-    ghost sending: { IsSending message out number (sent producer) },
+    ghost sending: { IsSending (going message) out number (sent producer) },
 }
 
 // By hand, so that the proofs of its owners have one call and not a drop of each part.
@@ -106,15 +108,32 @@ impl Sender {
         requires length { (1 ≤ vec_len message) × (vec_len message ≤ 32832) }
         ensures ring { SameSender self.old self.new × (lines_sent self.new ≡ lines_sent self.old) }
         ensures room { room_known self.new ≡ room_known self.old }
-        ensures ok { OnOk result ((current self.old ≡ None) × (current self.new ≡ Some message) × (messages_offered self.new ≡ messages_offered self.old ++ message.items ∷ [])) }
+        ensures ok { OnOk result ((current self.old ≡ None) × (current self.new ≡ Some message.items) × (messages_offered self.new ≡ messages_offered self.old ++ message.items ∷ [])) }
         ensures busy { IfErr result (λ e. (e.0 ≡ message) × (current self.old ≢ None) × (current self.new ≡ current self.old) × (messages_offered self.new ≡ messages_offered self.old)) }
     {
         if self.message.is_some() {
             return Err(Busy(message));
         }
-        self.message = Some(message);
+        self.message = Some(Piece::Whole(message));
         self.out = 0;
         Ok(())
+    }
+
+    /// Takes a copy of a message of 1 to 56 bytes to be sent, and says whether it did: not where one is still going out. Takes
+    /// no memory.
+    pub fn offer_short(&mut self, message: &[u8]) -> bool
+        requires length { (1 ≤ length message.now) × (length message.now ≤ SHORT_MOST) }
+        ensures ring { SameSender self.old self.new × (lines_sent self.new ≡ lines_sent self.old) }
+        ensures room { room_known self.new ≡ room_known self.old }
+        ensures taken { IsTrue result → (current self.old ≡ None) × (current self.new ≡ Some message.now) × (messages_offered self.new ≡ messages_offered self.old ++ message.now ∷ []) }
+        ensures busy { IsFalse result → (current self.old ≢ None) × (current self.new ≡ current self.old) × (messages_offered self.new ≡ messages_offered self.old) }
+    {
+        if self.message.is_some() {
+            return false;
+        }
+        self.message = Some(Piece::short(message));
+        self.out = 0;
+        true
     }
 
     /// Pushes lines until the message is out or the ring is full, as this end sees it. Takes no memory.
@@ -135,8 +154,9 @@ impl Sender {
                 whole: true,
             };
         };
-        let count = message.len().div_ceil(56) as u32;
-        let lines = push_lines(&mut self.producer, message, self.out, self.number);
+        let bytes = message.as_slice();
+        let count = bytes.len().div_ceil(56) as u32;
+        let lines = push_lines(&mut self.producer, bytes, self.out, self.number);
         self.out += lines;
         self.number = self.number.wrapping_add(lines);
         let whole = self.out == count;

@@ -4,6 +4,7 @@ use mathlib.Core.List.{IsPrefix}
 use Rattle.rtrb.specs.Ring.{sent, received, known_items}
 use Rattle.ump_ring.specs.declared.joiner.Joiner.{Joiner}
 use Rattle.ump_ring.specs.Joiners.{message_shown, shown_list}
+use Rattle.ump_ring.specs.Pieces.{going}
 use Rattle.ump_ring.specs.Lines.{IsMessage, messages_in, stream}
 use Rattle.ump_ring.specs.Reading.{sound_lines}
 use Rattle.ump_ring.specs.Receiving.{IsReceiving, KeepsMessage}
@@ -30,19 +31,19 @@ same_received c = c.slots_beside-2.ensures.looked.1 ∙ c.slots_beside.ensures.c
 same_sent : (c : goal.After-sender-1) → sent c.slots_beside-2.new.producer ≡ sent c.args.sender.now.producer
 same_sent c = c.slots_beside-2.ensures.producer.1 ∙ c.slots_beside.ensures.looked.1
 
-prefix_at : (c : goal.After-sender-1) (kept : Bool) → IsPrefix (messages_of kept (messages_in (sound_lines c.args.receiver.now.joiner.fault (received c.slots_beside-2.new.self)))) (all_of c.args.sender.now.message c.args.sender.now.out (sent c.slots_beside-2.new.producer))
+prefix_at : (c : goal.After-sender-1) (kept : Bool) → IsPrefix (messages_of kept (messages_in (sound_lines c.args.receiver.now.joiner.fault (received c.slots_beside-2.new.self)))) (all_of (going c.args.sender.now.message) c.args.sender.now.out (sent c.slots_beside-2.new.producer))
 prefix_at c kept =
     let s = c.args.sender.now in
     let r = c.args.receiver.now in
-    let p = received-prefix s.message s.out s.number (sent s.producer) r.joiner kept (received r.consumer) (known_items c.slots_beside-2.new.self) s.sending r.receiving (along c) in
-    subst (λ (l : List (List ℕ)). IsPrefix (messages_of kept (messages_in (sound_lines r.joiner.fault l))) (all_of s.message s.out (sent c.slots_beside-2.new.producer))) (sym (same_received c))
-    (subst (λ (l : List (List ℕ)). IsPrefix (messages_of kept (messages_in (sound_lines r.joiner.fault (received r.consumer)))) (all_of s.message s.out l)) (sym (same_sent c)) p.1)
+    let p = received-prefix (going s.message) s.out s.number (sent s.producer) r.joiner kept (received r.consumer) (known_items c.slots_beside-2.new.self) s.sending r.receiving (along c) in
+    subst (λ (l : List (List ℕ)). IsPrefix (messages_of kept (messages_in (sound_lines r.joiner.fault l))) (all_of (going s.message) s.out (sent c.slots_beside-2.new.producer))) (sym (same_received c))
+    (subst (λ (l : List (List ℕ)). IsPrefix (messages_of kept (messages_in (sound_lines r.joiner.fault (received r.consumer)))) (all_of (going s.message) s.out l)) (sym (same_sent c)) p.1)
 
 pub returns-clause-sound : goal.returns-clause-sound
 returns-clause-sound c =
     let s = c.args.sender.now in
     let r = c.args.receiver.now in
-    let p = received-prefix s.message s.out s.number (sent s.producer) r.joiner r.kept (received r.consumer) (known_items c.slots_beside-2.new.self) s.sending r.receiving (along c) in
+    let p = received-prefix (going s.message) s.out s.number (sent s.producer) r.joiner r.kept (received r.consumer) (known_items c.slots_beside-2.new.self) s.sending r.receiving (along c) in
     (p.0, p.0)
 
 pub returns-clause-prefix : goal.returns-clause-prefix
@@ -53,7 +54,7 @@ returns-clause-kept c =
     let r = c.args.receiver.now in
     let whole : messages_of false (messages_in (sound_lines r.joiner.fault (received c.slots_beside-2.new.self))) ≡ messages_of r.kept (messages_in (sound_lines r.joiner.fault (received c.slots_beside-2.new.self))) ++ shown_list (if r.kept then message_shown r.joiner else None) =
     by_kept r.kept r.joiner (received c.slots_beside-2.new.self) (subst (λ (l : List (List ℕ)). IsReceiving r.joiner l) (sym (same_received c)) r.receiving) r.keeps in
-    subst (λ (l : List (List ℕ)). IsPrefix l (all_of c.args.sender.now.message c.args.sender.now.out (sent c.slots_beside-2.new.producer))) whole (prefix_at c false)
+    subst (λ (l : List (List ℕ)). IsPrefix l (all_of (going c.args.sender.now.message) c.args.sender.now.out (sent c.slots_beside-2.new.producer))) whole (prefix_at c false)
 
 pub returns-clause-places : goal.returns-clause-places
 returns-clause-places c =
@@ -72,29 +73,29 @@ pub returns-clause-going : goal.returns-clause-going
 returns-clause-going c = λ some.
     let s = c.args.sender.now in
     let r = c.args.receiver.now in
-    let sound = (received-prefix s.message s.out s.number (sent s.producer) r.joiner r.kept (received r.consumer) (known_items c.slots_beside-2.new.self) s.sending r.receiving (along c)).0 in
+    let sound = (received-prefix (going s.message) s.out s.number (sent s.producer) r.joiner r.kept (received r.consumer) (known_items c.slots_beside-2.new.self) s.sending r.receiving (along c)).0 in
     let whole = by_kept r.kept r.joiner (received c.slots_beside-2.new.self) (subst (λ (l : List (List ℕ)). IsReceiving r.joiner l) (sym (same_received c)) r.receiving) r.keeps in
     let all = taken-all r.joiner (received c.slots_beside-2.new.self) sound in
-    let fewer = going-fewer s.message s.out s.number (sent s.producer) (received r.consumer) (known_items c.slots_beside-2.new.self) s.sending (along c) some in
-    omega (arith, fewer, ap length whole, ap length all, ap (λ (l : List (List ℕ)). length (messages_in l)) (same_received c), ap (λ (l : List (List ℕ)). length (all_of s.message s.out l)) (same_sent c))
+    let fewer = going-fewer (going s.message) s.out s.number (sent s.producer) (received r.consumer) (known_items c.slots_beside-2.new.self) s.sending (along c) some in
+    omega (arith, fewer, ap length whole, ap length all, ap (λ (l : List (List ℕ)). length (messages_in l)) (same_received c), ap (λ (l : List (List ℕ)). length (all_of (going s.message) s.out l)) (same_sent c))
 
 pub returns-clause-all : goal.returns-clause-all
 returns-clause-all c = λ none long.
     let s = c.args.sender.now in
     let r = c.args.receiver.now in
-    let sound = (received-prefix s.message s.out s.number (sent s.producer) r.joiner r.kept (received r.consumer) (known_items c.slots_beside-2.new.self) s.sending r.receiving (along c)).0 in
+    let sound = (received-prefix (going s.message) s.out s.number (sent s.producer) r.joiner r.kept (received r.consumer) (known_items c.slots_beside-2.new.self) s.sending r.receiving (along c)).0 in
     let whole = by_kept r.kept r.joiner (received c.slots_beside-2.new.self) (subst (λ (l : List (List ℕ)). IsReceiving r.joiner l) (sym (same_received c)) r.receiving) r.keeps in
     let all = taken-all r.joiner (received c.slots_beside-2.new.self) sound in
     let equal : received r.consumer ≡ sent s.producer = same-front (received r.consumer) (known_items c.slots_beside-2.new.self) (sent s.producer) (along c) (ap length (sym (same_sent c)) ∙ (long ∙ ap length (same_received c))) in
-    sym whole ∙ (all ∙ (ap messages_in (same_received c ∙ equal) ∙ (sym (none-going s.message s.out s.number (sent s.producer) s.sending none) ∙ ap (all_of s.message s.out) (sym (same_sent c)))))
+    sym whole ∙ (all ∙ (ap messages_in (same_received c ∙ equal) ∙ (sym (none-going (going s.message) s.out s.number (sent s.producer) s.sending none) ∙ ap (all_of (going s.message) s.out) (sym (same_sent c)))))
 
 pub returns-clause-within : goal.returns-clause-within
 returns-clause-within c =
     let s = c.args.sender.now in
-    let a = sending-along s.message s.out s.number (sent s.producer) s.sending in
-    subst (λ (l : List (List ℕ)). length l ≤ length (stream 0 (all_of s.message s.out l))) (sym (same_sent c)) (omega (arith, ap length a.1, length-append (sent s.producer) a.0))
+    let a = sending-along (going s.message) s.out s.number (sent s.producer) s.sending in
+    subst (λ (l : List (List ℕ)). length l ≤ length (stream 0 (all_of (going s.message) s.out l))) (sym (same_sent c)) (omega (arith, ap length a.1, length-append (sent s.producer) a.0))
 
 pub returns-clause-short : goal.returns-clause-short
 returns-clause-short c =
     let s = c.args.sender.now in
-    subst (λ (l : List (List ℕ)). All IsMessage (all_of s.message s.out l)) (sym (same_sent c)) (sending-along s.message s.out s.number (sent s.producer) s.sending).2
+    subst (λ (l : List (List ℕ)). All IsMessage (all_of (going s.message) s.out l)) (sym (same_sent c)) (sending-along (going s.message) s.out s.number (sent s.producer) s.sending).2

@@ -1,14 +1,13 @@
-use Rattle.std.proofs.Common.{◌≡◌, ◌≢◌, ℕ, true, false, Option, None, Some, is_none, length, length-append, ap, arith, Vec, refl}
-use Rattle.std.specs.Global.{Global}
+use Rattle.std.proofs.Common.{◌≡◌, ◌≢◌, ℕ, true, false, Option, None, Some, is_none, length, length-append, ap, arith, List, refl}
 use Rattle.ump_ring.specs.Receivers.{lines_received, lines_known}
 use Rattle.core_links.proofs.Flowing.{lines_within}
 use Rattle.core_links.proofs.ring_links.Link.beside.Goals as goal
 
-going_on : (x : Option (Vec ℕ Global)) → is_none x ≡ false → x ≢ None
+going_on : (x : Option (List ℕ)) → is_none x ≡ false → x ≢ None
 going_on None e = absurd cc
 going_on (Some v) e = λ n. cc
 
-none_on : (x : Option (Vec ℕ Global)) → is_none x ≡ true → x ≡ None
+none_on : (x : Option (List ℕ)) → is_none x ≡ true → x ≡ None
 none_on None e = refl
 none_on (Some v) e = absurd cc
 
