@@ -1,5 +1,6 @@
 /* Nanoseconds a packet: mkdemux_filter beside libpcap's bpf_filter, in one process, the call included.
- * Usage: bench [-n PAIRS] FILTER.., filters as `tcpdump -ddd` writes them. Status 1 where verdicts differ.
+ * Usage: bench [-n PAIRS] FILTER.., filters as `tcpdump -ddd` writes them, or bench [-n PAIRS] -e FILE, a file of libpcap's expressions,
+ * one a line, whose ratios are summed up in the end. Status 1 where verdicts differ.
  * Each filter runs over 256 packets of 128 bytes. Both take turns, PAIRS times each (41); a ratio is that of two neighbouring
  * measurements, and what is printed of the ratios is the median, and the 10th and the 90th percentile. */
 #include <pcap.h>
@@ -8,7 +9,7 @@
 
 #include "mkdemux.h"
 
-enum { SIZE = 128, COUNT = 256, ORIGINAL = 1514, MOST_PAIRS = 1001, STEPS = 5000000 };
+enum { SIZE = 128, COUNT = 256, ORIGINAL = 1514, MOST_PAIRS = 1001, STEPS = 5000000, MOST_FILTERS = 1000 };
 
 static uint8_t packets[COUNT][SIZE];
 static struct mkdemux_insn insns[MKDEMUX_MAX_INSNS];
@@ -90,6 +91,10 @@ static int less(const void *a, const void *b)
     return (x > y) - (x < y);
 }
 
+/* The medians of the ratios so far. */
+static double ratios[MOST_FILTERS];
+static int measured;
+
 /* Reads a filter, for either side, and gives how many instructions it has, or 0. */
 static size_t read_filter(const char *path)
 {
@@ -125,18 +130,17 @@ static uint64_t steps_over_packets(const mkdemux_program *program)
     return steps;
 }
 
-static int measure(const char *path, int pairs)
+/* Measures the filter in `insns` and `code`. */
+static int measure(const char *name, size_t count, int pairs)
 {
     static double theirs[MOST_PAIRS], ours[MOST_PAIRS], ratio[MOST_PAIRS];
-    const char *name = strrchr(path, '/');
-    size_t count = read_filter(path);
     const mkdemux_program *program = mkdemux_open(insns, count, NULL, NULL);
     uint64_t steps = program ? steps_over_packets(program) : 0;
     uint32_t rounds;
     volatile uint64_t sink;
     int i;
     if (!steps) {
-        printf("%s: %s\n", path, program ? "the verdicts differ" : "no filter that is accepted");
+        printf("%s: %s\n", name, program ? "the verdicts differ" : "no filter that is accepted");
         mkdemux_close(program);
         return 1;
     }
@@ -155,11 +159,44 @@ static int measure(const char *path, int pairs)
     qsort(theirs, (size_t)pairs, sizeof *theirs, less);
     qsort(ours, (size_t)pairs, sizeof *ours, less);
     qsort(ratio, (size_t)pairs, sizeof *ratio, less);
-    printf("%-15s %4lu insns %5.1f taken | ns a packet: bpf_filter %6.1f (least %6.1f)  mkdemux %6.1f (least %6.1f) | ratio %.2f (%.2f to %.2f)\n",
-        name ? name + 1 : path, (unsigned long)count, (double)steps / COUNT, theirs[pairs / 2], theirs[0], ours[pairs / 2], ours[0],
+    if (measured < MOST_FILTERS)
+        ratios[measured++] = ratio[pairs / 2];
+    printf("%-15.60s %4lu insns %5.1f taken | ns a packet: bpf_filter %6.1f (least %6.1f)  mkdemux %6.1f (least %6.1f) | ratio %.2f (%.2f to %.2f)\n",
+        name, (unsigned long)count, (double)steps / COUNT, theirs[pairs / 2], theirs[0], ours[pairs / 2], ours[0],
         ratio[pairs / 2], ratio[pairs / 10], ratio[pairs - 1 - pairs / 10]);
     mkdemux_close(program);
     return 0;
+}
+
+/* Compiles and measures each line of a file, and sums up. */
+static int measure_expressions(const char *path, int pairs)
+{
+    static char line[65536];
+    pcap_t *ethernet = pcap_open_dead(DLT_EN10MB, 262144);
+    FILE *file = fopen(path, "r");
+    int status = !file || !ethernet;
+    while (!status && fgets(line, sizeof line, file)) {
+        struct bpf_program compiled;
+        line[strcspn(line, "\n")] = 0;
+        if (pcap_compile(ethernet, &compiled, line, 1, PCAP_NETMASK_UNKNOWN) || compiled.bf_len > MKDEMUX_MAX_INSNS) {
+            printf("%s: no filter\n", line);
+            continue;
+        }
+        memcpy(code, compiled.bf_insns, compiled.bf_len * sizeof *code);
+        memcpy(insns, compiled.bf_insns, compiled.bf_len * sizeof *insns);
+        status |= measure(line, compiled.bf_len, pairs);
+        pcap_freecode(&compiled);
+    }
+    if (file)
+        fclose(file);
+    if (ethernet)
+        pcap_close(ethernet);
+    if (measured) {
+        qsort(ratios, (size_t)measured, sizeof *ratios, less);
+        printf("%d filters | ratio: quartiles %.2f, %.2f, %.2f, greatest %.2f\n", measured, ratios[measured / 4], ratios[measured / 2],
+            ratios[measured * 3 / 4], ratios[measured - 1]);
+    }
+    return status;
 }
 
 int main(int argc, char **argv)
@@ -170,11 +207,15 @@ int main(int argc, char **argv)
         i = 3;
     }
     if (pairs < 1 || pairs > MOST_PAIRS || i >= argc) {
-        fprintf(stderr, "usage: bench [-n PAIRS] FILTER..\n");
+        fprintf(stderr, "usage: bench [-n PAIRS] FILTER.. | -e FILE\n");
         return 2;
     }
     fill();
-    for (; i < argc; i++)
-        status |= measure(argv[i], pairs);
+    if (i + 1 < argc && !strcmp(argv[i], "-e"))
+        return measure_expressions(argv[i + 1], pairs);
+    for (; i < argc; i++) {
+        const char *slash = strrchr(argv[i], '/');
+        status |= measure(slash ? slash + 1 : argv[i], read_filter(argv[i]), pairs);
+    }
     return status;
 }

@@ -131,6 +131,20 @@ static void runs(void)
     CHECK(ending.verdict == 0 && ending.steps == MKDEMUX_MAX_INSNS);
 }
 
+/* ld len; add #1; ret a: no node adds. */
+static const struct mkdemux_insn length_and_one[] = {{0x80, 0, 0, 0}, {0x04, 0, 0, 1}, {0x16, 0, 0, 0}};
+
+static void predecodes(void)
+{
+    struct mkdemux_cell cells[COUNT(arp)];
+    CHECK(mkdemux_predecode(arp, COUNT(arp), cells, COUNT(arp)) == MKDEMUX_DONE);
+    CHECK(mkdemux_cells_verdict(arp_frame, 14, 60, cells, COUNT(arp)) == 262144);
+    CHECK(mkdemux_cells_verdict(ip_frame, 14, 60, cells, COUNT(arp)) == 0);
+    CHECK(mkdemux_cells_verdict(arp_frame, 13, 60, cells, COUNT(arp)) == 0);
+    CHECK(mkdemux_cells_verdict(NULL, 0, 60, cells, COUNT(arp)) == 0);
+    CHECK(mkdemux_predecode(length_and_one, COUNT(length_and_one), cells, COUNT(length_and_one)) == MKDEMUX_NOT_QUICKER);
+}
+
 static const char arp_text[] = "4\n40 0 0 12\n21 0 1 2054\n6 0 0 262144\n6 0 0 0\n";
 
 static void reads(void)
@@ -239,6 +253,10 @@ static void opens(void)
     memset(own, 255, sizeof own); /* the copy runs */
     CHECK(program && mkdemux_filter(program, arp_frame, 60, 14) == 262144);
     CHECK(program && mkdemux_filter(program, NULL, 60, 0) == 0);
+    CHECK(program && program->cells);
+    mkdemux_close(program);
+    program = mkdemux_open(length_and_one, COUNT(length_and_one), &rule, NULL);
+    CHECK(program && !program->cells && rule == MKDEMUX_ACCEPTED && mkdemux_filter(program, arp_frame, 60, 14) == 61);
     mkdemux_close(program);
     memcpy(odd + 1, arp, sizeof arp);
     program = mkdemux_open(odd + 1, COUNT(arp), NULL, NULL);
@@ -482,6 +500,7 @@ int main(void)
 {
     verifies();
     runs();
+    predecodes();
     reads();
     assembles();
     writes();
