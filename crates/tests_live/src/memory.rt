@@ -122,32 +122,6 @@ fn serve(rt: &impl Abort, alloc: Global, first: &mut Core<RingLinks>, other: &mu
     }
 }
 
-/// The decision on a request of core 0, while core 1 lacks memory for no turn: it votes.
-fn decided_by_votes(
-    rt: &impl Abort,
-    first: &mut Core<RingLinks>,
-    other: &mut Core<RingLinks>,
-) -> Option<Decision> {
-    let mut found = None;
-    for _ in 0..12 {
-        found = turns(rt, first).or(found);
-        holds(rt, !matches!(other.turn(false), Turn::NoMemory));
-    }
-    equal(rt, first.version(), other.version());
-    found
-}
-
-#[test]
-fn a_core_that_votes_with_a_refused_growth(rt: HostRuntime) {
-    let alloc = rt.alloc();
-    let mut cores = boot_cores(alloc, &[100, 100]).expect(&rt, "there is memory");
-    if let [first, other] = cores.as_mut_slice() {
-        asks_for_endpoint(&rt, first);
-        holds(&rt, decided_by_votes(&rt, first, other).is_some());
-    }
-    drop(cores);
-}
-
 #[test]
 fn cores_that_serve_with_a_refused_growth(rt: HostRuntime) {
     let alloc = rt.alloc();
