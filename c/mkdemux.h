@@ -276,7 +276,8 @@ typedef struct mkdemux_program {
 
 /* Copies and verifies `count` records of eight bytes at `code` (struct bpf_insn, struct sock_filter or struct
  * mkdemux_insn, at any address; `code` may be NULL if the count is 0). The answer is NULL if the program is refused;
- * `rule` and `place`, each of which may be NULL, say why. Only the copy is run: the caller may free its own array. */
+ * `rule` and `place`, each of which may be NULL, say why. Only the copy is run: the caller may free its own array. It takes 72
+ * bytes for each instruction. Any number of threads may filter by one program at the same time. */
 MKDEMUX_CALL const mkdemux_program *mkdemux_open(const void *code, size_t count, uint32_t *rule, struct mkdemux_place *place)
 {
     struct mkdemux_place where = {0, 0, 0};
