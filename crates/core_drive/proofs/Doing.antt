@@ -1,10 +1,9 @@
 -- Steps one after another, each with its cores before and after.
-use Rattle.std.proofs.Common.{◌≡◌, ◌++◌, ℕ, Bool, true, false, Option, List, [], ◌∷◌, None, Some, refl, subst}
+use Rattle.std.proofs.Common.{◌≡◌, ◌++◌, Bool, true, Option, List, [], ◌∷◌, Some, refl, subst}
 use Rattle.filter_table.specs.declared.decision.Decision.{Decision}
 use Rattle.world_histories.specs.declared.history.Stamped.{Stamped}
 use Rattle.rx_queue.specs.declared.job.Job.{Job}
 use Rattle.core_links.specs.RingSlots.{ring_view}
-use Rattle.core_links.specs.Flows.{IsLooked, HasMoved, ring_flow}
 use Rattle.core_loop.specs.declared.cause.Cause.{Cause}
 use Rattle.core_loop.specs.declared.cause.Turn.{Turn}
 use Rattle.core_loop.specs.declared.cause.Turn.TheVariants as turn
@@ -13,13 +12,9 @@ use Rattle.core_loop.specs.Choosing.{NoMessageNow}
 use Rattle.core_loop.specs.Cores.{DidOne, CanReceive}
 use Rattle.core_loop.specs.Turning.{IsSpent, LacksMemory}
 use Rattle.core_join.specs.Machines.{RingCore}
-use Rattle.core_settle.specs.Naming.{names}
-use Rattle.core_settle.proofs.Answering.{Answered, answered_none}
 use Rattle.core_drive.specs.declared.step.CoreStep.{CoreStep}
-use Rattle.core_drive.specs.declared.step.Task.TheVariants as task
-use Rattle.core_drive.specs.declared.step.StepOutcome.TheVariants.{Turned}
 use Rattle.core_drive.specs.declared.step.StepOutcome.{StepOutcome}
-use Rattle.core_drive.specs.Driving.{TurnsRightly, TurnNames, IsDone, AreDoneInTurn}
+use Rattle.core_drive.specs.Driving.{TurnsRightly, IsDone, AreDoneInTurn}
 
 pub done_more : (steps : List CoreStep) (outcomes : List StepOutcome) (s : CoreStep) (o : StepOutcome) (a b c : List RingCore) → AreDoneInTurn steps outcomes a b → IsDone s o b c → AreDoneInTurn (steps ++ s ∷ []) (outcomes ++ o ∷ []) a c
 done_more [] [] s o a b c h k = (c, subst (λ (cores : List RingCore). IsDone s o cores c) h k, refl)
@@ -41,20 +36,3 @@ turned_rightly rx turn.Idle old new did stopped spent lacks quiet unable none = 
 turned_rightly rx (turn.Stopped cause) old new did stopped spent lacks quiet unable none = stopped cause refl
 turned_rightly rx turn.Spent old new did stopped spent lacks quiet unable none = spent refl
 turned_rightly rx turn.NoMemory old new did stopped spent lacks quiet unable none = lacks refl
-
--- a turn that receives nothing
-pub turn_names : (rx : Bool) (t : Turn) (old new : RingCore) → (rx ≡ false → Answered t old new)
-    → ((p : ℕ) → names new p ≡ false → IsLooked (ring_flow old.links p) (ring_flow new.links p))
-    → (old.stopped ≡ None → (p : ℕ) → names new p ≡ true → HasMoved (ring_flow old.links p) (ring_flow new.links p))
-    → (((cause : Cause) → t ≡ turn.Stopped cause → ⊥) → (old.stopped ≡ None) × (new.stopped ≡ None))
-    → TurnNames (task.Turn rx) (Turned t) old new
-turn_names true t old new answered still moved running = tt
-turn_names false (turn.Did s d) old new answered still moved running =
-    let a = answered refl in
-    (record { goes_on = answered_none (turn.Did s d) old new a; still = still; moved = moved (running (λ cause is. cc)).0 }, (s, a.did s d refl, a.leave s d refl))
-turn_names false turn.Idle old new answered still moved running =
-    let a = answered refl in
-    (record { goes_on = answered_none turn.Idle old new a; still = still; moved = moved (running (λ cause is. cc)).0 }, a.idles refl (a.other (λ s d is. cc)))
-turn_names false (turn.Stopped cause) old new answered still moved running = tt
-turn_names false turn.Spent old new answered still moved running = tt
-turn_names false turn.NoMemory old new answered still moved running = tt

@@ -1,5 +1,5 @@
 -- The cores of a machine before and after a list of steps.
-use Rattle.std.specs.Prelude.{◌≡◌, ◌++◌, ◌<◌, ℕ, Bool, true, false, List, [], ◌∷◌, length, Some, slice_get, slice_set}
+use Rattle.std.specs.Prelude.{◌≡◌, ◌++◌, ◌<◌, ℕ, Bool, true, List, [], ◌∷◌, length, Some, slice_get, slice_set}
 use Rattle.std.specs.List.{AllZip}
 use Rattle.filter_table.specs.declared.operation.Op.{Op}
 use Rattle.filter_table.specs.declared.decision.Decision.{Decision}
@@ -17,8 +17,7 @@ use Rattle.core_loop.specs.Turning.{IsSpent, LacksMemory}
 use Rattle.core_loop.specs.Receiving.{HasReceived, IsRefused, version_now}
 use Rattle.core_loop.specs.Answering.{decisions}
 use Rattle.core_join.specs.Machines.{RingCore}
-use Rattle.core_settle.specs.Rounds.{DidEvent, Idled, AreSeen}
-use Rattle.core_settle.specs.Naming.{NamingTurn}
+use Rattle.core_join.specs.Looking.{AreLookedAt}
 use Rattle.core_drive.specs.declared.step.CoreStep.{CoreStep}
 use Rattle.core_drive.specs.declared.step.Task.{Task}
 use Rattle.core_drive.specs.declared.step.Task.TheVariants.{Ask, Receive}
@@ -82,12 +81,6 @@ IsRight (Receive packet) (NotReceived why) old new = IsRefused old packet.bytes 
 IsRight task NoMemory old new = new ≡ old
 IsRight task outcome old new = ⊥
 
--- a turn that receives no packet names those with whom it moved lines; it did an event or could do none
-abbrev pub TurnNames : Task → StepOutcome → RingCore → RingCore → Type 0
-TurnNames (tasks.Turn false) (Turned (turn.Did s decision)) old new = NamingTurn old new × DidEvent old new
-TurnNames (tasks.Turn false) (Turned turn.Idle) old new = NamingTurn old new × Idled old new
-TurnNames task outcome old new = Unit {0}
-
 -- a step on the core of its number, which alone has changed
 pub record IsDone (s : CoreStep) (o : StepOutcome) (old new : List RingCore) : Type 0 where
   pub core : RingCore
@@ -95,7 +88,6 @@ pub record IsDone (s : CoreStep) (o : StepOutcome) (old new : List RingCore) : T
   pub there : slice_get old s.core ≡ Some core
   pub new_is : new ≡ slice_set old s.core becomes
   pub right : IsRight s.task o core becomes
-  pub names : TurnNames s.task o core becomes
 
 -- the steps were done one after another, each on the cores as those before it left them
 abbrev pub AreDoneInTurn : List CoreStep → List StepOutcome → List RingCore → List RingCore → Type 0
@@ -107,4 +99,4 @@ AreDoneInTurn steps outcomes old new = ⊥
 pub record AreDoneAndLookedAt (steps : List CoreStep) (outcomes : List StepOutcome) (old new : List RingCore) : Type 0 where
   pub last : List RingCore
   pub done : AreDoneInTurn steps outcomes old last
-  pub seen : AreSeen last new
+  pub looked : AreLookedAt last new

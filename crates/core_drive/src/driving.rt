@@ -6,7 +6,7 @@ ghost use Rattle.core_join.specs.Machines.{RingCore, IsMachine, AreSameCores};
 ghost use Rattle.core_join.specs.Conclusions.{AreRunning, Conclude};
 ghost use Rattle.core_drive.specs.declared.step.Task.TheVariants as GhostTask;
 ghost use Rattle.core_drive.specs.Steps.{IsOf, did, asked_op, decided};
-ghost use Rattle.core_drive.specs.Driving.{IsStep, IsGivable, CoreDrives, AreDriven, IsRunning, IsRight, TurnNames, IsDone, AreDoneAndLookedAt};
+ghost use Rattle.core_drive.specs.Driving.{IsStep, IsGivable, CoreDrives, AreDriven, IsRunning, IsRight, IsDone, AreDoneAndLookedAt};
 
 use crate::step::{CoreStep, StepOutcome, Task};
 use core_join::agree_all;
@@ -61,7 +61,6 @@ fn do_task(alloc: Global, core: &mut Core<RingLinks>, task: Task) -> StepOutcome
     ensures answered { IsOf task result }
     ensures drives { CoreDrives (did core.old.number task result) (asked_op task result) (decided result) core.old core.new }
     ensures right { IsRight task result core.old core.new }
-    ensures names { TurnNames task result core.old core.new }
     ensures running { core.new.stopped ≡ None → (core.old.stopped ≡ None) × IsRunning result }
 {
     match task {

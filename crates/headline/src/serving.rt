@@ -1,18 +1,22 @@
 //! A machine whose cores serve in one thread, and then come to rest.
 
-ghost use Rattle.std.specs.Prelude.{◌≡◌, ◌≢◌, ◌↔◌, ◌⊎◌, ◌<◌, ◌≤◌, ◌++◌, ◌∷◌, [], ℕ, List, All, Err, None, Some, true, false, IfOk, IfSome, IfNone, IsOkUnless, IsTrue, OnOk, length, if◌then◌else◌};
+ghost use Rattle.std.specs.Prelude.{◌≡◌, ◌≢◌, ◌↔◌, ◌⊎◌, ◌<◌, ◌≤◌, ◌++◌, ◌∷◌, [], ℕ, List, All, Err, None, Some, true, false, IfOk, IfSome, IfNone, IsOkUnless, IsTrue, IsFalse, OnOk, Option, length, if◌then◌else◌};
 ghost use Rattle.std.specs.List.{AllZip};
 ghost use mathlib.Core.List.{IsPrefix};
 ghost use Rattle.filter_table.specs.declared.operation.Op.{Op as GhostOp};
 ghost use Rattle.filter_table.specs.Tables.{HasShortProgram};
 ghost use Rattle.world_model.specs.Decisions.{Delivers};
 ghost use Rattle.world_histories.specs.Merging.{core_of};
+ghost use Rattle.filter_table.specs.declared.decision.Decision.{Decision as GhostDecision};
+ghost use Rattle.world_histories.specs.declared.history.Stamped.{Stamped as GhostStamped};
+ghost use Rattle.core_loop.specs.declared.cause.Turn.TheVariants.{Did};
 ghost use Rattle.core_join.specs.Machines.{RingCore, IsMachine, AreSameCores};
 ghost use Rattle.core_boot.specs.Booted.{HasDoneNothing};
-ghost use Rattle.core_settle.specs.Rounds.{AreAtRest, HasAllDecided};
+ghost use Rattle.core_settle.specs.Rounds.{AreAtRest, HasAllDecided, halt_of};
 ghost use Rattle.core_settle.specs.Naming.{NamedTurn, NoneAwake, names};
 ghost use Rattle.core_drive.specs.declared.step.CoreStep.{CoreStep as GhostStep};
 ghost use Rattle.core_drive.specs.declared.step.Task.TheVariants.{Turn as GhostTurn, Ask};
+ghost use Rattle.core_drive.specs.declared.step.StepOutcome.TheVariants.{Turned};
 ghost use Rattle.core_drive.specs.Steps.{IsOf, did, asked_op, of_core};
 ghost use Rattle.core_join.specs.Conclusions.{Conclude};
 ghost use Rattle.core_drive.specs.Driving.{IsStep, IsRunning, AreDriven};
@@ -171,10 +175,11 @@ fn settle_each(
         let Some(core) = first_awake(&awake) else {
             unreachable!()
         };
-        let (mut outcome, goes_on) = turn_named(alloc, cores, awake.as_mut_slice(), core)?;
+        let answer = turn_named(cores, awake.as_mut_slice(), core);
+        let halts = is_halt(&answer);
         turns.push(turn_of(core))?;
-        outcomes.append(&mut outcome)?;
-        if !goes_on {
+        outcomes.push(StepOutcome::Turned(answer))?;
+        if halts {
             return Ok(Work {
                 turns,
                 outcomes,
@@ -213,35 +218,42 @@ fn first_awake(awake: &[bool]) -> Option<u16>
     None
 }
 
-// A core that has something to do takes a turn, and then all are looked at. It gives what came of the turn, and whether it did not halt
-// its core. Then it says which cores have something to do now.
-fn turn_named(
-    alloc: Global,
-    cores: &mut [Core<RingLinks>],
-    awake: &mut [bool],
-    core: u16,
-) -> Result<(Vec<StepOutcome>, bool), AllocError>
+// Whether a turn halted its core.
+fn is_halt(answer: &Turn) -> bool
+    ensures { IsFalse result → halt_of answer.now ≡ None }
+{
+    !matches!(answer, Turn::Did { .. } | Turn::Idle)
+}
+
+// Whether a turn did an event.
+fn is_event(answer: &Turn) -> bool
+    ensures did { IsTrue result → (s : GhostStamped) × (d : Option GhostDecision) × (answer.now ≡ Did s d) }
+    ensures none { IsFalse result → (s : GhostStamped) (d : Option GhostDecision) → answer.now ≢ Did s d }
+{
+    matches!(answer, Turn::Did { .. })
+}
+
+// A core that has something to do takes a turn, and then all are looked at. Unless that halted the core, `awake` says which cores have
+// something to do now.
+fn turn_named(cores: &mut [Core<RingLinks>], awake: &mut [bool], core: u16) -> Turn
     requires machine { (budget : ℕ) × (budgets : List ℕ) × IsMachine budget budgets cores.old }
     requires few { length cores.old ≤ 8 }
     requires each { length awake.old ≡ length cores.old }
     requires core { core < length cores.old }
     requires is_awake { awake_of awake.old core ≡ true }
     ensures each { length awake.new ≡ length awake.old }
-    ensures driven { IfOk result (λ r. AreDriven (turn_of_core core ∷ []) r.0.items cores.old cores.new) }
-    ensures running { IfOk result (λ r. All IsRunning r.0.items) }
+    ensures driven { AreDriven (turn_of_core core ∷ []) (Turned result ∷ []) cores.old cores.new }
+    ensures running { IsRunning (Turned result) }
     ensures machine { AreSameCores cores.old cores.new }
-    ensures concludes { (budget : ℕ) (budgets : List ℕ) → IsMachine budget budgets cores.old → OnOk result (Conclude budget budgets cores.new) }
-    ensures named { IfOk result (λ r. IsTrue r.1 → NamedTurn (awake_of awake.old) (awake_of awake.new) cores.old cores.new) }
+    ensures concludes { (budget : ℕ) (budgets : List ℕ) → IsMachine budget budgets cores.old → Conclude budget budgets cores.new }
+    ensures named { halt_of result ≡ None → NamedTurn (awake_of awake.old) (awake_of awake.new) cores.old cores.new }
 {
-    let outcome = drive(alloc, cores, vec![in alloc; turn_of(core)]?)?;
     let place = usize::from(core);
-    match outcome.first() {
-        Some(StepOutcome::Turned(Turn::Did { .. })) => {}
-        Some(StepOutcome::Turned(Turn::Idle)) => awake[place] = false,
-        _ => return Ok((outcome, false)),
-    }
+    let answer = cores[place].turn(false);
+    awake[place] = is_event(&answer);
     wake(awake, &cores[place], core);
-    Ok((outcome, true))
+    agree_all(cores);
+    answer
 }
 
 // The cores that this one names have something to do.

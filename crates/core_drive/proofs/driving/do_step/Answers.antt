@@ -30,7 +30,7 @@ returns-clause-done c =
     let there' : slice_get cores k ≡ Some c.index-cores-from.result = get_indexed cores k c.index-cores-from.result (subst (λ (n : ℕ). c.index-cores-from.result ≡ slice_index_or cores n c.index-cores-from.result) from is) c.requires.step.0 in
     let there : slice_get cores k ≡ Some core = there' ∙ ap (λ (x : RingCore). Some x) is in
     subst (λ (n : ℕ). IsDone c.args.step c.do_task.result cores (slice_set cores n c.do_task.new.core)) (sym from)
-    (record { core = core; becomes = c.do_task.new.core; there = there; new_is = refl; right = c.do_task.ensures.right; names = c.do_task.ensures.names })
+    (record { core = core; becomes = c.do_task.new.core; there = there; new_is = refl; right = c.do_task.ensures.right })
 
 pub returns-clause-running : goal.returns-clause-running
 returns-clause-running c =

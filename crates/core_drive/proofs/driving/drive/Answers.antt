@@ -48,7 +48,7 @@ pub returns-clause-in_turn : goal.returns-clause-in_turn
 returns-clause-in_turn c =
     let none : into_iter_items c.loop-step.step-iterator ≡ [] = nil_from_length _ (sym c.loop-step.step-iterator.rest.ok.0 ∙ c.in-None.ensures.steps.0) in
     let all : c.args.steps.items ≡ c.loop-step.yielded = c.loop-step.invariant.2 ∙ ap (λ (l : List CoreStep). c.loop-step.yielded ++ l) none ∙ append-nil c.loop-step.yielded in
-    rw all (record { last = c.loop-step.cores; done = c.loop-step.invariant.3; seen = record { looked = c.agree_all.ensures.looked; exact = c.agree_all.ensures.exact; concludes = c.agree_all.ensures.concludes } })
+    rw all (record { last = c.loop-step.cores; done = c.loop-step.invariant.3; looked = c.agree_all.ensures.looked })
 
 pub returns-clause-machine : goal.returns-clause-machine
 returns-clause-machine c =
