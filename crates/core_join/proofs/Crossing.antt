@@ -5,6 +5,7 @@ use denote.Enum.Declared as enums
 use denote.Struct.Declared as structs
 use Rattle.std.proofs.alloc.Global.TheSendSync as heap
 use Rattle.std.below.std_heap.proofs.GlobalAllocator.TheSendSync as blocks
+use Rattle.std.proofs.Crossing.{Box-send}
 use Rattle.std.proofs.vec.Vec.TheSendSync as vec
 use Rattle.std.proofs.collections.VecDeque.TheSendSync as deque
 use Rattle.std.specs.contracts.snapshot.Snapshot as snapshot
@@ -16,6 +17,7 @@ use Rattle.table_replica.proofs.reaches.Chains.TheSendSync as chains
 use Rattle.table_replica.proofs.filters.Scratch.TheSendSync as scratch
 use Rattle.table_replica.proofs.Op.TheSendSync as op
 use Rattle.table_replica.specs.contracts.filters.Filters as filters
+use Rattle.table_replica.specs.contracts.boxed.BoxedFilters as boxed
 use Rattle.table_replica.specs.contracts.contents.Contents as contents
 use Rattle.table_replica.specs.contracts.replica.Staged as staged
 use Rattle.table_replica.specs.contracts.replica.Replica as replica
@@ -43,8 +45,11 @@ snapshot_send R = record { owned = λ d vs. ((λ vss. (tt, ((λ uss. (tt, tt)), 
 filters_send : IsSend filters.the_row
 filters_send = search (sendable, heap.the_send, blocks.the_frees, vec.the_send, snapshot_send, programs.the_field_send, row.the_send, reach.the_send, chains.the_send) depth 14
 
+boxed_send : IsSend boxed.the_row
+boxed_send = search (sendable, snapshot_send, Box-send filters.the_row filters_send) depth 14
+
 contents_send : IsSend contents.the_row
-contents_send = search (sendable, caps.the_send, filters_send) depth 14
+contents_send = search (sendable, caps.the_send, boxed_send) depth 14
 
 staged_send : IsSend staged.the_row
 staged_send = search (sendable, snapshot_send, contents_send) depth 14
