@@ -88,7 +88,7 @@ ended_machine [] requests jobs cores left e = absurd e.machine
 ended_machine (budget ∷ others) requests jobs cores left e = (budget, others, e.machine)
 
 -- core 0 decides nothing
-pub idle_at : (cores : ℕ) (p : Part) (links : RingLinks) (others clock : ℕ) (end : Core0) → HasNothingUnderWay cores p (ring_view links) → StandsAt0 others p clock end → IsIdle0 p
+idle_at : (cores : ℕ) (p : Part) (links : RingLinks) (others clock : ℕ) (end : Core0) → HasNothingUnderWay cores p (ring_view links) → StandsAt0 others p clock end → IsIdle0 p
 idle_at cores (role.First core) links others clock end idle stands = idle.0
 idle_at cores (role.Other core) links others clock end idle stands = absurd stands
 

@@ -7,4 +7,3 @@ pub mod Listed
 pub mod Counts
 pub mod Parts
 pub mod Stepping
-pub mod Waking

@@ -4,4 +4,3 @@ pub mod Shown
 pub mod Ended
 pub mod Served
 pub mod Starts
-pub mod Waking
