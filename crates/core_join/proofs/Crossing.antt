@@ -5,7 +5,7 @@ use denote.Enum.Declared as enums
 use denote.Struct.Declared as structs
 use Rattle.std.proofs.alloc.Global.TheSendSync as heap
 use Rattle.std.below.std_heap.proofs.GlobalAllocator.TheSendSync as blocks
-use Rattle.std.proofs.Crossing.{Box-send}
+use Rattle.std.proofs.Crossing.{crosses}
 use Rattle.std.proofs.vec.Vec.TheSendSync as vec
 use Rattle.std.proofs.collections.VecDeque.TheSendSync as deque
 use Rattle.std.specs.contracts.snapshot.Snapshot as snapshot
@@ -46,7 +46,7 @@ filters_send : IsSend filters.the_row
 filters_send = search (sendable, heap.the_send, blocks.the_frees, vec.the_send, snapshot_send, programs.the_field_send, row.the_send, reach.the_send, chains.the_send) depth 14
 
 boxed_send : IsSend boxed.the_row
-boxed_send = search (sendable, snapshot_send, Box-send filters.the_row filters_send) depth 14
+boxed_send = search (sendable, crosses, snapshot_send, filters_send) depth 20
 
 contents_send : IsSend contents.the_row
 contents_send = search (sendable, caps.the_send, boxed_send) depth 14
