@@ -216,6 +216,25 @@ struct mkdemux_ending mkdemux_run(const struct mkdemux_insn *code, size_t count,
 uint32_t mkdemux_verdict(const struct mkdemux_insn *code, size_t count,
     const uint8_t *packet, size_t captured, uint32_t original);
 
+/* A program in another form: a cell for each instruction, which does at once what several do. Its numbers are for
+ * mkdemux_cells_verdict alone. A list of them is quickest at an address that is a multiple of 64. */
+struct mkdemux_cell {
+    uint32_t number[16];
+};
+
+/* Makes the cells of a program.
+ * OWED: mkdemux_verify answered 0 for exactly these instructions, and both counts are equal.
+ * Proved: for DONE, the cells stand for exactly these instructions. For NO_MEMORY no cell was written. For NOT_QUICKER they
+ * are not to be run: mkdemux_verdict is as quick. Takes memory. */
+enum mkdemux_predecode_answer { MKDEMUX_NOT_QUICKER = 1 /* or MKDEMUX_DONE or MKDEMUX_NO_MEMORY */ };
+uint32_t mkdemux_predecode(const struct mkdemux_insn *code, size_t count, struct mkdemux_cell *cells, size_t cell_count);
+
+/* The verdict that mkdemux_verdict gives, by cells.
+ * OWED: mkdemux_predecode answered DONE for exactly these cells.
+ * Proved: as for mkdemux_verdict, of the instructions that the cells stand for. Takes no memory. */
+uint32_t mkdemux_cells_verdict(const uint8_t *packet, size_t captured, uint32_t original, const struct mkdemux_cell *cells,
+    size_t count);
+
 /* Reads a decimal text (`tcpdump -ddd`, `bpf_asm`, the bpf match of iptables) into at most `room` instructions.
  * Proved: for DONE the first `count` of them are the program that the text spells; any other number is the text's first
  * fault, or NO_ROOM, for which `count` says how many are needed (4,096 at most), or NO_MEMORY. After the program, and
@@ -252,25 +271,37 @@ uint32_t mkdemux_next(struct mkdemux_capture *capture, struct mkdemux_interface 
 typedef struct mkdemux_program {
     size_t count;
     const struct mkdemux_insn *code;
+    const struct mkdemux_cell *cells; /* or NULL, where mkdemux_verdict is as quick */
 } mkdemux_program;
 
 /* Copies and verifies `count` records of eight bytes at `code` (struct bpf_insn, struct sock_filter or struct
  * mkdemux_insn, at any address; `code` may be NULL if the count is 0). The answer is NULL if the program is refused;
- * `rule` and `place`, each of which may be NULL, say why. Only the copy is run: the caller may free its own array. */
+ * `rule` and `place`, each of which may be NULL, say why. Only the copy is run: the caller may free its own array. It takes 72
+ * bytes for each instruction. Any number of threads may filter by one program at the same time. */
 MKDEMUX_CALL const mkdemux_program *mkdemux_open(const void *code, size_t count, uint32_t *rule, struct mkdemux_place *place)
 {
     struct mkdemux_place where = {0, 0, 0};
     uint32_t answer = count > MKDEMUX_MAX_INSNS ? (uint32_t)MKDEMUX_TOO_LONG : (uint32_t)MKDEMUX_NO_MEMORY;
+    uint32_t quick;
     mkdemux_program *made = NULL;
     struct mkdemux_insn *copy;
+    struct mkdemux_cell *cells;
+    /* The program, its cells, which begin a line of the cache, and its instructions. */
     if (count <= MKDEMUX_MAX_INSNS)
-        made = (mkdemux_program *)malloc(sizeof *made + count * sizeof *copy);
+        made = (mkdemux_program *)malloc(sizeof *made + 63 + count * (sizeof *cells + sizeof *copy));
     if (made) {
-        copy = (struct mkdemux_insn *)(made + 1);
+        cells = (struct mkdemux_cell *)(((uintptr_t)(made + 1) + 63) / 64 * 64);
+        copy = (struct mkdemux_insn *)(cells + count);
         if (count) memcpy(copy, code, count * sizeof *copy);
         made->count = count;
         made->code = copy;
+        made->cells = NULL;
         answer = mkdemux_verify(copy, count, &where, NULL, 0);
+        if (!answer) {
+            quick = mkdemux_predecode(copy, count, cells, count);
+            if (quick == MKDEMUX_DONE) made->cells = cells;
+            if (quick == MKDEMUX_NO_MEMORY) answer = quick;
+        }
         if (answer) {
             free(made);
             made = NULL;
@@ -292,6 +323,7 @@ MKDEMUX_CALL void mkdemux_close_program(const mkdemux_program *program)
  * `buflen` is 0. */
 MKDEMUX_CALL uint32_t mkdemux_filter(const mkdemux_program *program, const uint8_t *p, uint32_t wirelen, uint32_t buflen)
 {
+    if (program->cells) return mkdemux_cells_verdict(p, buflen, wirelen, program->cells, program->count);
     return mkdemux_verdict(program->code, program->count, p, buflen, wirelen);
 }
 

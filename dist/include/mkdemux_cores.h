@@ -42,7 +42,9 @@
  * PROGRESS. If one caller holds all cores, mkdemux_settle ends with every request decided; that is proved. If
  * threads turn them, this is proved: after more rounds than the work ahead, in each of which every core is turned
  * at least once, in any order, and none lacks memory, all are decided, if between rounds each core sees
- * what was sent to it. Core 0 takes the requests of all cores in turn. NOT PROVED: that a thread runs, that one
+ * what was sent to it. It is enough to turn each core after it was asked, after another's turn named it, and after a
+ * turn of its own with `more`: where no core is left to turn so, all are decided. Core 0 takes the requests of all
+ * cores in turn. NOT PROVED: that a thread runs, that one
  * thread sees what another wrote, and time. A core that nobody turns holds up every change of the machine;
  * packets are still received.
  *
