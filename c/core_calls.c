@@ -31,10 +31,11 @@ void *__wrap_realloc(void *block, size_t size);
 
 /* (volatile: a compiler may take it that malloc changes nothing that a program can see) */
 static volatile unsigned long failing, asked;
+static volatile int none_left; /* each allocation fails */
 
 static int is_refused(void)
 {
-    return ++asked == failing;
+    return ++asked == failing || none_left;
 }
 
 void *__wrap_malloc(size_t size)
@@ -975,6 +976,35 @@ static int is_asked_with(size_t at, size_t request, unsigned long number, unsign
     return reached;
 }
 
+/* Core 0 asks, and core 1 gets no memory at all, in any turn: it votes so, and the request is decided. */
+static void votes_without_memory(void)
+{
+    static const size_t requests[] = {0, 1, 4, 5, 6}; /* those without a program */
+    struct machine machine;
+    mkdemux_turned turned, other;
+    size_t i, rounds;
+    for (i = 0; i < COUNT(requests); i++) {
+        boot(&machine, 2, 100);
+        answer_at(&machine, 0, mkdemux_ask_create(machine.cores, 1, 7));
+        answer_at(&machine, 0, mkdemux_ask_install(machine.cores, 1, 1, ten, 1));
+        settle(&machine);
+        CHECK(ask(machine.cores, requests[i]) == MKDEMUX_CORE_OK);
+        memset(&turned, 0, sizeof turned);
+        for (rounds = 0; rounds < 100 && turned.what != MKDEMUX_TURN_DECISION; rounds++) {
+            uint32_t answer = mkdemux_turn(machine.cores, &turned);
+            CHECK(answer == MKDEMUX_CORE_OK || answer == MKDEMUX_CORE_IDLE);
+            none_left = 1;
+            answer = mkdemux_turn(&machine.cores[1], &other);
+            none_left = 0;
+            CHECK(answer == MKDEMUX_CORE_OK || answer == MKDEMUX_CORE_IDLE);
+        }
+        CHECK(is_refused_by(turned, MKDEMUX_VETOED, MKDEMUX_RULE_MEMORY, 0, 1));
+        settle(&machine);
+        CHECK(mkdemux_version(machine.cores) == 2 && mkdemux_version(&machine.cores[1]) == 2);
+        close_all(&machine);
+    }
+}
+
 static void boot_runs_out(unsigned long *refusals)
 {
     static const uint32_t budgets[MOST] = {9, 9, 9, 9, 9, 9, 9, 9};
@@ -1034,6 +1064,7 @@ static void runs_out(void)
 {
     unsigned long number, refusals = 0, of_boot, of_receive;
     size_t at, request;
+    votes_without_memory();
     boot_runs_out(&refusals);
     of_boot = refusals;
     receive_runs_out(&refusals);
