@@ -379,13 +379,16 @@ static void refused(struct lane *lane, struct asked asked, const mkdemux_turned 
     }
 }
 
-/* Turns the core while a turn may do something, or some times, and wakes the cores that a turn names. Whether there is more to do. */
+/* Turns the core while a turn may do something, or some times, and wakes the cores that a turn names. Whether there is more to do: a decision
+ * may leave an order that its client can begin now. */
 static bool turn(struct lane *lane)
 {
     mkdemux_turned turned = {.more = 1};
+    bool decided = false;
     for (int turns = 0; turns < TURNS && turned.more && !lane->fault; turns++) {
         uint32_t answer = mkdemux_turn(&lane->core, &turned);
         wake(lane->live, turned.woken);
+        decided |= turned.what == MKDEMUX_TURN_DECISION;
         if (answer && answer != MKDEMUX_CORE_IDLE)
             fail(lane, mkdemux_core_word(answer));
         else if (turned.what == MKDEMUX_TURN_DECISION && turned.decision == MKDEMUX_COMMITTED)
@@ -393,7 +396,7 @@ static bool turn(struct lane *lane)
         else if (turned.what == MKDEMUX_TURN_DECISION)
             refused(lane, next_answered(lane), &turned);
     }
-    return turned.more;
+    return turned.more || decided;
 }
 
 /* ---- Packets ---- */
