@@ -13,14 +13,6 @@ take_crates() {
     done
 }
 
-# build_library FOLDER NAME: proves and builds a static library.
-build_library() {
-    (cd "$1/crates/$2" && rt lib > "$1/lib.log" 2>&1) || {
-        tail -20 "$1/lib.log"
-        exit 1
-    }
-}
-
 # needed LINE: the crates of the repository that a crate with this line of crates.txt stands on, in the order of crates.txt.
 needed() {
     python3 - "$here/../crates.txt" "$1" <<'EOF'
@@ -40,10 +32,10 @@ print(" ".join(name for name in stands_on if name in wanted))
 EOF
 }
 
-# build_program FOLDER NAME LINE: proves and builds the program of NAME.rattle, with the proofs of NAME.proofs if it needs some. LINE is what
-# crates.txt says of it: options, a colon, and the crates that it names.
-# Takes what the repository's own checks have kept of the crates. From nothing, their proofs take half an hour to an hour.
-build_program() {
+# take_needed FOLDER NAME LINE: copies the crates that a crate of this name stands on, with what the repository's own checks have kept of
+# them, and writes crates.txt. LINE is what crates.txt says of the crate: options, a colon, and the crates that it names.
+# From nothing, the proofs of all crates take half an hour to an hour.
+take_needed() {
     work=$1
     program=$2
     line=$3
@@ -53,23 +45,39 @@ build_program() {
         kept=$here/../crates/$name/out
         [ -d "$work/crates/$name/out" ] || [ ! -d "$kept" ] || cp -a "$kept" "$work/crates/$name/out"
     done
-    mkdir -p "$work/crates/${program}_bench/src"
-    cp "$here/../HANDLES" "$work/HANDLES"
-    cp "$here/$program.rattle" "$work/crates/${program}_bench/src/main.rt"
-    rm -rf "$work/crates/${program}_bench/proofs"
-    # (only the files of a crate may end in .antt)
-    [ ! -d "$here/$program.proofs" ] || (cd "$here/$program.proofs" && find . -name '*.proof') | while read -r file; do
-        mkdir -p "$work/crates/${program}_bench/proofs/${file%/*}"
-        cp "$here/$program.proofs/$file" "$work/crates/${program}_bench/proofs/${file%.proof}.antt"
-    done
+    mkdir -p "$work/crates/$program/src"
     {
         for name in "$@"; do
             grep "^$name[ :]" "$here/../crates.txt"
         done
-        echo "${program}_bench$line"
+        echo "$program$line"
     } > "$work/crates.txt"
-    (cd "$work/crates/${program}_bench" && rt run > "$work/$program.log" 2>&1) || {
-        tail -20 "$work/$program.log"
+}
+
+# build_library FOLDER FILE NAME LINE: proves and builds the static library of FILE.
+build_library() {
+    take_needed "$1" "$3" "$4"
+    cp "$here/$2" "$work/crates/$3/src/lib.rt"
+    (cd "$work/crates/$3" && rt lib > "$work/lib.log" 2>&1) || {
+        tail -20 "$work/lib.log"
+        exit 1
+    }
+}
+
+# build_program FOLDER NAME LINE: proves and builds the program of NAME.rattle, with the proofs of NAME.proofs if it needs some.
+build_program() {
+    name=$2
+    take_needed "$1" "${2}_bench" "$3"
+    cp "$here/../HANDLES" "$work/HANDLES"
+    cp "$here/$name.rattle" "$work/crates/$program/src/main.rt"
+    rm -rf "$work/crates/$program/proofs"
+    # (only the files of a crate may end in .antt)
+    [ ! -d "$here/$name.proofs" ] || (cd "$here/$name.proofs" && find . -name '*.proof') | while read -r file; do
+        mkdir -p "$work/crates/$program/proofs/${file%/*}"
+        cp "$here/$name.proofs/$file" "$work/crates/$program/proofs/${file%.proof}.antt"
+    done
+    (cd "$work/crates/$program" && rt run > "$work/$name.log" 2>&1) || {
+        tail -20 "$work/$name.log"
         exit 1
     }
 }

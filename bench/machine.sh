@@ -8,16 +8,6 @@ here=$(cd "$(dirname "$0")" && pwd)
 work=${1:-$(mktemp -d)}
 kit=${KIT:-$(dirname "$(rt doc)")}
 . "$here/crates.sh"
-take_crates "$work" seq bpf_insn filter_verify filter_vm
-mkdir -p "$work/crates/filter_bench/src"
-cp "$here/exports.rattle" "$work/crates/filter_bench/src/lib.rt"
-cat > "$work/crates.txt" <<'LIST'
-seq:
-bpf_insn:
-filter_verify: seq bpf_insn
-filter_vm: seq bpf_insn filter_verify
-filter_bench staticlib: seq bpf_insn filter_verify filter_vm
-LIST
-build_library "$work" filter_bench
+build_library "$work" exports.rattle filter_bench ' staticlib: seq bpf_insn filter_verify filter_vm'
 clang -O2 -o "$work/bench" "$here/machine.c" "$work/crates/filter_bench/out/libfilter_bench.a" "$kit/c/liblibc_c.a" -l:libpcap.a
 "$work/bench" "$here"/filters/*.ddd

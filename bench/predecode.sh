@@ -8,15 +8,6 @@ here=$(cd "$(dirname "$0")" && pwd)
 work=${1:-$(mktemp -d)}
 kit=${KIT:-$(dirname "$(rt doc)")}
 . "$here/crates.sh"
-take_crates "$work" seq bpf_insn filter_verify filter_vm filter_predecode
-mkdir -p "$work/crates/predecode_bench/src"
-cp "$here/predecode.rattle" "$work/crates/predecode_bench/src/lib.rt"
-{
-    for name in seq bpf_insn filter_verify filter_vm filter_predecode; do
-        grep "^$name[ :]" "$here/../crates.txt"
-    done
-    echo 'predecode_bench staticlib: seq bpf_insn filter_verify filter_vm filter_predecode'
-} > "$work/crates.txt"
-build_library "$work" predecode_bench
+build_library "$work" predecode.rattle predecode_bench ' staticlib: seq bpf_insn filter_verify filter_vm filter_predecode'
 clang -O2 -o "$work/predecode" "$here/predecode.c" "$work/crates/predecode_bench/out/libpredecode_bench.a" "$kit/c/liblibc_c.a" -lpcap
 "$work/predecode" "$here/predecode.txt" "${2:-10000}"

@@ -7,16 +7,8 @@ set -e
 here=$(cd "$(dirname "$0")" && pwd)
 work=${1:-$(mktemp -d)}
 . "$here/crates.sh"
-take_crates "$work" ump_ring
-mkdir -p "$work/crates/ring_bench/src"
-echo 'Handles allowed: Threads, Wait.' > "$work/HANDLES"
-cp "$here/ring.rattle" "$work/crates/ring_bench/src/main.rt"
-cat > "$work/crates.txt" <<'LIST'
-ump_ring: rtrb
-ring_bench may_wait=3: ump_ring rtrb
-LIST
+build_program "$work" ring ' may_wait=3: ump_ring rtrb'
 clang -O2 -o "$work/ring_peer" "$here/ring_peer.c" -lpthread
-(cd "$work/crates/ring_bench" && rt run > "$work/build.log" 2>&1) || { tail -20 "$work/build.log"; exit 1; }
 for round in 1 2 3 4 5 6 7 8 9; do
     "$work/ring_peer" 24 8000000
     "$work/ring_peer" 32786 20000

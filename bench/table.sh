@@ -10,21 +10,7 @@ here=$(cd "$(dirname "$0")" && pwd)
 work=${1:-$(mktemp -d)}
 kit=${KIT:-$(dirname "$(rt doc)")}
 . "$here/crates.sh"
-take_crates "$work" seq bpf_insn filter_verify filter_vm filter_group endpoint_caps filter_table table_replica
-mkdir -p "$work/crates/table_bench/src"
-cp "$here/table.rattle" "$work/crates/table_bench/src/lib.rt"
-cat > "$work/crates.txt" <<'LIST'
-seq:
-bpf_insn:
-filter_verify: seq bpf_insn
-filter_vm: seq bpf_insn filter_verify
-filter_group: seq bpf_insn filter_verify filter_vm
-endpoint_caps: indexmap
-filter_table: seq bpf_insn filter_verify endpoint_caps
-table_replica: seq bpf_insn filter_verify filter_vm filter_group endpoint_caps filter_table
-table_bench staticlib: seq bpf_insn filter_verify filter_vm filter_group endpoint_caps filter_table table_replica
-LIST
-build_library "$work" table_bench
+build_library "$work" table.rattle table_bench ' staticlib: seq bpf_insn filter_verify filter_vm filter_group endpoint_caps filter_table table_replica'
 clang -O2 -o "$work/table" "$here/table.c" "$work/crates/table_bench/out/libtable_bench.a" "$kit/c/liblibc_c.a"
 clang -O2 -o "$work/groups" "$here/groups.c" "$work/crates/table_bench/out/libtable_bench.a" "$kit/c/liblibc_c.a" -lpcap
 [ $# -gt 1 ] || "$work/table"

@@ -1,12 +1,15 @@
 #!/usr/bin/env python3
 """Makes the page of what has to be believed: the definitions that the contracts of the headline cite, and what else is trusted.
 
-    docs/believe.py           writes docs/believed.md
-    docs/believe.py --check   makes the page again and compares, counts the definitions of each root, which must have no more lines
-                              than is stated here, and those of the roots that were counted by hand, and looks for definitions of
-                              the headline that share a name
+    docs/believe.py              writes docs/believed.md
+    docs/believe.py --list       counts the definitions of each part: of the headline, of the program's calls, of each command and
+                                 of each row of README's table, and says how many lines a part may have
+    docs/believe.py --list WORD  names the definitions of the parts with this word in their title, file by file
+    docs/believe.py --check      makes the page again and compares, counts the definitions of each root, which must have no more
+                                 lines than is stated here, and those of the roots that were counted by hand, and looks for
+                                 definitions of the headline that share a name
 
-A line for each check that failed; the last line is `N passed, M failed`, and the status is 1 where one failed."""
+A check prints a line for each thing that failed; its last line is `N passed, M failed`, and the status is 1 where one failed."""
 import itertools
 import pathlib
 import re
@@ -33,7 +36,7 @@ class Part:
 
 
 HEADLINE = [
-    Part("Filters", ["filter_verify::verify[sound,code,accepts]", "filter_vm::run[ends,within]"], 260),
+    Part("Filters", ["headline::filter"], 260),
     Part("The whole headline, by events with their answers and replicas alone", [
         "headline::filter",
         "headline::one_by_one",
@@ -127,58 +130,57 @@ BY_HAND = {
     "filter_vm::run[ends,within]": (30, 177),
 }
 
+# The types of which each part stands with its comment. Of the others definitions say what the parts mean, or no clause speaks of
+# them.
+WITH_PARTS = {"Event", "Answer", "Decision", "Kept", "Job", "Fault", "Turn", "Outcome", "Did", "Served"}
+
 INTRODUCTION = """\
 # What has to be believed
 
 A proof says that the code does what its contract says. That the contract says what you want, only you can say. This
 page has what you must read for that: the clauses that carry the headline of the [README](../README.md), each definition
-that they cite, directly or by other definitions, and what else is trusted. Made by `docs/believe.py` from the sources;
-`./test` makes it again, compares, and fails where a part has more lines than the number beside it.
+that they cite, directly or by other definitions, and what else is trusted. `docs/believe.py` makes it from the sources;
+`./test` makes it again, compares, and fails where a part rests on more lines than are stated.
 
-Lines count where they are neither blank nor comment nor import. A definition that more than one part cites counts in
-each, and stands once below. A type with a model is seen as the value that its model names; its fields are the prover's
-affair. What a file is about and its source stand before its definitions, or in [definitions.md](definitions.md), which
-has all of them in plain words.
+`headline::filter` is about filters, `one_by_one` about a machine that does one event after another, `threads` about
+cores that are threads, and `serve` about cores that serve in one thread. They make calls of the program, and their
+clauses cite no case of the protocol and no ring.
 
-**Three calls say the whole headline by what can be seen alone**: `headline::filter` of filters, `headline::one_by_one`
-of a machine that does one event after another, and `headline::threads` of cores that are threads. A fourth,
-`headline::serve`, says the same of cores that serve in one thread. They make calls of the program, and
-their clauses cite no case of the protocol and no ring. The clauses of the program's own calls say more: each case of
-the protocol, which message is under way, and for threads also what rings and their ends show. What these rest on is
-named after the headline, and not needed for it."""
+Each definition stands once, after those that it cites; [definitions.md](definitions.md) says in plain words what each
+is and from which source. A type with a model stands as the value that its model names. Left out are the words `pub`,
+`abbrev` and `unfoldable`, and comments on the parts of a type where definitions say what they mean, or no clause speaks
+of them. Lines count where they are neither blank nor comment nor import."""
+
+BESIDE = (
+    "The program's own calls say more: each case of the protocol, which messages are under way, what rings show. They rest on {} "
+    "lines (one event after another) and {} (cores as threads); what one command writes on {} to {}, all commands on {}. "
+    "`docs/believe.py --list` counts these and each row of README's table; `docs/believe.py --list run` names what `run` rests on."
+)
 
 NOTATION = """\
 ## The kit's words
 
-These stand in definitions beside the names of others. `A → B` is a function, or that B follows from A; `(x : A) → B`
-says so of each x, and `(x : A) × B` that there is an x; `A × B` is both. `λ x. e` is a function. `Type 0` is a
-statement, or a type; `⊥` never holds, and `Unit {0}` always. A `record` holds its fields together, and `data` is one of
-its cases. `abbrev` and `unfoldable` say how the prover treats a name, not what it means. In clauses, `x.now` is what a
-borrow shows, `x.old` and `x.new` are that before and after the call, and `result` is what is returned. The numbers of
-Rust are those of ℕ, and a slice or a vector is the list of its items."""
-
-OTHERS = """\
-The names of the definitions that each rests on, file by file. Those of the headline and of what stands before are left
-out, and so is what has no others."""
+`A → B` is a function, or that B follows from A; `(x : A) → B` says so of each x, and `(x : A) × B` that there is an x;
+`A × B` is both. `λ x. e` is a function. `Type 0` is a statement, or a type; `⊥` never holds, and `Unit {0}` always. A
+`record` holds its fields together, and `data` is one of its cases. In clauses, `x.now` is what a borrow shows, and
+`result` what is returned. The numbers of Rust are those of ℕ, and a slice or a vector is the list of its items."""
 
 TRUSTED = """\
 ## What else is trusted
 
-- **The toolchain**: Rattle's prover, which accepts a proof, its compiler and LLVM, which must compile what was proved,
-  and the linker. The README names the kit that it was proved with.
-- **The kit's libraries as built**: {libraries}. Their statements are taken as they stand, and their own proofs aren't
-  made again here. Their words above have the meaning that the kit's definitions give them.
+- **The toolchain**: Rattle's prover, its compiler, LLVM and the linker. The README names the kit.
+- **The kit's libraries as built**: {libraries}. Their own proofs aren't made again here, and their words mean what the
+  kit's definitions say.
 - **The contracts that the kit assumes** of functions that aren't written in Rattle, as the system's calls and atomic
   loads and stores: `rt check --list-axioms` lists them for a crate, and marks those that are `reached`.
-- **The kit's C that is linked into the program**: `libos_c.a`, 19 functions for arguments, files, processes and
-  threads, and `liblibc_c.a`, three that call `malloc`, `realloc` and `free`; and the C library that they call. The C
-  libraries of `dist/lib` have the latter three, and for C also the declarations and the plain C of `c/mkdemux.h` and
-  `c/mkdemux_cores.h`, the C compiler and binutils.
+- **The C in the program**: of the kit `libos_c.a`, 19 functions for arguments, files, processes and threads, and
+  `liblibc_c.a`, three that call `malloc`, `realloc` and `free`; and the C library that they call. The C libraries of
+  `dist/lib` have the latter three; for C also `c/mkdemux.h` and `c/mkdemux_cores.h`, the C compiler and binutils.
 - **`dist/` and the launcher `./mkdemux`**, until `./test` builds the program again and compares each byte: before that
-  nothing but a digest of the sources and of the kit's version says that `dist/mkdemux` is theirs.
-- **The scripts of the gate**: `./test`, and what it calls: `edits/check.py` and `edits/try.py`, the scripts of `dist/`,
-  `examples/check.sh`, `rows/check.py`, `c/check.sh`, and `docs/believe.py`, which makes this page: a definition that it
-  misses is missing here. Three of its counts are compared with counts by hand.
+  only a digest of the sources and of the kit's version says that `dist/mkdemux` is theirs.
+- **The scripts of the gate**: `./test` and what it calls in `edits/`, `dist/`, `examples/`, `rows/` and `c/`; and
+  `docs/believe.py` with `docs/cited.py`: a definition that these miss is missing here. Three of their counts are
+  compared with counts by hand.
 - **What `crates/mkdemux` does around its one call of `perform`**, and that its devices record what they did:
   [proved.md](proved.md) has what is only tested, and what is neither.
 - **The system and the processor**: that files, pipes, threads and atomic instructions do what the C library and LLVM
@@ -207,10 +209,10 @@ class Page:
         self.sources = sources
         self.crates = {line.split()[0].rstrip(":"): line.partition(":")[2].split() for line in lines_of(TOP / "crates.txt")}
         self.rows = list(self.rows_of_readme())
-        self.meanings = dict(re.split(r"\s{2,}", line, maxsplit=1) for line in lines_of(WORDS))
+        self.meanings = [re.split(r"\s{2,}", line, maxsplit=1) for line in lines_of(WORDS)]
         self.counted = {}  # the title of a part -> what it rests on
-        self.told = set()  # the definitions that stand on the page so far
-        self.headed = set()  # the files whose first comment stands on the page so far
+        self.told = set()  # the definitions and the roots that stand on the page so far
+        self.headed = set()  # the files that stand on the page so far
 
     def rows_of_readme(self):
         """What the rows of README's table rest on."""
@@ -251,16 +253,14 @@ class Page:
         """The whole page."""
         self.told, self.headed = set(), set()
         headline = [*map(self.section, HEADLINE), *self.words()]
-        pieces = [INTRODUCTION, *self.tables(), *headline, *self.lists(), self.trusted()]
-        return "\n\n".join(pieces) + "\n"
+        return "\n\n".join([INTRODUCTION, *self.counts(), *headline, self.trusted()]) + "\n"
 
-    def tables(self):
-        """How many definitions and lines each part has."""
-        yield "## How much it is"
+    def counts(self):
+        """How many definitions and lines the parts have."""
         yield "\n".join(self.table("The headline", HEADLINE))
-        yield "\n".join(self.table("The program's own calls", CALLS))
-        yield "\n".join(self.table("A command of the program", COMMANDS))
-        yield "\n".join(self.table("A row of README's table", self.rows))
+        one_by_one, threads = (f"{self.cited(part).lines:,}" for part in CALLS)
+        *commands, _, together = (self.cited(part).lines for part in COMMANDS)
+        yield wrapped(BESIDE.format(one_by_one, threads, f"{min(commands):,}", f"{max(commands):,}", f"{together:,}"))
 
     def table(self, title, parts):
         """A table of parts with what was counted."""
@@ -278,20 +278,17 @@ class Page:
     def section(self, part):
         """The clauses of a part of the headline, and the definitions that they cite and no part before does."""
         cited = self.cited(part)
-        new = [key for key in cited.keys if key not in self.told]
-        known = len(cited.keys) - len(new)
+        new = [key for key in [*part.roots, *cited.keys] if key not in self.told]
         self.told.update(new)
-        lines = sum(self.sources.size(self.sources.definitions[key]) for key in new)
-        said = f"The clauses, with what the calls require. They cite {len(cited.keys)} definitions in {cited.lines:,} lines."
-        if known:
-            said += f" {known} of these stand above; here are the other {len(new)}, in {lines:,} lines."
-        pieces = [f"## {part.title}", wrapped(said), *map(self.clauses, part.roots)]
+        roots = [root for root in part.roots if root in new]
+        new = [key for key in cited.keys if key in new]
+        pieces = [f"## {part.title}", *map(self.clauses, roots)]
         return "\n\n".join([*pieces, *(self.of_file(file, keys) for file, keys in self.in_files(cited, new))])
 
     def clauses(self, root):
         """The signature of a root and its clauses."""
         function, clauses = self.sources.contract(root)
-        code = textwrap.dedent("\n".join([function.signature, *clauses]))
+        code = textwrap.dedent("\n".join([bare_line(function.signature), *clauses]))
         said = self.said_of_names([("\n".join(clauses), function.scope)])
         return wrapped(f"`{root.partition('[')[0]}`, {linked(function.file)}. {said}") + f"\n```rust\n{code}\n```"
 
@@ -329,9 +326,9 @@ class Page:
             files[file] = [key for key in files[file] if key not in runs[file]]
 
     def of_file(self, file, keys):
-        """Definitions of one file, after what is said of the file where it comes first."""
+        """Definitions of one file."""
         definitions = [self.sources.definitions[key] for key in keys]
-        said = linked(file) + ("." if file in self.headed else ": " + self.head_of(file))
+        said = linked(file) + "."
         names = self.said_of_names(map(self.sources.meaning, definitions))
         language = "antt" if file.endswith(".antt") else "rust"
         code = "".join(map(self.shown, definitions)).strip("\n")
@@ -345,49 +342,54 @@ class Page:
         if not folder.endswith("/specs") or any(other.startswith(folder) for other in self.headed):
             return ""
         headings = re.findall(r"(?m)^## (.+)$", (TOP / "docs" / "definitions.md").read_text())
-        sections = [section_link(heading) for heading in headings if f"`{folder}" in heading]
-        return f"In plain words: {', '.join(sections)}." if sections else ""
-
-    def head_of(self, file):
-        """What the first comment of a file says: what it has, and its source."""
-        mark = "--" if file.endswith(".antt") else "//!"
-        lines = itertools.takewhile(lambda line: line.startswith(mark), (TOP / file).read_text().splitlines())
-        return " ".join(" ".join(line.removeprefix(mark) for line in lines).split())
+        anchors = [anchor_of(heading) for heading in headings if f"`{folder.split('/')[1]}`" in heading]
+        return f"[In plain words](definitions.md#{anchors[0]})." if anchors else ""
 
     def shown(self, definition):
         """A definition under its comment, or under a blank line where it has none."""
-        text = [line.rstrip() for line in self.sources.shown_text(definition) if line.strip()]
-        return "\n".join([*(definition.comment or [""]), *text, ""])
+        text = [bare_line(line.rstrip()) for line in self.sources.shown_text(definition) if line.strip()]
+        comment = definition.comment
+        if definition.file.endswith(".rt"):
+            comment = list(itertools.takewhile(lambda line: line.strip() != "///", comment))
+            if definition.name in WITH_PARTS:
+                text = joined(text)
+            elif self.sources.value_at(definition) is None:
+                if any(line.lstrip().startswith("//") for line in text):
+                    comment = textwrap.wrap(first_sentence(comment), 120, initial_indent="/// ", subsequent_indent="/// ")
+                text = in_few_lines(line for line in text if not line.lstrip().startswith("//"))
+        return "\n".join([*(comment or [""]), *text, ""])
 
     def words(self):
         """The kit's words that the headline's definitions use."""
-        used = self.words_used()
         yield NOTATION
-        yield "\n".join(wrapped(f"- `{word}`: {meaning}", "  ") for word, meaning in self.meanings.items() if word in used)
+        groups = ((", ".join(f"`{word}`" for word in words.split()), meaning) for words, meaning in self.meanings)
+        yield "\n".join(wrapped(f"- {words}: {meaning}", "  ") for words, meaning in groups)
 
     def words_used(self):
         """The names of the kit that the headline's definitions use."""
         return {name_of_word(path) for path in self.cited(WHOLE).words}
 
-    def lists(self):
-        """The names of what the program's own calls, the commands and the rows rest on beside the headline."""
-        yield "## The program's own calls, the commands and the other rows"
-        yield OTHERS
-        for part in [*CALLS, *COMMANDS, *self.rows]:
-            cited = self.cited(part)
-            new = [key for key in cited.keys if key not in self.told]
-            self.told.update(new)
-            calls = ", ".join(f"`{root}`" for root in part.roots)
-            if new:
-                yield wrapped(f"**{part.title}** ({calls}), {len(new)} more of {len(cited.keys)}. {'; '.join(self.names(new))}.")
+    def listed(self, word):
+        """The counts of all parts; or, of those with a word in their title, the names too."""
+        tables = (("The headline", HEADLINE), ("The program's own calls", CALLS), ("A command", COMMANDS),
+                  ("A row of README's table", self.rows))
+        if word is None:
+            return ["\n".join([*self.table(title, parts), ""]) for title, parts in tables]
+        return [self.with_names(part) for part in self.parts() if word in re.findall(r"[\w-]+", part.title)]
+
+    def with_names(self, part):
+        """The count of a part, and the names of its definitions."""
+        cited = self.cited(part)
+        head = f"{part.title}: {len(cited.keys):,} definitions, {cited.lines:,} lines"
+        return "\n".join([head, *self.names(cited.keys), ""])
 
     def names(self, keys):
         """The names of definitions, after each file that has some."""
         files = {}
         for key in keys:
-            files.setdefault(self.sources.definitions[key].file, []).append(f"`{key[-1]}`")
+            files.setdefault(self.sources.definitions[key].file, []).append(key[-1])
         for file, names in sorted(files.items()):
-            yield f"{linked(file)}: {', '.join(names)}"
+            yield wrapped(f"  {file}: {', '.join(names)}", "    ")
 
     def trusted(self):
         """What else is trusted."""
@@ -396,10 +398,9 @@ class Page:
         return "\n".join(refilled(TRUSTED.format(libraries=listed)))
 
 
-def section_link(heading):
-    """A link to the section of docs/definitions.md with this heading."""
-    anchor = re.sub(r"[^\w\- ]", "", heading.lower()).replace(" ", "-")
-    return f"[{heading.partition(' (`')[0]}](definitions.md#{anchor})"
+def anchor_of(heading):
+    """The anchor of a heading."""
+    return re.sub(r"[^\w\- ]", "", heading.lower()).replace(" ", "-")
 
 
 def run_of(keys, left, needs):
@@ -409,6 +410,34 @@ def run_of(keys, left, needs):
         if not needs[key] & left - set(run):
             run.append(key)
     return run
+
+
+def bare_line(line):
+    """A line without the words that say who may use a name and how the prover treats it."""
+    return re.sub(r"^(\s*)(?:(?:abbrev|unfoldable|opaque|pub(?:\([a-z]+\))?) )+", r"\1", line)
+
+
+def joined(lines):
+    """The lines of a type of Rust, where a variant with its fields is one line."""
+    return re.sub(r"(?m)^(    \w+) \{\n((?:        \w.*\n)+)    \},$", one_line, "\n".join(lines)).split("\n")
+
+
+def one_line(variant):
+    """A variant with its fields, found in several lines, as one."""
+    return f"{variant[1]} {{ {' '.join(variant[2].split()).rstrip(',')} }},"
+
+
+def in_few_lines(lines):
+    """The lines of a type of Rust in as few as there can be, where a field or a variant isn't parted."""
+    text = re.sub(r",? ([})])", lambda end: " " + end[1], " ".join(map(str.strip, lines)))
+    text = re.sub(r"(?<=[ {])\w+ \{[^{}]*\},?(?= )|\w+: [^ ]+", lambda part: part[0].replace(" ", "\xa0"), text)
+    wrapped = textwrap.wrap(text, 120, subsequent_indent="    ", break_long_words=False, break_on_hyphens=False)
+    return [line.replace("\xa0", " ") for line in wrapped]
+
+
+def first_sentence(comment):
+    """The first sentence of a comment."""
+    return " ".join(line.strip().removeprefix("///").strip() for line in comment).partition(". ")[0].rstrip(".") + "."
 
 
 def refilled(text):
@@ -456,9 +485,11 @@ def check_by_hand(page, checks):
 
 
 def check_words(page, checks):
-    """Each of the kit's words that is used has its meaning, and no other."""
-    for word in sorted(page.words_used() ^ set(page.meanings)):
+    """Each of the kit's words that is used has its meaning, and no other; and each type whose parts have comments is there."""
+    for word in sorted(page.words_used() ^ {word for words, _ in page.meanings for word in words.split()}):
         checks.count(False, f"docs/kit-words.txt: {word}: it has no meaning there, or isn't used")
+    for name in sorted(WITH_PARTS - {key[-1] for key in page.cited(WHOLE).keys}):
+        checks.count(False, f"docs/believe.py, WITH_PARTS: {name}: the headline rests on no such type")
     checks.count(True, "")
 
 
@@ -475,15 +506,19 @@ def check_page(page, checks):
 
 
 def main(words):
-    """Writes the page, or checks it."""
-    if words not in ([], ["--check"]):
-        sys.exit("usage: docs/believe.py [--check]")
+    """Writes the page, lists what parts rest on, or checks the page."""
+    if words not in ([], ["--check"]) and (words[:1] != ["--list"] or len(words) > 2):
+        sys.exit("usage: docs/believe.py [--check | --list [WORD]]")
     checks = Checks()
     try:
         page = Page(Sources(TOP))
         if not words:
             PAGE.write_text(page.text())
             return 0
+        if words[0] == "--list":
+            found = page.listed(*(words[1:] or [None]))
+            print(*found or [f"no part has the word {words[1]} in its title\n"], sep="\n", end="")
+            return 0 if found else 1
         for check in (check_parts, check_by_hand, check_words, check_names, check_page):
             check(page, checks)
     except Unknown as why:
