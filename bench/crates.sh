@@ -66,18 +66,18 @@ build_library() {
 
 # build_program FOLDER NAME LINE: proves and builds the program of NAME.rattle, with the proofs of NAME.proofs if it needs some.
 build_program() {
-    name=$2
+    source=$2
     take_needed "$1" "${2}_bench" "$3"
     cp "$here/../HANDLES" "$work/HANDLES"
-    cp "$here/$name.rattle" "$work/crates/$program/src/main.rt"
+    cp "$here/$source.rattle" "$work/crates/$program/src/main.rt"
     rm -rf "$work/crates/$program/proofs"
     # (only the files of a crate may end in .antt)
-    [ ! -d "$here/$name.proofs" ] || (cd "$here/$name.proofs" && find . -name '*.proof') | while read -r file; do
+    [ ! -d "$here/$source.proofs" ] || (cd "$here/$source.proofs" && find . -name '*.proof') | while read -r file; do
         mkdir -p "$work/crates/$program/proofs/${file%/*}"
-        cp "$here/$name.proofs/$file" "$work/crates/$program/proofs/${file%.proof}.antt"
+        cp "$here/$source.proofs/$file" "$work/crates/$program/proofs/${file%.proof}.antt"
     done
-    (cd "$work/crates/$program" && rt run > "$work/$name.log" 2>&1) || {
-        tail -20 "$work/$name.log"
+    (cd "$work/crates/$program" && rt run > "$work/$source.log" 2>&1) || {
+        tail -20 "$work/$source.log"
         exit 1
     }
 }
