@@ -3,7 +3,7 @@ use Rattle.std.proofs.Common.{◌≡◌, ◌∙◌, ℕ, zero, suc, Some, List, 
 use mathlib.Core.Path.{fun_ext}
 use Rattle.std.proofs.lemmas.Option.{slice_get_within}
 use Rattle.table_replica.proofs.Shared.{get_at}
-use Rattle.world_histories.specs.Histories.{Other}
+use Rattle.world_histories.specs.Histories.{OtherState}
 use Rattle.rx_queue.specs.declared.intake.Intake.{Intake}
 use Rattle.rx_queue.specs.Queue.{SameIntake}
 use Rattle.core_links.specs.RingSlots.{SameLinks, ring_view}
@@ -52,7 +52,7 @@ histories_same (c ∷ cs) (d ∷ ds) l =
     let rest = histories_same cs ds (record { all = (let e : suc (length ds) ≡ suc (length cs) = l.all in omega arith); each = λ i x y at at'. l.each (suc i) x y at at' }) in
     rw (first, rest) refl
 
-other_along : (p q : Part) (m n : ℕ) (end : Other) → q ≡ p → n ≡ m → StandsAtOther p m end → StandsAtOther q n end
+other_along : (p q : Part) (m n : ℕ) (end : OtherState) → q ≡ p → n ≡ m → StandsAtOther p m end → StandsAtOther q n end
 other_along p q m n end e f h = rw (e, f) h
 
 -- what holds of cores holds once they were looked at

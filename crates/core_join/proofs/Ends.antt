@@ -10,7 +10,7 @@ use Rattle.core_links.specs.Views.{LinkView}
 use Rattle.core_links.specs.RingSlots.{ring_view}
 use Rattle.world_model.proofs.Lists.{get_map}
 use Rattle.world_histories.specs.declared.history.Stamped.{Stamped}
-use Rattle.world_histories.specs.Histories.{Core0, Other, Computation}
+use Rattle.world_histories.specs.Histories.{Core0State, OtherState, Computation}
 use Rattle.world_histories.specs.Agreement.{HistoriesAgree}
 use Rattle.world_histories.proofs.Agreement as agreement
 use Rattle.world_histories.proofs.Merge.{one_run, merged_once, run_of}
@@ -34,7 +34,7 @@ use Rattle.table_replica.proofs.Shared.{get_at}
 
 -- The laws of histories
 
-computed : (budget : ℕ) (budgets : List ℕ) (core0 : List Stamped) (others : List (List Stamped)) (end : Core0) (ends : List Other) → Computation budget budgets core0 others end ends → IsRight budget budgets core0 others end ends
+computed : (budget : ℕ) (budgets : List ℕ) (core0 : List Stamped) (others : List (List Stamped)) (end : Core0State) (ends : List OtherState) → Computation budget budgets core0 others end ends → IsRight budget budgets core0 others end ends
 computed budget budgets core0 others end ends h =
     let one = one_run budget budgets core0 others end ends h in
     record {
@@ -53,43 +53,43 @@ computed budget budgets core0 others end ends h =
 
 -- core 0's part, clock, history and links are those of this end
 record Ends0 (others budget : ℕ) (x : Part) (clock : ℕ) (h : List Stamped) (view : ℕ → LinkView) : Type 0 where
-  end : Core0
+  end : Core0State
   stands : Stands0 others budget h view end
   is_at : StandsAt0 others x clock end
 
 -- and another core's
-record EndsSo (entry budget : ℕ) (x : Part) (clock : ℕ) (h : List Stamped) (view : ℕ → LinkView) (end : Other) : Type 0 where
+record EndsSo (entry budget : ℕ) (x : Part) (clock : ℕ) (h : List Stamped) (view : ℕ → LinkView) (end : OtherState) : Type 0 where
   stands : StandsOther entry budget h view end
   is_at : StandsAtOther x clock end
 
 end0_of : (others budget : ℕ) (x : Part) (number cores clock : ℕ) (h : List Stamped) (view : ℕ → LinkView) → IsStanding x number cores clock h view → number ≡ 0 → cores ≡ suc others → (replica_of x).budget ≡ budget → Ends0 others budget x clock h view
-end0_of others budget (part.First core) number cores clock h view s is_first count is_budget =
+end0_of others budget (part.Core0 core) number cores clock h view s is_first count is_budget =
     let same : cores - 1 ≡ others = omega (arith, count) in
     record {
       end = s.0;
       stands = subst (λ (n : ℕ). Stands0 n budget h view s.0) same (subst (λ (b : ℕ). Stands0 (cores - 1) b h view s.0) is_budget s.3);
-      is_at = subst (λ (n : ℕ). StandsAt0 n (part.First core) clock s.0) same s.2;
+      is_at = subst (λ (n : ℕ). StandsAt0 n (part.Core0 core) clock s.0) same s.2;
     }
-end0_of others budget (part.Other core) number cores clock h view s is_first count is_budget = absurd (let e : suc s.0 ≡ 0 = sym s.2 ∙ is_first in cc)
+end0_of others budget (part.OtherCore core) number cores clock h view s is_first count is_budget = absurd (let e : suc s.0 ≡ 0 = sym s.2 ∙ is_first in cc)
 
-end_of : (entry : ℕ) (x : Part) (number cores clock : ℕ) (h : List Stamped) (view : ℕ → LinkView) → IsStanding x number cores clock h view → number ≡ suc entry → (end : Other) × EndsSo entry (replica_of x).budget x clock h view end
-end_of entry (part.First core) number cores clock h view s is_other = absurd (let e : suc entry ≡ 0 = sym is_other ∙ s.1 in cc)
-end_of entry (part.Other core) number cores clock h view s is_other =
+end_of : (entry : ℕ) (x : Part) (number cores clock : ℕ) (h : List Stamped) (view : ℕ → LinkView) → IsStanding x number cores clock h view → number ≡ suc entry → (end : OtherState) × EndsSo entry (replica_of x).budget x clock h view end
+end_of entry (part.Core0 core) number cores clock h view s is_other = absurd (let e : suc entry ≡ 0 = sym is_other ∙ s.1 in cc)
+end_of entry (part.OtherCore core) number cores clock h view s is_other =
     let same : s.0 ≡ entry = (let e : suc s.0 ≡ suc entry = sym s.2 ∙ is_other in cc) in
     (s.1, record { stands = subst (λ (n : ℕ). StandsOther n core.replica.budget h view s.1) same s.4; is_at = s.3 })
 
 -- the table of a core is that of its own log
-shown0 : (others : ℕ) (x : Part) (clock : ℕ) (end : Core0) → StandsAt0 others x clock end → (replica_of x).shown ≡ table end.log (length end.log)
-shown0 others (part.First core) clock end s = s.shown_is
-shown0 others (part.Other core) clock end s = absurd s
+shown0 : (others : ℕ) (x : Part) (clock : ℕ) (end : Core0State) → StandsAt0 others x clock end → (replica_of x).shown ≡ table end.log (length end.log)
+shown0 others (part.Core0 core) clock end s = s.shown_is
+shown0 others (part.OtherCore core) clock end s = absurd s
 
-shown : (x : Part) (clock : ℕ) (end : Other) → StandsAtOther x clock end → (replica_of x).shown ≡ table end.log (length end.log)
-shown (part.First core) clock end s = absurd s
-shown (part.Other core) clock end s = s.shown_is
+shown : (x : Part) (clock : ℕ) (end : OtherState) → StandsAtOther x clock end → (replica_of x).shown ≡ table end.log (length end.log)
+shown (part.Core0 core) clock end s = absurd s
+shown (part.OtherCore core) clock end s = s.shown_is
 
-pub idle_at : (others : ℕ) (x : Part) (clock : ℕ) (end : Core0) → StandsAt0 others x clock end → IsIdle0 x → end.place.phase ≡ Idle
-idle_at others (part.First core) clock end s idle = ap (λ p. p.phase) s.place_is ∙ idle
-idle_at others (part.Other core) clock end s idle = absurd s
+pub idle_at : (others : ℕ) (x : Part) (clock : ℕ) (end : Core0State) → StandsAt0 others x clock end → IsIdle0 x → end.place.phase ≡ Idle
+idle_at others (part.Core0 core) clock end s idle = ap (λ p. p.phase) s.place_is ∙ idle
+idle_at others (part.OtherCore core) clock end s idle = absurd s
 
 version_at_end : (r : ReplicaState) (log : List Op) → r.shown ≡ table log (length log) → r.shown.version ≡ length log
 version_at_end r log e = ap (λ (s : TableState). s.version) e ∙ table_version log
@@ -98,14 +98,14 @@ version_at_end r log e = ap (λ (s : TableState). s.version) e ∙ table_version
 
 -- what the others end with
 pub record OthersEnd (budgets : List ℕ) (others : List RingCore) : Type 0 where
-  pub ends : List Other
+  pub ends : List OtherState
   pub all : length ends ≡ length budgets
-  pub stand : (i b : ℕ) (c : RingCore) (d : Other) → slice_get budgets i ≡ Some b → slice_get others i ≡ Some c → slice_get ends i ≡ Some d → StandsOther i b c.history (ring_view c.links) d
-  pub are_at : (i : ℕ) (c : RingCore) (d : Other) → slice_get others i ≡ Some c → slice_get ends i ≡ Some d → StandsAtOther c.part c.clock d
+  pub stand : (i b : ℕ) (c : RingCore) (d : OtherState) → slice_get budgets i ≡ Some b → slice_get others i ≡ Some c → slice_get ends i ≡ Some d → StandsOther i b c.history (ring_view c.links) d
+  pub are_at : (i : ℕ) (c : RingCore) (d : OtherState) → slice_get others i ≡ Some c → slice_get ends i ≡ Some d → StandsAtOther c.part c.clock d
 
 others_end : (budget : ℕ) (budgets : List ℕ) (start : RingCore) (others : List RingCore) → AreMachine budget budgets start others → ((k : ℕ) (c : RingCore) → slice_get others k ≡ Some c → Stands ring_view c) → OthersEnd budgets others
 others_end budget budgets start others machine stands =
-    let chosen = choose (λ (k : ℕ) (c : RingCore) (d : Other). EndsSo k (replica_of c.part).budget c.part c.clock c.history (ring_view c.links) d) others (λ k c at.
+    let chosen = choose (λ (k : ℕ) (c : RingCore) (d : OtherState). EndsSo k (replica_of c.part).budget c.part c.clock c.history (ring_view c.links) d) others (λ k c at.
     let b = get_at budgets k (omega (arith, slice_get_within others k c at, machine.all)) in
     end_of k c.part c.number c.cores c.clock c.history (ring_view c.links) (stands k c at) (machine.peers k b.0 c b.1 at).place.number_is) in
     record {
@@ -116,7 +116,7 @@ others_end budget budgets start others machine stands =
     }
 
 -- the computation that the cores made
-computation_of : (budget : ℕ) (budgets : List ℕ) (start : RingCore) (others : List RingCore) (end : Core0) → AreMachine budget budgets start others → Stands0 (length budgets) budget start.history (ring_view start.links) end
+computation_of : (budget : ℕ) (budgets : List ℕ) (start : RingCore) (others : List RingCore) (end : Core0State) → AreMachine budget budgets start others → Stands0 (length budgets) budget start.history (ring_view start.links) end
     → (o : OthersEnd budgets others) → ((k : ℕ) (c : RingCore) → slice_get others k ≡ Some c → AreBeside k (ring_view start.links) (ring_view c.links)) → Computation budget budgets start.history (histories_of others) end o.ends
 computation_of budget budgets start others end machine stands o beside =
     let long_h : length (histories_of others) ≡ length budgets = length-map others (λ (c : RingCore). c.history) ∙ machine.all in
@@ -132,11 +132,11 @@ computation_of budget budgets start others end machine stands o beside =
     ))
 
 -- another core's version and table, in a log of which its own is a front
-pub record ShowsAt (log : List Op) (c : RingCore) (d : Other) : Type 0 where
+pub record ShowsAt (log : List Op) (c : RingCore) (d : OtherState) : Type 0 where
   pub version : version_of_core c ≡ length d.log
   pub table_is : ShowsTable log c
 
-shows_at : (budget : ℕ) (budgets : List ℕ) (core0 : List Stamped) (hs : List (List Stamped)) (end : Core0) (ends : List Other) (i b : ℕ) (c : RingCore) (d : Other) → HistoriesAgree budget budgets core0 hs end ends
+shows_at : (budget : ℕ) (budgets : List ℕ) (core0 : List Stamped) (hs : List (List Stamped)) (end : Core0State) (ends : List OtherState) (i b : ℕ) (c : RingCore) (d : OtherState) → HistoriesAgree budget budgets core0 hs end ends
     → slice_get budgets i ≡ Some b → slice_get ends i ≡ Some d → StandsAtOther c.part c.clock d → ShowsAt end.log c d
 shows_at budget budgets core0 hs end ends i b c d agree at_b at_d s =
     let own = shown c.part c.clock d s in
@@ -185,7 +185,7 @@ concludes budget budgets start others machine stands stand beside stopped exact 
     newest : version_of_core start ≡ length e.end.log
     newest = version_at_end (replica_of start.part) e.end.log shown_is
 
-    end_at : (i : ℕ) (c : RingCore) → slice_get others i ≡ Some c → (d : Other) × (slice_get o.ends i ≡ Some d) × ShowsAt e.end.log c d
+    end_at : (i : ℕ) (c : RingCore) → slice_get others i ≡ Some c → (d : OtherState) × (slice_get o.ends i ≡ Some d) × ShowsAt e.end.log c d
     end_at i c at =
         let b = get_at budgets i (omega (arith, slice_get_within others i c at, machine.all)) in
         let d = get_at o.ends i (omega (arith, slice_get_within others i c at, machine.all, o.all)) in

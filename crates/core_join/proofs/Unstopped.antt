@@ -5,7 +5,7 @@ use Rattle.std.proofs.lemmas.Option.{slice_get_within}
 use Rattle.table_replica.proofs.Shared.{get_at}
 use Rattle.world_model.proofs.Lists.{get_map}
 use Rattle.world_histories.specs.declared.history.Stamped.{Stamped}
-use Rattle.world_histories.specs.Histories.{Core0, Other}
+use Rattle.world_histories.specs.Histories.{Core0State, OtherState}
 use Rattle.core_links.specs.Views.{LinkView, no_link}
 use Rattle.core_links.specs.Slots.{place_view}
 use Rattle.core_links.specs.RingSlots.{link_to, link_view, ring_view}
@@ -51,8 +51,8 @@ module _ (budget : ℕ) (budgets : List ℕ) (first : RingCore) (others : List R
   views : List (ℕ → LinkView)
   views = map (λ (c : RingCore). ring_view c.links) others
 
-  pub stand_beside : (end : Core0) (ends : List Other) → Stands0 (length budgets) budget first.history (ring_view first.links) end → length ends ≡ length budgets
-      → ((i b : ℕ) (c : RingCore) (d : Other) → slice_get budgets i ≡ Some b → slice_get others i ≡ Some c → slice_get ends i ≡ Some d → StandsOther i b c.history (ring_view c.links) d)
+  pub stand_beside : (end : Core0State) (ends : List OtherState) → Stands0 (length budgets) budget first.history (ring_view first.links) end → length ends ≡ length budgets
+      → ((i b : ℕ) (c : RingCore) (d : OtherState) → slice_get budgets i ≡ Some b → slice_get others i ≡ Some c → slice_get ends i ≡ Some d → StandsOther i b c.history (ring_view c.links) d)
       → ((k : ℕ) (c : RingCore) → slice_get others k ≡ Some c → AreBeside k (ring_view first.links) (ring_view c.links))
       → StandBeside budget budgets first.history (histories_of others) (ring_view first.links) (map (λ (c : RingCore). ring_view c.links) others) end ends
   stand_beside end ends stands all stand beside = record {
@@ -71,19 +71,19 @@ module _ (budget : ℕ) (budgets : List ℕ) (first : RingCore) (others : List R
         );
   }
 
-  module _ (end : Core0) (ends : List Other) (all_ends : length ends ≡ length budgets)
+  module _ (end : Core0State) (ends : List OtherState) (all_ends : length ends ≡ length budgets)
       (s : StandBeside budget budgets first.history (histories_of others) (ring_view first.links) (map (λ (c : RingCore). ring_view c.links) others) end ends) where
     -- another core
-    other_runs : (i b : ℕ) (c : RingCore) (d : Other) → slice_get budgets i ≡ Some b → slice_get others i ≡ Some c → slice_get ends i ≡ Some d → StandsAtOther c.part c.clock d → IsExactCore i first c → c.stopped ≡ None
+    other_runs : (i b : ℕ) (c : RingCore) (d : OtherState) → slice_get budgets i ≡ Some b → slice_get others i ≡ Some c → slice_get ends i ≡ Some d → StandsAtOther c.part c.clock d → IsExactCore i first c → c.stopped ≡ None
     other_runs i b c d at_b at_c at_d is_at exact = by_stop c.stopped refl exact.stopped
       where
         by_part : (x : Part) (peer : ℕ) (why : Cause) → c.part ≡ x → StandsAtOther x c.clock d → (replica_of x).budget ≡ b → StopsAt c.cores c.clock peer x (ring_view c.links) why → ⊥
-        by_part (part.First core) peer why e at eb st = at
-        by_part (part.Other core) zero why e at eb st =
+        by_part (part.Core0 core) peer why e at eb st = at
+        by_part (part.OtherCore core) zero why e at eb st =
             other_goes_on budget budgets first.history (histories_of others) (ring_view first.links) (map (λ (c : RingCore). ring_view c.links) others) end ends s i b c.history (ring_view c.links) d core c.cores c.clock
             exact.down.capacity exact.down.out exact.down.come why at_b (mapped (λ (c : RingCore). c.history) others i c at_c) (mapped (λ (c : RingCore). ring_view c.links) others i c at_c) at_d at eb exact.down.exact st
-        by_part (part.Other core) (suc peer) why e at eb st =
-            nothing_stops c.cores c.clock (suc peer) (part.Other core) (ring_view c.links) why (no_link_at (link_to c.links (suc peer)) ((machine.peers i b c at_b at_c).no_other peer)) st
+        by_part (part.OtherCore core) (suc peer) why e at eb st =
+            nothing_stops c.cores c.clock (suc peer) (part.OtherCore core) (ring_view c.links) why (no_link_at (link_to c.links (suc peer)) ((machine.peers i b c at_b at_c).no_other peer)) st
 
         by_stop : (o : Option Cause) → c.stopped ≡ o → HasStopped c.cores c.clock c.part (ring_view c.links) o → c.stopped ≡ None
         by_stop None e h = e
@@ -95,9 +95,9 @@ module _ (budget : ℕ) (budgets : List ℕ) (first : RingCore) (others : List R
     first_runs is_at stopped exact = by_stop first.stopped refl stopped
       where
         by_part : (x : Part) (peer : ℕ) (why : Cause) → peer < first.cores → StandsAt0 (length budgets) x first.clock end → StopsAt first.cores first.clock peer x (ring_view first.links) why → ⊥
-        by_part (part.Other core) peer why lt at st = at
-        by_part (part.First core) zero why lt at st = nothing_stops first.cores first.clock 0 (part.First core) (ring_view first.links) why (no_link_at (link_to first.links 0) machine.no_itself) st
-        by_part (part.First core) (suc i) why lt at st =
+        by_part (part.OtherCore core) peer why lt at st = at
+        by_part (part.Core0 core) zero why lt at st = nothing_stops first.cores first.clock 0 (part.Core0 core) (ring_view first.links) why (no_link_at (link_to first.links 0) machine.no_itself) st
+        by_part (part.Core0 core) (suc i) why lt at st =
             let inside : i < length budgets = omega (arith, lt, machine.place.cores_are) in
             let b = get_at budgets i inside in
             let c = get_at others i (omega (arith, inside, machine.all)) in
@@ -111,7 +111,7 @@ module _ (budget : ℕ) (budgets : List ℕ) (first : RingCore) (others : List R
         by_stop (Some why) e h = absurd (by_part first.part h.0 why h.1 is_at h.2)
 
     -- all of them
-    pub all_run : StandsAt0 (length budgets) first.part first.clock end → ((i : ℕ) (c : RingCore) (d : Other) → slice_get others i ≡ Some c → slice_get ends i ≡ Some d → StandsAtOther c.part c.clock d)
+    pub all_run : StandsAt0 (length budgets) first.part first.clock end → ((i : ℕ) (c : RingCore) (d : OtherState) → slice_get others i ≡ Some c → slice_get ends i ≡ Some d → StandsAtOther c.part c.clock d)
         → HasStopped first.cores first.clock first.part (ring_view first.links) first.stopped → ((k : ℕ) (c : RingCore) → slice_get others k ≡ Some c → IsExactCore k first c)
         → (i : ℕ) (c : RingCore) → slice_get (first ∷ others) i ≡ Some c → c.stopped ≡ None
     all_run is_at are_at stopped exact zero c at = subst (λ (x : RingCore). x.stopped ≡ None) (same_some first c at) (first_runs is_at stopped exact)

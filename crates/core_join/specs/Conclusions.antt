@@ -7,14 +7,14 @@ use Rattle.filter_table.specs.declared.decision.Decision.{Decision}
 use Rattle.monitor_2pc.specs.Coordinators.{Idle}
 use Rattle.world_events.specs.declared.event.Answer.TheVariants.{TookReply}
 use Rattle.world_histories.specs.declared.history.Stamped.{Stamped}
-use Rattle.world_histories.specs.Histories.{Core0, Other, Computation}
+use Rattle.world_histories.specs.Histories.{Core0State, OtherState, Computation}
 use Rattle.world_histories.specs.Merging.{Merged, IsRun}
 use Rattle.world_histories.specs.Agreement.{HistoriesAgree}
 use Rattle.world_histories.specs.Answers.{InRun, Replied}
 use Rattle.world_histories.specs.Decisions.{DecidesAs}
 use Rattle.core_loop.specs.declared.part.Part.{Part}
 use Rattle.core_loop.specs.declared.part.Part.TheVariants as part
-use Rattle.core_loop.specs.Keeping.{IsHome, IsOther, replica_of}
+use Rattle.core_loop.specs.Keeping.{IsCore0, IsOtherCore, replica_of}
 use Rattle.core_links.specs.Views.{LinkView}
 use Rattle.core_links.specs.RingSlots.{ring_view}
 use Rattle.core_sound.specs.Beside.{StandBeside}
@@ -33,19 +33,19 @@ abbrev pub listed_histories : List (Vec Stamped Global) → List (List Stamped)
 listed_histories histories = map (λ v. v.items) histories
 
 -- core 0, of which this is the part, stands at this end of its history: clock, place, requests and table are those
-abbrev pub StandsAt0 : ℕ → Part → ℕ → Core0 → Type 0
-StandsAt0 others (part.First core) clock end = IsHome others core clock end
-StandsAt0 others (part.Other core) clock end = ⊥
+abbrev pub StandsAt0 : ℕ → Part → ℕ → Core0State → Type 0
+StandsAt0 others (part.Core0 core) clock end = IsCore0 others core clock end
+StandsAt0 others (part.OtherCore core) clock end = ⊥
 
 -- another core stands at this end of its history
-abbrev pub StandsAtOther : Part → ℕ → Other → Type 0
-StandsAtOther (part.First core) clock end = ⊥
-StandsAtOther (part.Other core) clock end = IsOther core clock end
+abbrev pub StandsAtOther : Part → ℕ → OtherState → Type 0
+StandsAtOther (part.Core0 core) clock end = ⊥
+StandsAtOther (part.OtherCore core) clock end = IsOtherCore core clock end
 
 -- it is core 0's part, and no request is being decided
 abbrev pub IsIdle0 : Part → Type 0
-IsIdle0 (part.First core) = core.coordinator.phase ≡ Idle
-IsIdle0 (part.Other core) = ⊥
+IsIdle0 (part.Core0 core) = core.coordinator.phase ≡ Idle
+IsIdle0 (part.OtherCore core) = ⊥
 
 abbrev pub version_of_core : RingCore → ℕ
 version_of_core core = (replica_of core.part).shown.version
@@ -55,7 +55,7 @@ abbrev pub ShowsTable : List Op → RingCore → Type 0
 ShowsTable log core = (replica_of core.part).shown ≡ table log (version_of_core core)
 
 -- what holds of the histories of a computation, and of its end
-pub record IsRight (budget : ℕ) (budgets : List ℕ) (core0 : List Stamped) (others : List (List Stamped)) (end : Core0) (ends : List Other) : Type 0 where
+pub record IsRight (budget : ℕ) (budgets : List ℕ) (core0 : List Stamped) (others : List (List Stamped)) (end : Core0State) (ends : List OtherState) : Type 0 where
   pub agree : HistoriesAgree budget budgets core0 others end ends
   pub decided : (before after : List Stamped) (s : Stamped) → core0 ≡ before ++ s ∷ after → DecidesAs budget budgets others end.log before s
   pub replied : (entry : ℕ) (h before after : List Stamped) (s : Stamped) (decision : Decision) → slice_get others entry ≡ Some h → h ≡ before ++ s ∷ after →
@@ -67,7 +67,7 @@ pub record IsRight (budget : ℕ) (budgets : List ℕ) (core0 : List Stamped) (o
   pub run : IsRun budget budgets merged end ends
   pub in_run : (core : ℕ) (h before after : List Stamped) (s : Stamped) → slice_get (core0 ∷ others) core ≡ Some h → h ≡ before ++ s ∷ after → InRun budget budgets core0 others end.log merged core before s
   -- the histories tell where they end
-  pub one_end : (again : Core0) (ends_again : List Other) → Computation budget budgets core0 others again ends_again → (again ≡ end) × (ends_again ≡ ends)
+  pub one_end : (again : Core0State) (ends_again : List OtherState) → Computation budget budgets core0 others again ends_again → (again ≡ end) × (ends_again ≡ ends)
 
 -- no core has stopped
 abbrev pub AreRunning : List RingCore → Type 0
@@ -76,12 +76,12 @@ AreRunning cores = (i : ℕ) (c : RingCore) → slice_get cores i ≡ Some c →
 -- The histories of these cores are a computation under these budgets. Each core stands at its end, with the table of the log at its
 -- version; core 0's version is the log's length, and so is every core's where core 0 is idle. No core has stopped.
 pub record Concludes (budget : ℕ) (budgets : List ℕ) (first : RingCore) (others : List RingCore) : Type 0 where
-  pub end : Core0
-  pub ends : List Other
+  pub end : Core0State
+  pub ends : List OtherState
   pub computation : Computation budget budgets first.history (histories_of others) end ends
   pub right : IsRight budget budgets first.history (histories_of others) end ends
   pub ends0 : StandsAt0 (length budgets) first.part first.clock end
-  pub ends_other : (i : ℕ) (c : RingCore) (d : Other) → slice_get others i ≡ Some c → slice_get ends i ≡ Some d → StandsAtOther c.part c.clock d
+  pub ends_other : (i : ℕ) (c : RingCore) (d : OtherState) → slice_get others i ≡ Some c → slice_get ends i ≡ Some d → StandsAtOther c.part c.clock d
   pub tables : (i : ℕ) (c : RingCore) → slice_get (first ∷ others) i ≡ Some c → ShowsTable end.log c
   pub newest : version_of_core first ≡ length end.log
   pub settled : IsIdle0 first.part → (i : ℕ) (c : RingCore) → slice_get (first ∷ others) i ≡ Some c → version_of_core c ≡ length end.log

@@ -3,7 +3,7 @@ use Rattle.std.specs.Prelude.{◌≡◌, ◌<◌, ◌≤◌, ◌⊎◌, ℕ, Som
 use Rattle.std.specs.Borrow.{Bor}
 use Rattle.world_events.specs.declared.event.Done.{Done}
 use Rattle.world_histories.specs.declared.history.Stamped.{Stamped}
-use Rattle.world_histories.specs.Histories.{Core0, Other, Computation}
+use Rattle.world_histories.specs.Histories.{Core0State, OtherState, Computation}
 use Rattle.world_histories.specs.Merging.{Merged, IsRun, as_listed, listed}
 
 -- the list has the events of these histories by stamp and then by core, wherever they have such an order
@@ -11,7 +11,7 @@ abbrev pub ListsAll : List (List Stamped) → List Done → Type 0
 ListsAll histories list = (core0 : List Stamped) (others : List (List Stamped)) (merged : List Stamped) → histories ≡ core0 ∷ others → Merged core0 others merged → list ≡ as_listed merged
 
 -- the list is the one run that the histories of a computation make, and it ends where the cores end
-pub record ListsRun (budget : ℕ) (budgets : List ℕ) (core0 : List Stamped) (others : List (List Stamped)) (end : Core0) (ends : List Other) (list : List Done) : Type 0 where
+pub record ListsRun (budget : ℕ) (budgets : List ℕ) (core0 : List Stamped) (others : List (List Stamped)) (end : Core0State) (ends : List OtherState) (list : List Done) : Type 0 where
   pub merged : List Stamped
   pub is_merged : Merged core0 others merged
   pub is_listed : list ≡ as_listed merged
@@ -19,7 +19,7 @@ pub record ListsRun (budget : ℕ) (budgets : List ℕ) (core0 : List Stamped) (
 
 -- so for every computation with these histories
 abbrev pub ListsRuns : List (List Stamped) → List Done → Type 0
-ListsRuns histories list = (budget : ℕ) (budgets : List ℕ) (core0 : List Stamped) (others : List (List Stamped)) (end : Core0) (ends : List Other) → histories ≡ core0 ∷ others →
+ListsRuns histories list = (budget : ℕ) (budgets : List ℕ) (core0 : List Stamped) (others : List (List Stamped)) (end : Core0State) (ends : List OtherState) → histories ≡ core0 ∷ others →
     Computation budget budgets core0 others end ends → ListsRun budget budgets core0 others end ends list
 
 -- events in memory, as the list has them

@@ -37,27 +37,27 @@ use Rattle.core_loop.proofs.Carrying.{start_carries, submit_carries}
 use Rattle.core_loop.proofs.Handing.{hands_none, hands_nothing}
 
 -- another core's event is one of the core with its number
-pub other_acts : (number cores clock : ℕ) (v w : ℕ → LinkView) (p : Part) (x y : OtherCore) (s : Stamped) → p ≡ part.Other x → IsFitting number cores p → ((entry : ℕ) → number ≡ suc entry → ActsOther entry clock v w x y s) → Acts number cores clock v w p (part.Other y) s
+pub other_acts : (number cores clock : ℕ) (v w : ℕ → LinkView) (p : Part) (x y : OtherCore) (s : Stamped) → p ≡ part.OtherCore x → IsFitting number cores p → ((entry : ℕ) → number ≡ suc entry → ActsOther entry clock v w x y s) → Acts number cores clock v w p (part.OtherCore y) s
 other_acts number cores clock v w p x y s e f h =
     let f' = subst (λ (q : Part). IsFitting number cores q) e f in
-    subst (λ (q : Part). Acts number cores clock v w q (part.Other y) s) (sym e) (f'.0, f'.1, h f'.0 f'.1)
+    subst (λ (q : Part). Acts number cores clock v w q (part.OtherCore y) s) (sym e) (f'.0, f'.1, h f'.0 f'.1)
 
-pub other_acts_ok : (number cores clock : ℕ) (v w : ℕ → LinkView) (p : Part) (x y : OtherCore) (r : Result Stamped Refusal) → p ≡ part.Other x → IsFitting number cores p → IfOk r (λ s. (entry : ℕ) → number ≡ suc entry → ActsOther entry clock v w x y s) → IfOk r (Acts number cores clock v w p (part.Other y))
+pub other_acts_ok : (number cores clock : ℕ) (v w : ℕ → LinkView) (p : Part) (x y : OtherCore) (r : Result Stamped Refusal) → p ≡ part.OtherCore x → IsFitting number cores p → IfOk r (λ s. (entry : ℕ) → number ≡ suc entry → ActsOther entry clock v w x y s) → IfOk r (Acts number cores clock v w p (part.OtherCore y))
 other_acts_ok number cores clock v w p x y (Ok s) e f h = other_acts number cores clock v w p x y s e f h
 other_acts_ok number cores clock v w p x y (Err r) e f h = tt
 
-pub other_acts_on : (number cores clock : ℕ) (v w : ℕ → LinkView) (p : Part) (x y : OtherCore) (r : Result (Option Stamped) Refusal) → p ≡ part.Other x → IsFitting number cores p → OnEvent r (λ s. (entry : ℕ) → number ≡ suc entry → ActsOther entry clock v w x y s) → OnEvent r (Acts number cores clock v w p (part.Other y))
+pub other_acts_on : (number cores clock : ℕ) (v w : ℕ → LinkView) (p : Part) (x y : OtherCore) (r : Result (Option Stamped) Refusal) → p ≡ part.OtherCore x → IsFitting number cores p → OnEvent r (λ s. (entry : ℕ) → number ≡ suc entry → ActsOther entry clock v w x y s) → OnEvent r (Acts number cores clock v w p (part.OtherCore y))
 other_acts_on number cores clock v w p x y (Ok (Some s)) e f h = other_acts number cores clock v w p x y s e f h
 other_acts_on number cores clock v w p x y (Ok None) e f h = tt
 other_acts_on number cores clock v w p x y (Err r) e f h = tt
 
 pub spent_take : (cores clock peer : ℕ) (p : Part) (m : Stamping) (view : ℕ → LinkView) → CannotTake cores clock peer p m view refusal.Spent → 18446744073709551615 ≤ max clock m.stamp
-spent_take cores clock peer (part.First x) m view h = h
-spent_take cores clock peer (part.Other x) m view h = h
+spent_take cores clock peer (part.Core0 x) m view h = h
+spent_take cores clock peer (part.OtherCore x) m view h = h
 
 -- a core that stands at its history stands at the longer one
 pub acts_stand : (x y : Part) (number cores clock : ℕ) (h : List Stamped) (s : Stamped) (v w : ℕ → LinkView) → IsStanding x number cores clock h v → Acts number cores clock v w x y s → IsStanding y number cores s.stamp (h ++ s ∷ []) w
-acts_stand (part.First x) (part.First y) number cores clock h s v w st a =
+acts_stand (part.Core0 x) (part.Core0 y) number cores clock h s v w st a =
     let l = a.leads st.0 st.2 in (
       l.after,
       st.1,
@@ -66,9 +66,9 @@ acts_stand (part.First x) (part.First y) number cores clock h s v w st a =
           (stands0_more (cores - 1) x.replica.budget h v w st.0 l.after s a.m a.out st.3 l.step (λ e lt. (a.carries.to_others e lt).sends) (λ e lt. (a.carries.to_others e lt).takes) (a.carries.itself.sent_same, a.carries.itself.taken_same)
           (λ e le. ((a.carries.beyond e le).sent_same, (a.carries.beyond e le).taken_same))),
     )
-acts_stand (part.First x) (part.Other y) number cores clock h s v w st a = absurd a
-acts_stand (part.Other x) (part.First y) number cores clock h s v w st a = absurd a
-acts_stand (part.Other x) (part.Other y) number cores clock h s v w st a =
+acts_stand (part.Core0 x) (part.OtherCore y) number cores clock h s v w st a = absurd a
+acts_stand (part.OtherCore x) (part.Core0 y) number cores clock h s v w st a = absurd a
+acts_stand (part.OtherCore x) (part.OtherCore y) number cores clock h s v w st a =
     let same : a.0 ≡ st.0 = omega (arith, a.1, st.2) in
     let b : ActsOther st.0 clock v w x y s = subst (λ (n : ℕ). ActsOther n clock v w x y s) same a.2 in
     let l = b.leads st.1 st.3 in (
@@ -91,7 +91,7 @@ quiet_carries0 : (others : ℕ) (s : Stamped) (v : ℕ → LinkView) → taking 
 quiet_carries0 others s v none = start_carries others s nothing v v none (hands_nothing others s.stamp v v (λ p. refl))
 
 pub receives_act : (number cores clock : ℕ) (x : Part) (s : Stamped) (v : ℕ → LinkView) → IsFitting number cores x → Receives number clock (replica_of x) s → Acts number cores clock v v x x s
-receives_act number cores clock (part.First core) s v f r = record {
+receives_act number cores clock (part.Core0 core) s v f r = record {
   m = None;
   out = nothing;
   leads = λ before h. record {
@@ -106,7 +106,7 @@ receives_act number cores clock (part.First core) s v f r = record {
   carries = quiet_carries0 (cores - 1) s v (ap (λ (e : Event). taking e None) r.is_event);
   same_budget = refl;
 }
-receives_act number cores clock (part.Other core) s v f r = (
+receives_act number cores clock (part.OtherCore core) s v f r = (
   f.0,
   f.1,
   record {
@@ -167,8 +167,8 @@ either_way (Err x) f g h k = g k
 
 -- what can begin is a request
 pub can_begin_has : (cores : ℕ) (x : Part) (requests : List Op) (view : ℕ → LinkView) → CanBeginNext cores x requests view → HasRequest cores x requests
-can_begin_has cores (part.First core) requests view can = can.some
-can_begin_has cores (part.Other core) requests view can = can.some
+can_begin_has cores (part.Core0 core) requests view can = can.some
+can_begin_has cores (part.OtherCore core) requests view can = can.some
 
 -- what there is to do is there still when more jobs are seen
 pub work_stays : (cores : ℕ) (x : Part) (requests : List Op) (seen : ℕ → LinkView) (rx : Bool) (i j : Intake) (shown : Option ℕ)
@@ -180,7 +180,7 @@ work_stays cores x requests seen rx i j shown least p (inr (inr m)) = inr (inr (
 
 -- an event keeps the budget
 pub acts_budget : (number cores clock : ℕ) (v w : ℕ → LinkView) (x y : Part) (s : Stamped) → Acts number cores clock v w x y s → (replica_of y).budget ≡ (replica_of x).budget
-acts_budget number cores clock v w (part.First x) (part.First y) s a = a.same_budget
-acts_budget number cores clock v w (part.First x) (part.Other y) s a = absurd a
-acts_budget number cores clock v w (part.Other x) (part.First y) s a = absurd a
-acts_budget number cores clock v w (part.Other x) (part.Other y) s a = a.2.same_budget
+acts_budget number cores clock v w (part.Core0 x) (part.Core0 y) s a = a.same_budget
+acts_budget number cores clock v w (part.Core0 x) (part.OtherCore y) s a = absurd a
+acts_budget number cores clock v w (part.OtherCore x) (part.Core0 y) s a = absurd a
+acts_budget number cores clock v w (part.OtherCore x) (part.OtherCore y) s a = a.2.same_budget

@@ -19,7 +19,7 @@ use Rattle.world_events.specs.declared.event.Answer.{Answer}
 use Rattle.world_events.specs.declared.event.Answer.TheVariants.{TookVote}
 use Rattle.world_model.specs.Cases.{Outgoing, Took, TakesUpAt, TakesDownAt, start_told}
 use Rattle.world_histories.specs.declared.history.Stamped.{Stamped}
-use Rattle.world_histories.specs.Histories.{Stamping, Sending, Core0, core0_first, Does0, History0, Other, other_first, DoesOther, HistoryOther}
+use Rattle.world_histories.specs.Histories.{Stamping, Sending, Core0State, core0_first, Does0, History0, OtherState, other_first, DoesOther, HistoryOther}
 use Rattle.core_links.specs.Views.{LinkView}
 use Rattle.core_loop.specs.declared.part.Part.{Part}
 use Rattle.core_loop.specs.declared.part.Part.TheVariants as part
@@ -118,7 +118,7 @@ takes own s place place' requests requests' entry short m committed told answer 
 
 -- One event of core 0
 
-step0 : (own : Bool) (others budget : ℕ) (c c' : Core0) (stamp : ℕ) (event : Event) (m : Option Stamping) (answer : Answer) (out : Outgoing)
+step0 : (own : Bool) (others budget : ℕ) (c c' : Core0State) (stamp : ℕ) (event : Event) (m : Option Stamping) (answer : Answer) (out : Outgoing)
     → KnowsOwn own c.place.phase c.requests.asker → Does0 others budget c stamp event m c' answer out
     → KeepsOwn own event answer c.place.phase c.requests.asker c'.place.phase c'.requests.asker
 step0 own others budget c c' stamp (Start op) None answer out knows h =
@@ -143,11 +143,11 @@ abbrev own_after : Bool → List Stamped → Bool
 own_after own [] = own
 own_after own (s ∷ later) = own_after (is_own own s.done.event) later
 
-record KeptOwn (own : Bool) (history : List Stamped) (c c' : Core0) : Type 0 where
+record KeptOwn (own : Bool) (history : List Stamped) (c c' : Core0State) : Type 0 where
   knows : KnowsOwn (own_after own history) c'.place.phase c'.requests.asker
   counts : length (begun history) + voted_on c.place.phase c.requests.asker ≡ length (decisions_from own history) + voted_on c'.place.phase c'.requests.asker
 
-along0 : (own : Bool) (others budget : ℕ) (c c' : Core0) (history : List Stamped) (sent : List Sending) (taken : List (ℕ × Stamping))
+along0 : (own : Bool) (others budget : ℕ) (c c' : Core0State) (history : List Stamped) (sent : List Sending) (taken : List (ℕ × Stamping))
     → KnowsOwn own c.place.phase c.requests.asker → History0 others budget c history c' sent taken → KeptOwn own history c c'
 along0 own others budget c c' [] sent taken knows h = rw h.0 (record { knows = knows; counts = refl })
 along0 own others budget c c' (s ∷ later) sent taken knows h =
@@ -180,7 +180,7 @@ down own short to s budget version place place' out out' (message.Vote txn v) co
 down own short to s budget version place place' out out' (message.Ack txn) committed answer h = absurd h.answers
 down own short to s budget version place place' out out' (message.Submit op) committed answer h = absurd h.answers
 
-step_other : (own : Bool) (entry budget : ℕ) (c c' : Other) (stamp : ℕ) (event : Event) (m : Option Stamping) (answer : Answer)
+step_other : (own : Bool) (entry budget : ℕ) (c c' : OtherState) (stamp : ℕ) (event : Event) (m : Option Stamping) (answer : Answer)
     → DoesOther entry budget c stamp event m c' answer → KeepsOther own event answer c.outstanding c'.outstanding
 step_other own entry budget c c' stamp (Submit (suc core) op) None answer h = rw (h.1.next, h.1.here.is_answer, h.1.here.none_outstanding, h.1.here.now_outstanding) (record { counts = refl; tells = refl })
 step_other own entry budget c c' stamp (Take (suc to) zero short) (Some m) answer h =
@@ -188,7 +188,7 @@ step_other own entry budget c c' stamp (Take (suc to) zero short) (Some m) answe
 step_other own entry budget c c' stamp (Rx (suc core) number packet floor) None answer h = rw (h.1.next, h.1.here.is_answer) (record { counts = refl; tells = refl })
 step_other own entry budget c c' stamp event m answer h = absurd h
 
-along : (own : Bool) (entry budget : ℕ) (c c' : Other) (history : List Stamped) (taken : List Stamping)
+along : (own : Bool) (entry budget : ℕ) (c c' : OtherState) (history : List Stamped) (taken : List Stamping)
     → HistoryOther entry budget c history c' taken → length (begun history) + count_if c.outstanding ≡ length (decisions_from own history) + count_if c'.outstanding
 along own entry budget c c' [] taken h = rw h.0 refl
 along own entry budget c c' (s ∷ later) taken h =
@@ -199,13 +199,13 @@ along own entry budget c c' (s ∷ later) taken h =
 -- A core that stands
 
 pub decided : (x : Part) (number cores clock : ℕ) (history : List Stamped) (view : ℕ → LinkView) → IsStanding x number cores clock history view → AreDecided x history
-decided (part.First core) number cores clock history view st =
+decided (part.Core0 core) number cores clock history view st =
     let h = along0 false (cores - 1) core.replica.budget (core0_first (cores - 1)) st.0 history st.3.sent st.3.taken refl st.3.is_history in
     let phase : st.0.place.phase ≡ core.coordinator.phase = ap (λ (p : CoordinatorPlace). p.phase) st.2.place_is in
     let asker : st.0.requests.asker ≡ core.coordinator.requests.asker = ap (λ (r : Requests). r.asker) st.2.requests_are in
     let same : voted_on st.0.place.phase st.0.requests.asker ≡ voted_on core.coordinator.phase core.coordinator.requests.asker = rw (phase, asker) refl in
     omega (arith, h.counts, same)
-decided (part.Other core) number cores clock history view st =
+decided (part.OtherCore core) number cores clock history view st =
     let h = along false st.0 core.replica.budget other_first st.1 history st.4.taken st.4.is_history in
     omega (arith, h, ap count_if st.3.outstanding_is)
 
@@ -216,14 +216,14 @@ more_from own (x ∷ later) s = ap (λ (l : List Decision). own_decision own x.d
 
 told : (x y : Part) (number cores clock : ℕ) (history : List Stamped) (s : Stamped) (v seen w : ℕ → LinkView) → IsStanding x number cores clock history v → Acts number cores clock seen w x y s
     → own_decision (own_after false history) s.done.event s.done.answer ≡ own_decision (asks_itself y) s.done.event s.done.answer
-told (part.First core) (part.First core') number cores clock history s v seen w st a =
+told (part.Core0 core) (part.Core0 core') number cores clock history s v seen w st a =
     let l = a.leads st.0 st.2 in
     let knows = (along0 false (cores - 1) core.replica.budget (core0_first (cores - 1)) st.0 history st.3.sent st.3.taken refl st.3.is_history).knows in
     (step0 (own_after false history) (cores - 1) core.replica.budget st.0 l.after s.stamp s.done.event a.m s.done.answer a.out knows l.step.does).tells
     ∙ ap (λ (r : Requests). own_decision (by_itself r.asker) s.done.event s.done.answer) l.stands.requests_are
-told (part.First core) (part.Other core') number cores clock history s v seen w st a = absurd a
-told (part.Other core) (part.First core') number cores clock history s v seen w st a = absurd a
-told (part.Other core) (part.Other core') number cores clock history s v seen w st a =
+told (part.Core0 core) (part.OtherCore core') number cores clock history s v seen w st a = absurd a
+told (part.OtherCore core) (part.Core0 core') number cores clock history s v seen w st a = absurd a
+told (part.OtherCore core) (part.OtherCore core') number cores clock history s v seen w st a =
     let e : a.0 ≡ st.0 = omega (arith, a.1, st.2) in
     let l = a.2.leads st.1 st.3 in
     (step_other (own_after false history) a.0 core.replica.budget st.1 l.after s.stamp s.done.event a.2.m s.done.answer l.step.does).tells

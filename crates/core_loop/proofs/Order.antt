@@ -55,8 +55,8 @@ first_once v m n f g =
 
 -- a message that could not be taken since a link took none must wait
 pub not_ready_waits : (cores clock peer : ℕ) (x : Part) (m : Stamping) (seen : ℕ → LinkView) → IsFirst (seen peer) m → CannotTake cores clock peer x m seen refusal.NotReady → MustWait cores x peer seen
-not_ready_waits cores clock peer (part.First core) m seen f c = (m, f, c)
-not_ready_waits cores clock peer (part.Other core) m seen f c = (c.0, λ n g. subst IsAnswered (first_once (seen peer) m n f g) c.1)
+not_ready_waits cores clock peer (part.Core0 core) m seen f c = (m, f, c)
+not_ready_waits cores clock peer (part.OtherCore core) m seen f c = (c.0, λ n g. subst IsAnswered (first_once (seen peer) m n f g) c.1)
 
 -- What comes next
 
@@ -65,10 +65,10 @@ pub request_next : (cores last : ℕ) (x : Part) (requests : List Op) (seen : �
 request_next cores last x requests seen (Start op) n r = (n, r)
 request_next cores last x requests seen (StartFor core) n r = (n, r)
 request_next cores last x requests seen (Submit core op) n r = (n, r)
-request_next cores last (part.First core) requests seen (Take to from short) n r = absurd r
-request_next cores last (part.Other core) requests seen (Take to from short) n r = absurd r
-request_next cores last (part.First core) requests seen (Rx number job packet floor) n r = absurd r
-request_next cores last (part.Other core) requests seen (Rx number job packet floor) n r = absurd r
+request_next cores last (part.Core0 core) requests seen (Take to from short) n r = absurd r
+request_next cores last (part.OtherCore core) requests seen (Take to from short) n r = absurd r
+request_next cores last (part.Core0 core) requests seen (Rx number job packet floor) n r = absurd r
+request_next cores last (part.OtherCore core) requests seen (Rx number job packet floor) n r = absurd r
 
 -- What is seen of the links
 

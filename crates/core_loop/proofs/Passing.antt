@@ -80,12 +80,12 @@ once_each core last (from ∷ later) p (suc i) (suc j) b e f = ap suc (once_each
 
 -- the core that waits does not come before the one whose request is begun
 next_is_no_later : (cores last : ℕ) (x : Part) (requests : List Op) (seen : ℕ → LinkView) (e : Event) (core from : ℕ) → IsNext cores last x requests seen e → AsksPart cores x requests core → BeginsFor e from → ComesBefore last core from → ⊥
-next_is_no_later cores last (part.First home) requests seen (Start op) core from n a b before = n.1 core (subst (λ (k : ℕ). ComesBefore last core k) b before) a
-next_is_no_later cores last (part.First home) requests seen (StartFor c) core from n a b before = n.1 core (subst (λ (k : ℕ). ComesBefore last core k) b before) a
-next_is_no_later cores last (part.First home) requests seen (Submit c op) core from n a b before = b
-next_is_no_later cores last (part.First home) requests seen (Take to by short) core from n a b before = b
-next_is_no_later cores last (part.First home) requests seen (Rx c number packet floor) core from n a b before = b
-next_is_no_later cores last (part.Other home) requests seen e core from n a b before = a
+next_is_no_later cores last (part.Core0 home) requests seen (Start op) core from n a b before = n.1 core (subst (λ (k : ℕ). ComesBefore last core k) b before) a
+next_is_no_later cores last (part.Core0 home) requests seen (StartFor c) core from n a b before = n.1 core (subst (λ (k : ℕ). ComesBefore last core k) b before) a
+next_is_no_later cores last (part.Core0 home) requests seen (Submit c op) core from n a b before = b
+next_is_no_later cores last (part.Core0 home) requests seen (Take to by short) core from n a b before = b
+next_is_no_later cores last (part.Core0 home) requests seen (Rx c number packet floor) core from n a b before = b
+next_is_no_later cores last (part.OtherCore home) requests seen e core from n a b before = a
 
 begun_is : (last : ℕ) (e : Event) (from : ℕ) → BeginsFor e from → last_begun_with last e ≡ from
 begun_is last (Start op) from b = sym b

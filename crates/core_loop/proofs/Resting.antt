@@ -35,7 +35,7 @@ still_silent v w p q s = ((q p).0 ∙ s.0, (q p).1 ∙ s.1)
 
 -- then the core stands where it stood
 pub stands_same : (x : Part) (number cores clock : ℕ) (h : List Stamped) (v w : ℕ → LinkView) → IsStanding x number cores clock h v → SameTraffic v w → IsStanding x number cores clock h w
-stands_same (part.First core) number cores clock h v w st q = (
+stands_same (part.Core0 core) number cores clock h v w st q = (
   st.0,
   st.1,
   st.2,
@@ -49,7 +49,7 @@ stands_same (part.First core) number cores clock h v w st q = (
     beyond = λ e le. still_silent v w (suc e) q (st.3.beyond e le);
   },
 )
-stands_same (part.Other core) number cores clock h v w st q = (
+stands_same (part.OtherCore core) number cores clock h v w st q = (
   st.0,
   st.1,
   st.2,
@@ -83,8 +83,8 @@ given_traffic old new peer message (Err back) g s = λ p. by_place p (same_or_no
     by_place p (inr ne) = (ap (λ (v : LinkView). v.sent) (s.2 p ne), ap (λ (v : LinkView). v.taken) (s.2 p ne))
 
 pub fits : (x : Part) (number cores clock : ℕ) (h : List Stamped) (v : ℕ → LinkView) → IsStanding x number cores clock h v → IsFitting number cores x
-fits (part.First core) number cores clock h v st = (st.1, st.2.others_are, st.2.between)
-fits (part.Other core) number cores clock h v st = (st.0, st.2, st.3.between)
+fits (part.Core0 core) number cores clock h v st = (st.1, st.2.others_are, st.2.between)
+fits (part.OtherCore core) number cores clock h v st = (st.0, st.2, st.3.between)
 
 all_rest : {A : Type 0} (P : A → Type 0) (front rest : List A) → All P (front ++ rest) → All P rest
 all_rest P [] rest a = a

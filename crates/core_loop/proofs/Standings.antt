@@ -5,14 +5,14 @@ use Rattle.std.proofs.lemmas.List.{append-nil}
 use Rattle.core_links.specs.Views.{LinkView}
 use Rattle.world_model.specs.Cases.{Outgoing, sent_up}
 use Rattle.world_histories.specs.declared.history.Stamped.{Stamped}
-use Rattle.world_histories.specs.Histories.{Stamping, for_entry, with_stamp, sent_to, sent_by, taking, taken_from, Core0, core0_first, Step0, Other, other_first, StepOther}
+use Rattle.world_histories.specs.Histories.{Stamping, for_entry, with_stamp, sent_to, sent_by, taking, taken_from, Core0State, core0_first, Step0, OtherState, other_first, StepOther}
 use Rattle.world_histories.proofs.More.{history0_more, history_other_more, sent_to-append, sent_by-append, taken_from-append}
 use Rattle.filter_table.specs.Tables.{empty_table, table}
 use Rattle.filter_table.proofs.Tables.{table_whole}
 use Rattle.monitor_2pc.specs.Coordinators.{no_requests}
 use Rattle.monitor_2pc.specs.Participants.{at_first}
 use Rattle.world_model.specs.Worlds.{idle_at_first}
-use Rattle.core_steps.specs.declared.core0.Core0.{Core0 as First}
+use Rattle.core_steps.specs.declared.core0.Core0.{Core0}
 use Rattle.core_steps.specs.declared.other_core.OtherCore.{OtherCore}
 use Rattle.core_steps.specs.Core0Steps.{core0_place, BetweenSteps}
 use Rattle.core_steps.specs.OtherCoreSteps.{other_place, IsBetweenSteps}
@@ -38,7 +38,7 @@ KeepsSilent v w = (w.sent ≡ v.sent) × (w.taken ≡ v.taken)
 still_silent : (v w : LinkView) → KeepsSilent v w → IsSilent v → IsSilent w
 still_silent v w k s = (k.0 ∙ s.0, k.1 ∙ s.1)
 
-pub stands0_more : (others budget : ℕ) (h : List Stamped) (v w : ℕ → LinkView) (c c' : Core0) (s : Stamped) (m : Option Stamping) (out : Outgoing)
+pub stands0_more : (others budget : ℕ) (h : List Stamped) (v w : ℕ → LinkView) (c c' : Core0State) (s : Stamped) (m : Option Stamping) (out : Outgoing)
     → Stands0 others budget h v c → Step0 others budget c s.stamp s.done.event m c' s.done.answer out
     → ((entry : ℕ) → entry < others → Grows (v (suc entry)).sent (w (suc entry)).sent (with_stamp s.stamp (for_entry entry out)))
     → ((entry : ℕ) → entry < others → Grows (v (suc entry)).taken (w (suc entry)).taken (taken_from entry (taking s.done.event m)))
@@ -57,7 +57,7 @@ stands0_more others budget h v w c c' s m out st step posted took itself beyond 
   beyond = λ entry le. still_silent (v (suc entry)) (w (suc entry)) (beyond entry le) (st.beyond entry le);
 }
 
-pub stands_other_more : (entry budget : ℕ) (h : List Stamped) (v w : ℕ → LinkView) (c c' : Other) (s : Stamped) (m : Option Stamping)
+pub stands_other_more : (entry budget : ℕ) (h : List Stamped) (v w : ℕ → LinkView) (c c' : OtherState) (s : Stamped) (m : Option Stamping)
     → StandsOther entry budget h v c → StepOther entry budget c s.stamp s.done.event m c' s.done.answer
     → Grows (v 0).sent (w 0).sent (with_stamp s.stamp (option_to_list (sent_up s.done.event s.done.answer))) → Grows (v 0).taken (w 0).taken (option_to_list m)
     → ((peer : ℕ) → KeepsSilent (v (suc peer)) (w (suc peer)))
@@ -77,8 +77,8 @@ table_opening = table_whole []
 none_coded : (bs : List (List ℕ)) → bs ≡ [] → AreCoded bs []
 none_coded bs e = subst (λ (l : List (List ℕ)). AreCoded l []) (sym e) tt
 
-pub first_stands : (core : First) (cores : ℕ) (view : ℕ → LinkView) → core.replica.shown ≡ empty_table → core0_place core ≡ idle_at_first → core.coordinator.others ≡ cores - 1 → core.coordinator.requests ≡ no_requests (cores - 1) → BetweenSteps core → ((peer : ℕ) → IsSilent (view peer))
-    → IsStanding (part.First core) 0 cores 0 [] view
+pub first_stands : (core : Core0) (cores : ℕ) (view : ℕ → LinkView) → core.replica.shown ≡ empty_table → core0_place core ≡ idle_at_first → core.coordinator.others ≡ cores - 1 → core.coordinator.requests ≡ no_requests (cores - 1) → BetweenSteps core → ((peer : ℕ) → IsSilent (view peer))
+    → IsStanding (part.Core0 core) 0 cores 0 [] view
 first_stands core cores view shown place others requests between silent = (
   core0_first (cores - 1),
   refl,
@@ -95,7 +95,7 @@ first_stands core cores view shown place others requests between silent = (
 )
 
 pub other_stands : (core : OtherCore) (entry cores : ℕ) (view : ℕ → LinkView) → core.replica.shown ≡ empty_table → other_place core ≡ at_first → core.participant.outstanding ≡ false → IsBetweenSteps core → ((peer : ℕ) → IsSilent (view peer))
-    → IsStanding (part.Other core) (suc entry) cores 0 [] view
+    → IsStanding (part.OtherCore core) (suc entry) cores 0 [] view
 other_stands core entry cores view shown place outstanding between silent = (
   entry,
   other_first,

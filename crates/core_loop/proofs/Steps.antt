@@ -10,22 +10,22 @@ use Rattle.world_events.specs.declared.event.Event.TheVariants.{Start, Submit, S
 use Rattle.world_events.specs.declared.event.Answer.{Answer}
 use Rattle.world_events.specs.declared.event.Answer.TheVariants.{Prepared, Decided, Submitted, TookPrepare, TookVote, TookCommit, TookAbort, TookAck, TookSubmit, TookReply, Delivered}
 use Rattle.world_model.specs.Cases.{joined, outgoing, sent_up, StartsAt, StartsForAt, SubmitsAt, TakesUpAt, TakesDownAt}
-use Rattle.world_histories.specs.Histories.{Stamping, tick, Core0, Does0, Other, DoesOther}
-use Rattle.core_steps.specs.declared.core0.Core0.{Core0 as First}
+use Rattle.world_histories.specs.Histories.{Stamping, tick, Core0State, Does0, OtherState, DoesOther}
+use Rattle.core_steps.specs.declared.core0.Core0.{Core0}
 use Rattle.core_steps.specs.declared.core0.Told.{Told}
 use Rattle.core_steps.specs.declared.other_core.OtherCore.{OtherCore}
 use Rattle.core_steps.specs.Core0Steps.{core0_place, BetweenSteps, HasWaiting, Moves, Starts, StartsForCore, TakesUp}
 use Rattle.core_steps.specs.OtherCoreSteps.{other_place, IsBetweenSteps, TakesDown}
 use Rattle.core_steps.proofs.Tables.{table_joined, idle_phase}
-use Rattle.core_loop.specs.Keeping.{IsHome, IsOther}
+use Rattle.core_loop.specs.Keeping.{IsCore0, IsOtherCore}
 use Rattle.core_loop.specs.Events.{Leads0, LeadsOther}
 
 -- where core 0 stands once it has moved
-abbrev pub moved : ℕ → First → Core0 → Option Op → Core0
+abbrev pub moved : ℕ → Core0 → Core0State → Option Op → Core0State
 moved stamp core' before committed = record { clock = stamp; place = core0_place core'; requests = core'.coordinator.requests; log = joined before.log committed }
 
-pub moved_home : (others clock stamp : ℕ) (core core' : First) (before : Core0) (committed : Option Op) → Moves core committed core' → IsHome others core clock before → IsHome others core' stamp (moved stamp core' before committed)
-moved_home others clock stamp core core' before committed m h = record {
+pub moved_core0 : (others clock stamp : ℕ) (core core' : Core0) (before : Core0State) (committed : Option Op) → Moves core committed core' → IsCore0 others core clock before → IsCore0 others core' stamp (moved stamp core' before committed)
+moved_core0 others clock stamp core core' before committed m h = record {
   clock_is = refl;
   place_is = refl;
   requests_are = refl;
@@ -35,7 +35,7 @@ moved_home others clock stamp core core' before committed m h = record {
 }
 
 -- core 0 takes a message
-pub leads_take : (others clock stamp from : ℕ) (core core' : First) (m : Stamping) (told : Told) → stamp ≡ tick clock (Some m) → TakesUp core from m.message core' told → (before : Core0) → IsHome others core clock before
+pub leads_take : (others clock stamp from : ℕ) (core core' : Core0) (m : Stamping) (told : Told) → stamp ≡ tick clock (Some m) → TakesUp core from m.message core' told → (before : Core0State) → IsCore0 others core clock before
     → Leads0 others core.replica.budget core' before (record { stamp = stamp; done = record { event = Take 0 from false; answer = told.answer } }) (Some m) (outgoing told.step (core0_place core'))
 leads_take others clock stamp from core core' m told e t before h =
     let after = moved stamp core' before t.committed in
@@ -45,7 +45,7 @@ leads_take others clock stamp from core core' m told e t before h =
     (subst (λ (r : Requests). TakesUpAt core.replica.shown (core0_place core) r t.entry m.message (core0_place core') core'.coordinator.requests t.committed told.step told.answer) (sym h.requests_are) t.here)) in
     record {
       after = after;
-      stands = moved_home others clock stamp core core' before t.committed t.moves h;
+      stands = moved_core0 others clock stamp core core' before t.committed t.moves h;
       step = record {
         ticks = e ∙ ap (λ (n : ℕ). tick n (Some m)) (sym h.clock_is);
         does = subst (λ (n : ℕ). Does0 others core.replica.budget before stamp (Take 0 n false) (Some m) after told.answer (outgoing told.step (core0_place core'))) (sym t.is_core)
@@ -54,21 +54,21 @@ leads_take others clock stamp from core core' m told e t before h =
     }
 
 -- core 0 with this staged
-abbrev pub staging : First → Option Op → First
+abbrev pub staging : Core0 → Option Op → Core0
 staging core staged = record core { replica = record core.replica { staged = staged } }
 
-pub withdrawn : (core : First) (staged : Option Op) → core.replica.staged ≡ None → staged ≡ None → staging core staged ≡ core
+pub withdrawn : (core : Core0) (staged : Option Op) → core.replica.staged ≡ None → staged ≡ None → staging core staged ≡ core
 withdrawn core staged none e = ap (λ (s : Option Op). staging core s) (e ∙ sym none)
 
 -- where core 0 is idle, nothing is staged
-pub idle_staged : (core : First) → core.coordinator.phase ≡ Idle → BetweenSteps core → core.replica.staged ≡ None
+pub idle_staged : (core : Core0) → core.coordinator.phase ≡ Idle → BetweenSteps core → core.replica.staged ≡ None
 idle_staged core e b = idle_phase core.coordinator.phase core.replica.staged e b.staged
 
-pub moves_on : (core : First) (staged : Option Op) (core' : First) (committed : Option Op) → Moves (staging core staged) committed core' → Moves core committed core'
+pub moves_on : (core : Core0) (staged : Option Op) (core' : Core0) (committed : Option Op) → Moves (staging core staged) committed core' → Moves core committed core'
 moves_on core staged core' committed m = record { shown_next = m.shown_next; same_budget = m.same_budget; same_others = m.same_others; between = m.between }
 
 -- core 0 starts a request of its own
-pub leads_start : (others clock stamp : ℕ) (core : First) (staged : Option Op) (core' : First) (op : Op) (told : Told) → stamp ≡ max clock 0 + 1 → core.replica.staged ≡ None → Starts (staging core staged) op core' told → (before : Core0) → IsHome others core clock before
+pub leads_start : (others clock stamp : ℕ) (core : Core0) (staged : Option Op) (core' : Core0) (op : Op) (told : Told) → stamp ≡ max clock 0 + 1 → core.replica.staged ≡ None → Starts (staging core staged) op core' told → (before : Core0State) → IsCore0 others core clock before
     → Leads0 others core.replica.budget core' before (record { stamp = stamp; done = record { event = Start op; answer = told.answer } }) None (outgoing told.step (core0_place core'))
 leads_start others clock stamp core staged core' op told e none t before h =
     let place : before.place ≡ coordinator_place core.coordinator None = h.place_is ∙ ap (λ (s : Option Op). coordinator_place core.coordinator s) none in
@@ -78,7 +78,7 @@ leads_start others clock stamp core staged core' op told e none t before h =
     (subst (λ (p : CoordinatorPlace). StartsAt core.coordinator.others core.replica.shown core.replica.budget p op (core0_place core') t.committed told.step told.answer) (sym place) t.here)) in
     record {
       after = moved stamp core' before t.committed;
-      stands = moved_home others clock stamp core core' before t.committed (moves_on core staged core' t.committed t.moves) h;
+      stands = moved_core0 others clock stamp core core' before t.committed (moves_on core staged core' t.committed t.moves) h;
       step = record {
         ticks = omega (arith, e, h.clock_is);
         does = record {
@@ -86,14 +86,14 @@ leads_start others clock stamp core staged core' op told e none t before h =
           committed = t.committed;
           told = told.step;
           here = here;
-          next = ap (λ (r : Requests). let x : Core0 = record { clock = stamp; place = core0_place core'; requests = r; log = joined before.log t.committed } in x) (t.same_requests ∙ sym h.requests_are);
+          next = ap (λ (r : Requests). let x : Core0State = record { clock = stamp; place = core0_place core'; requests = r; log = joined before.log t.committed } in x) (t.same_requests ∙ sym h.requests_are);
           sends = refl;
         };
       };
     }
 
 -- core 0 starts the request that a core has waiting
-pub leads_start_for : (others clock stamp from entry : ℕ) (core : First) (staged : Option Op) (core' : First) (told : Told) → stamp ≡ max clock 0 + 1 → from ≡ suc entry → core.replica.staged ≡ None → StartsForCore (staging core staged) entry core' told → (before : Core0) → IsHome others core clock before
+pub leads_start_for : (others clock stamp from entry : ℕ) (core : Core0) (staged : Option Op) (core' : Core0) (told : Told) → stamp ≡ max clock 0 + 1 → from ≡ suc entry → core.replica.staged ≡ None → StartsForCore (staging core staged) entry core' told → (before : Core0State) → IsCore0 others core clock before
     → Leads0 others core.replica.budget core' before (record { stamp = stamp; done = record { event = StartFor from; answer = told.answer } }) None (outgoing told.step (core0_place core'))
 leads_start_for others clock stamp from entry core staged core' told e is none t before h =
     let place : before.place ≡ coordinator_place core.coordinator None = h.place_is ∙ ap (λ (s : Option Op). coordinator_place core.coordinator s) none in
@@ -105,7 +105,7 @@ leads_start_for others clock stamp from entry core staged core' told e is none t
     (subst (λ (r : Requests). StartsForAt core.coordinator.others core.replica.shown core.replica.budget (coordinator_place core.coordinator None) r entry (core0_place core') core'.coordinator.requests t.committed told.step told.answer) (sym h.requests_are) t.here))) in
     record {
       after = after;
-      stands = moved_home others clock stamp core core' before t.committed (moves_on core staged core' t.committed t.moves) h;
+      stands = moved_core0 others clock stamp core core' before t.committed (moves_on core staged core' t.committed t.moves) h;
       step = record {
         ticks = omega (arith, e, h.clock_is);
         does = subst (λ (n : ℕ). Does0 others core.replica.budget before stamp (StartFor n) None after told.answer (outgoing told.step (core0_place core'))) (sym is)
@@ -116,10 +116,10 @@ leads_start_for others clock stamp from entry core staged core' told e is none t
 -- Another core
 
 -- it takes a message of core 0
-pub leads_take_other : (entry clock stamp number : ℕ) (core core' : OtherCore) (m : Stamping) (answer : Answer) → stamp ≡ tick clock (Some m) → number ≡ suc entry → TakesDown false core m.message core' answer → (before : Other) → IsOther core clock before
+pub leads_take_other : (entry clock stamp number : ℕ) (core core' : OtherCore) (m : Stamping) (answer : Answer) → stamp ≡ tick clock (Some m) → number ≡ suc entry → TakesDown false core m.message core' answer → (before : OtherState) → IsOtherCore core clock before
     → LeadsOther entry core.replica.budget core' before (record { stamp = stamp; done = record { event = Take number 0 false; answer = answer } }) (Some m)
 leads_take_other entry clock stamp number core core' m answer e is t before h =
-    let after : Other = record { clock = stamp; place = other_place core'; outstanding = core'.participant.outstanding; log = joined before.log t.committed } in
+    let after : OtherState = record { clock = stamp; place = other_place core'; outstanding = core'.participant.outstanding; log = joined before.log t.committed } in
     let version : core.replica.shown.version ≡ length before.log = ap (λ (s : TableState). s.version) h.shown_is ∙ table_version before.log in
     let here : TakesDownAt false (table before.log (length before.log)) core.replica.budget (length before.log) before.place before.outstanding m.message (other_place core') core'.participant.outstanding t.committed answer =
     subst (λ (v : ℕ). TakesDownAt false (table before.log (length before.log)) core.replica.budget v before.place before.outstanding m.message (other_place core') core'.participant.outstanding t.committed answer) version
@@ -144,10 +144,10 @@ leads_take_other entry clock stamp number core core' m answer e is t before h =
 
 -- it submits a request
 pub leads_submit : (entry clock stamp number : ℕ) (core core' : OtherCore) (op : Op) (answer : Answer) → stamp ≡ max clock 0 + 1 → number ≡ suc entry → SubmitsAt core.participant.outstanding core'.participant.outstanding answer
-    → core' ≡ record core { participant = record core.participant { outstanding = true } } → (before : Other) → IsOther core clock before
+    → core' ≡ record core { participant = record core.participant { outstanding = true } } → (before : OtherState) → IsOtherCore core clock before
     → LeadsOther entry core.replica.budget core' before (record { stamp = stamp; done = record { event = Submit number op; answer = answer } }) None
 leads_submit entry clock stamp number core core' op answer e is t next before h =
-    let after : Other = record before { clock = stamp; outstanding = core'.participant.outstanding } in
+    let after : OtherState = record before { clock = stamp; outstanding = core'.participant.outstanding } in
     record {
       after = after;
       stands = record {
@@ -178,5 +178,5 @@ sent_by_take to from short TookSubmit = refl
 sent_by_take to from short (TookReply decision) = refl
 sent_by_take to from short (Delivered version kept) = refl
 
-pub waits_on : (core core' : First) (staged : Option Op) (from entry : ℕ) (op : Op) → core' ≡ staging core staged → HasWaiting core from entry op → HasWaiting core' from entry op
-waits_on core core' staged from entry op same w = subst (λ (s : First). HasWaiting s from entry op) (sym same) (record { is_core = w.is_core; is_waiting = w.is_waiting })
+pub waits_on : (core core' : Core0) (staged : Option Op) (from entry : ℕ) (op : Op) → core' ≡ staging core staged → HasWaiting core from entry op → HasWaiting core' from entry op
+waits_on core core' staged from entry op same w = subst (λ (s : Core0). HasWaiting s from entry op) (sym same) (record { is_core = w.is_core; is_waiting = w.is_waiting })

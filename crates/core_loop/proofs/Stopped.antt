@@ -26,8 +26,8 @@ still_first v w m s f = record { bytes = f.bytes; there = s.0 f.bytes f.there; c
 stops_still : (cores clock peer : ℕ) (x : Part) (v w : ℕ → LinkView) (c : Cause) → ShowsStill (v peer) (w peer) → StopsAt cores clock peer x v c → StopsAt cores clock peer x w c
 stops_still cores clock peer x v w (cause.Line fault) s h = s.1 ∙ h
 stops_still cores clock peer x v w cause.BadMessage s h = (h.0, s.0 h.0 h.1, h.2)
-stops_still cores clock peer (part.First core) v w cause.Stranger s h = (h.0, still_first (v peer) (w peer) h.0 s h.1, h.2)
-stops_still cores clock peer (part.Other core) v w cause.Stranger s h = (h.0, still_first (v peer) (w peer) h.0 s h.1, h.2)
+stops_still cores clock peer (part.Core0 core) v w cause.Stranger s h = (h.0, still_first (v peer) (w peer) h.0 s h.1, h.2)
+stops_still cores clock peer (part.OtherCore core) v w cause.Stranger s h = (h.0, still_first (v peer) (w peer) h.0 s h.1, h.2)
 
 pub stopped_still : (cores clock : ℕ) (x : Part) (v w : ℕ → LinkView) (o : Option Cause) → ((p : ℕ) → ShowsStill (v p) (w p)) → HasStopped cores clock x v o → HasStopped cores clock x w o
 stopped_still cores clock x v w None s h = tt

@@ -45,8 +45,8 @@ voted_on phase asker = 0
 
 -- the requests of its own that a core has begun and that have no decision: one or none
 abbrev pub under_way : Part → ℕ
-under_way (part.First core) = voted_on core.coordinator.phase core.coordinator.requests.asker
-under_way (part.Other core) = count_if core.participant.outstanding
+under_way (part.Core0 core) = voted_on core.coordinator.phase core.coordinator.requests.asker
+under_way (part.OtherCore core) = count_if core.participant.outstanding
 
 -- Each request that a core has begun has its decision, but for one that may be under way. So the n-th decision is that on the n-th request.
 abbrev pub AreDecided : Part → List Stamped → Type 0

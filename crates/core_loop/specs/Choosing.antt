@@ -30,13 +30,13 @@ pub record IsLeastShowing (cores : ℕ) (seen : ℕ → LinkView) (peer : ℕ) :
 
 -- the first message of a peer must wait, since a link that its answer needs takes none
 abbrev pub MustWait : ℕ → Part → ℕ → (ℕ → LinkView) → Type 0
-MustWait cores (part.First core) peer seen = (m : Stamping) × IsFirst (seen peer) m × CannotTake0 (cores - 1) 0 peer core m seen refusal.NotReady
-MustWait cores (part.Other core) peer seen = ((seen 0).ready ≡ false) × ((m : Stamping) → IsFirst (seen peer) m → IsAnswered m.message)
+MustWait cores (part.Core0 core) peer seen = (m : Stamping) × IsFirst (seen peer) m × CannotTake0 (cores - 1) 0 peer core m seen refusal.NotReady
+MustWait cores (part.OtherCore core) peer seen = ((seen 0).ready ≡ false) × ((m : Stamping) → IsFirst (seen peer) m → IsAnswered m.message)
 
 -- these bytes can only be those of such a message, and the core isn't core 0
 abbrev pub IsKnownAnswered : Part → List ℕ → Type 0
-IsKnownAnswered (part.First core) bytes = ⊥
-IsKnownAnswered (part.Other core) bytes = (stamp : ℕ) (m : Message) → Coded bytes stamp m → IsAnswered m
+IsKnownAnswered (part.Core0 core) bytes = ⊥
+IsKnownAnswered (part.OtherCore core) bytes = (stamp : ℕ) (m : Message) → Coded bytes stamp m → IsAnswered m
 
 -- no message can be taken now: no peer shows one, or that of the least peer that does must wait
 abbrev pub NoMessageNow : ℕ → Part → (ℕ → LinkView) → Type 0
@@ -49,8 +49,8 @@ IsSubmission event = ⊥
 
 -- core 0 begins the request of the core that is next after the one whose request it began last
 abbrev pub IsNextRequest : ℕ → ℕ → Part → List Op → Event → Type 0
-IsNextRequest cores last (part.First core) requests event = BeginsInTurn (cores - 1) last core requests event
-IsNextRequest cores last (part.Other core) requests event = IsSubmission event
+IsNextRequest cores last (part.Core0 core) requests event = BeginsInTurn (cores - 1) last core requests event
+IsNextRequest cores last (part.OtherCore core) requests event = IsSubmission event
 
 -- the event is the first that can be done
 abbrev pub IsNext : ℕ → ℕ → Part → List Op → (ℕ → LinkView) → Event → Type 0

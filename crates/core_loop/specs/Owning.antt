@@ -11,8 +11,8 @@ by_itself None = true
 by_itself (Some core) = false
 
 abbrev pub asks_itself : Part → Bool
-asks_itself (part.First core) = by_itself core.coordinator.requests.asker
-asks_itself (part.Other core) = false
+asks_itself (part.Core0 core) = by_itself core.coordinator.requests.asker
+asks_itself (part.OtherCore core) = false
 
 -- core 0 knows whose request it began last, while that is under way
 abbrev pub KnowsOwn : Bool → Phase → Option ℕ → Type 0

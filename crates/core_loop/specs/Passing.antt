@@ -12,8 +12,8 @@ use Rattle.core_loop.specs.Cores.{CoreState, DidOne}
 
 -- this is core 0's part, and a request of that core waits there
 abbrev pub AsksPart : ℕ → Part → List Op → ℕ → Type 0
-AsksPart cores (part.First core) requests from = Asks (cores - 1) core requests from
-AsksPart cores (part.Other core) requests from = ⊥
+AsksPart cores (part.Core0 core) requests from = Asks (cores - 1) core requests from
+AsksPart cores (part.OtherCore core) requests from = ⊥
 
 -- by this event core 0 begins a request of that core
 abbrev pub BeginsFor : Event → ℕ → Type 0

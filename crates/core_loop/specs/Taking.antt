@@ -19,9 +19,9 @@ use Rattle.core_loop.specs.Events.{CannotTake0, CannotTakeOther}
 
 -- why a core doesn't take this message of a peer now
 abbrev pub CannotTake : ℕ → ℕ → ℕ → Part → Stamping → (ℕ → LinkView) → Refusal → Type 0
-CannotTake cores clock peer (part.First core) m view r = CannotTake0 (cores - 1) clock peer core m view r
-CannotTake cores clock peer (part.Other core) m view refusal.Stranger = peer ≡ 0 → AwaitsHere core m.message → ⊥
-CannotTake cores clock peer (part.Other core) m view r = CannotTakeOther clock core m view r
+CannotTake cores clock peer (part.Core0 core) m view r = CannotTake0 (cores - 1) clock peer core m view r
+CannotTake cores clock peer (part.OtherCore core) m view refusal.Stranger = peer ≡ 0 → AwaitsHere core m.message → ⊥
+CannotTake cores clock peer (part.OtherCore core) m view r = CannotTakeOther clock core m view r
 
 -- why a core stops at a peer: its link has stopped so, or its first message is none that is coded, or one that fits no phase
 abbrev pub StopsAt : ℕ → ℕ → ℕ → Part → (ℕ → LinkView) → Cause → Type 0

@@ -39,8 +39,8 @@ MayReceive x rx intake = (rx ≡ true) × (job : Job) × IsReceivable (replica_o
 
 -- the core has a request of its own, or core 0 has one waiting
 abbrev pub HasRequest : ℕ → Part → List Op → Type 0
-HasRequest cores (part.First core) requests = (requests ≢ []) ⊎ SomeWaits (cores - 1) core
-HasRequest cores (part.Other core) requests = requests ≢ []
+HasRequest cores (part.Core0 core) requests = (requests ≢ []) ⊎ SomeWaits (cores - 1) core
+HasRequest cores (part.OtherCore core) requests = requests ≢ []
 
 -- there is a message, a request, or a job that can be received
 abbrev pub HasWork : ℕ → Part → List Op → (ℕ → LinkView) → Bool → Intake → Type 0

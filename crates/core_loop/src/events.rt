@@ -19,7 +19,7 @@ use crate::context::Context;
 use crate::part::Part;
 use crate::receiving::receive;
 use crate::refusal::{Halt, Refusal};
-use crate::{first, other};
+use crate::{core0, other_core};
 use core_links::Links;
 use filter_table::Op;
 use monitor_messages::{DecodeFault, Message, decode};
@@ -57,7 +57,7 @@ pub(crate) fn begin<L: Links>(
         begun_last,
     } = context;
     match part {
-        Part::First(core) => first::begin(
+        Part::Core0(core) => core0::begin(
             core,
             links,
             alloc,
@@ -66,7 +66,7 @@ pub(crate) fn begin<L: Links>(
             begun_last,
             requests,
         ),
-        Part::Other(core) => other::begin(core, links, alloc, number, clock, requests),
+        Part::OtherCore(core) => other_core::begin(core, links, alloc, number, clock, requests),
     }
 }
 
@@ -97,13 +97,13 @@ pub(crate) fn take<L: Links>(
         begun_last: _,
     } = context;
     match part {
-        Part::First(core) => first::take(core, links, alloc, cores - 1, clock, peer, sent, message),
-        Part::Other(core) => {
+        Part::Core0(core) => core0::take(core, links, alloc, cores - 1, clock, peer, sent, message),
+        Part::OtherCore(core) => {
             if peer != 0 {
                 drop(message);
                 return Err(Refusal::Stranger);
             }
-            let taken = other::take(core, links, alloc, number, clock, sent, &message);
+            let taken = other_core::take(core, links, alloc, number, clock, sent, &message);
             drop(message);
             taken
         }
@@ -154,8 +154,8 @@ pub(crate) fn is_answered(part: &Part, bytes: &[u8]) -> bool
     ensures { IsTrue result → IsKnownAnswered part.now bytes.now }
 {
     match part {
-        Part::First(_) => false,
-        Part::Other(_) => matches!(bytes.first(), Some(1 | 3 | 4)),
+        Part::Core0(_) => false,
+        Part::OtherCore(_) => matches!(bytes.first(), Some(1 | 3 | 4)),
     }
 }
 

@@ -11,7 +11,7 @@ ghost use Rattle.core_loop.specs.Turning.{HasRequest};
 ghost use Rattle.core_loop.specs.Choosing.{ShowsNothing, IsLeastShowing};
 ghost use Rattle.core_loop.specs.Waking.{bits_below};
 
-use crate::first::waiting_after;
+use crate::core0::waiting_after;
 use crate::part::Part;
 use core_links::{LineFault, Links};
 use filter_table::Op;
@@ -68,8 +68,8 @@ pub(crate) fn has_request(part: &Part, cores: u16, requests: &VecDeque<Op>) -> b
         return true;
     }
     match part {
-        Part::First(core) => waiting_after(core, 0, cores - 1).is_some(),
-        Part::Other(_) => false,
+        Part::Core0(core) => waiting_after(core, 0, cores - 1).is_some(),
+        Part::OtherCore(_) => false,
     }
 }
 

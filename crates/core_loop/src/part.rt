@@ -7,8 +7,8 @@ use table_replica::Replica;
 /// Core 0 coordinates; every other core takes part. Each has its replica of the table.
 #[derive(Drop)]
 pub(crate) enum Part {
-    First(Core0),
-    Other(OtherCore),
+    Core0(Core0),
+    OtherCore(OtherCore),
 }
 
 impl Part {
@@ -32,9 +32,9 @@ impl Part {
         ensures budget { IfOk result (λ part. (replica_of part).budget ≡ budget) }
     {
         if number == 0 {
-            Ok(Part::First(Core0::new(alloc, budget, cores)?))
+            Ok(Part::Core0(Core0::new(alloc, budget, cores)?))
         } else {
-            Ok(Part::Other(OtherCore::new(alloc, budget)?))
+            Ok(Part::OtherCore(OtherCore::new(alloc, budget)?))
         }
     }
 
@@ -43,8 +43,8 @@ impl Part {
         ensures { result ≡ asks_itself self.now }
     {
         match self {
-            Part::First(core) => core.coordinator.asker().is_none(),
-            Part::Other(_) => false,
+            Part::Core0(core) => core.coordinator.asker().is_none(),
+            Part::OtherCore(_) => false,
         }
     }
 
@@ -53,8 +53,8 @@ impl Part {
         ensures { count_if result ≡ under_way self.now }
     {
         match self {
-            Part::First(core) => core.coordinator.voting() && core.coordinator.asker().is_none(),
-            Part::Other(core) => core.participant.outstanding(),
+            Part::Core0(core) => core.coordinator.voting() && core.coordinator.asker().is_none(),
+            Part::OtherCore(core) => core.participant.outstanding(),
         }
     }
 
@@ -63,8 +63,8 @@ impl Part {
         ensures { result.now ≡ replica_of self.now }
     {
         match self {
-            Part::First(core) => &core.replica,
-            Part::Other(core) => &core.replica,
+            Part::Core0(core) => &core.replica,
+            Part::OtherCore(core) => &core.replica,
         }
     }
 }

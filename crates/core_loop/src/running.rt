@@ -275,8 +275,8 @@ impl<L: Links> Core<L> {
         ensures { IsTrue result ↔ HasNothingUnderWay self.now.cores self.now.part (L.view self.now.links) }
     {
         match &self.part {
-            Part::First(core) => core.coordinator.idle() && all_ready(&self.links, self.cores - 1),
-            Part::Other(core) => !core.participant.outstanding(),
+            Part::Core0(core) => core.coordinator.idle() && all_ready(&self.links, self.cores - 1),
+            Part::OtherCore(core) => !core.participant.outstanding(),
         }
     }
 

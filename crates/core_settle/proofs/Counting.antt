@@ -4,7 +4,7 @@ use Rattle.filter_table.specs.declared.operation.Op.{Op}
 use Rattle.world_events.specs.declared.event.Event.{Event}
 use Rattle.world_events.specs.declared.event.Event.TheVariants.{Start, Submit}
 use Rattle.world_histories.specs.declared.history.Stamped.{Stamped}
-use Rattle.world_histories.specs.Histories.{unstamped, Core0, Other, Computation}
+use Rattle.world_histories.specs.Histories.{unstamped, Core0State, OtherState, Computation}
 use Rattle.world_liveness.specs.Remaining.{is_request, steps, requests, total, per_request}
 use Rattle.world_liveness.proofs.Histories.{computation_bounded}
 use Rattle.core_loop.specs.Cores.{begins, begun}
@@ -28,7 +28,7 @@ asked_counted [] = omega arith
 asked_counted (c ∷ cs) = let rest = asked_counted cs in omega (arith, rest, begun_counted c.history, length-append (begun c.history) c.pending)
 
 -- the events of a computation are at most those that all requests take
-pub steps_within : (budget : ℕ) (budgets : List ℕ) (first : RingCore) (others : List RingCore) (end : Core0) (ends : List Other) → length others ≡ length budgets → Computation budget budgets first.history (histories_of others) end ends
+pub steps_within : (budget : ℕ) (budgets : List ℕ) (first : RingCore) (others : List RingCore) (end : Core0State) (ends : List OtherState) → length others ≡ length budgets → Computation budget budgets first.history (histories_of others) end ends
     → total steps (histories_of (first ∷ others)) ≤ events_in_all (first ∷ others)
 steps_within budget budgets first others end ends long c = most (per_request (length budgets)) (per_request (length others)) (ap per_request (sym long)) (asked_counted (first ∷ others)) (computation_bounded budget budgets first.history (histories_of others) end ends c)
   where

@@ -37,8 +37,8 @@ one_table budget budgets [] con rest = absurd con
 one_table budget budgets (first ∷ others) con rest = record { log = con.end.log; version = λ i c at. con.settled idle i c at; table_is = λ i c at. con.tables i c at }
   where
     by_part : (x : Part) → HasNothingUnderWay first.cores x (ring_view first.links) → StandsAt0 (length budgets) x first.clock con.end → IsIdle0 x
-    by_part (part.First core) under stands = under.0
-    by_part (part.Other core) under stands = absurd stands
+    by_part (part.Core0 core) under stands = under.0
+    by_part (part.OtherCore core) under stands = absurd stands
 
     here : CoreRests first
     here = rest 0 first (omega arith)

@@ -6,14 +6,14 @@ use Rattle.world_model.proofs.Lists.{get_map}
 use Rattle.filter_table.specs.declared.operation.Op.{Op}
 use Rattle.monitor_2pc.specs.Coordinators.{CoordinatorPlace, Idle}
 use Rattle.world_model.specs.Cases.{outgoing}
-use Rattle.world_histories.specs.Histories.{unstamped, Other, sent_to, sent_by}
+use Rattle.world_histories.specs.Histories.{unstamped, OtherState, sent_to, sent_by}
 use Rattle.world_liveness.specs.Remaining.{steps, total}
 use Rattle.core_links.specs.Views.{LinkView}
 use Rattle.core_links.specs.Slots.{place_view}
 use Rattle.core_links.specs.declared.ring_links.Link.{Link}
 use Rattle.core_links.specs.RingSlots.{own_of, link_view, ring_view}
 use Rattle.core_links.specs.Flows.{Flow, IsStill, FlowsOn, IsExact, IsResting, ring_flow, ring_capacity}
-use Rattle.core_steps.specs.declared.core0.Core0.{Core0 as First}
+use Rattle.core_steps.specs.declared.core0.Core0.{Core0}
 use Rattle.core_steps.specs.declared.core0.Told.{Told}
 use Rattle.core_steps.specs.declared.other_core.OtherCore.{OtherCore}
 use Rattle.core_steps.specs.Core0Steps.{core0_place, TakesUp}
@@ -22,7 +22,7 @@ use Rattle.core_loop.specs.declared.part.Part.TheVariants as part
 use Rattle.core_loop.specs.Carrying.{CanCarry}
 use Rattle.core_loop.specs.Choosing.{ShowsNothing, IsLeastShowing, NoMessageNow}
 use Rattle.core_loop.specs.Beginning.{CanBegin0, CanBeginNext, HasNothingUnderWay}
-use Rattle.core_loop.specs.Keeping.{IsHome, IsOther, replica_of}
+use Rattle.core_loop.specs.Keeping.{IsCore0, IsOtherCore, replica_of}
 use Rattle.core_loop.specs.Resting.{AreResting}
 use Rattle.core_sound.specs.Beside.{Waits0, Idles0, IdlesOther, IsFront, AreKnown, IsStillRing, IsStillCore, NothingIsLeft}
 use Rattle.core_sound.proofs.Still.{still_rests}
@@ -144,7 +144,7 @@ front_of capacity from to out come out' come' x e f = record { front = x.front; 
 moved : (P : ℕ → Part → (ℕ → LinkView) → Type 0) (n n' : ℕ) (x x' : Part) (v v' : ℕ → LinkView) → n ≡ n' → x ≡ x' → v ≡ v' → P n x v → P n' x' v'
 moved P n n' x x' v v' e f g h = subst (λ (a : ℕ). P a x' v') e (subst (λ (b : Part). P n b v') f (subst (λ (c : ℕ → LinkView). P n x c) g h))
 
-idles0 : (n : ℕ) (core : First) (pending : List Op) (view : ℕ → LinkView) (flow : ℕ → Flow) → (view 0).kept ≡ [] → NoMessageNow (suc n) (part.First core) view → (CanBeginNext (suc n) (part.First core) pending view → ⊥)
+idles0 : (n : ℕ) (core : Core0) (pending : List Op) (view : ℕ → LinkView) (flow : ℕ → Flow) → (view 0).kept ≡ [] → NoMessageNow (suc n) (part.Core0 core) view → (CanBeginNext (suc n) (part.Core0 core) pending view → ⊥)
     → ((p : ℕ) → (view p).ready ≡ false → (flow p).room ≡ 0) → (((p : ℕ) → p < suc n → ShowsNothing (view p)) → (p : ℕ) → p < suc n → (flow p).known ≡ 0) → Idles0 n core pending view flow
 idles0 n core pending view flow itself message request full dry = record {
   itself = itself;
@@ -157,11 +157,11 @@ idles0 n core pending view flow itself message request full dry = record {
     less : suc n - 1 ≡ n
     less = omega arith
 
-    by_message : NoMessageNow (suc n) (part.First core) view → ((p : ℕ) → p < suc n → ShowsNothing (view p)) ⊎ ((peer : ℕ) × IsLeastShowing (suc n) view peer × Waits0 n core peer view)
+    by_message : NoMessageNow (suc n) (part.Core0 core) view → ((p : ℕ) → p < suc n → ShowsNothing (view p)) ⊎ ((peer : ℕ) × IsLeastShowing (suc n) view peer × Waits0 n core peer view)
     by_message (inl all) = inl all
-    by_message (inr w) = inr (w.0, w.1, (w.2.0, w.2.1, subst (λ (k : ℕ). (core' : First) (told : Told) → TakesUp core w.0 w.2.0.message core' told → CanCarry k (outgoing told.step (core0_place core')) view → ⊥) less w.2.2.1))
+    by_message (inr w) = inr (w.0, w.1, (w.2.0, w.2.1, subst (λ (k : ℕ). (core' : Core0) (told : Told) → TakesUp core w.0 w.2.0.message core' told → CanCarry k (outgoing told.step (core0_place core')) view → ⊥) less w.2.2.1))
 
-idles_other : (n : ℕ) (core : OtherCore) (pending : List Op) (view : ℕ → LinkView) (flow : ℕ → Flow) → NoMessageNow (suc n) (part.Other core) view → (CanBeginNext (suc n) (part.Other core) pending view → ⊥)
+idles_other : (n : ℕ) (core : OtherCore) (pending : List Op) (view : ℕ → LinkView) (flow : ℕ → Flow) → NoMessageNow (suc n) (part.OtherCore core) view → (CanBeginNext (suc n) (part.OtherCore core) pending view → ⊥)
     → ((p : ℕ) → (view p).ready ≡ false → (flow p).room ≡ 0) → (((p : ℕ) → p < suc n → ShowsNothing (view p)) → (p : ℕ) → p < suc n → (flow p).known ≡ 0) → IdlesOther n core pending view (flow 0)
 idles_other n core pending view flow message request full dry = record {
   no_message = by_message message;
@@ -170,13 +170,13 @@ idles_other n core pending view flow message request full dry = record {
   dry = λ all. dry all 0 (omega arith);
 }
   where
-    by_message : NoMessageNow (suc n) (part.Other core) view → ((p : ℕ) → p < suc n → ShowsNothing (view p)) ⊎ ((view 0).ready ≡ false)
+    by_message : NoMessageNow (suc n) (part.OtherCore core) view → ((p : ℕ) → p < suc n → ShowsNothing (view p)) ⊎ ((view 0).ready ≡ false)
     by_message (inl all) = inl all
     by_message (inr w) = inr w.2.0
 
 abbrev other_of : OtherCore → Part → OtherCore
-other_of d (part.First core) = d
-other_of d (part.Other core) = core
+other_of d (part.Core0 core) = d
+other_of d (part.OtherCore core) = core
 
 -- The cores did nothing but move lines, if they did that
 pub record DidNothing (f m l : RingCore) (os ms ls : List RingCore) : Type 0 where
@@ -363,11 +363,11 @@ module _ (budget : ℕ) (budgets : List ℕ) (f m l : RingCore) (os ms ls : List
   abbrev flow_after : ℕ → Flow
   flow_after k = ring_flow (get_or ms k m).links 0
 
-  idles_at : (k : ℕ) (d : RingCore) (core : OtherCore) → slice_get ls k ≡ Some d → d.part ≡ part.Other core → (x : Mate k d) → IdlesOther (length budgets) core d.pending (ring_view d.links) (ring_flow x.cm.links 0)
+  idles_at : (k : ℕ) (d : RingCore) (core : OtherCore) → slice_get ls k ≡ Some d → d.part ≡ part.OtherCore core → (x : Mate k d) → IdlesOther (length budgets) core d.pending (ring_view d.links) (ring_flow x.cm.links 0)
   idles_at k d core at is x =
       let v : ring_view x.cm.links ≡ ring_view d.links = sym (views_same x.cm d x.looked_k) in
       let c : x.cm.cores ≡ suc (length budgets) = sym (ap (λ (y : RingCore). y.cores) x.looked_k.core) ∙ (others_cores k d at).1.place.cores_are in
-      let y : x.cm.part ≡ part.Other core = sym (ap (λ (y : RingCore). y.part) x.looked_k.core) ∙ is in
+      let y : x.cm.part ≡ part.OtherCore core = sym (ap (λ (y : RingCore). y.part) x.looked_k.core) ∙ is in
       let q : d.pending ≡ x.cm.pending = ap (λ (y : RingCore). y.pending) x.looked_k.core in
       let s = x.stayed_k in
       idles_other (length budgets) core d.pending (ring_view d.links) (ring_flow x.cm.links) (moved NoMessageNow _ _ _ _ _ _ c y v s.no_message)
@@ -375,7 +375,7 @@ module _ (budget : ℕ) (budgets : List ℕ) (f m l : RingCore) (os ms ls : List
       (subst (λ (w : ℕ → LinkView). (p : ℕ) → (w p).ready ≡ false → (ring_flow x.cm.links p).room ≡ 0) v s.full)
       (moved (λ (a : ℕ) (b : Part) (w : ℕ → LinkView). ((p : ℕ) → p < a → ShowsNothing (w p)) → (p : ℕ) → p < a → (ring_flow x.cm.links p).known ≡ 0) _ _ _ _ _ _ c y v s.dry)
 
-  still_core : (k : ℕ) (d : RingCore) (core : OtherCore) (e : Other) → slice_get ls k ≡ Some d → d.part ≡ part.Other core → IsOther core d.clock e → (x : Mate k d)
+  still_core : (k : ℕ) (d : RingCore) (core : OtherCore) (e : OtherState) → slice_get ls k ≡ Some d → d.part ≡ part.OtherCore core → IsOtherCore core d.clock e → (x : Mate k d)
       → IsStillCore (length budgets) k core d.pending e (ring_view l.links) (ring_view d.links) (ring_flow f.links) (ring_flow m.links) (ring_flow x.c.links 0) (ring_flow x.cm.links 0)
   still_core k d core e at is stands x = record {
     clock = d.clock;
@@ -386,7 +386,7 @@ module _ (budget : ℕ) (budgets : List ℕ) (f m l : RingCore) (os ms ls : List
   }
 
   -- it by entry
-  by_entry : (k : ℕ) (v : ℕ → LinkView) (e : Other) (d : RingCore) (core : OtherCore) → slice_get ls k ≡ Some d → v ≡ ring_view d.links → d.part ≡ part.Other core → IsOther core d.clock e
+  by_entry : (k : ℕ) (v : ℕ → LinkView) (e : OtherState) (d : RingCore) (core : OtherCore) → slice_get ls k ≡ Some d → v ≡ ring_view d.links → d.part ≡ part.OtherCore core → IsOtherCore core d.clock e
       → IsStillCore (length budgets) k (core_at k) (pending_at k) e (ring_view l.links) v (ring_flow f.links) (ring_flow m.links) (flow_before k) (flow_after k)
   by_entry k v e d core at is_v is s =
       let x = mate k d at in
@@ -403,7 +403,7 @@ module _ (budget : ℕ) (budgets : List ℕ) (f m l : RingCore) (os ms ls : List
       (subst (λ (y : ℕ → LinkView). IsStillCore (length budgets) k core d.pending e (ring_view l.links) y (ring_flow f.links) (ring_flow m.links) (ring_flow x.c.links 0) (ring_flow x.cm.links 0)) (sym is_v)
       (still_core k d core e at is s x)))))
 
-  still_at : (k : ℕ) (v : ℕ → LinkView) (e : Other) → slice_get (views_of ls) k ≡ Some v → slice_get con.ends k ≡ Some e
+  still_at : (k : ℕ) (v : ℕ → LinkView) (e : OtherState) → slice_get (views_of ls) k ≡ Some v → slice_get con.ends k ≡ Some e
       → IsStillCore (length budgets) k (core_at k) (pending_at k) e (ring_view l.links) v (ring_flow f.links) (ring_flow m.links) (flow_before k) (flow_after k)
   still_at k v e at_v at_e = by_part d.0.part refl (con.ends_other k d.0 e d.1 at_e)
     where
@@ -411,10 +411,10 @@ module _ (budget : ℕ) (budgets : List ℕ) (f m l : RingCore) (os ms ls : List
       d = get_map (λ (c : RingCore). ring_view c.links) ls k v at_v
 
       by_part : (y : Part) → d.0.part ≡ y → StandsAtOther y d.0.clock e → IsStillCore (length budgets) k (core_at k) (pending_at k) e (ring_view l.links) v (ring_flow f.links) (ring_flow m.links) (flow_before k) (flow_after k)
-      by_part (part.First core) is s = absurd s
-      by_part (part.Other core) is s = by_entry k v e d.0 core d.1 d.2 is s
+      by_part (part.Core0 core) is s = absurd s
+      by_part (part.OtherCore core) is s = by_entry k v e d.0 core d.1 d.2 is s
 
-  all_left : (core : First) → l.part ≡ part.First core → IsHome (length budgets) core l.clock con.end → NothingIsLeft (ring_view l.links) (views_of ls) con.end con.ends l.pending pending_at (ring_flow m.links) flow_after
+  all_left : (core : Core0) → l.part ≡ part.Core0 core → IsCore0 (length budgets) core l.clock con.end → NothingIsLeft (ring_view l.links) (views_of ls) con.end con.ends l.pending pending_at (ring_flow m.links) flow_after
   all_left core is home = still_rests budget budgets l.history (histories_of ls) (ring_view l.links) (views_of ls) con.end con.ends con.beside core l.clock l.pending core_at pending_at (ring_flow f.links) (ring_flow m.links) flow_before flow_after home
       (idles0 (length budgets) core l.pending (ring_view l.links) (ring_flow m.links) no_itself (moved NoMessageNow _ _ _ _ _ _ cores0 y same_view0 stayed0.no_message)
       (moved (λ (a : ℕ) (b : Part) (w : ℕ → LinkView). CanBeginNext a b l.pending w → ⊥) _ _ _ _ _ _ cores0 y same_view0 (subst (λ (o : List Op). CanBeginNext m.cores m.part o (ring_view m.links) → ⊥) (sym q) stayed0.no_request))
@@ -425,14 +425,14 @@ module _ (budget : ℕ) (budgets : List ℕ) (f m l : RingCore) (os ms ls : List
       no_itself : (ring_view l.links 0).kept ≡ []
       no_itself = ap (λ (o : Option Link). (place_view link_view o).kept) machine'.no_itself
 
-      y : m.part ≡ part.First core
+      y : m.part ≡ part.Core0 core
       y = sym (ap (λ (x : RingCore). x.part) seen0.core) ∙ is
 
       q : l.pending ≡ m.pending
       q = ap (λ (x : RingCore). x.pending) seen0.core
 
   -- so each core is at rest
-  first_rests : (core : First) → l.part ≡ part.First core → IsHome (length budgets) core l.clock con.end → NothingIsLeft (ring_view l.links) (views_of ls) con.end con.ends l.pending pending_at (ring_flow m.links) flow_after → CoreRests l
+  first_rests : (core : Core0) → l.part ≡ part.Core0 core → IsCore0 (length budgets) core l.clock con.end → NothingIsLeft (ring_view l.links) (views_of ls) con.end con.ends l.pending pending_at (ring_flow m.links) flow_after → CoreRests l
   first_rests core is home left = record {
     none_pending = left.none0;
     nothing_under_way = subst (λ (x : Part). HasNothingUnderWay l.cores x (ring_view l.links)) (sym is) (phase, λ entry lt. (at_entry entry (omega (arith, lt, machine'.place.cores_are))).ready);
@@ -457,7 +457,7 @@ module _ (budget : ℕ) (budgets : List ℕ) (f m l : RingCore) (os ms ls : List
   other_rests : (k : ℕ) (d : RingCore) → slice_get ls k ≡ Some d → NothingIsLeft (ring_view l.links) (views_of ls) con.end con.ends l.pending pending_at (ring_flow m.links) flow_after → CoreRests d
   other_rests k d at left = by_part d.part refl (con.ends_other k d e.0 at e.1)
     where
-      e : (e : Other) × (slice_get con.ends k ≡ Some e)
+      e : (e : OtherState) × (slice_get con.ends k ≡ Some e)
       e = get_at con.ends k (omega (arith, slice_get_within ls k d at, machine'.all, con.beside.all_ends))
 
       x : Mate k d
@@ -473,8 +473,8 @@ module _ (budget : ℕ) (budgets : List ℕ) (f m l : RingCore) (os ms ls : List
           record { none_kept = down.none_kept; ready = up.ready; none_known = omega (arith, x.after.down.ends.items, received, (x.looked_k.lines 0).come, (seen0.lines (suc k)).out) }
 
       by_part : (y : Part) → d.part ≡ y → StandsAtOther y d.clock e.0 → CoreRests d
-      by_part (part.First core) is s = absurd s
-      by_part (part.Other core) is s = record {
+      by_part (part.Core0 core) is s = absurd s
+      by_part (part.OtherCore core) is s = record {
         none_pending = subst (λ (c : RingCore). c.pending ≡ []) (get_or_from_slice_get ls k d l at) (left.none k e.0 e.1);
         nothing_under_way = subst (λ (y : Part). HasNothingUnderWay d.cores y (ring_view d.links)) (sym is) (sym s.outstanding_is ∙ (left.at_rest.others k e.0 e.1).0);
         links = subst (λ (i : ℕ). AreResting i d.cores (ring_view d.links) (ring_flow d.links)) (sym (others_cores k d at).1.place.number_is) resting;
@@ -483,13 +483,13 @@ module _ (budget : ℕ) (budgets : List ℕ) (f m l : RingCore) (os ms ls : List
   pub all_rest : AreAtRest (l ∷ ls)
   all_rest = by_part l.part refl con.ends0
     where
-      each : (core : First) → l.part ≡ part.First core → IsHome (length budgets) core l.clock con.end → (k : ℕ) (c : RingCore) → slice_get (l ∷ ls) k ≡ Some c → CoreRests c
+      each : (core : Core0) → l.part ≡ part.Core0 core → IsCore0 (length budgets) core l.clock con.end → (k : ℕ) (c : RingCore) → slice_get (l ∷ ls) k ≡ Some c → CoreRests c
       each core is home zero c at = let same : l ≡ c = cc in subst CoreRests same (first_rests core is home (all_left core is home))
       each core is home (suc k) c at = other_rests k c at (all_left core is home)
 
       by_part : (x : Part) → l.part ≡ x → StandsAt0 (length budgets) x l.clock con.end → AreAtRest (l ∷ ls)
-      by_part (part.Other core) is s = absurd s
-      by_part (part.First core) is s = all_of CoreRests (l ∷ ls) (each core is s)
+      by_part (part.OtherCore core) is s = absurd s
+      by_part (part.Core0 core) is s = all_of CoreRests (l ∷ ls) (each core is s)
 
 -- One round
 

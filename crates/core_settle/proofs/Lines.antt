@@ -7,7 +7,7 @@ use Rattle.world_events.specs.declared.event.Event.TheVariants.{Start, StartFor,
 use Rattle.world_events.specs.declared.event.Answer.{Answer}
 use Rattle.world_model.specs.Cases.{Outgoing, nothing, to_all, to_one, sent_up}
 use Rattle.world_histories.specs.declared.history.Stamped.{Stamped}
-use Rattle.world_histories.specs.Histories.{unstamped, Stamping, Sending, for_entry, with_stamp, sent_to, sent_by, Core0, Does0, History0, Other, DoesOther, HistoryOther}
+use Rattle.world_histories.specs.Histories.{unstamped, Stamping, Sending, for_entry, with_stamp, sent_to, sent_by, Core0State, Does0, History0, OtherState, DoesOther, HistoryOther}
 use Rattle.world_liveness.specs.Remaining.{is_step, steps}
 use Rattle.core_links.specs.declared.ring_links.RingLinks.{RingLinks}
 use Rattle.core_links.specs.RingSlots.{ring_view}
@@ -38,7 +38,7 @@ one_for entry (to_one receiver m) = by_test (receiver == entry)
     by_test false = omega arith
 
 -- core 0 sends nothing as it receives a packet
-sent_at : (others budget : ℕ) (c : Core0) (stamp : ℕ) (event : Event) (m : Option Stamping) (c' : Core0) (answer : Answer) (out : Outgoing) (entry : ℕ) → Does0 others budget c stamp event m c' answer out → length (for_entry entry out) ≤ is_step event
+sent_at : (others budget : ℕ) (c : Core0State) (stamp : ℕ) (event : Event) (m : Option Stamping) (c' : Core0State) (answer : Answer) (out : Outgoing) (entry : ℕ) → Does0 others budget c stamp event m c' answer out → length (for_entry entry out) ≤ is_step event
 sent_at others budget c stamp (Rx zero number packet floor) None c' answer out entry d = subst (λ (o : Outgoing). length (for_entry entry o) ≤ 0) (sym d.sends) (omega arith)
 sent_at others budget c stamp (Rx zero number packet floor) (Some m) c' answer out entry d = absurd d
 sent_at others budget c stamp (Rx (suc core) number packet floor) m c' answer out entry d = absurd d
@@ -47,7 +47,7 @@ sent_at others budget c stamp (StartFor core) m c' answer out entry d = one_for 
 sent_at others budget c stamp (Submit core op) m c' answer out entry d = one_for entry out
 sent_at others budget c stamp (Take to from short) m c' answer out entry d = one_for entry out
 
-pub sent_down : (others budget : ℕ) (c : Core0) (h : List Stamped) (c' : Core0) (sent : List Sending) (taken : List (ℕ × Stamping)) (entry : ℕ) → History0 others budget c h c' sent taken → length (sent_to entry sent) ≤ steps (unstamped h)
+pub sent_down : (others budget : ℕ) (c : Core0State) (h : List Stamped) (c' : Core0State) (sent : List Sending) (taken : List (ℕ × Stamping)) (entry : ℕ) → History0 others budget c h c' sent taken → length (sent_to entry sent) ≤ steps (unstamped h)
 sent_down others budget c [] c' sent taken entry h = subst (λ (l : List Sending). length (sent_to entry l) ≤ 0) (sym h.1) (omega arith)
 sent_down others budget c (s ∷ later) c' sent taken entry h =
     let rest = sent_down others budget h.0 later c' h.3 h.4 entry h.6 in
@@ -60,7 +60,7 @@ at_most_one None = omega arith
 at_most_one (Some m) = omega arith
 
 -- nor does another core
-up_at : (entry budget : ℕ) (c : Other) (stamp : ℕ) (event : Event) (m : Option Stamping) (c' : Other) (answer : Answer) → DoesOther entry budget c stamp event m c' answer → length (option_to_list (sent_up event answer)) ≤ is_step event
+up_at : (entry budget : ℕ) (c : OtherState) (stamp : ℕ) (event : Event) (m : Option Stamping) (c' : OtherState) (answer : Answer) → DoesOther entry budget c stamp event m c' answer → length (option_to_list (sent_up event answer)) ≤ is_step event
 up_at entry budget c stamp (Rx zero number packet floor) m c' answer d = absurd d
 up_at entry budget c stamp (Rx (suc core) number packet floor) None c' answer d =
     subst (λ (a : Answer). length (option_to_list (sent_up (Rx (suc core) number packet floor) a)) ≤ 0) (sym d.1.here.is_answer) (omega arith)
@@ -70,7 +70,7 @@ up_at entry budget c stamp (StartFor core) m c' answer d = at_most_one (sent_up 
 up_at entry budget c stamp (Submit core op) m c' answer d = at_most_one (sent_up (Submit core op) answer)
 up_at entry budget c stamp (Take to from short) m c' answer d = at_most_one (sent_up (Take to from short) answer)
 
-pub sent_up_most : (entry budget : ℕ) (c : Other) (h : List Stamped) (c' : Other) (taken : List Stamping) → HistoryOther entry budget c h c' taken → length (sent_by h) ≤ steps (unstamped h)
+pub sent_up_most : (entry budget : ℕ) (c : OtherState) (h : List Stamped) (c' : OtherState) (taken : List Stamping) → HistoryOther entry budget c h c' taken → length (sent_by h) ≤ steps (unstamped h)
 sent_up_most entry budget c [] c' taken h = omega arith
 sent_up_most entry budget c (s ∷ later) c' taken h =
     let rest = sent_up_most entry budget h.0 later c' h.2 h.4 in

@@ -16,12 +16,12 @@ use Rattle.monitor_2pc.specs.Coordinators.{CoordinatorPlace, Requests, Phase, Id
 use Rattle.world_events.specs.declared.event.Answer.TheVariants.{TookVote, TookAck, TookSubmit}
 use Rattle.world_model.specs.Agreement.{Expects}
 use Rattle.world_progress.proofs.Tallied.{Tallied, tallied}
-use Rattle.core_steps.specs.declared.core0.Core0.{Core0 as First}
+use Rattle.core_steps.specs.declared.core0.Core0.{Core0}
 use Rattle.core_steps.specs.declared.core0.Told.{Told}
 use Rattle.core_steps.specs.Core0Steps.{BetweenSteps, CanBeSent, TakesUp, core0_place}
 
-pub record IsTakenUp (core : First) (entry : ℕ) (m : Message) : Type 0 where
-  pub after : First
+pub record IsTakenUp (core : Core0) (entry : ℕ) (m : Message) : Type 0 where
+  pub after : Core0
   pub told : Told
   pub takes : TakesUp core (suc entry) m after told
 
@@ -40,7 +40,7 @@ staged_after s last op votes place committed told (commits_all all is c t) =
 staged_after s last op votes place committed told (aborts_all core against l none is c t) =
     (subst (λ (p : CoordinatorPlace). StagedByPhase p.phase p.staged) (sym is) refl, subst (λ (x : Step). CanBeSent x.decided) (sym t) (by_vote core against))
 
-taken_vote : (core : First) (entry txn : ℕ) (v : Vote) (op : Op) → core.replica.staged ≡ Some op → Expects (core0_place core) core.coordinator.requests entry (message.Vote txn v) → IsTakenUp core entry (message.Vote txn v)
+taken_vote : (core : Core0) (entry txn : ℕ) (v : Vote) (op : Op) → core.replica.staged ≡ Some op → Expects (core0_place core) core.coordinator.requests entry (message.Vote txn v) → IsTakenUp core entry (message.Vote txn v)
 taken_vote core entry txn v op on_op waits_for =
     let t = tallied core.replica.shown txn op (slice_set waits_for.0 entry (Some v)) in
     let s = staged_after core.replica.shown txn op (slice_set waits_for.0 entry (Some v)) t.place t.committed t.told t.tallies in
@@ -68,7 +68,7 @@ acked : (b : Bool) (acks : List Bool) (staged : Option Op) (requests : Requests)
 acked true acks staged requests none sendable = (none, tt)
 acked false acks staged requests none sendable = (none, sendable)
 
-taken_ack : (core : First) (entry txn : ℕ) → BetweenSteps core → Expects (core0_place core) core.coordinator.requests entry (message.Ack txn) → IsTakenUp core entry (message.Ack txn)
+taken_ack : (core : Core0) (entry txn : ℕ) → BetweenSteps core → Expects (core0_place core) core.coordinator.requests entry (message.Ack txn) → IsTakenUp core entry (message.Ack txn)
 taken_ack core entry txn b waits_for =
     let acks = slice_set waits_for.0 entry true in
     let none : core.replica.staged ≡ None = subst (λ (p : Phase). StagedByPhase p core.replica.staged) waits_for.1 b.staged in
@@ -92,7 +92,7 @@ taken_ack core entry txn b waits_for =
       };
     }
 
-pub taken_up : (core : First) (entry : ℕ) (m : Message) → BetweenSteps core → Expects (core0_place core) core.coordinator.requests entry m → IsTakenUp core entry m
+pub taken_up : (core : Core0) (entry : ℕ) (m : Message) → BetweenSteps core → Expects (core0_place core) core.coordinator.requests entry m → IsTakenUp core entry m
 taken_up core entry (message.Vote txn v) b waits_for = by_staged core.replica.staged refl (subst (λ (p : Phase). StagedByPhase p core.replica.staged) waits_for.1 b.staged)
   where
     by_staged : (o : Option Op) → core.replica.staged ≡ o → IsSome o → IsTakenUp core entry (message.Vote txn v)

@@ -20,7 +20,7 @@ use Rattle.core_links.specs.RingSlots.{ring_view}
 use Rattle.core_loop.specs.declared.part.Part.{Part}
 use Rattle.core_loop.specs.declared.part.Part.TheVariants as role
 use Rattle.core_loop.specs.Beginning.{HasNothingUnderWay}
-use Rattle.world_histories.specs.Histories.{Core0}
+use Rattle.world_histories.specs.Histories.{Core0State}
 use Rattle.core_join.specs.Conclusions.{Concludes, OfMachine, StandsAt0, IsIdle0, histories_of}
 use Rattle.core_join.specs.Looking.{AreLookedAt}
 use Rattle.core_join.specs.Merges.{ListsRuns}
@@ -88,9 +88,9 @@ ended_machine [] requests jobs cores left e = absurd e.machine
 ended_machine (budget ∷ others) requests jobs cores left e = (budget, others, e.machine)
 
 -- core 0 decides nothing
-idle_at : (cores : ℕ) (p : Part) (links : RingLinks) (others clock : ℕ) (end : Core0) → HasNothingUnderWay cores p (ring_view links) → StandsAt0 others p clock end → IsIdle0 p
-idle_at cores (role.First core) links others clock end idle stands = idle.0
-idle_at cores (role.Other core) links others clock end idle stands = absurd stands
+idle_at : (cores : ℕ) (p : Part) (links : RingLinks) (others clock : ℕ) (end : Core0State) → HasNothingUnderWay cores p (ring_view links) → StandsAt0 others p clock end → IsIdle0 p
+idle_at cores (role.Core0 core) links others clock end idle stands = idle.0
+idle_at cores (role.OtherCore core) links others clock end idle stands = absurd stands
 
 -- What the one list of events says of them
 module _ (budgets : List ℕ) (requests : List (ℕ × Op)) (jobs : List (ℕ × Job)) (left : List (ℕ × Job)) (list : List Done) where

@@ -22,7 +22,7 @@ use Rattle.world_model.proofs.Known.{run_known}
 use Rattle.world_model.proofs.RunLaws.{run_agrees, run_versions}
 use Rattle.world_model.proofs.Submissions.{eq_self, eq_other}
 use Rattle.world_histories.specs.declared.history.Stamped.{Stamped}
-use Rattle.world_histories.specs.Histories.{Other}
+use Rattle.world_histories.specs.Histories.{OtherState}
 use Rattle.world_histories.specs.Merging.{core_of, part, as_short, listed, as_listed}
 use Rattle.world_histories.proofs.Parts.{part_own, part_other}
 use Rattle.core_loop.specs.declared.part.Part.{Part}
@@ -42,9 +42,9 @@ use Rattle.core_join.proofs.Told.{joined_deliver, list_log, list_run, one_list}
 
 -- Tables
 
-other_version : (x : Part) (clock : ℕ) (d : Other) → StandsAtOther x clock d → (replica_of x).shown.version ≡ length d.log
-other_version (role.First core) clock d s = absurd s
-other_version (role.Other core) clock d s = ap (λ (t : TableState). t.version) s.shown_is ∙ table_version d.log
+other_version : (x : Part) (clock : ℕ) (d : OtherState) → StandsAtOther x clock d → (replica_of x).shown.version ≡ length d.log
+other_version (role.Core0 core) clock d s = absurd s
+other_version (role.OtherCore core) clock d s = ap (λ (t : TableState). t.version) s.shown_is ∙ table_version d.log
 
 -- a core's version is how often it committed
 core_version : (budget : ℕ) (budgets : List ℕ) (first : RingCore) (others : List RingCore) (list : List Done) → (con : Concludes budget budgets first others) → (l : ListsRun budget budgets first.history (histories_of others) con.end con.ends list)

@@ -8,7 +8,7 @@ use Rattle.monitor_2pc.specs.Coordinators.{Idle}
 use Rattle.world_events.specs.declared.event.Done.{Done}
 use Rattle.world_model.specs.Decisions.{Delivers}
 use Rattle.world_histories.specs.declared.history.Stamped.{Stamped}
-use Rattle.world_histories.specs.Histories.{Core0, Other}
+use Rattle.world_histories.specs.Histories.{Core0State, OtherState}
 use Rattle.core_links.specs.declared.ring_links.RingLinks.{RingLinks}
 use Rattle.core_links.specs.RingSlots.{ring_view}
 use Rattle.core_loop.specs.declared.part.Part.{Part}
@@ -89,19 +89,19 @@ has_halted budgets items requests jobs machine cores left named core why are_req
 }
 
 -- core 0's history ends where no request is being decided
-settled_at : (cores others clock : ℕ) (p : Part) (end : Core0) (links : RingLinks) → HasNothingUnderWay cores p (ring_view links) → StandsAt0 others p clock end → end.place.phase ≡ Idle
-settled_at cores others clock (part.First core) end links idle stands = ap (λ place. place.phase) stands.place_is ∙ idle.0
-settled_at cores others clock (part.Other core) end links idle stands = absurd stands
+settled_at : (cores others clock : ℕ) (p : Part) (end : Core0State) (links : RingLinks) → HasNothingUnderWay cores p (ring_view links) → StandsAt0 others p clock end → end.place.phase ≡ Idle
+settled_at cores others clock (part.Core0 core) end links idle stands = ap (λ place. place.phase) stands.place_is ∙ idle.0
+settled_at cores others clock (part.OtherCore core) end links idle stands = absurd stands
 
 -- no request is being decided at core 0
-idle_at : (cores : ℕ) (p : Part) (links : RingLinks) (others clock : ℕ) (end : Core0) → HasNothingUnderWay cores p (ring_view links) → StandsAt0 others p clock end → IsIdle0 p
-idle_at cores (part.First core) links others clock end idle stands = idle.0
-idle_at cores (part.Other core) links others clock end idle stands = absurd stands
+idle_at : (cores : ℕ) (p : Part) (links : RingLinks) (others clock : ℕ) (end : Core0State) → HasNothingUnderWay cores p (ring_view links) → StandsAt0 others p clock end → IsIdle0 p
+idle_at cores (part.Core0 core) links others clock end idle stands = idle.0
+idle_at cores (part.OtherCore core) links others clock end idle stands = absurd stands
 
 -- another core's history ends where it waits for no reply
-answered_at : (cores clock : ℕ) (p : Part) (end : Other) (links : RingLinks) → HasNothingUnderWay cores p (ring_view links) → StandsAtOther p clock end → end.outstanding ≡ false
-answered_at cores clock (part.First core) end links idle stands = absurd stands
-answered_at cores clock (part.Other core) end links idle stands = stands.outstanding_is ∙ idle
+answered_at : (cores clock : ℕ) (p : Part) (end : OtherState) (links : RingLinks) → HasNothingUnderWay cores p (ring_view links) → StandsAtOther p clock end → end.outstanding ≡ false
+answered_at cores clock (part.Core0 core) end links idle stands = absurd stands
+answered_at cores clock (part.OtherCore core) end links idle stands = stands.outstanding_is ∙ idle
 
 -- a history is that of a core
 of_core : (cores : List RingCore) (i : ℕ) (h : List Stamped) → slice_get (histories_of cores) i ≡ Some h → (c : RingCore) × (slice_get cores i ≡ Some c) × (h ≡ c.history)
@@ -112,7 +112,7 @@ of_core (c ∷ cores) (suc i) h at = of_core cores i h at
 -- each other core's history ends where it waits for no reply, since all cores are done
 module _ (budget : ℕ) (budgets : List ℕ) (first : RingCore) (others : List RingCore) (left : List (ℕ × Job)) (c : Concludes budget budgets first others)
     (ended : (i : ℕ) (core : RingCore) → slice_get (first ∷ others) i ≡ Some core → IsAtEnd (items_for i left) core) where
-  all_answered : length others ≡ length budgets → (i : ℕ) (end : Other) → slice_get c.ends i ≡ Some end → end.outstanding ≡ false
+  all_answered : length others ≡ length budgets → (i : ℕ) (end : OtherState) → slice_get c.ends i ≡ Some end → end.outstanding ≡ false
   all_answered long i end at =
       let core = beside others c.ends i end (c.computation.all_end ∙ sym long) at in
       answered_at core.0.cores core.0.clock core.0.part end core.0.links (ended (suc i) core.0 core.1).idle (c.ends_other i core.0 end core.1 at)

@@ -6,7 +6,7 @@ use Rattle.rx_queue.specs.declared.job.Job.{Job}
 use Rattle.monitor_2pc.specs.Coordinators.{Idle}
 use Rattle.world_model.specs.Decisions.{Delivers}
 use Rattle.world_histories.specs.declared.history.Stamped.{Stamped}
-use Rattle.world_histories.specs.Histories.{Core0, Other, Computation}
+use Rattle.world_histories.specs.Histories.{Core0State, OtherState, Computation}
 use Rattle.world_histories.specs.Merging.{Merged, as_listed}
 use Rattle.core_loop.specs.Answering.{decisions}
 use Rattle.core_loop.specs.Cores.{begun, receipts}
@@ -36,11 +36,11 @@ pub record DidItsWork (items : List Item) (left : List (ℕ × Job)) (core : ℕ
 pub record DidWork (budget : ℕ) (budgets : List ℕ) (items : List Item) (left : List (ℕ × Job)) (merged : List Stamped) : Type 0 where
   pub core0 : List Stamped
   pub others : List (List Stamped)
-  pub end : Core0
-  pub ends : List Other
+  pub end : Core0State
+  pub ends : List OtherState
   pub computation : Computation budget budgets core0 others end ends
   pub settled : end.place.phase ≡ Idle
-  pub answered : (i : ℕ) (other : Other) → slice_get ends i ≡ Some other → other.outstanding ≡ false
+  pub answered : (i : ℕ) (other : OtherState) → slice_get ends i ≡ Some other → other.outstanding ≡ false
   pub waits : (core : ℕ) (history : List Stamped) (job : Job) (later : List Job) → slice_get (core0 ∷ others) core ≡ Some history → items_for core left ≡ job ∷ later → length end.log < job.floor
   pub work : (core : ℕ) (history : List Stamped) → slice_get (core0 ∷ others) core ≡ Some history → DidItsWork items left core history
   pub at_cores : All (λ l. l.0 < length (budget ∷ budgets)) left

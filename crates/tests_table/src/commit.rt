@@ -1,6 +1,6 @@
 //! Worked calls of the protocol: what each role answers to messages that fit and to strangers.
 use crate::asks::{Sent, asked};
-use crate::cores::{Heard, Home, Peer};
+use crate::cores::{Core0, Heard, Peer};
 use crate::facts::equal_at;
 use monitor_2pc::{Decision, Say, StartFault, Step, Veto, Vote};
 use std::alloc::Global;
@@ -52,16 +52,16 @@ fn waits(waiting: Option<&Op>) -> Said {
     }
 }
 
-fn core_0_says(rt: &impl Abort, alloc: Global, home: &mut Home, call: Call) -> Said {
+fn core_0_says(rt: &impl Abort, alloc: Global, core0: &mut Core0, call: Call) -> Said {
     match call {
-        Call::Start(ask) => of_start(home.starts(rt, alloc, ask)),
-        Call::Submit(from, ask) => word(home.keeps(rt, alloc, from, ask), "kept", "stranger"),
-        Call::StartFor(from) => of_start(home.starts_for(alloc, from)),
-        Call::Vote(from, txn, vote) => home.hears(from, txn, vote).ok_or("stranger"),
-        Call::Ack(from, txn) => home.hears_end(from, txn).ok_or("stranger"),
-        Call::Waits(from) => waits(home.core.waiting(from)),
-        Call::IsIdle => word(home.core.idle(), "idle", "busy"),
-        Call::IsStaged => word(home.table.staged(), "staged", "not staged"),
+        Call::Start(ask) => of_start(core0.starts(rt, alloc, ask)),
+        Call::Submit(from, ask) => word(core0.keeps(rt, alloc, from, ask), "kept", "stranger"),
+        Call::StartFor(from) => of_start(core0.starts_for(alloc, from)),
+        Call::Vote(from, txn, vote) => core0.hears(from, txn, vote).ok_or("stranger"),
+        Call::Ack(from, txn) => core0.hears_end(from, txn).ok_or("stranger"),
+        Call::Waits(from) => waits(core0.core.waiting(from)),
+        Call::IsIdle => word(core0.core.idle(), "idle", "busy"),
+        Call::IsStaged => word(core0.table.staged(), "staged", "not staged"),
     }
 }
 
@@ -227,9 +227,9 @@ static OF_CORE_0: [Run; 7] = [
 ];
 
 /// Core 0 says this to the calls, one after the other.
-fn says(rt: &impl Abort, alloc: Global, home: &mut Home, (cores, _, calls): Run) {
+fn says(rt: &impl Abort, alloc: Global, core0: &mut Core0, (cores, _, calls): Run) {
     for (number, (call, wanted)) in calls.iter().enumerate() {
-        let found = core_0_says(rt, alloc, home, *call);
+        let found = core_0_says(rt, alloc, core0, *call);
         equal_at(rt, found, *wanted, &(cores, number));
     }
 }
@@ -237,9 +237,9 @@ fn says(rt: &impl Abort, alloc: Global, home: &mut Home, (cores, _, calls): Run)
 #[test]
 fn what_core_0_says(rt: HostRuntime) {
     for run in &OF_CORE_0 {
-        let mut home = Home::new(&rt, rt.alloc(), 9, run.0, run.1);
-        says(&rt, rt.alloc(), &mut home, *run);
-        drop(home);
+        let mut core0 = Core0::new(&rt, rt.alloc(), 9, run.0, run.1);
+        says(&rt, rt.alloc(), &mut core0, *run);
+        drop(core0);
     }
 }
 

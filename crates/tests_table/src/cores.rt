@@ -11,12 +11,12 @@ use test_words::Ask;
 
 /// Core 0 with its replica.
 #[derive(Drop)]
-pub(crate) struct Home {
+pub(crate) struct Core0 {
     pub core: Coordinator,
     pub table: Replica,
 }
 
-impl Model for Home {
+impl Model for Core0 {
     ghost use Rattle.monitor_2pc.specs.Coordinators.{CoordinatorState, StagedByPhase};
 
     ghost Value = { CoordinatorState };
@@ -26,10 +26,10 @@ impl Model for Home {
     ghost invariant = { λ h. StagedByPhase h.core.phase h.table.staged };
 }
 
-impl Home {
+impl Core0 {
     /// With this budget, among so many cores, of which there are 1 to 8; its last number was this.
-    pub fn new(rt: &impl Abort, alloc: Global, budget: u32, cores: u16, last: u64) -> Home {
-        Home {
+    pub fn new(rt: &impl Abort, alloc: Global, budget: u32, cores: u16, last: u64) -> Core0 {
+        Core0 {
             core: Coordinator::new(cores.clamp(1, 8), last),
             table: Replica::new(alloc, budget).expect(rt, "there is memory"),
         }

@@ -1,7 +1,7 @@
 //! Worked runs of two, three, four and eight cores as calls, a message at a time.
 
 use crate::asks::{Sent, asked};
-use crate::cores::{Home, Peer};
+use crate::cores::{Core0, Peer};
 use crate::facts::{equal, equal_at, holds};
 use endpoint_caps::Rights;
 use monitor_2pc::{Decision, Say, StartFault, Step, Veto, Vote};
@@ -19,7 +19,7 @@ const CREATE: Ask = Ask::Create(1, 7);
 fn votes(
     rt: &impl Abort,
     alloc: Global,
-    home: &mut Home,
+    core0: &mut Core0,
     peers: &mut [Peer],
     begun: Step,
     ask: Ask,
@@ -29,7 +29,7 @@ fn votes(
     for (from, peer) in (1..8).zip(peers.iter_mut()) {
         equal(rt, told.decided, None);
         let vote = peer.votes(rt, alloc, told.txn, ask, from == short);
-        told = home.hears(from, told.txn, vote).expect(rt, "a vote");
+        told = core0.hears(from, told.txn, vote).expect(rt, "a vote");
     }
     told
 }
@@ -46,20 +46,20 @@ fn outcome_of(decided: Step) -> Sent {
 fn ends(
     rt: &impl Abort,
     alloc: Global,
-    home: &mut Home,
+    core0: &mut Core0,
     peers: &mut [Peer],
     decided: Step,
 ) -> Option<(u16, Decision)> {
     let outcome = outcome_of(decided);
     let mut told = decided;
     for (from, peer) in (1..8).zip(peers.iter_mut()) {
-        holds(rt, !home.core.idle());
+        holds(rt, !core0.core.idle());
         equal(rt, told.reply, None);
         let (word, txn, _) = peer.answers(rt, alloc, outcome, false);
         equal(rt, word, "ack");
-        told = home.hears_end(from, txn).expect(rt, "an acknowledgement");
+        told = core0.hears_end(from, txn).expect(rt, "an acknowledgement");
     }
-    holds(rt, home.core.idle());
+    holds(rt, core0.core.idle());
     told.reply
 }
 
@@ -67,18 +67,18 @@ fn ends(
 fn decides(
     rt: &impl Abort,
     alloc: Global,
-    home: &mut Home,
+    core0: &mut Core0,
     peers: &mut [Peer],
     ask: Ask,
     short: u16,
 ) -> Option<Decision> {
-    let begun = home.starts(rt, alloc, ask).expect(rt, "core 0 is idle");
+    let begun = core0.starts(rt, alloc, ask).expect(rt, "core 0 is idle");
     if begun.decided.is_some() {
         return begun.decided;
     }
     equal(rt, begun.say, Some(Say::Prepare));
-    let decided = votes(rt, alloc, home, peers, begun, ask, short);
-    equal(rt, ends(rt, alloc, home, peers, decided), None);
+    let decided = votes(rt, alloc, core0, peers, begun, ask, short);
+    equal(rt, ends(rt, alloc, core0, peers, decided), None);
     decided.decided
 }
 
@@ -203,11 +203,11 @@ static RUNS: [Run; 4] = [
     (9, &[9], &[(CREATE, 1, NO_MEMORY_ON_1, 0, 1)], 0),
 ];
 
-fn agree(rt: &impl Abort, alloc: Global, home: &mut Home, peers: &mut [Peer], rows: &[Row]) {
+fn agree(rt: &impl Abort, alloc: Global, core0: &mut Core0, peers: &mut [Peer], rows: &[Row]) {
     for (number, (ask, short, wanted, version, last)) in rows.iter().enumerate() {
-        let decided = decides(rt, alloc, home, peers, *ask, *short);
+        let decided = decides(rt, alloc, core0, peers, *ask, *short);
         equal_at(rt, decided, Some(*wanted), &number);
-        let found = (home.table.version(), home.core.last());
+        let found = (core0.table.version(), core0.core.last());
         equal_at(rt, found, (*version, *last), &number);
     }
 }
@@ -215,10 +215,10 @@ fn agree(rt: &impl Abort, alloc: Global, home: &mut Home, peers: &mut [Peer], ro
 fn all_agree(rt: &impl Abort, alloc: Global, (budget, budgets, rows, instructions): Run) {
     let mut peers = peers(rt, alloc, budgets);
     let others = budgets.len().min(7) as u16;
-    let mut home = Home::new(rt, alloc, budget, others + 1, 0);
-    agree(rt, alloc, &mut home, &mut peers, rows);
-    are_at(rt, &peers, home.table.version(), instructions);
-    drop((home, peers));
+    let mut core0 = Core0::new(rt, alloc, budget, others + 1, 0);
+    agree(rt, alloc, &mut core0, &mut peers, rows);
+    are_at(rt, &peers, core0.table.version(), instructions);
+    drop((core0, peers));
 }
 
 #[test]
@@ -245,21 +245,23 @@ const WHOLE: Kept = Kept {
 /// One core commits after the other, and each delivers by its own version.
 #[test]
 fn two_phases(rt: HostRuntime) {
-    let mut home = Home::new(&rt, rt.alloc(), 100, 2, 0);
+    let mut core0 = Core0::new(&rt, rt.alloc(), 100, 2, 0);
     let mut peers = peers(&rt, rt.alloc(), &[100]);
-    in_two_phases(&rt, rt.alloc(), &mut home, &mut peers);
-    drop((home, peers));
+    in_two_phases(&rt, rt.alloc(), &mut core0, &mut peers);
+    drop((core0, peers));
 }
 
-fn in_two_phases(rt: &impl Abort, alloc: Global, home: &mut Home, peers: &mut [Peer]) {
-    agree(rt, alloc, home, peers, &[(CREATE, 0, CAP, 1, 1)]);
+fn in_two_phases(rt: &impl Abort, alloc: Global, core0: &mut Core0, peers: &mut [Peer]) {
+    agree(rt, alloc, core0, peers, &[(CREATE, 0, CAP, 1, 1)]);
     let install = Ask::Install(1, 1, ARP);
-    let begun = home.starts(rt, alloc, install).expect(rt, "core 0 is idle");
-    let decided = votes(rt, alloc, home, peers, begun, install, 0);
+    let begun = core0
+        .starts(rt, alloc, install)
+        .expect(rt, "core 0 is idle");
+    let decided = votes(rt, alloc, core0, peers, begun, install, 0);
     equal(rt, decided.decided, Some(FILTER));
-    equal(rt, delivered(rt, alloc, &home.table), Some(WHOLE));
+    equal(rt, delivered(rt, alloc, &core0.table), Some(WHOLE));
     deliver(rt, alloc, peers, None);
-    equal(rt, ends(rt, alloc, home, peers, decided), None);
+    equal(rt, ends(rt, alloc, core0, peers, decided), None);
     deliver(rt, alloc, peers, Some(WHOLE));
 }
 
@@ -271,10 +273,10 @@ fn deliver(rt: &impl Abort, alloc: Global, peers: &[Peer], wanted: Option<Kept>)
 }
 
 /// Sends the creation that core 1 asks for to core 0, which keeps it as waiting.
-fn submits(rt: &impl Abort, alloc: Global, home: &mut Home, peer: &mut Peer) {
+fn submits(rt: &impl Abort, alloc: Global, core0: &mut Core0, peer: &mut Peer) {
     let sent = peer.submits(asked(rt, alloc, CREATE));
     let op = sent.expect(rt, "core 1 asks for nothing else");
-    holds(rt, home.core.submit(1, op).is_ok());
+    holds(rt, core0.core.submit(1, op).is_ok());
     holds(rt, peer.core.outstanding());
     holds(rt, peer.refuses(asked(rt, alloc, CREATE)));
 }
@@ -303,29 +305,29 @@ const ENDED: Step = Step {
 /// Requests of another core: one is committed after all have voted, the next is refused at once, and each gets its Reply.
 #[test]
 fn requests_of_another_core(rt: HostRuntime) {
-    let mut home = Home::new(&rt, rt.alloc(), 9, 2, 0);
+    let mut core0 = Core0::new(&rt, rt.alloc(), 9, 2, 0);
     let mut peer = Peer::new(&rt, rt.alloc(), 9);
-    are_answered(&rt, rt.alloc(), &mut home, &mut peer);
-    drop((home, peer));
+    are_answered(&rt, rt.alloc(), &mut core0, &mut peer);
+    drop((core0, peer));
 }
 
-fn are_answered(rt: &impl Abort, alloc: Global, home: &mut Home, peer: &mut Peer) {
-    equal(rt, home.starts_for(alloc, 1), Err(StartFault::NoneWaiting));
-    submits(rt, alloc, home, peer);
-    is_committed_for(rt, alloc, home, peer);
-    submits(rt, alloc, home, peer);
-    let refused = home.starts_for(alloc, 1).expect(rt, "core 0 is idle");
+fn are_answered(rt: &impl Abort, alloc: Global, core0: &mut Core0, peer: &mut Peer) {
+    equal(rt, core0.starts_for(alloc, 1), Err(StartFault::NoneWaiting));
+    submits(rt, alloc, core0, peer);
+    is_committed_for(rt, alloc, core0, peer);
+    submits(rt, alloc, core0, peer);
+    let refused = core0.starts_for(alloc, 1).expect(rt, "core 0 is idle");
     equal(rt, refused.reply, Some((1, TAKEN)));
     is_replied(rt, peer, &TAKEN);
 }
 
-fn is_committed_for(rt: &impl Abort, alloc: Global, home: &mut Home, peer: &mut Peer) {
-    equal(rt, home.starts_for(alloc, 1), Ok(BEGUN));
+fn is_committed_for(rt: &impl Abort, alloc: Global, core0: &mut Core0, peer: &mut Peer) {
+    equal(rt, core0.starts_for(alloc, 1), Ok(BEGUN));
     let vote = peer.votes(rt, alloc, 1, CREATE, false);
-    equal(rt, home.hears(1, 1, vote), Some(DECIDED));
+    equal(rt, core0.hears(1, 1, vote), Some(DECIDED));
     let ended = peer.answers(rt, alloc, Sent::Commit(1), false);
     equal(rt, ended, ("ack", 1, Vote::Yes));
-    equal(rt, home.hears_end(1, 1), Some(ENDED));
+    equal(rt, core0.hears_end(1, 1), Some(ENDED));
     is_replied(rt, peer, &CAP);
 }
 
@@ -338,12 +340,12 @@ fn is_replied(rt: &impl Abort, peer: &mut Peer, decision: &Decision) {
 fn decides_again(
     rt: &impl Abort,
     alloc: Global,
-    home: &mut Home,
+    core0: &mut Core0,
     peers: &mut [Peer],
     ask: Ask,
 ) -> Option<Decision> {
-    let version = home.table.version();
-    let decided = decides(rt, alloc, home, peers, ask, 0);
+    let version = core0.table.version();
+    let decided = decides(rt, alloc, core0, peers, ask, 0);
     if let Some(
         Decision::Refused {
             why: Veto::NoMemory,
@@ -351,8 +353,8 @@ fn decides_again(
         },
     ) = decided
     {
-        equal(rt, home.table.version(), version);
-        return decides(rt, alloc, home, peers, ask, 0);
+        equal(rt, core0.table.version(), version);
+        return decides(rt, alloc, core0, peers, ask, 0);
     }
     decided
 }
@@ -361,12 +363,18 @@ fn decides_again(
 #[test]
 fn refused_growths_are_vetoes(rt: HostRuntime) {
     let alloc = rt.alloc();
-    let mut home = Home::new(&rt, alloc, 9, 3, 0);
+    let mut core0 = Core0::new(&rt, alloc, 9, 3, 0);
     let mut peers = peers(&rt, alloc, &[9, 9]);
-    let made = decides_again(&rt, alloc, &mut home, &mut peers, CREATE);
+    let made = decides_again(&rt, alloc, &mut core0, &mut peers, CREATE);
     equal(&rt, made, Some(CAP));
-    let made = decides_again(&rt, alloc, &mut home, &mut peers, Ask::Install(1, 1, THREE));
+    let made = decides_again(
+        &rt,
+        alloc,
+        &mut core0,
+        &mut peers,
+        Ask::Install(1, 1, THREE),
+    );
     equal(&rt, made, Some(FILTER));
     are_at(&rt, &peers, 2, 3);
-    drop((home, peers));
+    drop((core0, peers));
 }

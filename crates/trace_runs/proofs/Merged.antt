@@ -20,7 +20,7 @@ use Rattle.trace_runs.specs.Traces.{begun_at}
 use Rattle.std.specs.List.{All, flat_map}
 use Rattle.world_events.specs.declared.event.Done.{Done}
 use Rattle.world_model.specs.Worlds.{World}
-use Rattle.world_histories.specs.Histories.{Core0, Other}
+use Rattle.world_histories.specs.Histories.{Core0State, OtherState}
 use Rattle.world_histories.specs.Merging.{IsRun}
 use Rattle.world_histories.proofs.Merge.{run_of}
 use Rattle.sim_lines.specs.Events.{done_line}
@@ -80,12 +80,12 @@ merged_begin core0 others merged items m front core = subst (λ (ops : List Op).
 
 -- The laws of a merged list
 
-pub can_repeat_merged : (budget : ℕ) (budgets : List ℕ) (items : List Item) (end : Core0) (ends : List Other) (merged : List Stamped) → RanScript budget budgets items end ends merged → CanRepeatMerged budget budgets items end ends merged
+pub can_repeat_merged : (budget : ℕ) (budgets : List ℕ) (items : List Item) (end : Core0State) (ends : List OtherState) (merged : List Stamped) → RanScript budget budgets items end ends merged → CanRepeatMerged budget budgets items end ends merged
 can_repeat_merged budget budgets items end ends merged h =
     let run = run_of budget budgets h.core0 h.others end ends merged h.computation h.is_merged in
     record { world = run.world; can = can_repeat budget budgets items (as_listed merged) run.world run.run (merged_begin h.core0 h.others merged items h.is_merged h.begin); all_end = run.all_end }
 
-pub shown : (budget : ℕ) (budgets : List ℕ) (items : List Item) (end : Core0) (ends : List Other) (merged : List Stamped) → RanScript budget budgets items end ends merged
+pub shown : (budget : ℕ) (budgets : List ℕ) (items : List Item) (end : Core0State) (ends : List OtherState) (merged : List Stamped) → RanScript budget budgets items end ends merged
     → ShowsTrace (budget ∷ budgets) items (as_listed merged) (flat_map done_line (as_listed merged))
 shown budget budgets items end ends merged h = let c = can_repeat_merged budget budgets items end ends merged h in (budget, budgets, refl, (c.can.end, c.can.performs))
 
@@ -93,7 +93,7 @@ text_is : (events : List Done) (w end : World) (text : List ℕ) → Repeats eve
 text_is events w end text (same e is) = inl e
 text_is events w end text (short_of_memory d) = inr d
 
-pub only : (budget : ℕ) (budgets : List ℕ) (items : List Item) (end : Core0) (ends : List Other) (merged : List Stamped) (text : List ℕ) → RanScript budget budgets items end ends merged → All WasNotRefused (as_listed merged)
+pub only : (budget : ℕ) (budgets : List ℕ) (items : List Item) (end : Core0State) (ends : List OtherState) (merged : List Stamped) (text : List ℕ) → RanScript budget budgets items end ends merged → All WasNotRefused (as_listed merged)
     → ShowsTrace (budget ∷ budgets) items (as_listed merged) text → (text ≡ flat_map done_line (as_listed merged)) ⊎ DiffersByMemory (as_listed merged) text
 only budget budgets items end ends merged text h had s =
     text_is (as_listed merged) run.world s.3.0.world text

@@ -3,7 +3,7 @@ use Rattle.std.proofs.Common.{◌≡◌, ◌⊎◌, inl, inr, ℕ, List, ◌∷�
 use Rattle.std.specs.Prelude.{Ok, Err}
 use Rattle.std.specs.List.{All, flat_map}
 use Rattle.world_histories.specs.declared.history.Stamped.{Stamped}
-use Rattle.world_histories.specs.Histories.{Core0, Other}
+use Rattle.world_histories.specs.Histories.{Core0State, OtherState}
 use Rattle.world_histories.specs.Merging.{as_listed}
 use Rattle.sim_lines.specs.Events.{done_line}
 use Rattle.mk_script.specs.declared.script.Script.{Script}
@@ -18,7 +18,7 @@ use Rattle.world_events.specs.Memory.{WasNotRefused}
 use Rattle.trace_runs.specs.Repeats.{DiffersByMemory, RanScript}
 use Rattle.trace_runs.proofs.Merged.{shown, only}
 
-module _ (files : List (List ℕ)) (input : List ℕ) (script : Script) (budget : ℕ) (budgets : List ℕ) (end : Core0) (ends : List Other) (merged : List Stamped)
+module _ (files : List (List ℕ)) (input : List ℕ) (script : Script) (budget : ℕ) (budgets : List ℕ) (end : Core0State) (ends : List OtherState) (merged : List Stamped)
     (short : AllShort input files) (are_budgets : script.budgets ≡ budget ∷ budgets) (ran : RanScript budget budgets script.items end ends merged)
     (stands : Stands (for_simulation files) input (Ok (traced_script script (as_listed merged)))) where
   pub sim_shown : ShowsSim files input 0 (flat_map done_line (as_listed merged))

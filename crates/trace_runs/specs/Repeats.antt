@@ -6,7 +6,7 @@ use Rattle.world_events.specs.declared.event.Answer.{Answer}
 use Rattle.world_events.specs.declared.event.Done.{Done}
 use Rattle.world_model.specs.Worlds.{World, boot}
 use Rattle.world_histories.specs.declared.history.Stamped.{Stamped}
-use Rattle.world_histories.specs.Histories.{Core0, Other, Computation}
+use Rattle.world_histories.specs.Histories.{Core0State, OtherState, Computation}
 use Rattle.world_histories.specs.Merging.{Merged, AllEnd, as_listed}
 use Rattle.sim_lines.specs.Events.{event_line, done_line}
 use Rattle.core_loop.specs.Cores.{begun}
@@ -53,7 +53,7 @@ pub data Repeats (events : List Done) (w end : World) (text : List ℕ) : Type 0
 
 -- Cores with these budgets have histories that end so, in which each begins its requests in the order in which the script has
 -- them, all of them or the first; and this is the one list of all their events.
-pub record RanScript (budget : ℕ) (budgets : List ℕ) (items : List Item) (end : Core0) (ends : List Other) (merged : List Stamped) : Type 0 where
+pub record RanScript (budget : ℕ) (budgets : List ℕ) (items : List Item) (end : Core0State) (ends : List OtherState) (merged : List Stamped) : Type 0 where
   pub core0 : List Stamped
   pub others : List (List Stamped)
   pub computation : Computation budget budgets core0 others end ends
@@ -61,7 +61,7 @@ pub record RanScript (budget : ℕ) (budgets : List ℕ) (items : List Item) (en
   pub is_merged : Merged core0 others merged
 
 -- the trace of the list can be done, and ends where the cores end
-pub record CanRepeatMerged (budget : ℕ) (budgets : List ℕ) (items : List Item) (end : Core0) (ends : List Other) (merged : List Stamped) : Type 0 where
+pub record CanRepeatMerged (budget : ℕ) (budgets : List ℕ) (items : List Item) (end : Core0State) (ends : List OtherState) (merged : List Stamped) : Type 0 where
   pub world : World
   pub can : CanRepeat budget budgets items (as_listed merged) world
   pub all_end : AllEnd world end ends

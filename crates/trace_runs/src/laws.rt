@@ -5,7 +5,7 @@ ghost use Rattle.std.specs.List.{flat_map};
 ghost use Rattle.world_events.specs.declared.event.Done.{Done};
 ghost use Rattle.world_model.specs.Worlds.{World, Run};
 ghost use Rattle.world_histories.specs.declared.history.Stamped.{Stamped};
-ghost use Rattle.world_histories.specs.Histories.{Core0, Other};
+ghost use Rattle.world_histories.specs.Histories.{Core0State, OtherState};
 ghost use Rattle.world_histories.specs.Merging.{as_listed};
 ghost use Rattle.sim_lines.specs.Events.{done_line};
 ghost use Rattle.mk_script.specs.declared.script.Item.{Item};
@@ -36,11 +36,11 @@ pub fn runs_are_done_again()
 /// a line for each, and ends where the cores end. Where core 0 refused no request for lack of memory, `sim` shows nothing else,
 /// unless memory runs out: then the first line that differs says so.
 pub fn merged_runs_are_done_again()
-    ensures can { (budget : ℕ) (budgets : List ℕ) (items : List Item) (end : Core0) (ends : List Other) (merged : List Stamped) →
+    ensures can { (budget : ℕ) (budgets : List ℕ) (items : List Item) (end : Core0State) (ends : List OtherState) (merged : List Stamped) →
         RanScript budget budgets items end ends merged → CanRepeatMerged budget budgets items end ends merged }
-    ensures shown { (budget : ℕ) (budgets : List ℕ) (items : List Item) (end : Core0) (ends : List Other) (merged : List Stamped) →
+    ensures shown { (budget : ℕ) (budgets : List ℕ) (items : List Item) (end : Core0State) (ends : List OtherState) (merged : List Stamped) →
         RanScript budget budgets items end ends merged → ShowsTrace (budget ∷ budgets) items (as_listed merged) (flat_map done_line (as_listed merged)) }
-    ensures only { (budget : ℕ) (budgets : List ℕ) (items : List Item) (end : Core0) (ends : List Other) (merged : List Stamped) (text : List ℕ) →
+    ensures only { (budget : ℕ) (budgets : List ℕ) (items : List Item) (end : Core0State) (ends : List OtherState) (merged : List Stamped) (text : List ℕ) →
         RanScript budget budgets items end ends merged → All WasNotRefused (as_listed merged) → ShowsTrace (budget ∷ budgets) items (as_listed merged) text →
         (text ≡ flat_map done_line (as_listed merged)) ⊎ DiffersByMemory (as_listed merged) text }
 {}
@@ -51,10 +51,10 @@ pub fn merged_runs_are_done_again()
 ///
 /// The text and its files have to be within the limits of `sim`.
 pub fn sim_shows_the_trace()
-    ensures shown { (files : List (List ℕ)) (input : List ℕ) (script : Script) (budget : ℕ) (budgets : List ℕ) (end : Core0) (ends : List Other) (merged : List Stamped) →
+    ensures shown { (files : List (List ℕ)) (input : List ℕ) (script : Script) (budget : ℕ) (budgets : List ℕ) (end : Core0State) (ends : List OtherState) (merged : List Stamped) →
         AllShort input files → script.budgets ≡ budget ∷ budgets → RanScript budget budgets script.items end ends merged → Stands (for_simulation files) input (Ok (traced_script script (as_listed merged))) →
         ShowsSim files input 0 (flat_map done_line (as_listed merged)) }
-    ensures only { (files : List (List ℕ)) (input : List ℕ) (script : Script) (budget : ℕ) (budgets : List ℕ) (end : Core0) (ends : List Other) (merged : List Stamped) (status : ℕ) (text : List ℕ) →
+    ensures only { (files : List (List ℕ)) (input : List ℕ) (script : Script) (budget : ℕ) (budgets : List ℕ) (end : Core0State) (ends : List OtherState) (merged : List Stamped) (status : ℕ) (text : List ℕ) →
         AreFiles files → AllShort input files → script.budgets ≡ budget ∷ budgets → RanScript budget budgets script.items end ends merged → All WasNotRefused (as_listed merged) →
         Stands (for_simulation files) input (Ok (traced_script script (as_listed merged))) → ShowsSim files input status text →
         (status ≡ 0) × ((text ≡ flat_map done_line (as_listed merged)) ⊎ DiffersByMemory (as_listed merged) text) }

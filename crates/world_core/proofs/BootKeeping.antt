@@ -7,7 +7,7 @@ use Rattle.filter_table.specs.Tables.{empty_table, table}
 use Rattle.table_replica.specs.Shown.{ReplicaState}
 use Rattle.monitor_messages.specs.declared.message.Message.{Message}
 use Rattle.monitor_2pc.specs.Coordinators.{CoordinatorState, Idle, no_requests}
-use Rattle.world_core.specs.declared.home.Home.{Home}
+use Rattle.world_core.specs.declared.core0.LoggedCore0.{LoggedCore0}
 use Rattle.world_core.specs.declared.peer.Peer.{Peer}
 use Rattle.world_model.specs.Worlds as worlds
 use Rattle.world_core.specs.Keeping.{seen_peer, seen_world, PeerIsKept, WorldIsKept}
@@ -17,21 +17,21 @@ all_at : {A : Type 0} (P : A → Type 0) (xs : List A) (i : ℕ) (x : A) → All
 all_at P xs i x all at = subst P (get_or_from_slice_get xs i x x at) (all i x (slice_get_within xs i x at))
 
 -- core 0 and the others, as they begin
-pub record Begins {C Piece : Type 0} (messages : C → List Message) (home : Home) (peers : List (Peer C Piece)) (budget : ℕ) (budgets : List ℕ) : Type 0 where
-  pub log : home.log.items ≡ []
-  pub replica : home.core.replica ≡ record { budget = budget; shown = empty_table; staged = None }
-  pub coordinator : home.core.coordinator ≡ record { others = length budgets; last = 0; phase = Idle; requests = no_requests (length budgets) }
-  pub begun : home.begun ≡ None
+pub record Begins {C Piece : Type 0} (messages : C → List Message) (core0 : LoggedCore0) (peers : List (Peer C Piece)) (budget : ℕ) (budgets : List ℕ) : Type 0 where
+  pub log : core0.log.items ≡ []
+  pub replica : core0.core.replica ≡ record { budget = budget; shown = empty_table; staged = None }
+  pub coordinator : core0.core.coordinator ≡ record { others = length budgets; last = 0; phase = Idle; requests = no_requests (length budgets) }
+  pub begun : core0.begun ≡ None
   pub seen : map (seen_peer messages) peers ≡ map worlds.new_peer budgets
   pub kept : All (PeerIsKept []) peers
   pub few : length budgets ≤ 7
 
-pub boot_seen : {C Piece : Type 0} (messages : C → List Message) (home : Home) (peers : List (Peer C Piece)) (budget : ℕ) (budgets : List ℕ) → Begins messages home peers budget budgets → seen_world messages home peers ≡ worlds.boot budget budgets
-boot_seen messages home peers budget budgets b = rw (b.log, b.replica, b.coordinator, b.seen) refl
+pub boot_seen : {C Piece : Type 0} (messages : C → List Message) (core0 : LoggedCore0) (peers : List (Peer C Piece)) (budget : ℕ) (budgets : List ℕ) → Begins messages core0 peers budget budgets → seen_world messages core0 peers ≡ worlds.boot budget budgets
+boot_seen messages core0 peers budget budgets b = rw (b.log, b.replica, b.coordinator, b.seen) refl
 
-pub boot_kept : {C Piece : Type 0} (messages : C → List Message) (home : Home) (peers : List (Peer C Piece)) (budget : ℕ) (budgets : List ℕ) → Begins messages home peers budget budgets → WorldIsKept messages home peers
-boot_kept messages home peers budget budgets b = record {
-  home_kept = record {
+pub boot_kept : {C Piece : Type 0} (messages : C → List Message) (core0 : LoggedCore0) (peers : List (Peer C Piece)) (budget : ℕ) (budgets : List ℕ) → Begins messages core0 peers budget budgets → WorldIsKept messages core0 peers
+boot_kept messages core0 peers budget budgets b = record {
+  core0_kept = record {
     shown = ap (λ (r : ReplicaState). r.shown) b.replica ∙ (sym table_opening ∙ ap (λ log. table log (length log)) (sym b.log));
     between = record { staged = rw (b.coordinator, b.replica) refl; sendable = rw b.coordinator tt };
     begun = rw (b.begun, b.replica) refl;
@@ -42,7 +42,7 @@ boot_kept messages home peers budget budgets b = record {
   budget = budget;
   budgets = budgets;
   events = [];
-  run = boot_seen messages home peers budget budgets b;
+  run = boot_seen messages core0 peers budget budgets b;
 }
   where
     long : length peers ≡ length budgets

@@ -8,13 +8,13 @@ use Rattle.world_events.specs.declared.event.Event.TheVariants.{Start, Submit, S
 use Rattle.world_events.specs.declared.event.Answer.{Answer}
 use Rattle.world_events.specs.declared.fault.WorldFault.{WorldFault}
 use Rattle.world_events.specs.declared.fault.WorldFault.TheVariants.{NoSuchCore, Nothing, NotReady, NotIdle, Spent, Outstanding, NoneWaiting, NoMemory}
-use Rattle.world_core.specs.declared.home.Home.{Home}
+use Rattle.world_core.specs.declared.core0.LoggedCore0.{LoggedCore0}
 use Rattle.world_core.specs.declared.peer.Peer.{Peer}
 use Rattle.world_model.specs.Worlds as worlds
 use Rattle.world_channels.specs.Channels.{first_of}
 use Rattle.monitor_2pc.specs.Coordinators.{Idle}
 use Rattle.world_core.specs.Refusals.{channel, StandsFirst, WorldRefuses}
-use Rattle.world_core.specs.Homes.{StartForRefuses}
+use Rattle.world_core.specs.LoggedCore0s.{StartForRefuses}
 use Rattle.world_core.specs.Keeping.{seen_peer, seen_world, WorldIsKept, PeerCannotSubmit, PeerCannotTake, ChangesOne, Submits, Takes, ReadyToTake}
 use Rattle.world_core.specs.Shown.{ShowsReplica}
 use Rattle.world_core.proofs.WorldKeeping.{peer_shows, no_version, no_core}
@@ -25,25 +25,25 @@ use Rattle.table_replica.proofs.Shared.{get_at}
 
 -- Entries
 
-pub entry_shows : {C Piece : Type 0} (messages : C → List Message) (home : Home) (peers : List (Peer C Piece)) (w : worlds.World) (core : ℕ) (p : Peer C Piece) → WorldIsKept messages home peers → seen_world messages home peers ≡ w → core ≢ 0
+pub entry_shows : {C Piece : Type 0} (messages : C → List Message) (core0 : LoggedCore0) (peers : List (Peer C Piece)) (w : worlds.World) (core : ℕ) (p : Peer C Piece) → WorldIsKept messages core0 peers → seen_world messages core0 peers ≡ w → core ≢ 0
     → slice_get peers (core - 1) ≡ Some p → ShowsReplica w core p.core.replica
-entry_shows messages home peers w core p k view ne at =
+entry_shows messages core0 peers w core p k view ne at =
     let e : suc (core - 1) ≡ core = omega (arith, ne) in
-    subst (λ (x : worlds.World). ShowsReplica x core p.core.replica) view (subst (λ (n : ℕ). ShowsReplica (seen_world messages home peers) n p.core.replica) e (peer_shows messages home peers (core - 1) p k at))
+    subst (λ (x : worlds.World). ShowsReplica x core p.core.replica) view (subst (λ (n : ℕ). ShowsReplica (seen_world messages core0 peers) n p.core.replica) e (peer_shows messages core0 peers (core - 1) p k at))
 
-pub entry_none : {C Piece : Type 0} (messages : C → List Message) (home : Home) (peers : List (Peer C Piece)) (w : worlds.World) (core : ℕ) → seen_world messages home peers ≡ w → core ≢ 0 → slice_get peers (core - 1) ≡ None → worlds.version_at w core ≡ None
-entry_none messages home peers w core view ne at =
+pub entry_none : {C Piece : Type 0} (messages : C → List Message) (core0 : LoggedCore0) (peers : List (Peer C Piece)) (w : worlds.World) (core : ℕ) → seen_world messages core0 peers ≡ w → core ≢ 0 → slice_get peers (core - 1) ≡ None → worlds.version_at w core ≡ None
+entry_none messages core0 peers w core view ne at =
     let e : suc (core - 1) ≡ core = omega (arith, ne) in
-    subst (λ (x : worlds.World). worlds.version_at x core ≡ None) view (subst (λ (n : ℕ). worlds.version_at (seen_world messages home peers) n ≡ None) e (no_version messages home peers (core - 1) at))
+    subst (λ (x : worlds.World). worlds.version_at x core ≡ None) view (subst (λ (n : ℕ). worlds.version_at (seen_world messages core0 peers) n ≡ None) e (no_version messages core0 peers (core - 1) at))
 
 -- A core's own events
 
 -- what a call answers for this event
-pub record Answered {C Piece : Type 0} (messages : C → List Message) (home : Home) (w : worlds.World) (event : Event) (peers' : List (Peer C Piece)) (w' : worlds.World) (r : Result Answer WorldFault) : Type 0 where
+pub record Answered {C Piece : Type 0} (messages : C → List Message) (core0 : LoggedCore0) (w : worlds.World) (event : Event) (peers' : List (Peer C Piece)) (w' : worlds.World) (r : Result Answer WorldFault) : Type 0 where
   pub happens : IfOk r (worlds.Happens w event w')
   pub fault : IfErr r (WorldRefuses w event)
   pub same : OnErr r (w' ≡ w)
-  pub kept : WorldIsKept messages home peers'
+  pub kept : WorldIsKept messages core0 peers'
 
 submit_refuses : (w : worlds.World) (entry : ℕ) (peer : worlds.Peer) (op : Op) (fault : WorldFault) → slice_get w.peers entry ≡ Some peer → PeerCannotSubmit peer fault → WorldRefuses w (Submit (suc entry) op) fault
 submit_refuses w entry peer op Outstanding at h = (entry, peer, refl, at, h)
@@ -61,24 +61,24 @@ submit_refuses w entry peer op NoMemory at h = none
     none NoMemory s = s
 submit_refuses w entry peer op fault at h = absurd h
 
-pub submit_answered : {C Piece : Type 0} (messages : C → List Message) (home : Home) (peers peers' : List (Peer C Piece)) (w w' : worlds.World) (core entry : ℕ) (op : Op) (r : Result Answer WorldFault) → WorldIsKept messages home peers
-    → seen_world messages home peers ≡ w → seen_world messages home peers' ≡ w' → core ≡ suc entry → ChangesOne peers entry peers' (Submits messages op r) → Answered messages home w (Submit core op) peers' w' r
-submit_answered messages home peers peers' w w' core entry op r k view view' e c =
+pub submit_answered : {C Piece : Type 0} (messages : C → List Message) (core0 : LoggedCore0) (peers peers' : List (Peer C Piece)) (w w' : worlds.World) (core entry : ℕ) (op : Op) (r : Result Answer WorldFault) → WorldIsKept messages core0 peers
+    → seen_world messages core0 peers ≡ w → seen_world messages core0 peers' ≡ w' → core ≡ suc entry → ChangesOne peers entry peers' (Submits messages op r) → Answered messages core0 w (Submit core op) peers' w' r
+submit_answered messages core0 peers peers' w w' core entry op r k view view' e c =
     rw (e, ← view, ← view', c.changed) (by_result r c.related)
   where
     by_result : (r : Result Answer WorldFault) → Submits messages op r c.before c.after
-        → Answered messages home (seen_world messages home peers) (Submit (suc entry) op) (slice_set peers entry c.after) (seen_world messages home (slice_set peers entry c.after)) r
+        → Answered messages core0 (seen_world messages core0 peers) (Submit (suc entry) op) (slice_set peers entry c.after) (seen_world messages core0 (slice_set peers entry c.after)) r
     by_result (Ok answer) s = record {
-      happens = submit_happens messages home peers entry c.before c.after op answer c.there s.done;
+      happens = submit_happens messages core0 peers entry c.before c.after op answer c.there s.done;
       fault = tt;
       same = tt;
-      kept = submit_kept messages home peers entry c.before c.after op (Ok answer) k c.there s;
+      kept = submit_kept messages core0 peers entry c.before c.after op (Ok answer) k c.there s;
     }
     by_result (Err fault) s = record {
       happens = tt;
-      fault = submit_refuses (seen_world messages home peers) entry (seen_peer messages c.before) op fault (map-get (seen_peer messages) peers entry c.before c.there) s.fault;
-      same = seen_same messages home peers entry c.before c.after c.there s.same;
-      kept = submit_kept messages home peers entry c.before c.after op (Err fault) k c.there s;
+      fault = submit_refuses (seen_world messages core0 peers) entry (seen_peer messages c.before) op fault (map-get (seen_peer messages) peers entry c.before c.there) s.fault;
+      same = seen_same messages core0 peers entry c.before c.after c.there s.same;
+      kept = submit_kept messages core0 peers entry c.before c.after op (Err fault) k c.there s;
     }
 
 take_refuses : (w : worlds.World) (entry : ℕ) (peer : worlds.Peer) (short : Bool) (fault : WorldFault) → slice_get w.peers entry ≡ Some peer → PeerCannotTake peer fault → WorldRefuses w (Take (suc entry) 0 short) fault
@@ -99,28 +99,28 @@ take_refuses w entry peer short NoMemory at h = none
     none NoMemory s = s
 take_refuses w entry peer short fault at h = absurd h
 
-pub take_answered : {C Piece : Type 0} (messages : C → List Message) (home : Home) (peers peers' : List (Peer C Piece)) (w w' : worlds.World) (core entry : ℕ) (short : Bool) (r : Result Answer WorldFault) → WorldIsKept messages home peers
-    → seen_world messages home peers ≡ w → seen_world messages home peers' ≡ w' → core ≡ suc entry → ChangesOne peers entry peers' (Takes messages short r) → Answered messages home w (Take core 0 short) peers' w' r
-take_answered messages home peers peers' w w' core entry short r k view view' e c =
+pub take_answered : {C Piece : Type 0} (messages : C → List Message) (core0 : LoggedCore0) (peers peers' : List (Peer C Piece)) (w w' : worlds.World) (core entry : ℕ) (short : Bool) (r : Result Answer WorldFault) → WorldIsKept messages core0 peers
+    → seen_world messages core0 peers ≡ w → seen_world messages core0 peers' ≡ w' → core ≡ suc entry → ChangesOne peers entry peers' (Takes messages short r) → Answered messages core0 w (Take core 0 short) peers' w' r
+take_answered messages core0 peers peers' w w' core entry short r k view view' e c =
     rw (e, ← view, ← view', c.changed) (by_result r c.related)
   where
     by_result : (r : Result Answer WorldFault) → Takes messages short r c.before c.after
-        → Answered messages home (seen_world messages home peers) (Take (suc entry) 0 short) (slice_set peers entry c.after) (seen_world messages home (slice_set peers entry c.after)) r
+        → Answered messages core0 (seen_world messages core0 peers) (Take (suc entry) 0 short) (slice_set peers entry c.after) (seen_world messages core0 (slice_set peers entry c.after)) r
     by_result (Ok answer) s = record {
-      happens = take_happens messages home peers entry c.before c.after short answer k c.there s.done;
+      happens = take_happens messages core0 peers entry c.before c.after short answer k c.there s.done;
       fault = tt;
       same = tt;
-      kept = take_kept messages home peers entry c.before c.after short (Ok answer) k c.there s;
+      kept = take_kept messages core0 peers entry c.before c.after short (Ok answer) k c.there s;
     }
     by_result (Err fault) s = record {
       happens = tt;
-      fault = take_refuses (seen_world messages home peers) entry (seen_peer messages c.before) short fault (map-get (seen_peer messages) peers entry c.before c.there) s.fault;
-      same = seen_same messages home peers entry c.before c.after c.there s.same;
-      kept = take_kept messages home peers entry c.before c.after short (Err fault) k c.there s;
+      fault = take_refuses (seen_world messages core0 peers) entry (seen_peer messages c.before) short fault (map-get (seen_peer messages) peers entry c.before c.there) s.fault;
+      same = seen_same messages core0 peers entry c.before c.after c.there s.same;
+      kept = take_kept messages core0 peers entry c.before c.after short (Err fault) k c.there s;
     }
 
-pub take_ready : {C Piece : Type 0} (messages : C → List Message) (home : Home) (peers : List (Peer C Piece)) (entry : ℕ) → WorldIsKept messages home peers → (p : Peer C Piece) → slice_get peers entry ≡ Some p → ReadyToTake messages p
-take_ready messages home peers entry k p at = record { between = (k.peers_kept entry p at).between; awaits = awaits_oldest messages home peers entry p k at }
+pub take_ready : {C Piece : Type 0} (messages : C → List Message) (core0 : LoggedCore0) (peers : List (Peer C Piece)) (entry : ℕ) → WorldIsKept messages core0 peers → (p : Peer C Piece) → slice_get peers entry ≡ Some p → ReadyToTake messages p
+take_ready messages core0 peers entry k p at = record { between = (k.peers_kept entry p at).between; awaits = awaits_oldest messages core0 peers entry p k at }
 
 -- What a call tells
 
@@ -154,26 +154,26 @@ some_at messages peers entry d inside (Ok message) h = tt
 some_at {C} {Piece} messages peers entry d inside (Err fault) h = λ none. h (let x = ap (option_map (λ (p : Peer C Piece). messages p.up)) (slice_get-get_or peers entry d inside) in cc)
 
 -- the messages to core 0
-channel_up : {C Piece : Type 0} (messages : C → List Message) (home : Home) (peers : List (Peer C Piece)) (core entry : ℕ) (p : Peer C Piece) → core ≡ suc entry → slice_get peers entry ≡ Some p → channel (seen_world messages home peers) 0 core ≡ Some (messages p.up)
-channel_up messages home peers core entry p e at = rw e (ap (option_map (λ (x : worlds.Peer). x.up)) (map-get (seen_peer messages) peers entry p at))
+channel_up : {C Piece : Type 0} (messages : C → List Message) (core0 : LoggedCore0) (peers : List (Peer C Piece)) (core entry : ℕ) (p : Peer C Piece) → core ≡ suc entry → slice_get peers entry ≡ Some p → channel (seen_world messages core0 peers) 0 core ≡ Some (messages p.up)
+channel_up messages core0 peers core entry p e at = rw e (ap (option_map (λ (x : worlds.Peer). x.up)) (map-get (seen_peer messages) peers entry p at))
 
 none_first : (ms : List Message) → first_of ms ≡ None → ms ≡ []
 none_first [] e = refl
 none_first (m ∷ ms) e = absurd cc
 
-pub up_oldest : {C Piece : Type 0} (messages : C → List Message) (home : Home) (peers : List (Peer C Piece)) (core entry : ℕ) (m : Message) → core ≡ suc entry → entry < length peers → option_map (λ (p : Peer C Piece). first_of (messages p.up)) (slice_get peers entry) ≡ Some (Some m)
-    → option_and_then first_of (channel (seen_world messages home peers) 0 core) ≡ Some m
-up_oldest {C} {Piece} messages home peers core entry m e inside first =
+pub up_oldest : {C Piece : Type 0} (messages : C → List Message) (core0 : LoggedCore0) (peers : List (Peer C Piece)) (core entry : ℕ) (m : Message) → core ≡ suc entry → entry < length peers → option_map (λ (p : Peer C Piece). first_of (messages p.up)) (slice_get peers entry) ≡ Some (Some m)
+    → option_and_then first_of (channel (seen_world messages core0 peers) 0 core) ≡ Some m
+up_oldest {C} {Piece} messages core0 peers core entry m e inside first =
     let p = get_at peers entry inside in
     let f : first_of (messages p.0.up) ≡ Some m = (let x = first in let y = ap (option_map (λ (q : Peer C Piece). first_of (messages q.up))) p.1 in cc) in
-    rw (channel_up messages home peers core entry p.0 e p.1) f
+    rw (channel_up messages core0 peers core entry p.0 e p.1) f
 
-pub up_nothing : {C Piece : Type 0} (messages : C → List Message) (home : Home) (peers : List (Peer C Piece)) (core entry : ℕ) → core ≡ suc entry → entry < length peers → option_map (λ (p : Peer C Piece). first_of (messages p.up)) (slice_get peers entry) ≡ Some None
-    → channel (seen_world messages home peers) 0 core ≡ Some []
-up_nothing {C} {Piece} messages home peers core entry e inside first =
+pub up_nothing : {C Piece : Type 0} (messages : C → List Message) (core0 : LoggedCore0) (peers : List (Peer C Piece)) (core entry : ℕ) → core ≡ suc entry → entry < length peers → option_map (λ (p : Peer C Piece). first_of (messages p.up)) (slice_get peers entry) ≡ Some None
+    → channel (seen_world messages core0 peers) 0 core ≡ Some []
+up_nothing {C} {Piece} messages core0 peers core entry e inside first =
     let p = get_at peers entry inside in
     let f : first_of (messages p.0.up) ≡ None = (let x = first in let y = ap (option_map (λ (q : Peer C Piece). first_of (messages q.up))) p.1 in cc) in
-    channel_up messages home peers core entry p.0 e p.1 ∙ ap (λ (ms : List Message). Some ms) (none_first (messages p.0.up) f)
+    channel_up messages core0 peers core entry p.0 e p.1 ∙ ap (λ (ms : List Message). Some ms) (none_first (messages p.0.up) f)
 
 up_refuses : (w : worlds.World) (core : ℕ) (short : Bool) (ms : List Message) → channel w 0 core ≡ Some ms → ms ≢ [] → WorldRefuses w (Take 0 core short) NoMemory
 up_refuses w core short ms there some NoSuchCore h = cc (there, h)
@@ -185,11 +185,11 @@ up_refuses w core short ms there some Spent h = h
 up_refuses w core short ms there some NoneWaiting h = h
 up_refuses w core short ms there some NoMemory h = h
 
-pub up_no_memory : {C Piece : Type 0} (messages : C → List Message) (home : Home) (peers : List (Peer C Piece)) (core entry : ℕ) (short : Bool) → core ≡ suc entry → entry < length peers → option_map (λ (p : Peer C Piece). messages p.up) (slice_get peers entry) ≢ Some []
-    → WorldRefuses (seen_world messages home peers) (Take 0 core short) NoMemory
-up_no_memory {C} {Piece} messages home peers core entry short e inside some =
+pub up_no_memory : {C Piece : Type 0} (messages : C → List Message) (core0 : LoggedCore0) (peers : List (Peer C Piece)) (core entry : ℕ) (short : Bool) → core ≡ suc entry → entry < length peers → option_map (λ (p : Peer C Piece). messages p.up) (slice_get peers entry) ≢ Some []
+    → WorldRefuses (seen_world messages core0 peers) (Take 0 core short) NoMemory
+up_no_memory {C} {Piece} messages core0 peers core entry short e inside some =
     let p = get_at peers entry inside in
-    up_refuses (seen_world messages home peers) core short (messages p.0.up) (channel_up messages home peers core entry p.0 e p.1)
+    up_refuses (seen_world messages core0 peers) core short (messages p.0.up) (channel_up messages core0 peers core entry p.0 e p.1)
     (λ none. some (ap (option_map (λ (q : Peer C Piece). messages q.up)) p.1 ∙ ap (λ (ms : List Message). Some ms) none))
 
 -- a message that core 0 has no memory to take
@@ -230,16 +230,16 @@ start_for_refuses w core NoMemory there idle unspent h = none
     none NoMemory s = s
 start_for_refuses w core fault there idle unspent h = absurd h
 
-pub no_channel : {C Piece : Type 0} (messages : C → List Message) (home : Home) (peers : List (Peer C Piece)) (core : ℕ) → length peers < core → channel (seen_world messages home peers) 0 core ≡ None
-no_channel messages home peers zero few = refl
-no_channel messages home peers (suc entry) few = ap (option_map (λ (p : worlds.Peer). p.up)) (no_core messages peers entry (slice_get_past peers entry (omega (arith, few))))
+pub no_channel : {C Piece : Type 0} (messages : C → List Message) (core0 : LoggedCore0) (peers : List (Peer C Piece)) (core : ℕ) → length peers < core → channel (seen_world messages core0 peers) 0 core ≡ None
+no_channel messages core0 peers zero few = refl
+no_channel messages core0 peers (suc entry) few = ap (option_map (λ (p : worlds.Peer). p.up)) (no_core messages peers entry (slice_get_past peers entry (omega (arith, few))))
 
-pub no_channel_down : {C Piece : Type 0} (messages : C → List Message) (home : Home) (peers : List (Peer C Piece)) (core : ℕ) → length peers < core → channel (seen_world messages home peers) core 0 ≡ None
-no_channel_down messages home peers zero few = refl
-no_channel_down messages home peers (suc entry) few = ap (option_map (λ (p : worlds.Peer). p.down)) (no_core messages peers entry (slice_get_past peers entry (omega (arith, few))))
+pub no_channel_down : {C Piece : Type 0} (messages : C → List Message) (core0 : LoggedCore0) (peers : List (Peer C Piece)) (core : ℕ) → length peers < core → channel (seen_world messages core0 peers) core 0 ≡ None
+no_channel_down messages core0 peers zero few = refl
+no_channel_down messages core0 peers (suc entry) few = ap (option_map (λ (p : worlds.Peer). p.down)) (no_core messages peers entry (slice_get_past peers entry (omega (arith, few))))
 
-pub has_channel : {C Piece : Type 0} (messages : C → List Message) (home : Home) (peers : List (Peer C Piece)) (core entry : ℕ) → core ≡ suc entry → entry < length peers → channel (seen_world messages home peers) 0 core ≢ None
-has_channel messages home peers core entry e inside none =
+pub has_channel : {C Piece : Type 0} (messages : C → List Message) (core0 : LoggedCore0) (peers : List (Peer C Piece)) (core entry : ℕ) → core ≡ suc entry → entry < length peers → channel (seen_world messages core0 peers) 0 core ≢ None
+has_channel messages core0 peers core entry e inside none =
     let p = get_at peers entry inside in
-    let there = channel_up messages home peers core entry p.0 e p.1 in
+    let there = channel_up messages core0 peers core entry p.0 e p.1 in
     cc (there, none)

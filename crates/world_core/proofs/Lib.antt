@@ -4,8 +4,8 @@ pub mod PeerKeeping
 pub mod EventKeeping
 pub mod Standing
 pub mod BootKeeping
-pub mod HomeKeeping
-pub mod HomeSteps
+pub mod Core0Keeping
+pub mod Core0Moves
 pub mod Carried
 pub mod Begin
 pub mod Moving

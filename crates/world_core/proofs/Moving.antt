@@ -15,10 +15,10 @@ use Rattle.world_model.specs.Worlds as worlds
 use Rattle.world_model.proofs.Lists.{length-slice_set}
 use Rattle.world_model.proofs.Runs.{runs_more}
 use Rattle.world_model.proofs.Agreement.{run_inv}
-use Rattle.world_core.specs.declared.home.Home.{Home}
+use Rattle.world_core.specs.declared.core0.LoggedCore0.{LoggedCore0}
 use Rattle.world_core.specs.declared.peer.Peer.{Peer}
 use Rattle.world_core.specs.Keeping.{seen_peer, seen_world, CoreIsKept, WorldIsKept, EachMatches, ChangesOne, IsSent, GivesUp, HasRoom, RoomAt, RoomFrom}
-use Rattle.world_core.specs.Homes.{HomeMoves}
+use Rattle.world_core.specs.LoggedCore0s.{Core0Moves}
 use Rattle.world_core.specs.Sending.{IsMade, HasRoomFor, SentOut}
 use Rattle.world_core.specs.declared.sending.Ready.{Ready}
 use Rattle.world_core.specs.declared.sending.Ready.TheVariants.{Nothing, ToAll, ToOne}
@@ -26,7 +26,7 @@ use Rattle.core_steps.specs.declared.other_core.OtherCore.{OtherCore}
 use Rattle.core_steps.specs.Core0Steps.{core0_place}
 use Rattle.core_steps.proofs.Taking.{version_commit}
 use Rattle.world_core.proofs.PeerKeeping.{map-slice_set}
-use Rattle.world_core.proofs.HomeKeeping.{Oldest, seen_gives_up}
+use Rattle.world_core.proofs.Core0Keeping.{Oldest, seen_gives_up}
 use Rattle.world_core.proofs.Carried.{set_at, sent_seen}
 use Rattle.world_core.proofs.WorldKeeping.{no_core}
 use Rattle.std.proofs.lemmas.Option.{slice_get_within, slice_get_past}
@@ -97,10 +97,10 @@ sent_out_seen messages peers peers' (to_one entry m) (inl c) = sent_one_seen mes
 sent_out_seen messages peers peers' (to_one entry m) (inr s) = rw (s.1, no_core messages peers entry (s.0)) refl
 
 -- the world after core 0 has moved and sent
-pub moved_seen : {C Piece : Type 0} (messages : C → List Message) (home home' : Home) (peers peers' : List (Peer C Piece)) (committed : Option Op) (out : Outgoing) → HomeMoves home committed home' → SentOut messages peers out peers'
-    → seen_world messages home' peers' ≡ worlds.core0_moves (seen_world messages home peers) (core0_place home'.core) home'.core.coordinator.requests committed out
-moved_seen messages home home' peers peers' committed out h sent =
-    let version : home'.core.replica.shown.version ≡ raised home.core.replica.shown.version committed = ap (λ (s : TableState). s.version) h.moves.shown_next ∙ version_commit home.core.replica.shown committed in
+pub moved_seen : {C Piece : Type 0} (messages : C → List Message) (core0 core0' : LoggedCore0) (peers peers' : List (Peer C Piece)) (committed : Option Op) (out : Outgoing) → Core0Moves core0 committed core0' → SentOut messages peers out peers'
+    → seen_world messages core0' peers' ≡ worlds.core0_moves (seen_world messages core0 peers) (core0_place core0'.core) core0'.core.coordinator.requests committed out
+moved_seen messages core0 core0' peers peers' committed out h sent =
+    let version : core0'.core.replica.shown.version ≡ raised core0.core.replica.shown.version committed = ap (λ (s : TableState). s.version) h.moves.shown_next ∙ version_commit core0.core.replica.shown committed in
     rw (h.log_next, h.moves.same_budget, version, sent_out_seen messages peers peers' out sent) refl
 
 -- The world is kept
@@ -112,58 +112,58 @@ core_moved log committed core core' le same k = subst (λ (c : OtherCore). CoreI
     front None = refl
     front (Some op) = table_front log (op ∷ []) core.replica.shown.version le
 
-pub moved_kept : {C Piece : Type 0} (messages : C → List Message) (home home' : Home) (peers peers' : List (Peer C Piece)) (committed : Option Op) (event : Event) (answer : Answer) → WorldIsKept messages home peers → HomeMoves home committed home' → EachMatches Alike peers peers'
-    → worlds.Happens (seen_world messages home peers) event (seen_world messages home' peers') answer → WorldIsKept messages home' peers'
-moved_kept messages home home' peers peers' committed event answer k h m happens = record {
-  home_kept = h.kept;
+pub moved_kept : {C Piece : Type 0} (messages : C → List Message) (core0 core0' : LoggedCore0) (peers peers' : List (Peer C Piece)) (committed : Option Op) (event : Event) (answer : Answer) → WorldIsKept messages core0 peers → Core0Moves core0 committed core0' → EachMatches Alike peers peers'
+    → worlds.Happens (seen_world messages core0 peers) event (seen_world messages core0' peers') answer → WorldIsKept messages core0' peers'
+moved_kept messages core0 core0' peers peers' committed event answer k h m happens = record {
+  core0_kept = h.kept;
   others = h.moves.same_others ∙ (k.others ∙ sym (m.0));
   peers_kept = λ i p at.
       let old = get_at peers i (omega (arith, m.0, slice_get_within peers' i p at)) in
-      let within = (run_inv k.budget k.budgets k.events (seen_world messages home peers) k.run).within i (seen_peer messages old.0) (map-get (seen_peer messages) peers i old.0 old.1) in
-      rw h.log_next (core_moved home.log.items committed old.0.core p.core within.not_ahead (m.1 i old.0 p old.1 at).core (k.peers_kept i old.0 old.1));
+      let within = (run_inv k.budget k.budgets k.events (seen_world messages core0 peers) k.run).within i (seen_peer messages old.0) (map-get (seen_peer messages) peers i old.0 old.1) in
+      rw h.log_next (core_moved core0.log.items committed old.0.core p.core within.not_ahead (m.1 i old.0 p old.1 at).core (k.peers_kept i old.0 old.1));
   few = rw (m.0) k.few;
   budget = k.budget;
   budgets = k.budgets;
   events = k.events ++ record { event = event; answer = answer } ∷ [];
-  run = runs_more _ (seen_world messages home peers) (seen_world messages home' peers') k.events (record { event = event; answer = answer }) k.run happens;
+  run = runs_more _ (seen_world messages core0 peers) (seen_world messages core0' peers') k.events (record { event = event; answer = answer }) k.run happens;
 }
 
 -- Core 0 takes a message
 
-seen_gave : {C Piece : Type 0} (messages : C → List Message) (home : Home) (peers mid : List (Peer C Piece)) (core entry : ℕ) (m : Message) → (o : Oldest messages peers core m) → entry ≡ o.entry → ChangesOne peers entry mid (GivesUp messages)
-    → seen_world messages home mid ≡ worlds.gave (seen_world messages home peers) o.entry (seen_peer messages o.peer) o.rest
-seen_gave messages home peers mid core entry m o same c =
+seen_gave : {C Piece : Type 0} (messages : C → List Message) (core0 : LoggedCore0) (peers mid : List (Peer C Piece)) (core entry : ℕ) (m : Message) → (o : Oldest messages peers core m) → entry ≡ o.entry → ChangesOne peers entry mid (GivesUp messages)
+    → seen_world messages core0 mid ≡ worlds.gave (seen_world messages core0 peers) o.entry (seen_peer messages o.peer) o.rest
+seen_gave messages core0 peers mid core entry m o same c =
     let there : slice_get peers o.entry ≡ Some c.before = subst (λ (n : ℕ). slice_get peers n ≡ Some c.before) same c.there in
     let before : c.before ≡ o.peer = (let x = there in let y = o.there in cc) in
     let gives : GivesUp messages o.peer c.after = rw (← before) c.related in
     rw (c.changed, same, map-slice_set (seen_peer messages) peers o.entry c.after, seen_gives_up messages o.peer c.after o.rest gives o.dropped) refl
 
 -- core 0 has taken the oldest message of the core
-pub record UpDone {C Piece : Type 0} (messages : C → List Message) (home' : Home) (peers' : List (Peer C Piece)) (w : worlds.World) (core : ℕ) (answer : Answer) : Type 0 where
-  pub happens : (short : Bool) → worlds.Happens w (Take 0 core short) (seen_world messages home' peers') answer
-  pub kept : WorldIsKept messages home' peers'
+pub record UpDone {C Piece : Type 0} (messages : C → List Message) (core0' : LoggedCore0) (peers' : List (Peer C Piece)) (w : worlds.World) (core : ℕ) (answer : Answer) : Type 0 where
+  pub happens : (short : Bool) → worlds.Happens w (Take 0 core short) (seen_world messages core0' peers') answer
+  pub kept : WorldIsKept messages core0' peers'
 
-pub up_done : {C Piece : Type 0} (messages : C → List Message) (home home' : Home) (peers mid peers' : List (Peer C Piece)) (w : worlds.World) (core entry : ℕ) (m : Message) (committed : Option Op) (told : Step) (answer : Answer) → WorldIsKept messages home peers
-    → seen_world messages home peers ≡ w → (o : Oldest messages peers core m) → entry ≡ o.entry → HomeMoves home committed home' → ChangesOne peers entry mid (GivesUp messages) → SentOut messages mid (outgoing told (core0_place home'.core)) peers'
-    → TakesUpAt home.core.replica.shown (core0_place home.core) home.core.coordinator.requests o.entry m (core0_place home'.core) home'.core.coordinator.requests committed told answer → UpDone messages home' peers' w core answer
-up_done messages home home' peers mid peers' w core entry m committed told answer k view o same h gives sent here =
-    let happens : (short : Bool) → worlds.Happens (seen_world messages home peers) (Take 0 (suc o.entry) short) (seen_world messages home' peers') answer = λ short. record {
+pub up_done : {C Piece : Type 0} (messages : C → List Message) (core0 core0' : LoggedCore0) (peers mid peers' : List (Peer C Piece)) (w : worlds.World) (core entry : ℕ) (m : Message) (committed : Option Op) (told : Step) (answer : Answer) → WorldIsKept messages core0 peers
+    → seen_world messages core0 peers ≡ w → (o : Oldest messages peers core m) → entry ≡ o.entry → Core0Moves core0 committed core0' → ChangesOne peers entry mid (GivesUp messages) → SentOut messages mid (outgoing told (core0_place core0'.core)) peers'
+    → TakesUpAt core0.core.replica.shown (core0_place core0.core) core0.core.coordinator.requests o.entry m (core0_place core0'.core) core0'.core.coordinator.requests committed told answer → UpDone messages core0' peers' w core answer
+up_done messages core0 core0' peers mid peers' w core entry m committed told answer k view o same h gives sent here =
+    let happens : (short : Bool) → worlds.Happens (seen_world messages core0 peers) (Take 0 (suc o.entry) short) (seen_world messages core0' peers') answer = λ short. record {
       peer = seen_peer messages o.peer;
       is_peer = map-get (seen_peer messages) peers o.entry o.peer o.there;
       m = m;
       rest = o.rest;
       oldest = o.oldest;
-      place = core0_place home'.core;
-      requests = home'.core.coordinator.requests;
+      place = core0_place core0'.core;
+      requests = core0'.core.coordinator.requests;
       committed = committed;
       told = told;
-      here = subst (λ (s : TableState). TakesUpAt s (core0_place home.core) home.core.coordinator.requests o.entry m (core0_place home'.core) home'.core.coordinator.requests committed told answer) k.home_kept.shown here;
-      next = moved_seen messages home home' mid peers' committed (outgoing told (core0_place home'.core)) h sent
-          ∙ ap (λ (x : worlds.World). worlds.core0_moves x (core0_place home'.core) home'.core.coordinator.requests committed (outgoing told (core0_place home'.core))) (seen_gave messages home peers mid core entry m o same gives);
+      here = subst (λ (s : TableState). TakesUpAt s (core0_place core0.core) core0.core.coordinator.requests o.entry m (core0_place core0'.core) core0'.core.coordinator.requests committed told answer) k.core0_kept.shown here;
+      next = moved_seen messages core0 core0' mid peers' committed (outgoing told (core0_place core0'.core)) h sent
+          ∙ ap (λ (x : worlds.World). worlds.core0_moves x (core0_place core0'.core) core0'.core.coordinator.requests committed (outgoing told (core0_place core0'.core))) (seen_gave messages core0 peers mid core entry m o same gives);
     } in
     record {
       happens = λ short. rw (o.is_core, ← view) (happens short);
-      kept = moved_kept messages home home' peers peers' committed (Take 0 (suc o.entry) false) answer k h (alike_both peers mid peers' (alike_given messages peers mid entry gives) (alike_sent messages mid peers' (outgoing told (core0_place home'.core)) sent)) (happens false);
+      kept = moved_kept messages core0 core0' peers peers' committed (Take 0 (suc o.entry) false) answer k h (alike_both peers mid peers' (alike_given messages peers mid entry gives) (alike_sent messages mid peers' (outgoing told (core0_place core0'.core)) sent)) (happens false);
     }
 
 -- a core that gave up a message can still be sent one

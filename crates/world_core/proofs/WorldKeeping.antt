@@ -3,7 +3,7 @@ use Rattle.std.proofs.Common.{◌≡◌, ◌∙◌, ◌∷◌, ℕ, zero, suc, N
 use Rattle.std.specs.Prelude.{option_map}
 use Rattle.filter_table.specs.Tables.{table}
 use Rattle.monitor_messages.specs.declared.message.Message.{Message}
-use Rattle.world_core.specs.declared.home.Home.{Home}
+use Rattle.world_core.specs.declared.core0.LoggedCore0.{LoggedCore0}
 use Rattle.world_core.specs.declared.peer.Peer.{Peer}
 use Rattle.world_model.specs.Worlds as worlds
 use Rattle.world_model.specs.Agreement.{Agrees}
@@ -12,21 +12,21 @@ use Rattle.world_core.specs.Shown.{ShowsReplica}
 use Rattle.world_model.proofs.RunLaws.{run_agrees}
 use Rattle.filter_table.proofs.Lists.{map-get}
 
-agreed : {C Piece : Type 0} (messages : C → List Message) (home : Home) (peers : List (Peer C Piece)) → (k : WorldIsKept messages home peers) → Agrees k.budget k.budgets (seen_world messages home peers)
-agreed messages home peers k = run_agrees k.budget k.budgets k.events (seen_world messages home peers) k.run
+agreed : {C Piece : Type 0} (messages : C → List Message) (core0 : LoggedCore0) (peers : List (Peer C Piece)) → (k : WorldIsKept messages core0 peers) → Agrees k.budget k.budgets (seen_world messages core0 peers)
+agreed messages core0 peers k = run_agrees k.budget k.budgets k.events (seen_world messages core0 peers) k.run
 
-pub home_shows : {C Piece : Type 0} (messages : C → List Message) (home : Home) (peers : List (Peer C Piece)) → WorldIsKept messages home peers → ShowsReplica (seen_world messages home peers) 0 home.core.replica
-home_shows messages home peers k = record {
-  version = home.core.replica.shown.version;
+pub core0_shows : {C Piece : Type 0} (messages : C → List Message) (core0 : LoggedCore0) (peers : List (Peer C Piece)) → WorldIsKept messages core0 peers → ShowsReplica (seen_world messages core0 peers) 0 core0.core.replica
+core0_shows messages core0 peers k = record {
+  version = core0.core.replica.shown.version;
   is_version = refl;
   numbered = refl;
-  shown = k.home_kept.shown ∙ ap (table home.log.items) (sym (agreed messages home peers k).core0);
+  shown = k.core0_kept.shown ∙ ap (table core0.log.items) (sym (agreed messages core0 peers k).core0);
   is_budget = refl;
   is_staged = refl;
 }
 
-pub peer_shows : {C Piece : Type 0} (messages : C → List Message) (home : Home) (peers : List (Peer C Piece)) (i : ℕ) (p : Peer C Piece) → WorldIsKept messages home peers → slice_get peers i ≡ Some p → ShowsReplica (seen_world messages home peers) (suc i) p.core.replica
-peer_shows messages home peers i p k at =
+pub peer_shows : {C Piece : Type 0} (messages : C → List Message) (core0 : LoggedCore0) (peers : List (Peer C Piece)) (i : ℕ) (p : Peer C Piece) → WorldIsKept messages core0 peers → slice_get peers i ≡ Some p → ShowsReplica (seen_world messages core0 peers) (suc i) p.core.replica
+peer_shows messages core0 peers i p k at =
     let there = map-get (seen_peer messages) peers i p at in
     record {
       version = p.core.replica.shown.version;
@@ -42,5 +42,5 @@ no_core messages [] i at = refl
 no_core messages (p ∷ peers) zero at = absurd cc
 no_core messages (p ∷ peers) (suc i) at = no_core messages peers i at
 
-pub no_version : {C Piece : Type 0} (messages : C → List Message) (home : Home) (peers : List (Peer C Piece)) (i : ℕ) → slice_get peers i ≡ None → worlds.version_at (seen_world messages home peers) (suc i) ≡ None
-no_version messages home peers i at = ap (option_map (λ (x : worlds.Peer). x.version)) (no_core messages peers i at)
+pub no_version : {C Piece : Type 0} (messages : C → List Message) (core0 : LoggedCore0) (peers : List (Peer C Piece)) (i : ℕ) → slice_get peers i ≡ None → worlds.version_at (seen_world messages core0 peers) (suc i) ≡ None
+no_version messages core0 peers i at = ap (option_map (λ (x : worlds.Peer). x.version)) (no_core messages peers i at)

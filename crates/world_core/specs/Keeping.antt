@@ -17,9 +17,9 @@ use Rattle.core_steps.specs.Core0Steps.{core0_place}
 use Rattle.core_steps.specs.OtherCoreSteps.{other_place, IsBetweenSteps, AwaitsHere}
 use Rattle.world_events.specs.declared.fault.WorldFault.{WorldFault}
 use Rattle.world_events.specs.declared.fault.WorldFault.TheVariants.{Nothing, Outstanding, NoMemory}
-use Rattle.world_core.specs.declared.home.Home.{Home}
+use Rattle.world_core.specs.declared.core0.LoggedCore0.{LoggedCore0}
 use Rattle.world_core.specs.declared.peer.Peer.{Peer}
-use Rattle.world_core.specs.Homes.{HomeIsKept}
+use Rattle.world_core.specs.LoggedCore0s.{Core0IsKept}
 
 -- what the world shows of a core other than core 0
 abbrev pub seen_peer : {C Piece : Type 0} → (C → List Message) → Peer C Piece → worlds.Peer
@@ -76,26 +76,26 @@ PeerCannotTake p fault = ⊥
 -- Core 0
 
 -- what the world shows of its cores
-abbrev pub seen_world : {C Piece : Type 0} → (C → List Message) → Home → List (Peer C Piece) → worlds.World
-seen_world messages home peers = record {
-  log = home.log.items;
-  budget = home.core.replica.budget;
-  version = home.core.replica.shown.version;
-  place = core0_place home.core;
-  requests = home.core.coordinator.requests;
+abbrev pub seen_world : {C Piece : Type 0} → (C → List Message) → LoggedCore0 → List (Peer C Piece) → worlds.World
+seen_world messages core0 peers = record {
+  log = core0.log.items;
+  budget = core0.core.replica.budget;
+  version = core0.core.replica.shown.version;
+  place = core0_place core0.core;
+  requests = core0.core.coordinator.requests;
   peers = map (seen_peer messages) peers;
 }
 
 -- the cores are so, and a run led to what is shown of them
-pub record WorldIsKept {C Piece : Type 0} (messages : C → List Message) (home : Home) (peers : List (Peer C Piece)) : Type 0 where
-  pub home_kept : HomeIsKept home
-  pub others : home.core.coordinator.others ≡ length peers
-  pub peers_kept : (i : ℕ) (p : Peer C Piece) → slice_get peers i ≡ Some p → PeerIsKept home.log.items p
+pub record WorldIsKept {C Piece : Type 0} (messages : C → List Message) (core0 : LoggedCore0) (peers : List (Peer C Piece)) : Type 0 where
+  pub core0_kept : Core0IsKept core0
+  pub others : core0.core.coordinator.others ≡ length peers
+  pub peers_kept : (i : ℕ) (p : Peer C Piece) → slice_get peers i ≡ Some p → PeerIsKept core0.log.items p
   pub few : length peers ≤ 7
   pub budget : ℕ
   pub budgets : List ℕ
   pub events : List Done
-  pub run : worlds.Run budget budgets events (seen_world messages home peers)
+  pub run : worlds.Run budget budgets events (seen_world messages core0 peers)
 
 -- One core of several is changed
 pub record ChangesOne {P : Type 0} (old : List P) (i : ℕ) (new : List P) (R : P → P → Type 0) : Type 0 where

@@ -1,4 +1,4 @@
-pub mod Homes
+pub mod LoggedCore0s
 pub mod Keeping
 pub mod Sending
 pub mod Refusals

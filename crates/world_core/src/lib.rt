@@ -4,9 +4,9 @@
 //! places in the protocol and the messages under way, and does one event after another, in any order.
 #![tactic(auto)]
 
+mod core0;
 mod fault;
 mod hearing;
-mod home;
 mod peer;
 mod sending;
 mod settling;

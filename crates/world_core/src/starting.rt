@@ -9,9 +9,9 @@ ghost use Rattle.world_events.specs.declared.event.Event.TheVariants.{Start, Sta
 ghost use Rattle.world_model.specs.Worlds as worlds;
 ghost use Rattle.world_core.specs.Keeping.{seen_world, WorldIsKept, EachMatches, Readied};
 ghost use Rattle.world_core.specs.Sending.{IsReady};
-ghost use Rattle.world_core.specs.Homes.{StartForRefuses};
+ghost use Rattle.world_core.specs.LoggedCore0s.{StartForRefuses};
 
-use crate::home::Home;
+use crate::core0::LoggedCore0;
 use crate::peer::Peer;
 use crate::sending::{Ready, make_ready, send};
 use core_steps::Core0;
@@ -22,23 +22,23 @@ use world_events::{Answer, WorldFault};
 
 /// Core 0 starts an operation, and asks the other cores.
 pub(crate) fn begin<C: Channel>(
-    home: &mut Home,
+    core0: &mut LoggedCore0,
     peers: &mut [Peer<C>],
     alloc: Global,
     op: &Op,
 ) -> Result<Answer, AllocError>
-    requires kept { WorldIsKept C.messages home.old peers.old }
-    requires can { CanStart (core0_place home.old.core) }
-    ensures happens { IfOk result (worlds.Happens (seen_world C.messages home.old peers.old) (Start op.now) (seen_world C.messages home.new peers.new)) }
-    ensures same { OnErr result (seen_world C.messages home.new peers.new ≡ seen_world C.messages home.old peers.old) }
-    ensures kept { WorldIsKept C.messages home.new peers.new }
+    requires kept { WorldIsKept C.messages core0.old peers.old }
+    requires can { CanStart (core0_place core0.old.core) }
+    ensures happens { IfOk result (worlds.Happens (seen_world C.messages core0.old peers.old) (Start op.now) (seen_world C.messages core0.new peers.new)) }
+    ensures same { OnErr result (seen_world C.messages core0.new peers.new ≡ seen_world C.messages core0.old peers.old) }
+    ensures kept { WorldIsKept C.messages core0.new peers.new }
 {
-    let refusal = home.core.stage(alloc, op);
-    let Ok(ready) = ready_start(&home.core, peers, alloc, op, refusal) else {
-        home.core.withdraw();
+    let refusal = core0.core.stage(alloc, op);
+    let Ok(ready) = ready_start(&core0.core, peers, alloc, op, refusal) else {
+        core0.core.withdraw();
         return Err(AllocError);
     };
-    let told = home.begin(op, refusal);
+    let told = core0.begin(op, refusal);
     send(peers, ready);
     Ok(told.answer)
 }
@@ -64,28 +64,28 @@ fn ready_start<C: Channel>(
 
 /// Core 0 starts the request that a core has waiting, and asks the other cores, or answers that core at once.
 pub(crate) fn begin_for<C: Channel>(
-    home: &mut Home,
+    core0: &mut LoggedCore0,
     peers: &mut [Peer<C>],
     alloc: Global,
     core: u16,
 ) -> Result<Answer, WorldFault>
-    requires kept { WorldIsKept C.messages home.old peers.old }
-    requires can { CanStart (core0_place home.old.core) }
+    requires kept { WorldIsKept C.messages core0.old peers.old }
+    requires can { CanStart (core0_place core0.old.core) }
     requires other { 0 < core }
     requires inside { core ≤ length peers.old }
-    ensures happens { IfOk result (worlds.Happens (seen_world C.messages home.old peers.old) (StartFor core) (seen_world C.messages home.new peers.new)) }
-    ensures fault { IfErr result (StartForRefuses (seen_world C.messages home.old peers.old) core) }
-    ensures same { OnErr result (seen_world C.messages home.new peers.new ≡ seen_world C.messages home.old peers.old) }
-    ensures kept { WorldIsKept C.messages home.new peers.new }
+    ensures happens { IfOk result (worlds.Happens (seen_world C.messages core0.old peers.old) (StartFor core) (seen_world C.messages core0.new peers.new)) }
+    ensures fault { IfErr result (StartForRefuses (seen_world C.messages core0.old peers.old) core) }
+    ensures same { OnErr result (seen_world C.messages core0.new peers.new ≡ seen_world C.messages core0.old peers.old) }
+    ensures kept { WorldIsKept C.messages core0.new peers.new }
 {
-    let Some(refusal) = home.core.stage_for(alloc, core) else {
+    let Some(refusal) = core0.core.stage_for(alloc, core) else {
         return Err(WorldFault::NoneWaiting);
     };
-    let Ok(ready) = ready_start_for(&home.core, peers, alloc, core, refusal) else {
-        home.core.withdraw();
+    let Ok(ready) = ready_start_for(&core0.core, peers, alloc, core, refusal) else {
+        core0.core.withdraw();
         return Err(WorldFault::NoMemory);
     };
-    let told = home.begin_for(core, refusal);
+    let told = core0.begin_for(core, refusal);
     send(peers, ready);
     Ok(told.answer)
 }

@@ -6,9 +6,9 @@ ghost use Rattle.world_model.specs.Worlds.{new_peer};
 ghost use Rattle.world_core.specs.Keeping.{seen_peer, PeerIsKept};
 ghost use Rattle.std.specs.Option.{option_copied};
 
+use crate::core0::LoggedCore0;
 use crate::fault::BootFault;
 use crate::hearing::hear;
-use crate::home::Home;
 use crate::peer::{Peer, submit_at, take_at};
 use crate::starting::{begin, begin_for};
 use core_steps::receive;
@@ -28,7 +28,7 @@ const CORES: usize = 8;
 /// under way.
 pub struct WorldOver<C: Channel> {
     alloc: Global,
-    home: Home,
+    core0: LoggedCore0,
     pub(crate) peers: Vec<Peer<C>>,
 }
 
@@ -37,7 +37,7 @@ impl<C: Channel> Drop for WorldOver<C> {
     fn drop(self) {
         let WorldOver {
             alloc: _,
-            home: _,
+            core0: _,
             peers: _,
         } = self;
     }
@@ -52,9 +52,9 @@ impl<C: Channel> Model for WorldOver<C> {
 
     ghost Value = { worlds.World };
 
-    ghost view = { λ w. seen_world C.messages w.home w.peers.items };
+    ghost view = { λ w. seen_world C.messages w.core0 w.peers.items };
 
-    ghost invariant = { λ w. WorldIsKept C.messages w.home w.peers.items };
+    ghost invariant = { λ w. WorldIsKept C.messages w.core0 w.peers.items };
 }
 
 impl<C: Channel> WorldOver<C> {
@@ -88,11 +88,15 @@ impl<C: Channel> WorldOver<C> {
         ensures { IfOk result (λ world. world ≡ worlds.boot budget others.now) }
     {
         // Core 0 is dropped by a call: left to a way out, each of its parts is dropped there, which takes long to prove.
-        let home = Home::new(alloc, budget, others.len() as u16)?;
+        let core0 = LoggedCore0::new(alloc, budget, others.len() as u16)?;
         match new_peers(alloc, others) {
-            Ok(peers) => Ok(WorldOver { alloc, home, peers }),
+            Ok(peers) => Ok(WorldOver {
+                alloc,
+                core0,
+                peers,
+            }),
             Err(error) => {
-                drop(home);
+                drop(core0);
                 Err(error)
             }
         }
@@ -113,7 +117,7 @@ impl<C: Channel> WorldOver<C> {
         ensures reached { (budget : ℕ) × (budgets : List ℕ) × Reached budget budgets self.now }
     {
         if core == 0 {
-            return Some(&self.home.core.replica);
+            return Some(&self.core0.core.replica);
         }
         match peer_at(&self.peers, usize::from(core) - 1) {
             Some(peer) => Some(&peer.core.replica),
@@ -126,7 +130,7 @@ impl<C: Channel> WorldOver<C> {
         ensures some { IfSome result (λ op. waiting_at self.now core ≡ Some op.now) }
         ensures none { IfNone result (waiting_at self.now core ≡ None) }
     {
-        self.home.core.coordinator.waiting(core)
+        self.core0.core.coordinator.waiting(core)
     }
 
     /// Does one event where no fault stands, and answers what its core tells. A fault changes nothing.
@@ -188,13 +192,13 @@ impl<C: Channel> WorldOver<C> {
         ensures fault { IfErr result (WorldRefuses self.old (Start op.now)) }
         ensures same { OnErr result (self.new ≡ self.old) }
     {
-        if !self.home.core.coordinator.idle() {
+        if !self.core0.core.coordinator.idle() {
             return Err(WorldFault::NotIdle);
         }
-        if self.home.core.coordinator.last() == u64::MAX {
+        if self.core0.core.coordinator.last() == u64::MAX {
             return Err(WorldFault::Spent);
         }
-        Ok(begin(&mut self.home, &mut self.peers, self.alloc, op)?)
+        Ok(begin(&mut self.core0, &mut self.peers, self.alloc, op)?)
     }
 
     // Core 0 starts the request that another core has waiting.
@@ -207,13 +211,13 @@ impl<C: Channel> WorldOver<C> {
         if core == 0 || usize::from(core) > self.peers.len() {
             return Err(WorldFault::NoSuchCore);
         }
-        if !self.home.core.coordinator.idle() {
+        if !self.core0.core.coordinator.idle() {
             return Err(WorldFault::NotIdle);
         }
-        if self.home.core.coordinator.last() == u64::MAX {
+        if self.core0.core.coordinator.last() == u64::MAX {
             return Err(WorldFault::Spent);
         }
-        begin_for(&mut self.home, &mut self.peers, self.alloc, core)
+        begin_for(&mut self.core0, &mut self.peers, self.alloc, core)
     }
 
     // A core receives a packet.
@@ -284,7 +288,7 @@ impl<C: Channel> WorldOver<C> {
         let entry = usize::from(core) - 1;
         match oldest_at(&self.peers, entry)? {
             None => Err(WorldFault::Nothing),
-            Some(message) => Ok(hear(&mut self.home, &mut self.peers, self.alloc, core, message)?),
+            Some(message) => Ok(hear(&mut self.core0, &mut self.peers, self.alloc, core, message)?),
         }
     }
 }

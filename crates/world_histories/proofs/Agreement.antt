@@ -21,7 +21,7 @@ use Rattle.world_model.proofs.Agreement.{run_inv}
 use Rattle.world_model.proofs.RunLaws.{run_agrees, run_grows, version_within}
 use Rattle.world_model.proofs.SoundLogs.{run_sound}
 use Rattle.world_histories.specs.declared.history.Stamped.{Stamped}
-use Rattle.world_histories.specs.Histories.{unstamped, Core0, core0_first, History0, Other, other_first, HistoryOther, Computation}
+use Rattle.world_histories.specs.Histories.{unstamped, Core0State, core0_first, History0, OtherState, other_first, HistoryOther, Computation}
 use Rattle.world_histories.specs.Merging.{core_of, as_short, listed, as_listed, Merged, EndsAs}
 use Rattle.world_histories.specs.Agreement.{IsAt, Point0, PointOther, GrowsByOne, HistoriesAgree}
 use Rattle.world_histories.specs.Answers.{TellsOfCores, InRun}
@@ -53,7 +53,7 @@ version_is budget budgets events w (suc i) h core0 others run long at =
     let p = get_at w.peers i (omega (arith, k.cores, long, slice_get_within others i h at)) in
     ap (option_map (λ (x : Peer). x.version)) p.1 ∙ ap (λ (n : ℕ). Some n) (k.versions i p.0 p.1)
 
-pub in_the_run : (budget : ℕ) (budgets : List ℕ) (core0 : List Stamped) (others : List (List Stamped)) (end : Core0) (ends : List Other) (o : OneRun budget budgets core0 others end ends) (core : ℕ) (h before after : List Stamped) (s : Stamped)
+pub in_the_run : (budget : ℕ) (budgets : List ℕ) (core0 : List Stamped) (others : List (List Stamped)) (end : Core0State) (ends : List OtherState) (o : OneRun budget budgets core0 others end ends) (core : ℕ) (h before after : List Stamped) (s : Stamped)
     → length others ≡ length budgets → slice_get (core0 ∷ others) core ≡ Some h → h ≡ before ++ s ∷ after → InRun budget budgets core0 others end.log o.merged core before s
 in_the_run budget budgets core0 others end ends o core h before after s long at e = record {
   earlier = p.earlier;
@@ -84,7 +84,7 @@ in_the_run budget budgets core0 others end ends o core h before after s long at 
     tells : TellsOfCores p.earlier
     tells = tells_of_cores (boot budget budgets) runs.0 p.earlier runs.1
 
-pub in_run : (budget : ℕ) (budgets : List ℕ) (core0 : List Stamped) (others : List (List Stamped)) (end : Core0) (ends : List Other) (merged : List Stamped) (core : ℕ) (h before after : List Stamped) (s : Stamped)
+pub in_run : (budget : ℕ) (budgets : List ℕ) (core0 : List Stamped) (others : List (List Stamped)) (end : Core0State) (ends : List OtherState) (merged : List Stamped) (core : ℕ) (h before after : List Stamped) (s : Stamped)
     → Computation budget budgets core0 others end ends → Merged core0 others merged → slice_get (core0 ∷ others) core ≡ Some h → h ≡ before ++ s ∷ after → InRun budget budgets core0 others end.log merged core before s
 in_run budget budgets core0 others end ends merged core h before after s c m at e =
     let r = run_of budget budgets core0 others end ends merged c m in
@@ -102,14 +102,14 @@ first_held : Held other_first.place
 first_held voted = absurd (cc)
 
 -- where the core stands in the world at the end
-end_of : (budget : ℕ) (budgets : List ℕ) (core0 : List Stamped) (others : List (List Stamped)) (end : Core0) (ends : List Other) (o : OneRun budget budgets core0 others end ends) (i : ℕ) (d : Other) → length ends ≡ length budgets → slice_get ends i ≡ Some d
+end_of : (budget : ℕ) (budgets : List ℕ) (core0 : List Stamped) (others : List (List Stamped)) (end : Core0State) (ends : List OtherState) (o : OneRun budget budgets core0 others end ends) (i : ℕ) (d : OtherState) → length ends ≡ length budgets → slice_get ends i ≡ Some d
     → (p : Peer) × (slice_get o.world.peers i ≡ Some p) × EndsAs o.world p d
 end_of budget budgets core0 others end ends o i d long at =
     let k = run_known budget budgets (as_listed o.merged) o.world o.run in
     let p = get_at o.world.peers i (omega (arith, k.cores, long, slice_get_within ends i d at)) in
     (p.0, p.1, o.all_end.others i p.0 d p.1 at)
 
-point_0 : (budget : ℕ) (budgets : List ℕ) (core0 : List Stamped) (others : List (List Stamped)) (end : Core0) (ends : List Other) (c : Computation budget budgets core0 others end ends) (o : OneRun budget budgets core0 others end ends)
+point_0 : (budget : ℕ) (budgets : List ℕ) (core0 : List Stamped) (others : List (List Stamped)) (end : Core0State) (ends : List OtherState) (c : Computation budget budgets core0 others end ends) (o : OneRun budget budgets core0 others end ends)
     (before after : List Stamped) → core0 ≡ before ++ after → Point0 budget budgets before after end
 point_0 budget budgets core0 others end ends c o before after e =
     let first = core0_first (length budgets) in
@@ -128,8 +128,8 @@ point_0 budget budgets core0 others end ends c o before after e =
       is_at = is_at end.log s.0.log budget b.is_front (subst (λ (l : List Op). instructions (table l (length s.0.log)) ≤ budget) o.all_end.log_is fits);
     }
 
-point_other : (budget : ℕ) (budgets : List ℕ) (core0 : List Stamped) (others : List (List Stamped)) (end : Core0) (ends : List Other) (c : Computation budget budgets core0 others end ends) (o : OneRun budget budgets core0 others end ends)
-    (i b : ℕ) (h : List Stamped) (d : Other) (before after : List Stamped) → slice_get budgets i ≡ Some b → slice_get others i ≡ Some h → slice_get ends i ≡ Some d → h ≡ before ++ after → PointOther i b end.log before after d
+point_other : (budget : ℕ) (budgets : List ℕ) (core0 : List Stamped) (others : List (List Stamped)) (end : Core0State) (ends : List OtherState) (c : Computation budget budgets core0 others end ends) (o : OneRun budget budgets core0 others end ends)
+    (i b : ℕ) (h : List Stamped) (d : OtherState) (before after : List Stamped) → slice_get budgets i ≡ Some b → slice_get others i ≡ Some h → slice_get ends i ≡ Some d → h ≡ before ++ after → PointOther i b end.log before after d
 point_other budget budgets core0 others end ends c o i b h d before after at_b at_h at_d e =
     let t = c.of_other i b h d at_b at_h at_d in
     let hist : HistoryOther i b other_first (before ++ after) d t.taken = subst (λ (xs : List Stamped). HistoryOther i b other_first xs d t.taken) e t.is_history in
@@ -171,7 +171,7 @@ delivers_by log w w' before core (Rx c number packet floor) answer is at le fron
     (here.kept, here.is_answer, here.above_floor, omega (arith, le', prefix_long w.log log front), rw (← same) here.accepting)
 delivers_by log w w' before core event answer is at le front h = tt
 
-delivers : (budget : ℕ) (budgets : List ℕ) (core0 : List Stamped) (others : List (List Stamped)) (end : Core0) (ends : List Other) (c : Computation budget budgets core0 others end ends) (o : OneRun budget budgets core0 others end ends)
+delivers : (budget : ℕ) (budgets : List ℕ) (core0 : List Stamped) (others : List (List Stamped)) (end : Core0State) (ends : List OtherState) (c : Computation budget budgets core0 others end ends) (o : OneRun budget budgets core0 others end ends)
     (core : ℕ) (h : List Stamped) → slice_get (core0 ∷ others) core ≡ Some h → Delivers end.log (unstamped h)
 delivers budget budgets core0 others end ends c o core h at before after done e =
     let f = found (λ (s : Stamped). s.done) h before after done e in
@@ -182,7 +182,7 @@ delivers budget budgets core0 others end ends c o core h at before after done e 
 
 -- The laws
 
-agree_by : (budget : ℕ) (budgets : List ℕ) (core0 : List Stamped) (others : List (List Stamped)) (end : Core0) (ends : List Other) → Computation budget budgets core0 others end ends → OneRun budget budgets core0 others end ends
+agree_by : (budget : ℕ) (budgets : List ℕ) (core0 : List Stamped) (others : List (List Stamped)) (end : Core0State) (ends : List OtherState) → Computation budget budgets core0 others end ends → OneRun budget budgets core0 others end ends
     → HistoriesAgree budget budgets core0 others end ends
 agree_by budget budgets core0 others end ends c o = record {
   allowed = λ k op at. subst (λ (l : List Op). Allowed (table l k) budget op None) o.all_end.log_is (agrees.allowed k op (ap (λ (l : List Op). slice_get l k) o.all_end.log_is ∙ at));
@@ -203,16 +203,16 @@ agree_by budget budgets core0 others end ends c o = record {
     at_end0 : IsAt end.log budget end.log
     at_end0 =
         let p = point_0 budget budgets core0 others end ends c o core0 [] (sym (append-nil core0)) in
-        subst (λ (x : Core0). IsAt end.log budget x.log) (sym p.goes_on.2.0) p.is_at
+        subst (λ (x : Core0State). IsAt end.log budget x.log) (sym p.goes_on.2.0) p.is_at
 
-    at_end : (i b : ℕ) (d : Other) → slice_get budgets i ≡ Some b → slice_get ends i ≡ Some d → IsAt end.log b d.log
+    at_end : (i b : ℕ) (d : OtherState) → slice_get budgets i ≡ Some b → slice_get ends i ≡ Some d → IsAt end.log b d.log
     at_end i b d at_b at_d =
         let h = get_at others i (omega (arith, c.cores, slice_get_within budgets i b at_b)) in
         let p = point_other budget budgets core0 others end ends c o i b h.0 d h.0 [] at_b h.1 at_d (sym (append-nil h.0)) in
-        subst (λ (x : Other). IsAt end.log b x.log) (sym p.goes_on.1.0) p.is_at
+        subst (λ (x : OtherState). IsAt end.log b x.log) (sym p.goes_on.1.0) p.is_at
 
     agrees : Agrees budget budgets o.world
     agrees = run_agrees budget budgets (as_listed o.merged) o.world o.run
 
-pub agree : (budget : ℕ) (budgets : List ℕ) (core0 : List Stamped) (others : List (List Stamped)) (end : Core0) (ends : List Other) → Computation budget budgets core0 others end ends → HistoriesAgree budget budgets core0 others end ends
+pub agree : (budget : ℕ) (budgets : List ℕ) (core0 : List Stamped) (others : List (List Stamped)) (end : Core0State) (ends : List OtherState) → Computation budget budgets core0 others end ends → HistoriesAgree budget budgets core0 others end ends
 agree budget budgets core0 others end ends c = agree_by budget budgets core0 others end ends c (one_run budget budgets core0 others end ends c)

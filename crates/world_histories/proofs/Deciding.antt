@@ -30,7 +30,7 @@ use Rattle.world_model.proofs.Known.{run_known}
 use Rattle.world_model.proofs.Agreement.{of_core}
 use Rattle.world_model.proofs.Decisions.{run_decides}
 use Rattle.world_histories.specs.declared.history.Stamped.{Stamped}
-use Rattle.world_histories.specs.Histories.{unstamped, Core0, Other, Computation}
+use Rattle.world_histories.specs.Histories.{unstamped, Core0State, OtherState, Computation}
 use Rattle.world_histories.specs.Merging.{core_of, part, as_short, listed, as_listed}
 use Rattle.world_histories.specs.Answers.{requested, begun_for, InRun}
 use Rattle.world_histories.specs.Decisions.{Asked, BegunIn, IsNew, voted, vote_in, DecidesBy, DecidesAs}
@@ -60,7 +60,7 @@ until budget budgets front rest s w run =
     record { world = r.0; world' = r.2.0; run = r.1; happens = r.2.1 }
 
 -- what core 0 begins for a core is what the core submitted last
-asked_at : (budget : ℕ) (budgets : List ℕ) (core0 : List Stamped) (others : List (List Stamped)) (end : Core0) (ends : List Other) (o : OneRun budget budgets core0 others end ends) (front rest before : List Stamped) (w : World) (entry : ℕ) (op : Op)
+asked_at : (budget : ℕ) (budgets : List ℕ) (core0 : List Stamped) (others : List (List Stamped)) (end : Core0State) (ends : List OtherState) (o : OneRun budget budgets core0 others end ends) (front rest before : List Stamped) (w : World) (entry : ℕ) (op : Op)
     → o.merged ≡ front ++ rest → Run budget budgets (as_listed front) w → entry < length others → length others ≡ length budgets → part 0 front ≡ before → request_of (suc entry) (as_listed front) ≡ sent op → Asked others before (StartFor (suc entry)) op
 asked_at budget budgets core0 others end ends o front rest before w entry op e run lt long own is_sent =
     let h = get_at others entry lt in
@@ -182,7 +182,7 @@ short_prepared : (event : Event) (txn : ℕ) → as_short event (Prepared txn) �
 short_prepared (Take to from short) txn = refl
 short_prepared event txn = refl
 
-begun_in : (budget : ℕ) (budgets : List ℕ) (core0 : List Stamped) (others : List (List Stamped)) (end : Core0) (ends : List Other) (o : OneRun budget budgets core0 others end ends) (earlier rest before : List Stamped) (w : World) (txn core : ℕ) (op : Op)
+begun_in : (budget : ℕ) (budgets : List ℕ) (core0 : List Stamped) (others : List (List Stamped)) (end : Core0State) (ends : List OtherState) (o : OneRun budget budgets core0 others end ends) (earlier rest before : List Stamped) (w : World) (txn core : ℕ) (op : Op)
     → length others ≡ length budgets → o.merged ≡ earlier ++ rest → part 0 earlier ≡ before → Run budget budgets (as_listed earlier) w → Begun (as_listed earlier) txn core op → BegunIn others before txn op
 begun_in budget budgets core0 others end ends o earlier rest before w txn core op long e own run b = record {
   earlier = part 0 f.front;
@@ -242,7 +242,7 @@ is_entry_at log w w' v op version id long same front next c = record {
 }
 
 -- what is known of core 0's event
-record Context (budget : ℕ) (budgets : List ℕ) (core0 : List Stamped) (others : List (List Stamped)) (end : Core0) (ends : List Other) (before : List Stamped) (event : Event) (answer : Answer) : Type 0 where
+record Context (budget : ℕ) (budgets : List ℕ) (core0 : List Stamped) (others : List (List Stamped)) (end : Core0State) (ends : List OtherState) (before : List Stamped) (event : Event) (answer : Answer) : Type 0 where
   comp : Computation budget budgets core0 others end ends
   one : OneRun budget budgets core0 others end ends
   earlier : List Stamped
@@ -258,7 +258,7 @@ record Context (budget : ℕ) (budgets : List ℕ) (core0 : List Stamped) (other
   front' : IsPrefix world'.log end.log
   decides : DecidesRightly (as_listed earlier) world event world' answer
 
-voted_by : (budget : ℕ) (budgets : List ℕ) (core0 : List Stamped) (others : List (List Stamped)) (end : Core0) (ends : List Other) (before : List Stamped) (event : Event) (answer : Answer) (x : Context budget budgets core0 others end ends before event answer) (txn i : ℕ) (h : List Stamped) (v : Vote)
+voted_by : (budget : ℕ) (budgets : List ℕ) (core0 : List Stamped) (others : List (List Stamped)) (end : Core0State) (ends : List OtherState) (before : List Stamped) (event : Event) (answer : Answer) (x : Context budget budgets core0 others end ends before event answer) (txn i : ℕ) (h : List Stamped) (v : Vote)
     → slice_get others i ≡ Some h → vote_of (suc i) txn (as_listed x.earlier) ≡ Some v → vote_of (suc i) txn (unstamped h) ≡ Some v
 voted_by budget budgets core0 others end ends before event answer x txn i h v at e =
     let lt = slice_get_within others i h at in
@@ -270,13 +270,13 @@ voted_by budget budgets core0 others end ends before event answer x txn i h v at
     voted_in (suc i) txn i b.0 d.0 h (part (suc i) x.earlier) t.taken v t.is_history front (sym (tells.votes (suc i) txn) ∙ e)
 
 -- so it is with the vote of each other core
-voted_in_others : (budget : ℕ) (budgets : List ℕ) (core0 : List Stamped) (others : List (List Stamped)) (end : Core0) (ends : List Other) (before : List Stamped) (event : Event) (answer : Answer) (x : Context budget budgets core0 others end ends before event answer) (txn i : ℕ) (v : Vote)
+voted_in_others : (budget : ℕ) (budgets : List ℕ) (core0 : List Stamped) (others : List (List Stamped)) (end : Core0State) (ends : List OtherState) (before : List Stamped) (event : Event) (answer : Answer) (x : Context budget budgets core0 others end ends before event answer) (txn i : ℕ) (v : Vote)
     → i < length others → vote_by (as_listed x.earlier) txn i ≡ Some v → vote_in others txn i ≡ Some v
 voted_in_others budget budgets core0 others end ends before event answer x txn i v lt e =
     let h = get_at others i lt in
     ap (voted (suc i) txn) h.1 ∙ voted_by budget budgets core0 others end ends before event answer x txn i h.0 v h.1 e
 
-vetoed : (budget : ℕ) (budgets : List ℕ) (core0 : List Stamped) (others : List (List Stamped)) (end : Core0) (ends : List Other) (before : List Stamped) (event : Event) (answer : Answer) (x : Context budget budgets core0 others end ends before event answer) (txn : ℕ) (op : Op) (core : ℕ) (why : Veto)
+vetoed : (budget : ℕ) (budgets : List ℕ) (core0 : List Stamped) (others : List (List Stamped)) (end : Core0State) (ends : List OtherState) (before : List Stamped) (event : Event) (answer : Answer) (x : Context budget budgets core0 others end ends before event answer) (txn : ℕ) (op : Op) (core : ℕ) (why : Veto)
     → VetoedBy (vote_by (as_listed x.earlier) txn) (λ entry. budget_at x.world (suc entry)) (newest x.world) op core why → VetoedBy (vote_in others txn) (slice_get budgets) (table end.log (version_of 0 (unstamped before))) op core why
 vetoed budget budgets core0 others end ends before event answer x txn op core why h =
     let known = run_known budget budgets (as_listed x.earlier) x.world x.run in
@@ -293,7 +293,7 @@ vetoed budget budgets core0 others end ends before event answer x txn op core wh
       reason = subst (λ (s : TableState). ((h.against ≡ vote.NoMemory) × (why ≡ veto.NoMemory) × AsksForMemory s h.budget op) ⊎ ((h.against ≡ vote.Budget) × (why ≡ veto.Budget) × (h.budget < instructions (after s op)))) x.newest_is h.reason;
     }
 
-votes_decide : (budget : ℕ) (budgets : List ℕ) (core0 : List Stamped) (others : List (List Stamped)) (end : Core0) (ends : List Other) (before : List Stamped) (event : Event) (answer : Answer) (x : Context budget budgets core0 others end ends before event answer) (txn : ℕ) (op : Op) (d : Decision)
+votes_decide : (budget : ℕ) (budgets : List ℕ) (core0 : List Stamped) (others : List (List Stamped)) (end : Core0State) (ends : List OtherState) (before : List Stamped) (event : Event) (answer : Answer) (x : Context budget budgets core0 others end ends before event answer) (txn : ℕ) (op : Op) (d : Decision)
     → MakesChange x.world op x.world' d → VotesDecide (length x.world.peers) (vote_by (as_listed x.earlier) txn) (λ entry. budget_at x.world (suc entry)) x.world'.log (length x.world.log) op d
     → VotesDecide (length others) (vote_in others txn) (slice_get budgets) end.log (version_of 0 (unstamped before)) op d
 votes_decide budget budgets core0 others end ends before event answer x txn op (Committed version id) change h =
@@ -305,29 +305,29 @@ votes_decide budget budgets core0 others end ends before event answer x txn op (
     vetoed budget budgets core0 others end ends before event answer x txn op core why
     (subst (λ (l : List Op). VetoedBy (vote_by (as_listed x.earlier) txn) (λ entry. budget_at x.world (suc entry)) (table l (length x.world.log)) op core why) change.0 h)
 
-asked_for : (budget : ℕ) (budgets : List ℕ) (core0 : List Stamped) (others : List (List Stamped)) (end : Core0) (ends : List Other) (before : List Stamped) (event : Event) (answer : Answer) (x : Context budget budgets core0 others end ends before event answer) (entry : ℕ) (op : Op)
+asked_for : (budget : ℕ) (budgets : List ℕ) (core0 : List Stamped) (others : List (List Stamped)) (end : Core0State) (ends : List OtherState) (before : List Stamped) (event : Event) (answer : Answer) (x : Context budget budgets core0 others end ends before event answer) (entry : ℕ) (op : Op)
     → IsWaiting (as_listed x.earlier) x.world entry op → Asked others before (StartFor (suc entry)) op
 asked_for budget budgets core0 others end ends before event answer x entry op w =
     asked_at budget budgets core0 others end ends x.one x.earlier x.rest before x.world entry op x.is_split x.run (waiting_core budget budgets others (as_listed x.earlier) x.world entry op x.comp.cores x.run w.waits) x.comp.cores x.own w.is_sent
 
-allowed_then : (budget : ℕ) (budgets : List ℕ) (core0 : List Stamped) (others : List (List Stamped)) (end : Core0) (ends : List Other) (before : List Stamped) (event : Event) (answer : Answer) (x : Context budget budgets core0 others end ends before event answer) (op : Op)
+allowed_then : (budget : ℕ) (budgets : List ℕ) (core0 : List Stamped) (others : List (List Stamped)) (end : Core0State) (ends : List OtherState) (before : List Stamped) (event : Event) (answer : Answer) (x : Context budget budgets core0 others end ends before event answer) (op : Op)
     → Allowed (newest x.world) x.world.budget op None → Allowed (table end.log (version_of 0 (unstamped before))) budget op None
 allowed_then budget budgets core0 others end ends before event answer x op a =
     subst (λ (b : ℕ). Allowed (table end.log (version_of 0 (unstamped before))) b op None) (run_known budget budgets (as_listed x.earlier) x.world x.run).budget_is
     (subst (λ (s : TableState). Allowed s x.world.budget op None) x.newest_is a)
 
-none_else : (budget : ℕ) (budgets : List ℕ) (core0 : List Stamped) (others : List (List Stamped)) (end : Core0) (ends : List Other) (before : List Stamped) (event : Event) (answer : Answer) (x : Context budget budgets core0 others end ends before event answer)
+none_else : (budget : ℕ) (budgets : List ℕ) (core0 : List Stamped) (others : List (List Stamped)) (end : Core0State) (ends : List OtherState) (before : List Stamped) (event : Event) (answer : Answer) (x : Context budget budgets core0 others end ends before event answer)
     → length x.world.peers ≡ 0 → length others ≡ 0
 none_else budget budgets core0 others end ends before event answer x none =
     omega (arith, x.comp.cores, (run_known budget budgets (as_listed x.earlier) x.world x.run).cores, none)
 
-reason_then : (budget : ℕ) (budgets : List ℕ) (core0 : List Stamped) (others : List (List Stamped)) (end : Core0) (ends : List Other) (before : List Stamped) (event : Event) (answer : Answer) (x : Context budget budgets core0 others end ends before event answer) (op : Op) (why : Veto)
+reason_then : (budget : ℕ) (budgets : List ℕ) (core0 : List Stamped) (others : List (List Stamped)) (end : Core0State) (ends : List OtherState) (before : List Stamped) (event : Event) (answer : Answer) (x : Context budget budgets core0 others end ends before event answer) (op : Op) (why : Veto)
     → HasReason (newest x.world) x.world.budget op why → HasReason (table end.log (version_of 0 (unstamped before))) budget op why
 reason_then budget budgets core0 others end ends before event answer x op why r =
     subst (λ (b : ℕ). HasReason (table end.log (version_of 0 (unstamped before))) b op why) (run_known budget budgets (as_listed x.earlier) x.world x.run).budget_is
     (subst (λ (s : TableState). HasReason s x.world.budget op why) x.newest_is r)
 
-decides_by : (budget : ℕ) (budgets : List ℕ) (core0 : List Stamped) (others : List (List Stamped)) (end : Core0) (ends : List Other) (before : List Stamped) (event : Event) (answer : Answer) → Context budget budgets core0 others end ends before event answer
+decides_by : (budget : ℕ) (budgets : List ℕ) (core0 : List Stamped) (others : List (List Stamped)) (end : Core0State) (ends : List OtherState) (before : List Stamped) (event : Event) (answer : Answer) → Context budget budgets core0 others end ends before event answer
     → DecidesBy budget budgets others end.log before (version_of 0 (unstamped before)) event answer
 decides_by budget budgets core0 others end ends before (Start op) (Prepared txn) x = (op, refl, allowed_then budget budgets core0 others end ends before _ _ x op x.decides.allowed, new_in budget budgets x.earlier before x.world txn x.run x.own x.decides.new_number)
 decides_by budget budgets core0 others end ends before (StartFor (suc i)) (Prepared txn) x =
@@ -354,7 +354,7 @@ short_decided : (budget : ℕ) (budgets : List ℕ) (others : List (List Stamped
 short_decided budget budgets others log before v (Take to from short) (TookPrepare txn vote.NoMemory) h = tt
 short_decided budget budgets others log before v event answer h = h
 
-pub decided : (budget : ℕ) (budgets : List ℕ) (core0 : List Stamped) (others : List (List Stamped)) (end : Core0) (ends : List Other) → Computation budget budgets core0 others end ends
+pub decided : (budget : ℕ) (budgets : List ℕ) (core0 : List Stamped) (others : List (List Stamped)) (end : Core0State) (ends : List OtherState) → Computation budget budgets core0 others end ends
     → (before after : List Stamped) (s : Stamped) → core0 ≡ before ++ s ∷ after → DecidesAs budget budgets others end.log before s
 decided budget budgets core0 others end ends c before after s e =
     short_decided budget budgets others end.log before (version_of 0 (unstamped before)) s.done.event s.done.answer

@@ -7,7 +7,7 @@ use Rattle.monitor_2pc.specs.Coordinators.{CoordinatorPlace, Requests}
 use Rattle.world_model.specs.Worlds.{Peer, World, boot}
 use Rattle.world_model.proofs.Known.{run_known}
 use Rattle.world_histories.specs.declared.history.Stamped.{Stamped}
-use Rattle.world_histories.specs.Histories.{Stamping, Sending, Core0, core0_first, History0, Other, other_first, HistoryOther, Computation}
+use Rattle.world_histories.specs.Histories.{Stamping, Sending, Core0State, core0_first, History0, OtherState, other_first, HistoryOther, Computation}
 use Rattle.world_histories.specs.Merging.{as_listed, IsRun, EndsAs}
 use Rattle.world_histories.proofs.Clocks.{step0_clock, step_clock}
 use Rattle.world_histories.proofs.Merge.{OneRun, one_run, run_of}
@@ -20,30 +20,30 @@ clock_of : ℕ → List Stamped → ℕ
 clock_of clock [] = clock
 clock_of clock (s ∷ later) = clock_of s.stamp later
 
-clock0 : (others budget : ℕ) (c c' : Core0) (h : List Stamped) (sent : List Sending) (taken : List (ℕ × Stamping)) → History0 others budget c h c' sent taken → c'.clock ≡ clock_of c.clock h
+clock0 : (others budget : ℕ) (c c' : Core0State) (h : List Stamped) (sent : List Sending) (taken : List (ℕ × Stamping)) → History0 others budget c h c' sent taken → c'.clock ≡ clock_of c.clock h
 unfolding clock_of
-clock0 others budget c c' [] sent taken h = ap (λ (x : Core0). x.clock) h.0
+clock0 others budget c c' [] sent taken h = ap (λ (x : Core0State). x.clock) h.0
 clock0 others budget c c' (s ∷ later) sent taken h =
     clock0 others budget h.0 c' later h.3 h.4 h.6 ∙ ap (λ (n : ℕ). clock_of n later) (step0_clock others budget c h.0 s.stamp s.done.event h.1 s.done.answer h.2 h.5).1
 
-clock_other : (i budget : ℕ) (c c' : Other) (h : List Stamped) (taken : List Stamping) → HistoryOther i budget c h c' taken → c'.clock ≡ clock_of c.clock h
+clock_other : (i budget : ℕ) (c c' : OtherState) (h : List Stamped) (taken : List Stamping) → HistoryOther i budget c h c' taken → c'.clock ≡ clock_of c.clock h
 unfolding clock_of
-clock_other i budget c c' [] taken h = ap (λ (x : Other). x.clock) h.0
+clock_other i budget c c' [] taken h = ap (λ (x : OtherState). x.clock) h.0
 clock_other i budget c c' (s ∷ later) taken h =
     clock_other i budget h.0 c' later h.2 h.4 ∙ ap (λ (n : ℕ). clock_of n later) (step_clock i budget c h.0 s.stamp s.done.event h.1 s.done.answer h.3).1
 
-same_core0 : (a b : Core0) → a.clock ≡ b.clock → a.place ≡ b.place → a.requests ≡ b.requests → a.log ≡ b.log → a ≡ b
+same_core0 : (a b : Core0State) → a.clock ≡ b.clock → a.place ≡ b.place → a.requests ≡ b.requests → a.log ≡ b.log → a ≡ b
 same_core0 a b ec ep er el = made a.clock b.clock ec a.place b.place ep a.requests b.requests er a.log b.log el
   where
     made : (c c' : ℕ) → c ≡ c' → (p p' : CoordinatorPlace) → p ≡ p' → (r r' : Requests) → r ≡ r' → (l l' : List Op) → l ≡ l'
-        → ◌≡◌ {A = Core0} (record { clock = c; place = p; requests = r; log = l }) (record { clock = c'; place = p'; requests = r'; log = l' })
+        → ◌≡◌ {A = Core0State} (record { clock = c; place = p; requests = r; log = l }) (record { clock = c'; place = p'; requests = r'; log = l' })
     made c c' ec p p' ep r r' er l l' el = rw (ec, ep, er, el) refl
 
-same_other : (a b : Other) → a.clock ≡ b.clock → a.place ≡ b.place → a.outstanding ≡ b.outstanding → a.log ≡ b.log → a ≡ b
+same_other : (a b : OtherState) → a.clock ≡ b.clock → a.place ≡ b.place → a.outstanding ≡ b.outstanding → a.log ≡ b.log → a ≡ b
 same_other a b ec ep eo el = made a.clock b.clock ec a.place b.place ep a.outstanding b.outstanding eo a.log b.log el
   where
     made : (c c' : ℕ) → c ≡ c' → (p p' : ParticipantPlace) → p ≡ p' → (o o' : Bool) → o ≡ o' → (l l' : List Op) → l ≡ l'
-        → ◌≡◌ {A = Other} (record { clock = c; place = p; outstanding = o; log = l }) (record { clock = c'; place = p'; outstanding = o'; log = l' })
+        → ◌≡◌ {A = OtherState} (record { clock = c; place = p; outstanding = o; log = l }) (record { clock = c'; place = p'; outstanding = o'; log = l' })
     made c c' ec p p' ep o o' eo l l' el = rw (ec, ep, eo, el) refl
 
 -- two fronts of one length are one
@@ -68,10 +68,10 @@ same_items (x ∷ xs) (y ∷ ys) e same =
     rw (first, rest) refl
 
 -- in one world the core stands in one state, but its clock
-same_end : (w : World) (p : Peer) (a b : Other) → EndsAs w p a → EndsAs w p b → a.clock ≡ b.clock → a ≡ b
+same_end : (w : World) (p : Peer) (a b : OtherState) → EndsAs w p a → EndsAs w p b → a.clock ≡ b.clock → a ≡ b
 same_end w p a b x y clock = same_other a b clock (sym x.place_is ∙ y.place_is) (sym x.outstanding_is ∙ y.outstanding_is) (same_front a.log b.log w.log x.is_front y.is_front (sym x.version_is ∙ y.version_is))
 
-pub ends_once : (budget : ℕ) (budgets : List ℕ) (core0 : List Stamped) (others : List (List Stamped)) (end end' : Core0) (ends ends' : List Other)
+pub ends_once : (budget : ℕ) (budgets : List ℕ) (core0 : List Stamped) (others : List (List Stamped)) (end end' : Core0State) (ends ends' : List OtherState)
     → Computation budget budgets core0 others end ends → Computation budget budgets core0 others end' ends' → (end ≡ end') × (ends ≡ ends')
 ends_once budget budgets core0 others end end' ends ends' a b = (
   same_core0 end end' (clock0 n budget first end core0 a.sent a.taken a.of_core0 ∙ sym (clock0 n budget first end' core0 b.sent b.taken b.of_core0))
@@ -84,7 +84,7 @@ ends_once budget budgets core0 others end end' ends ends' a b = (
     n : ℕ
     n = length budgets
 
-    first : Core0
+    first : Core0State
     first = core0_first (length budgets)
 
     x : OneRun budget budgets core0 others end ends
@@ -96,7 +96,7 @@ ends_once budget budgets core0 others end end' ends ends' a b = (
     same : x.world ≡ y.world
     same = runs_once (boot budget budgets) x.world y.world (as_listed x.merged) x.run y.run
 
-    each : (i : ℕ) (d d' : Other) → slice_get ends i ≡ Some d → slice_get ends' i ≡ Some d' → d ≡ d'
+    each : (i : ℕ) (d d' : OtherState) → slice_get ends i ≡ Some d → slice_get ends' i ≡ Some d' → d ≡ d'
     each i d d' at at' =
         let lt = slice_get_within ends i d at in
         let g = get_at budgets i (omega (arith, a.all_end, lt)) in

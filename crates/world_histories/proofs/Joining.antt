@@ -20,7 +20,7 @@ use Rattle.world_model.proofs.Runs.{runs_more}
 use Rattle.world_model.proofs.Agreement.{run_inv}
 use Rattle.world_model.proofs.Known.{run_known}
 use Rattle.world_histories.specs.declared.history.Stamped.{Stamped}
-use Rattle.world_histories.specs.Histories.{Stamping, Sending, sent_to, sent_by, taken_from, taking, TakesInOrder, Core0, core0_first, Other, other_first, Computation}
+use Rattle.world_histories.specs.Histories.{Stamping, Sending, sent_to, sent_by, taken_from, taking, TakesInOrder, Core0State, core0_first, OtherState, other_first, Computation}
 use Rattle.world_histories.specs.Merging.{as_short, listed, as_listed}
 use Rattle.world_histories.proofs.Clocks.{first_sent_to}
 use Rattle.world_histories.proofs.Seats.{Seat, SeatOf, Joint}
@@ -79,17 +79,17 @@ run_more budget budgets before s w w' run h =
 
 -- After an event of core 0
 
-pub record Next (rd ru : ℕ → List Stamping) (budget : ℕ) (budgets : List ℕ) (before : List Stamped) (h0 : List Stamped) (hs : List (List Stamped)) (end : Core0) (ends : List Other) : Type 0 where
+pub record Next (rd ru : ℕ → List Stamping) (budget : ℕ) (budgets : List ℕ) (before : List Stamped) (h0 : List Stamped) (hs : List (List Stamped)) (end : Core0State) (ends : List OtherState) : Type 0 where
   pub world : World
-  pub core0 : Core0
+  pub core0 : Core0State
   pub joint : Joint rd ru budget budgets before world core0 h0 hs end ends
 
-stands_at : (rd ru : ℕ → List Stamping) (budget : ℕ) (budgets : List ℕ) (before : List Stamped) (w : World) (c : Core0) (h0 : List Stamped) (hs : List (List Stamped)) (end : Core0) (ends : List Other) → Joint rd ru budget budgets before w c h0 hs end ends → Stands budget budgets w c
+stands_at : (rd ru : ℕ → List Stamping) (budget : ℕ) (budgets : List ℕ) (before : List Stamped) (w : World) (c : Core0State) (h0 : List Stamped) (hs : List (List Stamped)) (end : Core0State) (ends : List OtherState) → Joint rd ru budget budgets before w c h0 hs end ends → Stands budget budgets w c
 stands_at rd ru budget budgets before w c h0 hs end ends j =
     let k = run_known budget budgets (as_listed before) w j.run in
     record { inv = run_inv budget budgets (as_listed before) w j.run; budget_is = k.budget_is; cores = k.cores; waiting_long = k.waiting_long; log_is = j.log_is; place_is = j.place_is; requests_are = j.requests_are }
 
-pub joint0 : (rd ru : ℕ → List Stamping) (budget : ℕ) (budgets : List ℕ) (before : List Stamped) (w : World) (c : Core0) (s : Stamped) (r : List Stamped) (hs : List (List Stamped)) (end : Core0) (ends : List Other)
+pub joint0 : (rd ru : ℕ → List Stamping) (budget : ℕ) (budgets : List ℕ) (before : List Stamped) (w : World) (c : Core0State) (s : Stamped) (r : List Stamped) (hs : List (List Stamped)) (end : Core0State) (ends : List OtherState)
     → Joint rd ru budget budgets before w c (s ∷ r) hs end ends → NotBefore s.stamp hs → Next rd ru budget budgets (before ++ s ∷ []) r hs end ends
 joint0 rd ru budget budgets before w c s r hs end ends j late = record {
   world = led.world;
@@ -116,7 +116,7 @@ joint0 rd ru budget budgets before w c s r hs end ends j late = record {
 
 -- After an event of another core
 
-pub joint_own : (rd ru : ℕ → List Stamping) (budget : ℕ) (budgets : List ℕ) (before : List Stamped) (w : World) (c : Core0) (h0 : List Stamped) (i : ℕ) (s : Stamped) (r : List Stamped) (hs : List (List Stamped)) (end : Core0) (ends : List Other)
+pub joint_own : (rd ru : ℕ → List Stamping) (budget : ℕ) (budgets : List ℕ) (before : List Stamped) (w : World) (c : Core0State) (h0 : List Stamped) (i : ℕ) (s : Stamped) (r : List Stamped) (hs : List (List Stamped)) (end : Core0State) (ends : List OtherState)
     → Joint rd ru budget budgets before w c h0 hs end ends → slice_get hs i ≡ Some (s ∷ r) → ((t : Stamped) (rest : List Stamped) → h0 ≡ t ∷ rest → s.stamp ≤ t.stamp) → Next rd ru budget budgets (before ++ s ∷ []) h0 (slice_set hs i r) end ends
 joint_own rd ru budget budgets before w c h0 i s r hs end ends j at_h late = record {
   world = own.moved.world;
@@ -176,11 +176,11 @@ joint_own rd ru budget budgets before w c h0 i s r hs end ends j at_h late = rec
 -- At first
 
 -- these are the rests of what is sent
-abbrev pub Rests : (ℕ → List Stamping) → (ℕ → List Stamping) → List ℕ → List (List Stamped) → List Other → List Sending → List (ℕ × Stamping) → Type 0
-Rests rd ru budgets others ends sent taken0 = (i b : ℕ) (g : List Stamped) (d : Other) → slice_get budgets i ≡ Some b → slice_get others i ≡ Some g → slice_get ends i ≡ Some d → (t : TakesInOrder i b sent taken0 g d)
+abbrev pub Rests : (ℕ → List Stamping) → (ℕ → List Stamping) → List ℕ → List (List Stamped) → List OtherState → List Sending → List (ℕ × Stamping) → Type 0
+Rests rd ru budgets others ends sent taken0 = (i b : ℕ) (g : List Stamped) (d : OtherState) → slice_get budgets i ≡ Some b → slice_get others i ≡ Some g → slice_get ends i ≡ Some d → (t : TakesInOrder i b sent taken0 g d)
     → (t.taken ++ rd i ≡ sent_to i sent) × (taken_from i taken0 ++ ru i ≡ sent_by g)
 
-pub joint_first : (rd ru : ℕ → List Stamping) (budget : ℕ) (budgets : List ℕ) (core0 : List Stamped) (others : List (List Stamped)) (end : Core0) (ends : List Other) → (h : Computation budget budgets core0 others end ends) → Rests rd ru budgets others ends h.sent h.taken
+pub joint_first : (rd ru : ℕ → List Stamping) (budget : ℕ) (budgets : List ℕ) (core0 : List Stamped) (others : List (List Stamped)) (end : Core0State) (ends : List OtherState) → (h : Computation budget budgets core0 others end ends) → Rests rd ru budgets others ends h.sent h.taken
     → Joint rd ru budget budgets [] (boot budget budgets) (core0_first (length budgets)) core0 others end ends
 joint_first rd ru budget budgets core0 others end ends h rests = record {
   run = refl;

@@ -16,18 +16,18 @@ use Rattle.world_model.proofs.Invariant.{Inv, Alone}
 use Rattle.world_model.proofs.Steps.{on_vote}
 use Rattle.world_model.proofs.Submissions.{eq_self, eq_other}
 use Rattle.world_histories.specs.declared.history.Stamped.{Stamped}
-use Rattle.world_histories.specs.Histories.{Stamping, Sending, sent_by, taking, taken_from, Core0, Take0, Step0, Other}
+use Rattle.world_histories.specs.Histories.{Stamping, Sending, sent_by, taking, taken_from, Core0State, Take0, Step0, OtherState}
 use Rattle.world_histories.proofs.Lists.{front_at, set_cases}
 use Rattle.world_histories.proofs.Clocks.{tick_after, first_sent_by}
 use Rattle.world_histories.proofs.Seats.{messages, Seat, SeatOf, got_out, seat_got}
 use Rattle.std.proofs.lemmas.Option.{slice_get_within}
 use Rattle.table_replica.proofs.Shared.{get_at}
 
-abbrev pub Seats : (ℕ → List Stamping) → (ℕ → List Stamping) → List Op → List Peer → List (List Stamped) → List Other → List Sending → List (ℕ × Stamping) → Type 0
+abbrev pub Seats : (ℕ → List Stamping) → (ℕ → List Stamping) → List Op → List Peer → List (List Stamped) → List OtherState → List Sending → List (ℕ × Stamping) → Type 0
 Seats rd ru log peers hs ends sent taken = (i : ℕ) (p : Peer) → slice_get peers i ≡ Some p → SeatOf rd ru i log p hs ends sent taken
 
 -- the world after an event of core 0, with the rests of the others' histories
-pub record Led (rd ru : ℕ → List Stamping) (w : World) (event : Event) (answer : Answer) (mid : Core0) (hs : List (List Stamped)) (ends : List Other) (sent : List Sending) (taken : List (ℕ × Stamping)) : Type 0 where
+pub record Led (rd ru : ℕ → List Stamping) (w : World) (event : Event) (answer : Answer) (mid : Core0State) (hs : List (List Stamped)) (ends : List OtherState) (sent : List Sending) (taken : List (ℕ × Stamping)) : Type 0 where
   pub world : World
   pub happens : Happens w event world answer
   pub log_is : world.log ≡ mid.log
@@ -35,7 +35,7 @@ pub record Led (rd ru : ℕ → List Stamping) (w : World) (event : Event) (answ
   pub requests_are : world.requests ≡ mid.requests
   pub seats : Seats rd ru world.log world.peers hs ends sent taken
 
-seats_sent : (rd ru : ℕ → List Stamping) (log : List Op) (peers : List Peer) (committed : Option Op) (stamp : ℕ) (out : Outgoing) (hs : List (List Stamped)) (ends : List Other) (sent : List Sending) (taken : List (ℕ × Stamping))
+seats_sent : (rd ru : ℕ → List Stamping) (log : List Op) (peers : List Peer) (committed : Option Op) (stamp : ℕ) (out : Outgoing) (hs : List (List Stamped)) (ends : List OtherState) (sent : List Sending) (taken : List (ℕ × Stamping))
     → Seats rd ru log peers hs ends (record { stamp = stamp; sent = out } ∷ sent) taken → Seats rd ru (joined log committed) (sent_out peers out) hs ends sent taken
 seats_sent rd ru log peers committed stamp out hs ends sent taken seats i q at =
     let g = got_out peers out i q at in
@@ -43,7 +43,7 @@ seats_sent rd ru log peers committed stamp out hs ends sent taken seats i q at =
     record { history = s.history; is_history = s.is_history; end = s.end; is_end = s.is_end; seat = seat_got rd ru i stamp log committed out g.0 q s.history s.end sent taken g.2 s.seat }
 
 -- core 0 and the world, before an event of core 0
-pub record Stands (budget : ℕ) (budgets : List ℕ) (w : World) (c : Core0) : Type 0 where
+pub record Stands (budget : ℕ) (budgets : List ℕ) (w : World) (c : Core0State) : Type 0 where
   pub inv : Inv w
   pub budget_is : w.budget ≡ budget
   pub cores : length w.peers ≡ length budgets
@@ -76,20 +76,20 @@ receives_0 : (log log' : List Op) (version : ℕ) (packet : CapturedPacket) (flo
 receives_0 log log' version packet floor answer el ev h = rw (el, ev) h
 
 abbrev Core0Event : (ℕ → List Stamping) → (ℕ → List Stamping) → Event → Type 0
-Core0Event rd ru event = (budget : ℕ) (budgets : List ℕ) (w : World) (c mid : Core0) (stamp : ℕ) (answer : Answer) (m : Option Stamping) (out : Outgoing) (hs : List (List Stamped)) (ends : List Other) (sent : List Sending) (taken : List (ℕ × Stamping))
+Core0Event rd ru event = (budget : ℕ) (budgets : List ℕ) (w : World) (c mid : Core0State) (stamp : ℕ) (answer : Answer) (m : Option Stamping) (out : Outgoing) (hs : List (List Stamped)) (ends : List OtherState) (sent : List Sending) (taken : List (ℕ × Stamping))
     → Stands budget budgets w c → Step0 (length budgets) budget c stamp event m mid answer out → Seats rd ru w.log w.peers hs ends (record { stamp = stamp; sent = out } ∷ sent) (taking event m ++ taken) → NotBefore stamp hs
     → Led rd ru w event answer mid hs ends sent taken
 
 -- the world that core 0 moves to, where the cores' messages are these
-moves_to : (rd ru : ℕ → List Stamping) (w w1 : World) (event : Event) (answer : Answer) (place : CoordinatorPlace) (requests : Requests) (committed : Option Op) (stamp : ℕ) (out : Outgoing) (mid : Core0) (hs : List (List Stamped)) (ends : List Other) (sent : List Sending) (taken : List (ℕ × Stamping))
+moves_to : (rd ru : ℕ → List Stamping) (w w1 : World) (event : Event) (answer : Answer) (place : CoordinatorPlace) (requests : Requests) (committed : Option Op) (stamp : ℕ) (out : Outgoing) (mid : Core0State) (hs : List (List Stamped)) (ends : List OtherState) (sent : List Sending) (taken : List (ℕ × Stamping))
     → Happens w event (core0_moves w1 place requests committed out) answer → mid ≡ record { clock = stamp; place = place; requests = requests; log = joined w1.log committed }
     → Seats rd ru w1.log w1.peers hs ends (record { stamp = stamp; sent = out } ∷ sent) taken → Led rd ru w event answer mid hs ends sent taken
 moves_to rd ru w w1 event answer place requests committed stamp out mid hs ends sent taken happens next seats = record {
   world = core0_moves w1 place requests committed out;
   happens = happens;
-  log_is = sym (ap (λ (x : Core0). x.log) next);
-  place_is = sym (ap (λ (x : Core0). x.place) next);
-  requests_are = sym (ap (λ (x : Core0). x.requests) next);
+  log_is = sym (ap (λ (x : Core0State). x.log) next);
+  place_is = sym (ap (λ (x : Core0State). x.place) next);
+  requests_are = sym (ap (λ (x : Core0State). x.requests) next);
   seats = seats_sent rd ru w1.log w1.peers committed stamp out hs ends sent taken seats;
 }
 
@@ -129,14 +129,14 @@ lead_rx rd ru number packet floor budget budgets w c mid stamp answer None out h
     record {
       world = w;
       happens = record { version = w.version; is_version = refl; here = receives_0 c.log w.log w.version packet floor answer st.log_is (st.inv.version ∙ ap length st.log_is) h.here; next = refl };
-      log_is = st.log_is ∙ sym (ap (λ (x : Core0). x.log) h.next);
-      place_is = st.place_is ∙ sym (ap (λ (x : Core0). x.place) h.next);
-      requests_are = st.requests_are ∙ sym (ap (λ (x : Core0). x.requests) h.next);
+      log_is = st.log_is ∙ sym (ap (λ (x : Core0State). x.log) h.next);
+      place_is = st.place_is ∙ sym (ap (λ (x : Core0State). x.place) h.next);
+      requests_are = st.requests_are ∙ sym (ap (λ (x : Core0State). x.requests) h.next);
       seats = seats_sent rd ru w.log w.peers None stamp nothing hs ends sent taken (subst (λ (x : Outgoing). Seats rd ru w.log w.peers hs ends (record { stamp = stamp; sent = x } ∷ sent) taken) h.sends seats);
     }
 
 -- core 0 takes messages of its cores alone
-from_core : (budget : ℕ) (budgets : List ℕ) (w : World) (c : Core0) (entry : ℕ) (m : Message) (place : CoordinatorPlace) (requests : Requests) (committed : Option Op) (told : Step) (answer : Answer) → Stands budget budgets w c
+from_core : (budget : ℕ) (budgets : List ℕ) (w : World) (c : Core0State) (entry : ℕ) (m : Message) (place : CoordinatorPlace) (requests : Requests) (committed : Option Op) (told : Step) (answer : Answer) → Stands budget budgets w c
     → TakesUpAt (newest w) w.place w.requests entry m place requests committed told answer → entry < length w.peers
 from_core budget budgets w c entry (message.Vote txn v) place requests committed told answer st h =
     let long = (on_vote w h.hears.votes h.hears.op st.inv h.hears.voting h.hears.on_op).long in omega (arith, long, slice_get_within h.hears.votes entry None h.hears.first_vote)
@@ -146,7 +146,7 @@ from_core budget budgets w c entry (message.Submit op) place requests committed 
 from_core budget budgets w c entry m place requests committed told answer st h = absurd h
 
 -- a core whose message was taken
-seat_gave : (rd ru : ℕ → List Stamping) (entry : ℕ) (log : List Op) (p : Peer) (m : Stamping) (h : List Stamped) (e : Other) (sent : List Sending) (taken : List (ℕ × Stamping)) → Seat rd ru entry log p h e sent ((entry, m) ∷ taken) → ((ms : List Stamping) → sent_by h ≡ m ∷ ms → ⊥)
+seat_gave : (rd ru : ℕ → List Stamping) (entry : ℕ) (log : List Op) (p : Peer) (m : Stamping) (h : List Stamped) (e : OtherState) (sent : List Sending) (taken : List (ℕ × Stamping)) → Seat rd ru entry log p h e sent ((entry, m) ∷ taken) → ((ms : List Stamping) → sent_by h ≡ m ∷ ms → ⊥)
     → (rest : List Stamping) × (p.up ≡ m.message ∷ messages rest) × Seat rd ru entry log (record p { up = messages rest }) h e sent taken
 seat_gave rd ru entry log p m h e sent taken s none =
     let gives : (m ∷ taken_from entry taken) ++ ru entry ≡ s.up ++ sent_by h = subst (λ (b : Bool). (cond b (m ∷ []) [] ++ taken_from entry taken) ++ ru entry ≡ s.up ++ sent_by h) (eq_self entry) s.gives in
@@ -171,7 +171,7 @@ seat_gave rd ru entry log p m h e sent taken s none =
     )
 
 -- another core
-seat_kept : (rd ru : ℕ → List Stamping) (entry i : ℕ) (log : List Op) (p : Peer) (m : Stamping) (h : List Stamped) (e : Other) (sent : List Sending) (taken : List (ℕ × Stamping)) → (entry ≡ i → ⊥) → Seat rd ru i log p h e sent ((entry, m) ∷ taken) → Seat rd ru i log p h e sent taken
+seat_kept : (rd ru : ℕ → List Stamping) (entry i : ℕ) (log : List Op) (p : Peer) (m : Stamping) (h : List Stamped) (e : OtherState) (sent : List Sending) (taken : List (ℕ × Stamping)) → (entry ≡ i → ⊥) → Seat rd ru i log p h e sent ((entry, m) ∷ taken) → Seat rd ru i log p h e sent taken
 seat_kept rd ru entry i log p m h e sent taken ne s = record {
   core = s.core;
   taken = s.taken;
@@ -251,7 +251,7 @@ core0_event rd ru (Rx zero number packet floor) budget budgets w c mid stamp ans
 core0_event rd ru event budget budgets w c mid stamp answer m out hs ends sent taken st step seats late = absurd step.does
 
 -- the first event of core 0's history happens in the world, where every message that it takes has been sent
-pub core0_step : (rd ru : ℕ → List Stamping) (budget : ℕ) (budgets : List ℕ) (w : World) (c mid : Core0) (s : Stamped) (m : Option Stamping) (out : Outgoing) (hs : List (List Stamped)) (ends : List Other) (sent : List Sending) (taken : List (ℕ × Stamping))
+pub core0_step : (rd ru : ℕ → List Stamping) (budget : ℕ) (budgets : List ℕ) (w : World) (c mid : Core0State) (s : Stamped) (m : Option Stamping) (out : Outgoing) (hs : List (List Stamped)) (ends : List OtherState) (sent : List Sending) (taken : List (ℕ × Stamping))
     → Stands budget budgets w c → Step0 (length budgets) budget c s.stamp s.done.event m mid s.done.answer out → Seats rd ru w.log w.peers hs ends (record { stamp = s.stamp; sent = out } ∷ sent) (taking s.done.event m ++ taken) → NotBefore s.stamp hs
     → Led rd ru w s.done.event s.done.answer mid hs ends sent taken
 core0_step rd ru budget budgets w c mid s m out hs ends sent taken st step seats late = core0_event rd ru s.done.event budget budgets w c mid s.stamp s.done.answer m out hs ends sent taken st step seats late

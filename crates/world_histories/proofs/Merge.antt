@@ -6,7 +6,7 @@ use Rattle.world_model.proofs.Lists.{get-set_same, get-set_other, length-slice_s
 use Rattle.world_model.proofs.Known.{run_known}
 use Rattle.world_model.proofs.Submissions.{eq_self, eq_other}
 use Rattle.world_histories.specs.declared.history.Stamped.{Stamped}
-use Rattle.world_histories.specs.Histories.{Stamping, Sending, sent_to, sent_by, taken_from, Core0, core0_first, History0, Other, HistoryOther, Computation}
+use Rattle.world_histories.specs.Histories.{Stamping, Sending, sent_to, sent_by, taken_from, Core0State, core0_first, History0, OtherState, HistoryOther, Computation}
 use Rattle.world_histories.specs.Merging.{core_of, part, IsBefore, IsInOrder, Merged, as_listed, EndsAs, AllEnd, IsRun}
 use Rattle.world_histories.proofs.Lists.{less_or_not, get_next, size, size_set, Least, NoneLeft, least_of}
 use Rattle.world_histories.proofs.Parts.{part_own, part_other, placed}
@@ -18,7 +18,7 @@ use Rattle.std.proofs.lemmas.Option.{slice_get_within}
 use Rattle.table_replica.proofs.Shared.{get_at}
 
 -- the rests of the histories, in one list that goes on with the run
-record Goes (rd ru : ℕ → List Stamping) (budget : ℕ) (budgets : List ℕ) (before : List Stamped) (all : List (List Stamped)) (end : Core0) (ends : List Other) : Type 0 where
+record Goes (rd ru : ℕ → List Stamping) (budget : ℕ) (budgets : List ℕ) (before : List Stamped) (all : List (List Stamped)) (end : Core0State) (ends : List OtherState) : Type 0 where
   later : List Stamped
   in_order : IsInOrder later
   heads : (t : Stamped) (rest : List Stamped) → later ≡ t ∷ rest → (k : ℕ) × (r : List Stamped) × (slice_get all k ≡ Some (t ∷ r)) × (core_of t.done.event ≡ k)
@@ -31,7 +31,7 @@ record Goes (rd ru : ℕ → List Stamping) (budget : ℕ) (budgets : List ℕ) 
 
 -- Nothing is left
 
-finished : (rd ru : ℕ → List Stamping) (budget : ℕ) (budgets : List ℕ) (before : List Stamped) (w : World) (c : Core0) (h0 : List Stamped) (hs : List (List Stamped)) (end : Core0) (ends : List Other) → NoneLeft (h0 ∷ hs) → Joint rd ru budget budgets before w c h0 hs end ends
+finished : (rd ru : ℕ → List Stamping) (budget : ℕ) (budgets : List ℕ) (before : List Stamped) (w : World) (c : Core0State) (h0 : List Stamped) (hs : List (List Stamped)) (end : Core0State) (ends : List OtherState) → NoneLeft (h0 ∷ hs) → Joint rd ru budget budgets before w c h0 hs end ends
     → Goes rd ru budget budgets before (h0 ∷ hs) end ends
 finished rd ru budget budgets before w c h0 hs end ends none j = record {
   later = [];
@@ -42,9 +42,9 @@ finished rd ru budget budgets before w c h0 hs end ends none j = record {
   world = w;
   run = subst (λ (xs : List Stamped). Run budget budgets (as_listed xs) w) (sym (append-nil before)) j.run;
   all_end = record {
-    log_is = j.log_is ∙ sym (ap (λ (x : Core0). x.log) ended);
-    place_is = j.place_is ∙ sym (ap (λ (x : Core0). x.place) ended);
-    requests_are = j.requests_are ∙ sym (ap (λ (x : Core0). x.requests) ended);
+    log_is = j.log_is ∙ sym (ap (λ (x : Core0State). x.log) ended);
+    place_is = j.place_is ∙ sym (ap (λ (x : Core0State). x.place) ended);
+    requests_are = j.requests_are ∙ sym (ap (λ (x : Core0State). x.requests) ended);
     others = λ i p d at at_d. other i p d (j.seats i p at) at_d;
   };
   under_way = λ i p at. left i p (j.seats i p at);
@@ -69,16 +69,16 @@ finished rd ru budget budgets before w c h0 hs end ends none j = record {
           sym s.up_is ∙ ap messages (sym (append-nil s.up) ∙ sym gives),
         )
 
-    other : (i : ℕ) (p : Peer) (d : Other) → SeatOf rd ru i w.log p hs ends j.sent j.taken → slice_get ends i ≡ Some d → EndsAs w p d
+    other : (i : ℕ) (p : Peer) (d : OtherState) → SeatOf rd ru i w.log p hs ends j.sent j.taken → slice_get ends i ≡ Some d → EndsAs w p d
     other i p d o at_d =
         let same : o.end ≡ d = (let x = o.is_end in cc) in
         let last : o.end ≡ o.seat.core = (subst (λ (x : List Stamped). HistoryOther i p.budget o.seat.core x o.end o.seat.taken) (none (suc i) o.history o.is_history) o.seat.ahead).0 in
         let is : o.seat.core ≡ d = sym last ∙ same in
-        subst (λ (x : Other). EndsAs w p x) is (record { version_is = o.seat.version_is; is_front = o.seat.is_front; place_is = o.seat.place_is; outstanding_is = o.seat.outstanding_is })
+        subst (λ (x : OtherState). EndsAs w p x) is (record { version_is = o.seat.version_is; is_front = o.seat.is_front; place_is = o.seat.place_is; outstanding_is = o.seat.outstanding_is })
 
 -- One event, and the rest
 
-goes_on : (rd ru : ℕ → List Stamping) (budget : ℕ) (budgets : List ℕ) (before : List Stamped) (all : List (List Stamped)) (k : ℕ) (s : Stamped) (r : List Stamped) (end : Core0) (ends : List Other) → slice_get all k ≡ Some (s ∷ r) → core_of s.done.event ≡ k
+goes_on : (rd ru : ℕ → List Stamping) (budget : ℕ) (budgets : List ℕ) (before : List Stamped) (all : List (List Stamped)) (k : ℕ) (s : Stamped) (r : List Stamped) (end : Core0State) (ends : List OtherState) → slice_get all k ≡ Some (s ∷ r) → core_of s.done.event ≡ k
     → ((j : ℕ) (t : Stamped) (rest : List Stamped) → slice_get all j ≡ Some (t ∷ rest) → (s.stamp < t.stamp) ⊎ ((s.stamp ≡ t.stamp) × (k ≤ j)))
     → ((t : Stamped) (rest : List Stamped) → r ≡ t ∷ rest → s.stamp < t.stamp) → Goes rd ru budget budgets (before ++ s ∷ []) (slice_set all k r) end ends → Goes rd ru budget budgets before all end ends
 goes_on rd ru budget budgets before all k s r end ends here is least next g = record {
@@ -124,8 +124,8 @@ goes_on rd ru budget budgets before all k s r end ends here is least next g = re
     within (suc n) x at = omega (arith, g.of_cores n x at, length-slice_set all k r)
 
 -- the rest of a core's history
-own_ahead : (rd ru : ℕ → List Stamping) (budget : ℕ) (budgets : List ℕ) (before : List Stamped) (w : World) (c : Core0) (h0 : List Stamped) (hs : List (List Stamped)) (end : Core0) (ends : List Other) (i : ℕ) (s : Stamped) (r : List Stamped) → Joint rd ru budget budgets before w c h0 hs end ends
-    → slice_get hs i ≡ Some (s ∷ r) → (b : ℕ) × (d : Other) × (e : Other) × (taken : List Stamping) × HistoryOther i b d (s ∷ r) e taken
+own_ahead : (rd ru : ℕ → List Stamping) (budget : ℕ) (budgets : List ℕ) (before : List Stamped) (w : World) (c : Core0State) (h0 : List Stamped) (hs : List (List Stamped)) (end : Core0State) (ends : List OtherState) (i : ℕ) (s : Stamped) (r : List Stamped) → Joint rd ru budget budgets before w c h0 hs end ends
+    → slice_get hs i ≡ Some (s ∷ r) → (b : ℕ) × (d : OtherState) × (e : OtherState) × (taken : List Stamping) × HistoryOther i b d (s ∷ r) e taken
 own_ahead rd ru budget budgets before w c h0 hs end ends i s r j at =
     let k = run_known budget budgets (as_listed before) w j.run in
     let p = get_at w.peers i (omega (arith, k.cores, j.cores, slice_get_within hs i (s ∷ r) at)) in
@@ -133,10 +133,10 @@ own_ahead rd ru budget budgets before w c h0 hs end ends i s r j at =
     let same : o.history ≡ s ∷ r = (let x = o.is_history in cc) in
     (p.0.budget, o.seat.core, o.end, o.seat.taken, subst (λ (x : List Stamped). HistoryOther i p.0.budget o.seat.core x o.end o.seat.taken) same o.seat.ahead)
 
-abbrev Merges : (ℕ → List Stamping) → (ℕ → List Stamping) → ℕ → ℕ → List ℕ → Core0 → List Other → Type 0
-Merges rd ru fuel budget budgets end ends = (before : List Stamped) (w : World) (c : Core0) (h0 : List Stamped) (hs : List (List Stamped)) → size (h0 ∷ hs) ≤ fuel → Joint rd ru budget budgets before w c h0 hs end ends → Goes rd ru budget budgets before (h0 ∷ hs) end ends
+abbrev Merges : (ℕ → List Stamping) → (ℕ → List Stamping) → ℕ → ℕ → List ℕ → Core0State → List OtherState → Type 0
+Merges rd ru fuel budget budgets end ends = (before : List Stamped) (w : World) (c : Core0State) (h0 : List Stamped) (hs : List (List Stamped)) → size (h0 ∷ hs) ≤ fuel → Joint rd ru budget budgets before w c h0 hs end ends → Goes rd ru budget budgets before (h0 ∷ hs) end ends
 
-merge_step : (rd ru : ℕ → List Stamping) (fuel budget : ℕ) (budgets : List ℕ) (before : List Stamped) (w : World) (c : Core0) (h0 : List Stamped) (hs : List (List Stamped)) (end : Core0) (ends : List Other) → Merges rd ru fuel budget budgets end ends
+merge_step : (rd ru : ℕ → List Stamping) (fuel budget : ℕ) (budgets : List ℕ) (before : List Stamped) (w : World) (c : Core0State) (h0 : List Stamped) (hs : List (List Stamped)) (end : Core0State) (ends : List OtherState) → Merges rd ru fuel budget budgets end ends
     → size (h0 ∷ hs) ≤ suc fuel → Joint rd ru budget budgets before w c h0 hs end ends → Least (h0 ∷ hs) → Goes rd ru budget budgets before (h0 ∷ hs) end ends
 merge_step rd ru fuel budget budgets before w c h0 hs end ends rest le joint least = by_core least.core least.first least.later least.here least.before_all
   where
@@ -177,7 +177,7 @@ merge_step rd ru fuel budget budgets before w c h0 hs end ends rest le joint lea
         n : Next rd ru budget budgets (before ++ s ∷ []) h0 (slice_set hs i r) end ends
         n = joint_own rd ru budget budgets before w c h0 i s r hs end ends joint here not_before
 
-        mine : (b : ℕ) × (d : Other) × (e : Other) × (taken : List Stamping) × HistoryOther i b d (s ∷ r) e taken
+        mine : (b : ℕ) × (d : OtherState) × (e : OtherState) × (taken : List Stamping) × HistoryOther i b d (s ∷ r) e taken
         mine = own_ahead rd ru budget budgets before w c h0 hs end ends i s r joint here
 
         core_is : core_of s.done.event ≡ suc i
@@ -186,7 +186,7 @@ merge_step rd ru fuel budget budgets before w c h0 hs end ends rest le joint lea
         after : (t : Stamped) (later : List Stamped) → r ≡ t ∷ later → s.stamp < t.stamp
         after t later e = next_other i mine.0 mine.1 mine.2 s t later mine.3 (subst (λ (x : List Stamped). HistoryOther i mine.0 mine.1 (s ∷ x) mine.2 mine.3) e mine.4)
 
-merge_from : (rd ru : ℕ → List Stamping) (fuel budget : ℕ) (budgets : List ℕ) (end : Core0) (ends : List Other) → Merges rd ru fuel budget budgets end ends
+merge_from : (rd ru : ℕ → List Stamping) (fuel budget : ℕ) (budgets : List ℕ) (end : Core0State) (ends : List OtherState) → Merges rd ru fuel budget budgets end ends
 merge_from rd ru zero budget budgets end ends before w c h0 hs le j = by_left (least_of (h0 ∷ hs))
   where
     by_left : (NoneLeft (h0 ∷ hs) ⊎ Least (h0 ∷ hs)) → Goes rd ru budget budgets before (h0 ∷ hs) end ends
@@ -199,14 +199,14 @@ merge_from rd ru (suc fuel) budget budgets end ends before w c h0 hs le j = by_l
     by_left (inr l) rest = merge_step rd ru fuel budget budgets before w c h0 hs end ends rest le j l
 
 -- a list of all events, and the run that it is
-pub record OneRun (budget : ℕ) (budgets : List ℕ) (core0 : List Stamped) (others : List (List Stamped)) (end : Core0) (ends : List Other) : Type 0 where
+pub record OneRun (budget : ℕ) (budgets : List ℕ) (core0 : List Stamped) (others : List (List Stamped)) (end : Core0State) (ends : List OtherState) : Type 0 where
   pub merged : List Stamped
   pub is_merged : Merged core0 others merged
   pub world : World
   pub run : Run budget budgets (as_listed merged) world
   pub all_end : AllEnd world end ends
 
-pub one_run : (budget : ℕ) (budgets : List ℕ) (core0 : List Stamped) (others : List (List Stamped)) (end : Core0) (ends : List Other) → Computation budget budgets core0 others end ends → OneRun budget budgets core0 others end ends
+pub one_run : (budget : ℕ) (budgets : List ℕ) (core0 : List Stamped) (others : List (List Stamped)) (end : Core0State) (ends : List OtherState) → Computation budget budgets core0 others end ends → OneRun budget budgets core0 others end ends
 one_run budget budgets core0 others end ends h =
     let g = merge_from (rest_down others h.sent) (rest_up others h.taken) (size (core0 ∷ others)) budget budgets end ends [] (boot budget budgets) (core0_first (length budgets)) core0 others (omega arith) (joint_first (rest_down others h.sent) (rest_up others h.taken) budget budgets core0 others end ends h (rests_of budgets others ends h.sent h.taken)) in
     record {
@@ -218,14 +218,14 @@ one_run budget budgets core0 others end ends h =
     }
 
 -- and what is under way at its end is what was sent and not taken
-pub record RunLeft (budget : ℕ) (budgets : List ℕ) (end : Core0) (ends : List Other) (others : List (List Stamped)) (sent : List Sending) (taken0 : List (ℕ × Stamping)) : Type 0 where
+pub record RunLeft (budget : ℕ) (budgets : List ℕ) (end : Core0State) (ends : List OtherState) (others : List (List Stamped)) (sent : List Sending) (taken0 : List (ℕ × Stamping)) : Type 0 where
   pub merged : List Stamped
   pub world : World
   pub run : Run budget budgets (as_listed merged) world
   pub all_end : AllEnd world end ends
   pub under_way : (i : ℕ) (p : Peer) → slice_get world.peers i ≡ Some p → (p.down ≡ messages (rest_down others sent i)) × (p.up ≡ messages (rest_up others taken0 i))
 
-pub run_left : (budget : ℕ) (budgets : List ℕ) (core0 : List Stamped) (others : List (List Stamped)) (end : Core0) (ends : List Other) → (h : Computation budget budgets core0 others end ends) → RunLeft budget budgets end ends others h.sent h.taken
+pub run_left : (budget : ℕ) (budgets : List ℕ) (core0 : List Stamped) (others : List (List Stamped)) (end : Core0State) (ends : List OtherState) → (h : Computation budget budgets core0 others end ends) → RunLeft budget budgets end ends others h.sent h.taken
 run_left budget budgets core0 others end ends h =
     let g = merge_from (rest_down others h.sent) (rest_up others h.taken) (size (core0 ∷ others)) budget budgets end ends [] (boot budget budgets) (core0_first (length budgets)) core0 others (omega arith) (joint_first (rest_down others h.sent) (rest_up others h.taken) budget budgets core0 others end ends h (rests_of budgets others ends h.sent h.taken)) in
     record { merged = g.later; world = g.world; run = g.run; all_end = g.all_end; under_way = g.under_way }
@@ -307,7 +307,7 @@ merged_once core0 others m n a b = same_list m n a.in_order b.in_order by_core
         by_place (inr lt) = none_beyond core0 others m core a lt (part core m) refl ∙ sym (none_beyond core0 others n core b lt (part core n) refl)
 
 -- each list of all events by stamp and core is that run
-pub run_of : (budget : ℕ) (budgets : List ℕ) (core0 : List Stamped) (others : List (List Stamped)) (end : Core0) (ends : List Other) (merged : List Stamped) → Computation budget budgets core0 others end ends → Merged core0 others merged → IsRun budget budgets merged end ends
+pub run_of : (budget : ℕ) (budgets : List ℕ) (core0 : List Stamped) (others : List (List Stamped)) (end : Core0State) (ends : List OtherState) (merged : List Stamped) → Computation budget budgets core0 others end ends → Merged core0 others merged → IsRun budget budgets merged end ends
 run_of budget budgets core0 others end ends merged h m =
     let o = one_run budget budgets core0 others end ends h in
     record { world = o.world; run = subst (λ (xs : List Stamped). Run budget budgets (as_listed xs) o.world) (merged_once core0 others o.merged merged o.is_merged m) o.run; all_end = o.all_end }

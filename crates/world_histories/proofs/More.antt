@@ -4,9 +4,9 @@ use Rattle.std.specs.Prelude.{option_to_list}
 use Rattle.std.proofs.lemmas.List.{append-nil}
 use Rattle.world_model.specs.Cases.{Outgoing, sent_up}
 use Rattle.world_histories.specs.declared.history.Stamped.{Stamped}
-use Rattle.world_histories.specs.Histories.{Stamping, Sending, for_entry, with_stamp, sent_to, sent_by, taking, taken_from, Core0, Step0, History0, Other, StepOther, HistoryOther}
+use Rattle.world_histories.specs.Histories.{Stamping, Sending, for_entry, with_stamp, sent_to, sent_by, taking, taken_from, Core0State, Step0, History0, OtherState, StepOther, HistoryOther}
 
-pub history0_more : (others budget : ℕ) (c mid c' : Core0) (h : List Stamped) (s : Stamped) (sent : List Sending) (taken : List (ℕ × Stamping)) (m : Option Stamping) (out : Outgoing)
+pub history0_more : (others budget : ℕ) (c mid c' : Core0State) (h : List Stamped) (s : Stamped) (sent : List Sending) (taken : List (ℕ × Stamping)) (m : Option Stamping) (out : Outgoing)
     → History0 others budget c h mid sent taken → Step0 others budget mid s.stamp s.done.event m c' s.done.answer out
     → History0 others budget c (h ++ s ∷ []) c' (sent ++ record { stamp = s.stamp; sent = out } ∷ []) (taken ++ taking s.done.event m)
 history0_more others budget c mid c' [] s sent taken m out h step = (
@@ -15,7 +15,7 @@ history0_more others budget c mid c' [] s sent taken m out h step = (
   out,
   [],
   [],
-  subst (λ (x : Core0). Step0 others budget x s.stamp s.done.event m c' s.done.answer out) h.0 step,
+  subst (λ (x : Core0State). Step0 others budget x s.stamp s.done.event m c' s.done.answer out) h.0 step,
   (refl, refl, refl),
   ap (λ (xs : List Sending). xs ++ record { stamp = s.stamp; sent = out } ∷ []) h.1,
   ap (λ (xs : List (ℕ × Stamping)). xs ++ taking s.done.event m) h.2 ∙ sym (append-nil (taking s.done.event m)),
@@ -32,10 +32,10 @@ history0_more others budget c mid c' (x ∷ xs) s sent taken m out h step = (
   ap (λ (ys : List (ℕ × Stamping)). ys ++ taking s.done.event m) h.8 ∙ append_assoc (taking x.done.event h.1) h.4 (taking s.done.event m),
 )
 
-pub history_other_more : (i budget : ℕ) (c mid c' : Other) (h : List Stamped) (s : Stamped) (taken : List Stamping) (m : Option Stamping)
+pub history_other_more : (i budget : ℕ) (c mid c' : OtherState) (h : List Stamped) (s : Stamped) (taken : List Stamping) (m : Option Stamping)
     → HistoryOther i budget c h mid taken → StepOther i budget mid s.stamp s.done.event m c' s.done.answer → HistoryOther i budget c (h ++ s ∷ []) c' (taken ++ option_to_list m)
 history_other_more i budget c mid c' [] s taken m h step =
-    (c', m, [], subst (λ (x : Other). StepOther i budget x s.stamp s.done.event m c' s.done.answer) h.0 step, (refl, refl), ap (λ (xs : List Stamping). xs ++ option_to_list m) h.1 ∙ sym (append-nil (option_to_list m)))
+    (c', m, [], subst (λ (x : OtherState). StepOther i budget x s.stamp s.done.event m c' s.done.answer) h.0 step, (refl, refl), ap (λ (xs : List Stamping). xs ++ option_to_list m) h.1 ∙ sym (append-nil (option_to_list m)))
 history_other_more i budget c mid c' (x ∷ xs) s taken m h step = (
   h.0,
   h.1,

@@ -20,7 +20,7 @@ use Rattle.world_model.specs.Agreement.{commitments}
 use Rattle.world_model.proofs.Lists.{empty_list, get_end, same_or_not}
 use Rattle.world_model.proofs.Invariant.{Pair, at_rest, asked, voted, counted, to_commit, to_abort, acked, finished, Inv}
 use Rattle.world_histories.specs.declared.history.Stamped.{Stamped}
-use Rattle.world_histories.specs.Histories.{Stamping, Sending, sent_to, Other, SubmitOther, TakeOther, RxOther, StepOther, HistoryOther}
+use Rattle.world_histories.specs.Histories.{Stamping, Sending, sent_to, OtherState, SubmitOther, TakeOther, RxOther, StepOther, HistoryOther}
 use Rattle.world_histories.proofs.Lists.{front_at, set_cases}
 use Rattle.world_histories.proofs.Clocks.{tick_after}
 use Rattle.world_histories.proofs.Seats.{messages, Seat, seat_own, raised_long}
@@ -109,7 +109,7 @@ pub record Moved (w : World) (i : ℕ) (p : Peer) (event : Event) (answer : Answ
   pub requests_are : world.requests ≡ w.requests
   pub peers : (j : ℕ) (x : Peer) → slice_get world.peers j ≡ Some x → ((i ≡ j) × (x ≡ q)) ⊎ ((i ≡ j → ⊥) × (slice_get w.peers j ≡ Some x))
 
-pub record Owned (rd ru : ℕ → List Stamping) (w : World) (i : ℕ) (p : Peer) (s : Stamped) (r : List Stamped) (e : Other) (sent : List Sending) (taken0 : List (ℕ × Stamping)) : Type 0 where
+pub record Owned (rd ru : ℕ → List Stamping) (w : World) (i : ℕ) (p : Peer) (s : Stamped) (r : List Stamped) (e : OtherState) (sent : List Sending) (taken0 : List (ℕ × Stamping)) : Type 0 where
   pub new : Peer
   pub moved : Moved w i p s.done.event s.done.answer new
   pub seat : Seat rd ru i w.log new r e sent taken0
@@ -135,7 +135,7 @@ fitting log front place i p short s b version place' out' (message.Vote txn v') 
 fitting log front place i p short s b version place' out' (message.Ack txn) rest committed answer e pair f v h = absurd h.answers
 fitting log front place i p short s b version place' out' (message.Submit op) rest committed answer e pair f v h = absurd h.answers
 
-own_take : (rd ru : ℕ → List Stamping) (w : World) (i : ℕ) (p : Peer) (stamp : ℕ) (short : Bool) (answer : Answer) (m : Stamping) (r : List Stamped) (e mid : Other) (sent : List Sending) (taken0 : List (ℕ × Stamping)) (taken : List Stamping)
+own_take : (rd ru : ℕ → List Stamping) (w : World) (i : ℕ) (p : Peer) (stamp : ℕ) (short : Bool) (answer : Answer) (m : Stamping) (r : List Stamped) (e mid : OtherState) (sent : List Sending) (taken0 : List (ℕ × Stamping)) (taken : List Stamping)
     → Inv w → slice_get w.peers i ≡ Some p → (seat : Seat rd ru i w.log p (record { stamp = stamp; done = record { event = Take (suc i) 0 short; answer = answer } } ∷ r) e sent taken0)
     → TakeOther p.budget seat.core stamp short m.message mid answer → HistoryOther i p.budget mid r e taken → (m ∷ taken) ++ rd i ≡ seat.down ++ sent_to i sent → ((ms : List Stamping) → sent_to i sent ≡ m ∷ ms → ⊥)
     → Owned rd ru w i p (record { stamp = stamp; done = record { event = Take (suc i) 0 short; answer = answer } }) r e sent taken0
@@ -162,12 +162,12 @@ own_take rd ru w i p stamp short answer m r e mid sent taken0 taken inv at seat 
     peers = set_cases w.peers i q p at;
   };
   seat = seat_own rd ru i w.log p q _ r e sent taken0 seat mid taken box.0 ahead
-      (ap (λ (n : ℕ). raised n h.committed) seat.version_is ∙ (raised_long d.log h.committed ∙ ap (λ (x : Other). length x.log) (sym h.next)))
-      (subst (λ (x : Other). IsPrefix x.log w.log) (sym h.next) fit.still_front)
-      (ap (λ (x : Other). x.place) (sym h.next)) (ap (λ (x : Other). x.outstanding) (sym h.next)) refl refl box.2;
+      (ap (λ (n : ℕ). raised n h.committed) seat.version_is ∙ (raised_long d.log h.committed ∙ ap (λ (x : OtherState). length x.log) (sym h.next)))
+      (subst (λ (x : OtherState). IsPrefix x.log w.log) (sym h.next) fit.still_front)
+      (ap (λ (x : OtherState). x.place) (sym h.next)) (ap (λ (x : OtherState). x.outstanding) (sym h.next)) refl refl box.2;
 }
   where
-    d : Other
+    d : OtherState
     d = seat.core
 
     box : (rest : List Stamping) × (seat.down ≡ m ∷ rest) × (taken ++ rd i ≡ rest ++ sent_to i sent)
@@ -185,7 +185,7 @@ own_take rd ru w i p stamp short answer m r e mid sent taken0 taken inv at seat 
     fit : Fitting w.log d.log h.committed m.message
     fit = fitting w.log d.log w.place i p short (table d.log (length d.log)) p.budget p.version h.place h.outstanding m.message (messages box.0) h.committed answer oldest (inv.pairs i p at) seat.is_front seat.version_is here
 
-own_submit : (rd ru : ℕ → List Stamping) (w : World) (i : ℕ) (p : Peer) (stamp : ℕ) (op : Op) (answer : Answer) (r : List Stamped) (e mid : Other) (sent : List Sending) (taken0 : List (ℕ × Stamping)) (taken : List Stamping)
+own_submit : (rd ru : ℕ → List Stamping) (w : World) (i : ℕ) (p : Peer) (stamp : ℕ) (op : Op) (answer : Answer) (r : List Stamped) (e mid : OtherState) (sent : List Sending) (taken0 : List (ℕ × Stamping)) (taken : List Stamping)
     → slice_get w.peers i ≡ Some p → (seat : Seat rd ru i w.log p (record { stamp = stamp; done = record { event = Submit (suc i) op; answer = answer } } ∷ r) e sent taken0)
     → SubmitOther seat.core stamp mid answer → HistoryOther i p.budget mid r e taken → taken ++ rd i ≡ seat.down ++ sent_to i sent
     → Owned rd ru w i p (record { stamp = stamp; done = record { event = Submit (suc i) op; answer = answer } }) r e sent taken0
@@ -200,14 +200,14 @@ own_submit rd ru w i p stamp op answer r e mid sent taken0 taken at seat h ahead
     peers = set_cases w.peers i q p at;
   };
   seat = seat_own rd ru i w.log p q _ r e sent taken0 seat mid taken seat.down ahead
-      (seat.version_is ∙ ap (λ (x : Other). length x.log) (sym h.next)) (subst (λ (x : Other). IsPrefix x.log w.log) (sym h.next) seat.is_front)
-      (seat.place_is ∙ ap (λ (x : Other). x.place) (sym h.next)) (ap (λ (x : Other). x.outstanding) (sym h.next)) seat.down_is refl takes;
+      (seat.version_is ∙ ap (λ (x : OtherState). length x.log) (sym h.next)) (subst (λ (x : OtherState). IsPrefix x.log w.log) (sym h.next) seat.is_front)
+      (seat.place_is ∙ ap (λ (x : OtherState). x.place) (sym h.next)) (ap (λ (x : OtherState). x.outstanding) (sym h.next)) seat.down_is refl takes;
 }
   where
     q : Peer
     q = record p { outstanding = h.outstanding; up = p.up ++ option_to_list (sent_up (Submit (suc i) op) answer) }
 
-own_rx : (rd ru : ℕ → List Stamping) (w : World) (i : ℕ) (p : Peer) (stamp number : ℕ) (packet : CapturedPacket) (floor : ℕ) (answer : Answer) (r : List Stamped) (e mid : Other) (sent : List Sending) (taken0 : List (ℕ × Stamping)) (taken : List Stamping)
+own_rx : (rd ru : ℕ → List Stamping) (w : World) (i : ℕ) (p : Peer) (stamp number : ℕ) (packet : CapturedPacket) (floor : ℕ) (answer : Answer) (r : List Stamped) (e mid : OtherState) (sent : List Sending) (taken0 : List (ℕ × Stamping)) (taken : List Stamping)
     → slice_get w.peers i ≡ Some p → (seat : Seat rd ru i w.log p (record { stamp = stamp; done = record { event = Rx (suc i) number packet floor; answer = answer } } ∷ r) e sent taken0)
     → RxOther seat.core stamp packet floor mid answer → HistoryOther i p.budget mid r e taken → taken ++ rd i ≡ seat.down ++ sent_to i sent
     → Owned rd ru w i p (record { stamp = stamp; done = record { event = Rx (suc i) number packet floor; answer = answer } }) r e sent taken0
@@ -227,8 +227,8 @@ own_rx rd ru w i p stamp number packet floor answer r e mid sent taken0 taken at
     peers = λ j x here. same j x here (same_or_not i j);
   };
   seat = seat_own rd ru i w.log p p _ r e sent taken0 seat mid taken seat.down ahead
-      (seat.version_is ∙ ap (λ (x : Other). length x.log) (sym h.next)) (subst (λ (x : Other). IsPrefix x.log w.log) (sym h.next) seat.is_front)
-      (seat.place_is ∙ ap (λ (x : Other). x.place) (sym h.next)) (seat.outstanding_is ∙ ap (λ (x : Other). x.outstanding) (sym h.next)) seat.down_is
+      (seat.version_is ∙ ap (λ (x : OtherState). length x.log) (sym h.next)) (subst (λ (x : OtherState). IsPrefix x.log w.log) (sym h.next) seat.is_front)
+      (seat.place_is ∙ ap (λ (x : OtherState). x.place) (sym h.next)) (seat.outstanding_is ∙ ap (λ (x : OtherState). x.outstanding) (sym h.next)) seat.down_is
       (sym (append-nil p.up) ∙ ap (λ (a : Answer). p.up ++ option_to_list (sent_up (Rx (suc i) number packet floor) a)) (sym h.here.is_answer)) takes;
 }
   where
@@ -238,11 +238,11 @@ own_rx rd ru w i p stamp number packet floor answer r e mid sent taken0 taken at
 
 -- the first event of a core's history happens in the world, where every message that it takes has been sent
 abbrev OwnEvent : (ℕ → List Stamping) → (ℕ → List Stamping) → Event → ℕ → Type 0
-OwnEvent rd ru event i = (w : World) (p : Peer) (stamp : ℕ) (answer : Answer) (m : Option Stamping) (r : List Stamped) (e mid : Other) (sent : List Sending) (taken0 : List (ℕ × Stamping)) (taken : List Stamping) → Inv w → slice_get w.peers i ≡ Some p
+OwnEvent rd ru event i = (w : World) (p : Peer) (stamp : ℕ) (answer : Answer) (m : Option Stamping) (r : List Stamped) (e mid : OtherState) (sent : List Sending) (taken0 : List (ℕ × Stamping)) (taken : List Stamping) → Inv w → slice_get w.peers i ≡ Some p
     → (seat : Seat rd ru i w.log p (record { stamp = stamp; done = record { event = event; answer = answer } } ∷ r) e sent taken0) → StepOther i p.budget seat.core stamp event m mid answer → HistoryOther i p.budget mid r e taken
     → seat.taken ≡ option_to_list m ++ taken → ((n : Stamping) (ms : List Stamping) → sent_to i sent ≡ n ∷ ms → n.stamp < stamp → ⊥) → Owned rd ru w i p (record { stamp = stamp; done = record { event = event; answer = answer } }) r e sent taken0
 
-takes_now : (rd ru : ℕ → List Stamping) (i : ℕ) (log : List Op) (p : Peer) (h : List Stamped) (e : Other) (sent : List Sending) (taken0 : List (ℕ × Stamping)) (seat : Seat rd ru i log p h e sent taken0) (taken : List Stamping) → seat.taken ≡ taken → taken ++ rd i ≡ seat.down ++ sent_to i sent
+takes_now : (rd ru : ℕ → List Stamping) (i : ℕ) (log : List Op) (p : Peer) (h : List Stamped) (e : OtherState) (sent : List Sending) (taken0 : List (ℕ × Stamping)) (seat : Seat rd ru i log p h e sent taken0) (taken : List Stamping) → seat.taken ≡ taken → taken ++ rd i ≡ seat.down ++ sent_to i sent
 takes_now rd ru i log p h e sent taken0 seat taken t = subst (λ (x : List Stamping). x ++ rd i ≡ seat.down ++ sent_to i sent) t seat.takes
 
 own_submits : (rd ru : ℕ → List Stamping) (i : ℕ) (op : Op) → OwnEvent rd ru (Submit (suc i) op) i
@@ -268,7 +268,7 @@ own_event rd ru (Rx (suc core) number packet floor) i w p stamp answer None r e 
     subst (λ (k : ℕ). OwnEvent rd ru (Rx (suc k) number packet floor) i) (sym h.does.0) (own_receives rd ru i number packet floor) w p stamp answer None r e mid sent taken0 taken inv at seat h ahead t late
 own_event rd ru event i w p stamp answer m r e mid sent taken0 taken inv at seat h ahead t late = absurd h.does
 
-pub own_step : (rd ru : ℕ → List Stamping) (w : World) (i : ℕ) (p : Peer) (s : Stamped) (r : List Stamped) (e : Other) (sent : List Sending) (taken0 : List (ℕ × Stamping)) → Inv w → slice_get w.peers i ≡ Some p
+pub own_step : (rd ru : ℕ → List Stamping) (w : World) (i : ℕ) (p : Peer) (s : Stamped) (r : List Stamped) (e : OtherState) (sent : List Sending) (taken0 : List (ℕ × Stamping)) → Inv w → slice_get w.peers i ≡ Some p
     → Seat rd ru i w.log p (s ∷ r) e sent taken0 → ((m : Stamping) (ms : List Stamping) → sent_to i sent ≡ m ∷ ms → m.stamp < s.stamp → ⊥) → Owned rd ru w i p s r e sent taken0
 own_step rd ru w i p s r e sent taken0 inv at seat late =
     let h = seat.ahead in

@@ -22,7 +22,7 @@ use Rattle.world_model.proofs.Submissions.{eq_self, eq_other}
 use Rattle.world_model.proofs.Known.{run_known}
 use Rattle.world_model.proofs.RunLaws.{run_replies}
 use Rattle.world_histories.specs.declared.history.Stamped.{Stamped}
-use Rattle.world_histories.specs.Histories.{unstamped, Core0, Other, Computation}
+use Rattle.world_histories.specs.Histories.{unstamped, Core0State, OtherState, Computation}
 use Rattle.world_histories.specs.Merging.{core_of, part, as_short, listed, as_listed}
 use Rattle.world_histories.specs.Answers.{requested, last_submitted, begins_for, is_submit, begun_for, submissions, DecidesLater, DecidedFor, Replied}
 use Rattle.world_histories.proofs.Lists.{Found, found}
@@ -202,7 +202,7 @@ replied_by i events w w' (StartFor core) d version is at h r = absurd (omega (ar
 replied_by i events w w' (Take zero from short) d version is at h r = absurd (omega (arith, is))
 replied_by i events w w' event d version is at h r = absurd h
 
-pub replied : (budget : ℕ) (budgets : List ℕ) (core0 : List Stamped) (others : List (List Stamped)) (end : Core0) (ends : List Other) → Computation budget budgets core0 others end ends
+pub replied : (budget : ℕ) (budgets : List ℕ) (core0 : List Stamped) (others : List (List Stamped)) (end : Core0State) (ends : List OtherState) → Computation budget budgets core0 others end ends
     → (i : ℕ) (h before after : List Stamped) (s : Stamped) (d : Decision) → slice_get others i ≡ Some h → h ≡ before ++ s ∷ after → s.done.answer ≡ TookReply d → Replied core0 end.log i before d
 replied budget budgets core0 others end ends c i h before after s d at e is_reply =
     let o = one_run budget budgets core0 others end ends c in

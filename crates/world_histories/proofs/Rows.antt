@@ -18,7 +18,7 @@ use Rattle.world_events.specs.declared.event.Answer.{Answer}
 use Rattle.world_events.specs.declared.event.Answer.TheVariants.{Prepared, TookPrepare, TookVote, TookCommit, TookAck}
 use Rattle.world_model.specs.Cases.{nothing, to_all}
 use Rattle.world_histories.specs.declared.history.Stamped.{Stamped}
-use Rattle.world_histories.specs.Histories.{Stamping, Sending, Core0, core0_first, Step0, History0, Other, other_first, StepOther, HistoryOther, TakesInOrder, Computation}
+use Rattle.world_histories.specs.Histories.{Stamping, Sending, Core0State, core0_first, Step0, History0, OtherState, other_first, StepOther, HistoryOther, TakesInOrder, Computation}
 
 create_7 : Op
 create_7 = Create 1 7
@@ -40,10 +40,10 @@ unfolding Allowed create_7
 allowed_first = refl
 
 -- core 0 with this clock, after the operation's commit or before it
-core_0 : ℕ → ℕ → Phase → Option Op → Option Decision → List Op → Core0
+core_0 : ℕ → ℕ → Phase → Option Op → Option Decision → List Op → Core0State
 core_0 clock last phase staged decided log = record { clock = clock; place = record { last = last; phase = phase; staged = staged }; requests = record { waiting = None ∷ []; asker = None; decided = decided }; log = log }
 
-core_1 : ℕ → ℕ → Option Vote → Option Op → List Op → Other
+core_1 : ℕ → ℕ → Option Vote → Option Op → List Op → OtherState
 core_1 clock last v staged log = record { clock = clock; place = record { last = last; voted = v; staged = staged }; outstanding = false; log = log }
 
 message_at : ℕ → Message → Stamping
@@ -206,10 +206,10 @@ two_cores_create = record {
   of_other = by_core;
 }
   where
-    by_core : (i b : ℕ) (h : List Stamped) (d : Other) → slice_get (9 ∷ []) i ≡ Some b → slice_get (of_core1 ∷ []) i ≡ Some h → slice_get (core_1 4 1 None None (create_7 ∷ []) ∷ []) i ≡ Some d → TakesInOrder i b sendings takings h d
+    by_core : (i b : ℕ) (h : List Stamped) (d : OtherState) → slice_get (9 ∷ []) i ≡ Some b → slice_get (of_core1 ∷ []) i ≡ Some h → slice_get (core_1 4 1 None None (create_7 ∷ []) ∷ []) i ≡ Some d → TakesInOrder i b sendings takings h d
     by_core zero b h d at_b at_h at_d =
         let e : 9 ≡ b = cc in
         let f : of_core1 ≡ h = cc in
         let g : core_1 4 1 None None (create_7 ∷ []) ≡ d = cc in
-        subst (λ (x : ℕ). TakesInOrder 0 x sendings takings h d) e (subst (λ (x : List Stamped). TakesInOrder 0 9 sendings takings x d) f (subst (λ (x : Other). TakesInOrder 0 9 sendings takings of_core1 x) g in_order))
+        subst (λ (x : ℕ). TakesInOrder 0 x sendings takings h d) e (subst (λ (x : List Stamped). TakesInOrder 0 9 sendings takings x d) f (subst (λ (x : OtherState). TakesInOrder 0 9 sendings takings of_core1 x) g in_order))
     by_core (suc i) b h d at_b at_h at_d = absurd (cc)

@@ -10,7 +10,7 @@ use Rattle.world_model.specs.Worlds.{Peer, World, send, sent_out, sent_to_one, R
 use Rattle.world_model.proofs.Lists.{get-set_same, get-set_other, get_map, same_or_not}
 use Rattle.world_model.proofs.Submissions.{eq_self, eq_other}
 use Rattle.world_histories.specs.declared.history.Stamped.{Stamped}
-use Rattle.world_histories.specs.Histories.{Stamping, Sending, for_entry, with_stamp, sent_to, sent_by, taken_from, Core0, History0, Other, HistoryOther}
+use Rattle.world_histories.specs.Histories.{Stamping, Sending, for_entry, with_stamp, sent_to, sent_by, taken_from, Core0State, History0, OtherState, HistoryOther}
 use Rattle.world_histories.specs.Merging.{as_listed}
 use Rattle.world_histories.proofs.Lists.{prefix_more}
 
@@ -26,8 +26,8 @@ messages_more xs stamp ms known e = map-append (λ m. m.message) xs (with_stamp 
 
 -- A core of the world, the rest of its history, and the messages under way with their stamps. Core 0 will send and take these, and the rest
 -- of what is sent is taken by none.
-pub record Seat (rd ru : ℕ → List Stamping) (i : ℕ) (log : List Op) (p : Peer) (h : List Stamped) (e : Other) (sent : List Sending) (taken0 : List (ℕ × Stamping)) : Type 0 where
-  pub core : Other
+pub record Seat (rd ru : ℕ → List Stamping) (i : ℕ) (log : List Op) (p : Peer) (h : List Stamped) (e : OtherState) (sent : List Sending) (taken0 : List (ℕ × Stamping)) : Type 0 where
+  pub core : OtherState
   pub taken : List Stamping
   pub ahead : HistoryOther i p.budget core h e taken
   pub version_is : p.version ≡ length core.log
@@ -42,15 +42,15 @@ pub record Seat (rd ru : ℕ → List Stamping) (i : ℕ) (log : List Op) (p : P
   pub gives : taken_from i taken0 ++ ru i ≡ up ++ sent_by h
 
 -- with its history and its end
-pub record SeatOf (rd ru : ℕ → List Stamping) (i : ℕ) (log : List Op) (p : Peer) (hs : List (List Stamped)) (ends : List Other) (sent : List Sending) (taken0 : List (ℕ × Stamping)) : Type 0 where
+pub record SeatOf (rd ru : ℕ → List Stamping) (i : ℕ) (log : List Op) (p : Peer) (hs : List (List Stamped)) (ends : List OtherState) (sent : List Sending) (taken0 : List (ℕ × Stamping)) : Type 0 where
   pub history : List Stamped
   pub is_history : slice_get hs i ≡ Some history
-  pub end : Other
+  pub end : OtherState
   pub is_end : slice_get ends i ≡ Some end
   pub seat : Seat rd ru i log p history end sent taken0
 
 -- a world that a run leads to, and the rests of all histories from there on
-pub record Joint (rd ru : ℕ → List Stamping) (budget : ℕ) (budgets : List ℕ) (before : List Stamped) (w : World) (c : Core0) (h0 : List Stamped) (hs : List (List Stamped)) (end : Core0) (ends : List Other) : Type 0 where
+pub record Joint (rd ru : ℕ → List Stamping) (budget : ℕ) (budgets : List ℕ) (before : List Stamped) (w : World) (c : Core0State) (h0 : List Stamped) (hs : List (List Stamped)) (end : Core0State) (ends : List OtherState) : Type 0 where
   pub run : Run budget budgets (as_listed before) w
   pub log_is : w.log ≡ c.log
   pub place_is : w.place ≡ c.place
@@ -111,7 +111,7 @@ raised_long log None = refl
 raised_long log (Some op) = omega (arith, length-append log (op ∷ []))
 
 -- after an event of core 0 that sent this
-pub seat_got : (rd ru : ℕ → List Stamping) (i stamp : ℕ) (log : List Op) (committed : Option Op) (out : Outgoing) (p q : Peer) (h : List Stamped) (e : Other) (sent : List Sending) (taken0 : List (ℕ × Stamping))
+pub seat_got : (rd ru : ℕ → List Stamping) (i stamp : ℕ) (log : List Op) (committed : Option Op) (out : Outgoing) (p q : Peer) (h : List Stamped) (e : OtherState) (sent : List Sending) (taken0 : List (ℕ × Stamping))
     → Got p q (for_entry i out) → Seat rd ru i log p h e (record { stamp = stamp; sent = out } ∷ sent) taken0 → Seat rd ru i (joined log committed) q h e sent taken0
 seat_got rd ru i stamp log committed out p q h e sent taken0 g s = record {
   core = s.core;
@@ -132,8 +132,8 @@ seat_got rd ru i stamp log committed out p q h e sent taken0 g s = record {
 -- A core's own event
 
 -- the core has done the first event of its history
-pub seat_own : (rd ru : ℕ → List Stamping) (i : ℕ) (log : List Op) (p q : Peer) (s : Stamped) (r : List Stamped) (e : Other) (sent : List Sending) (taken0 : List (ℕ × Stamping)) (seat : Seat rd ru i log p (s ∷ r) e sent taken0)
-    (d : Other) (taken down : List Stamping) → HistoryOther i q.budget d r e taken → q.version ≡ length d.log → IsPrefix d.log log → q.place ≡ d.place → q.outstanding ≡ d.outstanding
+pub seat_own : (rd ru : ℕ → List Stamping) (i : ℕ) (log : List Op) (p q : Peer) (s : Stamped) (r : List Stamped) (e : OtherState) (sent : List Sending) (taken0 : List (ℕ × Stamping)) (seat : Seat rd ru i log p (s ∷ r) e sent taken0)
+    (d : OtherState) (taken down : List Stamping) → HistoryOther i q.budget d r e taken → q.version ≡ length d.log → IsPrefix d.log log → q.place ≡ d.place → q.outstanding ≡ d.outstanding
     → messages down ≡ q.down → q.up ≡ p.up ++ option_to_list (sent_up s.done.event s.done.answer) → taken ++ rd i ≡ down ++ sent_to i sent → Seat rd ru i log q r e sent taken0
 seat_own rd ru i log p q s r e sent taken0 seat d taken down ahead version front place outstanding down_is up takes = record {
   core = d;

@@ -18,26 +18,26 @@ use Rattle.world_model.specs.Cases.{Outgoing, joined, start_told, TakesDownAt, T
 use Rattle.world_model.specs.Readings.{commits_at, version_of}
 use Rattle.world_model.proofs.Submissions.{eq_self}
 use Rattle.world_histories.specs.declared.history.Stamped.{Stamped}
-use Rattle.world_histories.specs.Histories.{Stamping, Sending, unstamped, taking, Core0, Does0, History0, Other, DoesOther, HistoryOther}
+use Rattle.world_histories.specs.Histories.{Stamping, Sending, unstamped, taking, Core0State, Does0, History0, OtherState, DoesOther, HistoryOther}
 use Rattle.world_histories.proofs.Lists.{prefix_self, prefix_then}
 use Rattle.world_model.proofs.Moves.{counts_start, counts_start_for, up_counts}
 
 -- Two parts
 
-abbrev pub Split0 : ℕ → ℕ → Core0 → List Stamped → List Stamped → Core0 → Type 0
-Split0 others budget c xs ys c' = (mid : Core0) × (sent : List Sending) × (taken : List (ℕ × Stamping)) × (sent' : List Sending) × (taken' : List (ℕ × Stamping))
+abbrev pub Split0 : ℕ → ℕ → Core0State → List Stamped → List Stamped → Core0State → Type 0
+Split0 others budget c xs ys c' = (mid : Core0State) × (sent : List Sending) × (taken : List (ℕ × Stamping)) × (sent' : List Sending) × (taken' : List (ℕ × Stamping))
     × History0 others budget c xs mid sent taken × History0 others budget mid ys c' sent' taken'
 
-pub split0 : (others budget : ℕ) (c c' : Core0) (xs ys : List Stamped) (sent : List Sending) (taken : List (ℕ × Stamping)) → History0 others budget c (xs ++ ys) c' sent taken → Split0 others budget c xs ys c'
+pub split0 : (others budget : ℕ) (c c' : Core0State) (xs ys : List Stamped) (sent : List Sending) (taken : List (ℕ × Stamping)) → History0 others budget c (xs ++ ys) c' sent taken → Split0 others budget c xs ys c'
 split0 others budget c c' [] ys sent taken h = (c, [], [], sent, taken, (refl, refl, refl), h)
 split0 others budget c c' (x ∷ xs) ys sent taken h =
     let r = split0 others budget h.0 c' xs ys h.3 h.4 h.6 in
     (r.0, record { stamp = x.stamp; sent = h.2 } ∷ r.1, taking x.done.event h.1 ++ r.2, r.3, r.4, (h.0, h.1, h.2, r.1, r.2, h.5, r.5, refl, refl), r.6)
 
-abbrev pub SplitOther : ℕ → ℕ → Other → List Stamped → List Stamped → Other → Type 0
-SplitOther i budget c xs ys c' = (mid : Other) × (taken : List Stamping) × (taken' : List Stamping) × HistoryOther i budget c xs mid taken × HistoryOther i budget mid ys c' taken'
+abbrev pub SplitOther : ℕ → ℕ → OtherState → List Stamped → List Stamped → OtherState → Type 0
+SplitOther i budget c xs ys c' = (mid : OtherState) × (taken : List Stamping) × (taken' : List Stamping) × HistoryOther i budget c xs mid taken × HistoryOther i budget mid ys c' taken'
 
-pub split_other : (i budget : ℕ) (c c' : Other) (xs ys : List Stamped) (taken : List Stamping) → HistoryOther i budget c (xs ++ ys) c' taken → SplitOther i budget c xs ys c'
+pub split_other : (i budget : ℕ) (c c' : OtherState) (xs ys : List Stamped) (taken : List Stamping) → HistoryOther i budget c (xs ++ ys) c' taken → SplitOther i budget c xs ys c'
 split_other i budget c c' [] ys taken h = (c, [], taken, (refl, refl), h)
 split_other i budget c c' (x ∷ xs) ys taken h =
     let r = split_other i budget h.0 c' xs ys h.2 h.4 in
@@ -57,7 +57,7 @@ grown_by core log event answer (Some op) e = record { is_front = (op ∷ [], ref
 same_log : (core : ℕ) (log : List Op) (event : Event) (answer : Answer) → commits_at core event answer ≡ false → Grown core log event answer log
 same_log core log event answer e = grown_by core log event answer None (sym e)
 
-grown0 : (others budget : ℕ) (c c' : Core0) (stamp : ℕ) (event : Event) (m : Option Stamping) (answer : Answer) (sent : Outgoing) → Does0 others budget c stamp event m c' answer sent → Grown 0 c.log event answer c'.log
+grown0 : (others budget : ℕ) (c c' : Core0State) (stamp : ℕ) (event : Event) (m : Option Stamping) (answer : Answer) (sent : Outgoing) → Does0 others budget c stamp event m c' answer sent → Grown 0 c.log event answer c'.log
 grown0 others budget c c' stamp (Start op) None answer sent h =
     rw h.next (grown_by 0 c.log (Start op) answer h.committed (counts_start op _ _ _ _ _ _ _ _ h.here.starts ∙ ap (commits_at 0 (Start op)) (sym h.here.is_answer)))
 grown0 others budget c c' stamp (StartFor (suc i)) None answer sent h =
@@ -73,7 +73,7 @@ abbrev pub Held : ParticipantPlace → Type 0
 Held place = place.voted ≡ Some vote.Yes → is_some place.staged ≡ true
 
 -- the event of another core also keeps this
-pub record GrownOther (i : ℕ) (c : Other) (event : Event) (answer : Answer) (c' : Other) : Type 0 where
+pub record GrownOther (i : ℕ) (c : OtherState) (event : Event) (answer : Answer) (c' : OtherState) : Type 0 where
   pub grown : Grown (suc i) c.log event answer c'.log
   pub held : Held c'.place
 
@@ -105,13 +105,13 @@ takes_grown i short s b version log place place' out out' (message.Vote txn v) c
 takes_grown i short s b version log place place' out out' (message.Ack txn) committed answer held h = absurd h.answers
 takes_grown i short s b version log place place' out out' (message.Submit op) committed answer held h = absurd h.answers
 
-take_grown : (i budget : ℕ) (c c' : Other) (stamp to : ℕ) (short : Bool) (m : Option Stamping) (answer : Answer) → to ≡ i → Held c.place → DoesOther i budget c stamp (Take (suc to) 0 short) m c' answer → GrownOther i c (Take (suc to) 0 short) answer c'
+take_grown : (i budget : ℕ) (c c' : OtherState) (stamp to : ℕ) (short : Bool) (m : Option Stamping) (answer : Answer) → to ≡ i → Held c.place → DoesOther i budget c stamp (Take (suc to) 0 short) m c' answer → GrownOther i c (Take (suc to) 0 short) answer c'
 take_grown i budget c c' stamp to short None answer e held h = absurd h
 take_grown i budget c c' stamp to short (Some m) answer e held h =
     let t = takes_grown i short (table c.log (length c.log)) budget (length c.log) c.log c.place h.1.place c.outstanding h.1.outstanding m.message h.1.committed answer held h.1.here in
     rw (h.1.next, e) (record { grown = t.0; held = t.1 })
 
-grown_other : (i budget : ℕ) (c c' : Other) (stamp : ℕ) (event : Event) (m : Option Stamping) (answer : Answer) → Held c.place → DoesOther i budget c stamp event m c' answer → GrownOther i c event answer c'
+grown_other : (i budget : ℕ) (c c' : OtherState) (stamp : ℕ) (event : Event) (m : Option Stamping) (answer : Answer) → Held c.place → DoesOther i budget c stamp event m c' answer → GrownOther i c event answer c'
 grown_other i budget c c' stamp (Submit (suc core) op) None answer held h = rw h.1.next (record { grown = same_log (suc i) c.log (Submit (suc core) op) answer refl; held = held })
 grown_other i budget c c' stamp (Take (suc to) zero short) (Some m) answer held h = take_grown i budget c c' stamp to short (Some m) answer h.0 held h
 grown_other i budget c c' stamp (Rx (suc core) number packet floor) None answer held h = rw h.1.next (record { grown = same_log (suc i) c.log (Rx (suc core) number packet floor) answer refl; held = held })
@@ -130,12 +130,12 @@ pub record Path (core : ℕ) (log : List Op) (history : List Stamped) (log' : Li
 path_more : (core : ℕ) (log mid log' : List Op) (s : Stamped) (later : List Stamped) → Grown core log s.done.event s.done.answer mid → Path core mid later log' → Path core log (s ∷ later) log'
 path_more core log mid log' s later g p = record { is_front = prefix_then log mid log' g.is_front p.is_front; counted = omega (arith, g.counted, p.counted, version_of-cons core s later) }
 
-pub path0 : (others budget : ℕ) (c c' : Core0) (h : List Stamped) (sent : List Sending) (taken : List (ℕ × Stamping)) → History0 others budget c h c' sent taken → Path 0 c.log h c'.log
+pub path0 : (others budget : ℕ) (c c' : Core0State) (h : List Stamped) (sent : List Sending) (taken : List (ℕ × Stamping)) → History0 others budget c h c' sent taken → Path 0 c.log h c'.log
 path0 others budget c c' [] sent taken h = rw h.0 (record { is_front = prefix_self c.log; counted = omega arith })
 path0 others budget c c' (s ∷ later) sent taken h =
     path_more 0 c.log h.0.log c'.log s later (grown0 others budget c h.0 s.stamp s.done.event h.1 s.done.answer h.2 h.5.does) (path0 others budget h.0 c' later h.3 h.4 h.6)
 
-pub path_other : (i budget : ℕ) (c c' : Other) (h : List Stamped) (taken : List Stamping) → Held c.place → HistoryOther i budget c h c' taken → Path (suc i) c.log h c'.log × Held c'.place
+pub path_other : (i budget : ℕ) (c c' : OtherState) (h : List Stamped) (taken : List Stamping) → Held c.place → HistoryOther i budget c h c' taken → Path (suc i) c.log h c'.log × Held c'.place
 path_other i budget c c' [] taken held h = rw h.0 (record { is_front = prefix_self c.log; counted = omega arith }, held)
 path_other i budget c c' (s ∷ later) taken held h =
     let g = grown_other i budget c h.0 s.stamp s.done.event h.1 s.done.answer held h.3.does in

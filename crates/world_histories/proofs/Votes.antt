@@ -19,7 +19,7 @@ use Rattle.world_model.specs.Readings.{vote_with, vote_after, vote_of}
 use Rattle.world_model.proofs.Lists.{same_or_not}
 use Rattle.world_model.proofs.Submissions.{eq_other}
 use Rattle.world_histories.specs.declared.history.Stamped.{Stamped}
-use Rattle.world_histories.specs.Histories.{Stamping, unstamped, Other, other_first, DoesOther, HistoryOther}
+use Rattle.world_histories.specs.Histories.{Stamping, unstamped, OtherState, other_first, DoesOther, HistoryOther}
 use Rattle.world_histories.proofs.Versions.{split_other}
 
 -- the event says nothing of the number, or it is the vote on it, the first after the core's last number
@@ -57,14 +57,14 @@ takes_voting core txn to short s b version place place' out out' (message.Vote n
 takes_voting core txn to short s b version place place' out out' (message.Ack n) committed answer h = absurd h.answers
 takes_voting core txn to short s b version place place' out out' (message.Submit op) committed answer h = absurd h.answers
 
-step_voting : (core txn i budget : ℕ) (c c' : Other) (stamp : ℕ) (event : Event) (m : Option Stamping) (answer : Answer) → DoesOther i budget c stamp event m c' answer → Voting core txn event answer c.place.last c'.place.last
+step_voting : (core txn i budget : ℕ) (c c' : OtherState) (stamp : ℕ) (event : Event) (m : Option Stamping) (answer : Answer) → DoesOther i budget c stamp event m c' answer → Voting core txn event answer c.place.last c'.place.last
 step_voting core txn i budget c c' stamp (Submit (suc k) op) None answer h = rw h.1.next (silent_vote core txn (Submit (suc k) op) answer c.place.last c.place.last refl (λ known. refl))
 step_voting core txn i budget c c' stamp (Take (suc to) zero short) (Some m) answer h = rw h.1.next (takes_voting core txn (suc to) short _ budget _ c.place h.1.place c.outstanding h.1.outstanding m.message h.1.committed answer h.1.here)
 step_voting core txn i budget c c' stamp (Rx (suc k) number packet floor) None answer h = rw h.1.next (silent_vote core txn (Rx (suc k) number packet floor) answer c.place.last c.place.last refl (λ known. refl))
 step_voting core txn i budget c c' stamp event m answer h = absurd h
 
 -- what the core has voted on is after it
-votes_behind : (core txn i budget : ℕ) (c c' : Other) (h : List Stamped) (taken : List Stamping) (known : Option Vote) → HistoryOther i budget c h c' taken → ((v : Vote) → known ≡ Some v → txn ≤ c.place.last)
+votes_behind : (core txn i budget : ℕ) (c c' : OtherState) (h : List Stamped) (taken : List Stamping) (known : Option Vote) → HistoryOther i budget c h c' taken → ((v : Vote) → known ≡ Some v → txn ≤ c.place.last)
     → (v : Vote) → vote_after core txn known (unstamped h) ≡ Some v → txn ≤ c'.place.last
 votes_behind core txn i budget c c' [] taken known h behind v e = rw h.0 (behind v e)
 votes_behind core txn i budget c c' (s ∷ later) taken known h behind v e =
@@ -76,7 +76,7 @@ votes_behind core txn i budget c c' (s ∷ later) taken known h behind v e =
     next grows (inr now) x is = omega (arith, now.1)
 
 -- no vote comes on a number that is behind
-votes_still : (core txn i budget : ℕ) (c c' : Other) (h : List Stamped) (taken : List Stamping) (known : Option Vote) → HistoryOther i budget c h c' taken → txn ≤ c.place.last → vote_after core txn known (unstamped h) ≡ known
+votes_still : (core txn i budget : ℕ) (c c' : OtherState) (h : List Stamped) (taken : List Stamping) (known : Option Vote) → HistoryOther i budget c h c' taken → txn ≤ c.place.last → vote_after core txn known (unstamped h) ≡ known
 votes_still core txn i budget c c' [] taken known h le = refl
 votes_still core txn i budget c c' (s ∷ later) taken known h le =
     let t = step_voting core txn i budget c h.0 s.stamp s.done.event h.1 s.done.answer h.3.does in
@@ -90,7 +90,7 @@ vote_after-parts : (core txn : ℕ) (known : Option Vote) (xs ys : List Done) �
 vote_after-parts core txn known [] ys = refl
 vote_after-parts core txn known (x ∷ xs) ys = vote_after-parts core txn (vote_with core txn known x.event x.answer) xs ys
 
-pub voted_in : (core txn i budget : ℕ) (end : Other) (h front : List Stamped) (taken : List Stamping) (v : Vote) → HistoryOther i budget other_first h end taken → IsPrefix front h → vote_of core txn (unstamped front) ≡ Some v → vote_of core txn (unstamped h) ≡ Some v
+pub voted_in : (core txn i budget : ℕ) (end : OtherState) (h front : List Stamped) (taken : List Stamping) (v : Vote) → HistoryOther i budget other_first h end taken → IsPrefix front h → vote_of core txn (unstamped front) ≡ Some v → vote_of core txn (unstamped h) ≡ Some v
 voted_in core txn i budget end h front taken v hist f e =
     let whole : HistoryOther i budget other_first (front ++ f.0) end taken = subst (λ (xs : List Stamped). HistoryOther i budget other_first xs end taken) (sym f.1) hist in
     let s = split_other i budget other_first end front f.0 taken whole in

@@ -62,16 +62,16 @@ sent_by (s ∷ later) = with_stamp s.stamp (option_to_list (sent_up s.done.event
 -- Core 0 along its history
 
 -- its clock and place, what it keeps of requests, and what it has committed
-pub record Core0 : Type 0 where
+pub record Core0State : Type 0 where
   pub clock : ℕ
   pub place : CoordinatorPlace
   pub requests : Requests
   pub log : List Op
 
-abbrev pub core0_first : ℕ → Core0
+abbrev pub core0_first : ℕ → Core0State
 core0_first others = record { clock = 0; place = idle_at_first; requests = no_requests others; log = [] }
 
-pub record Start0 (others budget : ℕ) (c : Core0) (stamp : ℕ) (op : Op) (c' : Core0) (answer : Answer) (sent : Outgoing) : Type 0 where
+pub record Start0 (others budget : ℕ) (c : Core0State) (stamp : ℕ) (op : Op) (c' : Core0State) (answer : Answer) (sent : Outgoing) : Type 0 where
   pub place : CoordinatorPlace
   pub committed : Option Op
   pub told : Step
@@ -79,7 +79,7 @@ pub record Start0 (others budget : ℕ) (c : Core0) (stamp : ℕ) (op : Op) (c' 
   pub next : c' ≡ record { clock = stamp; place = place; requests = c.requests; log = joined c.log committed }
   pub sends : sent ≡ outgoing told place
 
-pub record StartFor0 (others budget : ℕ) (c : Core0) (stamp : ℕ) (entry : ℕ) (c' : Core0) (answer : Answer) (sent : Outgoing) : Type 0 where
+pub record StartFor0 (others budget : ℕ) (c : Core0State) (stamp : ℕ) (entry : ℕ) (c' : Core0State) (answer : Answer) (sent : Outgoing) : Type 0 where
   pub place : CoordinatorPlace
   pub requests : Requests
   pub committed : Option Op
@@ -88,7 +88,7 @@ pub record StartFor0 (others budget : ℕ) (c : Core0) (stamp : ℕ) (entry : �
   pub next : c' ≡ record { clock = stamp; place = place; requests = requests; log = joined c.log committed }
   pub sends : sent ≡ outgoing told place
 
-pub record Take0 (c : Core0) (stamp : ℕ) (entry : ℕ) (m : Message) (c' : Core0) (answer : Answer) (sent : Outgoing) : Type 0 where
+pub record Take0 (c : Core0State) (stamp : ℕ) (entry : ℕ) (m : Message) (c' : Core0State) (answer : Answer) (sent : Outgoing) : Type 0 where
   pub place : CoordinatorPlace
   pub requests : Requests
   pub committed : Option Op
@@ -97,13 +97,13 @@ pub record Take0 (c : Core0) (stamp : ℕ) (entry : ℕ) (m : Message) (c' : Cor
   pub next : c' ≡ record { clock = stamp; place = place; requests = requests; log = joined c.log committed }
   pub sends : sent ≡ outgoing told place
 
-pub record Rx0 (c : Core0) (stamp : ℕ) (packet : CapturedPacket) (floor : ℕ) (c' : Core0) (answer : Answer) (sent : Outgoing) : Type 0 where
+pub record Rx0 (c : Core0State) (stamp : ℕ) (packet : CapturedPacket) (floor : ℕ) (c' : Core0State) (answer : Answer) (sent : Outgoing) : Type 0 where
   pub here : ReceivesAt (table c.log (length c.log)) (length c.log) packet floor answer
   pub next : c' ≡ record c { clock = stamp }
   pub sends : sent ≡ nothing
 
 -- what the event does at core 0, which takes this message with it or none
-abbrev pub Does0 : ℕ → ℕ → Core0 → ℕ → Event → Option Stamping → Core0 → Answer → Outgoing → Type 0
+abbrev pub Does0 : ℕ → ℕ → Core0State → ℕ → Event → Option Stamping → Core0State → Answer → Outgoing → Type 0
 Does0 others budget c stamp (Start op) None c' answer sent = Start0 others budget c stamp op c' answer sent
 Does0 others budget c stamp (StartFor (suc entry)) None c' answer sent = StartFor0 others budget c stamp entry c' answer sent
 Does0 others budget c stamp (Take zero (suc entry) short) (Some m) c' answer sent = Take0 c stamp entry m.message c' answer sent
@@ -111,7 +111,7 @@ Does0 others budget c stamp (Rx zero number packet floor) None c' answer sent = 
 Does0 others budget c stamp event m c' answer sent = ⊥
 
 -- one event of core 0, with so many other cores and this budget
-pub record Step0 (others budget : ℕ) (c : Core0) (stamp : ℕ) (event : Event) (m : Option Stamping) (c' : Core0) (answer : Answer) (sent : Outgoing) : Type 0 where
+pub record Step0 (others budget : ℕ) (c : Core0State) (stamp : ℕ) (event : Event) (m : Option Stamping) (c' : Core0State) (answer : Answer) (sent : Outgoing) : Type 0 where
   pub ticks : stamp ≡ tick c.clock m
   pub does : Does0 others budget c stamp event m c' answer sent
 
@@ -121,9 +121,9 @@ taking (Take to (suc entry) short) (Some m) = (entry, m) ∷ []
 taking event m = []
 
 -- from the one to the other by these events, with what they send and take
-abbrev pub History0 : ℕ → ℕ → Core0 → List Stamped → Core0 → List Sending → List (ℕ × Stamping) → Type 0
+abbrev pub History0 : ℕ → ℕ → Core0State → List Stamped → Core0State → List Sending → List (ℕ × Stamping) → Type 0
 History0 others budget c [] c' sent taken = (c' ≡ c) × (sent ≡ []) × (taken ≡ [])
-History0 others budget c (s ∷ later) c' sent taken = (mid : Core0) × (m : Option Stamping) × (out : Outgoing) × (sent' : List Sending) × (taken' : List (ℕ × Stamping))
+History0 others budget c (s ∷ later) c' sent taken = (mid : Core0State) × (m : Option Stamping) × (out : Outgoing) × (sent' : List Sending) × (taken' : List (ℕ × Stamping))
     × Step0 others budget c s.stamp s.done.event m mid s.done.answer out × History0 others budget mid later c' sent' taken'
     × (sent ≡ record { stamp = s.stamp; sent = out } ∷ sent') × (taken ≡ taking s.done.event m ++ taken')
 
@@ -134,53 +134,53 @@ taken_from entry (t ∷ later) = cond (t.0 == entry) (t.1 ∷ []) [] ++ taken_fr
 
 -- Another core along its history
 
-pub record Other : Type 0 where
+pub record OtherState : Type 0 where
   pub clock : ℕ
   pub place : ParticipantPlace
   pub outstanding : Bool
   pub log : List Op
 
-abbrev pub other_first : Other
+abbrev pub other_first : OtherState
 other_first = record { clock = 0; place = at_first; outstanding = false; log = [] }
 
-pub record SubmitOther (c : Other) (stamp : ℕ) (c' : Other) (answer : Answer) : Type 0 where
+pub record SubmitOther (c : OtherState) (stamp : ℕ) (c' : OtherState) (answer : Answer) : Type 0 where
   pub outstanding : Bool
   pub here : SubmitsAt c.outstanding outstanding answer
   pub next : c' ≡ record c { clock = stamp; outstanding = outstanding }
 
-pub record TakeOther (budget : ℕ) (c : Other) (stamp : ℕ) (short : Bool) (m : Message) (c' : Other) (answer : Answer) : Type 0 where
+pub record TakeOther (budget : ℕ) (c : OtherState) (stamp : ℕ) (short : Bool) (m : Message) (c' : OtherState) (answer : Answer) : Type 0 where
   pub place : ParticipantPlace
   pub outstanding : Bool
   pub committed : Option Op
   pub here : TakesDownAt short (table c.log (length c.log)) budget (length c.log) c.place c.outstanding m place outstanding committed answer
   pub next : c' ≡ record { clock = stamp; place = place; outstanding = outstanding; log = joined c.log committed }
 
-pub record RxOther (c : Other) (stamp : ℕ) (packet : CapturedPacket) (floor : ℕ) (c' : Other) (answer : Answer) : Type 0 where
+pub record RxOther (c : OtherState) (stamp : ℕ) (packet : CapturedPacket) (floor : ℕ) (c' : OtherState) (answer : Answer) : Type 0 where
   pub here : ReceivesAt (table c.log (length c.log)) (length c.log) packet floor answer
   pub next : c' ≡ record c { clock = stamp }
 
 -- what the event does at the core with this entry, which is the core's number less one
-abbrev pub DoesOther : ℕ → ℕ → Other → ℕ → Event → Option Stamping → Other → Answer → Type 0
+abbrev pub DoesOther : ℕ → ℕ → OtherState → ℕ → Event → Option Stamping → OtherState → Answer → Type 0
 DoesOther entry budget c stamp (Submit (suc core) op) None c' answer = (core ≡ entry) × SubmitOther c stamp c' answer
 DoesOther entry budget c stamp (Take (suc to) zero short) (Some m) c' answer = (to ≡ entry) × TakeOther budget c stamp short m.message c' answer
 DoesOther entry budget c stamp (Rx (suc core) number packet floor) None c' answer = (core ≡ entry) × RxOther c stamp packet floor c' answer
 DoesOther entry budget c stamp event m c' answer = ⊥
 
 -- one event of the core with this entry and budget
-pub record StepOther (entry budget : ℕ) (c : Other) (stamp : ℕ) (event : Event) (m : Option Stamping) (c' : Other) (answer : Answer) : Type 0 where
+pub record StepOther (entry budget : ℕ) (c : OtherState) (stamp : ℕ) (event : Event) (m : Option Stamping) (c' : OtherState) (answer : Answer) : Type 0 where
   pub ticks : stamp ≡ tick c.clock m
   pub does : DoesOther entry budget c stamp event m c' answer
 
 -- from the one to the other by these events, with what they take
-abbrev pub HistoryOther : ℕ → ℕ → Other → List Stamped → Other → List Stamping → Type 0
+abbrev pub HistoryOther : ℕ → ℕ → OtherState → List Stamped → OtherState → List Stamping → Type 0
 HistoryOther entry budget c [] c' taken = (c' ≡ c) × (taken ≡ [])
-HistoryOther entry budget c (s ∷ later) c' taken = (mid : Other) × (m : Option Stamping) × (taken' : List Stamping)
+HistoryOther entry budget c (s ∷ later) c' taken = (mid : OtherState) × (m : Option Stamping) × (taken' : List Stamping)
     × StepOther entry budget c s.stamp s.done.event m mid s.done.answer × HistoryOther entry budget mid later c' taken' × (taken ≡ option_to_list m ++ taken')
 
 -- All cores
 
 -- Core 0 sent and took these. The other core's history ends so; what the two took of each other is the front of what the other sent.
-pub record TakesInOrder (entry budget : ℕ) (sent : List Sending) (taken0 : List (ℕ × Stamping)) (history : List Stamped) (end : Other) : Type 0 where
+pub record TakesInOrder (entry budget : ℕ) (sent : List Sending) (taken0 : List (ℕ × Stamping)) (history : List Stamped) (end : OtherState) : Type 0 where
   pub taken : List Stamping
   pub is_history : HistoryOther entry budget other_first history end taken
   pub down : IsPrefix taken (sent_to entry sent)
@@ -188,10 +188,10 @@ pub record TakesInOrder (entry budget : ℕ) (sent : List Sending) (taken0 : Lis
 
 -- Core 0's history and the others' are those of cores with these budgets, which end so, and each of which took the messages that
 -- the others sent to it in their order. The log of the whole is what core 0 has committed at its end.
-pub record Computation (budget : ℕ) (budgets : List ℕ) (core0 : List Stamped) (others : List (List Stamped)) (end : Core0) (ends : List Other) : Type 0 where
+pub record Computation (budget : ℕ) (budgets : List ℕ) (core0 : List Stamped) (others : List (List Stamped)) (end : Core0State) (ends : List OtherState) : Type 0 where
   pub cores : length others ≡ length budgets
   pub all_end : length ends ≡ length budgets
   pub sent : List Sending
   pub taken : List (ℕ × Stamping)
   pub of_core0 : History0 (length budgets) budget (core0_first (length budgets)) core0 end sent taken
-  pub of_other : (i b : ℕ) (h : List Stamped) (d : Other) → slice_get budgets i ≡ Some b → slice_get others i ≡ Some h → slice_get ends i ≡ Some d → TakesInOrder i b sent taken h d
+  pub of_other : (i b : ℕ) (h : List Stamped) (d : OtherState) → slice_get budgets i ≡ Some b → slice_get others i ≡ Some h → slice_get ends i ≡ Some d → TakesInOrder i b sent taken h d

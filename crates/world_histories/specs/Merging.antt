@@ -10,7 +10,7 @@ use Rattle.world_events.specs.declared.event.Answer.TheVariants.{TookPrepare}
 use Rattle.world_events.specs.declared.event.Done.{Done}
 use Rattle.world_model.specs.Worlds.{Peer, World, Run}
 use Rattle.world_histories.specs.declared.history.Stamped.{Stamped}
-use Rattle.world_histories.specs.Histories.{Core0, Other}
+use Rattle.world_histories.specs.Histories.{Core0State, OtherState}
 
 -- the core whose event it is
 abbrev pub core_of : Event → ℕ
@@ -51,21 +51,21 @@ abbrev pub as_listed : List Stamped → List Done
 as_listed events = map listed events
 
 -- another core ends as it stands in the world
-pub record EndsAs (w : World) (p : Peer) (d : Other) : Type 0 where
+pub record EndsAs (w : World) (p : Peer) (d : OtherState) : Type 0 where
   pub version_is : p.version ≡ length d.log
   pub is_front : IsPrefix d.log w.log
   pub place_is : p.place ≡ d.place
   pub outstanding_is : p.outstanding ≡ d.outstanding
 
 -- the cores end as they stand in the world
-pub record AllEnd (w : World) (end : Core0) (ends : List Other) : Type 0 where
+pub record AllEnd (w : World) (end : Core0State) (ends : List OtherState) : Type 0 where
   pub log_is : w.log ≡ end.log
   pub place_is : w.place ≡ end.place
   pub requests_are : w.requests ≡ end.requests
-  pub others : (i : ℕ) (p : Peer) (d : Other) → slice_get w.peers i ≡ Some p → slice_get ends i ≡ Some d → EndsAs w p d
+  pub others : (i : ℕ) (p : Peer) (d : OtherState) → slice_get w.peers i ≡ Some p → slice_get ends i ≡ Some d → EndsAs w p d
 
 -- the list is a run of a machine with these budgets, which ends where the cores end
-pub record IsRun (budget : ℕ) (budgets : List ℕ) (merged : List Stamped) (end : Core0) (ends : List Other) : Type 0 where
+pub record IsRun (budget : ℕ) (budgets : List ℕ) (merged : List Stamped) (end : Core0State) (ends : List OtherState) : Type 0 where
   pub world : World
   pub run : Run budget budgets (as_listed merged) world
   pub all_end : AllEnd world end ends

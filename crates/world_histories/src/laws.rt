@@ -4,7 +4,7 @@ ghost use Rattle.std.specs.Prelude.{◌≡◌, ◌∷◌, ◌++◌, List, Some, 
 ghost use Rattle.filter_table.specs.declared.decision.Decision.{Decision};
 ghost use Rattle.world_events.specs.declared.event.Answer.TheVariants.{TookReply};
 ghost use Rattle.world_histories.specs.declared.history.Stamped.{Stamped};
-ghost use Rattle.world_histories.specs.Histories.{Core0, Other, Computation};
+ghost use Rattle.world_histories.specs.Histories.{Core0State, OtherState, Computation};
 ghost use Rattle.world_histories.specs.Merging.{Merged, IsRun};
 ghost use Rattle.world_histories.specs.Agreement.{HistoriesAgree};
 ghost use Rattle.world_histories.specs.Answers.{InRun, Replied};
@@ -13,20 +13,20 @@ ghost use Rattle.world_histories.specs.Decisions.{DecidesAs};
 /// Whatever the order in time was, each core is at a version of one log, which core 0 commits: what it committed was allowed, its
 /// tables are sound and within every core's budget, and each packet went to the endpoints that accept it at its core's version.
 pub fn histories_agree()
-    ensures { (budget : ℕ) (budgets : List ℕ) (core0 : List Stamped) (others : List (List Stamped)) (end : Core0) (ends : List Other) →
+    ensures { (budget : ℕ) (budgets : List ℕ) (core0 : List Stamped) (others : List (List Stamped)) (end : Core0State) (ends : List OtherState) →
         Computation budget budgets core0 others end ends → HistoriesAgree budget budgets core0 others end ends }
 {}
 
 /// In order of their stamps, then of their cores, the events of the histories make one list, and it is a run of the machine that
 /// ends where the cores end. The histories alone tell where that is, and so what the log is.
 pub fn histories_are_one_run()
-    ensures there_is { (budget : ℕ) (budgets : List ℕ) (core0 : List Stamped) (others : List (List Stamped)) (end : Core0) (ends : List Other) →
+    ensures there_is { (budget : ℕ) (budgets : List ℕ) (core0 : List Stamped) (others : List (List Stamped)) (end : Core0State) (ends : List OtherState) →
         Computation budget budgets core0 others end ends → (merged : List Stamped) × Merged core0 others merged }
     ensures once { (core0 : List Stamped) (others : List (List Stamped)) (merged again : List Stamped) →
         Merged core0 others merged → Merged core0 others again → merged ≡ again }
-    ensures run { (budget : ℕ) (budgets : List ℕ) (core0 : List Stamped) (others : List (List Stamped)) (end : Core0) (ends : List Other) (merged : List Stamped) →
+    ensures run { (budget : ℕ) (budgets : List ℕ) (core0 : List Stamped) (others : List (List Stamped)) (end : Core0State) (ends : List OtherState) (merged : List Stamped) →
         Computation budget budgets core0 others end ends → Merged core0 others merged → IsRun budget budgets merged end ends }
-    ensures one_end { (budget : ℕ) (budgets : List ℕ) (core0 : List Stamped) (others : List (List Stamped)) (end again : Core0) (ends ends_again : List Other) →
+    ensures one_end { (budget : ℕ) (budgets : List ℕ) (core0 : List Stamped) (others : List (List Stamped)) (end again : Core0State) (ends ends_again : List OtherState) →
         Computation budget budgets core0 others end ends → Computation budget budgets core0 others again ends_again → (end ≡ again) × (ends ≡ ends_again) }
 {}
 
@@ -35,12 +35,12 @@ pub fn histories_are_one_run()
 /// reason that holds, or is the veto of the least core that voted against. A core that takes a Reply takes what core 0 decided on
 /// its one request, the last that it submitted, and stands exactly at its version.
 pub fn answers_are_right()
-    ensures in_run { (budget : ℕ) (budgets : List ℕ) (core0 : List Stamped) (others : List (List Stamped)) (end : Core0) (ends : List Other) (merged : List Stamped)
+    ensures in_run { (budget : ℕ) (budgets : List ℕ) (core0 : List Stamped) (others : List (List Stamped)) (end : Core0State) (ends : List OtherState) (merged : List Stamped)
         (core : ℕ) (history before after : List Stamped) (s : Stamped) → Computation budget budgets core0 others end ends → Merged core0 others merged →
         slice_get (core0 ∷ others) core ≡ Some history → history ≡ before ++ s ∷ after → InRun budget budgets core0 others end.log merged core before s }
-    ensures decided { (budget : ℕ) (budgets : List ℕ) (core0 : List Stamped) (others : List (List Stamped)) (end : Core0) (ends : List Other) → Computation budget budgets core0 others end ends →
+    ensures decided { (budget : ℕ) (budgets : List ℕ) (core0 : List Stamped) (others : List (List Stamped)) (end : Core0State) (ends : List OtherState) → Computation budget budgets core0 others end ends →
         (before after : List Stamped) (s : Stamped) → core0 ≡ before ++ s ∷ after → DecidesAs budget budgets others end.log before s }
-    ensures replied { (budget : ℕ) (budgets : List ℕ) (core0 : List Stamped) (others : List (List Stamped)) (end : Core0) (ends : List Other) → Computation budget budgets core0 others end ends →
+    ensures replied { (budget : ℕ) (budgets : List ℕ) (core0 : List Stamped) (others : List (List Stamped)) (end : Core0State) (ends : List OtherState) → Computation budget budgets core0 others end ends →
         (entry : ℕ) (history before after : List Stamped) (s : Stamped) (decision : Decision) →
         slice_get others entry ≡ Some history → history ≡ before ++ s ∷ after → s.done.answer ≡ TookReply decision → Replied core0 end.log entry before decision }
 {}

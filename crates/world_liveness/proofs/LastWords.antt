@@ -19,7 +19,7 @@ use Rattle.world_model.proofs.Submissions.{Inv2, eq_other}
 use Rattle.world_model.proofs.Agreement.{run_inv, run_stages}
 use Rattle.world_model.proofs.Known.{Known, run_known}
 use Rattle.world_histories.specs.declared.history.Stamped.{Stamped}
-use Rattle.world_histories.specs.Histories.{Stamping, Sending, sent_to, sent_by, taken_from, for_entry, Core0, Other, other_first, TakesInOrder, Computation}
+use Rattle.world_histories.specs.Histories.{Stamping, Sending, sent_to, sent_by, taken_from, for_entry, Core0State, OtherState, other_first, TakesInOrder, Computation}
 use Rattle.world_histories.specs.Merging.{as_listed}
 use Rattle.world_histories.proofs.Seats.{messages}
 use Rattle.world_histories.proofs.Rests.{takes_in, rest_down, takes_are, drop_front, there_or}
@@ -78,7 +78,7 @@ last_word w r i p (message.Ack txn) rest (to_one asker said) inv inv2 fits at e 
     by_place j x at_x some (inr ne) = absurd (some (rw (eq_other asker j ne) refl))
 last_word w r i p m rest out inv inv2 fits at e last = absurd last
 
-pub last_words : (budget : ℕ) (budgets : List ℕ) (core0 : List Stamped) (others : List (List Stamped)) (end : Core0) (ends : List Other) → (h : Computation budget budgets core0 others end ends) → LastWordsComeLast budgets others end ends h.sent h.taken
+pub last_words : (budget : ℕ) (budgets : List ℕ) (core0 : List Stamped) (others : List (List Stamped)) (end : Core0State) (ends : List OtherState) → (h : Computation budget budgets core0 others end ends) → LastWordsComeLast budgets others end ends h.sent h.taken
 last_words budget budgets core0 others end ends h i g later m out at_g sent last j b x d at_b at_x at_d some t = whole t.taken (sent_to j h.sent) t.down (sym rest ∙ none)
   where
     left : RunLeft budget budgets end ends others h.sent h.taken

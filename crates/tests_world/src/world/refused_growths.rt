@@ -152,13 +152,13 @@ fn votes_yes<C: Channel>(
 }
 
 #[test]
-fn a_home_core_with_a_refused_growth(rt: HostRuntime) {
-    home::<Messages>(&rt, rt.alloc());
-    home::<Lines>(&rt, rt.alloc());
+fn core_0_with_a_refused_growth(rt: HostRuntime) {
+    core0::<Messages>(&rt, rt.alloc());
+    core0::<Lines>(&rt, rt.alloc());
 }
 
 /// Requests enter at core 1. The second is refused as soon as it is started.
-fn home<C: Channel>(rt: &impl Abort, alloc: Global) {
+fn core0<C: Channel>(rt: &impl Abort, alloc: Global) {
     let mut world = boot::<C>(rt, alloc, &[9, 9]);
     let none = WorldFault::NoneWaiting;
     fails(rt, alloc, &mut world, Asked::StartFor(1), none);

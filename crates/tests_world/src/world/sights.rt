@@ -48,7 +48,7 @@ pub(crate) fn sights<C: Channel>(world: &WorldOver<C>) -> (Option<Sight>, Option
 /// How far cores 0 and 1 are.
 #[derive(Clone, Copy, PartialEq, Eq, Debug)]
 pub(crate) struct Places {
-    home: Option<(u64, bool)>,
+    core0: Option<(u64, bool)>,
     peer: Option<(u64, bool)>,
     waits: bool,
 }
@@ -60,7 +60,7 @@ fn place(replica: Option<&Replica>) -> Option<(u64, bool)> {
 
 pub(crate) fn places_of<C: Channel>(world: &WorldOver<C>) -> Places {
     Places {
-        home: place(world.replica(0)),
+        core0: place(world.replica(0)),
         peer: place(world.replica(1)),
         waits: world.waiting(1).is_some(),
     }
@@ -86,11 +86,11 @@ fn after_one(before: Places, answer: &Answer) -> Places {
         Answer::TookVote {
             decided: Some(Decision::Committed { version, .. }),
             ..
-        } => places.home = Some((*version, false)),
+        } => places.core0 = Some((*version, false)),
         Answer::TookVote {
             decided: Some(Decision::Refused { .. }),
             ..
-        } => places.home = before.home.map(|(version, _)| (version, false)),
+        } => places.core0 = before.core0.map(|(version, _)| (version, false)),
         Answer::TookCommit { version, .. } | Answer::TookAbort { version, .. } => {
             places.peer = Some((*version, false));
         }
@@ -102,14 +102,14 @@ fn after_one(before: Places, answer: &Answer) -> Places {
 
 /// Cores 0 and 1 are at one version, with nothing staged and equal tables.
 pub(crate) fn are_equal<C: Channel>(rt: &impl Abort, world: &WorldOver<C>) {
-    let home = world.replica(0).expect(rt, "core 0");
+    let core0 = world.replica(0).expect(rt, "core 0");
     let peer = world.replica(1).expect(rt, "core 1");
-    equal(rt, (home.staged(), peer.staged()), (false, false));
-    equal(rt, peer.version(), home.version());
-    equal(rt, peer.caps().list(), home.caps().list());
-    equal(rt, peer.caps().next(), home.caps().next());
-    equal(rt, listed(peer), listed(home));
-    for (one, other) in peer.filters().zip(home.filters()) {
+    equal(rt, (core0.staged(), peer.staged()), (false, false));
+    equal(rt, peer.version(), core0.version());
+    equal(rt, peer.caps().list(), core0.caps().list());
+    equal(rt, peer.caps().next(), core0.caps().next());
+    equal(rt, listed(peer), listed(core0));
+    for (one, other) in peer.filters().zip(core0.filters()) {
         equal(rt, (one.id, one.owner), (other.id, other.owner));
         equal(rt, (one.cap, one.endpoint), (other.cap, other.endpoint));
         equal(rt, one.program.code(), other.program.code());

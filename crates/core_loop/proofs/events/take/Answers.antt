@@ -2,4 +2,4 @@ use Rattle.core_loop.proofs.Acting.{other_acts_ok}
 use Rattle.core_loop.proofs.events.take.Goals as goal
 
 pub returns-else-peer-ne0-clause-acts : goal.returns-else-peer-ne0-clause-acts
-returns-else-peer-ne0-clause-acts g c = other_acts_ok c.args.context.number c.args.context.cores c.args.context.clock _ _ c.args.part.now c.in-Other.core c.take-taken.new.core c.take-taken.result c.in-Other.is c.requires.fits c.take-taken.ensures.acts
+returns-else-peer-ne0-clause-acts g c = other_acts_ok c.args.context.number c.args.context.cores c.args.context.clock _ _ c.args.part.now c.in-OtherCore.core c.take-taken.new.core c.take-taken.result c.in-OtherCore.is c.requires.fits c.take-taken.ensures.acts

@@ -21,10 +21,10 @@ invariant_of-self-2 g c =
 
 pub returns-in_err-begin-clause-fault : goal.returns-in_err-begin-clause-fault
 returns-in_err-begin-clause-fault g c =
-    let idle : c.self.inside.home.core.coordinator.phase ≡ Idle = search (rules, c.idle.ensures, c.if-not-idle.ensures, c.if-not-idle.false) in
-    let unspent : c.self.inside.home.core.coordinator.last ≢ 18446744073709551615 = (λ e. omega (arith, e, c.last.ensures, c.if-last.false)) in
+    let idle : c.self.inside.core0.core.coordinator.phase ≡ Idle = search (rules, c.idle.ensures, c.if-not-idle.ensures, c.if-not-idle.false) in
+    let unspent : c.self.inside.core0.core.coordinator.last ≢ 18446744073709551615 = (λ e. omega (arith, e, c.last.ensures, c.if-last.false)) in
     told_no_memory c.from_residual.result (WorldRefuses c.args.self.now (Start c.args.op.now)) c.from_residual.ensures.1
-    (rw (← c.self.view_is) (start_no_memory (seen_world g.C.Channel.messages c.self.inside.home c.self.inside.peers.items) c.args.op.now idle unspent))
+    (rw (← c.self.view_is) (start_no_memory (seen_world g.C.Channel.messages c.self.inside.core0 c.self.inside.peers.items) c.args.op.now idle unspent))
 
 pub returns-in_err-begin-clause-same : goal.returns-in_err-begin-clause-same
 returns-in_err-begin-clause-same g c =

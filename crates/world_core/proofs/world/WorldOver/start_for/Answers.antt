@@ -18,16 +18,16 @@ pub returns-clause-fault : goal.returns-clause-fault
 returns-clause-fault g c =
     let core_is : c.args.core ≡ suc (c.args.core - 1) = omega (arith, c.if-core-eq0.false) in
     let inside : c.args.core - 1 < length c.self.inside.peers.items = omega (arith, c.if-core-eq0.false, c.if-from-len.false, c.from.ensures, c.len.ensures, c.self.inside.peers.ok.0) in
-    let there = has_channel g.C.Channel.messages c.self.inside.home c.self.inside.peers.items c.args.core (c.args.core - 1) core_is inside in
-    let idle : c.self.inside.home.core.coordinator.phase ≡ Idle = search (rules, c.idle.ensures, c.if-not-idle.ensures, c.if-not-idle.false) in
-    let unspent : c.self.inside.home.core.coordinator.last ≢ 18446744073709551615 = (λ e. omega (arith, e, c.last.ensures, c.if-last.false)) in
-    rw (← c.self.view_is) (told_as c.begin_for.result _ _ (λ fault h. start_for_refuses (seen_world g.C.Channel.messages c.self.inside.home c.self.inside.peers.items) c.args.core fault there idle unspent h) (rw c.deref_mut.ensures.value at c.begin_for.ensures.fault))
+    let there = has_channel g.C.Channel.messages c.self.inside.core0 c.self.inside.peers.items c.args.core (c.args.core - 1) core_is inside in
+    let idle : c.self.inside.core0.core.coordinator.phase ≡ Idle = search (rules, c.idle.ensures, c.if-not-idle.ensures, c.if-not-idle.false) in
+    let unspent : c.self.inside.core0.core.coordinator.last ≢ 18446744073709551615 = (λ e. omega (arith, e, c.last.ensures, c.if-last.false)) in
+    rw (← c.self.view_is) (told_as c.begin_for.result _ _ (λ fault h. start_for_refuses (seen_world g.C.Channel.messages c.self.inside.core0 c.self.inside.peers.items) c.args.core fault there idle unspent h) (rw c.deref_mut.ensures.value at c.begin_for.ensures.fault))
 
 pub returns-clause-joined : goal.returns-clause-joined
 returns-clause-joined g c =
     let core_is : c.args.core ≡ suc (c.args.core - 1) = omega (arith, c.if-core-eq0.false) in
     let inside : c.args.core - 1 < length c.self.inside.peers.items = omega (arith, c.if-core-eq0.false, c.if-from-len.false, c.from.ensures, c.len.ensures, c.self.inside.peers.ok.0) in
-    rw (← c.self.view_is) (ok_stands c.begin_for.result _ (has_channel g.C.Channel.messages c.self.inside.home c.self.inside.peers.items c.args.core (c.args.core - 1) core_is inside))
+    rw (← c.self.view_is) (ok_stands c.begin_for.result _ (has_channel g.C.Channel.messages c.self.inside.core0 c.self.inside.peers.items c.args.core (c.args.core - 1) core_is inside))
 
 pub returns-clause-happens : goal.returns-clause-happens
 returns-clause-happens g c =
@@ -41,17 +41,17 @@ pub returns-then-not-idle-clause-fault : goal.returns-then-not-idle-clause-fault
 returns-then-not-idle-clause-fault g c =
     let core_is : c.args.core ≡ suc (c.args.core - 1) = omega (arith, c.if-core-eq0.false) in
     let inside : c.args.core - 1 < length c.self.inside.peers.items = omega (arith, c.if-core-eq0.false, c.if-from-len.false, c.from.ensures, c.len.ensures, c.self.inside.peers.ok.0) in
-    let there = has_channel g.C.Channel.messages c.self.inside.home c.self.inside.peers.items c.args.core (c.args.core - 1) core_is inside in
-    let busy : c.self.inside.home.core.coordinator.phase ≢ Idle = search (rules, c.idle.ensures, c.if-not-idle.ensures, c.if-not-idle.true) in
+    let there = has_channel g.C.Channel.messages c.self.inside.core0 c.self.inside.peers.items c.args.core (c.args.core - 1) core_is inside in
+    let busy : c.self.inside.core0.core.coordinator.phase ≢ Idle = search (rules, c.idle.ensures, c.if-not-idle.ensures, c.if-not-idle.true) in
     rw (← c.self.view_is) (there, busy)
 
 pub returns-then-last-clause-fault : goal.returns-then-last-clause-fault
 returns-then-last-clause-fault g c =
     let core_is : c.args.core ≡ suc (c.args.core - 1) = omega (arith, c.if-core-eq0.false) in
     let inside : c.args.core - 1 < length c.self.inside.peers.items = omega (arith, c.if-core-eq0.false, c.if-from-len.false, c.from.ensures, c.len.ensures, c.self.inside.peers.ok.0) in
-    let there = has_channel g.C.Channel.messages c.self.inside.home c.self.inside.peers.items c.args.core (c.args.core - 1) core_is inside in
-    let idle : c.self.inside.home.core.coordinator.phase ≡ Idle = search (rules, c.idle.ensures, c.if-not-idle.ensures, c.if-not-idle.false) in
-    let spent : c.self.inside.home.core.coordinator.last ≡ 18446744073709551615 = omega (arith, c.last.ensures, c.if-last.true) in
+    let there = has_channel g.C.Channel.messages c.self.inside.core0 c.self.inside.peers.items c.args.core (c.args.core - 1) core_is inside in
+    let idle : c.self.inside.core0.core.coordinator.phase ≡ Idle = search (rules, c.idle.ensures, c.if-not-idle.ensures, c.if-not-idle.false) in
+    let spent : c.self.inside.core0.core.coordinator.last ≡ 18446744073709551615 = omega (arith, c.last.ensures, c.if-last.true) in
     rw (← c.self.view_is) (there, idle, spent)
 
 pub begin_for-requires-clause-inside : goal.begin_for-requires-clause-inside
@@ -60,5 +60,5 @@ begin_for-requires-clause-inside g c = omega (arith, c.if-from-len.false, c.from
 pub returns-then-core-eq0-clause-fault : goal.returns-then-core-eq0-clause-fault
 returns-then-core-eq0-clause-fault g c = elim c.then-core-eq0.branch [
   | then-core-eq0-via-then-core-eq0 w ↦ rw w.if-core-eq0.true refl
-  | then-core-eq0-via-else-core-eq0+then-from-len w ↦ rw (← c.self.view_is) (no_channel g.C.Channel.messages c.self.inside.home c.self.inside.peers.items c.args.core (omega (arith, w.if-from-len.true, w.from.ensures, w.len.ensures, c.self.inside.peers.ok.0)))
+  | then-core-eq0-via-else-core-eq0+then-from-len w ↦ rw (← c.self.view_is) (no_channel g.C.Channel.messages c.self.inside.core0 c.self.inside.peers.items c.args.core (omega (arith, w.if-from-len.true, w.from.ensures, w.len.ensures, c.self.inside.peers.ok.0)))
 ]

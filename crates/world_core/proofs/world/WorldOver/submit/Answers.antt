@@ -15,7 +15,7 @@ invariant_of-self g c =
     let change : ChangesOne c.self.inside.peers.items (c.from-entry.result - 1) (with_items c.self.inside.peers c.submit_at.new.peers).items (Submits g.C.Channel.messages c.args.op.now c.submit_at.result) =
     rw (is, ← c.deref_mut.ensures.value) c.submit_at.ensures in
     let core_is : c.args.core ≡ suc (c.from-entry.result - 1) = omega (arith, c.from-entry.ensures, c.if-core-eq0.false) in
-    let answered = submit_answered g.C.Channel.messages c.self.inside.home c.self.inside.peers.items (with_items c.self.inside.peers c.submit_at.new.peers).items c.args.self.now _ c.args.core (c.from-entry.result - 1) c.args.op.now c.submit_at.result
+    let answered = submit_answered g.C.Channel.messages c.self.inside.core0 c.self.inside.peers.items (with_items c.self.inside.peers c.submit_at.new.peers).items c.args.self.now _ c.args.core (c.from-entry.result - 1) c.args.op.now c.submit_at.result
     c.self.invariant c.self.view_is refl core_is change in
     answered.kept
 
@@ -27,7 +27,7 @@ returns-clause-happens g c =
     let change : ChangesOne c.self.inside.peers.items (c.from-entry.result - 1) (with_items c.self.inside.peers c.submit_at.new.peers).items (Submits g.C.Channel.messages c.args.op.now c.submit_at.result) =
     rw (is, ← c.deref_mut.ensures.value) c.submit_at.ensures in
     let core_is : c.args.core ≡ suc (c.from-entry.result - 1) = omega (arith, c.from-entry.ensures, c.if-core-eq0.false) in
-    let answered = submit_answered g.C.Channel.messages c.self.inside.home c.self.inside.peers.items (with_items c.self.inside.peers c.submit_at.new.peers).items c.args.self.now _ c.args.core (c.from-entry.result - 1) c.args.op.now c.submit_at.result
+    let answered = submit_answered g.C.Channel.messages c.self.inside.core0 c.self.inside.peers.items (with_items c.self.inside.peers c.submit_at.new.peers).items c.args.self.now _ c.args.core (c.from-entry.result - 1) c.args.op.now c.submit_at.result
     c.self.invariant c.self.view_is refl core_is change in
     answered.happens
 
@@ -39,7 +39,7 @@ returns-clause-fault g c =
     let change : ChangesOne c.self.inside.peers.items (c.from-entry.result - 1) (with_items c.self.inside.peers c.submit_at.new.peers).items (Submits g.C.Channel.messages c.args.op.now c.submit_at.result) =
     rw (is, ← c.deref_mut.ensures.value) c.submit_at.ensures in
     let core_is : c.args.core ≡ suc (c.from-entry.result - 1) = omega (arith, c.from-entry.ensures, c.if-core-eq0.false) in
-    let answered = submit_answered g.C.Channel.messages c.self.inside.home c.self.inside.peers.items (with_items c.self.inside.peers c.submit_at.new.peers).items c.args.self.now _ c.args.core (c.from-entry.result - 1) c.args.op.now c.submit_at.result
+    let answered = submit_answered g.C.Channel.messages c.self.inside.core0 c.self.inside.peers.items (with_items c.self.inside.peers c.submit_at.new.peers).items c.args.self.now _ c.args.core (c.from-entry.result - 1) c.args.op.now c.submit_at.result
     c.self.invariant c.self.view_is refl core_is change in
     answered.fault
 
@@ -51,12 +51,12 @@ returns-clause-same g c =
     let change : ChangesOne c.self.inside.peers.items (c.from-entry.result - 1) (with_items c.self.inside.peers c.submit_at.new.peers).items (Submits g.C.Channel.messages c.args.op.now c.submit_at.result) =
     rw (is, ← c.deref_mut.ensures.value) c.submit_at.ensures in
     let core_is : c.args.core ≡ suc (c.from-entry.result - 1) = omega (arith, c.from-entry.ensures, c.if-core-eq0.false) in
-    let answered = submit_answered g.C.Channel.messages c.self.inside.home c.self.inside.peers.items (with_items c.self.inside.peers c.submit_at.new.peers).items c.args.self.now _ c.args.core (c.from-entry.result - 1) c.args.op.now c.submit_at.result
+    let answered = submit_answered g.C.Channel.messages c.self.inside.core0 c.self.inside.peers.items (with_items c.self.inside.peers c.submit_at.new.peers).items c.args.self.now _ c.args.core (c.from-entry.result - 1) c.args.op.now c.submit_at.result
     c.self.invariant c.self.view_is refl core_is change in
     answered.same
 
 pub returns-then-core-eq0-clause-fault : goal.returns-then-core-eq0-clause-fault
 returns-then-core-eq0-clause-fault g c = elim c.then-core-eq0.branch [
   | then-core-eq0-via-then-core-eq0 w ↦ rw w.if-core-eq0.true refl
-  | then-core-eq0-via-else-core-eq0+then-from-len w ↦ rw (← c.self.view_is) (no_channel g.C.Channel.messages c.self.inside.home c.self.inside.peers.items c.args.core (omega (arith, w.if-from-len.true, w.from.ensures, w.len.ensures, c.self.inside.peers.ok.0)))
+  | then-core-eq0-via-else-core-eq0+then-from-len w ↦ rw (← c.self.view_is) (no_channel g.C.Channel.messages c.self.inside.core0 c.self.inside.peers.items c.args.core (omega (arith, w.if-from-len.true, w.from.ensures, w.len.ensures, c.self.inside.peers.ok.0)))
 ]

@@ -6,7 +6,7 @@ use Rattle.core_steps.specs.declared.other_core.OtherCore.{OtherCore}
 use Rattle.core_loop.specs.Sending.{IsPiece}
 use Rattle.core_loop.proofs.Steps.{leads_submit}
 use Rattle.core_loop.proofs.Carrying.{submit_carries}
-use Rattle.core_loop.proofs.other.submit.Goals as goal
+use Rattle.core_loop.proofs.other_core.submit.Goals as goal
 
 pub returns-clause-acts : goal.returns-clause-acts
 returns-clause-acts g c = λ entry number.

@@ -14,12 +14,12 @@ use Rattle.world_model.specs.Cases.{joined, TakesUpAt}
 use Rattle.core_steps.specs.declared.core0.Told.{Told}
 use Rattle.core_steps.specs.Core0Steps.{Moves, Starts, StartsForCore, TakesUp, core0_place}
 use Rattle.core_steps.proofs.Tables.{table_joined}
-use Rattle.world_core.specs.declared.home.Home.{Home}
-use Rattle.world_core.specs.Homes.{HomeIsKept, HomeIsIdle, HomeStarts, HomeStartsFor, HomeTakes, begun_op, logged, begun_by, entered, still_begun}
+use Rattle.world_core.specs.declared.core0.LoggedCore0.{LoggedCore0}
+use Rattle.world_core.specs.LoggedCore0s.{Core0IsKept, Core0IsIdle, Core0Starts, Core0StartsFor, Core0Takes, begun_op, logged, begun_by, entered, still_begun}
 
-home_kept : (home home' : Home) (committed : Option Op) → home.core.replica.shown ≡ table home.log.items (length home.log.items) → Moves home.core committed home'.core → home'.log.items ≡ joined home.log.items committed → begun_op home'.begun ≡ home'.core.replica.staged → HomeIsKept home'
-home_kept home home' committed shown m log begun = record {
-  shown = m.shown_next ∙ (ap (λ (s : TableState). after_commit s committed) shown ∙ (table_joined home.log.items committed ∙ ap (λ (l : List Op). table l (length l)) (sym log)));
+core0_kept : (core0 core0' : LoggedCore0) (committed : Option Op) → core0.core.replica.shown ≡ table core0.log.items (length core0.log.items) → Moves core0.core committed core0'.core → core0'.log.items ≡ joined core0.log.items committed → begun_op core0'.begun ≡ core0'.core.replica.staged → Core0IsKept core0'
+core0_kept core0 core0' committed shown m log begun = record {
+  shown = m.shown_next ∙ (ap (λ (s : TableState). after_commit s committed) shown ∙ (table_joined core0.log.items committed ∙ ap (λ (l : List Op). table l (length l)) (sym log)));
   between = m.between;
   begun = begun;
 }
@@ -34,19 +34,19 @@ noted others s b place place' op committed told log begun none staged (unstaged 
 noted others s b place place' op committed told log begun none staged (alone a n p c t) = rw (c, t) (refl, none ∙ sym (ap (λ (x : CoordinatorPlace). x.staged) p))
 noted others s b place place' op committed told log begun none staged (prepared a n p c t) = rw (c, t) (refl, sym (ap (λ (x : CoordinatorPlace). x.staged) p))
 
-pub home_starts : (home home' : Home) (op : Op) (told : Told) → HomeIsIdle home → Starts home.core op home'.core told → home'.log.items ≡ logged home.log.items op told.step.decided → begun_op home'.begun ≡ begun_by (begun_op home.begun) op told.step.decided → HomeStarts home op home' told
-home_starts home home' op told idle s log begun =
-    let n = noted _ _ _ _ (core0_place home'.core) op s.committed told.step home.log.items (begun_op home.begun) idle.none_begun refl s.here.starts in
-    record { starts = s; log_next = log ∙ n.0; kept = home_kept home home' s.committed idle.shown s.moves (log ∙ n.0) (begun ∙ n.1) }
+pub core0_starts : (core0 core0' : LoggedCore0) (op : Op) (told : Told) → Core0IsIdle core0 → Starts core0.core op core0'.core told → core0'.log.items ≡ logged core0.log.items op told.step.decided → begun_op core0'.begun ≡ begun_by (begun_op core0.begun) op told.step.decided → Core0Starts core0 op core0' told
+core0_starts core0 core0' op told idle s log begun =
+    let n = noted _ _ _ _ (core0_place core0'.core) op s.committed told.step core0.log.items (begun_op core0.begun) idle.none_begun refl s.here.starts in
+    record { starts = s; log_next = log ∙ n.0; kept = core0_kept core0 core0' s.committed idle.shown s.moves (log ∙ n.0) (begun ∙ n.1) }
 
-pub home_starts_for : (home home' : Home) (entry : ℕ) (op : Op) (told : Told) → HomeIsIdle home → (s : StartsForCore home.core entry home'.core told) → slice_get home.core.coordinator.requests.waiting entry ≡ Some (Some op) → home'.log.items ≡ logged home.log.items op told.step.decided → begun_op home'.begun ≡ begun_by (begun_op home.begun) op told.step.decided → HomeStartsFor home entry home' told
-home_starts_for home home' entry op told idle s there log begun =
+pub core0_starts_for : (core0 core0' : LoggedCore0) (entry : ℕ) (op : Op) (told : Told) → Core0IsIdle core0 → (s : StartsForCore core0.core entry core0'.core told) → slice_get core0.core.coordinator.requests.waiting entry ≡ Some (Some op) → core0'.log.items ≡ logged core0.log.items op told.step.decided → begun_op core0'.begun ≡ begun_by (begun_op core0.begun) op told.step.decided → Core0StartsFor core0 entry core0' told
+core0_starts_for core0 core0' entry op told idle s there log begun =
     let f = s.here.starts in
     let is_op : f.op ≡ op = (let x = f.is_waiting in let y = there in cc) in
     let same : told.step.decided ≡ f.begun.decided = ap (λ (x : Step). x.decided) f.tells in
-    let n = noted _ _ _ _ (core0_place home'.core) f.op s.committed f.begun home.log.items (begun_op home.begun) idle.none_begun refl f.starts in
-    let log_next : home'.log.items ≡ joined home.log.items s.committed = log ∙ (rw (same, ← is_op) n.0) in
-    record { starts = s; log_next = log_next; kept = home_kept home home' s.committed idle.shown s.moves log_next (begun ∙ (rw (same, ← is_op) n.1)) }
+    let n = noted _ _ _ _ (core0_place core0'.core) f.op s.committed f.begun core0.log.items (begun_op core0.begun) idle.none_begun refl f.starts in
+    let log_next : core0'.log.items ≡ joined core0.log.items s.committed = log ∙ (rw (same, ← is_op) n.0) in
+    record { starts = s; log_next = log_next; kept = core0_kept core0 core0' s.committed idle.shown s.moves log_next (begun ∙ (rw (same, ← is_op) n.1)) }
 
 -- A message
 
@@ -66,7 +66,7 @@ taken s place requests entry (message.Commit txn) place' requests' committed tol
 taken s place requests entry (message.Abort txn) place' requests' committed told answer log begun is h = absurd h
 taken s place requests entry (message.Reply decision) place' requests' committed told answer log begun is h = absurd h
 
-pub home_takes : (home home' : Home) (from : ℕ) (m : Message) (told : Told) → HomeIsKept home → TakesUp home.core from m home'.core told → home'.log.items ≡ entered home.log.items (begun_op home.begun) told.step.decided → begun_op home'.begun ≡ still_begun (begun_op home.begun) told.step.decided → HomeTakes home from m home' told
-home_takes home home' from m told k t log begun =
-    let n = taken home.core.replica.shown (core0_place home.core) home.core.coordinator.requests t.entry m (core0_place home'.core) home'.core.coordinator.requests t.committed told.step told.answer home.log.items (begun_op home.begun) k.begun t.here in
-    record { takes = t; log_next = log ∙ n.0; kept = home_kept home home' t.committed k.shown t.moves (log ∙ n.0) (begun ∙ n.1) }
+pub core0_takes : (core0 core0' : LoggedCore0) (from : ℕ) (m : Message) (told : Told) → Core0IsKept core0 → TakesUp core0.core from m core0'.core told → core0'.log.items ≡ entered core0.log.items (begun_op core0.begun) told.step.decided → begun_op core0'.begun ≡ still_begun (begun_op core0.begun) told.step.decided → Core0Takes core0 from m core0' told
+core0_takes core0 core0' from m told k t log begun =
+    let n = taken core0.core.replica.shown (core0_place core0.core) core0.core.coordinator.requests t.entry m (core0_place core0'.core) core0'.core.coordinator.requests t.committed told.step told.answer core0.log.items (begun_op core0.begun) k.begun t.here in
+    record { takes = t; log_next = log ∙ n.0; kept = core0_kept core0 core0' t.committed k.shown t.moves (log ∙ n.0) (begun ∙ n.1) }

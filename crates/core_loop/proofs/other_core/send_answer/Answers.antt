@@ -1,4 +1,4 @@
-use Rattle.core_loop.proofs.other.send_answer.Goals as goal
+use Rattle.core_loop.proofs.other_core.send_answer.Goals as goal
 
 pub returns-in-Vote-clause-there : goal.returns-in-Vote-clause-there
 returns-in-Vote-clause-there g c = rw c.in-Vote.is (c.hand_short.ensures.there c.args.stamp _ c.vote_bytes.ensures)

@@ -8,7 +8,7 @@ use Rattle.world_model.specs.Worlds as worlds
 use Rattle.world_model.proofs.Lists.{get_map}
 use Rattle.world_model.proofs.RunLaws.{run_no_stranger}
 use Rattle.core_steps.specs.Core0Steps.{core0_place}
-use Rattle.world_core.specs.declared.home.Home.{Home}
+use Rattle.world_core.specs.declared.core0.LoggedCore0.{LoggedCore0}
 use Rattle.world_core.specs.declared.peer.Peer.{Peer}
 use Rattle.world_core.specs.Refusals.{channel}
 use Rattle.world_core.specs.Keeping.{seen_peer, seen_world, WorldIsKept, GivesUp}
@@ -36,15 +36,15 @@ up_of messages peers entry m (Some p) at e =
     let r = first_rest (messages q.0.up) m (ap first_of up ∙ e) in
     record { entry = entry; is_core = refl; peer = q.0; there = q.1; rest = r.0; oldest = r.1; dropped = r.2 }
 
-pub oldest_up : {C Piece : Type 0} (messages : C → List Message) (home : Home) (peers : List (Peer C Piece)) (w : worlds.World) (core : ℕ) (m : Message) → seen_world messages home peers ≡ w → option_and_then first_of (channel w 0 core) ≡ Some m → Oldest messages peers core m
-oldest_up messages home peers w zero m view e = absurd cc
-oldest_up messages home peers w (suc entry) m view e =
+pub oldest_up : {C Piece : Type 0} (messages : C → List Message) (core0 : LoggedCore0) (peers : List (Peer C Piece)) (w : worlds.World) (core : ℕ) (m : Message) → seen_world messages core0 peers ≡ w → option_and_then first_of (channel w 0 core) ≡ Some m → Oldest messages peers core m
+oldest_up messages core0 peers w zero m view e = absurd cc
+oldest_up messages core0 peers w (suc entry) m view e =
     up_of messages peers entry m (slice_get (map (seen_peer messages) peers) entry) refl (subst (λ (x : worlds.World). option_and_then first_of (channel x 0 (suc entry)) ≡ Some m) (sym view) e)
 
 -- core 0 waits for it
-pub expects_up : {C Piece : Type 0} (messages : C → List Message) (home : Home) (peers : List (Peer C Piece)) (core : ℕ) (m : Message) → WorldIsKept messages home peers → (o : Oldest messages peers core m) → Expects (core0_place home.core) home.core.coordinator.requests o.entry m
-expects_up messages home peers core m k o =
-    (run_no_stranger k.budget k.budgets k.events (seen_world messages home peers) k.run).up o.entry (seen_peer messages o.peer) m o.rest (map-get (seen_peer messages) peers o.entry o.peer o.there) o.oldest
+pub expects_up : {C Piece : Type 0} (messages : C → List Message) (core0 : LoggedCore0) (peers : List (Peer C Piece)) (core : ℕ) (m : Message) → WorldIsKept messages core0 peers → (o : Oldest messages peers core m) → Expects (core0_place core0.core) core0.core.coordinator.requests o.entry m
+expects_up messages core0 peers core m k o =
+    (run_no_stranger k.budget k.budgets k.events (seen_world messages core0 peers) k.run).up o.entry (seen_peer messages o.peer) m o.rest (map-get (seen_peer messages) peers o.entry o.peer o.there) o.oldest
 
 pub seen_gives_up : {C Piece : Type 0} (messages : C → List Message) (p p' : Peer C Piece) (rest : List Message) → GivesUp messages p p' → drop 1 (messages p.up) ≡ rest → seen_peer messages p' ≡ record (seen_peer messages p) { up = rest }
 seen_gives_up messages p p' rest g d = rw (g.core, g.down, g.up, d) refl

@@ -4,7 +4,7 @@ use Rattle.world_histories.specs.Histories.{Stamping}
 use Rattle.core_steps.specs.OtherCoreSteps.{TakesDown}
 use Rattle.core_loop.proofs.Steps.{leads_take_other, sent_by_take}
 use Rattle.core_loop.proofs.Carrying.{takes_first, take_carries_other, reply_goes}
-use Rattle.core_loop.proofs.other.take.Goals as goal
+use Rattle.core_loop.proofs.other_core.take.Goals as goal
 
 pub send_reply-requires : goal.send_reply-requires
 send_reply-requires g c =

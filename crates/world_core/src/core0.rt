@@ -8,7 +8,7 @@ ghost use Rattle.monitor_2pc.specs.Starting.{WasStaged};
 ghost use Rattle.world_model.specs.Agreement.{Expects};
 ghost use Rattle.world_model.specs.Cases.{outgoing};
 ghost use Rattle.core_steps.specs.Core0Steps.{core0_place, HasWaiting, start_sends, start_for_sends};
-ghost use Rattle.world_core.specs.Homes.{HomeIsKept, HomeIsIdle, HomeStarts, HomeStartsFor, HomeTakes, begun_op, logged, begun_by, entered, still_begun};
+ghost use Rattle.world_core.specs.LoggedCore0s.{Core0IsKept, Core0IsIdle, Core0Starts, Core0StartsFor, Core0Takes, begun_op, logged, begun_by, entered, still_begun};
 
 use core_steps::{Core0, Told};
 use filter_table::{Op, StageFault};
@@ -18,7 +18,7 @@ use std::alloc::{AllocError, Global};
 use std::snapshot::Snapshot;
 
 /// Core 0, and what proofs say of it beside: the log, and the operation under vote.
-pub(crate) struct Home {
+pub(crate) struct LoggedCore0 {
     pub(crate) core: Core0,
     /// What was committed, in order.
     pub(crate) log: Log<Op>,
@@ -27,9 +27,9 @@ pub(crate) struct Home {
 }
 
 // By hand, so that the proofs of its owners have one call and not a drop of each part.
-impl Drop for Home {
+impl Drop for LoggedCore0 {
     fn drop(self) {
-        let Home {
+        let LoggedCore0 {
             core: _,
             log: _,
             begun: _,
@@ -37,16 +37,16 @@ impl Drop for Home {
     }
 }
 
-impl Home {
+impl LoggedCore0 {
     /// Core 0 that has done nothing yet, beside so many others.
-    pub(crate) fn new(alloc: Global, budget: u32, others: u16) -> Result<Home, AllocError>
+    pub(crate) fn new(alloc: Global, budget: u32, others: u16) -> Result<LoggedCore0, AllocError>
         requires { others ≤ 7 }
-        ensures log { IfOk result (λ home. home.log.items ≡ []) }
-        ensures replica { IfOk result (λ home. home.core.replica ≡ record { budget = budget; shown = empty_table; staged = None }) }
-        ensures coordinator { IfOk result (λ home. home.core.coordinator ≡ record { others = others; last = 0; phase = Idle; requests = no_requests others }) }
-        ensures begun { IfOk result (λ home. home.begun ≡ None) }
+        ensures log { IfOk result (λ core0. core0.log.items ≡ []) }
+        ensures replica { IfOk result (λ core0. core0.core.replica ≡ record { budget = budget; shown = empty_table; staged = None }) }
+        ensures coordinator { IfOk result (λ core0. core0.core.coordinator ≡ record { others = others; last = 0; phase = Idle; requests = no_requests others }) }
+        ensures begun { IfOk result (λ core0. core0.begun ≡ None) }
     {
-        Ok(Home {
+        Ok(LoggedCore0 {
             core: Core0::new(alloc, budget, others + 1)?,
             log: Log::new(),
             begun: None,
@@ -55,9 +55,9 @@ impl Home {
 
     /// Starts a request, which core 0 was asked to stage with this outcome.
     pub(crate) fn begin(&mut self, op: &Op, refusal: Option<StageFault>) -> Told
-        requires idle { HomeIsIdle self.old }
+        requires idle { Core0IsIdle self.old }
         requires tried { WasStaged self.old.core.replica op.now refusal }
-        ensures starts { HomeStarts self.old op.now self.new result }
+        ensures starts { Core0Starts self.old op.now self.new result }
         ensures sends { outgoing result.step (core0_place self.new.core) ≡ start_sends self.old.core op.now refusal }
     {
         let told = self.core.begin(refusal);
@@ -67,10 +67,10 @@ impl Home {
 
     /// Starts the request that the core has waiting, which core 0 was asked to stage with this outcome. There are other cores.
     pub(crate) fn begin_for(&mut self, core: u16, refusal: Option<StageFault>) -> Told
-        requires idle { HomeIsIdle self.old }
+        requires idle { Core0IsIdle self.old }
         requires others { 0 < self.old.core.coordinator.others }
         requires waits { (entry : ℕ) × (op : GhostOp) × HasWaiting self.old.core core entry op × WasStaged self.old.core.replica op refusal }
-        ensures starts { (entry : ℕ) → core ≡ suc entry → HomeStartsFor self.old entry self.new result }
+        ensures starts { (entry : ℕ) → core ≡ suc entry → Core0StartsFor self.old entry self.new result }
         ensures sends { (entry : ℕ) (op : GhostOp) → HasWaiting self.old.core core entry op → outgoing result.step (core0_place self.new.core) ≡ start_for_sends entry self.old.core op refusal }
     {
         let Some(op) = self.core.coordinator.waiting(core) else {
@@ -97,9 +97,9 @@ impl Home {
 
     /// Takes a message that core 0 waits for.
     pub(crate) fn take(&mut self, from: u16, message: Message) -> Told
-        requires kept { HomeIsKept self.old }
+        requires kept { Core0IsKept self.old }
         requires expects { (entry : ℕ) × (from ≡ suc entry) × Expects (core0_place self.old.core) self.old.core.coordinator.requests entry message }
-        ensures { HomeTakes self.old from message self.new result }
+        ensures { Core0Takes self.old from message self.new result }
     {
         let Ok(told) = self.core.take(from, message) else {
             unreachable!()

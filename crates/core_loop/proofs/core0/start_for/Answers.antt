@@ -1,13 +1,13 @@
 use Rattle.std.proofs.Common.{◌≡◌, refl, sym, subst}
 use Rattle.std.specs.Prelude.{None}
 use Rattle.world_model.specs.Cases.{Outgoing, outgoing}
-use Rattle.core_steps.specs.declared.core0.Core0.{Core0 as First}
+use Rattle.core_steps.specs.declared.core0.Core0.{Core0}
 use Rattle.core_steps.specs.Core0Steps.{core0_place, StartsForCore, start_for_sends}
 use Rattle.core_loop.specs.Carrying.{HandsOut}
 use Rattle.core_loop.proofs.Steps.{staging, idle_staged, waits_on, leads_start_for}
 use Rattle.core_loop.proofs.Handing.{carry_where_ready}
 use Rattle.core_loop.proofs.Carrying.{start_carries}
-use Rattle.core_loop.proofs.first.start_for.Goals as goal
+use Rattle.core_loop.proofs.core0.start_for.Goals as goal
 
 pub send-requires-clause-made : goal.send-requires-clause-made
 send-requires-clause-made g c =
@@ -25,7 +25,7 @@ returns-clause-acts g c =
     let tried = c.in-Some-stage_for.ensures.tried in
     let w = waits_on core c.stage_for.new.self x c.args.from tried.0 tried.1 c.stage_for.ensures.same tried.2 in
     let t' = c.begin_for-told.ensures.starts tried.0 tried.2.is_core in
-    let t : StartsForCore (staging core x) tried.0 c.begin_for-told.new.self told = subst (λ (s : First). StartsForCore s tried.0 c.begin_for-told.new.self told) c.stage_for.ensures.same t' in
+    let t : StartsForCore (staging core x) tried.0 c.begin_for-told.new.self told = subst (λ (s : Core0). StartsForCore s tried.0 c.begin_for-told.new.self told) c.stage_for.ensures.same t' in
     let out : Outgoing = outgoing told.step (core0_place c.begin_for-told.new.self) in
     let sends = start_for_sends tried.0 c.stage_for.new.self tried.1 c.in-Some-stage_for.fault in
     let is : out ≡ sends = c.begin_for-told.ensures.sends tried.0 tried.1 w in

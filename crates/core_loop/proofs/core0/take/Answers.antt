@@ -6,7 +6,7 @@ use Rattle.core_loop.specs.Carrying.{HandsOut}
 use Rattle.std.specs.Prelude.{Some}
 use Rattle.core_loop.proofs.Steps.{leads_take}
 use Rattle.core_loop.proofs.Carrying.{takes_first, take_carries}
-use Rattle.core_loop.proofs.first.take.Goals as goal
+use Rattle.core_loop.proofs.core0.take.Goals as goal
 
 pub returns-clause-acts : goal.returns-clause-acts
 returns-clause-acts g c =

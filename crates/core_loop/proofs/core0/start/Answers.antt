@@ -2,12 +2,12 @@ use Rattle.std.proofs.Common.{◌≡◌, ◌∷◌, ◌∙◌, refl, sym, subst,
 use Rattle.std.specs.Prelude.{None, slice_index_or}
 use Rattle.filter_table.specs.declared.operation.Op.{Op}
 use Rattle.world_model.specs.Cases.{Outgoing, outgoing}
-use Rattle.core_steps.specs.declared.core0.Core0.{Core0 as First}
+use Rattle.core_steps.specs.declared.core0.Core0.{Core0}
 use Rattle.core_steps.specs.Core0Steps.{core0_place, Starts, start_sends}
 use Rattle.core_loop.specs.Carrying.{HandsOut}
 use Rattle.core_loop.proofs.Steps.{staging, idle_staged, leads_start}
 use Rattle.core_loop.proofs.Carrying.{start_carries}
-use Rattle.core_loop.proofs.first.start.Goals as goal
+use Rattle.core_loop.proofs.core0.start.Goals as goal
 
 pub returns-clause-acts : goal.returns-clause-acts
 returns-clause-acts g c =
@@ -22,7 +22,7 @@ returns-clause-acts g c =
     let same : front ≡ popped = first ∙ (rw rest refl) in
     let tried = c.stage-fault.ensures.tried in
     let t' : Starts c.stage-fault.new.self front c.begin-told.new.self told = c.begin-told.ensures.starts front tried in
-    let t : Starts (staging core x) popped c.begin-told.new.self told = subst (λ (o : Op). Starts (staging core x) o c.begin-told.new.self told) same (subst (λ (s : First). Starts s front c.begin-told.new.self told) c.stage-fault.ensures.same t') in
+    let t : Starts (staging core x) popped c.begin-told.new.self told = subst (λ (o : Op). Starts (staging core x) o c.begin-told.new.self told) same (subst (λ (s : Core0). Starts s front c.begin-told.new.self told) c.stage-fault.ensures.same t') in
     let out : Outgoing = outgoing told.step (core0_place c.begin-told.new.self) in
     let is : out ≡ start_sends c.stage-fault.new.self front c.stage-fault.result = c.begin-told.ensures.sends front tried in
     let handed : HandsOut c.args.others c.in-Some.stamp out (view c.args.links.now) (view c.send.new.links) =

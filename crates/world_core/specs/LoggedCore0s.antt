@@ -13,7 +13,7 @@ use Rattle.core_steps.specs.declared.core0.Told.{Told}
 use Rattle.core_steps.specs.Core0Steps.{BetweenSteps, CanBegin, Moves, Starts, StartsForCore, TakesUp}
 use Rattle.world_events.specs.declared.fault.WorldFault.{WorldFault}
 use Rattle.world_events.specs.declared.fault.WorldFault.TheVariants.{NoneWaiting, NoMemory}
-use Rattle.world_core.specs.declared.home.Home.{Home}
+use Rattle.world_core.specs.declared.core0.LoggedCore0.{LoggedCore0}
 use Rattle.world_core.specs.Refusals.{waiting_at}
 
 -- the operation under vote, if there is one
@@ -22,37 +22,37 @@ begun_op None = None
 begun_op (Some op) = Some op.value
 
 -- Core 0 is between steps, its replica is the newest table, and the operation under vote is the one that is staged.
-pub record HomeIsKept (home : Home) : Type 0 where
-  pub shown : home.core.replica.shown ≡ table home.log.items (length home.log.items)
-  pub between : BetweenSteps home.core
-  pub begun : begun_op home.begun ≡ home.core.replica.staged
+pub record Core0IsKept (core0 : LoggedCore0) : Type 0 where
+  pub shown : core0.core.replica.shown ≡ table core0.log.items (length core0.log.items)
+  pub between : BetweenSteps core0.core
+  pub begun : begun_op core0.begun ≡ core0.core.replica.staged
 
 -- it can begin a request, which its replica may have been asked to stage
-pub record HomeIsIdle (home : Home) : Type 0 where
-  pub shown : home.core.replica.shown ≡ table home.log.items (length home.log.items)
-  pub can : CanBegin home.core
-  pub none_begun : begun_op home.begun ≡ None
+pub record Core0IsIdle (core0 : LoggedCore0) : Type 0 where
+  pub shown : core0.core.replica.shown ≡ table core0.log.items (length core0.log.items)
+  pub can : CanBegin core0.core
+  pub none_begun : begun_op core0.begun ≡ None
 
 -- it commits this operation, or nothing
-pub record HomeMoves (home : Home) (committed : Option Op) (home' : Home) : Type 0 where
-  pub moves : Moves home.core committed home'.core
-  pub log_next : home'.log.items ≡ joined home.log.items committed
-  pub kept : HomeIsKept home'
+pub record Core0Moves (core0 : LoggedCore0) (committed : Option Op) (core0' : LoggedCore0) : Type 0 where
+  pub moves : Moves core0.core committed core0'.core
+  pub log_next : core0'.log.items ≡ joined core0.log.items committed
+  pub kept : Core0IsKept core0'
 
-pub record HomeStarts (home : Home) (op : Op) (home' : Home) (told : Told) : Type 0 where
-  pub starts : Starts home.core op home'.core told
-  pub log_next : home'.log.items ≡ joined home.log.items starts.committed
-  pub kept : HomeIsKept home'
+pub record Core0Starts (core0 : LoggedCore0) (op : Op) (core0' : LoggedCore0) (told : Told) : Type 0 where
+  pub starts : Starts core0.core op core0'.core told
+  pub log_next : core0'.log.items ≡ joined core0.log.items starts.committed
+  pub kept : Core0IsKept core0'
 
-pub record HomeStartsFor (home : Home) (entry : ℕ) (home' : Home) (told : Told) : Type 0 where
-  pub starts : StartsForCore home.core entry home'.core told
-  pub log_next : home'.log.items ≡ joined home.log.items starts.committed
-  pub kept : HomeIsKept home'
+pub record Core0StartsFor (core0 : LoggedCore0) (entry : ℕ) (core0' : LoggedCore0) (told : Told) : Type 0 where
+  pub starts : StartsForCore core0.core entry core0'.core told
+  pub log_next : core0'.log.items ≡ joined core0.log.items starts.committed
+  pub kept : Core0IsKept core0'
 
-pub record HomeTakes (home : Home) (from : ℕ) (m : Message) (home' : Home) (told : Told) : Type 0 where
-  pub takes : TakesUp home.core from m home'.core told
-  pub log_next : home'.log.items ≡ joined home.log.items takes.committed
-  pub kept : HomeIsKept home'
+pub record Core0Takes (core0 : LoggedCore0) (from : ℕ) (m : Message) (core0' : LoggedCore0) (told : Told) : Type 0 where
+  pub takes : TakesUp core0.core from m core0'.core told
+  pub log_next : core0'.log.items ≡ joined core0.log.items takes.committed
+  pub kept : Core0IsKept core0'
 
 -- What a decision leaves
 

@@ -1,7 +1,7 @@
 use Rattle.std.proofs.Common.{inl, inr, ℕ, suc, refl, sym, subst}
 use Rattle.world_events.specs.declared.event.Event.{Event}
 use Rattle.core_loop.specs.InTurn.{BeginsInTurn, IsNextInTurn}
-use Rattle.core_loop.proofs.first.begin.Goals as goal
+use Rattle.core_loop.proofs.core0.begin.Goals as goal
 
 pub returns-in-None-clause-idle : goal.returns-in-None-clause-idle
 returns-in-None-clause-idle g c = λ can.
