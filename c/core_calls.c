@@ -911,7 +911,7 @@ static void look(struct machine *machine, struct view *view)
     asked = before;
 }
 
-/* Whether a call that answered this left all as it was, if it was for want of memory. Fills in whether it was. */
+/* Whether a call that answered this left all as it was, if memory was refused to it. Fills in whether it was. */
 static int leaves(struct machine *machine, const struct view *before, uint32_t answer, int *refused)
 {
     struct view after;
@@ -921,6 +921,8 @@ static int leaves(struct machine *machine, const struct view *before, uint32_t a
 }
 
 /* The requests of which each allocation is refused in turn: everything that a core can be asked. */
+enum { REQUESTS = 7 };
+
 static uint32_t ask(mkdemux_core *core, size_t request)
 {
     switch (request) {
@@ -979,16 +981,15 @@ static int is_asked_with(size_t at, size_t request, unsigned long number, unsign
 /* Core 0 asks, and core 1 gets no memory at all, in any turn: it votes so, and the request is decided. */
 static void votes_without_memory(void)
 {
-    static const size_t requests[] = {0, 1, 4, 5, 6}; /* those without a program */
     struct machine machine;
     mkdemux_turned turned, other;
-    size_t i, rounds;
-    for (i = 0; i < COUNT(requests); i++) {
+    size_t request, rounds;
+    for (request = 0; request < REQUESTS; request++) {
         boot(&machine, 2, 100);
         answer_at(&machine, 0, mkdemux_ask_create(machine.cores, 1, 7));
         answer_at(&machine, 0, mkdemux_ask_install(machine.cores, 1, 1, ten, 1));
         settle(&machine);
-        CHECK(ask(machine.cores, requests[i]) == MKDEMUX_CORE_OK);
+        CHECK(ask(machine.cores, request) == MKDEMUX_CORE_OK);
         memset(&turned, 0, sizeof turned);
         for (rounds = 0; rounds < 100 && turned.what != MKDEMUX_TURN_DECISION; rounds++) {
             uint32_t answer = mkdemux_turn(machine.cores, &turned);
@@ -1071,7 +1072,7 @@ static void runs_out(void)
     bursts_run_out(&refusals);
     of_receive = refusals - of_boot;
     for (at = 0; at < 2; at++)
-        for (request = 0; request < 7; request++)
+        for (request = 0; request < REQUESTS; request++)
             for (number = 1; is_asked_with(at, request, number, &refusals); number++)
                 ;
     printf("%lu allocations refused: %lu of boot, %lu of receive, %lu of requests and their turns\n", refusals, of_boot, of_receive,

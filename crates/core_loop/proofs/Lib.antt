@@ -4,6 +4,7 @@ pub mod Handing
 pub mod Steps
 pub mod Carrying
 pub mod Acting
+pub mod Consuming
 pub mod Resting
 pub mod Order
 pub mod InTurn
@@ -14,3 +15,4 @@ pub mod Answering
 pub mod Receipting
 pub mod Flowing
 pub mod Waking
+pub mod Unread

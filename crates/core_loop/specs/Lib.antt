@@ -12,6 +12,7 @@ pub mod Choosing
 pub mod Turning
 pub mod Receipts
 pub mod Cores
+pub mod Consuming
 pub mod Passing
 pub mod Receiving
 pub mod Answering

@@ -29,10 +29,19 @@ StopsAt cores clock peer x view (cause.Line fault) = (view peer).stopped ≡ Som
 StopsAt cores clock peer x view cause.BadMessage = (bytes : List ℕ) × (first_of (view peer).kept ≡ Some bytes) × ((stamp : ℕ) (m : Message) → Coded bytes stamp m → ⊥)
 StopsAt cores clock peer x view cause.Stranger = (m : Stamping) × IsFirst (view peer) m × CannotTake cores clock peer x m view refusal.Stranger
 
--- why a core that looks at a peer's first message can't go on now: memory was refused to its program, or to what core 0 sends once it is taken
+-- the first message of a peer brings a program
+abbrev pub IsUnread : LinkView → Type 0
+IsUnread v = (bytes : List ℕ) × (first_of v.kept ≡ Some bytes) × CarriesProgram bytes
+
+-- Memory was refused to the program of the message, or to what core 0 sends once it is taken. Another core takes a message without memory: its
+-- vote says that there was none.
+abbrev pub TakeLacksMemory : ℕ → ℕ → ℕ → Part → (ℕ → LinkView) → Type 0
+TakeLacksMemory cores clock peer (part.Core0 core) view =
+    IsUnread (view peer) ⊎ ((m : Stamping) × IsFirst (view peer) m × CannotTake0 (cores - 1) clock peer core m view refusal.NoMemory)
+TakeLacksMemory cores clock peer (part.OtherCore core) view = ⊥
+
+-- why a core that looks at a peer's first message can't go on now
 abbrev pub TakeHalts : ℕ → ℕ → ℕ → Part → (ℕ → LinkView) → Halt → Type 0
 TakeHalts cores clock peer x view halt.Spent = (m : Stamping) × IsFirst (view peer) m × (18446744073709551615 ≤ max clock m.stamp)
-TakeHalts cores clock peer x view halt.NoMemory =
-    ((bytes : List ℕ) × (first_of (view peer).kept ≡ Some bytes) × CarriesProgram bytes)
-    ⊎ ((m : Stamping) × IsFirst (view peer) m × CannotTake cores clock peer x m view refusal.NoMemory)
+TakeHalts cores clock peer x view halt.NoMemory = TakeLacksMemory cores clock peer x view
 TakeHalts cores clock peer x view (halt.Stopped cause) = StopsAt cores clock peer x view cause

@@ -2,15 +2,15 @@
 
 ghost use Rattle.std.specs.Prelude.{◌≡◌, ◌≢◌, ◌≤◌, ◌<◌, ◌++◌, [], ℕ, false, IfOk, IfErr, IfSome, IfNone, IsTrue, OnErr, OnOk};
 ghost use Rattle.world_events.specs.declared.event.Event.TheVariants.{Take};
-ghost use mathlib.Core.List.{IsPrefix};
-ghost use Rattle.rx_queue.specs.Queue.{jobs_seen, jobs_taken, SameIntake};
-ghost use Rattle.core_loop.specs.Turning.{IsUnshortened, MayReceive, HaltsFor};
+ghost use Rattle.rx_queue.specs.Queue.{SameIntake};
+ghost use Rattle.core_loop.specs.Turning.{IsUnshortened, HaltsFor};
+ghost use Rattle.core_loop.specs.Consuming.{Consumes, ConsumesNone, HasNothingNow};
 ghost use Rattle.core_loop.specs.Events.{Acts};
 ghost use Rattle.core_loop.specs.Outcomes.{OnEvent, OnNone, OnIdle};
 ghost use Rattle.core_loop.specs.Cores.{begins, AreShort};
 ghost use Rattle.core_loop.specs.Receipts.{receives};
 ghost use Rattle.core_loop.specs.Beginning.{CanBeginNext, CannotBegin, IsFitting};
-ghost use Rattle.core_loop.specs.Taking.{CannotTake, TakeHalts};
+ghost use Rattle.core_loop.specs.Taking.{CannotTake, IsUnread, TakeHalts};
 ghost use Rattle.core_loop.specs.Carrying.{IsFirst};
 ghost use Rattle.core_loop.specs.Choosing.{ShowsNothing, IsLeastShowing, IsKnownAnswered, MustWait, NoMessageNow, IsNextRequest, IsNext};
 
@@ -21,6 +21,7 @@ use crate::receiving::receive;
 use crate::refusal::{Halt, Refusal};
 use crate::{core0, other_core};
 use core_links::Links;
+use core_steps::Unread;
 use filter_table::Op;
 use monitor_messages::{DecodeFault, Message, decode};
 use rx_queue::Intake;
@@ -134,17 +135,56 @@ pub(crate) fn take_kept<L: Links>(
     if is_answered(part, bytes) && !links.ready(0) {
         return Ok(None);
     }
-    let (sent, message) = match decode(context.alloc, bytes) {
-        Err(DecodeFault::NoMemory) => return Err(Halt::NoMemory),
-        Err(DecodeFault::BadMessage) => return Err(Halt::Stopped(Cause::BadMessage)),
-        Ok(found) => found,
+    match decode(context.alloc, bytes) {
+        Err(DecodeFault::BadMessage) => Err(Halt::Stopped(Cause::BadMessage)),
+        Err(DecodeFault::NoMemory) => take_unread(part, links, peer, context),
+        Ok((sent, message)) => match take(part, links, peer, sent, message, context) {
+            Ok(stamped) => Ok(Some(stamped)),
+            Err(Refusal::NotReady) => Ok(None),
+            Err(Refusal::Spent) => Err(Halt::Spent),
+            Err(Refusal::NoMemory) => Err(Halt::NoMemory),
+            Err(Refusal::Stranger) => Err(Halt::Stopped(Cause::Stranger)),
+        },
+    }
+}
+
+/// The same where memory is refused to the program that the message brings: a core other than core 0 votes NoMemory.
+fn take_unread<L: Links>(
+    part: &mut Part,
+    links: &mut L,
+    peer: u16,
+    context: Context,
+) -> Result<Option<Stamped>, Halt>
+    requires inside { peer < context.cores }
+    requires fits { IsFitting context.number context.cores part.old }
+    requires carries { IsUnread (L.view links.old peer) }
+    ensures acts { OnEvent result (Acts context.number context.cores context.clock (L.view links.old) (L.view links.new) part.old part.new) }
+    ensures event { OnEvent result (λ s. s.done.event ≡ Take context.number peer false) }
+    ensures links { OnEvent result (λ _. L.same links.old links.new) }
+    ensures lines { (p : ℕ) → L.flow links.new p ≡ L.flow links.old p }
+    ensures waits { OnIdle result (MustWait context.cores part.old peer (L.view links.old)) }
+    ensures why { IfErr result (TakeHalts context.cores context.clock peer part.old (L.view links.old)) }
+    ensures same { OnNone result ((part.new ≡ part.old) × (links.new ≡ links.old)) }
+{
+    let Part::OtherCore(core) = part else {
+        return Err(Halt::NoMemory);
     };
-    match take(part, links, peer, sent, message, context) {
+    let Some(bytes) = links.shown(peer) else {
+        unreachable!()
+    };
+    let ballot = match core.consider_unread(bytes) {
+        Err(Unread::BadMessage) => return Err(Halt::Stopped(Cause::BadMessage)),
+        Err(Unread::Stranger) => return Err(Halt::Stopped(Cause::Stranger)),
+        Ok(ballot) => ballot,
+    };
+    if peer != 0 {
+        return Err(Halt::Stopped(Cause::Stranger));
+    }
+    match other_core::cast(core, links, context.number, context.clock, ballot) {
         Ok(stamped) => Ok(Some(stamped)),
         Err(Refusal::NotReady) => Ok(None),
         Err(Refusal::Spent) => Err(Halt::Spent),
-        Err(Refusal::NoMemory) => Err(Halt::NoMemory),
-        Err(Refusal::Stranger) => Err(Halt::Stopped(Cause::Stranger)),
+        Err(Refusal::NoMemory | Refusal::Stranger) => unreachable!(),
     }
 }
 
@@ -174,20 +214,13 @@ pub(crate) fn begin_or_receive<L: Links>(
     requires no_message { NoMessageNow context.cores part.old (L.view links.old) }
     ensures acts { OnEvent result (Acts context.number context.cores context.clock (L.view links.old) (L.view links.new) part.old part.new) }
     ensures next { OnEvent result (λ s. IsNext context.cores context.begun_last part.old requests.old.items (L.view links.old) s.done.event) }
-    ensures requests { OnEvent result (λ s. requests.old.items ≡ begins s.done.event ++ requests.new.items) }
-    ensures jobs { OnEvent result (λ s. jobs_taken intake.new ≡ jobs_taken intake.old ++ receives s.done.event) }
-    ensures front { OnEvent result (λ s. IsPrefix (jobs_seen intake.old) (receives s.done.event ++ jobs_seen intake.new)) }
-    ensures whole { OnEvent result (λ s. IsUnshortened s.done.event) }
-    ensures leave { OnEvent result (λ s. rx ≡ false → receives s.done.event ≡ []) }
+    ensures consumes { OnEvent result (Consumes requests.old.items requests.new.items intake.old intake.new rx) }
     ensures links { OnEvent result (λ _. L.same links.old links.new) }
     ensures lines { (p : ℕ) → L.flow links.new p ≡ L.flow links.old p }
     ensures queue { SameIntake intake.old intake.new }
     ensures same { OnNone result ((part.new ≡ part.old) × (links.new ≡ links.old)) }
-    ensures same_requests { OnNone result (requests.new ≡ requests.old) }
-    ensures same_jobs { OnNone result (jobs_taken intake.new ≡ jobs_taken intake.old) }
-    ensures seen { OnNone result (IsPrefix (jobs_seen intake.old) (jobs_seen intake.new)) }
-    ensures idle { OnIdle result (CanBeginNext context.cores part.old requests.old.items (L.view links.old) → ⊥) }
-    ensures idle_job { OnIdle result (MayReceive part.old rx intake.new → ⊥) }
+    ensures none { OnNone result (ConsumesNone requests.old.items requests.new.items intake.old intake.new) }
+    ensures idle { OnIdle result (HasNothingNow context.cores part.old requests.old.items (L.view links.old) rx intake.new) }
     ensures why { IfErr result (HaltsFor context.cores context.clock part.old requests.old.items (L.view links.old) rx intake.new) }
 {
     match begin(part, links, requests, context) {
@@ -225,21 +258,13 @@ pub(crate) fn first_event<L: Links>(
     requires none { IfNone shown ((p : ℕ) → p < context.cores → ShowsNothing (L.view links.old p)) }
     ensures acts { OnEvent result (Acts context.number context.cores context.clock (L.view links.old) (L.view links.new) part.old part.new) }
     ensures next { OnEvent result (λ s. IsNext context.cores context.begun_last part.old requests.old.items (L.view links.old) s.done.event) }
-    ensures requests { OnEvent result (λ s. requests.old.items ≡ begins s.done.event ++ requests.new.items) }
-    ensures jobs { OnEvent result (λ s. jobs_taken intake.new ≡ jobs_taken intake.old ++ receives s.done.event) }
-    ensures front { OnEvent result (λ s. IsPrefix (jobs_seen intake.old) (receives s.done.event ++ jobs_seen intake.new)) }
-    ensures whole { OnEvent result (λ s. IsUnshortened s.done.event) }
-    ensures leave { OnEvent result (λ s. rx ≡ false → receives s.done.event ≡ []) }
+    ensures consumes { OnEvent result (Consumes requests.old.items requests.new.items intake.old intake.new rx) }
     ensures links { OnEvent result (λ _. L.same links.old links.new) }
     ensures lines { (p : ℕ) → L.flow links.new p ≡ L.flow links.old p }
     ensures queue { SameIntake intake.old intake.new }
     ensures same { OnNone result ((part.new ≡ part.old) × (links.new ≡ links.old)) }
-    ensures same_requests { OnNone result (requests.new ≡ requests.old) }
-    ensures same_jobs { OnNone result (jobs_taken intake.new ≡ jobs_taken intake.old) }
-    ensures seen { OnNone result (IsPrefix (jobs_seen intake.old) (jobs_seen intake.new)) }
-    ensures idle_message { OnIdle result (NoMessageNow context.cores part.old (L.view links.old)) }
-    ensures idle { OnIdle result (CanBeginNext context.cores part.old requests.old.items (L.view links.old) → ⊥) }
-    ensures idle_job { OnIdle result (MayReceive part.old rx intake.new → ⊥) }
+    ensures none { OnNone result (ConsumesNone requests.old.items requests.new.items intake.old intake.new) }
+    ensures idle { OnIdle result (HasNothingNow context.cores part.old requests.old.items (L.view links.old) rx intake.new) }
     ensures why { IfErr result (HaltsFor context.cores context.clock part.old requests.old.items (L.view links.old) rx intake.new) }
 {
     let Some(peer) = shown else {

@@ -1,7 +1,6 @@
 //! One core's turn over its links.
 #![tactic(auto)]
 
-mod answers;
 mod cause;
 mod context;
 mod core0;

@@ -1,9 +1,9 @@
 //! The events of a core other than core 0.
 
-ghost use Rattle.std.specs.Prelude.{◌≡◌, ◌≢◌, ◌≤◌, ◌<◌, ◌+◌, ◌∷◌, ◌++◌, [], max, true, false, suc, ℕ, All, None, option_to_list, IfOk, IfErr, OnErr, OnOk};
+ghost use Rattle.std.specs.Prelude.{◌≡◌, ◌≢◌, ◌≤◌, ◌<◌, ◌+◌, ◌∷◌, ◌++◌, [], max, true, false, suc, ℕ, All, Bool, None, Some, option_to_list, IfOk, IfErr, OnErr, OnOk};
 ghost use Rattle.filter_table.specs.declared.operation.Op.{Op as GhostOp};
 ghost use Rattle.filter_table.specs.Tables.{HasShortProgram};
-ghost use Rattle.core_steps.specs.OtherCoreSteps.{IsBetweenSteps};
+ghost use Rattle.core_steps.specs.OtherCoreSteps.{IsBetweenSteps, Considers};
 ghost use Rattle.world_events.specs.declared.event.Event.TheVariants.{Submit, Take};
 ghost use Rattle.world_histories.specs.Histories.{with_stamp};
 ghost use Rattle.core_loop.specs.Carrying.{Hands, IsFirst};
@@ -17,14 +17,13 @@ ghost use Rattle.core_loop.specs.Beginning.{CanBeginOther};
 ghost use Rattle.core_loop.specs.Choosing.{IsSubmission};
 ghost use Rattle.core_loop.specs.Events.{ActsOther, CannotTakeOther, CannotSubmit};
 
-use crate::answers::{ack_bytes, vote_bytes};
 use crate::queue::next_request;
 use crate::refusal::{Refusal, next_stamp};
 use crate::sending::{hand, hand_short};
 use core_links::Links;
-use core_steps::OtherCore;
+use core_steps::{Ballot, OtherCore};
 use filter_table::Op;
-use monitor_messages::{Message, encode};
+use monitor_messages::{Message, ack_bytes, encode, vote_bytes};
 use std::alloc::{AllocError, Global};
 use std::collections::VecDeque;
 use world_events::{Done, Event};
@@ -74,6 +73,44 @@ pub(crate) fn take<L: Links>(
             })
         }
     }
+}
+
+/// Takes the first message that is kept of core 0, a Prepare that was considered without memory, and votes so. Takes no memory.
+pub(crate) fn cast<L: Links>(
+    core: &mut OtherCore,
+    links: &mut L,
+    number: u16,
+    clock: u64,
+    ballot: Ballot,
+) -> Result<Stamped, Refusal>
+    requires between { IsBetweenSteps core.old }
+    requires ballot { (op : GhostOp) × IsFirst (L.view links.old 0) (record { stamp = ballot.stamp; message = message.Prepare ballot.txn op })
+        × ((short : Bool) → Considers short core.old (message.Prepare ballot.txn op) (Some (message.Vote ballot.txn ballot.vote)) core.old) }
+    ensures acts { IfOk result (λ s. (entry : ℕ) → number ≡ suc entry → ActsOther entry clock (L.view links.old) (L.view links.new) core.old core.new s) }
+    ensures event { IfOk result (λ s. s.done.event ≡ Take number 0 false) }
+    ensures links { OnOk result (L.same links.old links.new) }
+    ensures lines { (p : ℕ) → L.flow links.new p ≡ L.flow links.old p }
+    ensures why { IfErr result (CannotReply clock ballot.stamp (Some (message.Vote ballot.txn ballot.vote)) (L.view links.old 0)) }
+    ensures same { OnErr result ((core.new ≡ core.old) × (links.new ≡ links.old)) }
+{
+    if !links.ready(0) {
+        return Err(Refusal::NotReady);
+    }
+    let Some(stamp) = next_stamp(clock, ballot.stamp) else {
+        return Err(Refusal::Spent);
+    };
+    let answer = core.cast(ballot.txn, ballot.vote);
+    let _ = links.give_up(0);
+    hand_short(links, 0, &vote_bytes(stamp, ballot.txn, ballot.vote));
+    let event = Event::Take {
+        to: number,
+        from: 0,
+        short: false,
+    };
+    Ok(Stamped {
+        stamp,
+        done: Done { event, answer },
+    })
 }
 
 // The stamp of a reply, where there is none or the link to core 0 takes it.

@@ -158,7 +158,7 @@ impl<L: Links> Core<L> {
     /// begins the request of the next core that has one, going round after the core whose request it began last.
     /// After `Stopped` every turn answers the same. It takes no memory where there is no message, no request and no job that
     /// it can receive. A core other than 0 votes NoMemory in the turn in which memory is refused to an operation that it is
-    /// asked about; it answers `NoMemory` to a message only where it can't read the program that the message brings.
+    /// asked about, or to the operation's program: it never answers `NoMemory` to a message.
     pub fn turn(&mut self, rx: bool) -> Turn
         ensures core { SameCore L.same self.old self.new }
         ensures requests { begun self.new.history ++ self.new.pending ≡ begun self.old.history ++ self.old.pending }

@@ -1,17 +1,17 @@
 //! The next event of a core.
 
-ghost use Rattle.std.specs.Prelude.{◌≡◌, ◌<◌, ◌≤◌, ◌⊎◌, ◌++◌, ℕ, [], true, false, None, IfErr, IsSome, IsTrue, IsFalse};
+ghost use Rattle.std.specs.Prelude.{◌≡◌, ◌<◌, ◌≤◌, ◌⊎◌, ℕ, true, false, None, IfErr, IsSome, IsTrue, IsFalse};
 ghost use mathlib.Core.List.{IsPrefix};
 ghost use Rattle.rx_queue.specs.Queue.{jobs_seen, jobs_taken, SameIntake};
 ghost use Rattle.core_loop.specs.declared.refusal.Halt.TheVariants.{NoMemory};
 ghost use Rattle.core_links.specs.Flows.{FlowsOn, IsLooked, HasMoved};
 ghost use Rattle.core_loop.specs.Carrying.{Quiet};
-ghost use Rattle.core_loop.specs.Cores.{begins, AreShort};
-ghost use Rattle.core_loop.specs.Receipts.{receives};
+ghost use Rattle.core_loop.specs.Cores.{AreShort};
 ghost use Rattle.core_loop.specs.Outcomes.{OnEvent, OnNone, OnIdle};
-ghost use Rattle.core_loop.specs.Beginning.{CanBeginNext, IsFitting};
-ghost use Rattle.core_loop.specs.Choosing.{ShowsNothing, NoMessageNow};
-ghost use Rattle.core_loop.specs.Turning.{IsUnshortened, ActsFirst, MayReceive, HasRequest, HasWork, HaltsFor};
+ghost use Rattle.core_loop.specs.Beginning.{IsFitting};
+ghost use Rattle.core_loop.specs.Choosing.{ShowsNothing};
+ghost use Rattle.core_loop.specs.Turning.{ActsFirst, MayReceive, HasRequest, HasWork, HaltsFor};
+ghost use Rattle.core_loop.specs.Consuming.{Consumes, ConsumesNone, HasNothingNow};
 
 use crate::cause::Cause;
 use crate::context::Context;
@@ -39,20 +39,13 @@ pub(crate) fn next_event<L: Links>(
     requires fits { IsFitting context.number context.cores part.old }
     requires short { AreShort context.number requests.old.items }
     ensures acts { OnEvent result (ActsFirst context.number context.cores context.clock context.begun_last requests.old.items (L.view links.old) (L.view links.new) part.old part.new) }
-    ensures requests { OnEvent result (λ s. requests.old.items ≡ begins s.done.event ++ requests.new.items) }
-    ensures jobs { OnEvent result (λ s. jobs_taken intake.new ≡ jobs_taken intake.old ++ receives s.done.event) }
-    ensures front { OnEvent result (λ s. IsPrefix (jobs_seen intake.old) (receives s.done.event ++ jobs_seen intake.new)) }
-    ensures whole { OnEvent result (λ s. IsUnshortened s.done.event) }
-    ensures leave { OnEvent result (λ s. rx ≡ false → receives s.done.event ≡ []) }
+    ensures consumes { OnEvent result (Consumes requests.old.items requests.new.items intake.old intake.new rx) }
     ensures links { L.same links.old links.new }
     ensures queue { SameIntake intake.old intake.new }
     ensures quiet { OnNone result ((p : ℕ) → Quiet (L.view links.old p) (L.view links.new p)) }
-    ensures same { OnNone result ((part.new ≡ part.old) × (requests.new ≡ requests.old)) }
-    ensures same_jobs { OnNone result (jobs_taken intake.new ≡ jobs_taken intake.old) }
-    ensures seen { OnNone result (IsPrefix (jobs_seen intake.old) (jobs_seen intake.new)) }
-    ensures idle_message { OnIdle result (NoMessageNow context.cores part.old (L.view links.new)) }
-    ensures idle { OnIdle result (CanBeginNext context.cores part.old requests.old.items (L.view links.new) → ⊥) }
-    ensures idle_job { OnIdle result (MayReceive part.old rx intake.new → ⊥) }
+    ensures same { OnNone result (part.new ≡ part.old) }
+    ensures none { OnNone result (ConsumesNone requests.old.items requests.new.items intake.old intake.new) }
+    ensures idle { OnIdle result (HasNothingNow context.cores part.old requests.old.items (L.view links.new) rx intake.new) }
     ensures lines { OnIdle result ((p : ℕ) → FlowsOn (L.flow links.old p) (L.flow links.new p)) }
     ensures still { (p : ℕ) → (L.flow links.new p).moved ≡ false → IsLooked (L.flow links.old p) (L.flow links.new p) }
     ensures moved { (p : ℕ) → (L.flow links.new p).moved ≡ true → HasMoved (L.flow links.old p) (L.flow links.new p) }

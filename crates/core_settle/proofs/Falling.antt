@@ -349,7 +349,7 @@ module _ (budget : ℕ) (budgets : List ℕ) (f m l : RingCore) (os ms ls : List
 
   -- the parts of the others, by entry
   abbrev spare : OtherCore
-  spare = record { replica = replica_of l.part; participant = record { last = 0; voted = None; outstanding = false } }
+  spare = record { replica = replica_of l.part; participant = record { last = 0; voted = None; outstanding = false }; room = tt; spare = tt }
 
   abbrev core_at : ℕ → OtherCore
   core_at k = other_of spare (get_or ls k l).part

@@ -6,10 +6,12 @@ use Rattle.filter_table.specs.Tables.{TableState}
 use Rattle.filter_table.proofs.Tables.{version-after}
 use Rattle.monitor_messages.specs.declared.message.Message.{Message}
 use Rattle.monitor_messages.specs.declared.message.Message.TheVariants as message
+use Rattle.filter_table.specs.declared.decision.Vote.{Vote}
+use Rattle.filter_table.specs.declared.decision.Vote.TheVariants as vote
 use Rattle.monitor_2pc.specs.declared.step.Stranger.{Stranger}
 use Rattle.monitor_2pc.specs.Places.{after_commit}
-use Rattle.monitor_2pc.specs.Participants.{ParticipantPlace, Answers, Fits}
-use Rattle.world_events.specs.declared.event.Answer.TheVariants.{TookCommit}
+use Rattle.monitor_2pc.specs.Participants.{ParticipantPlace, ParticipantState, StagedByVote, Answers, Fits, staged_by}
+use Rattle.world_events.specs.declared.event.Answer.TheVariants.{TookPrepare, TookCommit}
 use Rattle.world_model.specs.Cases.{raised}
 use Rattle.core_steps.specs.declared.other_core.OtherCore.{OtherCore}
 use Rattle.core_steps.specs.OtherCoreSteps.{IsBetweenSteps, Considers, TakesDown, other_place}
@@ -54,3 +56,20 @@ commit_taken short core m reply own own' txn version r is h answered shown budge
         let fits : Fits own.replica.shown own.replica.budget (other_place own) (message.Commit txn) = rw (x.2) (x.0, x.1) in
         subst (λ (c : OtherCore). TakesDown short c (message.Commit txn) own' (TookCommit txn version)) (x.2) (by_result r (x.2) fits answered shown stranger)
     by_reply other x = absurd x
+
+-- what a vote leaves staged
+between_vote : (v : Vote) (op : Op) → StagedByVote (Some v) (staged_by v op)
+between_vote vote.Yes op = refl
+between_vote vote.Budget op = refl
+between_vote vote.NoMemory op = refl
+
+-- a vote that is cast
+pub prepare_taken : (short : Bool) (core own : OtherCore) (cast : ParticipantState) (txn : ℕ) (op : Op) (v : Vote) → Considers short core (message.Prepare txn op) (Some (message.Vote txn v)) own
+    → cast ≡ record own.participant { last = txn; voted = Some v } → TakesDown short core (message.Prepare txn op) (record own { participant = cast }) (TookPrepare txn v)
+prepare_taken short core own cast txn op v h next = rw (next, h.3) (record {
+  committed = None;
+  here = record { reply = message.Vote txn v; answers = (h.0, h.1, h.2, refl, refl); same_outstanding = refl; is_committed = refl; is_answer = refl };
+  shown_next = refl;
+  same_budget = refl;
+  between = between_vote v op;
+})

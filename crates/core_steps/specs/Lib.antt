@@ -1,2 +1,3 @@
 pub mod Core0Steps
 pub mod OtherCoreSteps
+pub mod Unread

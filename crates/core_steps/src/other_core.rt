@@ -1,22 +1,32 @@
 //! A core other than core 0.
 
-ghost use Rattle.std.specs.Prelude.{◌≡◌, Bool, true, false, Option, None, IfOk, OnErr};
+ghost use Rattle.std.specs.Prelude.{◌≡◌, Bool, true, false, Option, None, Some, IfOk, IfErr, OnErr};
+ghost use Rattle.filter_table.specs.declared.operation.Op.{Op as GhostOp};
 ghost use Rattle.monitor_messages.specs.declared.message.Message.{Message as GhostMessage};
+ghost use Rattle.monitor_messages.specs.declared.message.Message.TheVariants as message;
+ghost use Rattle.monitor_messages.specs.Coding.{Coded};
+ghost use Rattle.monitor_messages.specs.Carrying.{CarriesProgram};
 ghost use Rattle.filter_table.specs.Tables.{empty_table};
 ghost use Rattle.world_model.specs.Cases.{sent_up, SubmitsAt};
 ghost use Rattle.world_events.specs.declared.event.Event.TheVariants.{Take};
 ghost use Rattle.core_steps.specs.declared.other_core.OtherCore.{OtherCore as GhostCore};
-ghost use Rattle.core_steps.specs.OtherCoreSteps.{IsBetweenSteps, AwaitsHere, Considers, TakesDown};
+ghost use Rattle.core_steps.specs.OtherCoreSteps.{IsBetweenSteps, AwaitsHere, Considers, TakesDown, other_place};
+ghost use Rattle.core_steps.specs.Unread.{CannotVote};
 
+use crate::spare::{Ballot, Spare, Unread};
+use filter_verify::Room;
 use monitor_2pc::{Decision, Message, Participant, Stranger, Vote};
 use std::alloc::{AllocError, Global};
 use table_replica::Replica;
 use world_events::Answer;
 
-/// A core other than core 0: its replica of the table, and its part of the protocol.
+/// A core other than core 0: its replica of the table, its part of the protocol, and the memory with which it votes where no
+/// other is left.
 pub struct OtherCore {
     pub replica: Replica,
     pub participant: Participant,
+    pub room: Room,
+    pub spare: Spare,
 }
 
 // By hand, so that the proofs of its owners have one call and not a drop of each part.
@@ -25,12 +35,14 @@ impl Drop for OtherCore {
         let OtherCore {
             replica: _,
             participant: _,
+            room: _,
+            spare: _,
         } = self;
     }
 }
 
 impl OtherCore {
-    /// A core that has done nothing yet.
+    /// A core that has done nothing yet. It takes the memory for the longest program and for the verifier.
     pub fn new(alloc: Global, budget: u32) -> Result<OtherCore, AllocError>
         ensures replica { IfOk result (λ core. core.replica ≡ record { budget = budget; shown = empty_table; staged = None }) }
         ensures participant { IfOk result (λ core. core.participant ≡ record { last = 0; voted = None; outstanding = false }) }
@@ -39,6 +51,8 @@ impl OtherCore {
         Ok(OtherCore {
             replica: Replica::new(alloc, budget)?,
             participant: Participant::new(0),
+            room: Room::new(alloc)?,
+            spare: Spare::new(alloc)?,
         })
     }
 
@@ -70,7 +84,7 @@ impl OtherCore {
             Message::Prepare { txn, op } => {
                 let vote = self
                     .participant
-                    .ballot(alloc, &mut self.replica, *txn, op, short)?;
+                    .ballot(alloc, &mut self.room, &mut self.replica, *txn, op, short)?;
                 Ok(Some(Message::Vote { txn: *txn, vote }))
             }
             Message::Commit { txn } if self.participant.can_commit(*txn) => {
@@ -82,6 +96,28 @@ impl OtherCore {
             Message::Reply { .. } if self.participant.outstanding() => Ok(None),
             _ => Err(Stranger),
         }
+    }
+
+    /// `consider` without memory, of a Prepare that brings a program, by its bytes: the stamp, the number and the vote, which is
+    /// NoMemory or Budget. Nothing is staged. `cast` comes next, or nothing does.
+    pub fn consider_unread(&mut self, bytes: &[u8]) -> Result<Ballot, Unread>
+        requires between { IsBetweenSteps self.old }
+        requires carries { CarriesProgram bytes.now }
+        ensures considers { IfOk result (λ ballot. (op : GhostOp) × Coded bytes.now ballot.stamp (message.Prepare ballot.txn op) × ((short : Bool) → Considers short self.old (message.Prepare ballot.txn op) (Some (message.Vote ballot.txn ballot.vote)) self.old)) }
+        ensures unread { IfErr result (CannotVote (other_place self.old) self.old.replica.shown self.old.replica.budget bytes.now) }
+        ensures same { self.new ≡ self.old }
+    {
+        self.spare
+            .ballot(&mut self.room, &self.participant, &self.replica, bytes)
+    }
+
+    /// Takes a Prepare that was considered, with this vote. Takes no memory.
+    pub fn cast(&mut self, txn: u64, vote: Vote) -> Answer
+        ensures takes { (op : GhostOp) (short : Bool) (before : GhostCore) → IsBetweenSteps before → Considers short before (message.Prepare txn op) (Some (message.Vote txn vote)) self.old → TakesDown short before (message.Prepare txn op) self.new result }
+        ensures sent { (short : Bool) → sent_up (Take 0 0 short) result ≡ Some (message.Vote txn vote) }
+    {
+        self.participant.vote(txn, vote);
+        Answer::TookPrepare { txn, vote }
     }
 
     /// Takes back what `consider` staged for this message.
@@ -101,11 +137,7 @@ impl OtherCore {
     {
         match (message, reply) {
             (Message::Prepare { txn, .. }, Some(Message::Vote { vote, .. })) => {
-                self.participant.vote(*txn, *vote);
-                Answer::TookPrepare {
-                    txn: *txn,
-                    vote: *vote,
-                }
+                self.cast(*txn, *vote)
             }
             (Message::Commit { txn }, _) => {
                 let _ = self.participant.commit(&mut self.replica, *txn);

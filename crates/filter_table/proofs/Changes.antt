@@ -8,7 +8,7 @@ use Rattle.filter_table.specs.declared.operation.Op.{Op}
 use Rattle.filter_table.specs.declared.operation.Op.TheVariants.{Create, Mint, Revoke, DropCap, Install, Remove, Replace}
 use Rattle.filter_table.specs.declared.operation.StageFault.{StageFault}
 use Rattle.filter_table.specs.declared.operation.StageFault.TheVariants.{AlreadyStaged, Rule, Budget, NoMemory}
-use Rattle.filter_table.specs.Tables.{TableState, tests, Allowed, Verifies, AnswersFirst, program_of, instructions, instructions_of, replaced, after}
+use Rattle.filter_table.specs.Tables.{TableState, tests, Allowed, Verifies, program_of, instructions, instructions_of, replaced, after}
 use Rattle.filter_verify.specs.Rules.{IsWellShaped}
 use Rattle.filter_table.specs.Staging.{AsksForMemory, CannotStage}
 use Rattle.filter_table.proofs.Tables.{first_none, allowed_fits}
@@ -93,15 +93,6 @@ asks_verified s budget op h v = record { passed = h; shaped = verified_shape (pr
 -- the table after the operation is not made
 pub cannot_change : (s : TableState) (budget : ℕ) (op : Op) → first (tests s budget op) ≡ None → Verifies (program_of op) None → CannotStage s budget op None NoMemory
 cannot_change s budget op h v = (refl, asks_verified s budget op h v)
-
--- staging an operation that is allowed asks for memory
-pub asks_allowed : (s : TableState) (budget : ℕ) (op : Op) → Allowed s budget op None → AsksForMemory s budget op
-unfolding Allowed
-asks_allowed s budget op allowed = by_first (first (tests s budget op)) refl allowed
-  where
-    by_first : (f : Option StageFault) → first (tests s budget op) ≡ f → AnswersFirst f op None → AsksForMemory s budget op
-    by_first None e v = asks_verified s budget op e v
-    by_first (Some fault) e v = absurd cc
 
 pub fits_after : (s : TableState) (budget : ℕ) (op : Op) → Allowed s budget op None → instructions_of s.filters ≤ budget → instructions_of (after s op).filters ≤ budget
 unfolding instructions

@@ -4,8 +4,10 @@
 
 mod decision;
 mod delivery;
+mod loading;
 mod operation;
 
 pub use decision::{Decision, Veto, Vote};
 pub use delivery::{Kept, KeptList};
+pub use loading::Load;
 pub use operation::{Made, Op, OpFault, Program, StageFault};

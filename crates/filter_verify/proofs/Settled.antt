@@ -1,5 +1,5 @@
 -- The pass over the whole program.
-use Rattle.std.proofs.Common.{◌≡◌, ℕ, ◌+◌, ◌<◌, List, length, slice_index_or, Bool, true, false, inl, inr, arith, sym, subst, ◌∙◌, cond, eqb, ltb, rules}
+use Rattle.std.proofs.Common.{◌≡◌, ℕ, zero, suc, ◌+◌, ◌<◌, ◌≤◌, ◌⊎◌, List, [], ◌∷◌, ◌++◌, refl, length, slice_index_or, Bool, true, false, inl, inr, arith, sym, subst, ◌∙◌, cond, eqb, ltb, rules}
 use Rattle.std.specs.Int.{bit_at}
 use Rattle.std.proofs.lemmas.Bool.{cases_lt}
 use Rattle.std.proofs.lemmas.Bool.Decides.{nat_tests}
@@ -11,14 +11,14 @@ use Rattle.filter_verify.specs.declared.words.Words.{Words}
 use Rattle.filter_verify.specs.declared.rules.Refusal.TheVariants.{Unwritten}
 use Rattle.filter_verify.specs.Words.{HasWord, LacksWord}
 use Rattle.filter_verify.specs.Exits.{LoadsForm}
-use Rattle.filter_verify.specs.Paths.{LoadsWord, StoresWord, Successor, Path, IsUnwritten}
-use Rattle.filter_verify.specs.Flows.{HasAt, Flows, IsSettled}
+use Rattle.filter_verify.specs.Paths.{LoadsWord, StoresWord, Successor, Path, IsStoredOn, IsUnwritten}
+use Rattle.filter_verify.specs.Flows.{HasAt, LacksAt, Flows, IsSettled, LoadsUnwritten}
 use Rattle.filter_verify.specs.Kept.{IsKept}
 use Rattle.filter_verify.specs.Rules.{IsWellShaped, Refuses}
 use Rattle.filter_verify.proofs.Forward.{LeadsTo-later}
 use Rattle.filter_verify.proofs.Passes.{StoresForm-here, StoresWord-here, LeadsTo-here}
 use Rattle.filter_verify.proofs.Shapes.{Shaped-word}
-use Rattle.filter_verify.proofs.Walks.{stored_before}
+use Rattle.filter_verify.proofs.Walks.{stored_before, Path-more, IsStoredOn-more}
 
 -- what the form at a place loads
 pub LoadsForm-here : (program : List Insn) (pc : ℕ) (form : Form) (word : ℕ) → FormAt program pc form → LoadsWord program pc word → LoadsForm form word
@@ -81,6 +81,31 @@ Refuses-unwritten program pc word path written shaped settled inside unwritten =
       let found = stored_before program (λ p. HasAt written p other) other q (λ a b before leads has. settled.onward a b other (omega arith) small leads has) (λ has. has_not_lacks _ other has (settled.opening other)) earlier.earlier q (omega arith) (subst (Path program) earlier.ends earlier.is_path) (settled.loads q other below earlier.loads) in
       earlier.unwritten found,
 )
+
+-- A place whose set lacks a word has a path on which no earlier place stores it. So many places are below the greatest.
+path_back : (program : List Insn) (written : List Words) (below word : ℕ) → IsSettled program below written → word < 16 → (most to : ℕ) → to ≤ most → to < length program → LacksAt written to word
+    → (earlier : List ℕ) × Path program (earlier ++ to ∷ []) × (IsStoredOn program word earlier → ⊥)
+path_back program written below word settled small zero to within inside lack = elim (settled.reasons to word inside small lack) [
+  | inl first ↦ ([], (first, tt), λ none. none)
+  | inr r ↦ absurd (let earlier = r.1 in omega arith)
+]
+path_back program written below word settled small (suc most) to within inside lack = elim (settled.reasons to word inside small lack) [
+  | inl first ↦ ([], (first, tt), λ none. none)
+  | inr r ↦
+      let earlier = r.1 in
+      let before = path_back program written below word settled small most r.0 (omega arith) (omega arith) r.4 in (
+        before.0 ++ r.0 ∷ [],
+        Path-more program before.0 r.0 to before.1 r.3,
+        λ stored. elim (IsStoredOn-more program word before.0 r.0 stored) [ inl a ↦ before.2 a | inr s ↦ r.5 s ],
+      )
+]
+
+-- so its load is refused
+pub refused_load : (program : List Insn) (written : List Words) (pc word : ℕ) → IsWellShaped program → LoadsUnwritten program written pc word → (path : List ℕ) × Refuses program (Unwritten pc word path)
+refused_load program written pc word shaped load =
+    let back = path_back program written pc word load.settled load.small pc pc (omega arith) load.inside load.lacks in
+    let path = back.0 ++ pc ∷ [] in
+    (path, Refuses-unwritten program pc word path written shaped load.settled load.inside (record { earlier = back.0; ends = refl; is_path = back.1; loads = load.loads; unwritten = back.2 }))
 
 -- whether the set at a place has the word, one of sixteen
 in_set : List Words → ℕ → ℕ → Bool

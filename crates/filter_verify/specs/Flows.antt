@@ -53,3 +53,11 @@ pub record PassesBy (program : List Insn) (written : List Words) (pc to word : �
   pub leads : Successor program pc to
   pub lack : LacksAt written pc word
   pub stores_not : StoresWord program pc word → ⊥
+
+-- the pass has come to a place that loads a word which the place's set lacks
+pub record LoadsUnwritten (program : List Insn) (written : List Words) (pc word : ℕ) : Type 0 where
+  pub inside : pc < length program
+  pub settled : IsSettled program pc written
+  pub loads : LoadsWord program pc word
+  pub lacks : LacksAt written pc word
+  pub small : word < 16

@@ -1,11 +1,11 @@
 //! Which scratch words are written before each instruction, over all paths.
 
-ghost use Rattle.std.specs.Prelude.{◌≡◌, ℕ, ◌+◌, ◌<◌, ◌≤◌, ◌↔◌, Some, length, IsTrue, OnOk, IfOk, IfErr};
+ghost use Rattle.std.specs.Prelude.{◌≡◌, ℕ, ◌+◌, ◌<◌, ◌≤◌, ◌↔◌, Some, length, IsTrue, OnOk, IfOk, IfErr, IfSome, IfNone};
 ghost use Rattle.bpf_insn.specs.Program.{FormAt, LeadsTo};
 ghost use Rattle.bpf_insn.specs.declared.insn.TheConstants.{MAX_INSNS};
 ghost use Rattle.filter_verify.specs.Exits.{StoresForm};
 ghost use Rattle.filter_verify.specs.Kept.{IsKept};
-ghost use Rattle.filter_verify.specs.Flows.{Flows, IsAfter, IsSettled, LacksAt, Narrows, PassesBy};
+ghost use Rattle.filter_verify.specs.Flows.{Flows, IsAfter, IsSettled, LacksAt, LoadsUnwritten, Narrows, PassesBy};
 ghost use Rattle.filter_verify.specs.Paths.{IsUnwritten, LoadsWord};
 ghost use Rattle.filter_verify.specs.Rules.{IsWellShaped, Refuses};
 ghost use Rattle.filter_verify.specs.Words.{LacksWord};
@@ -132,27 +132,40 @@ fn form_there(code: &[Insn], pc: usize) -> Form
     code[pc].form().unwrap()
 }
 
-/// Goes over the instruction at a place, or says why its load is refused.
-fn go_over(alloc: Global, code: &[Insn], written: &mut [Words], pc: usize) -> Result<(), Refusal>
+/// Goes over the instruction at a place, or gives the word that it loads and a path may leave unwritten.
+fn go_over(code: &[Insn], written: &mut [Words], pc: usize) -> Option<u32>
     requires shaped { IsWellShaped code.now }
     requires inside { pc < length code.now }
     requires settled { IsSettled code.now pc written.old }
-    ensures ok { OnOk result (IsSettled code.now (pc + 1) written.new) }
-    ensures err { IfErr result (λ refusal. (refusal ≡ Refusal.NoMemory → ⊥) → Refuses code.now refusal) }
+    ensures none { IfNone result (IsSettled code.now (pc + 1) written.new) }
+    ensures some { IfSome result (λ word. LoadsUnwritten code.now written.new pc word) }
 {
     let form = form_there(code, pc);
     if let Some(word) = loaded_word(form) {
         if !written[pc].contains(word) {
-            let path = path_to(alloc, code, written, pc, word)?;
-            return Err(Refusal::Unwritten {
-                pc: pc as u32,
-                word,
-                path,
-            });
+            return Some(word);
         }
     }
     flow_through(written, pc, form);
-    Ok(())
+    None
+}
+
+/// The place and the word of the first load of a word that a path may leave unwritten, by the sets of written words that each
+/// instruction leaves to those after it. What the sets were before makes no difference. Takes no memory.
+pub fn first_unwritten(code: &[Insn], written: &mut [Words]) -> Option<(usize, u32)>
+    requires shaped { IsWellShaped code.now }
+    requires room { length written.old ≡ length code.now }
+    ensures none { IfNone result (IsKept code.now) }
+    ensures some { IfSome result (λ load. LoadsUnwritten code.now written.new load.0 load.1) }
+{
+    written.fill(Words::all());
+    written[0] = Words::none();
+    'pass: for pc in 0..code.len() {
+        if let Some(word) = go_over(code, written, pc) {
+            return Some((pc, word));
+        }
+    }
+    None
 }
 
 /// Whether an instruction loads a scratch word.
@@ -168,18 +181,33 @@ fn loads_words(code: &[Insn]) -> bool
     false
 }
 
-/// Accepts a program by the sets of written words that each of its instructions leaves to those after it.
+/// Accepts a program, or says where a path to a load leaves its word unwritten.
 fn check_loads(alloc: Global, code: &[Insn]) -> Result<(), Refusal>
     requires { IsWellShaped code.now }
     ensures ok { OnOk result (IsKept code.now) }
     ensures err { IfErr result (λ refusal. (refusal ≡ Refusal.NoMemory → ⊥) → Refuses code.now refusal) }
 {
-    let mut written = vec![in alloc; Words::all(); code.len()]?;
-    written[0] = Words::none();
-    'pass: for pc in 0..code.len() {
-        go_over(alloc, code, written.as_mut_slice(), pc)?;
+    let mut written = vec![in alloc; Words::none(); code.len()]?;
+    check_loads_by(alloc, code, written.as_mut_slice())
+}
+
+fn check_loads_by(alloc: Global, code: &[Insn], written: &mut [Words]) -> Result<(), Refusal>
+    requires shaped { IsWellShaped code.now }
+    requires room { length written.old ≡ length code.now }
+    ensures ok { OnOk result (IsKept code.now) }
+    ensures err { IfErr result (λ refusal. (refusal ≡ Refusal.NoMemory → ⊥) → Refuses code.now refusal) }
+{
+    match first_unwritten(code, written) {
+        None => Ok(()),
+        Some((pc, word)) => {
+            let path = path_to(alloc, code, written, pc, word)?;
+            Err(Refusal::Unwritten {
+                pc: pc as u32,
+                word,
+                path,
+            })
+        }
     }
-    Ok(())
 }
 
 /// Accepts a program that loads only scratch words that are written on each path, or says where a path breaks that.

@@ -2,13 +2,9 @@
 use Rattle.std.proofs.Common.{◌≡◌, ◌+◌, ◌≤◌, ℕ, Bool, false, Option, Some, None, refl, ap, ◌∙◌}
 use Rattle.filter_table.specs.declared.operation.Op.{Op}
 use Rattle.filter_table.specs.declared.operation.Made.{Made}
-use Rattle.filter_table.specs.declared.operation.StageFault.{StageFault}
-use Rattle.filter_table.specs.declared.operation.StageFault.TheVariants as stage_fault
-use Rattle.filter_table.specs.Staging.{CannotStage}
 use Rattle.table_replica.specs.Shown.{ReplicaState}
 use Rattle.filter_table.specs.Tables.{TableState, after, made, instructions, instructions_of, Allowed}
-use Rattle.filter_table.proofs.Changes.{asks_allowed}
-use Rattle.filter_table.proofs.Tables.{allowed_fits, tests_fit, version-after}
+use Rattle.filter_table.proofs.Tables.{allowed_fits, version-after}
 use Rattle.filter_table.specs.declared.decision.Vote.TheVariants.{Yes, NoMemory}
 use Rattle.filter_table.specs.declared.decision.Decision.TheVariants.{Committed}
 use Rattle.monitor_2pc.specs.declared.step.Say.{Say}
@@ -26,11 +22,7 @@ casts_yes short s budget op is allowed h = (allowed, allowed_fits s budget op al
 
 -- it could be staged, if there were memory
 pub casts_short : (short : Bool) (s : TableState) (budget : ℕ) (op : Op) → Allowed s budget op None → instructions_of s.filters ≤ budget → Casts short s budget op NoMemory
-casts_short short s budget op allowed h = (asks_allowed s budget op allowed, allowed_fits s budget op allowed (within s budget h))
-
--- memory was refused
-pub casts_unstaged : (short : Bool) (s : TableState) (budget : ℕ) (op : Op) (staged : Option Op) (fault : StageFault) → fault ≡ stage_fault.NoMemory → CannotStage s budget op staged fault → instructions_of s.filters ≤ budget → Casts short s budget op NoMemory
-casts_unstaged short s budget op staged fault is refused h = let r = rw is at refused in (r.1, tests_fit s budget op r.1.passed (within s budget h))
+casts_short short s budget op allowed h = (allowed, allowed_fits s budget op allowed (within s budget h))
 
 -- what was staged is shown
 pub told_committed : (txn : ℕ) (said : Option Say) (s s' : TableState) (op : Op) (version : ℕ) (id : Made) → s' ≡ after s op → version ≡ s'.version → id ≡ made s op

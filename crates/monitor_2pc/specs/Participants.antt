@@ -5,7 +5,6 @@ use Rattle.filter_table.specs.declared.operation.Op.{Op}
 use Rattle.filter_table.specs.declared.operation.OpFault.{OpFault}
 use Rattle.filter_table.specs.declared.operation.StageFault.TheVariants.{Rule, Budget}
 use Rattle.filter_table.specs.Tables.{TableState, after, instructions, Allowed}
-use Rattle.filter_table.specs.Staging.{AsksForMemory}
 use Rattle.monitor_messages.specs.declared.message.Message.{Message}
 use Rattle.monitor_messages.specs.declared.message.Message.TheVariants as message
 use Rattle.filter_table.specs.declared.decision.Vote.{Vote}
@@ -36,12 +35,12 @@ StagedByVote (Some vote.Yes) staged = IsSome staged
 StagedByVote v staged = staged ≡ None
 
 -- A core with this table and budget may cast the vote: Budget exactly where the instructions would exceed the budget, else Yes
--- or NoMemory. Where `short` is true it has no memory for the operation; where it is false, memory may still be refused to it.
--- An operation that a rule refuses gets no vote (where memory is refused, the words of its program are not looked at).
+-- or NoMemory, on an operation that all tests pass and the verifier accepts. Where `short` is true it has no memory for the
+-- operation; where it is false, memory may still be refused to it. An operation that a rule refuses gets no vote.
 abbrev pub Casts : Bool → TableState → ℕ → Op → Vote → Type 0
 Casts short s budget op vote.Yes = Allowed s budget op None × (instructions (after s op) ≤ budget) × (short ≡ false)
 Casts short s budget op vote.Budget = Allowed s budget op (Some Budget) × (budget < instructions (after s op))
-Casts short s budget op vote.NoMemory = AsksForMemory s budget op × (instructions (after s op) ≤ budget)
+Casts short s budget op vote.NoMemory = Allowed s budget op None × (instructions (after s op) ≤ budget)
 
 -- the operation stays staged where the vote is Yes
 abbrev pub staged_by : Vote → Op → Option Op

@@ -1,7 +1,8 @@
 //! A core other than core 0 in the protocol.
 
-ghost use Rattle.std.specs.Prelude.{◌≡◌, ◌+◌, ◌↔◌, IsTrue, IsSome, true, false, None, Some, IfErr, IfOk, OnOk, OnErr};
+ghost use Rattle.std.specs.Prelude.{◌≡◌, ◌+◌, ◌↔◌, Bool, IsTrue, IsSome, true, false, None, Some, IfErr, IfOk, OnOk, OnErr};
 ghost use Rattle.filter_table.specs.Tables.{Allowed};
+ghost use Rattle.filter_table.specs.Loading.{load_op};
 ghost use Rattle.filter_table.specs.declared.operation.StageFault.TheVariants.{Rule};
 ghost use Rattle.filter_table.specs.declared.decision.Vote.TheVariants.{Yes};
 ghost use Rattle.filter_table.specs.declared.operation.OpFault.{OpFault as GhostFault};
@@ -10,11 +11,11 @@ ghost use Rattle.monitor_2pc.specs.Participants.{ParticipantState, Casts, staged
 ghost use Rattle.monitor_2pc.specs.Places.{after_commit};
 
 use crate::step::Stranger;
-use filter_table::{Decision, Op, StageFault, Vote};
+use filter_table::{Decision, Load, Op, StageFault, Vote};
 use monitor_messages::Message;
 use std::alloc::Global;
 use std::marker::Model;
-use table_replica::Replica;
+use table_replica::{Insn, Replica, Room};
 
 /// A core other than core 0 in the protocol: its last number, its vote while it awaits the outcome, and whether it has a
 /// request outstanding.
@@ -113,10 +114,12 @@ impl Participant {
     }
 
     /// Takes a message of core 0 and gives the vote or the acknowledgement to send back; where `short` is true, the core acts
-    /// as if it had no memory for an operation. A stranger changes nothing. Takes no memory on Commit or Abort.
+    /// as if it had no memory for an operation. A program that memory is refused to is verified in the room. A stranger changes
+    /// nothing. Takes no memory on Commit or Abort.
     pub fn answer(
         &mut self,
         alloc: Global,
+        room: &mut Room,
         replica: &mut Replica,
         message: &Message,
         short: bool,
@@ -132,7 +135,7 @@ impl Participant {
         ensures same_replica { OnErr result (replica.new ≡ replica.old) }
     {
         match message {
-            Message::Prepare { txn, op } => self.prepare(alloc, replica, *txn, op, short),
+            Message::Prepare { txn, op } => self.prepare(alloc, room, replica, *txn, op, short),
             Message::Commit { txn } => self.commit(replica, *txn),
             Message::Abort { txn } => self.abort(replica, *txn),
             Message::Vote { .. }
@@ -145,6 +148,7 @@ impl Participant {
     fn prepare(
         &mut self,
         alloc: Global,
+        room: &mut Room,
         replica: &mut Replica,
         txn: u64,
         op: &Op,
@@ -160,16 +164,18 @@ impl Participant {
         ensures same_place { OnErr result (self.new ≡ self.old) }
         ensures same_staged { OnErr result (replica.new.staged ≡ replica.old.staged) }
     {
-        let vote = self.ballot(alloc, replica, txn, op, short)?;
+        let vote = self.ballot(alloc, room, replica, txn, op, short)?;
         self.vote(txn, vote);
         Ok(Message::Vote { txn, vote })
     }
 
     /// How this core votes on an operation that core 0 asks about, which stays staged where that is Yes. The vote is cast by
-    /// `vote`, or the replica's `abort` takes it back. A stranger changes nothing.
+    /// `vote`, or the replica's `abort` takes it back. A program that memory is refused to is verified in the room. A stranger
+    /// changes nothing.
     pub fn ballot(
         &self,
         alloc: Global,
+        room: &mut Room,
         replica: &mut Replica,
         txn: u64,
         op: &Op,
@@ -184,10 +190,39 @@ impl Participant {
         ensures shown { replica.new.shown ≡ replica.old.shown }
         ensures budget { replica.new.budget ≡ replica.old.budget }
     {
-        if self.voted.is_some() || self.last == u64::MAX || txn != self.last + 1 {
+        if !self.can_vote(txn) {
             return Err(Stranger);
         }
-        staged_vote(alloc, replica, op, short)
+        staged_vote(alloc, room, replica, op, short)
+    }
+
+    /// How this core votes on an operation that core 0 asks about, where its program lies elsewhere and no memory is left for
+    /// it: NoMemory, or Budget. The vote is cast by `vote`. Nothing is staged, and no memory is taken.
+    pub fn ballot_without_memory(
+        &self,
+        room: &mut Room,
+        replica: &Replica,
+        txn: u64,
+        load: Load,
+        program: &[Insn],
+    ) -> Result<Vote, Stranger>
+        requires { StagedByVote self.now.voted replica.now.staged }
+        ensures fits { OnOk result ((self.now.voted ≡ None) × (txn ≡ self.now.last + 1)) }
+        ensures casts { (short : Bool) → IfOk result (Casts short replica.now.shown replica.now.budget (load_op load program.now)) }
+        ensures staged { IfOk result (λ vote. replica.now.staged ≡ staged_by vote (load_op load program.now)) }
+        ensures stranger { OnErr result (Fits replica.now.shown replica.now.budget (place_of self.now replica.now.staged) (Prepare txn (load_op load program.now)) → ⊥) }
+    {
+        if !self.can_vote(txn) {
+            return Err(Stranger);
+        }
+        loaded_vote(room, replica, load, program)
+    }
+
+    /// Whether it can vote on an operation with this number.
+    fn can_vote(&self, txn: u64) -> bool
+        ensures { IsTrue result ↔ (self.now.voted ≡ None) × (txn ≡ self.now.last + 1) }
+    {
+        self.voted.is_none() && self.last < u64::MAX && txn == self.last + 1
     }
 
     /// Casts the vote on an operation.
@@ -244,8 +279,13 @@ impl Participant {
 }
 
 // The vote on an operation, which stays staged where it is Yes. A rule that refuses it makes it a stranger.
-#[tactic(auto, using(filter_table::proofs::Tables::over_budget))]
-fn staged_vote(alloc: Global, replica: &mut Replica, op: &Op, short: bool) -> Result<Vote, Stranger>
+fn staged_vote(
+    alloc: Global,
+    room: &mut Room,
+    replica: &mut Replica,
+    op: &Op,
+    short: bool,
+) -> Result<Vote, Stranger>
     requires { replica.old.staged ≡ None }
     ensures casts { IfOk result (Casts short replica.old.shown replica.old.budget op.now) }
     ensures staged { IfOk result (λ vote. replica.new.staged ≡ staged_by vote op.now) }
@@ -255,20 +295,47 @@ fn staged_vote(alloc: Global, replica: &mut Replica, op: &Op, short: bool) -> Re
     ensures budget { replica.new.budget ≡ replica.old.budget }
 {
     if short {
-        match replica.check(alloc, op) {
-            Ok(()) => Ok(Vote::NoMemory),
-            Err(StageFault::Rule(_)) => Err(Stranger),
-            Err(StageFault::Budget) => Ok(Vote::Budget),
-            Err(StageFault::NoMemory) => Ok(Vote::NoMemory),
-            Err(StageFault::AlreadyStaged) => Err(Stranger),
-        }
-    } else {
-        match replica.stage(alloc, op) {
-            Ok(()) => Ok(Vote::Yes),
-            Err(StageFault::Rule(_)) => Err(Stranger),
-            Err(StageFault::Budget) => Ok(Vote::Budget),
-            Err(StageFault::NoMemory) => Ok(Vote::NoMemory),
-            Err(StageFault::AlreadyStaged) => Err(Stranger),
-        }
+        return unstaged_vote(room, replica, op);
+    }
+    match replica.stage(alloc, op) {
+        Ok(()) => Ok(Vote::Yes),
+        Err(_) => unstaged_vote(room, replica, op),
+    }
+}
+
+// The vote on an operation that isn't staged.
+#[tactic(auto, using(filter_table::proofs::Tables::over_budget))]
+fn unstaged_vote(room: &mut Room, replica: &Replica, op: &Op) -> Result<Vote, Stranger>
+    requires { replica.now.staged ≡ None }
+    ensures casts { (short : Bool) → IfOk result (Casts short replica.now.shown replica.now.budget op.now) }
+    ensures staged { IfOk result (λ vote. replica.now.staged ≡ staged_by vote op.now) }
+    ensures refused { OnErr result ((fault : GhostFault) × Allowed replica.now.shown replica.now.budget op.now (Some (Rule fault))) }
+{
+    match replica.check(room, op) {
+        Ok(()) => Ok(Vote::NoMemory),
+        Err(StageFault::Rule(_)) => Err(Stranger),
+        Err(StageFault::Budget) => Ok(Vote::Budget),
+        Err(StageFault::NoMemory | StageFault::AlreadyStaged) => unreachable!(),
+    }
+}
+
+// The same where the program lies elsewhere.
+#[tactic(auto, using(filter_table::proofs::Tables::over_budget))]
+fn loaded_vote(
+    room: &mut Room,
+    replica: &Replica,
+    load: Load,
+    program: &[Insn],
+) -> Result<Vote, Stranger>
+    requires { replica.now.staged ≡ None }
+    ensures casts { (short : Bool) → IfOk result (Casts short replica.now.shown replica.now.budget (load_op load program.now)) }
+    ensures staged { IfOk result (λ vote. replica.now.staged ≡ staged_by vote (load_op load program.now)) }
+    ensures refused { OnErr result ((fault : GhostFault) × Allowed replica.now.shown replica.now.budget (load_op load program.now) (Some (Rule fault))) }
+{
+    match replica.check_load(room, load, program) {
+        Ok(()) => Ok(Vote::NoMemory),
+        Err(StageFault::Rule(_)) => Err(Stranger),
+        Err(StageFault::Budget) => Ok(Vote::Budget),
+        Err(StageFault::NoMemory | StageFault::AlreadyStaged) => unreachable!(),
     }
 }

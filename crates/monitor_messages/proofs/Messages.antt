@@ -1,6 +1,6 @@
 -- The two laws: what is read is spelled so, and what is spelled so is read.
 use Rattle.std.proofs.Common.{◌≡◌, ℕ, ◌^◌, ◌<◌, List, [], ◌∷◌, ◌++◌, Option, Some, Result, Ok, Err, refl, sym, ap, subst, ◌∙◌}
-use Rattle.std.specs.Prelude.{IfOk, MatchResult}
+use Rattle.std.specs.Prelude.{IfOk, OnErr, MatchResult}
 use Rattle.std.specs.Int.{w64, to_le_bytes}
 use Rattle.std.proofs.lemmas.Option.{same_Some}
 use Rattle.monitor_messages.specs.declared.fault.DecodeFault.{DecodeFault}
@@ -133,9 +133,9 @@ message_again bytes stamp m c = ap message_in c.spelled ∙ body_again stamp m c
 pub coded_once : (bytes : List ℕ) (stamp stamp' : ℕ) (m m' : Message) → Coded bytes stamp m → Coded bytes stamp' m' → ◌≡◌ {A = ℕ × Message} (stamp, m) (stamp', m')
 coded_once bytes stamp stamp' m m' c c' = same_Some (stamp, m) (stamp', m') (sym (message_again bytes stamp m c) ∙ message_again bytes stamp' m' c')
 
-pub is_found : (asks : Type 0) (bytes : List ℕ) (r : Result (ℕ × Message) DecodeFault) → IsBytes bytes → Gives asks (λ found. found) r (message_in bytes) → IfOk r (λ found. Coded bytes found.0 found.1)
-is_found asks bytes (Ok x) fits g = message_takes bytes x.0 x.1 fits g
-is_found asks bytes (Err e) fits g = tt
+pub is_found : {X : Type 0} (asks : Type 0) (view : X → ℕ × Message) (bytes : List ℕ) (r : Result X DecodeFault) → IsBytes bytes → Gives asks view r (message_in bytes) → IfOk r (λ found. Coded bytes (view found).0 (view found).1)
+is_found asks view bytes (Ok x) fits g = message_takes bytes (view x).0 (view x).1 fits g
+is_found asks view bytes (Err e) fits g = tt
 
 pub is_only : (asks : Type 0) (bytes : List ℕ) (r : Result (ℕ × Message) DecodeFault) → Gives asks (λ found. found) r (message_in bytes)
     → (stamp : ℕ) (m : Message) → Coded bytes stamp m → MatchResult r (λ found. found ≡ (stamp, m)) (λ e. e ≡ faults.NoMemory)
@@ -148,3 +148,9 @@ pub is_asked : (asks : Type 0) (bytes : List ℕ) (r : Result (ℕ × Message) D
 is_asked asks bytes (Ok x) g is = absurd cc
 is_asked asks bytes (Err faults.NoMemory) g is = g
 is_asked asks bytes (Err faults.BadMessage) g is = absurd cc
+
+-- without memory to run out, bytes that are refused are no message's
+pub is_none : {X : Type 0} (view : X → ℕ × Message) (bytes : List ℕ) (r : Result X DecodeFault) → Gives ⊥ view r (message_in bytes) → OnErr r ((stamp : ℕ) (m : Message) → Coded bytes stamp m → ⊥)
+is_none view bytes (Ok x) g = tt
+is_none view bytes (Err faults.NoMemory) g = absurd g
+is_none view bytes (Err faults.BadMessage) g = λ stamp m c. let e = sym g ∙ message_again bytes stamp m c in cc

@@ -1,7 +1,11 @@
 -- The messages that carry a program, which takes memory, and the bytes that begin as theirs do.
 use Rattle.std.specs.Prelude.{◌≡◌, ◌⊎◌, ℕ, Option, None, Some, List, slice_get}
 use Rattle.bpf_insn.specs.declared.insn.Insn.{Insn}
+use Rattle.filter_table.specs.declared.loading.Load.{Load}
+use Rattle.filter_table.specs.Loading.{load_op}
 use Rattle.filter_table.specs.Tables.{program_of}
+use Rattle.monitor_messages.specs.declared.loaded.Carrier.{Carrier}
+use Rattle.monitor_messages.specs.declared.loaded.Carrier.TheVariants as carrier
 use Rattle.monitor_messages.specs.declared.message.Message.{Message}
 use Rattle.monitor_messages.specs.declared.message.Message.TheVariants as message
 
@@ -26,3 +30,8 @@ CarriesProgram bytes = ((slice_get bytes 0 ≡ Some 1) × LoadsAt 17 bytes) ⊎ 
 -- these bytes come after the kind and the stamp of such a message
 abbrev pub CarriesFrom : ℕ → List ℕ → Type 0
 CarriesFrom kind bytes = ((kind ≡ 1) × LoadsAt 8 bytes) ⊎ ((kind ≡ 6) × LoadsAt 0 bytes)
+
+-- the message with this program
+abbrev pub loaded_message : Carrier → Load → List Insn → Message
+loaded_message (carrier.Prepare txn) load program = message.Prepare txn (load_op load program)
+loaded_message carrier.Submit load program = message.Submit (load_op load program)

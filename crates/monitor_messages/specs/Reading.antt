@@ -95,10 +95,14 @@ insns_at (suc n) bytes = do
   others ← insns_at n insn.1
   Some (insn.0 ∷ others.0, others.1)
 
+-- so many, and nothing behind them
+abbrev pub insns_in : ℕ → List ℕ → Option (List Insn)
+insns_in count bytes = insns_at count bytes >>= λ code. ended code.1 code.0
+
 unfoldable pub program_in : List ℕ → Option (List Insn)
 program_in bytes = do
   count ← u16_at bytes
-  if leb count.0 MAX_INSNS then (insns_at count.0 count.1 >>= λ code. ended code.1 code.0) else None
+  if leb count.0 MAX_INSNS then insns_in count.0 count.1 else None
 
 -- Operations
 

@@ -34,12 +34,16 @@
 #![tactic(auto)]
 
 mod fault;
+mod loaded;
 mod message;
 mod reading;
+mod short;
 mod writing;
 
 pub use fault::DecodeFault;
-pub use filter_table::{Decision, Veto, Vote};
+pub use filter_table::{Decision, Load, Veto, Vote};
+pub use loaded::{Carrier, Loaded};
 pub use message::Message;
-pub use reading::decode;
+pub use reading::{decode, decode_into};
+pub use short::{ack_bytes, vote_bytes};
 pub use writing::encode;

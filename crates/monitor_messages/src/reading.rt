@@ -1,19 +1,31 @@
 //! Messages read from bytes.
 
-ghost use Rattle.std.specs.Prelude.{◌≡◌, ℕ, ⊤, IfOk, MatchResult};
+ghost use Rattle.std.specs.Prelude.{◌≡◌, ◌≤◌, ℕ, ⊤, IfOk, IfErr, OnErr, MatchResult, length, take};
+ghost use Rattle.bpf_insn.specs.declared.insn.TheConstants.{MAX_INSNS};
+ghost use Rattle.monitor_messages.specs.declared.loaded.Carrier.TheVariants as carrier;
 ghost use Rattle.monitor_messages.specs.declared.message.Message.{Message as GhostMessage};
-ghost use Rattle.monitor_messages.specs.declared.fault.DecodeFault.TheVariants.{NoMemory};
+ghost use Rattle.monitor_messages.specs.declared.fault.DecodeFault.TheVariants.{BadMessage, NoMemory};
+ghost use Rattle.filter_table.specs.Loading.{load_op};
 ghost use Rattle.monitor_messages.specs.Coding.{Coded};
-ghost use Rattle.monitor_messages.specs.Carrying.{IsLoading, LoadsAt, CarriesFrom, CarriesProgram};
+ghost use Rattle.monitor_messages.specs.Carrying.{IsLoading, LoadsAt, CarriesFrom, CarriesProgram, loaded_message};
 ghost use Rattle.monitor_messages.specs.Reading as spec;
 ghost use Rattle.monitor_messages.specs.Reading.{Gives};
 
 use crate::fault::DecodeFault;
+use crate::loaded::{Carrier, Loaded};
 use crate::message::Message;
-use bpf_insn::Insn;
+use bpf_insn::{Insn, MAX_INSNS};
 use endpoint_caps::Rights;
-use filter_table::{Decision, Made, Op, OpFault, Program, Veto, Vote};
+use filter_table::{Decision, Load, Made, Op, OpFault, Program, Veto, Vote};
 use std::alloc::Global;
+
+/// What stands where no instruction has been read yet.
+const NO_INSN: Insn = Insn {
+    code: 0,
+    jt: 0,
+    jf: 0,
+    k: 0,
+};
 
 /// The stamp and the message whose bytes these are, all of the bytes. Memory is taken only for the program of an operation.
 pub fn decode(alloc: Global, bytes: &[u8]) -> Result<(u64, Message), DecodeFault>
@@ -22,6 +34,45 @@ pub fn decode(alloc: Global, bytes: &[u8]) -> Result<(u64, Message), DecodeFault
     ensures only { (stamp : ℕ) (message : GhostMessage) → Coded bytes.now stamp message → MatchResult result (λ found. found ≡ (stamp, message)) (λ fault. fault ≡ NoMemory) }
 {
     message_in(alloc, bytes)
+}
+
+/// The message whose bytes these are, all of the bytes, where it carries a program: `decode` without memory. The program goes to
+/// the front of the room.
+pub fn decode_into(room: &mut [Insn], bytes: &[u8]) -> Result<Loaded, DecodeFault>
+    requires room { length room.old ≡ MAX_INSNS }
+    requires carries { CarriesProgram bytes.now }
+    ensures found { IfOk result (λ found. Coded bytes.now found.stamp (loaded_message found.carrier found.load (take found.count room.new))) }
+    ensures count { IfOk result (λ found. found.count ≤ length room.new) }
+    ensures no_message { OnErr result ((stamp : ℕ) (message : GhostMessage) → Coded bytes.now stamp message → ⊥) }
+    ensures fault { IfErr result (λ fault. fault ≡ BadMessage) }
+    ensures room { length room.new ≡ length room.old }
+{
+    carried_into(room, bytes)
+}
+
+#[tactic(auto, unfolding(crate::specs::Reading::message_in, crate::specs::Reading::body_of))]
+fn carried_into(room: &mut [Insn], bytes: &[u8]) -> Result<Loaded, DecodeFault>
+    requires room { length room.old ≡ MAX_INSNS }
+    requires carries { CarriesProgram bytes.now }
+    ensures found { Gives ⊥ (λ found. (found.stamp, loaded_message found.carrier found.load (take found.count room.new))) result (spec.message_in bytes.now) }
+    ensures count { IfOk result (λ found. found.count ≤ MAX_INSNS) }
+    ensures room { length room.new ≡ length room.old }
+{
+    let (kind, rest) = u8_at(bytes)?;
+    let (stamp, rest) = u64_at(rest)?;
+    let (carrier, load, count) = if kind == 1 {
+        let (txn, load, count) = prepare_into(room, rest)?;
+        (Carrier::Prepare { txn }, load, count)
+    } else {
+        let (load, count) = load_into(room, rest)?;
+        (Carrier::Submit, load, count)
+    };
+    Ok(Loaded {
+        stamp,
+        carrier,
+        load,
+        count,
+    })
 }
 
 #[tactic(auto, unfolding(crate::specs::Reading::message_in))]
@@ -72,6 +123,19 @@ fn prepare_in(alloc: Global, bytes: &[u8]) -> Result<Message, DecodeFault>
     let (txn, rest) = u64_at(bytes)?;
     let op = op_in(alloc, rest)?;
     Ok(Message::Prepare { txn, op })
+}
+
+#[tactic(auto, unfolding(crate::specs::Reading::prepare_in))]
+fn prepare_into(room: &mut [Insn], bytes: &[u8]) -> Result<(u64, Load, usize), DecodeFault>
+    requires room { length room.old ≡ MAX_INSNS }
+    requires loads { LoadsAt 8 bytes.now }
+    ensures found { Gives ⊥ (λ found. loaded_message (carrier.Prepare found.0) found.1 (take found.2 room.new)) result (spec.prepare_in bytes.now) }
+    ensures count { IfOk result (λ found. found.2 ≤ MAX_INSNS) }
+    ensures room { length room.new ≡ length room.old }
+{
+    let (txn, rest) = u64_at(bytes)?;
+    let (load, count) = load_into(room, rest)?;
+    Ok((txn, load, count))
 }
 
 #[tactic(auto, unfolding(crate::specs::Reading::vote_in, crate::specs::Reading::last_u8))]
@@ -141,6 +205,43 @@ fn op_of(alloc: Global, kind: u8, domain: u16, bytes: &[u8]) -> Result<Op, Decod
     }
 }
 
+// An operation that brings a program.
+#[tactic(auto, unfolding(crate::specs::Reading::op_in))]
+fn load_into(room: &mut [Insn], bytes: &[u8]) -> Result<(Load, usize), DecodeFault>
+    requires room { length room.old ≡ MAX_INSNS }
+    requires loads { LoadsAt 0 bytes.now }
+    ensures found { Gives ⊥ (λ found. load_op found.0 (take found.1 room.new)) result (spec.op_in bytes.now) }
+    ensures count { IfOk result (λ found. found.1 ≤ MAX_INSNS) }
+    ensures room { length room.new ≡ length room.old }
+{
+    let (kind, rest) = u8_at(bytes)?;
+    let (domain, rest) = u16_at(rest)?;
+    load_of(room, kind, domain, rest)
+}
+
+#[tactic(auto, unfolding(crate::specs::Reading::op_of, crate::specs::Reading::loaded_in))]
+fn load_of(
+    room: &mut [Insn],
+    kind: u8,
+    domain: u16,
+    bytes: &[u8],
+) -> Result<(Load, usize), DecodeFault>
+    requires room { length room.old ≡ MAX_INSNS }
+    requires loading { IsLoading kind }
+    ensures found { Gives ⊥ (λ found. load_op found.0 (take found.1 room.new)) result (spec.op_of kind domain bytes.now) }
+    ensures count { IfOk result (λ found. found.1 ≤ MAX_INSNS) }
+    ensures room { length room.new ≡ length room.old }
+{
+    let (id, rest) = u32_at(bytes)?;
+    let count = program_into(room, rest)?;
+    let load = if kind == 5 {
+        Load::Install { domain, cap: id }
+    } else {
+        Load::Replace { domain, filter: id }
+    };
+    Ok((load, count))
+}
+
 #[tactic(auto, unfolding(crate::specs::Reading::mint_in))]
 fn mint_in(domain: u16, bytes: &[u8]) -> Result<Op, DecodeFault>
     ensures { Gives ⊥ (λ op. op) result (spec.mint_in domain bytes.now) }
@@ -183,27 +284,44 @@ fn program_in(alloc: Global, bytes: &[u8]) -> Result<Program, DecodeFault>
     ensures { Gives ⊤ (λ program. program) result (spec.program_in bytes.now) }
 {
     let (count, rest) = u16_at(bytes)?;
-    if count > 4096 {
+    let count = usize::from(count);
+    if count > MAX_INSNS {
         return Err(DecodeFault::BadMessage);
     }
-    let (code, rest) = insns_at(alloc, count, rest)?;
-    if !rest.is_empty() {
-        return Err(DecodeFault::BadMessage);
-    }
+    let mut code = vec![in alloc; NO_INSN; count]?;
+    fill_insns(code.as_mut_slice(), rest)?;
     Ok(Program::from_vec(alloc, code)?)
 }
 
-fn insns_at(alloc: Global, count: u16, bytes: &[u8]) -> Result<(Vec<Insn>, &[u8]), DecodeFault>
-    ensures { Gives ⊤ (λ x. (x.0.items, x.1.now)) result (spec.insns_at count bytes.now) }
+// A program, which goes to the front of the room.
+#[tactic(auto, unfolding(crate::specs::Reading::program_in))]
+fn program_into(room: &mut [Insn], bytes: &[u8]) -> Result<usize, DecodeFault>
+    requires { length room.old ≡ MAX_INSNS }
+    ensures found { Gives ⊥ (λ count. take count room.new) result (spec.program_in bytes.now) }
+    ensures count { IfOk result (λ count. count ≤ MAX_INSNS) }
+    ensures room { length room.new ≡ length room.old }
 {
-    let mut code = Vec::new(alloc);
+    let (count, rest) = u16_at(bytes)?;
+    let count = usize::from(count);
+    if count > room.len() {
+        return Err(DecodeFault::BadMessage);
+    }
+    fill_insns(&mut room[..count], rest)?;
+    Ok(count)
+}
+
+// As many instructions as there is room for, with nothing after them.
+fn fill_insns(code: &mut [Insn], bytes: &[u8]) -> Result<(), DecodeFault>
+    ensures found { Gives ⊥ (λ _. code.new) result (spec.insns_in (length code.old) bytes.now) }
+    ensures room { length code.new ≡ length code.old }
+{
     let mut rest = bytes;
-    for _ in 0..count {
+    for place in 0..code.len() {
         let (insn, after) = insn_at(rest)?;
-        code.push(insn)?;
+        code[place] = insn;
         rest = after;
     }
-    Ok((code, rest))
+    ended(rest)
 }
 
 #[tactic(auto, unfolding(crate::specs::Reading::insn_at))]

@@ -4,12 +4,13 @@ ghost use Rattle.std.specs.Prelude.{◌≡◌, ◌<◌, ◌≤◌, ◌++◌, ◌
 ghost use Rattle.std.specs.Int.{w16, w32, w64, to_le_bytes};
 ghost use Rattle.bpf_insn.specs.Table.{InRange, bytes_of};
 ghost use Rattle.filter_table.specs.Tables.{HasShortProgram};
-ghost use Rattle.monitor_messages.specs.Coding.{fault_number, fault_bytes, made_bytes, veto_bytes, decision_bytes, rights_number, vote_number, program_bytes, op_bytes, coded, Coded, IsShort, IsNumbered, IsOp, IsMade, IsFault, IsVeto, IsDecision, IsMessage};
+ghost use Rattle.monitor_messages.specs.Coding.{fault_number, fault_bytes, made_bytes, veto_bytes, decision_bytes, rights_number, program_bytes, op_bytes, coded, Coded, IsShort, IsNumbered, IsOp, IsMade, IsFault, IsVeto, IsDecision, IsMessage};
 
 use crate::message::Message;
+use crate::short::number_of_vote;
 use bpf_insn::Insn;
 use endpoint_caps::Rights;
-use filter_table::{Decision, Made, Op, OpFault, Program, Veto, Vote};
+use filter_table::{Decision, Made, Op, OpFault, Program, Veto};
 use std::alloc::{AllocError, Global};
 
 /// The bytes of a message that is sent under this stamp.
@@ -68,16 +69,6 @@ fn put_numbered(out: &mut Vec<u8>, kind: u8, stamp: u64, txn: u64) -> Result<(),
     out.push(kind)?;
     out.extend_from_slice(&stamp.to_le_bytes())?;
     out.extend_from_slice(&txn.to_le_bytes())
-}
-
-fn number_of_vote(vote: Vote) -> u8
-    ensures { result ≡ vote_number vote }
-{
-    match vote {
-        Vote::Yes => 0,
-        Vote::Budget => 1,
-        Vote::NoMemory => 2,
-    }
 }
 
 fn number_of_rights(rights: Rights) -> u8

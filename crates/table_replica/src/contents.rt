@@ -6,15 +6,16 @@ ghost use Rattle.endpoint_caps.specs.Capabilities.{first, cap_at, mint_tests};
 ghost use Rattle.filter_table.specs.Tables.{TableState, Accepting, Allowed, after, made, tests, as_rules, rule_of, instructions, instructions_of, replaced, program_of, endpoint_of, Verifies, owner_tests, install_tests, replace_tests, cap_of, filter_at};
 ghost use Rattle.filter_verify.specs.Rules.{Sound, Refuses};
 ghost use Rattle.filter_verify.specs.Numbers.{number_of, place_of};
-ghost use Rattle.filter_table.specs.Staging.{CannotStage, VerifierAsks};
+ghost use Rattle.filter_table.specs.Staging.{CannotStage};
 ghost use Rattle.table_replica.specs.Replicas.{RefusesAs};
+ghost use Rattle.filter_table.specs.Loading.{load_op};
 ghost use Rattle.filter_table.specs.Soundness.{IsSoundTable};
 
 use crate::boxed::BoxedFilters;
-use crate::{Filter, Kept, Made, Op, OpFault, StageFault};
+use crate::{Filter, Kept, Load, Made, Op, OpFault, StageFault};
 use bpf_insn::Insn;
 use endpoint_caps::{CapFault, Caps, Right, Rights};
-use filter_verify::{Refusal, Verified, verify};
+use filter_verify::{Refusal, Room, Verified, verify};
 use std::alloc::{AllocError, Global};
 use std::marker::Model;
 
@@ -161,6 +162,35 @@ impl Contents {
         }
     }
 
+    /// The same of an operation whose program lies elsewhere.
+    #[tactic(auto, using(filter_table::proofs::Changes::cannot_first, filter_table::proofs::Changes::never_memory))]
+    fn tested_load(&self, budget: u32, load: Load, program: &[Insn]) -> Result<(), StageFault>
+        requires { instructions_of self.now.filters ≤ budget }
+        ensures ok { OnOk result (first (tests self.now budget (load_op load program.now)) ≡ None) }
+        ensures err { IfErr result (CannotStage self.now budget (load_op load program.now) None) }
+        ensures memory { result ≡ Err StageFault.NoMemory → ⊥ }
+    {
+        match self.refusal_of_load(budget, load, program) {
+            Ok(()) => Ok(()),
+            Err(fault) => Err(fault),
+        }
+    }
+
+    fn refusal_of_load(&self, budget: u32, load: Load, program: &[Insn]) -> Result<(), StageFault>
+        requires { instructions_of self.now.filters ≤ budget }
+        ensures { result_err result ≡ first (tests self.now budget (load_op load program.now)) }
+    {
+        if self.version == u64::MAX {
+            return Err(StageFault::Rule(OpFault::VersionsSpent));
+        }
+        match load {
+            Load::Install { domain, cap } => self.refusal_of_install(budget, domain, cap, program),
+            Load::Replace { domain, filter } => {
+                self.refusal_of_replace(budget, domain, filter, program)
+            }
+        }
+    }
+
     fn refusal_of_install(
         &self,
         budget: u32,
@@ -236,17 +266,34 @@ impl Contents {
         }
     }
 
-    /// What `after` would answer.
+    /// What `after` would answer, memory aside. Takes no memory.
     #[tactic(auto, using(filter_table::proofs::Changes::allowed_if, crate::proofs::Refusals::cannot_program))]
-    pub(crate) fn check(&self, alloc: Global, budget: u32, op: &Op) -> Result<(), StageFault>
+    pub(crate) fn check(&self, room: &mut Room, budget: u32, op: &Op) -> Result<(), StageFault>
         requires { instructions_of self.now.filters ≤ budget }
         ensures ok { OnOk result (Allowed self.now budget op.now None) }
         ensures err { IfErr result (CannotStage self.now budget op.now None) }
-        ensures memory { result ≡ Err StageFault.NoMemory → VerifierAsks (program_of op.now) }
+        ensures memory { result ≡ Err StageFault.NoMemory → ⊥ }
     {
         self.tested(budget, op)?;
-        verified(alloc, op)?;
-        Ok(())
+        verified_in(room, op)
+    }
+
+    /// The same of an operation whose program lies elsewhere.
+    #[tactic(auto, using(filter_table::proofs::Changes::allowed_if, crate::proofs::Refusals::cannot_program))]
+    pub(crate) fn check_load(
+        &self,
+        room: &mut Room,
+        budget: u32,
+        load: Load,
+        program: &[Insn],
+    ) -> Result<(), StageFault>
+        requires { instructions_of self.now.filters ≤ budget }
+        ensures ok { OnOk result (Allowed self.now budget (load_op load program.now) None) }
+        ensures err { IfErr result (CannotStage self.now budget (load_op load program.now) None) }
+        ensures memory { result ≡ Err StageFault.NoMemory → ⊥ }
+    {
+        self.tested_load(budget, load, program)?;
+        accepted_in(room, program)
     }
 
     /// What an operation makes.
@@ -477,6 +524,35 @@ fn accepted(alloc: Global, code: &[Insn]) -> Result<Verified, StageFault>
         Ok(program) => Ok(program),
         Err(Refusal::NoMemory) => Err(StageFault::NoMemory),
         Err(refusal) => Err(StageFault::Rule(bad_program(code, &refusal))),
+    }
+}
+
+/// Whether the program that an operation brings is accepted, memory aside. Takes no memory.
+fn verified_in(room: &mut Room, op: &Op) -> Result<(), StageFault>
+    ensures ok { OnOk result (Verifies (program_of op.now) None) }
+    ensures err { IfErr result (RefusesAs (program_of op.now)) }
+    ensures memory { result ≡ Err StageFault.NoMemory → ⊥ }
+{
+    match op {
+        Op::Install { program, .. } | Op::Replace { program, .. } => {
+            accepted_in(room, program.as_slice())
+        }
+        _ => Ok(()),
+    }
+}
+
+/// Whether a program is accepted, memory aside. Takes no memory.
+fn accepted_in(room: &mut Room, code: &[Insn]) -> Result<(), StageFault>
+    ensures ok { OnOk result (Verifies (Some code.now) None) }
+    ensures err { IfErr result (RefusesAs (Some code.now)) }
+    ensures memory { result ≡ Err StageFault.NoMemory → ⊥ }
+{
+    match room.verify(code) {
+        Ok(()) => Ok(()),
+        Err(breach) => Err(StageFault::Rule(OpFault::BadProgram {
+            rule: breach.rule,
+            pc: breach.pc as u16,
+        })),
     }
 }
 

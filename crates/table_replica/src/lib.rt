@@ -14,8 +14,10 @@ mod replica;
 mod settling;
 mod shifts;
 
+pub use bpf_insn::Insn;
 use contents::Contents;
-pub use filter_table::{Kept, Made, Op, OpFault, Program, StageFault};
+pub use filter_table::{Kept, Load, Made, Op, OpFault, Program, StageFault};
+pub use filter_verify::Room;
 pub use filters::{Filter, FilterIter, Scratch};
 pub use replica::Replica;
 

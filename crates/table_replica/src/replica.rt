@@ -1,12 +1,15 @@
 //! The replica of a core: the table that it shows, and the one that is staged beside it.
 ghost use Rattle.std.specs.Prelude.{◌≡◌, ◌≤◌, [], None, Some, IsSome, is_some, IsOk, IfOk, IfErr, OnOk, OnErr};
-ghost use Rattle.filter_table.specs.Tables.{Accepting, Allowed, after, instructions, instructions_of, made, program_of};
+ghost use Rattle.filter_table.specs.Tables.{Accepting, Allowed, after, instructions, instructions_of, made};
 ghost use Rattle.table_replica.specs.Lent.{AreDifferent, held_filters};
-ghost use Rattle.filter_table.specs.Staging.{CannotStage, VerifierAsks};
+ghost use Rattle.filter_table.specs.Loading.{load_op};
+ghost use Rattle.filter_table.specs.Staging.{CannotStage};
 ghost use Rattle.filter_table.specs.Soundness.{IsSoundTable, IdsGrow};
 ghost use Rattle.filter_table.specs.declared.operation.Op.{Op as GhostOp};
 
-use crate::{Contents, FilterIter, Kept, Made, NothingStaged, Op, Scratch, StageFault};
+use crate::{
+    Contents, FilterIter, Insn, Kept, Load, Made, NothingStaged, Op, Room, Scratch, StageFault,
+};
 use endpoint_caps::Caps;
 use std::alloc::{AllocError, Global};
 use std::marker::Model;
@@ -174,20 +177,39 @@ impl Replica {
             .accepting_with(scratch, bytes, original)
     }
 
-    /// What `stage` would answer, memory aside. Nothing changes. Memory is taken only to verify a program whose size,
-    /// instructions and end are right.
-    pub fn check(&self, alloc: Global, op: &Op) -> Result<(), StageFault>
+    /// What `stage` would answer, memory aside. Nothing changes. A program is verified in the room: no memory is taken.
+    pub fn check(&self, room: &mut Room, op: &Op) -> Result<(), StageFault>
         ensures ok { OnOk result (Allowed self.now.shown self.now.budget op.now None) }
         ensures nothing_staged { OnOk result (self.now.staged ≡ None) }
         ensures err { IfErr result (CannotStage self.now.shown self.now.budget op.now self.now.staged) }
-        ensures memory { result ≡ Err StageFault.NoMemory → VerifierAsks (program_of op.now) }
+        ensures memory { result ≡ Err StageFault.NoMemory → ⊥ }
         ensures fits { instructions_of self.now.shown.filters ≤ self.now.budget }
     {
         let _ = &self.shown;
         if self.staged.is_some() {
             return Err(StageFault::AlreadyStaged);
         }
-        self.shown.check(alloc, self.budget, op)
+        self.shown.check(room, self.budget, op)
+    }
+
+    /// The same of an operation whose program lies elsewhere.
+    pub fn check_load(
+        &self,
+        room: &mut Room,
+        load: Load,
+        program: &[Insn],
+    ) -> Result<(), StageFault>
+        ensures ok { OnOk result (Allowed self.now.shown self.now.budget (load_op load program.now) None) }
+        ensures nothing_staged { OnOk result (self.now.staged ≡ None) }
+        ensures err { IfErr result (CannotStage self.now.shown self.now.budget (load_op load program.now) self.now.staged) }
+        ensures memory { result ≡ Err StageFault.NoMemory → ⊥ }
+        ensures fits { instructions_of self.now.shown.filters ≤ self.now.budget }
+    {
+        let _ = &self.shown;
+        if self.staged.is_some() {
+            return Err(StageFault::AlreadyStaged);
+        }
+        self.shown.check_load(room, self.budget, load, program)
     }
 
     /// Makes the table after the operation, beside the one that is shown, so that `commit` and `abort` take no memory. Memory is

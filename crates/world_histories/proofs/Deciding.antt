@@ -5,7 +5,6 @@ use mathlib.Core.List.{IsPrefix}
 use Rattle.filter_table.specs.declared.operation.Op.{Op}
 use Rattle.filter_table.specs.declared.operation.Made.{Made}
 use Rattle.filter_table.specs.Tables.{TableState, after, made, table, instructions, Allowed}
-use Rattle.filter_table.specs.Staging.{AsksForMemory}
 use Rattle.filter_table.proofs.Tables.{table_front}
 use Rattle.monitor_messages.specs.declared.message.Message.{Message}
 use Rattle.monitor_messages.specs.declared.message.Message.TheVariants as message
@@ -290,7 +289,7 @@ vetoed budget budgets core0 others end ends before event answer x txn op core wh
       voted = voted_in_others budget budgets core0 others end ends before event answer x txn h.entry h.against within h.voted;
       budget = h.budget;
       is_budget = known.budgets_are h.entry p.0 p.1 ∙ ap (λ (n : ℕ). Some n) p.2;
-      reason = subst (λ (s : TableState). ((h.against ≡ vote.NoMemory) × (why ≡ veto.NoMemory) × AsksForMemory s h.budget op) ⊎ ((h.against ≡ vote.Budget) × (why ≡ veto.Budget) × (h.budget < instructions (after s op)))) x.newest_is h.reason;
+      reason = subst (λ (s : TableState). ((h.against ≡ vote.NoMemory) × (why ≡ veto.NoMemory) × Allowed s h.budget op None) ⊎ ((h.against ≡ vote.Budget) × (why ≡ veto.Budget) × (h.budget < instructions (after s op)))) x.newest_is h.reason;
     }
 
 votes_decide : (budget : ℕ) (budgets : List ℕ) (core0 : List Stamped) (others : List (List Stamped)) (end : Core0State) (ends : List OtherState) (before : List Stamped) (event : Event) (answer : Answer) (x : Context budget budgets core0 others end ends before event answer) (txn : ℕ) (op : Op) (d : Decision)

@@ -3,7 +3,6 @@ use Rattle.std.proofs.Common.{◌≡◌, ◌≢◌, ◌+◌, ◌<◌, ◌⊎◌,
 use Rattle.std.specs.Prelude.{option_map}
 use Rattle.filter_table.specs.declared.operation.Op.{Op}
 use Rattle.filter_table.specs.Tables.{TableState, table, after, instructions, Allowed}
-use Rattle.filter_table.specs.Staging.{AsksForMemory}
 use Rattle.monitor_messages.specs.declared.message.Message.{Message}
 use Rattle.monitor_messages.specs.declared.message.Message.TheVariants as message
 use Rattle.filter_table.specs.declared.decision.Vote.{Vote}
@@ -123,7 +122,7 @@ cast_at log last votes op i q v at (acked acks ph at' is) = absurd cc
 cast_at log last votes op i q v at (finished acks ph at' is) = absurd cc
 
 veto_holds : (short : Bool) (s : TableState) (b : ℕ) (op : Op) (v : Vote) → v ≢ vote.Yes → Casts short s b op v
-    → ((v ≡ vote.NoMemory) × (veto_by v ≡ veto.NoMemory) × AsksForMemory s b op) ⊎ ((v ≡ vote.Budget) × (veto_by v ≡ veto.Budget) × (b < instructions (after s op)))
+    → ((v ≡ vote.NoMemory) × (veto_by v ≡ veto.NoMemory) × Allowed s b op None) ⊎ ((v ≡ vote.Budget) × (veto_by v ≡ veto.Budget) × (b < instructions (after s op)))
 veto_holds short s b op vote.Yes ne c = absurd (ne refl)
 veto_holds short s b op vote.Budget ne c = inr (refl, refl, c.1)
 veto_holds short s b op vote.NoMemory ne c = inl (refl, refl, c.0)

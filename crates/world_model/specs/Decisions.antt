@@ -89,7 +89,7 @@ abbrev pub AllVoteYes : ℕ → (ℕ → Option Vote) → Type 0
 AllVoteYes count votes = (entry : ℕ) → entry < count → votes entry ≡ Some vote.Yes
 
 -- Another core's veto, by the other cores' votes and budgets and the table that all have: it is the least core that did not vote Yes,
--- and its vote gives the reason.
+-- and its vote gives the reason: memory was refused to an operation that all tests pass and the verifier accepts, or it exceeds the budget.
 pub record VetoedBy (votes : ℕ → Option Vote) (budgets : ℕ → Option ℕ) (s : TableState) (op : Op) (core : ℕ) (why : Veto) : Type 0 where
   pub entry : ℕ
   pub is_core : core ≡ suc entry
@@ -98,7 +98,7 @@ pub record VetoedBy (votes : ℕ → Option Vote) (budgets : ℕ → Option ℕ)
   pub voted : votes entry ≡ Some against
   pub budget : ℕ
   pub is_budget : budgets entry ≡ Some budget
-  pub reason : ((against ≡ vote.NoMemory) × (why ≡ veto.NoMemory) × AsksForMemory s budget op) ⊎ ((against ≡ vote.Budget) × (why ≡ veto.Budget) × (budget < instructions (after s op)))
+  pub reason : ((against ≡ vote.NoMemory) × (why ≡ veto.NoMemory) × Allowed s budget op None) ⊎ ((against ≡ vote.Budget) × (why ≡ veto.Budget) × (budget < instructions (after s op)))
 
 -- What so many other cores' votes decide, by their budgets and the table at this version of the log: all are Yes, or one is a veto.
 abbrev pub VotesDecide : ℕ → (ℕ → Option Vote) → (ℕ → Option ℕ) → List Op → ℕ → Op → Decision → Type 0

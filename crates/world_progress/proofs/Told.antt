@@ -12,7 +12,6 @@ use Rattle.filter_table.specs.declared.decision.Veto.TheVariants as veto
 use Rattle.filter_table.specs.declared.decision.Decision.TheVariants.{Committed, Refused}
 use Rattle.filter_table.specs.Tables.{TableState, table, made, instructions, Allowed}
 use Rattle.filter_table.proofs.Tables.{allowed_fits, over_budget}
-use Rattle.filter_table.proofs.Changes.{asks_allowed}
 use Rattle.monitor_messages.specs.declared.message.Message.{Message}
 use Rattle.monitor_messages.specs.declared.message.Message.TheVariants as message
 use Rattle.monitor_2pc.specs.declared.step.Say.TheVariants as say
@@ -250,7 +249,7 @@ record Ballot (short : Bool) (s : TableState) (budget : ℕ) (op : Op) : Type 0 
 ballot : (short : Bool) (s : TableState) (budget : ℕ) (op : Op) → instructions s ≤ budget → ((fault : OpFault) → Allowed s budget op (Some (Rule fault)) → ⊥) → Outcome s budget op → Ballot short s budget op
 ballot short s budget op fits none (breaks fault a) = absurd (none fault a)
 ballot short s budget op fits none (exceeds a) = record { cast = vote.Budget; casts = (a, over_budget s budget op a); had_memory = λ e. absurd cc }
-ballot true s budget op fits none (allows a) = record { cast = vote.NoMemory; casts = (asks_allowed s budget op a, allowed_fits s budget op a fits); had_memory = λ e. refl }
+ballot true s budget op fits none (allows a) = record { cast = vote.NoMemory; casts = (a, allowed_fits s budget op a fits); had_memory = λ e. refl }
 ballot false s budget op fits none (allows a) = record { cast = vote.Yes; casts = (a, allowed_fits s budget op a fits, refl); had_memory = λ e. absurd cc }
 
 -- a core that is asked is at the newest version

@@ -6,6 +6,7 @@ use Rattle.core_loop.specs.Beginning.{CannotBegin}
 use Rattle.core_loop.specs.Keeping.{replica_of}
 use Rattle.core_loop.specs.Receipts.{IsReceivable, Receives, CannotReceive}
 use Rattle.core_loop.proofs.Acting.{receives_act}
+use Rattle.core_loop.proofs.Consuming.{begun_consumes, left_all, untouched}
 use Rattle.core_loop.proofs.Order.{request_next}
 use Rattle.core_loop.proofs.events.begin_or_receive.Goals as goal
 
@@ -16,13 +17,6 @@ returns-in-Ok-Some-clause-next g c =
 pub returns-in-Err-Spent-clause-why : goal.returns-in-Err-Spent-clause-why
 returns-in-Err-Spent-clause-why g c =
     inr (inl (c.requires.no_message, subst (λ (r : Refusal). CannotBegin c.args.context.cores c.args.context.clock c.args.part.now c.args.requests.now.items (g.L.Links.view c.args.links.now) r) c.in-Err-Spent.field-0-is c.in-Err-Spent.ensures.why))
-
-pub returns-in-Ok-None-receive-clause-idle_job : goal.returns-in-Ok-None-receive-clause-idle_job
-returns-in-Ok-None-receive-clause-idle_job g c = λ may.
-    let same = rw c.in-Ok-None.field-0-is at c.in-Ok-None.ensures.same in
-    let idle = rw c.in-Ok-None-receive.field-0-is at c.in-Ok-None-receive.ensures.idle in
-    let rep : c.replica.result.now ≡ replica_of c.args.part.now = c.replica.ensures ∙ ap replica_of same.0 in
-    idle may.1 (subst (λ (r : ReplicaState). IsReceivable r.shown.version c.receive.new.intake may.1) (sym rep) may.2)
 
 pub returns-in-Err-Spent-receive-clause-why : goal.returns-in-Err-Spent-receive-clause-why
 returns-in-Err-Spent-receive-clause-why g c =
@@ -51,64 +45,71 @@ returns-in-Ok-Some-receive-clause-acts g c =
 pub returns-then-not-rx-clause-same : goal.returns-then-not-rx-clause-same
 returns-then-not-rx-clause-same g c = rw c.in-Ok-None.field-0-is at c.in-Ok-None.ensures.same
 
-pub returns-then-not-rx-clause-same_requests : goal.returns-then-not-rx-clause-same_requests
-returns-then-not-rx-clause-same_requests g c = rw c.in-Ok-None.field-0-is at c.in-Ok-None.ensures.same_requests
-
-pub returns-then-not-rx-clause-idle : goal.returns-then-not-rx-clause-idle
-returns-then-not-rx-clause-idle g c = rw c.in-Ok-None.field-0-is at c.in-Ok-None.ensures.idle
-
 pub returns-in-Ok-None-receive-clause-same : goal.returns-in-Ok-None-receive-clause-same
 returns-in-Ok-None-receive-clause-same g c = rw c.in-Ok-None.field-0-is at c.in-Ok-None.ensures.same
-
-pub returns-in-Ok-None-receive-clause-same_requests : goal.returns-in-Ok-None-receive-clause-same_requests
-returns-in-Ok-None-receive-clause-same_requests g c = rw c.in-Ok-None.field-0-is at c.in-Ok-None.ensures.same_requests
-
-pub returns-in-Ok-None-receive-clause-same_jobs : goal.returns-in-Ok-None-receive-clause-same_jobs
-returns-in-Ok-None-receive-clause-same_jobs g c = rw c.in-Ok-None-receive.field-0-is at c.in-Ok-None-receive.ensures.kept
-
-pub returns-in-Ok-None-receive-clause-seen : goal.returns-in-Ok-None-receive-clause-seen
-returns-in-Ok-None-receive-clause-seen g c = rw c.in-Ok-None-receive.field-0-is at c.in-Ok-None-receive.ensures.seen
-
-pub returns-in-Ok-None-receive-clause-idle : goal.returns-in-Ok-None-receive-clause-idle
-returns-in-Ok-None-receive-clause-idle g c = rw c.in-Ok-None.field-0-is at c.in-Ok-None.ensures.idle
 
 pub returns-in-Err-Spent-receive-clause-same : goal.returns-in-Err-Spent-receive-clause-same
 returns-in-Err-Spent-receive-clause-same g c = rw c.in-Ok-None.field-0-is at c.in-Ok-None.ensures.same
 
-pub returns-in-Err-Spent-receive-clause-same_requests : goal.returns-in-Err-Spent-receive-clause-same_requests
-returns-in-Err-Spent-receive-clause-same_requests g c = rw c.in-Ok-None.field-0-is at c.in-Ok-None.ensures.same_requests
-
-pub returns-in-Err-Spent-receive-clause-same_jobs : goal.returns-in-Err-Spent-receive-clause-same_jobs
-returns-in-Err-Spent-receive-clause-same_jobs g c = c.in-Err-Spent-receive.ensures.kept
-
-pub returns-in-Err-Spent-receive-clause-seen : goal.returns-in-Err-Spent-receive-clause-seen
-returns-in-Err-Spent-receive-clause-seen g c = c.in-Err-Spent-receive.ensures.seen
-
 pub returns-in-Err-receive-clause-same : goal.returns-in-Err-receive-clause-same
 returns-in-Err-receive-clause-same g c = rw c.in-Ok-None.field-0-is at c.in-Ok-None.ensures.same
 
-pub returns-in-Err-receive-clause-same_requests : goal.returns-in-Err-receive-clause-same_requests
-returns-in-Err-receive-clause-same_requests g c = rw c.in-Ok-None.field-0-is at c.in-Ok-None.ensures.same_requests
+pub returns-in-Ok-Some-clause-consumes : goal.returns-in-Ok-Some-clause-consumes
+returns-in-Ok-Some-clause-consumes g c =
+    let e = c.in-Ok-Some.ensures in
+    begun_consumes c.args.requests.now.items c.begin.new.requests.items c.args.intake.now c.args.rx c.in-Ok-Some.stamped (rw c.in-Ok-Some.field-0-is at e.requests) (rw c.in-Ok-Some.field-0-is at e.jobs) (rw c.in-Ok-Some.field-0-is at e.whole)
 
-pub returns-in-Err-receive-clause-same_jobs : goal.returns-in-Err-receive-clause-same_jobs
-returns-in-Err-receive-clause-same_jobs g c = c.in-Err-receive.ensures.kept
-
-pub returns-in-Err-receive-clause-seen : goal.returns-in-Err-receive-clause-seen
-returns-in-Err-receive-clause-seen g c = c.in-Err-receive.ensures.seen
-
-pub returns-then-not-rx-clause-idle_job : goal.returns-then-not-rx-clause-idle_job
-returns-then-not-rx-clause-idle_job g c = λ may. absurd (let no : c.args.rx ≡ false = c.if-not-rx.true in let yes : c.args.rx ≡ true = may.0 in cc)
-
-pub returns-in-Ok-Some-receive-clause-jobs : goal.returns-in-Ok-Some-receive-clause-jobs
-returns-in-Ok-Some-receive-clause-jobs g c = rw c.in-Ok-Some-receive.field-0-is at c.in-Ok-Some-receive.ensures.taken
-
-pub returns-in-Ok-Some-receive-clause-whole : goal.returns-in-Ok-Some-receive-clause-whole
-returns-in-Ok-Some-receive-clause-whole g c =
-    let got = rw c.in-Ok-Some-receive.field-0-is at c.in-Ok-Some-receive.ensures.receives in
-    rw got.is_event tt
-
-pub returns-in-Ok-Some-receive-clause-requests : goal.returns-in-Ok-Some-receive-clause-requests
-returns-in-Ok-Some-receive-clause-requests g c =
+pub returns-in-Ok-Some-receive-clause-consumes : goal.returns-in-Ok-Some-receive-clause-consumes
+returns-in-Ok-Some-receive-clause-consumes g c =
     let same = rw c.in-Ok-None.field-0-is at c.in-Ok-None.ensures.same_requests in
-    let got = rw c.in-Ok-Some-receive.field-0-is at c.in-Ok-Some-receive.ensures.receives in
-    rw (same, got.is_event) refl
+    let e = c.in-Ok-Some-receive.ensures in
+    let got = rw c.in-Ok-Some-receive.field-0-is at e.receives in
+    record {
+      requests = rw (same, got.is_event) refl;
+      jobs = rw c.in-Ok-Some-receive.field-0-is at e.taken;
+      front = rw c.in-Ok-Some-receive.field-0-is at e.front;
+      whole = rw got.is_event tt;
+      leave = λ no. absurd (let yes : c.args.rx ≡ true = c.if-not-rx.false in cc);
+    }
+
+pub returns-then-not-rx-clause-none : goal.returns-then-not-rx-clause-none
+returns-then-not-rx-clause-none g c = untouched c.args.requests.now c.begin.new.requests c.args.intake.now (rw c.in-Ok-None.field-0-is at c.in-Ok-None.ensures.same_requests)
+
+pub returns-in-Ok-None-receive-clause-none : goal.returns-in-Ok-None-receive-clause-none
+returns-in-Ok-None-receive-clause-none g c =
+    let e = c.in-Ok-None-receive.ensures in
+    left_all c.args.requests.now c.begin.new.requests c.args.intake.now c.receive.new.intake (rw c.in-Ok-None.field-0-is at c.in-Ok-None.ensures.same_requests) (rw c.in-Ok-None-receive.field-0-is at e.kept) (rw c.in-Ok-None-receive.field-0-is at e.seen)
+
+pub returns-in-Err-Spent-receive-clause-none : goal.returns-in-Err-Spent-receive-clause-none
+returns-in-Err-Spent-receive-clause-none g c =
+    let e = c.in-Err-Spent-receive.ensures in
+    left_all c.args.requests.now c.begin.new.requests c.args.intake.now c.receive.new.intake (rw c.in-Ok-None.field-0-is at c.in-Ok-None.ensures.same_requests) e.kept e.seen
+
+pub returns-in-Err-receive-clause-none : goal.returns-in-Err-receive-clause-none
+returns-in-Err-receive-clause-none g c =
+    let e = c.in-Err-receive.ensures in
+    left_all c.args.requests.now c.begin.new.requests c.args.intake.now c.receive.new.intake (rw c.in-Ok-None.field-0-is at c.in-Ok-None.ensures.same_requests) e.kept e.seen
+
+pub returns-in-Err-Spent-clause-none : goal.returns-in-Err-Spent-clause-none
+returns-in-Err-Spent-clause-none g c = untouched c.args.requests.now c.begin.new.requests c.args.intake.now c.in-Err-Spent.ensures.same_requests
+
+pub returns-in-Err-clause-none : goal.returns-in-Err-clause-none
+returns-in-Err-clause-none g c = untouched c.args.requests.now c.begin.new.requests c.args.intake.now c.in-Err.ensures.same_requests
+
+pub returns-then-not-rx-clause-idle : goal.returns-then-not-rx-clause-idle
+returns-then-not-rx-clause-idle g c = record {
+  message = c.requires.no_message;
+  request = rw c.in-Ok-None.field-0-is at c.in-Ok-None.ensures.idle;
+  job = λ may. absurd (let no : c.args.rx ≡ false = c.if-not-rx.true in let yes : c.args.rx ≡ true = may.0 in cc);
+}
+
+pub returns-in-Ok-None-receive-clause-idle : goal.returns-in-Ok-None-receive-clause-idle
+returns-in-Ok-None-receive-clause-idle g c =
+    let same = rw c.in-Ok-None.field-0-is at c.in-Ok-None.ensures.same in
+    let idle = rw c.in-Ok-None-receive.field-0-is at c.in-Ok-None-receive.ensures.idle in
+    let rep : c.replica.result.now ≡ replica_of c.args.part.now = c.replica.ensures ∙ ap replica_of same.0 in
+    record {
+      message = c.requires.no_message;
+      request = rw c.in-Ok-None.field-0-is at c.in-Ok-None.ensures.idle;
+      job = λ may. idle may.1 (subst (λ (r : ReplicaState). IsReceivable r.shown.version c.receive.new.intake may.1) (sym rep) may.2);
+    }

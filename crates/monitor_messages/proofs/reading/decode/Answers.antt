@@ -4,7 +4,7 @@ use Rattle.monitor_messages.proofs.Messages.{is_found, is_only, is_asked}
 use Rattle.monitor_messages.proofs.reading.decode.Goals as goal
 
 pub returns-clause-found : goal.returns-clause-found
-returns-clause-found c = is_found (CarriesProgram c.args.bytes.now) c.args.bytes.now c.message_in.result (λ i. omega (arith, c.type_inv.bytes i)) c.message_in.ensures
+returns-clause-found c = is_found (CarriesProgram c.args.bytes.now) (λ found. found) c.args.bytes.now c.message_in.result (λ i. omega (arith, c.type_inv.bytes i)) c.message_in.ensures
 
 pub returns-clause-only : goal.returns-clause-only
 returns-clause-only c = λ stamp message coded. is_only (CarriesProgram c.args.bytes.now) c.args.bytes.now c.message_in.result c.message_in.ensures stamp message coded

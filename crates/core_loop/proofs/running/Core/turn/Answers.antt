@@ -30,8 +30,9 @@ invariant_of-self g c =
     let v = c.self.invariant in
     let view = g.L.Links.view in
     let same = rw c.in-Ok-None.field-0-is at c.in-Ok-None.ensures.same in
+    let none = rw c.in-Ok-None.field-0-is at c.in-Ok-None.ensures.none in
     let quiet = rw c.in-Ok-None.field-0-is at c.in-Ok-None.ensures.quiet in
-    (v.0, v.1, rest_stands i.part c.next_event.new.part i.number i.cores i.clock i.history.items i.history.items (view i.links) (view c.next_event.new.links) v.2 same.0 refl quiet, rw same.1 v.3, v.4, not_stopped i.cores i.clock c.next_event.new.part (view c.next_event.new.links) i.stopped c.in_default.is, rw same.1 v.6)
+    (v.0, v.1, rest_stands i.part c.next_event.new.part i.number i.cores i.clock i.history.items i.history.items (view i.links) (view c.next_event.new.links) v.2 same refl quiet, rw none.requests v.3, v.4, not_stopped i.cores i.clock c.next_event.new.part (view c.next_event.new.links) i.stopped c.in_default.is, rw none.requests v.6)
 
 pub invariant_of-self-in-Err-Spent : goal.invariant_of-self-in-Err-Spent
 invariant_of-self-in-Err-Spent g c =
@@ -39,7 +40,7 @@ invariant_of-self-in-Err-Spent g c =
     let v = c.self.invariant in
     let view = g.L.Links.view in
     let h = c.in-Err-Spent.ensures in
-    (v.0, v.1, rest_stands i.part c.next_event.new.part i.number i.cores i.clock i.history.items i.history.items (view i.links) (view c.next_event.new.links) v.2 h.same.0 refl h.quiet, rw h.same.1 v.3, v.4, not_stopped i.cores i.clock c.next_event.new.part (view c.next_event.new.links) i.stopped c.in_default.is, rw h.same.1 v.6)
+    (v.0, v.1, rest_stands i.part c.next_event.new.part i.number i.cores i.clock i.history.items i.history.items (view i.links) (view c.next_event.new.links) v.2 h.same refl h.quiet, rw h.none.requests v.3, v.4, not_stopped i.cores i.clock c.next_event.new.part (view c.next_event.new.links) i.stopped c.in_default.is, rw h.none.requests v.6)
 
 pub invariant_of-self-in-Err-NoMemory : goal.invariant_of-self-in-Err-NoMemory
 invariant_of-self-in-Err-NoMemory g c =
@@ -47,7 +48,7 @@ invariant_of-self-in-Err-NoMemory g c =
     let v = c.self.invariant in
     let view = g.L.Links.view in
     let h = c.in-Err-NoMemory.ensures in
-    (v.0, v.1, rest_stands i.part c.next_event.new.part i.number i.cores i.clock i.history.items i.history.items (view i.links) (view c.next_event.new.links) v.2 h.same.0 refl h.quiet, rw h.same.1 v.3, v.4, not_stopped i.cores i.clock c.next_event.new.part (view c.next_event.new.links) i.stopped c.in_default.is, rw h.same.1 v.6)
+    (v.0, v.1, rest_stands i.part c.next_event.new.part i.number i.cores i.clock i.history.items i.history.items (view i.links) (view c.next_event.new.links) v.2 h.same refl h.quiet, rw h.none.requests v.3, v.4, not_stopped i.cores i.clock c.next_event.new.part (view c.next_event.new.links) i.stopped c.in_default.is, rw h.none.requests v.6)
 
 pub invariant_of-self-in-Err-Stopped : goal.invariant_of-self-in-Err-Stopped
 invariant_of-self-in-Err-Stopped g c =
@@ -55,7 +56,7 @@ invariant_of-self-in-Err-Stopped g c =
     let v = c.self.invariant in
     let view = g.L.Links.view in
     let h = c.in-Err-Stopped.ensures in
-    (v.0, v.1, rest_stands i.part c.next_event.new.part i.number i.cores i.clock i.history.items i.history.items (view i.links) (view c.next_event.new.links) v.2 h.same.0 refl h.quiet, rw h.same.1 v.3, v.4, stopped_now i.cores i.clock i.part c.next_event.new.part (view c.next_event.new.links) c.in-Err-Stopped.cause h.same.0 (rw c.in-Err-Stopped.field-0-is at h.why), rw h.same.1 v.6)
+    (v.0, v.1, rest_stands i.part c.next_event.new.part i.number i.cores i.clock i.history.items i.history.items (view i.links) (view c.next_event.new.links) v.2 h.same refl h.quiet, rw h.none.requests v.3, v.4, stopped_now i.cores i.clock i.part c.next_event.new.part (view c.next_event.new.links) c.in-Err-Stopped.cause h.same (rw c.in-Err-Stopped.field-0-is at h.why), rw h.none.requests v.6)
 
 pub invariant_of-self-in-Ok-Some : goal.invariant_of-self-in-Ok-Some
 invariant_of-self-in-Ok-Some g c =
@@ -64,23 +65,23 @@ invariant_of-self-in-Ok-Some g c =
     let v = c.self.invariant in
     let s = c.in-Ok-Some.stamped in
     let a = rw c.in-Ok-Some.field-0-is at c.in-Ok-Some.ensures.acts in
-    let requests = rw c.in-Ok-Some.field-0-is at c.in-Ok-Some.ensures.requests in
+    let taken = rw c.in-Ok-Some.field-0-is at c.in-Ok-Some.ensures.consumes in
     let kept = c.noted-self-inside.ensures in (
       v.0,
       v.1,
       subst (λ (l : List Stamped). IsStanding c.next_event.new.part i.number i.cores s.stamp l (view c.next_event.new.links)) (sym kept)
           (acts_stand i.part c.next_event.new.part i.number i.cores i.clock i.history.items s a.seen (view c.next_event.new.links) (stands_quiet i.part i.number i.cores i.clock i.history.items (view i.links) a.seen v.2 a.looks) a.acts),
-      short_rest i.number i.requests.items (begins s.done.event) c.next_event.new.requests.items requests v.3,
+      short_rest i.number i.requests.items (begins s.done.event) c.next_event.new.requests.items taken.requests v.3,
       c.last_begun_with-self-inside.ensures ∙ last_more i.begun_last i.history.items c.noted-self-inside.result.items s v.4 kept,
       not_stopped i.cores s.stamp c.next_event.new.part (view c.next_event.new.links) i.stopped c.in_default.is,
-      v.6 ∙ ap (λ (ops : List Op). min (length ops) (2 ^ 64 - 1)) (sym (begun_more i.history.items c.noted-self-inside.result.items s i.requests.items c.next_event.new.requests.items kept requests)),
+      v.6 ∙ ap (λ (ops : List Op). min (length ops) (2 ^ 64 - 1)) (sym (begun_more i.history.items c.noted-self-inside.result.items s i.requests.items c.next_event.new.requests.items kept taken.requests)),
     )
 
 pub returns-in-Ok-None-clause-idle_message : goal.returns-in-Ok-None-clause-idle_message
 returns-in-Ok-None-clause-idle_message g c = λ _.
     let same = rw c.in-Ok-None.field-0-is at c.in-Ok-None.ensures.same in
-    let none = rw c.in-Ok-None.field-0-is at c.in-Ok-None.ensures.idle_message in
-    subst (λ (x : Part). NoMessageNow c.self.inside.cores x (g.L.Links.view c.next_event.new.links)) (sym same.0) none
+    let idle = rw c.in-Ok-None.field-0-is at c.in-Ok-None.ensures.idle in
+    subst (λ (x : Part). NoMessageNow c.self.inside.cores x (g.L.Links.view c.next_event.new.links)) (sym same) idle.message
 
 pub returns-in-Err-Spent-clause-spent : goal.returns-in-Err-Spent-clause-spent
 returns-in-Err-Spent-clause-spent g c = λ _.
@@ -98,68 +99,66 @@ pub returns-in-Ok-Some-clause-did : goal.returns-in-Ok-Some-clause-did
 returns-in-Ok-Some-clause-did g c = λ t d is.
     let s = c.in-Ok-Some.stamped in
     let acts = rw c.in-Ok-Some.field-0-is at c.in-Ok-Some.ensures.acts in
-    let requests = rw c.in-Ok-Some.field-0-is at c.in-Ok-Some.ensures.requests in
-    let jobs = rw c.in-Ok-Some.field-0-is at c.in-Ok-Some.ensures.jobs in
-    let front = rw c.in-Ok-Some.field-0-is at c.in-Ok-Some.ensures.front in
-    let whole = rw c.in-Ok-Some.field-0-is at c.in-Ok-Some.ensures.whole in
+    let taken = rw c.in-Ok-Some.field-0-is at c.in-Ok-Some.ensures.consumes in
     let kept = c.noted-self-inside.ensures in
     let i = c.self.inside in
     let last = subst (λ (n : ℕ). ActsFirst i.number i.cores i.clock n i.requests.items (g.L.Links.view i.links) (g.L.Links.view c.next_event.new.links) i.part c.next_event.new.part s) c.self.invariant.4 acts in
-    seen_done g.L.Links.view _ _ _ s t (did_is s t _ d is).0 c.self.view_is (record { history = kept; clock = refl; acts = last; pending = requests; jobs = jobs; seen = front; unshortened = whole })
+    seen_done g.L.Links.view _ _ _ s t (did_is s t _ d is).0 c.self.view_is (record { history = kept; clock = refl; acts = last; pending = taken.requests; jobs = taken.jobs; seen = taken.front; unshortened = taken.whole })
 
 pub returns-in-Ok-None-clause-core : goal.returns-in-Ok-None-clause-core
 returns-in-Ok-None-clause-core g c =
     let same = rw c.in-Ok-None.field-0-is at c.in-Ok-None.ensures.same in
-    seen_same g.L.Links.same _ _ _ c.self.view_is (record { number = refl; cores = refl; budget = rw same.0 refl; links = c.next_event.ensures.links; intake = c.next_event.ensures.queue })
+    seen_same g.L.Links.same _ _ _ c.self.view_is (record { number = refl; cores = refl; budget = rw same refl; links = c.next_event.ensures.links; intake = c.next_event.ensures.queue })
 
 pub returns-in-Ok-None-clause-other : goal.returns-in-Ok-None-clause-other
 returns-in-Ok-None-clause-other g c = λ _.
     let same = rw c.in-Ok-None.field-0-is at c.in-Ok-None.ensures.same in
+    let none = rw c.in-Ok-None.field-0-is at c.in-Ok-None.ensures.none in
     let quiet = rw c.in-Ok-None.field-0-is at c.in-Ok-None.ensures.quiet in
-    let jobs = rw c.in-Ok-None.field-0-is at c.in-Ok-None.ensures.same_jobs in
-    let seen = rw c.in-Ok-None.field-0-is at c.in-Ok-None.ensures.seen in
-    seen_idle g.L.Links.view _ _ _ c.self.view_is (record { history = refl; part = same.0; clock = refl; pending = rw same.1 refl; links = quiet; jobs = jobs; seen = seen })
+    seen_idle g.L.Links.view _ _ _ c.self.view_is (record { history = refl; part = same; clock = refl; pending = rw none.requests refl; links = quiet; jobs = none.jobs; seen = none.seen })
 
 pub returns-in-Ok-None-clause-idle : goal.returns-in-Ok-None-clause-idle
 returns-in-Ok-None-clause-idle g c = λ _.
     let same = rw c.in-Ok-None.field-0-is at c.in-Ok-None.ensures.same in
-    rw (same.0, same.1) (rw c.in-Ok-None.field-0-is at c.in-Ok-None.ensures.idle)
+    let none = rw c.in-Ok-None.field-0-is at c.in-Ok-None.ensures.none in
+    let idle = rw c.in-Ok-None.field-0-is at c.in-Ok-None.ensures.idle in
+    rw (same, none.requests) idle.request
 
 pub returns-in-Ok-None-clause-idle_job : goal.returns-in-Ok-None-clause-idle_job
 returns-in-Ok-None-clause-idle_job g c = λ _ rx job can.
     let same = rw c.in-Ok-None.field-0-is at c.in-Ok-None.ensures.same in
-    let idle = rw c.in-Ok-None.field-0-is at c.in-Ok-None.ensures.idle_job in
-    idle (rx, job, subst (λ (x : Part). IsReceivable (replica_of x).shown.version c.next_event.new.intake job) same.0 can)
+    let idle = rw c.in-Ok-None.field-0-is at c.in-Ok-None.ensures.idle in
+    idle.job (rx, job, subst (λ (x : Part). IsReceivable (replica_of x).shown.version c.next_event.new.intake job) same can)
 
 pub returns-in-Err-Spent-clause-core : goal.returns-in-Err-Spent-clause-core
 returns-in-Err-Spent-clause-core g c =
     let same = c.in-Err-Spent.ensures.same in
-    seen_same g.L.Links.same _ _ _ c.self.view_is (record { number = refl; cores = refl; budget = rw same.0 refl; links = c.next_event.ensures.links; intake = c.next_event.ensures.queue })
+    seen_same g.L.Links.same _ _ _ c.self.view_is (record { number = refl; cores = refl; budget = rw same refl; links = c.next_event.ensures.links; intake = c.next_event.ensures.queue })
 
 pub returns-in-Err-Spent-clause-other : goal.returns-in-Err-Spent-clause-other
 returns-in-Err-Spent-clause-other g c = λ _.
     let h = c.in-Err-Spent.ensures in
-    seen_idle g.L.Links.view _ _ _ c.self.view_is (record { history = refl; part = h.same.0; clock = refl; pending = rw h.same.1 refl; links = h.quiet; jobs = h.same_jobs; seen = h.seen })
+    seen_idle g.L.Links.view _ _ _ c.self.view_is (record { history = refl; part = h.same; clock = refl; pending = rw h.none.requests refl; links = h.quiet; jobs = h.none.jobs; seen = h.none.seen })
 
 pub returns-in-Err-NoMemory-clause-core : goal.returns-in-Err-NoMemory-clause-core
 returns-in-Err-NoMemory-clause-core g c =
     let same = c.in-Err-NoMemory.ensures.same in
-    seen_same g.L.Links.same _ _ _ c.self.view_is (record { number = refl; cores = refl; budget = rw same.0 refl; links = c.next_event.ensures.links; intake = c.next_event.ensures.queue })
+    seen_same g.L.Links.same _ _ _ c.self.view_is (record { number = refl; cores = refl; budget = rw same refl; links = c.next_event.ensures.links; intake = c.next_event.ensures.queue })
 
 pub returns-in-Err-NoMemory-clause-other : goal.returns-in-Err-NoMemory-clause-other
 returns-in-Err-NoMemory-clause-other g c = λ _.
     let h = c.in-Err-NoMemory.ensures in
-    seen_idle g.L.Links.view _ _ _ c.self.view_is (record { history = refl; part = h.same.0; clock = refl; pending = rw h.same.1 refl; links = h.quiet; jobs = h.same_jobs; seen = h.seen })
+    seen_idle g.L.Links.view _ _ _ c.self.view_is (record { history = refl; part = h.same; clock = refl; pending = rw h.none.requests refl; links = h.quiet; jobs = h.none.jobs; seen = h.none.seen })
 
 pub returns-in-Err-Stopped-clause-core : goal.returns-in-Err-Stopped-clause-core
 returns-in-Err-Stopped-clause-core g c =
     let same = c.in-Err-Stopped.ensures.same in
-    seen_same g.L.Links.same _ _ _ c.self.view_is (record { number = refl; cores = refl; budget = rw same.0 refl; links = c.next_event.ensures.links; intake = c.next_event.ensures.queue })
+    seen_same g.L.Links.same _ _ _ c.self.view_is (record { number = refl; cores = refl; budget = rw same refl; links = c.next_event.ensures.links; intake = c.next_event.ensures.queue })
 
 pub returns-in-Err-Stopped-clause-other : goal.returns-in-Err-Stopped-clause-other
 returns-in-Err-Stopped-clause-other g c = λ _.
     let h = c.in-Err-Stopped.ensures in
-    seen_idle g.L.Links.view _ _ _ c.self.view_is (record { history = refl; part = h.same.0; clock = refl; pending = rw h.same.1 refl; links = h.quiet; jobs = h.same_jobs; seen = h.seen })
+    seen_idle g.L.Links.view _ _ _ c.self.view_is (record { history = refl; part = h.same; clock = refl; pending = rw h.none.requests refl; links = h.quiet; jobs = h.none.jobs; seen = h.none.seen })
 
 pub returns-in-Err-NoMemory-clause-no_memory : goal.returns-in-Err-NoMemory-clause-no_memory
 returns-in-Err-NoMemory-clause-no_memory g c = λ _.
@@ -168,24 +167,25 @@ returns-in-Err-NoMemory-clause-no_memory g c = λ _.
 pub returns-in-Ok-None-clause-requests : goal.returns-in-Ok-None-clause-requests
 returns-in-Ok-None-clause-requests g c =
     let same = rw c.in-Ok-None.field-0-is at c.in-Ok-None.ensures.same in
-    rw (← c.self.view_is) (rw same.1 refl)
+    let none = rw c.in-Ok-None.field-0-is at c.in-Ok-None.ensures.none in
+    rw (← c.self.view_is) (rw none.requests refl)
 
 pub returns-in-Err-Spent-clause-requests : goal.returns-in-Err-Spent-clause-requests
-returns-in-Err-Spent-clause-requests g c = rw (← c.self.view_is) (rw c.in-Err-Spent.ensures.same.1 refl)
+returns-in-Err-Spent-clause-requests g c = rw (← c.self.view_is) (rw c.in-Err-Spent.ensures.none.requests refl)
 
 pub returns-in-Err-NoMemory-clause-requests : goal.returns-in-Err-NoMemory-clause-requests
-returns-in-Err-NoMemory-clause-requests g c = rw (← c.self.view_is) (rw c.in-Err-NoMemory.ensures.same.1 refl)
+returns-in-Err-NoMemory-clause-requests g c = rw (← c.self.view_is) (rw c.in-Err-NoMemory.ensures.none.requests refl)
 
 pub returns-in-Err-Stopped-clause-requests : goal.returns-in-Err-Stopped-clause-requests
-returns-in-Err-Stopped-clause-requests g c = rw (← c.self.view_is) (rw c.in-Err-Stopped.ensures.same.1 refl)
+returns-in-Err-Stopped-clause-requests g c = rw (← c.self.view_is) (rw c.in-Err-Stopped.ensures.none.requests refl)
 
 pub returns-in-Ok-Some-clause-requests : goal.returns-in-Ok-Some-clause-requests
 returns-in-Ok-Some-clause-requests g c =
     let i = c.self.inside in
     let s = c.in-Ok-Some.stamped in
-    let requests = rw c.in-Ok-Some.field-0-is at c.in-Ok-Some.ensures.requests in
+    let taken = rw c.in-Ok-Some.field-0-is at c.in-Ok-Some.ensures.consumes in
     let kept = c.noted-self-inside.ensures in
-    rw (← c.self.view_is) (begun_more i.history.items c.noted-self-inside.result.items s i.requests.items c.next_event.new.requests.items kept requests)
+    rw (← c.self.view_is) (begun_more i.history.items c.noted-self-inside.result.items s i.requests.items c.next_event.new.requests.items kept taken.requests)
 
 pub returns-in-Err-Spent-clause-stays : goal.returns-in-Err-Spent-clause-stays
 returns-in-Err-Spent-clause-stays g c = λ cause is. was_running _ _ cause c.self.view_is c.in_default.is is
