@@ -88,7 +88,7 @@ ended_machine [] requests jobs cores left e = absurd e.machine
 ended_machine (budget ∷ others) requests jobs cores left e = (budget, others, e.machine)
 
 -- core 0 decides nothing
-idle_at : (cores : ℕ) (p : Part) (links : RingLinks) (others clock : ℕ) (end : Core0State) → HasNothingUnderWay cores p (ring_view links) → StandsAt0 others p clock end → IsIdle0 p
+pub idle_at : (cores : ℕ) (p : Part) (links : RingLinks) (others clock : ℕ) (end : Core0State) → HasNothingUnderWay cores p (ring_view links) → StandsAt0 others p clock end → IsIdle0 p
 idle_at cores (role.Core0 core) links others clock end idle stands = idle.0
 idle_at cores (role.OtherCore core) links others clock end idle stands = absurd stands
 

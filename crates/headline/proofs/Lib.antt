@@ -7,3 +7,4 @@ pub mod Listed
 pub mod Counts
 pub mod Parts
 pub mod Stepping
+pub mod Waking

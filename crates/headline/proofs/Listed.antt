@@ -15,7 +15,7 @@ use Rattle.world_events.specs.declared.event.Answer.TheVariants.{TookPrepare}
 use Rattle.world_events.specs.declared.event.Done.{Done}
 use Rattle.world_model.specs.Worlds.{World, boot, HappensStartFor, Run}
 use Rattle.world_model.specs.Decisions.{DeliversBy, Delivers}
-use Rattle.world_model.specs.Readings.{commits_at, version_of, Request, sent, numbered}
+use Rattle.world_model.specs.Readings.{commits_at, version_of, Request, sent}
 use Rattle.world_model.proofs.Runs.{runs_split}
 use Rattle.world_model.proofs.Known.{run_known}
 use Rattle.world_model.proofs.RunLaws.{run_waits}
@@ -62,7 +62,7 @@ fold_same : (t : Told) (xs : List Stamped) → fold told_with t (unstamped xs) �
 fold_same t [] = refl
 fold_same t (x ∷ xs) = fold_same (told_with t x.done) xs ∙ ap (λ (u : Told). fold told_with u (as_listed xs)) (sym (told_same t x.done.event x.done.answer))
 
-log_same : (xs : List Stamped) → log_of (unstamped xs) ≡ log_of (as_listed xs)
+pub log_same : (xs : List Stamped) → log_of (unstamped xs) ≡ log_of (as_listed xs)
 log_same xs = ap (λ (t : Told). t.committed) (fold_same nothing_told xs)
 
 count_same : (p : Event → Answer → Bool) → ((event : Event) (answer : Answer) → p (as_short event answer) answer ≡ p event answer) → (xs : List Stamped)

@@ -1,5 +1,5 @@
 -- What holds of the cores of a machine that were joined, by their one list of events.
-use Rattle.std.proofs.Common.{All, ◌≡◌, ◌==◌, ◌<◌, ◌≤◌, ◌∷◌, ◌⊎◌, inl, inr, ℕ, zero, suc, Bool, true, false, cond, Some, List, [], length, slice_get, get_or, refl, ap, sym, ◌∙◌, subst, arith}
+use Rattle.std.proofs.Common.{All, ◌≡◌, ◌==◌, ◌<◌, ◌≤◌, ◌∷◌, ◌⊎◌, inl, inr, ℕ, zero, suc, Bool, true, false, cond, Some, List, [], length, slice_get, get_or, refl, ap, sym, ◌∙◌, arith}
 use Rattle.std.specs.Prelude.{option_map}
 use Rattle.std.proofs.lemmas.List.{length-map}
 use Rattle.std.proofs.lemmas.Option.{slice_get_within, slice_get-get_or}
@@ -14,8 +14,7 @@ use Rattle.world_events.specs.declared.event.Event.TheVariants.{Start, Submit, S
 use Rattle.world_events.specs.declared.event.Answer.{Answer}
 use Rattle.world_events.specs.declared.event.Answer.TheVariants.{TookPrepare}
 use Rattle.world_events.specs.declared.event.Done.{Done}
-use Rattle.world_model.specs.Worlds.{Peer, Run}
-use Rattle.world_model.specs.Decisions.{Delivers}
+use Rattle.world_model.specs.Worlds.{Peer}
 use Rattle.world_model.specs.Readings.{version_of}
 use Rattle.world_model.proofs.Lists.{get_map, same_or_not}
 use Rattle.world_model.proofs.Known.{run_known}
@@ -38,7 +37,7 @@ use Rattle.headline.specs.Decided.{events_at, decided_from, decided_in}
 use Rattle.headline.specs.Headline.{ShowTables, begun_by, begun_in, received_by, received_in}
 use Rattle.world_model.specs.Committed.{log_of}
 use Rattle.headline.specs.Shown.{replicas_of_cores}
-use Rattle.core_join.proofs.Told.{joined_deliver, list_log, list_run, one_list}
+use Rattle.core_join.proofs.Told.{list_log, list_run, one_list}
 
 -- Tables
 

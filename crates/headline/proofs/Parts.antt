@@ -85,6 +85,9 @@ delivers_parts events xs log same quiet h before after done e = by_event done.ev
     by_event (StartFor from) is = tt
     by_event (Take to from short) is = tt
 
+pub parts_log : (events : List Done) (xs : List Stamped) → SameParts events (unstamped xs) → ((core : ℕ) → Silent (commits core) core (unstamped xs)) → StartOneByOne events → StartOneByOne (unstamped xs) → log_of events ≡ log_of (unstamped xs)
+parts_log events xs same quiet order order' = log_parts events (unstamped xs) same order order' (silent_parts commits0 0 events (unstamped xs) same (quiet 0)) (quiet 0)
+
 pub parts_say : (events : List Done) (xs : List Stamped) (replicas : List ReplicaState) → SameParts events (unstamped xs) → ((core : ℕ) → Silent (commits core) core (unstamped xs)) → StartOneByOne events → StartOneByOne (unstamped xs)
     → ShowTables (unstamped xs) replicas → Delivers (log_of (unstamped xs)) (unstamped xs) → Says events replicas
 parts_say events xs replicas same quiet order order' tables delivers = record {
@@ -96,7 +99,7 @@ parts_say events xs replicas same quiet order order' tables delivers = record {
 }
   where
     log : log_of events ≡ log_of (unstamped xs)
-    log = log_parts events (unstamped xs) same order order' (silent_parts commits0 0 events (unstamped xs) same (quiet 0)) (quiet 0)
+    log = parts_log events xs same quiet order order'
 
     version : (core : ℕ) → version_of core events ≡ version_of core (unstamped xs)
     version core = count_at (commits core) core events (silent_parts (commits core) core events (unstamped xs) same (quiet core))

@@ -2,8 +2,8 @@
 use Rattle.std.proofs.Common.{All, ◌≡◌, ◌==◌, ◌<◌, ◌≤◌, ◌++◌, ◌∷◌, ◌⊎◌, inl, inr, ℕ, zero, suc, Bool, false, cond, Some, None, List, [], length, take, drop, slice_get, refl, ap, sym, ◌∙◌, subst, arith, append_assoc}
 use Rattle.std.specs.List.{AllZip}
 use Rattle.std.proofs.lemmas.List.{append-nil, length-map, take_all, drop_all}
-use Rattle.std.proofs.lemmas.List.Elements.{All-nil, All-cons, All-head, All-tail}
-use Rattle.std.proofs.lemmas.Option.{slice_get_within}
+use Rattle.std.proofs.lemmas.List.Elements.{All-nil, All-cons, All-head, All-tail, All-append}
+use Rattle.std.proofs.lemmas.Option.{slice_get_within, get_or_from_slice_get}
 use Rattle.std.proofs.lemmas.Bool.{cases_lt}
 use mathlib.Core.List.{IsPrefix}
 use Rattle.filter_table.specs.declared.operation.Op.{Op}
@@ -20,7 +20,7 @@ use Rattle.world_histories.specs.Merging.{core_of, part, as_listed}
 use Rattle.core_loop.specs.declared.cause.Turn.TheVariants.{Did}
 use Rattle.core_loop.specs.Cores.{begun}
 use Rattle.core_join.specs.Machines.{RingCore, IsMachine, AreSameCores}
-use Rattle.core_join.specs.Conclusions.{Concludes, Conclude, histories_of}
+use Rattle.core_join.specs.Conclusions.{Concludes, Conclude, histories_of, IsIdle0}
 use Rattle.core_join.specs.Merges.{ListsRuns}
 use Rattle.core_boot.specs.Booted.{HasDoneNothing}
 use Rattle.core_threads.specs.Recording.{HaveNoHistories}
@@ -34,17 +34,26 @@ use Rattle.core_drive.specs.Driving.{IsStep, IsGivable, DrivesAt, AreDriven}
 use Rattle.core_drive.proofs.Steps.{driven_none, driven_more}
 use Rattle.core_drive.proofs.Tasks.{drives_along}
 use Rattle.core_join.proofs.Machines.{machine_ran}
+use Rattle.filter_table.specs.declared.decision.Decision.{Decision}
+use Rattle.table_replica.specs.Shown.{ReplicaState}
+use Rattle.world_model.specs.Committed.{log_of}
+use Rattle.core_join.proofs.Along.{looked_same}
+use Rattle.core_loop.specs.Answering.{own_decision, is_own, decisions_from}
+use Rattle.core_settle.specs.Rounds.{CoreRests, AreAtRest, HasAllDecided, AreSeen}
+use Rattle.core_drive.proofs.Looking.{driven_looked}
+use Rattle.headline.proofs.Ending.{idle_at}
 use Rattle.headline.specs.Headline.{begun_in}
 use Rattle.headline.specs.Shown.{replicas_of_cores}
 use Rattle.headline.specs.Served.{events_of}
-use Rattle.headline.specs.Decided.{events_at}
+use Rattle.headline.specs.Waking.{AreDone, IsTurnOf, turn_of_core}
+use Rattle.headline.specs.Decided.{events_at, decided_from, decided_in}
 use Rattle.headline.specs.Starts.{StartOneByOne}
 use Rattle.headline.proofs.Ordering.{begun_at, AllOf, all_at, steps_own, steps_at, Silent, submits_parts, starts_parts, SameParts}
-use Rattle.headline.proofs.OneList.{joined_tables, joined_begun, joined_none_begun, none_beyond, history_at}
+use Rattle.headline.proofs.OneList.{joined_tables, joined_begun, joined_none_begun, none_beyond, history_at, joined_newest}
 use Rattle.core_join.proofs.Told.{joined_deliver}
-use Rattle.headline.proofs.Listed.{started_same, begun_in_same, tables_same, delivers_same, starts_one, run_starts, merged_lists, events_part}
+use Rattle.headline.proofs.Listed.{started_same, begun_in_same, tables_same, delivers_same, starts_one, run_starts, merged_lists, events_part, log_same}
 use Rattle.headline.proofs.Counts.{commits, quiet_runs, Counts, submits_of_same, nothing_left, order_one}
-use Rattle.headline.proofs.Parts.{Says, parts_say}
+use Rattle.headline.proofs.Parts.{Says, parts_say, parts_log}
 
 -- The steps can be done
 
@@ -74,6 +83,11 @@ none_of {T} found core cores (s ∷ steps) (o ∷ outcomes) all le =
     let less : s.core < cores = All-head Inside s steps all in
     let other : (s.core == core) ≡ false = eq_other s.core core (λ e. omega (arith, less, le, e)) in
     ap (λ (b : Bool). (cond b (found s.task o) []) ++ of_core found core steps outcomes) other ∙ none_of found core cores steps outcomes (All-tail Inside s steps all) le
+
+-- the decisions of events are those of the history that has them
+decided_stamped : (own : Bool) (h : List Stamped) → decided_from own (unstamped h) ≡ decisions_from own h
+decided_stamped own [] = refl
+decided_stamped own (s ∷ h) = ap (λ (ds : List Decision). own_decision own s.done.event s.done.answer ++ ds) (decided_stamped (is_own own s.done.event) h)
 
 module _ (budget : ℕ) (budgets : List ℕ) (steps : List CoreStep) (outcomes : List StepOutcome) (old : List RingCore) (first : RingCore) (others : List RingCore)
     (inside : All (λ (s : CoreStep). s.core < length old) steps) (nothing : HaveNoHistories old) (driven : AreDriven steps outcomes old (first ∷ others)) (con : Concludes budget budgets first others) where
@@ -144,6 +158,35 @@ module _ (budget : ℕ) (budgets : List ℕ) (steps : List CoreStep) (outcomes :
           )
       by_place (inr beyond) = subst (λ (ops : List Op). IsPrefix ops (of_core asked_op core steps outcomes)) (sym (joined_none_begun budget budgets first others (as_listed merged) con lists core beyond)) (of_core asked_op core steps outcomes, refl)
 
+  -- and where the cores are at rest, all of it is decided
+  newest_each : StartOneByOne (events_of steps outcomes) → IsIdle0 first.part → All (λ (r : ReplicaState). r.shown.version ≡ length (log_of (events_of steps outcomes))) (replicas_of_cores (first ∷ others))
+  newest_each order idle =
+      let quiet : (core : ℕ) → Silent (commits core) core (unstamped merged) = λ core. quiet_runs core (boot budget budgets) con.right.run.world merged con.right.run.run in
+      let ordered = starts_one merged (run_starts budget budgets (as_listed merged) con.right.run.world con.right.run.run) in
+      let log = parts_log (events_of steps outcomes) merged told_parts quiet order ordered ∙ log_same merged in
+      subst (λ (l : List Op). All (λ (r : ReplicaState). r.shown.version ≡ length l) (replicas_of_cores (first ∷ others))) (sym log)
+      (joined_newest budget budgets first others (as_listed merged) con (merged_lists budget budgets first others con) idle)
+
+  decided_each : ((i : ℕ) (c : RingCore) → slice_get (first ∷ others) i ≡ Some c → HasAllDecided c) → ((i : ℕ) (c : RingCore) → slice_get old i ≡ Some c → c.pending ≡ []) → (core : ℕ)
+      → length (decided_in core (events_of steps outcomes)) ≡ length (of_core asked_op core steps outcomes)
+  decided_each decides idle core = by_place (cases_lt core (length (first ∷ others)))
+    where
+      own : events_at core (events_of steps outcomes) ≡ of_core (did core) core steps outcomes
+      own = steps_at steps outcomes told_own core
+
+      by_place : ((core < length (first ∷ others)) ⊎ (length (first ∷ others) ≤ core)) → length (decided_in core (events_of steps outcomes)) ≡ length (of_core asked_op core steps outcomes)
+      by_place (inl within) =
+          let c = get_at (first ∷ others) core within in
+          let o = get_at old core (omega (arith, within, driven.all)) in
+          let drives = driven.each core o.0 c.0 o.1 c.1 in
+          let history : unstamped c.0.history ≡ of_core (did core) core steps outcomes = drives.history ∙ ap (λ (h : List Stamped). unstamped h ++ of_core (did core) core steps outcomes) (nothing core o.0 o.1) in
+          let asked_is : begun c.0.history ++ c.0.pending ≡ of_core asked_op core steps outcomes =
+          drives.requests_are ∙ (ap (λ (h : List Stamped). (begun h ++ o.0.pending) ++ of_core asked_op core steps outcomes) (nothing core o.0 o.1) ∙ ap (λ (ops : List Op). ops ++ of_core asked_op core steps outcomes) (idle core o.0 o.1)) in
+          ap (λ (ds : List Done). length (decided_from false ds)) (own ∙ sym history) ∙ (ap (λ (ds : List Decision). length ds) (decided_stamped false c.0.history) ∙ (decides core c.0 c.1 ∙ ap (λ (ops : List Op). length ops) asked_is))
+      by_place (inr beyond) =
+          ap (λ (ds : List Done). length (decided_from false ds)) (own ∙ none_of (did core) core (length old) steps outcomes inside (omega (arith, beyond, driven.all)))
+          ∙ sym (ap (λ (ops : List Op). length ops) (none_of asked_op core (length old) steps outcomes inside (omega (arith, beyond, driven.all))))
+
 counts_for : (budget : ℕ) (budgets : List ℕ) (steps : List CoreStep) (outcomes : List StepOutcome) (old cores : List RingCore) → All (λ (s : CoreStep). s.core < length old) steps → HaveNoHistories old → AreDriven steps outcomes old cores
     → Conclude budget budgets cores → Counts budget budgets (events_of steps outcomes)
 counts_for budget budgets steps outcomes old [] inside nothing driven con = absurd con
@@ -163,6 +206,20 @@ own_for : (budget : ℕ) (budgets : List ℕ) (steps : List CoreStep) (outcomes 
     → Conclude budget budgets cores → AllZip (λ (s : CoreStep) (o : StepOutcome). All (λ (d : Done). core_of d.event ≡ s.core) (did s.core s.task o)) steps outcomes
 own_for budget budgets steps outcomes old [] inside nothing driven con = absurd con
 own_for budget budgets steps outcomes old (first ∷ others) inside nothing driven con = own_each budget budgets steps outcomes old first others inside nothing driven con
+
+newest_for : (budget : ℕ) (budgets : List ℕ) (steps : List CoreStep) (outcomes : List StepOutcome) (old cores : List RingCore) → All (λ (s : CoreStep). s.core < length old) steps → HaveNoHistories old → AreDriven steps outcomes old cores
+    → Conclude budget budgets cores → StartOneByOne (events_of steps outcomes) → AreAtRest cores → All (λ (r : ReplicaState). r.shown.version ≡ length (log_of (events_of steps outcomes))) (replicas_of_cores cores)
+newest_for budget budgets steps outcomes old [] inside nothing driven con order rest = absurd con
+newest_for budget budgets steps outcomes old (first ∷ others) inside nothing driven con order rest =
+    let here : CoreRests first = rest 0 first (omega arith) in
+    newest_each budget budgets steps outcomes old first others inside nothing driven con order (idle_at first.cores first.part first.links (length budgets) first.clock con.end here.nothing_under_way con.ends0)
+
+decided_for : (budget : ℕ) (budgets : List ℕ) (steps : List CoreStep) (outcomes : List StepOutcome) (old cores : List RingCore) → All (λ (s : CoreStep). s.core < length old) steps → HaveNoHistories old → ((i : ℕ) (c : RingCore) → slice_get old i ≡ Some c → c.pending ≡ []) → AreDriven steps outcomes old cores
+    → Conclude budget budgets cores → All HasAllDecided cores → (core : ℕ) → length (decided_in core (events_of steps outcomes)) ≡ length (of_core asked_op core steps outcomes)
+decided_for budget budgets steps outcomes old [] inside nothing idle driven con decides = absurd con
+decided_for budget budgets steps outcomes old (first ∷ others) inside nothing idle driven con decides =
+    decided_each budget budgets steps outcomes old first others inside nothing driven con
+    (λ i c at. subst HasAllDecided (get_or_from_slice_get (first ∷ others) i c first at) (decides i first (slice_get_within (first ∷ others) i c at))) idle
 
 -- One step more
 
@@ -190,15 +247,6 @@ one_outcome s (o ∷ p ∷ outcomes) along = absurd along.1
 pub inside_front : {T : Type 0} (P : T → Type 0) (xs ys : List T) → All P (xs ++ ys) → All P xs
 inside_front P [] ys all = All-nil P
 inside_front P (x ∷ xs) ys all = All-cons P x xs (All-head P x (xs ++ ys) all) (inside_front P xs ys (All-tail P x (xs ++ ys) all))
-
--- the steps so far, of cores that had done nothing
-pub record AreDone (steps : List CoreStep) (outcomes : List StepOutcome) (old new : List RingCore) : Type 0 where
-  pub budget : ℕ
-  pub budgets : List ℕ
-  pub machine : IsMachine budget budgets new
-  pub con : Conclude budget budgets new
-  pub driven : AreDriven steps outcomes old new
-  pub order : StartOneByOne (events_of steps outcomes)
 
 pub done_none : (outcomes : List StepOutcome) (old new : List RingCore) → ((budget : ℕ) × (budgets : List ℕ) × IsMachine budget budgets old) → AreDriven [] outcomes old new → AreSameCores old new
     → ((budget : ℕ) (budgets : List ℕ) → IsMachine budget budgets old → Conclude budget budgets new) → AreDone [] outcomes new new
@@ -261,10 +309,10 @@ no_histories none old new nothing driven i c at =
 -- The cores of a vector, by steps on its slice
 
 -- what is written back of a slice that has stayed as long is the slice
-written_back : (n : ℕ) (new old : List RingCore) → length new ≡ length old → n ≡ length old → take n (new ++ drop (length new) old) ≡ new
-written_back n new old same long =
-    ap (λ (rest : List RingCore). take n (new ++ rest)) (drop_all (length new) old (omega (arith, same)))
-    ∙ (ap (λ (cores : List RingCore). take n cores) (append-nil new) ∙ take_all n new (omega (arith, same, long)))
+pub written_back : {T : Type 0} (n : ℕ) (new old : List T) → length new ≡ length old → n ≡ length old → take n (new ++ drop (length new) old) ≡ new
+written_back {T} n new old same long =
+    ap (λ (rest : List T). take n (new ++ rest)) (drop_all (length new) old (omega (arith, same)))
+    ∙ (ap (λ (items : List T). take n items) (append-nil new) ∙ take_all n new (omega (arith, same, long)))
 
 pub says_after : (n : ℕ) (steps : List CoreStep) (outcomes : List StepOutcome) (cores slice new : List RingCore) → slice ≡ cores → n ≡ length cores → All (λ (s : CoreStep). s.core < length cores) steps → All HasDoneNothing cores
     → AreDriven steps outcomes slice new → ((budget : ℕ) × (budgets : List ℕ) × Conclude budget budgets new) → StartOneByOne (events_of steps outcomes) → Says (events_of steps outcomes) (replicas_of_cores (take n (new ++ drop (length new) cores)))
@@ -282,3 +330,49 @@ pub own_after : (steps : List CoreStep) (outcomes : List StepOutcome) (cores sli
     → ((budget : ℕ) × (budgets : List ℕ) × Conclude budget budgets new) → AllZip (λ (s : CoreStep) (o : StepOutcome). All (λ (d : Done). core_of d.event ≡ s.core) (did s.core s.task o)) steps outcomes
 own_after steps outcomes cores slice new is inside nothing driven con =
     own_for con.0 con.1 steps outcomes cores new inside (no_histories [] cores cores nothing (driven_none cores)) (subst (λ (old : List RingCore). AreDriven steps outcomes old new) is driven) con.2
+
+pub newest_after : (n : ℕ) (steps : List CoreStep) (outcomes : List StepOutcome) (cores slice new : List RingCore) → slice ≡ cores → n ≡ length cores → All (λ (s : CoreStep). s.core < length cores) steps → All HasDoneNothing cores
+    → AreDriven steps outcomes slice new → ((budget : ℕ) × (budgets : List ℕ) × Conclude budget budgets new) → StartOneByOne (events_of steps outcomes) → AreAtRest new
+    → All (λ (r : ReplicaState). r.shown.version ≡ length (log_of (events_of steps outcomes))) (replicas_of_cores (take n (new ++ drop (length new) cores)))
+newest_after n steps outcomes cores slice new is long inside nothing driven con order rest =
+    let drives : AreDriven steps outcomes cores new = subst (λ (old : List RingCore). AreDriven steps outcomes old new) is driven in
+    subst (λ (left : List RingCore). All (λ (r : ReplicaState). r.shown.version ≡ length (log_of (events_of steps outcomes))) (replicas_of_cores left)) (sym (written_back n new cores drives.all long))
+    (newest_for con.0 con.1 steps outcomes cores new inside (no_histories [] cores cores nothing (driven_none cores)) drives con.2 order rest)
+
+pub decided_after : (steps : List CoreStep) (outcomes : List StepOutcome) (cores slice new : List RingCore) → slice ≡ cores → All (λ (s : CoreStep). s.core < length cores) steps → All HasDoneNothing cores → AreDriven steps outcomes slice new
+    → ((budget : ℕ) × (budgets : List ℕ) × Conclude budget budgets new) → All HasAllDecided new → (core : ℕ) → length (decided_in core (events_of steps outcomes)) ≡ length (of_core asked_op core steps outcomes)
+decided_after steps outcomes cores slice new is inside nothing driven con decides =
+    decided_for con.0 con.1 steps outcomes cores new inside (no_histories [] cores cores nothing (driven_none cores)) (λ i c at. (done_nothing cores i c nothing at).pending) (subst (λ (old : List RingCore). AreDriven steps outcomes old new) is driven) con.2 decides
+
+-- and cores that were looked at
+pub seen_same : (old new : List RingCore) → AreSeen old new → AreSameCores old new
+seen_same old new seen = record { all = seen.looked.all; each = λ i c d at at'. looked_same c d (seen.looked.each i c d at at') }
+
+pub done_looked : (steps : List CoreStep) (outcomes : List StepOutcome) (old mid new : List RingCore) → AreDone steps outcomes old mid → AreSeen mid new → AreDone steps outcomes old new
+done_looked steps outcomes old mid new done seen = record {
+  budget = done.budget;
+  budgets = done.budgets;
+  machine = machine_ran done.budget done.budgets mid new done.machine (seen_same mid new seen);
+  con = seen.concludes done.budget done.budgets done.machine;
+  driven = driven_looked steps outcomes old mid new done.driven seen.looked;
+  order = done.order;
+}
+
+-- and turns that receive no packet
+
+turn_step : (n : ℕ) (s : CoreStep) → IsTurnOf n s → IsStep n s
+turn_step n s t = (t.inside, subst (IsGivable s.core) (sym t.is_turn) tt)
+
+pub turns_more : (n : ℕ) (turns : List CoreStep) (core : ℕ) → All (IsTurnOf n) turns → core < n → All (IsTurnOf n) (turns ++ turn_of_core core ∷ [])
+turns_more n turns core all inside = All-append (IsTurnOf n) turns (turn_of_core core ∷ []) all (All-cons (IsTurnOf n) (turn_of_core core) [] (record { inside = inside; is_turn = refl }) (All-nil (IsTurnOf n)))
+
+pub turned_more : (steps turns : List CoreStep) (outcomes : List StepOutcome) (core : ℕ) (o : StepOutcome) (old mid new : List RingCore) → All (IsStep (length old)) steps → All (IsTurnOf (length mid)) turns → core < length mid → All HasDoneNothing old
+    → AreDone (steps ++ turns) outcomes old mid → AreDriven (turn_of_core core ∷ []) (o ∷ []) mid new → AreSameCores mid new → ((budget : ℕ) (budgets : List ℕ) → IsMachine budget budgets mid → Conclude budget budgets new)
+    → AreDone (steps ++ (turns ++ turn_of_core core ∷ [])) (outcomes ++ o ∷ []) old new
+turned_more steps turns outcomes core o old mid new can after inside nothing done driven same concludes =
+    let s = turn_of_core core in
+    let after' = subst (λ (n : ℕ). All (IsTurnOf n) (turns ++ s ∷ [])) done.driven.all (turns_more (length mid) turns core after inside) in
+    let all : All (IsStep (length old)) (steps ++ (turns ++ s ∷ [])) = All-append (IsStep (length old)) steps (turns ++ s ∷ []) can (λ k d within. turn_step (length old) _ (after' k d within)) in
+    let assoc : (steps ++ turns) ++ s ∷ [] ≡ steps ++ (turns ++ s ∷ []) = append_assoc steps turns (s ∷ []) in
+    subst (λ (l : List CoreStep). AreDone l (outcomes ++ o ∷ []) old new) assoc
+    (done_more (steps ++ turns) outcomes s (o ∷ []) old mid new (subst (All (IsStep (length old))) (sym assoc) all) (no_histories [] old old nothing (driven_none old)) done driven same concludes)

@@ -5,7 +5,7 @@ use Rattle.filter_table.specs.Tables.{table}
 use Rattle.table_replica.specs.Shown.{ReplicaState}
 use Rattle.rx_queue.specs.declared.job.Job.{Job}
 use Rattle.world_events.specs.declared.event.Event.{Event}
-use Rattle.world_events.specs.declared.event.Event.TheVariants.{Start, Submit, StartFor, Rx}
+use Rattle.world_events.specs.declared.event.Event.TheVariants.{Start, Submit, Rx}
 use Rattle.world_events.specs.declared.event.Done.{Done}
 use Rattle.world_model.specs.Committed.{log_of}
 use Rattle.world_model.specs.Readings.{version_of}

@@ -4,3 +4,4 @@ pub mod Shown
 pub mod Ended
 pub mod Served
 pub mod Starts
+pub mod Waking

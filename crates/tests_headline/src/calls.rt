@@ -182,6 +182,28 @@ fn cores_serve(rt: HostRuntime) {
     drop(served);
 }
 
+fn request_of_core_1(rt: &impl Abort, alloc: Global) -> Vec<CoreStep>
+    ensures inside { All (λ step. step.core < 2) result.items }
+    ensures short { All (λ step. (op : GhostOp) → step.task ≡ Ask op → 0 < step.core → HasShortProgram op) result.items }
+{
+    let ask = CoreStep {
+        core: 1,
+        task: Task::Ask { op: create() },
+    };
+    vec![in alloc; ask].expect(rt, "there is memory")
+}
+
+/// What a core was asked last is decided by the turns that are taken after the steps.
+#[test]
+fn cores_that_served_come_to_rest(rt: HostRuntime) {
+    let steps = request_of_core_1(&rt, rt.alloc());
+    let served = serve(rt.alloc(), &[100, 100], steps).expect(&rt, "there is memory");
+    equal(&rt, served.halted, None);
+    equal(&rt, last_version(&served.replicas, 0), Some(1));
+    equal(&rt, last_version(&served.replicas, 1), Some(1));
+    drop(served);
+}
+
 /// A machine has a core.
 #[test]
 fn no_machine_without_a_core(rt: HostRuntime) {

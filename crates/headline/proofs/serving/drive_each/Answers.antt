@@ -5,9 +5,8 @@ use Rattle.core_drive.specs.declared.step.CoreStep.{CoreStep}
 use Rattle.core_drive.specs.declared.step.StepOutcome.{StepOutcome}
 use Rattle.std.proofs.lemmas.List.Elements.{All-append}
 use Rattle.core_drive.specs.Driving.{IsStep, IsRunning, AreDriven}
-use Rattle.headline.specs.Served.{events_of}
-use Rattle.headline.specs.Starts.{StartOneByOne}
-use Rattle.headline.proofs.Stepping.{AreDone, done_none, done_more, driven_first, no_histories, inside_front}
+use Rattle.headline.specs.Waking.{AreDone}
+use Rattle.headline.proofs.Stepping.{done_none, done_more, driven_first, no_histories, inside_front}
 use Rattle.headline.proofs.serving.drive_each.Goals as goal
 
 pub loop-step-init : goal.loop-step-init
@@ -37,18 +36,17 @@ loop-step-preserved c =
       running = rw c.in_ok-append.ensures.items (All-append IsRunning c.loop-step.outcomes.items c.in_ok-outcome.outcome.items c.loop-step.invariant.running e.running);
     }
 
-pub returns-clause-driven : goal.returns-clause-driven
-returns-clause-driven c =
+pub returns-clause-done : goal.returns-clause-done
+returns-clause-done c =
     let none : into_iter_items c.loop-step.step-iterator ≡ [] = nil_from_length _ (sym c.loop-step.step-iterator.rest.ok.0 ∙ c.in-None.ensures.steps.0) in
     let all : c.args.steps.items ≡ c.loop-step.yielded = c.loop-step.invariant.whole ∙ ap (λ (l : List CoreStep). c.loop-step.yielded ++ l) none ∙ append-nil c.loop-step.yielded in
     let looked = subst (λ (l : List CoreStep). AreDriven l c.in_ok-outcomes.outcomes.items c.args.cores.now c.drive.new.cores) c.new.ensures.items c.in_ok-outcomes.ensures.driven in
-    rw all (driven_first c.loop-step.yielded c.loop-step.outcomes.items c.in_ok-outcomes.outcomes.items c.args.cores.now c.drive.new.cores c.loop-step.cores looked c.loop-step.invariant.done.driven)
-
-pub returns-clause-concludes : goal.returns-clause-concludes
-returns-clause-concludes c = let d = c.loop-step.invariant.done in (d.budget, d.budgets, d.con)
-
-pub returns-clause-order : goal.returns-clause-order
-returns-clause-order c =
-    let none : into_iter_items c.loop-step.step-iterator ≡ [] = nil_from_length _ (sym c.loop-step.step-iterator.rest.ok.0 ∙ c.in-None.ensures.steps.0) in
-    let all : c.args.steps.items ≡ c.loop-step.yielded = c.loop-step.invariant.whole ∙ ap (λ (l : List CoreStep). c.loop-step.yielded ++ l) none ∙ append-nil c.loop-step.yielded in
-    subst (λ (l : List CoreStep). StartOneByOne (events_of l c.loop-step.outcomes.items)) (sym all) c.loop-step.invariant.done.order
+    let d = c.loop-step.invariant.done in
+    subst (λ (l : List CoreStep). AreDone l c.loop-step.outcomes.items c.args.cores.now c.loop-step.cores) (sym all) (record {
+      budget = d.budget;
+      budgets = d.budgets;
+      machine = d.machine;
+      con = d.con;
+      driven = driven_first c.loop-step.yielded c.loop-step.outcomes.items c.in_ok-outcomes.outcomes.items c.args.cores.now c.drive.new.cores c.loop-step.cores looked d.driven;
+      order = d.order;
+    })

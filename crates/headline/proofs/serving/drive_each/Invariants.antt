@@ -1,7 +1,7 @@
 use Rattle.std.proofs.Common.{All, ◌≡◌, ◌++◌}
 use Rattle.std.specs.Vec.Iter.{into_iter_items}
 use Rattle.core_drive.specs.Driving.{IsRunning}
-use Rattle.headline.proofs.Stepping.{AreDone}
+use Rattle.headline.specs.Waking.{AreDone}
 use Rattle.headline.proofs.serving.drive_each.Given as goal
 
 abbrev pub invariant-loop-step : goal.invariant-loop-step
