@@ -1,11 +1,10 @@
 -- How a request comes in, and how it is begun.
-use Rattle.std.proofs.Common.{◌≡◌, ◌≢◌, ◌+◌, ◌-◌, ◌<◌, ℕ, suc, Bool, false, Option, Some, None, List, length, replicate, drop, slice_get, slice_set, refl, sym, ap, subst, ◌∙◌, arith}
-use Rattle.std.specs.List.{refill}
+use Rattle.std.proofs.Common.{◌≡◌, ◌≢◌, ◌+◌, ◌-◌, ◌<◌, ℕ, suc, Bool, false, Option, Some, None, List, length, replicate, slice_get, slice_set, refl, sym, ap, subst, ◌∙◌, arith}
 use Rattle.std.specs.Prelude.{◌==◌, Result, Ok, Err, IfErr, OnOk, OnErr}
 use Rattle.std.specs.Result.{result_err}
 use Rattle.monitor_2pc.specs.Starting.{WasStaged}
 use Rattle.std.specs.Option.{option_eq}
-use Rattle.std.proofs.lemmas.List.{take_at, length-set}
+use Rattle.std.proofs.lemmas.List.{length-set}
 use Rattle.std.proofs.lemmas.Bool.Decides.{nat_tests}
 use Rattle.filter_table.specs.declared.operation.Op.{Op}
 use Rattle.filter_table.specs.declared.operation.StageFault.{StageFault}
@@ -24,16 +23,6 @@ use Rattle.monitor_2pc.specs.Waiting.{phase_of, KeepsDecided}
 use Rattle.monitor_2pc.specs.Places.{after_commit}
 use Rattle.monitor_2pc.specs.Coordinators.{Phase, Idle, Voting, CoordinatorPlace, CoordinatorState, Requests, coordinator_place, CanSubmit, with_waiting, Starts, refused, unstaged, alone, prepared, StartsFor, reply_to, asker_after, step, veto_of}
 
--- what a slice of the elements had is what they have then
-pub refilled : {X : Type 0} (xs ws : List X) → length ws ≡ length xs → refill (length xs) xs ws ≡ ws
-refilled xs ws e = take_at ws (drop (length ws) xs) (length xs) e
-
--- a write of one of them
-pub refilled_set : {X : Type 0} (xs lent ws : List X) (i : ℕ) (x : X) → lent ≡ xs → ws ≡ slice_set lent i x → refill (length xs) xs ws ≡ slice_set xs i x
-refilled_set xs lent ws i x l e =
-    let is : ws ≡ slice_set xs i x = rw l at e in
-    refilled xs ws (ap length is ∙ length-set xs i x) ∙ is
-
 -- Requests that wait
 
 not_asker : (asker : Option ℕ) (from : ℕ) → option_eq ◌==◌ asker (Some from) ≡ false → asker ≢ Some from
@@ -44,21 +33,21 @@ not_asker (Some core) from e a = let is : core ≡ from = cc in grind (arith, na
 abbrev pub shown_by : ℕ → Phase → List (Option Op) → Option ℕ → Option Decision → CoordinatorState
 shown_by last phase waiting asker decided = record { others = length waiting; last = last; phase = phase; requests = record { waiting = waiting; asker = asker; decided = decided } }
 
-pub keeps : (last : ℕ) (phase : Phase) (waiting : List (Option Op)) (asker : Option ℕ) (decided : Option Decision) (own : CoordinatorState) (from at : ℕ) (op : Op) (lent new : List (Option Op))
-    → shown_by last phase waiting asker decided ≡ own → 0 < from → at ≡ from → lent ≡ waiting → option_eq ◌==◌ asker (Some from) ≡ false
-    → slice_get lent (at - 1) ≡ Some None → new ≡ slice_set lent (at - 1) (Some op)
-    → (entry : ℕ) × (from ≡ suc entry) × CanSubmit own.requests entry × (shown_by last phase (refill (length waiting) waiting new) asker decided ≡ record own { requests = with_waiting own.requests entry op })
-keeps last phase waiting asker decided own from at op lent new view above place lends other free kept =
+pub keeps : (last : ℕ) (phase : Phase) (waiting : List (Option Op)) (asker : Option ℕ) (decided : Option Decision) (own : CoordinatorState) (from at : ℕ) (op : Op) (new : List (Option Op))
+    → shown_by last phase waiting asker decided ≡ own → 0 < from → at ≡ from → option_eq ◌==◌ asker (Some from) ≡ false
+    → slice_get waiting (at - 1) ≡ Some None → new ≡ slice_set waiting (at - 1) (Some op)
+    → (entry : ℕ) × (from ≡ suc entry) × CanSubmit own.requests entry × (shown_by last phase new asker decided ≡ record own { requests = with_waiting own.requests entry op })
+keeps last phase waiting asker decided own from at op new view above place other free kept =
     let entry_is : from ≡ suc (at - 1) = omega arith in
-    let here : slice_get waiting (at - 1) ≡ Some None = rw lends at free in
+    let here : slice_get waiting (at - 1) ≡ Some None = free in
     let under : asker ≢ Some (suc (at - 1)) = subst (λ (n : ℕ). asker ≢ Some n) entry_is (not_asker asker from other) in
-    let full : refill (length waiting) waiting new ≡ slice_set waiting (at - 1) (Some op) = refilled_set waiting lent new (at - 1) (Some op) lends kept in
-    let same : shown_by last phase (refill (length waiting) waiting new) asker decided ≡ record (shown_by last phase waiting asker decided) { requests = with_waiting (shown_by last phase waiting asker decided).requests (at - 1) op } =
+    let full : new ≡ slice_set waiting (at - 1) (Some op) = kept in
+    let same : shown_by last phase new asker decided ≡ record (shown_by last phase waiting asker decided) { requests = with_waiting (shown_by last phase waiting asker decided).requests (at - 1) op } =
     rw (full, length-set waiting (at - 1) (Some op)) refl in (
       at - 1,
       entry_is,
       subst (λ (o : CoordinatorState). CanSubmit o.requests (at - 1)) view (record { none_waiting = here; none_under_way = under }),
-      subst (λ (o : CoordinatorState). shown_by last phase (refill (length waiting) waiting new) asker decided ≡ record o { requests = with_waiting o.requests (at - 1) op }) view same,
+      subst (λ (o : CoordinatorState). shown_by last phase new asker decided ≡ record o { requests = with_waiting o.requests (at - 1) op }) view same,
     )
 
 -- Requests that are begun
@@ -112,18 +101,18 @@ left waiting asker = record { waiting = waiting; asker = asker; decided = None }
 abbrev pub replying : Step → Option (ℕ × Decision) → Step
 replying begun reply = record begun { reply = reply }
 
-starts_for : (s : TableState) (budget last : ℕ) (phase : Phase) (waiting lent taken : List (Option Op)) (asker : Option ℕ) (decided : Option Decision) (own : CoordinatorState) (staged : Option Op) (from at : ℕ) (op : Op) (place' : CoordinatorPlace) (requests' : Requests) (committed : Option Op) (begun told : Step)
-    → shown_by last phase waiting asker decided ≡ own → 0 < from → at ≡ from → lent ≡ waiting
-    → slice_get lent (at - 1) ≡ Some (Some op) → taken ≡ slice_set lent (at - 1) None
-    → Starts (length (refill (length waiting) waiting taken)) s budget (placed last phase staged) op place' committed begun
-    → requests' ≡ left (refill (length waiting) waiting taken) (asker_after from begun.decided)
+starts_for : (s : TableState) (budget last : ℕ) (phase : Phase) (waiting taken : List (Option Op)) (asker : Option ℕ) (decided : Option Decision) (own : CoordinatorState) (staged : Option Op) (from at : ℕ) (op : Op) (place' : CoordinatorPlace) (requests' : Requests) (committed : Option Op) (begun told : Step)
+    → shown_by last phase waiting asker decided ≡ own → 0 < from → at ≡ from
+    → slice_get waiting (at - 1) ≡ Some (Some op) → taken ≡ slice_set waiting (at - 1) None
+    → Starts (length taken) s budget (placed last phase staged) op place' committed begun
+    → requests' ≡ left taken (asker_after from begun.decided)
     → told ≡ replying begun (reply_to from begun.decided)
     → (entry : ℕ) × (from ≡ suc entry) × StartsFor own.others s budget (coordinator_place own staged) own.requests entry place' requests' committed told
-starts_for s budget last phase waiting lent taken asker decided own staged from at op place' requests' committed begun told view above place lends here out starts next tells =
+starts_for s budget last phase waiting taken asker decided own staged from at op place' requests' committed begun told view above place here out starts next tells =
     let entry_is : from ≡ suc (at - 1) = omega arith in
-    let there : slice_get waiting (at - 1) ≡ Some (Some op) = rw lends at here in
-    let full : refill (length waiting) waiting taken ≡ slice_set waiting (at - 1) None = refilled_set waiting lent taken (at - 1) None lends out in
-    let many : length (refill (length waiting) waiting taken) ≡ length waiting = ap length full ∙ length-set waiting (at - 1) None in
+    let there : slice_get waiting (at - 1) ≡ Some (Some op) = here in
+    let full : taken ≡ slice_set waiting (at - 1) None = out in
+    let many : length taken ≡ length waiting = ap length full ∙ length-set waiting (at - 1) None in
     let begins : Starts (length waiting) s budget (placed last phase staged) op place' committed begun = subst (λ (n : ℕ). Starts n s budget (placed last phase staged) op place' committed begun) many starts in
     let for_fields : StartsFor (length waiting) s budget (placed last phase staged) (record { waiting = waiting; asker = asker; decided = decided }) (at - 1) place' requests' committed told = record {
       op = op;
@@ -145,36 +134,36 @@ StartsForSome s budget own staged from own' staged' told shown' =
     (entry : ℕ) × (committed : Option Op) × (from ≡ suc entry) × StartsFor own.others s budget (coordinator_place own staged) own.requests entry (coordinator_place own' staged') own'.requests committed told × (shown' ≡ after_commit s committed)
 
 -- a decision at once goes to the core
-pub starts_for_decided : (s : TableState) (budget last : ℕ) (wait : Wait) (votes : List (Option Vote)) (acks : List Bool) (waiting lent taken : List (Option Op)) (asker : Option ℕ) (decided : Option Decision) (own new own' : CoordinatorState) (staged staged' : Option Op) (from at : ℕ) (op : Op) (begun told : Step) (shown' : TableState) (decision : Decision)
-    → shown_by last (phase_of wait votes acks) waiting asker decided ≡ own → own.phase ≡ Idle → KeepsDecided wait asker decided → 0 < from → at ≡ from → lent ≡ waiting
-    → slice_get lent (at - 1) ≡ Some (Some op) → taken ≡ slice_set lent (at - 1) None
-    → Begins s budget last (phase_of wait votes acks) (refill (length waiting) waiting taken) staged op new staged' begun shown'
-    → new.requests ≡ record { waiting = refill (length waiting) waiting taken; asker = asker; decided = decided }
+pub starts_for_decided : (s : TableState) (budget last : ℕ) (wait : Wait) (votes : List (Option Vote)) (acks : List Bool) (waiting taken : List (Option Op)) (asker : Option ℕ) (decided : Option Decision) (own new own' : CoordinatorState) (staged staged' : Option Op) (from at : ℕ) (op : Op) (begun told : Step) (shown' : TableState) (decision : Decision)
+    → shown_by last (phase_of wait votes acks) waiting asker decided ≡ own → own.phase ≡ Idle → KeepsDecided wait asker decided → 0 < from → at ≡ from
+    → slice_get waiting (at - 1) ≡ Some (Some op) → taken ≡ slice_set waiting (at - 1) None
+    → Begins s budget last (phase_of wait votes acks) taken staged op new staged' begun shown'
+    → new.requests ≡ record { waiting = taken; asker = asker; decided = decided }
     → begun.decided ≡ Some decision → told ≡ replying begun (Some (from, decision)) → own' ≡ new
     → StartsForSome s budget own staged from own' staged' told shown'
-starts_for_decided s budget last wait votes acks waiting lent taken asker decided own new own' staged staged' from at op begun told shown' decision view idle kept above place lends here out begins same now tells is =
+starts_for_decided s budget last wait votes acks waiting taken asker decided own new own' staged staged' from at op begun told shown' decision view idle kept above place here out begins same now tells is =
     let rest = at_rest wait votes acks asker decided (ap (λ (o : CoordinatorState). o.phase) view ∙ idle) kept in
-    let next : new.requests ≡ left (refill (length waiting) waiting taken) (asker_after from begun.decided) = same ∙ rw (rest.0, rest.1, now) refl in
-    let r = starts_for s budget last (phase_of wait votes acks) waiting lent taken asker decided own staged from at op (coordinator_place new staged') new.requests begins.0 begun told view above place lends here out begins.1 next (tells ∙ rw now refl) in
+    let next : new.requests ≡ left taken (asker_after from begun.decided) = same ∙ rw (rest.0, rest.1, now) refl in
+    let r = starts_for s budget last (phase_of wait votes acks) waiting taken asker decided own staged from at op (coordinator_place new staged') new.requests begins.0 begun told view above place here out begins.1 next (tells ∙ rw now refl) in
     subst (λ (o : CoordinatorState). StartsForSome s budget own staged from o staged' told shown') (sym is) (r.0, begins.0, r.1, r.2, begins.2)
 
 -- else the operation is under way for it
-pub starts_for_asked : (s : TableState) (budget last : ℕ) (wait : Wait) (votes : List (Option Vote)) (acks : List Bool) (waiting lent taken : List (Option Op)) (asker : Option ℕ) (decided : Option Decision) (own new own' : CoordinatorState) (staged staged' : Option Op) (from at : ℕ) (op : Op) (begun told : Step) (shown' : TableState)
+pub starts_for_asked : (s : TableState) (budget last : ℕ) (wait : Wait) (votes : List (Option Vote)) (acks : List Bool) (waiting taken : List (Option Op)) (asker : Option ℕ) (decided : Option Decision) (own new own' : CoordinatorState) (staged staged' : Option Op) (from at : ℕ) (op : Op) (begun told : Step) (shown' : TableState)
     (last2 : ℕ) (phase2 : Phase) (waiting2 : List (Option Op)) (asker2 : Option ℕ) (decided2 : Option Decision)
-    → shown_by last (phase_of wait votes acks) waiting asker decided ≡ own → own.phase ≡ Idle → KeepsDecided wait asker decided → 0 < from → at ≡ from → lent ≡ waiting
-    → slice_get lent (at - 1) ≡ Some (Some op) → taken ≡ slice_set lent (at - 1) None
-    → Begins s budget last (phase_of wait votes acks) (refill (length waiting) waiting taken) staged op new staged' begun shown'
-    → new.requests ≡ record { waiting = refill (length waiting) waiting taken; asker = asker; decided = decided }
+    → shown_by last (phase_of wait votes acks) waiting asker decided ≡ own → own.phase ≡ Idle → KeepsDecided wait asker decided → 0 < from → at ≡ from
+    → slice_get waiting (at - 1) ≡ Some (Some op) → taken ≡ slice_set waiting (at - 1) None
+    → Begins s budget last (phase_of wait votes acks) taken staged op new staged' begun shown'
+    → new.requests ≡ record { waiting = taken; asker = asker; decided = decided }
     → begun.decided ≡ None → told ≡ begun → shown_by last2 phase2 waiting2 asker2 decided2 ≡ new → own' ≡ shown_by last2 phase2 waiting2 (Some from) decided2
     → StartsForSome s budget own staged from own' staged' told shown'
-starts_for_asked s budget last wait votes acks waiting lent taken asker decided own new own' staged staged' from at op begun told shown' last2 phase2 waiting2 asker2 decided2 view idle kept above place lends here out begins same now tells view2 is =
+starts_for_asked s budget last wait votes acks waiting taken asker decided own new own' staged staged' from at op begun told shown' last2 phase2 waiting2 asker2 decided2 view idle kept above place here out begins same now tells view2 is =
     let rest = at_rest wait votes acks asker decided (ap (λ (o : CoordinatorState). o.phase) view ∙ idle) kept in
     let silent : begun.reply ≡ None = no_reply _ _ _ _ _ _ _ _ begins.1 in
-    let waits : waiting2 ≡ refill (length waiting) waiting taken = ap (λ (o : CoordinatorState). o.requests.waiting) view2 ∙ ap (λ (r : Requests). r.waiting) same in
+    let waits : waiting2 ≡ taken = ap (λ (o : CoordinatorState). o.requests.waiting) view2 ∙ ap (λ (r : Requests). r.waiting) same in
     let undecided : decided2 ≡ None = ap (λ (o : CoordinatorState). o.requests.decided) view2 ∙ (ap (λ (r : Requests). r.decided) same ∙ rest.1) in
-    let next : record { waiting = waiting2; asker = Some from; decided = decided2 } ≡ left (refill (length waiting) waiting taken) (asker_after from begun.decided) = rw (waits, undecided, now) refl in
+    let next : record { waiting = waiting2; asker = Some from; decided = decided2 } ≡ left taken (asker_after from begun.decided) = rw (waits, undecided, now) refl in
     let told_is : told ≡ replying begun (reply_to from begun.decided) = tells ∙ rw now (sym (rw silent refl)) in
-    let r = starts_for s budget last (phase_of wait votes acks) waiting lent taken asker decided own staged from at op (coordinator_place new staged') (record { waiting = waiting2; asker = Some from; decided = decided2 }) begins.0 begun told view above place lends here out begins.1 next told_is in
+    let r = starts_for s budget last (phase_of wait votes acks) waiting taken asker decided own staged from at op (coordinator_place new staged') (record { waiting = waiting2; asker = Some from; decided = decided2 }) begins.0 begun told view above place here out begins.1 next told_is in
     let place_is : coordinator_place new staged' ≡ coordinator_place (shown_by last2 phase2 waiting2 (Some from) decided2) staged' = sym (ap (λ (o : CoordinatorState). coordinator_place o staged') view2) in
     subst (λ (o : CoordinatorState). StartsForSome s budget own staged from o staged' told shown') (sym is)
     (r.0, begins.0, r.1, subst (λ (p : CoordinatorPlace). StartsFor own.others s budget (coordinator_place own staged) own.requests r.0 p (record { waiting = waiting2; asker = Some from; decided = decided2 }) begins.0 told) place_is r.2, begins.2)

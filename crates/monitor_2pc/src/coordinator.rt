@@ -11,11 +11,12 @@ ghost use Rattle.monitor_2pc.specs.Places.{after_commit};
 ghost use Rattle.monitor_2pc.specs.Coordinators.{CoordinatorState, CoordinatorPlace, Requests, Idle, Acking, IsVoting, coordinator_place, no_requests, StagedByPhase, CanStart, Starts, StartsFor, CanSubmit, with_waiting, AwaitsVote, Hears, with_decided, AwaitsAck, HearsAck, reply_of, veto_of, veto_by, step};
 ghost use Rattle.monitor_2pc.specs.Starting.{CannotStart, CannotStartFor, WasStaged, asked_by};
 
+use crate::most::MOST_CORES;
 use crate::step::{Say, StartFault, Step, Stranger};
-use crate::tally::{Tally, cast, clear, is_last, mark, unmark, verdict_with};
-use arrayvec::ArrayVec;
+use crate::tally::{AckList, Tally, VoteList};
+use crate::waiting::WaitingList;
 use filter_table::{Decision, Op, StageFault, Veto, Vote};
-use std::alloc::Global;
+use std::alloc::{AllocError, Global};
 use std::marker::Model;
 use table_replica::Replica;
 
@@ -32,10 +33,9 @@ enum Wait {
 pub struct Coordinator {
     last: u64,
     wait: Wait,
-    // Core c's are at entry c - 1, one for each core.
-    votes: ArrayVec<Option<Vote>, 7>,
-    acks: ArrayVec<bool, 7>,
-    waiting: ArrayVec<Option<Op>, 7>,
+    votes: VoteList,
+    acks: AckList,
+    waiting: WaitingList,
     asker: Option<u16>,
     decided: Option<Decision>,
 }
@@ -62,35 +62,29 @@ impl Model for Coordinator {
 
     ghost Value = { CoordinatorState };
 
-    ghost view = { λ c. record { others = length c.waiting.items; last = c.last; phase = phase_of c.wait c.votes.items c.acks.items; requests = record { waiting = c.waiting.items; asker = c.asker; decided = c.decided } } };
+    ghost view = { λ c. record { others = length c.waiting; last = c.last; phase = phase_of c.wait c.votes c.acks; requests = record { waiting = c.waiting; asker = c.asker; decided = c.decided } } };
 
-    ghost invariant = { λ c. (length c.votes.items ≡ length c.waiting.items) × (length c.acks.items ≡ length c.waiting.items) × KeepsDecided c.wait c.asker c.decided };
+    ghost invariant = { λ c. (length c.votes ≡ length c.waiting) × (length c.acks ≡ length c.waiting) × KeepsDecided c.wait c.asker c.decided };
 }
 
 impl Coordinator {
-    /// Idle after this number, with nothing waiting, among so many cores, core 0 included.
-    pub fn new(cores: u16, last: u64) -> Coordinator
+    /// Idle after this number, with nothing waiting, among so many cores, core 0 included. The one error is that there is no
+    /// memory.
+    pub fn new(alloc: Global, cores: u16, last: u64) -> Result<Coordinator, AllocError>
         requires least { 1 ≤ cores }
-        requires most { cores ≤ 8 }
-        ensures { result ≡ record { others = cores - 1; last = last; phase = Idle; requests = no_requests (cores - 1) } }
+        requires most { cores ≤ MOST_CORES }
+        ensures { IfOk result (λ own. own ≡ record { others = cores - 1; last = last; phase = Idle; requests = no_requests (cores - 1) }) }
     {
-        let mut votes = ArrayVec::new();
-        let mut acks = ArrayVec::new();
-        let mut waiting = ArrayVec::new();
-        for _ in 1..cores {
-            votes.push(None);
-            acks.push(false);
-            waiting.push(None);
-        }
-        Coordinator {
+        let others = usize::from(cores) - 1;
+        Ok(Coordinator {
             last,
             wait: Wait::Nothing,
-            votes,
-            acks,
-            waiting,
+            votes: VoteList::new(alloc, others)?,
+            acks: AckList::new(alloc, others)?,
+            waiting: WaitingList::new(alloc, others)?,
             asker: None,
             decided: None,
-        }
+        })
     }
 
     /// Whether no request is under way.
@@ -118,7 +112,7 @@ impl Coordinator {
     pub fn others(&self) -> usize
         ensures { result ≡ self.now.others }
     {
-        self.waiting.len()
+        self.waiting.others()
     }
 
     /// The core whose request is under way, where that is not core 0.
@@ -135,7 +129,14 @@ impl Coordinator {
         ensures none { IfNone result ((entry : ℕ) (op : GhostOp) → from ≡ suc entry → slice_get self.now.requests.waiting entry ≡ Some (Some op) → ⊥) }
     {
         let entry = usize::from(from).checked_sub(1)?;
-        self.waiting.as_slice().get(entry)?.as_ref()
+        self.waiting.get(entry)
+    }
+
+    /// Whether a core has a request waiting.
+    pub fn has_waiting(&self) -> bool
+        ensures { IsTrue result ↔ (entry : ℕ) × (op : GhostOp) × (slice_get self.now.requests.waiting entry ≡ Some (Some op)) }
+    {
+        self.waiting.has_some()
     }
 
     /// Keeps a request of another core as waiting. A stranger changes nothing.
@@ -147,7 +148,7 @@ impl Coordinator {
         if from == 0 || self.asker == Some(from) {
             return Err(Stranger);
         }
-        if !keep(self.waiting.as_mut_slice(), usize::from(from) - 1, op) {
+        if !self.waiting.keep(usize::from(from) - 1, op) {
             return Err(Stranger);
         }
         Ok(())
@@ -239,10 +240,10 @@ impl Coordinator {
             return refused_step(self.last, fault);
         }
         self.last += 1;
-        if self.waiting.is_empty() {
+        if self.waiting.others() == 0 {
             return committed_step(self.last, None, replica);
         }
-        clear(self.votes.as_mut_slice());
+        self.votes.clear();
         self.wait = Wait::Votes;
         Step {
             txn: self.last,
@@ -272,7 +273,7 @@ impl Coordinator {
         ensures staged { StagedByPhase self.new.phase replica.new.staged }
     {
         let entry = usize::from(from) - 1;
-        let Some(_op) = take_out(self.waiting.as_mut_slice(), entry) else {
+        let Some(_op) = self.waiting.take_out(entry) else {
             unreachable!()
         };
         let mut begun = self.begin(replica, refusal);
@@ -306,7 +307,7 @@ impl Coordinator {
         if self.wait != Wait::Votes || txn != self.last || from == 0 {
             return Err(Stranger);
         }
-        match cast(self.votes.as_mut_slice(), usize::from(from) - 1, vote) {
+        match self.votes.cast(usize::from(from) - 1, vote) {
             None => Err(Stranger),
             Some(Tally::Open) => Ok(Step {
                 txn,
@@ -335,7 +336,7 @@ impl Coordinator {
         if from == 0 {
             return None;
         }
-        verdict_with(self.votes.as_slice(), usize::from(from) - 1, vote)
+        self.votes.verdict_with(usize::from(from) - 1, vote)
     }
 
     /// The decision that core 0 sends, and to which core, when it takes this acknowledgement, one that it waits for: none where
@@ -346,7 +347,7 @@ impl Coordinator {
         ensures told { (entry txn : ℕ) (place : CoordinatorPlace) (requests : Requests) (told : GhostStep)
             → from ≡ suc entry → HearsAck (coordinator_place self.now None) self.now.requests entry txn place requests told → told.reply ≡ result }
     {
-        if from == 0 || !is_last(self.acks.as_slice(), usize::from(from) - 1) {
+        if from == 0 || !self.acks.is_last(usize::from(from) - 1) {
             return None;
         }
         reply_of(self.asker, self.decided)
@@ -356,7 +357,7 @@ impl Coordinator {
     fn decide(&mut self, decided: Option<Decision>)
         ensures { self.new ≡ record self.old { phase = Acking (replicate self.old.others false); requests = with_decided self.old.requests decided } }
     {
-        unmark(self.acks.as_mut_slice());
+        self.acks.unmark();
         self.wait = Wait::Acks;
         self.decided = decided;
     }
@@ -374,7 +375,7 @@ impl Coordinator {
         if self.wait != Wait::Acks || txn != self.last || from == 0 {
             return Err(Stranger);
         }
-        match mark(self.acks.as_mut_slice(), usize::from(from) - 1) {
+        match self.acks.mark(usize::from(from) - 1) {
             Some(true) => {
                 self.wait = Wait::Nothing;
                 Ok(Step {
@@ -393,33 +394,6 @@ impl Coordinator {
             None => Err(Stranger),
         }
     }
-}
-
-// Puts a request where none is waiting, and tells whether it did.
-fn keep(waiting: &mut [Option<Op>], entry: usize, op: Op) -> bool
-    ensures free { IsTrue result → slice_get waiting.old entry ≡ Some None }
-    ensures kept { IsTrue result → waiting.new ≡ slice_set waiting.old entry (Some op) }
-    ensures not_free { IsFalse result → slice_get waiting.old entry ≡ Some None → ⊥ }
-    ensures same { IsFalse result → waiting.new ≡ waiting.old }
-{
-    if entry >= waiting.len() || waiting[entry].is_some() {
-        return false;
-    }
-    waiting[entry] = Some(op);
-    true
-}
-
-// Takes the waiting request out.
-fn take_out(waiting: &mut [Option<Op>], entry: usize) -> Option<Op>
-    ensures was { IfSome result (λ op. slice_get waiting.old entry ≡ Some (Some op)) }
-    ensures out { OnSome result (waiting.new ≡ slice_set waiting.old entry None) }
-    ensures none { IfNone result ((op : GhostOp) → slice_get waiting.old entry ≡ Some (Some op) → ⊥) }
-    ensures same { IfNone result (waiting.new ≡ waiting.old) }
-{
-    if entry >= waiting.len() {
-        return None;
-    }
-    waiting[entry].take()
 }
 
 // The decision for the core that asked.

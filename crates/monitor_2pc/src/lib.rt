@@ -17,11 +17,14 @@
 #![tactic(auto)]
 
 mod coordinator;
+mod most;
 mod participant;
 mod step;
 mod tally;
+mod waiting;
 
 pub use coordinator::{Coordinator, veto_of};
 pub use monitor_messages::{Decision, DecodeFault, Message, Veto, Vote, decode, encode};
+pub use most::MOST_CORES;
 pub use participant::Participant;
 pub use step::{Say, StartFault, Step, Stranger};

@@ -1,12 +1,16 @@
-//! Votes and acknowledgements, core c's at entry c - 1.
+//! Votes and acknowledgements, core c's at entry c - 1. Those that are missing are counted, so that only the last one looks at
+//! the others.
 
-ghost use Rattle.std.specs.Prelude.{◌≡◌, ◌≤◌, true, false, None, Some, OnSome, IfSome, IfNone, length, slice_get, slice_set};
+ghost use Rattle.std.specs.Prelude.{◌≡◌, ◌≢◌, ◌<◌, ◌≤◌, ℕ, true, false, None, Some, IfOk, OnSome, IfSome, IfNone, length, slice_get, slice_set};
 ghost use Rattle.std.specs.List.{list_all};
 ghost use Rattle.std.proofs.Common.{replicate};
 ghost use Rattle.monitor_2pc.specs.Tallying.{Tallied, SaysOn};
 
+use crate::most::MOST_CORES;
 use crate::step::Say;
 use filter_table::Vote;
+use std::alloc::{AllocError, Global};
+use std::marker::Model;
 
 /// What votes come to.
 #[derive(Clone, Copy)]
@@ -19,43 +23,103 @@ pub(crate) enum Tally {
     Against(u16, Vote),
 }
 
-/// Puts in a vote where there is none yet, and tells what the votes come to then.
-pub(crate) fn cast(votes: &mut [Option<Vote>], entry: usize, vote: Vote) -> Option<Tally>
-    requires { length votes.old ≤ 7 }
-    ensures open { OnSome result (slice_get votes.old entry ≡ Some None) }
-    ensures cast { OnSome result (votes.new ≡ slice_set votes.old entry (Some vote)) }
-    ensures tallied { IfSome result (Tallied votes.new) }
-    ensures not_open { IfNone result (slice_get votes.old entry ≡ Some None → ⊥) }
-    ensures same { IfNone result (votes.new ≡ votes.old) }
-{
-    if entry >= votes.len() || votes[entry].is_some() {
-        return None;
-    }
-    votes[entry] = Some(vote);
-    Some(outcome_of(votes))
+/// The votes so far, and how many are missing.
+pub(crate) struct VoteList {
+    votes: Vec<Option<Vote>>,
+    missing: usize,
 }
 
+// By hand, so that the proofs of its owners have one call and not a drop of each part.
+impl Drop for VoteList {
+    fn drop(self) {
+        let VoteList {
+            votes: _,
+            missing: _,
+        } = self;
+    }
+}
+
+impl Model for VoteList {
+    ghost use Rattle.std.specs.Prelude.{◌≡◌, ◌<◌, List, Option, length};
+    ghost use Rattle.filter_table.specs.declared.decision.Vote.{Vote as GhostVote};
+    ghost use Rattle.monitor_2pc.specs.declared.most.TheConstants.{MOST_CORES};
+    ghost use Rattle.monitor_2pc.specs.Counting.{votes_missing};
+
+    ghost Value = { List (Option GhostVote) };
+
+    ghost view = { λ list. list.votes.items };
+
+    ghost invariant = { λ list. (length list.votes.items < MOST_CORES) × (list.missing ≡ votes_missing list.votes.items) };
+}
+
+impl VoteList {
+    /// Of so many cores, all of whose votes are missing.
+    pub(crate) fn new(alloc: Global, others: usize) -> Result<VoteList, AllocError>
+        requires { others < MOST_CORES }
+        ensures { IfOk result (λ list. list ≡ replicate others None) }
+    {
+        Ok(VoteList {
+            votes: vec![in alloc; None; others]?,
+            missing: others,
+        })
+    }
+
+    /// Puts in a vote where there is none yet, and tells what the votes come to then.
+    pub(crate) fn cast(&mut self, entry: usize, vote: Vote) -> Option<Tally>
+        ensures open { OnSome result (slice_get self.old entry ≡ Some None) }
+        ensures cast { OnSome result (self.new ≡ slice_set self.old entry (Some vote)) }
+        ensures tallied { IfSome result (Tallied self.new) }
+        ensures not_open { IfNone result (slice_get self.old entry ≡ Some None → ⊥) }
+        ensures same { IfNone result (self.new ≡ self.old) }
+    {
+        if entry >= self.votes.len() || self.votes[entry].is_some() {
+            return None;
+        }
+        self.votes[entry] = Some(vote);
+        self.missing -= 1;
+        if self.missing > 0 {
+            return Some(Tally::Open);
+        }
+        Some(outcome_of(&self.votes))
+    }
+
+    /// What core 0 says once this vote is put in where there is none yet.
+    pub(crate) fn verdict_with(&self, entry: usize, vote: Vote) -> Option<Say>
+        ensures { slice_get self.now entry ≡ Some None → SaysOn (slice_set self.now entry (Some vote)) result }
+    {
+        if self.missing > 1 {
+            return None;
+        }
+        verdict_of(&self.votes, entry, vote)
+    }
+
+    /// Takes all votes out.
+    pub(crate) fn clear(&mut self)
+        ensures { self.new ≡ replicate (length self.old) None }
+    {
+        self.votes.fill(None);
+        self.missing = self.votes.len();
+    }
+}
+
+// What votes come to, none of which is missing.
 fn outcome_of(votes: &[Option<Vote>]) -> Tally
-    requires { length votes.now ≤ 7 }
+    requires few { length votes.now < MOST_CORES }
+    requires full { (i : ℕ) → slice_get votes.now i ≢ Some None }
     ensures { Tallied votes.now result }
 {
-    for vote in votes {
-        if vote.is_none() {
-            return Tally::Open;
-        }
-    }
     for (entry, vote) in votes.iter().enumerate() {
         match *vote {
             Some(Vote::Yes) => {}
             Some(against) => return Tally::Against(entry as u16 + 1, against),
-            None => return Tally::Open,
+            None => unreachable!(),
         }
     }
     Tally::AllYes
 }
 
-/// What core 0 says once this vote is put in where there is none yet.
-pub(crate) fn verdict_with(votes: &[Option<Vote>], entry: usize, vote: Vote) -> Option<Say>
+// What core 0 says on these votes, with this one at the entry.
+fn verdict_of(votes: &[Option<Vote>], entry: usize, vote: Vote) -> Option<Say>
     ensures { SaysOn (slice_set votes.now entry (Some vote)) result }
 {
     let mut verdict = Say::Commit;
@@ -70,49 +134,72 @@ pub(crate) fn verdict_with(votes: &[Option<Vote>], entry: usize, vote: Vote) -> 
     Some(verdict)
 }
 
-/// Takes all votes out.
-pub(crate) fn clear(votes: &mut [Option<Vote>])
-    ensures { votes.new ≡ replicate (length votes.old) None }
-{
-    votes.fill(None);
+/// The cores that acknowledged, and how many did not yet.
+pub(crate) struct AckList {
+    acks: Vec<bool>,
+    missing: usize,
 }
 
-/// Marks the entry where it is not marked, and tells whether all are then.
-pub(crate) fn mark(acks: &mut [bool], entry: usize) -> Option<bool>
-    ensures open { OnSome result (slice_get acks.old entry ≡ Some false) }
-    ensures marked { OnSome result (acks.new ≡ slice_set acks.old entry true) }
-    ensures all { IfSome result (λ all. all ≡ list_all (λ ack. ack) acks.new) }
-    ensures not_open { IfNone result (slice_get acks.old entry ≡ Some false → ⊥) }
-    ensures same { IfNone result (acks.new ≡ acks.old) }
-{
-    if entry >= acks.len() || acks[entry] {
-        return None;
+// By hand, so that the proofs of its owners have one call and not a drop of each part.
+impl Drop for AckList {
+    fn drop(self) {
+        let AckList {
+            acks: _,
+            missing: _,
+        } = self;
     }
-    acks[entry] = true;
-    Some(all_marked(acks))
 }
 
-fn all_marked(acks: &[bool]) -> bool
-    ensures { result ≡ list_all (λ ack. ack) acks.now }
-{
-    acks.iter().all(|ack| *ack)
+impl Model for AckList {
+    ghost use Rattle.std.specs.Prelude.{◌≡◌, Bool, List};
+    ghost use Rattle.monitor_2pc.specs.Counting.{acks_missing};
+
+    ghost Value = { List Bool };
+
+    ghost view = { λ list. list.acks.items };
+
+    ghost invariant = { λ list. list.missing ≡ acks_missing list.acks.items };
 }
 
-/// Whether all others than this entry are marked.
-pub(crate) fn is_last(acks: &[bool], entry: usize) -> bool
-    ensures { result ≡ list_all (λ ack. ack) (slice_set acks.now entry true) }
-{
-    for (place, ack) in acks.iter().enumerate() {
-        if place != entry && !*ack {
-            return false;
+impl AckList {
+    /// Of so many cores, none of which is marked.
+    pub(crate) fn new(alloc: Global, others: usize) -> Result<AckList, AllocError>
+        ensures { IfOk result (λ list. list ≡ replicate others false) }
+    {
+        Ok(AckList {
+            acks: vec![in alloc; false; others]?,
+            missing: others,
+        })
+    }
+
+    /// Marks the entry where it is not marked, and tells whether all are then.
+    pub(crate) fn mark(&mut self, entry: usize) -> Option<bool>
+        ensures open { OnSome result (slice_get self.old entry ≡ Some false) }
+        ensures marked { OnSome result (self.new ≡ slice_set self.old entry true) }
+        ensures all { IfSome result (λ all. all ≡ list_all (λ ack. ack) self.new) }
+        ensures not_open { IfNone result (slice_get self.old entry ≡ Some false → ⊥) }
+        ensures same { IfNone result (self.new ≡ self.old) }
+    {
+        if entry >= self.acks.len() || self.acks[entry] {
+            return None;
         }
+        self.acks[entry] = true;
+        self.missing -= 1;
+        Some(self.missing == 0)
     }
-    true
-}
 
-/// Takes all marks off.
-pub(crate) fn unmark(acks: &mut [bool])
-    ensures { acks.new ≡ replicate (length acks.old) false }
-{
-    acks.fill(false);
+    /// Whether all others than this entry, which is not marked, are marked.
+    pub(crate) fn is_last(&self, entry: usize) -> bool
+        ensures { slice_get self.now entry ≡ Some false → result ≡ list_all (λ ack. ack) (slice_set self.now entry true) }
+    {
+        self.missing == 1
+    }
+
+    /// Takes all marks off.
+    pub(crate) fn unmark(&mut self)
+        ensures { self.new ≡ replicate (length self.old) false }
+    {
+        self.acks.fill(false);
+        self.missing = self.acks.len();
+    }
 }

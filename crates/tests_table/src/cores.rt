@@ -2,7 +2,9 @@
 
 use crate::asks::{Sent, asked, said};
 use crate::facts::equal;
-use monitor_2pc::{Coordinator, Message, Participant, StartFault, Step, Stranger, Vote};
+use monitor_2pc::{
+    Coordinator, MOST_CORES, Message, Participant, StartFault, Step, Stranger, Vote,
+};
 use std::alloc::Global;
 use std::marker::Model;
 use std::process::Abort;
@@ -30,7 +32,10 @@ impl Core0 {
     /// With this budget, among so many cores, of which there are 1 to 8; its last number was this.
     pub fn new(rt: &impl Abort, alloc: Global, budget: u32, cores: u16, last: u64) -> Core0 {
         Core0 {
-            core: Coordinator::new(cores.clamp(1, 8), last),
+            core: Coordinator::new(alloc, cores.clamp(1, MOST_CORES), last).expect(
+                rt,
+                "there is memory",
+            ),
             table: Replica::new(alloc, budget).expect(rt, "there is memory"),
         }
     }

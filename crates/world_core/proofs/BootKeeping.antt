@@ -1,11 +1,12 @@
 -- The world as it begins.
-use Rattle.std.proofs.Common.{◌≡◌, ◌∙◌, ◌++◌, ◌∷◌, ◌+◌, ◌≤◌, ◌<◌, ℕ, None, Some, List, [], All, length, map, take, get_or, slice_get, refl, ap, sym, subst, arith}
+use Rattle.std.proofs.Common.{◌≡◌, ◌∙◌, ◌++◌, ◌∷◌, ◌+◌, ◌<◌, ℕ, None, Some, List, [], All, length, map, take, get_or, slice_get, refl, ap, sym, subst, arith}
 use Rattle.std.proofs.lemmas.List.{length-map, map-append, take_more}
 use Rattle.std.proofs.lemmas.List.Elements.{All-push}
 use Rattle.std.proofs.lemmas.Option.{get_or_from_slice_get, slice_get_within}
 use Rattle.filter_table.specs.Tables.{empty_table, table}
 use Rattle.table_replica.specs.Shown.{ReplicaState}
 use Rattle.monitor_messages.specs.declared.message.Message.{Message}
+use Rattle.monitor_2pc.specs.declared.most.TheConstants.{MOST_CORES}
 use Rattle.monitor_2pc.specs.Coordinators.{CoordinatorState, Idle, no_requests}
 use Rattle.world_core.specs.declared.core0.LoggedCore0.{LoggedCore0}
 use Rattle.world_core.specs.declared.peer.Peer.{Peer}
@@ -24,7 +25,7 @@ pub record Begins {C Piece : Type 0} (messages : C → List Message) (core0 : Lo
   pub begun : core0.begun ≡ None
   pub seen : map (seen_peer messages) peers ≡ map worlds.new_peer budgets
   pub kept : All (PeerIsKept []) peers
-  pub few : length budgets ≤ 7
+  pub few : length budgets < MOST_CORES
 
 pub boot_seen : {C Piece : Type 0} (messages : C → List Message) (core0 : LoggedCore0) (peers : List (Peer C Piece)) (budget : ℕ) (budgets : List ℕ) → Begins messages core0 peers budget budgets → seen_world messages core0 peers ≡ worlds.boot budget budgets
 boot_seen messages core0 peers budget budgets b = rw (b.log, b.replica, b.coordinator, b.seen) refl

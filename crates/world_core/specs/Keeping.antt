@@ -5,6 +5,7 @@ use Rattle.filter_table.specs.declared.operation.Op.{Op}
 use Rattle.filter_table.specs.Tables.{TableState, table}
 use Rattle.monitor_messages.specs.declared.message.Message.{Message}
 use Rattle.monitor_messages.specs.declared.message.Message.TheVariants as message
+use Rattle.monitor_2pc.specs.declared.most.TheConstants.{MOST_CORES}
 use Rattle.monitor_2pc.specs.Places.{after_commit}
 use Rattle.world_events.specs.declared.event.Event.TheVariants.{Take}
 use Rattle.world_events.specs.declared.event.Answer.{Answer}
@@ -91,7 +92,7 @@ pub record WorldIsKept {C Piece : Type 0} (messages : C → List Message) (core0
   pub core0_kept : Core0IsKept core0
   pub others : core0.core.coordinator.others ≡ length peers
   pub peers_kept : (i : ℕ) (p : Peer C Piece) → slice_get peers i ≡ Some p → PeerIsKept core0.log.items p
-  pub few : length peers ≤ 7
+  pub few : length peers < MOST_CORES
   pub budget : ℕ
   pub budgets : List ℕ
   pub events : List Done

@@ -3,6 +3,7 @@ use Rattle.std.specs.Prelude.{◌≡◌, ◌≢◌, ◌<◌, ◌≤◌, ◌⊎�
 use Rattle.filter_table.specs.declared.operation.Op.{Op}
 use Rattle.monitor_messages.specs.declared.message.Message.{Message}
 use Rattle.filter_table.specs.Tables.{HasShortProgram}
+use Rattle.monitor_2pc.specs.declared.most.TheConstants.{MOST_CORES}
 use Rattle.monitor_2pc.specs.Coordinators.{Idle}
 use Rattle.world_events.specs.declared.event.Event.{Event}
 use Rattle.world_events.specs.declared.event.Event.TheVariants.{Start, Submit, StartFor, Take, Rx}
@@ -49,9 +50,9 @@ abbrev pub WorldRefuses : World → Event → WorldFault → Type 0
 WorldRefuses w event NoMemory = NoneStands w event
 WorldRefuses w event fault = StandsFirst w event fault
 
--- a machine has 1 to 8 cores
+-- a machine has 1 to MOST_CORES cores
 abbrev pub HasCores : List ℕ → Type 0
-HasCores budgets = (1 ≤ length budgets) × (length budgets ≤ 8)
+HasCores budgets = (1 ≤ length budgets) × (length budgets ≤ MOST_CORES)
 
 abbrev pub BootRefuses : List ℕ → BootFault → Type 0
 BootRefuses budgets boot_fault.CoreCount = HasCores budgets → ⊥

@@ -13,7 +13,7 @@ ghost use Rattle.world_core.specs.LoggedCore0s.{Core0IsKept, Core0IsIdle, Core0S
 use core_steps::{Core0, Told};
 use filter_table::{Op, StageFault};
 use ghost_log::Log;
-use monitor_2pc::{Decision, Message};
+use monitor_2pc::{Decision, MOST_CORES, Message};
 use std::alloc::{AllocError, Global};
 use std::snapshot::Snapshot;
 
@@ -40,7 +40,7 @@ impl Drop for LoggedCore0 {
 impl LoggedCore0 {
     /// Core 0 that has done nothing yet, beside so many others.
     pub(crate) fn new(alloc: Global, budget: u32, others: u16) -> Result<LoggedCore0, AllocError>
-        requires { others ≤ 7 }
+        requires { others < MOST_CORES }
         ensures log { IfOk result (λ core0. core0.log.items ≡ []) }
         ensures replica { IfOk result (λ core0. core0.core.replica ≡ record { budget = budget; shown = empty_table; staged = None }) }
         ensures coordinator { IfOk result (λ core0. core0.core.coordinator ≡ record { others = others; last = 0; phase = Idle; requests = no_requests others }) }

@@ -13,16 +13,13 @@ use crate::peer::{Peer, submit_at, take_at};
 use crate::starting::{begin, begin_for};
 use core_steps::receive;
 use filter_table::Op;
-use monitor_2pc::Message;
+use monitor_2pc::{MOST_CORES, Message};
 use pcap_reader::SharedPacket;
 use std::alloc::{AllocError, Global};
 use std::marker::Model;
 use table_replica::Replica;
 use world_channels::{Channel, Messages};
 use world_events::{Answer, Event, WorldFault};
-
-/// The most cores.
-const CORES: usize = 8;
 
 /// The world of the cores over channels of one kind, seen as the log, the place of each core in the protocol and the messages
 /// under way.
@@ -76,7 +73,7 @@ impl<C: Channel> WorldOver<C> {
         let [budget, others @ ..] = budgets else {
             return Err(BootFault::CoreCount);
         };
-        if others.len() >= CORES {
+        if others.len() >= usize::from(MOST_CORES) {
             return Err(BootFault::CoreCount);
         }
         Ok(WorldOver::assemble(alloc, *budget, others)?)
@@ -84,7 +81,7 @@ impl<C: Channel> WorldOver<C> {
 
     // Core 0 with this budget, and the others with theirs.
     fn assemble(alloc: Global, budget: u32, others: &[u32]) -> Result<WorldOver<C>, AllocError>
-        requires { length others.now ≤ 7 }
+        requires { length others.now < MOST_CORES }
         ensures { IfOk result (λ world. world ≡ worlds.boot budget others.now) }
     {
         // Core 0 is dropped by a call: left to a way out, each of its parts is dropped there, which takes long to prove.
