@@ -1,0 +1,11 @@
+pub mod Apart
+pub mod Halving
+pub mod Keeping
+pub mod Kept
+pub mod Beginnings
+pub mod Listing
+pub mod Mapping
+pub mod Rising
+pub mod Values
+pub mod Vectors
+pub mod Whole
