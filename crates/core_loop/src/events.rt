@@ -149,6 +149,7 @@ pub(crate) fn take_kept<L: Links>(
 }
 
 /// The same where memory is refused to the program that the message brings: a core other than core 0 votes NoMemory.
+#[inline(never)]
 fn take_unread<L: Links>(
     part: &mut Part,
     links: &mut L,

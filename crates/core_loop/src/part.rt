@@ -20,6 +20,7 @@ impl Part {
     ghost use Rattle.core_loop.specs.Standing.{IsSilent};
 
     /// The part of a core of this number, which has done nothing yet.
+    #[inline(never)]
     pub(crate) fn new(
         alloc: Global,
         budget: u32,

@@ -14,7 +14,7 @@ ghost use Rattle.core_steps.specs.Core0Steps.{BetweenSteps, CanBegin, core0_plac
 
 use crate::outgoing::Outgoing;
 use filter_table::{Op, StageFault};
-use monitor_2pc::{Coordinator, Decision, Message, Say, Step, Stranger, Vote, veto_of};
+use monitor_2pc::{Coordinator, Decision, MOST_CORES, Message, Say, Step, Stranger, Vote, veto_of};
 use std::alloc::{AllocError, Global};
 use table_replica::Replica;
 use world_events::Answer;
@@ -44,16 +44,17 @@ pub struct Told {
 
 impl Core0 {
     /// Core 0 that has done nothing yet, of a machine with so many cores.
+    #[inline(never)]
     pub fn new(alloc: Global, budget: u32, cores: u16) -> Result<Core0, AllocError>
         requires least { 1 ≤ cores }
-        requires most { cores ≤ 8 }
+        requires most { cores ≤ MOST_CORES }
         ensures replica { IfOk result (λ core. core.replica ≡ record { budget = budget; shown = empty_table; staged = None }) }
         ensures coordinator { IfOk result (λ core. core.coordinator ≡ record { others = cores - 1; last = 0; phase = Idle; requests = no_requests (cores - 1) }) }
         ensures between { IfOk result BetweenSteps }
     {
         Ok(Core0 {
             replica: Replica::new(alloc, budget)?,
-            coordinator: Coordinator::new(cores, 0),
+            coordinator: Coordinator::new(alloc, cores, 0)?,
         })
     }
 

@@ -43,6 +43,7 @@ impl Drop for OtherCore {
 
 impl OtherCore {
     /// A core that has done nothing yet. It takes the memory for the longest program and for the verifier.
+    #[inline(never)]
     pub fn new(alloc: Global, budget: u32) -> Result<OtherCore, AllocError>
         ensures replica { IfOk result (λ core. core.replica ≡ record { budget = budget; shown = empty_table; staged = None }) }
         ensures participant { IfOk result (λ core. core.participant ≡ record { last = 0; voted = None; outstanding = false }) }
@@ -100,6 +101,7 @@ impl OtherCore {
 
     /// `consider` without memory, of a Prepare that brings a program, by its bytes: the stamp, the number and the vote, which is
     /// NoMemory or Budget. Nothing is staged. `cast` comes next, or nothing does.
+    #[inline(never)]
     pub fn consider_unread(&mut self, bytes: &[u8]) -> Result<Ballot, Unread>
         requires between { IsBetweenSteps self.old }
         requires carries { CarriesProgram bytes.now }
