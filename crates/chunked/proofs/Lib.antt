@@ -3,6 +3,7 @@ pub mod Halving
 pub mod Keeping
 pub mod Kept
 pub mod Beginnings
+pub mod Copying
 pub mod Listing
 pub mod Mapping
 pub mod Rising

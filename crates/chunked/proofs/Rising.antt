@@ -20,7 +20,7 @@ use Rattle.chunked.proofs.Whole.{get_in, drop_second}
 cmp_less : (a b : ℕ) → a < b → nat_cmp a b ≡ Less
 cmp_less a b less = ap (λ t. cond t Less (cond (a == b) Equal Greater)) (lt-ltb a b less)
 
-cmp_greater : (a b : ℕ) → b < a → nat_cmp a b ≡ Greater
+pub cmp_greater : (a b : ℕ) → b < a → nat_cmp a b ≡ Greater
 cmp_greater a b less = ap (λ t. cond t Less (cond (a == b) Equal Greater)) (le-ltb a b (omega arith)) ∙ ap (λ t. cond t Equal Greater) (ne_eqb a b (λ same. absurd (omega arith)))
 
 module _ {V : Type 0} where
@@ -32,7 +32,7 @@ module _ {V : Type 0} where
   from_both key [] ys from later = later
   from_both key (x ∷ xs) ys from later = (from.0, from_both key xs ys from.1 later)
 
-  from_second : (key : ℕ) (xs ys : List (ℕ × V)) → AreFrom key (xs ++ ys) → AreFrom key ys
+  pub from_second : (key : ℕ) (xs ys : List (ℕ × V)) → AreFrom key (xs ++ ys) → AreFrom key ys
   from_second key [] ys from = from
   from_second key (x ∷ xs) ys from = from_second key xs ys from.1
 

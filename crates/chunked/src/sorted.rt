@@ -1,6 +1,6 @@
 //! Maps in the order of their keys, in chunks.
 
-ghost use Rattle.std.specs.Prelude.{◌≡◌, ◌+◌, ◌*◌, ◌<◌, ◌≤◌, ◌↔◌, ◌==◌, if◌then◌else◌, ℕ, [], Some, None, IsTrue, IsSome, IfNone, OnSome, OnOk, OnErr, false, is_some, length, filter, find, nat_eq, nat_le};
+ghost use Rattle.std.specs.Prelude.{◌≡◌, ◌+◌, ◌*◌, ◌<◌, ◌≤◌, ◌↔◌, ◌==◌, if◌then◌else◌, ℕ, [], Some, None, IsTrue, IsSome, IfNone, IfOk, OnSome, OnOk, OnErr, false, is_some, length, filter, find, nat_eq, nat_le};
 ghost use Rattle.std.specs.List.Sorted.{IsStrictlyIncreasing};
 ghost use Rattle.std.specs.Map.{keys_of, remove_entry, set_value};
 ghost use Rattle.std.specs.BTreeMap.{insert_entry};
@@ -57,6 +57,21 @@ impl<V: Drop> Sorted<V> {
             firsts: Vec::new(alloc),
             count: 0,
         }
+    }
+
+    /// An equal map, with no room made.
+    pub fn copy(&self, alloc: Global) -> Result<Sorted<V>, AllocError>
+    where
+        V: Copy,
+        ensures { IfOk result (λ map. map ≡ record { entries = self.now.entries; ready = false }) }
+    {
+        let _count = self.count;
+        let mut map = Sorted::new(alloc);
+        for entry in self.iter() {
+            map.reserve()?;
+            map.insert_reserved(entry.0, entry.1);
+        }
+        Ok(map)
     }
 
     /// How many entries there are.

@@ -20,7 +20,8 @@ use Rattle.table_replica.proofs.Room.TheSendSync as room
 use Rattle.table_replica.specs.contracts.filters.Filters as filters
 use Rattle.table_replica.specs.contracts.boxed.BoxedFilters as boxed
 use Rattle.table_replica.specs.contracts.contents.Contents as contents
-use Rattle.table_replica.specs.contracts.replica.Staged as staged
+use Rattle.table_replica.specs.contracts.plan.Plan as plan
+use Rattle.table_replica.specs.contracts.remaining.Under as under
 use Rattle.table_replica.specs.contracts.replica.Replica as replica
 use Rattle.monitor_2pc.proofs.coordinator.Coordinator.TheSendSync as coordinator
 use Rattle.monitor_2pc.proofs.participant.Participant.TheSendSync as participant
@@ -44,20 +45,23 @@ use Rattle.core_join.specs.contracts.recorded.Recorded.TheInside as recorded_ins
 snapshot_send : (R : RattleType) → IsSend (snapshot.the_row R)
 snapshot_send R = record { owned = λ d vs. ((λ vss. (tt, ((λ uss. (tt, tt)), tt))), tt); leaving = λ k f vs. tt }
 
+under_send : IsSend under.the_row
+under_send = search (sendable, crosses, snapshot_send) depth 14
+
 filters_send : IsSend filters.the_row
-filters_send = search (sendable, heap.the_send, blocks.the_frees, vec.the_send, snapshot_send, programs.the_field_send, row.the_send, reach.the_send, chains.the_send) depth 14
+filters_send = search (sendable, heap.the_send, blocks.the_frees, vec.the_send, under_send, programs.the_field_send, row.the_send, reach.the_send, chains.the_send) depth 14
 
 boxed_send : IsSend boxed.the_row
-boxed_send = search (sendable, crosses, snapshot_send, filters_send) depth 20
+boxed_send = search (sendable, crosses, under_send, filters_send) depth 20
+
+plan_send : IsSend plan.the_row
+plan_send = search (sendable, crosses, snapshot_send, boxed_send) depth 20
 
 contents_send : IsSend contents.the_row
-contents_send = search (sendable, caps.the_send, boxed_send) depth 14
-
-staged_send : IsSend staged.the_row
-staged_send = search (sendable, snapshot_send, contents_send) depth 14
+contents_send = search (sendable, crosses, caps.the_send, boxed_send, plan_send) depth 14
 
 replica_send : IsSend replica.the_row
-replica_send = search (sendable, contents_send, staged_send) depth 14
+replica_send = search (sendable, contents_send) depth 14
 
 core0_field_send : IsSend core0.the_field.row
 core0_field_send = search (sendable, replica_send, coordinator.the_send) depth 14

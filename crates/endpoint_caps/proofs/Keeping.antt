@@ -1,8 +1,6 @@
--- What keeps a table kept: a look-up, a new capability at the end, a filter by ids, and one pass that removes what was minted.
+-- What keeps a table kept: a look-up, a new capability at the end, and a filter by ids.
 use Rattle.std.proofs.Common.{◌≡◌, ◌<◌, ◌≤◌, ◌+◌, ◌==◌, ◌||◌, nat_eq, ℕ, zero, suc, Bool, true, false, not, cond, Option, Some, None, is_none, List, [], ◌∷◌, ◌++◌, filter, length, refl, ap, sym, ◌∙◌, subst, arith, take, get_or}
 use Rattle.std.proofs.lemmas.List.{take_more}
-use Rattle.indexmap.specs.IndexMap.{IndexMap, insert_entry}
-use Rattle.indexmap.proofs.CallerLemmas.{insert_entry-new}
 use Rattle.std.proofs.lemmas.Bool.Decides.{nat_tests}
 use Rattle.std.specs.Map.{lookup, remove_entry}
 use Rattle.std.specs.Option.{ForSome}
@@ -13,7 +11,7 @@ use Rattle.endpoint_caps.specs.Capabilities.{IdsBetween, ParentsHeld}
 use Rattle.endpoint_caps.specs.Keeping.{entries_of, caps_of, IsKept}
 use Rattle.endpoint_caps.proofs.Derivation.{ParentsOlder, is_under_decides}
 
-eq_sym : (a b : ℕ) → (a == b) ≡ (b == a)
+pub eq_sym : (a b : ℕ) → (a == b) ≡ (b == a)
 eq_sym a b = grind (arith, nat_tests)
 
 -- Look-ups
@@ -165,10 +163,6 @@ filter-entries q (c ∷ caps) = by_kept (q c.id) refl (filter-entries q caps)
     by_kept true k rest = rw k (ap (λ es. (c.id, c) ∷ es) rest)
     by_kept false k rest = rw k rest
 
-pub ok_if : {T E : Type 0} (r : Result T E) (P : Type 0) → is_err r ≡ false → OnOk r P → P
-ok_if (Ok x) P e h = h
-ok_if (Err x) P e h = absurd cc
-
 -- The table after a new capability
 
 caps-push : (entries : List (ℕ × Cap)) (c : Cap) → caps_of (entries ++ (c.id, c) ∷ []) ≡ caps_of entries ++ c ∷ []
@@ -183,7 +177,7 @@ still_held (x ∷ caps) c id h = by_test (x.id == id) refl (still_held caps c id
     by_test true e rest = rw e refl
     by_test false e rest = rw e (rest (rw e at h))
 
-held-below : (caps : List Cap) (to id : ℕ) → IdsBetween 0 caps to → is_none (cap_at caps id) ≡ false → id < to
+pub held-below : (caps : List Cap) (to id : ℕ) → IdsBetween 0 caps to → is_none (cap_at caps id) ≡ false → id < to
 held-below caps to id order h = by_none (cap_at caps id) refl
   where
     by_none : (o : Option Cap) → cap_at caps id ≡ o → id < to
@@ -198,7 +192,7 @@ pub data FoundIn (caps : List Cap) (c : Cap) (id : ℕ) (cap : Cap) : Type 0 whe
   old : cap_at caps id ≡ Some cap → FoundIn caps c id cap
   new : c.id ≡ id → c ≡ cap → FoundIn caps c id cap
 
-found_in : (caps : List Cap) (c : Cap) (id : ℕ) (cap : Cap) → cap_at (caps ++ c ∷ []) id ≡ Some cap → FoundIn caps c id cap
+pub found_in : (caps : List Cap) (c : Cap) (id : ℕ) (cap : Cap) → cap_at (caps ++ c ∷ []) id ≡ Some cap → FoundIn caps c id cap
 found_in [] c id cap h = by_test (c.id == id) refl
   where
     by_test : (b : Bool) → (c.id == id) ≡ b → FoundIn [] c id cap
@@ -232,9 +226,6 @@ kept-push entries after next c kept at held e = record {
         let there : is_none (cap_at (caps_of entries) parent) ≡ false = subst (λ o. ForSome o (λ p. is_none (cap_at (caps_of entries) p) ≡ false)) mine held parent refl in
         (omega (arith, here, at, held-below (caps_of entries) next parent kept.in_order there), still_held (caps_of entries) c parent there)
 
-pub free : (entries : List (ℕ × Cap)) (next : ℕ) → IsKept entries next → lookup (nat_eq next) entries ≡ None
-free entries next kept = ap (lookup (nat_eq next)) kept.by_id ∙ (lookup-entries next (caps_of entries) ∙ none-after next 0 (caps_of entries) next (omega arith) kept.in_order)
-
 -- The table after a revocation
 
 pub kept-filter : (q : ℕ → Bool) (entries after : List (ℕ × Cap)) (next : ℕ) → IsKept entries next
@@ -259,29 +250,6 @@ pub not_true : (b : Bool) → not b ≡ true → b ≡ false
 not_true true h = absurd cc
 not_true false h = refl
 
--- the entries after the pass
-pub caps-passed : (from : ℕ) (entries after : List (ℕ × Cap)) (next : ℕ) → IsKept entries next
-    → after ≡ filter (λ (e : ℕ × Cap). not (is_under (caps_of entries) from e.0)) entries
-    → after ≡ entries_of (filter (λ c. not (is_under (caps_of entries) from c.id)) (caps_of entries))
-caps-passed from entries after next kept is =
-    is ∙ (ap (λ (es : List (ℕ × Cap)). filter (λ (e : ℕ × Cap). not (is_under (caps_of entries) from e.0)) es) kept.by_id
-    ∙ filter-entries (λ id. not (is_under (caps_of entries) from id)) (caps_of entries))
-
-pub kept-revoked : (from : ℕ) (entries after : List (ℕ × Cap)) (next : ℕ) → IsKept entries next
-    → after ≡ filter (λ (e : ℕ × Cap). not (is_under (caps_of entries) from e.0)) entries → IsKept after next
-kept-revoked from entries after next kept is =
-    let passed = caps-passed from entries after next kept is in
-    let caps : caps_of after ≡ filter (λ c. not (is_under (caps_of entries) from c.id)) (caps_of entries) = ap caps_of passed ∙ caps-entries _ in
-    kept-filter (λ id. not (is_under (caps_of entries) from id)) entries after next kept
-    (λ id parent cap at child h. ap not (stays_above (caps_of entries) from id parent cap kept.parents at child (not_true _ h)).1)
-    caps (passed ∙ ap entries_of (sym caps))
-
-pub view-revoked : (table : CapTable) (from : ℕ) (entries after : List (ℕ × Cap)) (next : ℕ) → IsKept entries next → record { held = caps_of entries; next = next } ≡ table
-    → after ≡ filter (λ (e : ℕ × Cap). not (is_under (caps_of entries) from e.0)) entries → record { held = caps_of after; next = next } ≡ revoked table from
-view-revoked table from entries after next kept was is =
-    ap (λ (cs : List Cap). record { held = cs; next = next }) (ap caps_of (caps-passed from entries after next kept is) ∙ caps-entries _)
-    ∙ ap (λ (t : CapTable). revoked t from) was
-
 -- The table after a drop
 
 filter_above : (id from : ℕ) (caps : List Cap) (to : ℕ) → id < from → IdsBetween from caps to → filter (λ (c : Cap). not (c.id == id)) caps ≡ caps
@@ -291,7 +259,7 @@ filter_above id from (c ∷ caps) to lt h =
     let other : (c.id == id) ≡ false = grind (arith, nat_tests) in
     rw other (ap (λ cs. c ∷ cs) (filter_above id (c.id + 1) caps to (omega arith) h.1))
 
-removed-entry : (id from : ℕ) (caps : List Cap) (to : ℕ) → IdsBetween from caps to → remove_entry (nat_eq id) (entries_of caps) ≡ entries_of (filter (λ (c : Cap). not (c.id == id)) caps)
+pub removed-entry : (id from : ℕ) (caps : List Cap) (to : ℕ) → IdsBetween from caps to → remove_entry (nat_eq id) (entries_of caps) ≡ entries_of (filter (λ (c : Cap). not (c.id == id)) caps)
 removed-entry id from [] to h = refl
 removed-entry id from (c ∷ caps) to h = by_test (c.id == id) refl (removed-entry id (c.id + 1) caps to h.1)
   where
@@ -303,7 +271,7 @@ removed-entry id from (c ∷ caps) to h = by_test (c.id == id) refl (removed-ent
         rw (left, e) (ap entries_of (sym (filter_above id (c.id + 1) caps to (omega arith) h.1)))
     by_test false e rest = let left : nat_eq id c.id ≡ false = eq_sym id c.id ∙ e in rw (left, e) (ap (λ es. (c.id, c) ∷ es) rest)
 
-filter-twice : (p q : Cap → Bool) (caps : List Cap) → filter p (filter (λ c. not (q c)) caps) ≡ filter (λ c. cond (q c) false (p c)) caps
+pub filter-twice : (p q : Cap → Bool) (caps : List Cap) → filter p (filter (λ c. not (q c)) caps) ≡ filter (λ c. cond (q c) false (p c)) caps
 filter-twice p q [] = refl
 filter-twice p q (c ∷ caps) = by_test (q c) refl (p c) refl (filter-twice p q caps)
   where
@@ -313,84 +281,19 @@ filter-twice p q (c ∷ caps) = by_test (q c) refl (p c) refl (filter-twice p q 
     by_test false k true l rest = rw (k, l) (ap (λ cs. c ∷ cs) rest)
     by_test false k false l rest = rw (k, l) rest
 
-same-filter : (p q : Cap → Bool) → ((c : Cap) → p c ≡ q c) → (caps : List Cap) → filter p caps ≡ filter q caps
+pub same-filter : (p q : Cap → Bool) → ((c : Cap) → p c ≡ q c) → (caps : List Cap) → filter p caps ≡ filter q caps
 same-filter p q same [] = refl
 same-filter p q same (c ∷ caps) = rw (same c, same-filter p q same caps) refl
-
-pub caps-dropped : (from : ℕ) (entries middle after : List (ℕ × Cap)) (next : ℕ) → IsKept entries next
-    → middle ≡ filter (λ (e : ℕ × Cap). not (is_under (caps_of entries) from e.0)) entries → after ≡ remove_entry (nat_eq from) middle
-    → after ≡ entries_of (filter (λ c. not ((c.id == from) || is_under (caps_of entries) from c.id)) (caps_of entries))
-caps-dropped from entries middle after next kept is was =
-    let order : IdsBetween 0 (filter (λ c. not (is_under (caps_of entries) from c.id)) (caps_of entries)) next = between-filter _ 0 (caps_of entries) next kept.in_order in
-    was ∙ (ap (remove_entry (nat_eq from)) (caps-passed from entries middle next kept is)
-    ∙ (removed-entry from 0 _ next order
-    ∙ ap entries_of (filter-twice (λ c. not (c.id == from)) (λ c. is_under (caps_of entries) from c.id) (caps_of entries)
-    ∙ same-filter _ _ (λ c. either (c.id == from) (is_under (caps_of entries) from c.id)) (caps_of entries))))
-  where
-    either : (a b : Bool) → cond b false (not a) ≡ not (a || b)
-    either true true = refl
-    either true false = refl
-    either false true = refl
-    either false false = refl
 
 pub neither : (a b : Bool) → not (a || b) ≡ true → (a ≡ false) × (b ≡ false)
 neither true b h = absurd cc
 neither false true h = absurd cc
 neither false false h = (refl, refl)
 
-pub kept-dropped : (from : ℕ) (entries middle after : List (ℕ × Cap)) (next : ℕ) → IsKept entries next
-    → middle ≡ filter (λ (e : ℕ × Cap). not (is_under (caps_of entries) from e.0)) entries → after ≡ remove_entry (nat_eq from) middle → IsKept after next
-kept-dropped from entries middle after next kept is was =
-    let gone = caps-dropped from entries middle after next kept is was in
-    let caps : caps_of after ≡ filter (λ c. not ((c.id == from) || is_under (caps_of entries) from c.id)) (caps_of entries) = ap caps_of gone ∙ caps-entries _ in
-    kept-filter (λ id. not ((id == from) || is_under (caps_of entries) from id)) entries after next kept keeps caps (gone ∙ ap entries_of (sym caps))
-  where
-    keeps : (id parent : ℕ) (cap : Cap) → cap_at (caps_of entries) id ≡ Some cap → cap.parent ≡ Some parent
-        → not ((id == from) || is_under (caps_of entries) from id) ≡ true → not ((parent == from) || is_under (caps_of entries) from parent) ≡ true
-    keeps id parent cap at child h = let up = stays_above (caps_of entries) from id parent cap kept.parents at child (neither (id == from) _ h).1 in rw (up.0, up.1) refl
-
-pub view-dropped : (table : CapTable) (from : ℕ) (entries middle after : List (ℕ × Cap)) (next : ℕ) → IsKept entries next → record { held = caps_of entries; next = next } ≡ table
-    → middle ≡ filter (λ (e : ℕ × Cap). not (is_under (caps_of entries) from e.0)) entries → after ≡ remove_entry (nat_eq from) middle
-    → record { held = caps_of after; next = next } ≡ dropped table from
-view-dropped table from entries middle after next kept was is gone =
-    ap (λ (cs : List Cap). record { held = cs; next = next }) (ap caps_of (caps-dropped from entries middle after next kept is gone) ∙ caps-entries _)
-    ∙ ap (λ (t : CapTable). dropped t from) was
-
--- Both, in the words of a call
-
-pub pushed_kept : (table : CapTable) (entries after : List (ℕ × Cap)) (next : ℕ) (c : Cap) → IsKept entries next → record { held = caps_of entries; next = next } ≡ table
-    → c.id ≡ next → ForSome c.parent (λ p. is_none (cap_at table.held p) ≡ false) → after ≡ entries ++ (c.id, c) ∷ [] → IsKept after (next + 1)
-pushed_kept table entries after next c kept was at held e =
-    kept-push entries after next c kept at (subst (λ (t : CapTable). ForSome c.parent (λ p. is_none (cap_at t.held p) ≡ false)) (sym was) held) e
+-- In the words of a call
 
 pub view-push : (table : CapTable) (entries after : List (ℕ × Cap)) (next : ℕ) (c : Cap) → record { held = caps_of entries; next = next } ≡ table
     → after ≡ entries ++ (c.id, c) ∷ [] → ◌≡◌ {A = CapTable} (record { held = caps_of after; next = next + 1 }) (record { held = table.held ++ c ∷ []; next = table.next + 1 })
 view-push table entries after next c was e =
     ap (λ (cs : List Cap). record { held = cs; next = next + 1 }) (ap caps_of e ∙ caps-push entries c)
     ∙ ap (λ (t : CapTable). record { held = t.held ++ c ∷ []; next = t.next + 1 }) was
-
--- A copy, capability by capability
-
-get-above : (from : ℕ) (held : List Cap) (to i : ℕ) (d : Cap) → IdsBetween from held to → i < length held → from ≤ (get_or held i d).id
-get-above from [] to i d h lt = absurd (omega arith)
-get-above from (x ∷ held) to zero d h lt = h.0
-get-above from (x ∷ held) to (suc i) d h lt = omega (arith, h.0, get-above (x.id + 1) held to i d h.1 (omega arith))
-
-fresh : (from : ℕ) (held : List Cap) (to i : ℕ) (d : Cap) → IdsBetween from held to → i < length held → cap_at (take i held) (get_or held i d).id ≡ None
-fresh from [] to i d h lt = absurd (omega arith)
-fresh from (x ∷ held) to zero d h lt = refl
-fresh from (x ∷ held) to (suc i) d h lt =
-    let above = get-above (x.id + 1) held to i d h.1 (omega arith) in
-    let other : (x.id == (get_or held i d).id) ≡ false = grind (arith, nat_tests) in
-    rw other (fresh (x.id + 1) held to i d h.1 (omega arith))
-
-pub copied : {S : Type 0} (m : IndexMap ℕ Cap S) (after entries : List (ℕ × Cap)) (next i : ℕ) (d : Cap) (table : CapTable) → IsKept entries next
-    → record { held = caps_of entries; next = next } ≡ table → i < length table.held → m.entries ≡ entries_of (take i table.held)
-    → after ≡ insert_entry nat_eq m.entries (get_or table.held i d).id (get_or table.held i d) → after ≡ entries_of (take (i + 1) table.held)
-copied m after entries next i d table kept was lt now is =
-    let order : IdsBetween 0 table.held next = subst (λ (t : CapTable). IdsBetween 0 t.held next) was kept.in_order in
-    let none : lookup (nat_eq (get_or table.held i d).id) m.entries ≡ None =
-    ap (lookup (nat_eq (get_or table.held i d).id)) now ∙ (lookup-entries (get_or table.held i d).id (take i table.held) ∙ fresh 0 table.held next i d order lt) in
-    is ∙ (insert_entry-new nat_eq m (get_or table.held i d).id (get_or table.held i d) none
-    ∙ (ap (λ (es : List (ℕ × Cap)). es ++ ((get_or table.held i d).id, get_or table.held i d) ∷ []) now
-    ∙ (sym (entries-append (take i table.held) (get_or table.held i d ∷ [])) ∙ ap entries_of (sym (take_more table.held i d lt)))))

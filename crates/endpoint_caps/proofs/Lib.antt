@@ -1,5 +1,8 @@
 pub mod Rows
 pub mod Derivation
+pub mod Finding
+pub mod Holding
 pub mod Keeping
-pub mod Pass
+pub mod Leaving
+pub mod Minted
 pub mod Revoked

@@ -1,8 +1,9 @@
 -- Texts that are written piece by piece.
-use Rattle.std.proofs.Common.{◌≡◌, ◌∙◌, ◌++◌, ◌∷◌, List, ℕ, Result, Ok, Err, OnOk, ap, sym, is_ok, if◌then◌else◌, ◌≤◌, length, drop, append_assoc}
+use Rattle.std.proofs.Common.{◌≡◌, ◌∙◌, ◌++◌, [], ◌∷◌, List, ℕ, refl, Result, Ok, Err, OnOk, ap, sym, is_ok, if◌then◌else◌, append_assoc}
 use Rattle.std.specs.List.{flat_map}
-use Rattle.std.proofs.lemmas.List.{append-nil, drop_all}
 use Rattle.std.specs.Fmt.{decimal}
+use Rattle.endpoint_caps.specs.declared.Cap.{Cap}
+use Rattle.endpoint_caps.specs.Keeping.{entries_of}
 use Rattle.filter_table.specs.declared.operation.OpFault.{OpFault}
 use Rattle.filter_table.specs.declared.operation.OpFault.TheVariants.{BadProgram}
 use Rattle.sim_lines.specs.Decisions.{rule_words}
@@ -23,6 +24,7 @@ pub pushed_text : {X E : Type 0} (r : Result X E) (new old piece : List ℕ) →
 pushed_text (Ok x) new old piece e = e
 pushed_text (Err x) new old piece e = tt
 
--- all lines were written
-pub all_written : {X : Type 0} (line : X → List ℕ) (xs : List X) (index : ℕ) (text whole : List ℕ) → length xs ≤ index → text ++ flat_map line (drop index xs) ≡ whole → text ≡ whole
-all_written line xs index text whole past is = sym (append-nil text) ∙ ap (λ ys. text ++ flat_map line ys) (sym (drop_all index xs past)) ∙ is
+-- the lines of what is listed under keys
+pub lines_of : (line : Cap → List ℕ) (caps : List Cap) → flat_map (λ (entry : ℕ × Cap). line entry.1) (entries_of caps) ≡ flat_map line caps
+lines_of line [] = refl
+lines_of line (c ∷ caps) = ap (λ ys. line c ++ ys) (lines_of line caps)

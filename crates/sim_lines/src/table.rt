@@ -16,8 +16,8 @@ pub fn show_core(alloc: Global, core: u16, replica: &Replica) -> Result<Vec<u8>,
 {
     let mut text = String::new(alloc);
     push_total(&mut text, core, replica)?;
-    for cap in replica.caps().list() {
-        push_cap(&mut text, *cap)?;
+    for entry in replica.caps().list() {
+        push_cap(&mut text, entry.1)?;
     }
     for filter in replica.filters() {
         push_filter(&mut text, filter)?;
@@ -30,7 +30,7 @@ fn push_total(text: &mut String, core: u16, replica: &Replica) -> Result<(), All
     ensures { OnOk result (string_bytes text.new ≡ string_bytes text.old ++ total_line core replica.now.shown) }
 {
     let version = replica.version();
-    let caps = replica.caps().list().len();
+    let caps = replica.caps().len();
     let instructions = replica.total_instructions();
     let filters = count(replica.filters());
     writeln!(

@@ -24,18 +24,16 @@ pub struct CapRow {
 /// Puts the capabilities whose ids are `from` or more at the front of a room, in order of their ids, as many as it has room for, and
 /// answers how many these are. The rest of the room stays as it was.
 pub fn list_caps(caps: &Caps, from: u32, room: &mut [CapRow]) -> usize
-    ensures rows { room.new ≡ laid (cap_rows from caps.now.held) room.old }
-    ensures count { result ≡ min (length room.old) (length (cap_rows from caps.now.held)) }
+    ensures rows { room.new ≡ laid (cap_rows from caps.now.table.held) room.old }
+    ensures count { result ≡ min (length room.old) (length (cap_rows from caps.now.table.held)) }
 {
     let mut count = 0;
-    for cap in caps.list() {
-        if cap.id >= from {
-            if count == room.len() {
-                return count;
-            }
-            room[count] = row_of(*cap);
-            count += 1;
+    for entry in caps.list_from(from) {
+        if count == room.len() {
+            return count;
         }
+        room[count] = row_of(entry.1);
+        count += 1;
     }
     count
 }

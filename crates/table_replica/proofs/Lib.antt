@@ -11,3 +11,4 @@ pub mod Gone
 pub mod Soundness
 pub mod Marking
 pub mod Boxes
+pub mod Planned

@@ -1,7 +1,6 @@
 -- The reaches of rows that come, go, and move.
-use Rattle.std.proofs.Common.{◌≡◌, ◌<◌, ◌≤◌, ◌+◌, ◌==◌, ◌⊎◌, ◌↔◌, inl, inr, ℕ, Bool, true, false, not, Option, None, Some, is_none, is_some, Bor, List, [], ◌∷◌, ◌++◌, map, filter, length, take, insert, slice_get, get_or, Contains, refl, ap, sym, ◌∙◌, subst, arith}
+use Rattle.std.proofs.Common.{◌≡◌, ◌<◌, ◌≤◌, ◌+◌, ◌==◌, ◌⊎◌, ◌↔◌, inl, inr, ℕ, Bool, true, false, not, Option, Some, is_none, List, [], ◌∷◌, ◌++◌, map, filter, length, take, insert, slice_get, get_or, Contains, refl, ap, sym, ◌∙◌, subst, arith}
 use Rattle.std.specs.Bool.{Decides}
-use Rattle.std.specs.Option.{option_copied}
 use Rattle.std.specs.List.{list_any}
 use Rattle.std.specs.List.Retain.{IsFiltered, DiffersFromLast}
 use Rattle.std.specs.List.Sorted.{IsPermutation, IsSorted}
@@ -36,13 +35,13 @@ any_is (o ∷ lost) r = by_test (eq-value.it o r) refl (any_is lost r)
 
 -- What a look-up answers
 
-pub is_held : {A : Type 0} (o : Option (Bor A)) (x : Option A) → option_copied o ≡ x → is_some o ≡ true → is_none x ≡ false
-is_held None x e t = absurd cc
-is_held {A} (Some b) x e t = subst (λ (y : Option A). is_none y ≡ false) e refl
+pub is_held : (holds none : Bool) → holds ≡ not none → holds ≡ true → none ≡ false
+is_held holds true is said = absurd cc
+is_held holds false is said = refl
 
-pub not_held : {A : Type 0} (o : Option (Bor A)) (x : Option A) → option_copied o ≡ x → is_some o ≡ false → is_none x ≡ true
-not_held {A} None x e t = subst (λ (y : Option A). is_none y ≡ true) e refl
-not_held (Some b) x e t = absurd cc
+pub not_held : (holds none : Bool) → holds ≡ not none → holds ≡ false → none ≡ true
+not_held holds true is said = refl
+not_held holds false is said = absurd cc
 
 -- Rows that come and go
 

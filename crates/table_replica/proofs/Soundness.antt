@@ -1,5 +1,5 @@
--- New capabilities are no filter's, and what is staged gives out ids anew.
-use Rattle.std.proofs.Common.{◌≡◌, ◌<◌, ◌==◌, ℕ, false, Option, Some, None, List, [], ◌∷◌, ◌++◌, Contains, refl, subst, arith}
+-- New capabilities are no filter's.
+use Rattle.std.proofs.Common.{◌≡◌, ◌<◌, ◌==◌, ℕ, false, Option, Some, None, List, [], ◌∷◌, ◌++◌, Contains, refl, arith}
 use Rattle.std.proofs.lemmas.Bool.Decides.{nat_tests}
 use Rattle.endpoint_caps.specs.declared.Cap.{Cap}
 use Rattle.endpoint_caps.specs.declared.Rights.{Rights}
@@ -7,11 +7,8 @@ use Rattle.endpoint_caps.specs.Capabilities.{created, minted_from, cap_at, child
 use Rattle.endpoint_caps.proofs.Keeping.{at-append}
 use Rattle.filter_table.specs.Listed.{ListedFilter}
 use Rattle.filter_table.specs.Tables.{TableState}
-use Rattle.table_replica.specs.declared.replica.Staged.{Staged}
-use Rattle.table_replica.specs.Replicas.{IsStaged}
 use Rattle.table_replica.specs.Keeping.{AreHeldAlike}
-use Rattle.filter_table.specs.Soundness.{IsSoundTable, IdsGrow}
-use Rattle.filter_table.proofs.Soundness.{ids_after}
+use Rattle.filter_table.specs.Soundness.{IsSoundTable}
 
 -- new capabilities are no filter's
 alike_after : (s : TableState) (new : List Cap) → IsSoundTable s → ((id : ℕ) → id < s.caps.next → cap_at new id ≡ None) → (f : ListedFilter) → Contains s.filters f
@@ -30,6 +27,3 @@ minted_alike s cap to rights h = alike_after s (child_of s.caps cap to rights (c
     none : (o : Option Cap) (id : ℕ) → id < s.caps.next → cap_at (child_of s.caps cap to rights o) id ≡ None
     none None id lt = refl
     none (Some from) id lt = new_cap _ id lt
-
-pub ids_staged : (budget : ℕ) (shown : TableState) (staged : Option Staged) (s : Staged) → IsStaged budget shown staged → staged ≡ Some s → IdsGrow shown s.next
-ids_staged budget shown staged s h e = let is = subst (IsStaged budget shown) e h in ids_after shown s.next s.op.value is.0

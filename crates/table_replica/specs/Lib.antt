@@ -3,6 +3,8 @@ pub mod Distinct
 pub mod Chains
 pub mod Keeping
 pub mod Shown
+pub mod Remaining
+pub mod Plans
 pub mod Replicas
 pub mod Receiving
 pub mod Boxed

@@ -2,23 +2,25 @@
 ghost use Rattle.std.specs.Prelude.{◌≡◌, ◌==◌, ◌+◌, ◌<◌, ◌++◌, [], ◌∷◌, length, leb, filter, not, Some, slice_get, IfOk, OnOk, MatchOption};
 ghost use Rattle.std.specs.Option.{option_map};
 ghost use Rattle.filter_table.specs.Tables.{instructions_of, replaced, filter_at, AreReceivers};
-ghost use Rattle.table_replica.specs.Keeping.{AreHeldAlike, AreFewer};
+ghost use Rattle.table_replica.specs.Keeping.{AreHeldAlike};
+ghost use Rattle.table_replica.specs.Remaining.{remaining};
 ghost use Rattle.table_replica.specs.Lent.{shown_filter, AreDifferent, held_filters};
 
 use crate::Kept;
 use crate::filters::{Filter, Filters, Scratch};
+use crate::remaining::{Remaining, Under};
 use bpf_insn::Insn;
+use chunked::Sorted;
 use endpoint_caps::Caps;
 use filter_verify::Verified;
 use std::alloc::{AllocError, Global};
 use std::marker::Model;
-use std::snapshot::Snapshot;
 
 /// The filters in order of installation, under the capabilities of their table. They lie on the heap, so that a table is small and
 /// its moves take little of the stack. No filter takes no memory.
 pub(crate) struct BoxedFilters {
     filters: Option<Box<Filters>>,
-    under: Snapshot<Caps>,
+    under: Under,
 }
 
 // By hand, so that the proofs of its owners have one call and not a drop of each part.
@@ -37,30 +39,30 @@ impl Model for BoxedFilters {
 
     ghost Value = { FilterTable };
 
-    ghost view = { λ a. record { listed = listed_in a.filters; under = a.under.value } };
+    ghost view = { λ a. record { listed = listed_in a.filters; under = a.under } };
 
-    ghost invariant = { λ a. AreUnder a.under.value a.filters };
+    ghost invariant = { λ a. AreUnder a.under a.filters };
 }
 
 impl BoxedFilters {
     /// No filter.
-    pub(crate) fn new(caps: &Caps) -> BoxedFilters
+    pub(crate) fn new(caps: &Remaining<'_>) -> BoxedFilters
         ensures { result ≡ record { listed = []; under = caps.now } }
     {
         BoxedFilters {
             filters: None,
-            under: Snapshot::of(caps),
+            under: Under::of(caps),
         }
     }
 
     /// These filters.
-    fn of(caps: &Caps, filters: Box<Filters>) -> BoxedFilters
+    fn of(caps: &Remaining<'_>, filters: Box<Filters>) -> BoxedFilters
         requires { filters.value.under ≡ caps.now }
         ensures { result ≡ filters.value }
     {
         BoxedFilters {
             filters: Some(filters),
-            under: Snapshot::of(caps),
+            under: Under::of(caps),
         }
     }
 
@@ -110,7 +112,7 @@ impl BoxedFilters {
     pub(crate) fn with(
         &self,
         alloc: Global,
-        caps: &Caps,
+        caps: &Remaining<'_>,
         filter: Filter<'_>,
     ) -> Result<BoxedFilters, AllocError>
         requires caps { caps.now ≡ self.now.under }
@@ -127,7 +129,11 @@ impl BoxedFilters {
     }
 
     /// One filter alone.
-    fn one(alloc: Global, caps: &Caps, filter: Filter<'_>) -> Result<BoxedFilters, AllocError>
+    fn one(
+        alloc: Global,
+        caps: &Remaining<'_>,
+        filter: Filter<'_>,
+    ) -> Result<BoxedFilters, AllocError>
         requires { length filter.program.now < 4294967296 }
         ensures { IfOk result (λ filters. filters ≡ record { listed = shown_filter filter.entry ∷ []; under = caps.now }) }
     {
@@ -136,39 +142,47 @@ impl BoxedFilters {
         Ok(BoxedFilters::of(caps, one))
     }
 
-    /// The same filters under capabilities that hold those of the filters as before.
-    #[inline(never)]
-    pub(crate) fn under(&self, alloc: Global, caps: &Caps) -> Result<BoxedFilters, AllocError>
-        requires { AreHeldAlike self.now.under caps.now self.now.listed }
-        ensures { IfOk result (λ filters. filters ≡ record { listed = self.now.listed; under = caps.now }) }
+    /// The next filters, where there are others, or else these under the capabilities, which hold those of the filters as before. Takes
+    /// no memory.
+    pub(crate) fn follow(&mut self, next: Option<BoxedFilters>, caps: &Remaining<'_>)
+        requires { MatchOption next (AreHeldAlike self.old.under caps.now self.old.listed) (λ filters. filters.under ≡ caps.now) }
+        ensures under { self.new.under ≡ caps.now }
+        ensures listed { MatchOption next (self.new.listed ≡ self.old.listed) (λ filters. self.new.listed ≡ filters.listed) }
     {
-        match self.get() {
-            Some(filters) => {
-                let after = filters.under(alloc, caps)?;
-                Ok(BoxedFilters::of(caps, after))
-            }
-            None => Ok(BoxedFilters::new(caps)),
+        match next {
+            Some(filters) => *self = filters,
+            None => self.stand_under(caps),
         }
     }
 
-    /// The same filters under capabilities of which some may be gone.
+    /// The same filters stand under capabilities that hold those of the filters as before. Takes no memory.
+    fn stand_under(&mut self, caps: &Remaining<'_>)
+        requires { AreHeldAlike self.old.under caps.now self.old.listed }
+        ensures { self.new ≡ record { listed = self.old.listed; under = caps.now } }
+    {
+        if let Some(filters) = &mut self.filters {
+            filters.stand_under(caps);
+        }
+        self.under = Under::of(caps);
+    }
+
+    /// The filters once some capabilities have gone. None where no filter is under one of these: then the filters may stay.
     #[inline(never)]
-    pub(crate) fn under_fewer(
+    pub(crate) fn once_gone(
         &self,
         alloc: Global,
-        before: &Caps,
         caps: &Caps,
-    ) -> Result<BoxedFilters, AllocError>
-        requires before { before.now ≡ self.now.under }
-        requires fewer { AreFewer before.now.held caps.now.held }
-        ensures { IfOk result (λ filters. filters ≡ record { listed = self.now.listed; under = caps.now }) }
+        gone: &Sorted<()>,
+    ) -> Result<Option<BoxedFilters>, AllocError>
+        requires { caps.now.table ≡ self.now.under }
+        ensures { IfOk result (λ next. MatchOption next (AreHeldAlike caps.now.table (remaining caps.now.table (Some gone.now.entries)) self.now.listed) (λ filters. filters ≡ record { listed = self.now.listed; under = remaining caps.now.table (Some gone.now.entries) })) }
     {
-        match self.get() {
-            Some(filters) => {
-                let after = filters.under_fewer(alloc, before, caps)?;
-                Ok(BoxedFilters::of(caps, after))
-            }
-            None => Ok(BoxedFilters::new(caps)),
+        let Some(filters) = self.get() else {
+            return Ok(None);
+        };
+        match filters.once_gone(alloc, caps, gone)? {
+            Some(after) => Ok(Some(BoxedFilters::of(&Remaining::without(caps, gone), after))),
+            None => Ok(None),
         }
     }
 
@@ -250,7 +264,7 @@ impl BoxedFilters {
     pub(crate) fn without(
         &self,
         alloc: Global,
-        caps: &Caps,
+        caps: &Remaining<'_>,
         id: u32,
     ) -> Result<BoxedFilters, AllocError>
         requires { caps.now ≡ self.now.under }
@@ -270,7 +284,7 @@ impl BoxedFilters {
     pub(crate) fn replacing(
         &self,
         alloc: Global,
-        caps: &Caps,
+        caps: &Remaining<'_>,
         id: u32,
         program: &Verified,
     ) -> Result<BoxedFilters, AllocError>

@@ -1,8 +1,8 @@
-//! A table, and what an operation does to it.
-ghost use Rattle.std.specs.Prelude.{◌≡◌, ◌+◌, ◌<◌, ◌≤◌, [], None, Some, length, IsOk, IfOk, IfErr, OnOk};
+//! The table, changed in place: what an operation does to it is planned before, and then done.
+ghost use Rattle.std.specs.Prelude.{◌≡◌, ◌==◌, ◌+◌, ◌<◌, ◌≤◌, ℕ, [], None, Some, is_some, not, filter, length, IfSome, IfNone, IfOk, IfErr, OnOk, OnErr};
 ghost use Rattle.std.specs.Option.{option_map};
 ghost use Rattle.std.specs.Result.{result_err};
-ghost use Rattle.endpoint_caps.specs.Capabilities.{first, cap_at, mint_tests};
+ghost use Rattle.endpoint_caps.specs.Capabilities.{first, cap_at, mint_tests, revoked, dropped};
 ghost use Rattle.filter_table.specs.Tables.{TableState, Accepting, Allowed, after, made, tests, as_rules, rule_of, instructions, instructions_of, replaced, program_of, endpoint_of, Verifies, owner_tests, install_tests, replace_tests, cap_of, filter_at};
 ghost use Rattle.filter_verify.specs.Rules.{Sound, Refuses};
 ghost use Rattle.filter_verify.specs.Numbers.{number_of, place_of};
@@ -10,24 +10,30 @@ ghost use Rattle.filter_table.specs.Staging.{CannotStage};
 ghost use Rattle.table_replica.specs.Replicas.{RefusesAs};
 ghost use Rattle.filter_table.specs.Loading.{load_op};
 ghost use Rattle.filter_table.specs.Soundness.{IsSoundTable};
+ghost use Rattle.filter_table.specs.declared.operation.Op.{Op as GhostOp};
+ghost use Rattle.table_replica.specs.Plans.{AreNextFilters};
 
 use crate::boxed::BoxedFilters;
-use crate::{Filter, Kept, Load, Made, Op, OpFault, StageFault};
+use crate::plan::{Plan, change_caps, prepare_caps};
+use crate::remaining::Remaining;
+use crate::{Filter, Load, Made, Op, OpFault, StageFault};
 use bpf_insn::Insn;
-use endpoint_caps::{CapFault, Caps, Right, Rights};
+use endpoint_caps::{CapFault, Caps, Right};
 use filter_verify::{Refusal, Room, Verified, verify};
 use std::alloc::{AllocError, Global};
 use std::marker::Model;
+use std::snapshot::Snapshot;
 
 /// How many filters may be listed.
 const FILTERS: usize = 1024;
 
-/// The whole table at one version.
+/// The table, and the plan of the operation that is staged, if one is.
 pub(crate) struct Contents {
     version: u64,
     caps: Caps,
     filters: BoxedFilters,
     next_filter: u32,
+    plan: Option<Plan>,
 }
 
 // By hand, so that the proofs of its owners have one call and not a drop of each part.
@@ -38,6 +44,7 @@ impl Drop for Contents {
             caps: _,
             filters: _,
             next_filter: _,
+            plan: _,
         } = self;
     }
 }
@@ -45,12 +52,14 @@ impl Drop for Contents {
 impl Model for Contents {
     ghost use Rattle.std.specs.Prelude.{◌≡◌};
     ghost use Rattle.filter_table.specs.Tables.{TableState};
+    ghost use Rattle.table_replica.specs.Shown.{Staging};
+    ghost use Rattle.table_replica.specs.Plans.{staged_op, IsPlanned};
 
-    ghost Value = { TableState };
+    ghost Value = { Staging };
 
-    ghost view = { λ a. record { version = a.version; caps = a.caps; filters = a.filters.listed; next_filter = a.next_filter } };
+    ghost view = { λ a. record { table = record { version = a.version; caps = a.caps.table; filters = a.filters.listed; next_filter = a.next_filter }; staged = staged_op a.plan } };
 
-    ghost invariant = { λ a. a.filters.under ≡ a.caps };
+    ghost invariant = { λ a. (a.filters.under ≡ a.caps.table) × IsPlanned (record { version = a.version; caps = a.caps.table; filters = a.filters.listed; next_filter = a.next_filter }) a.caps a.plan };
 }
 
 /// The fault of the capabilities as a reason not to stage.
@@ -72,48 +81,50 @@ fn ruled(answer: Result<(), CapFault>) -> Result<(), StageFault>
 
 impl Contents {
     /// An empty table.
-    pub(crate) fn resume(
-        alloc: Global,
-        version: u64,
-        next_cap: u32,
-        next_filter: u32,
-    ) -> Result<Contents, AllocError>
-        ensures ok { IsOk result }
-        ensures empty { IfOk result (λ table. table ≡ record { version = version; caps = record { held = []; next = next_cap }; filters = []; next_filter = next_filter }) }
+    pub(crate) fn resume(alloc: Global, version: u64, next_cap: u32, next_filter: u32) -> Contents
+        ensures { result ≡ record { table = record { version = version; caps = record { held = []; next = next_cap }; filters = []; next_filter = next_filter }; staged = None } }
     {
-        let caps = Caps::resume(alloc, next_cap)?;
-        let filters = BoxedFilters::new(&caps);
-        Ok(Contents {
+        let caps = Caps::resume(alloc, next_cap);
+        let filters = BoxedFilters::new(&Remaining::all(&caps));
+        Contents {
             version,
             caps,
             filters,
             next_filter,
-        })
+            plan: None,
+        }
     }
 
     pub(crate) fn version(&self) -> u64
-        ensures { result ≡ self.now.version }
+        ensures { result ≡ self.now.table.version }
     {
         self.version
     }
 
     pub(crate) fn caps(&self) -> &Caps
-        ensures { result.now ≡ self.now.caps }
+        ensures { result.now.table ≡ self.now.table.caps }
     {
         &self.caps
     }
 
     pub(crate) fn filters(&self) -> &BoxedFilters
-        ensures listed { result.now.listed ≡ self.now.filters }
-        ensures under { result.now.under ≡ self.now.caps }
+        ensures listed { result.now.listed ≡ self.now.table.filters }
+        ensures under { result.now.under ≡ self.now.table.caps }
     {
         &self.filters
     }
 
+    /// Whether an operation is staged.
+    pub(crate) fn staged(&self) -> bool
+        ensures { result ≡ is_some self.now.staged }
+    {
+        self.plan.is_some()
+    }
+
     /// The first refusal, the verifier's aside.
     pub(crate) fn refusal(&self, budget: u32, op: &Op) -> Result<(), StageFault>
-        requires { instructions_of self.now.filters ≤ budget }
-        ensures { result_err result ≡ first (tests self.now budget op.now) }
+        requires { instructions_of self.now.table.filters ≤ budget }
+        ensures { result_err result ≡ first (tests self.now.table budget op.now) }
     {
         if self.version == u64::MAX {
             return Err(StageFault::Rule(OpFault::VersionsSpent));
@@ -151,9 +162,9 @@ impl Contents {
     /// The first refusal, the verifier's aside, as what stands in the way of staging. Takes no memory.
     #[tactic(auto, using(filter_table::proofs::Changes::cannot_first, filter_table::proofs::Changes::never_memory))]
     fn tested(&self, budget: u32, op: &Op) -> Result<(), StageFault>
-        requires { instructions_of self.now.filters ≤ budget }
-        ensures ok { OnOk result (first (tests self.now budget op.now) ≡ None) }
-        ensures err { IfErr result (CannotStage self.now budget op.now None) }
+        requires { instructions_of self.now.table.filters ≤ budget }
+        ensures ok { OnOk result (first (tests self.now.table budget op.now) ≡ None) }
+        ensures err { IfErr result (CannotStage self.now.table budget op.now None) }
         ensures memory { result ≡ Err StageFault.NoMemory → ⊥ }
     {
         match self.refusal(budget, op) {
@@ -165,9 +176,9 @@ impl Contents {
     /// The same of an operation whose program lies elsewhere.
     #[tactic(auto, using(filter_table::proofs::Changes::cannot_first, filter_table::proofs::Changes::never_memory))]
     fn tested_load(&self, budget: u32, load: Load, program: &[Insn]) -> Result<(), StageFault>
-        requires { instructions_of self.now.filters ≤ budget }
-        ensures ok { OnOk result (first (tests self.now budget (load_op load program.now)) ≡ None) }
-        ensures err { IfErr result (CannotStage self.now budget (load_op load program.now) None) }
+        requires { instructions_of self.now.table.filters ≤ budget }
+        ensures ok { OnOk result (first (tests self.now.table budget (load_op load program.now)) ≡ None) }
+        ensures err { IfErr result (CannotStage self.now.table budget (load_op load program.now) None) }
         ensures memory { result ≡ Err StageFault.NoMemory → ⊥ }
     {
         match self.refusal_of_load(budget, load, program) {
@@ -177,8 +188,8 @@ impl Contents {
     }
 
     fn refusal_of_load(&self, budget: u32, load: Load, program: &[Insn]) -> Result<(), StageFault>
-        requires { instructions_of self.now.filters ≤ budget }
-        ensures { result_err result ≡ first (tests self.now budget (load_op load program.now)) }
+        requires { instructions_of self.now.table.filters ≤ budget }
+        ensures { result_err result ≡ first (tests self.now.table budget (load_op load program.now)) }
     {
         if self.version == u64::MAX {
             return Err(StageFault::Rule(OpFault::VersionsSpent));
@@ -198,8 +209,8 @@ impl Contents {
         cap: u32,
         program: &[Insn],
     ) -> Result<(), StageFault>
-        requires { instructions_of self.now.filters ≤ budget }
-        ensures { result_err result ≡ first (install_tests self.now budget domain cap program.now) }
+        requires { instructions_of self.now.table.filters ≤ budget }
+        ensures { result_err result ≡ first (install_tests self.now.table budget domain cap program.now) }
     {
         ruled(self.caps.may(cap, domain, Right::Receive))?;
         if self.filters.len() >= FILTERS {
@@ -216,8 +227,8 @@ impl Contents {
 
     /// The capability of a filter that the domain owns.
     fn owned(&self, domain: u16, id: u32) -> Result<u32, StageFault>
-        ensures fault { result_err result ≡ first (owner_tests self.now.filters domain id) }
-        ensures cap { IfOk result (λ cap. cap ≡ cap_of (filter_at self.now.filters id)) }
+        ensures fault { result_err result ≡ first (owner_tests self.now.table.filters domain id) }
+        ensures cap { IfOk result (λ cap. cap ≡ cap_of (filter_at self.now.table.filters id)) }
     {
         match self.filters.find(id) {
             None => Err(StageFault::Rule(OpFault::NoFilter)),
@@ -238,7 +249,7 @@ impl Contents {
         id: u32,
         program: &[Insn],
     ) -> Result<(), StageFault>
-        ensures { result_err result ≡ first (replace_tests self.now budget domain id program.now) }
+        ensures { result_err result ≡ first (replace_tests self.now.table budget domain id program.now) }
     {
         let cap = self.owned(domain, id)?;
         ruled(self.caps.may(cap, domain, Right::Receive))?;
@@ -249,29 +260,12 @@ impl Contents {
         }
     }
 
-    /// The table after an operation, or the first refusal.
-    #[tactic(auto, using(filter_table::proofs::Changes::allowed_if, crate::proofs::Refusals::cannot_program, filter_table::proofs::Changes::cannot_change))]
-    pub(crate) fn after(&self, alloc: Global, budget: u32, op: &Op) -> Result<Contents, StageFault>
-        requires fits { instructions_of self.now.filters ≤ budget }
-        requires sound { IsSoundTable self.now }
-        ensures ok { IfOk result (λ table. table ≡ after self.now op.now) }
-        ensures allowed { OnOk result (Allowed self.now budget op.now None) }
-        ensures err { IfErr result (CannotStage self.now budget op.now None) }
-    {
-        self.tested(budget, op)?;
-        let program = verified(alloc, op)?;
-        match self.changed(alloc, budget, op, program) {
-            Ok(table) => Ok(table),
-            Err(AllocError) => Err(StageFault::NoMemory),
-        }
-    }
-
-    /// What `after` would answer, memory aside. Takes no memory.
+    /// What `prepare` would answer, memory aside. Takes no memory.
     #[tactic(auto, using(filter_table::proofs::Changes::allowed_if, crate::proofs::Refusals::cannot_program))]
     pub(crate) fn check(&self, room: &mut Room, budget: u32, op: &Op) -> Result<(), StageFault>
-        requires { instructions_of self.now.filters ≤ budget }
-        ensures ok { OnOk result (Allowed self.now budget op.now None) }
-        ensures err { IfErr result (CannotStage self.now budget op.now None) }
+        requires { instructions_of self.now.table.filters ≤ budget }
+        ensures ok { OnOk result (Allowed self.now.table budget op.now None) }
+        ensures err { IfErr result (CannotStage self.now.table budget op.now None) }
         ensures memory { result ≡ Err StageFault.NoMemory → ⊥ }
     {
         self.tested(budget, op)?;
@@ -287,9 +281,9 @@ impl Contents {
         load: Load,
         program: &[Insn],
     ) -> Result<(), StageFault>
-        requires { instructions_of self.now.filters ≤ budget }
-        ensures ok { OnOk result (Allowed self.now budget (load_op load program.now) None) }
-        ensures err { IfErr result (CannotStage self.now budget (load_op load program.now) None) }
+        requires { instructions_of self.now.table.filters ≤ budget }
+        ensures ok { OnOk result (Allowed self.now.table budget (load_op load program.now) None) }
+        ensures err { IfErr result (CannotStage self.now.table budget (load_op load program.now) None) }
         ensures memory { result ≡ Err StageFault.NoMemory → ⊥ }
     {
         self.tested_load(budget, load, program)?;
@@ -299,7 +293,7 @@ impl Contents {
     /// What an operation makes.
     #[tactic(auto, unfolding(filter_table::specs::Tables::made))]
     pub(crate) fn made(&self, op: &Op) -> Made
-        ensures { result ≡ made self.now op.now }
+        ensures { result ≡ made self.now.table op.now }
     {
         match op {
             Op::Create { .. } | Op::Mint { .. } => Made::Cap(self.caps.next()),
@@ -310,117 +304,147 @@ impl Contents {
         }
     }
 
-    /// The table after an operation that no test refuses.
-    #[tactic(auto, using(filter_table::proofs::Changes::version_room, filter_table::proofs::Changes::filter_id_room, filter_table::proofs::Changes::install_room, filter_table::proofs::Changes::replace_room))]
-    fn changed(
+    /// Plans an operation, so that `perform` takes no memory and can't fail, or answers the first refusal. The table stays.
+    #[tactic(auto, using(filter_table::proofs::Changes::allowed_if, crate::proofs::Refusals::cannot_program, filter_table::proofs::Changes::cannot_change))]
+    pub(crate) fn prepare(&mut self, alloc: Global, budget: u32, op: &Op) -> Result<(), StageFault>
+        requires fits { instructions_of self.old.table.filters ≤ budget }
+        requires sound { IsSoundTable self.old.table }
+        requires free { self.old.staged ≡ None }
+        ensures table { self.new.table ≡ self.old.table }
+        ensures staged { OnOk result (self.new.staged ≡ Some op.now) }
+        ensures free { OnErr result (self.new.staged ≡ None) }
+        ensures allowed { OnOk result (Allowed self.old.table budget op.now None) }
+        ensures err { IfErr result (CannotStage self.old.table budget op.now None) }
+    {
+        self.tested(budget, op)?;
+        let program = verified(alloc, op)?;
+        match self.make_plan(alloc, budget, op, program) {
+            Ok(()) => Ok(()),
+            Err(AllocError) => Err(StageFault::NoMemory),
+        }
+    }
+
+    /// Plans an operation that no test refuses.
+    #[tactic(auto, using(filter_table::proofs::Changes::version_room))]
+    fn make_plan(
+        &mut self,
+        alloc: Global,
+        budget: u32,
+        op: &Op,
+        program: Option<Verified>,
+    ) -> Result<(), AllocError>
+        requires allowed { first (tests self.old.table budget op.now) ≡ None }
+        requires program { program ≡ program_of op.now }
+        requires sound { IsSoundTable self.old.table }
+        requires free { self.old.staged ≡ None }
+        ensures table { self.new.table ≡ self.old.table }
+        ensures staged { OnOk result (self.new.staged ≡ Some op.now) }
+        ensures free { OnErr result (self.new.staged ≡ None) }
+    {
+        let filters = self.filters_after(alloc, budget, op, program)?;
+        let made = self.made(op);
+        let next_filter = self.next_filter_after(op);
+        let caps = prepare_caps(&mut self.caps, op)?;
+        self.plan = Some(Plan {
+            caps,
+            filters,
+            next_filter,
+            made,
+            op: Snapshot::of(op),
+        });
+        Ok(())
+    }
+
+    /// Does what is planned, and answers what the operation made. None where nothing is staged. Takes no memory.
+    pub(crate) fn perform(&mut self) -> Option<Made>
+        ensures performed { IfSome result (λ id. (op : GhostOp) × (self.old.staged ≡ Some op) × (self.new.table ≡ after self.old.table op) × (id ≡ made self.old.table op)) }
+        ensures none { IfNone result ((self.old.staged ≡ None) × (self.new.table ≡ self.old.table)) }
+        ensures free { self.new.staged ≡ None }
+    {
+        let Plan {
+            caps,
+            filters,
+            next_filter,
+            made,
+            op: _op,
+        } = self.plan.take()?;
+        change_caps(&mut self.caps, caps);
+        self.filters.follow(filters, &Remaining::all(&self.caps));
+        self.next_filter = next_filter;
+        self.version += 1;
+        Some(made)
+    }
+
+    /// Gives up what is planned. Takes no memory.
+    pub(crate) fn forget(&mut self)
+        ensures { self.new ≡ record { table = self.old.table; staged = None } }
+    {
+        self.plan = None;
+        self.caps.forget();
+    }
+
+    /// The id that the next filter gets after an operation.
+    #[tactic(auto, unfolding(filter_table::specs::Tables::after), using(filter_table::proofs::Changes::filter_id_room))]
+    fn next_filter_after(&self, op: &Op) -> u32
+        requires { (budget : ℕ) × (first (tests self.now.table budget op.now) ≡ None) }
+        ensures { result ≡ (after self.now.table op.now).next_filter }
+    {
+        match op {
+            Op::Install { .. } => self.next_filter + 1,
+            _ => self.next_filter,
+        }
+    }
+
+    /// The filters after an operation that no test refuses, where those of the table don't stay.
+    #[tactic(auto, unfolding(filter_table::specs::Tables::after), using(filter_table::proofs::Changes::install_room, filter_table::proofs::Changes::replace_room))]
+    fn filters_after(
         &self,
         alloc: Global,
         budget: u32,
         op: &Op,
         program: Option<Verified>,
-    ) -> Result<Contents, AllocError>
-        requires allowed { first (tests self.now budget op.now) ≡ None }
+    ) -> Result<Option<BoxedFilters>, AllocError>
+        requires allowed { first (tests self.now.table budget op.now) ≡ None }
         requires program { program ≡ program_of op.now }
-        requires sound { IsSoundTable self.now }
-        ensures { IfOk result (λ table. table ≡ after self.now op.now) }
+        requires sound { IsSoundTable self.now.table }
+        ensures { IfOk result (λ next. AreNextFilters self.now.table (after self.now.table op.now).filters (after self.now.table op.now).caps next) }
     {
-        let _version = self.version;
-        let _next_filter = self.next_filter;
+        let _ = budget;
         match op {
-            Op::Create { domain, endpoint } => self.created(alloc, *domain, *endpoint),
-            Op::Mint {
-                domain,
-                cap,
-                to,
-                rights,
-            } => self.minted(alloc, *domain, *cap, *to, *rights),
-            Op::Revoke { domain, cap } => self.revoked(alloc, *domain, *cap),
-            Op::DropCap { domain, cap } => self.dropped(alloc, *domain, *cap),
+            Op::Create { .. } | Op::Mint { .. } => Ok(None),
+            Op::Revoke { cap, .. } => self.once_revoked(alloc, *cap),
+            Op::DropCap { cap, .. } => self.once_dropped(alloc, *cap),
             Op::Install { domain, cap, .. } => match program {
                 Some(program) => self.installed(alloc, *domain, *cap, &program),
                 None => unreachable!(),
             },
-            Op::Remove { domain, filter } => self.removed(alloc, *domain, *filter),
-            Op::Replace { domain, filter, .. } => match program {
-                Some(program) => self.replaced(alloc, *domain, *filter, &program),
+            Op::Remove { filter, .. } => self.removed(alloc, *filter),
+            Op::Replace { filter, .. } => match program {
+                Some(program) => self.replaced(alloc, *filter, &program),
                 None => unreachable!(),
             },
         }
     }
 
+    /// The filters once a capability is revoked, where those of the table don't stay.
     #[inline(never)]
-    #[tactic(auto, unfolding(filter_table::specs::Tables::after))]
-    fn created(&self, alloc: Global, domain: u16, endpoint: u16) -> Result<Contents, AllocError>
-        requires version { self.now.version < 18446744073709551615 }
-        requires sound { IsSoundTable self.now }
-        ensures { IfOk result (λ table. table ≡ after self.now (Op.Create domain endpoint)) }
+    fn once_revoked(&self, alloc: Global, cap: u32) -> Result<Option<BoxedFilters>, AllocError>
+        ensures { IfOk result (λ next. AreNextFilters self.now.table self.now.table.filters (revoked self.now.table.caps cap) next) }
     {
-        let mut caps = self.caps.copy(alloc)?;
-        match caps.create(domain, endpoint) {
-            Ok(_) => {
-                let filters = self.filters.under(alloc, &caps)?;
-                Ok(self.following(caps, filters, self.next_filter))
-            }
-            Err(_) => Err(AllocError),
-        }
+        let gone = self.caps.revoked_ids(alloc, cap)?;
+        self.filters.once_gone(alloc, &self.caps, &gone)
     }
 
+    /// The filters once a capability is dropped, where those of the table don't stay.
     #[inline(never)]
-    #[tactic(auto, unfolding(filter_table::specs::Tables::after))]
-    fn minted(
-        &self,
-        alloc: Global,
-        domain: u16,
-        cap: u32,
-        to: u16,
-        rights: Rights,
-    ) -> Result<Contents, AllocError>
-        requires version { self.now.version < 18446744073709551615 }
-        requires sound { IsSoundTable self.now }
-        ensures { IfOk result (λ table. table ≡ after self.now (Op.Mint domain cap to rights)) }
+    fn once_dropped(&self, alloc: Global, cap: u32) -> Result<Option<BoxedFilters>, AllocError>
+        ensures { IfOk result (λ next. AreNextFilters self.now.table self.now.table.filters (dropped self.now.table.caps cap) next) }
     {
-        let mut caps = self.caps.copy(alloc)?;
-        match caps.mint(domain, cap, to, rights) {
-            Ok(_) => {
-                let filters = self.filters.under(alloc, &caps)?;
-                Ok(self.following(caps, filters, self.next_filter))
-            }
-            Err(_) => Err(AllocError),
-        }
+        let gone = self.caps.dropped_ids(alloc, cap)?;
+        self.filters.once_gone(alloc, &self.caps, &gone)
     }
 
-    #[inline(never)]
-    #[tactic(auto, unfolding(filter_table::specs::Tables::after))]
-    fn revoked(&self, alloc: Global, domain: u16, cap: u32) -> Result<Contents, AllocError>
-        requires { self.now.version < 18446744073709551615 }
-        ensures { IfOk result (λ table. table ≡ after self.now (Op.Revoke domain cap)) }
-    {
-        let mut caps = self.caps.copy(alloc)?;
-        match caps.revoke(domain, cap) {
-            Ok(()) => {
-                let filters = self.filters.under_fewer(alloc, &self.caps, &caps)?;
-                Ok(self.following(caps, filters, self.next_filter))
-            }
-            Err(_) => Err(AllocError),
-        }
-    }
-
-    #[inline(never)]
-    #[tactic(auto, unfolding(filter_table::specs::Tables::after))]
-    fn dropped(&self, alloc: Global, domain: u16, cap: u32) -> Result<Contents, AllocError>
-        requires { self.now.version < 18446744073709551615 }
-        ensures { IfOk result (λ table. table ≡ after self.now (Op.DropCap domain cap)) }
-    {
-        let mut caps = self.caps.copy(alloc)?;
-        match caps.drop_cap(domain, cap) {
-            Ok(()) => {
-                let filters = self.filters.under_fewer(alloc, &self.caps, &caps)?;
-                Ok(self.following(caps, filters, self.next_filter))
-            }
-            Err(_) => Err(AllocError),
-        }
-    }
-
+    /// The filters once one is installed.
     #[inline(never)]
     #[tactic(auto, unfolding(filter_table::specs::Tables::after))]
     fn installed(
@@ -429,72 +453,53 @@ impl Contents {
         domain: u16,
         cap: u32,
         program: &Verified,
-    ) -> Result<Contents, AllocError>
-        requires version { self.now.version < 18446744073709551615 }
-        requires id { self.now.next_filter < 4294967295 }
-        requires fits { instructions_of self.now.filters + length program.now < 4294967296 }
-        ensures { IfOk result (λ table. table ≡ after self.now (Op.Install domain cap program.now)) }
+    ) -> Result<Option<BoxedFilters>, AllocError>
+        requires { instructions_of self.now.table.filters + length program.now < 4294967296 }
+        ensures { IfOk result (λ next. next ≡ Some (record { listed = (after self.now.table (Op.Install domain cap program.now)).filters; under = self.now.table.caps })) }
     {
-        let id = self.next_filter;
         let endpoint = match self.caps.get(cap) {
             Some(cap) => cap.endpoint,
             None => 0,
         };
         let filter = Filter {
-            id,
+            id: self.next_filter,
             owner: domain,
             cap,
             endpoint,
             program,
         };
-        let caps = self.caps.copy(alloc)?;
-        let filters = self.filters.with(alloc, &caps, filter)?;
-        Ok(self.following(caps, filters, id + 1))
+        let next = self
+            .filters
+            .with(alloc, &Remaining::all(&self.caps), filter)?;
+        Ok(Some(next))
     }
 
+    /// The filters without one.
     #[inline(never)]
-    #[tactic(auto, unfolding(filter_table::specs::Tables::after))]
-    fn removed(&self, alloc: Global, domain: u16, filter: u32) -> Result<Contents, AllocError>
-        requires { self.now.version < 18446744073709551615 }
-        ensures { IfOk result (λ table. table ≡ after self.now (Op.Remove domain filter)) }
+    fn removed(&self, alloc: Global, id: u32) -> Result<Option<BoxedFilters>, AllocError>
+        ensures { IfOk result (λ next. next ≡ Some (record { listed = filter (λ f. not (f.id == id)) self.now.table.filters; under = self.now.table.caps })) }
     {
-        let _ = domain;
-        let caps = self.caps.copy(alloc)?;
-        let filters = self.filters.without(alloc, &caps, filter)?;
-        Ok(self.following(caps, filters, self.next_filter))
+        let next = self
+            .filters
+            .without(alloc, &Remaining::all(&self.caps), id)?;
+        Ok(Some(next))
     }
 
+    /// The filters once the program of one is replaced.
     #[inline(never)]
-    #[tactic(auto, unfolding(filter_table::specs::Tables::after))]
     fn replaced(
         &self,
         alloc: Global,
-        domain: u16,
-        filter: u32,
+        id: u32,
         program: &Verified,
-    ) -> Result<Contents, AllocError>
-        requires version { self.now.version < 18446744073709551615 }
-        requires fits { instructions_of (replaced self.now.filters filter program.now) < 4294967296 }
-        ensures { IfOk result (λ table. table ≡ after self.now (Op.Replace domain filter program.now)) }
+    ) -> Result<Option<BoxedFilters>, AllocError>
+        requires { instructions_of (replaced self.now.table.filters id program.now) < 4294967296 }
+        ensures { IfOk result (λ next. next ≡ Some (record { listed = replaced self.now.table.filters id program.now; under = self.now.table.caps })) }
     {
-        let _ = domain;
-        let caps = self.caps.copy(alloc)?;
-        let filters = self.filters.replacing(alloc, &caps, filter, program)?;
-        Ok(self.following(caps, filters, self.next_filter))
-    }
-
-    /// The table at the next version, with these capabilities and filters.
-    fn following(&self, caps: Caps, filters: BoxedFilters, next_filter: u32) -> Contents
-        requires version { self.now.version < 18446744073709551615 }
-        requires under { filters.under ≡ caps }
-        ensures { result ≡ record { version = self.now.version + 1; caps = caps; filters = filters.listed; next_filter = next_filter } }
-    {
-        Contents {
-            version: self.version + 1,
-            caps,
-            filters,
-            next_filter,
-        }
+        let next = self
+            .filters
+            .replacing(alloc, &Remaining::all(&self.caps), id, program)?;
+        Ok(Some(next))
     }
 }
 

@@ -2,10 +2,11 @@
 ghost use Rattle.std.specs.Prelude.{◌≡◌, ◌==◌, ◌+◌, ◌<◌, ◌≤◌, ◌++◌, [], ◌∷◌, length, filter, not, Some, slice_get, IfOk};
 ghost use Rattle.table_replica.specs.Keeping.{ArePlaced, AreReaches, AreHeldAlike, AreFewer, AreFiled, placed_row, rows_after};
 ghost use Rattle.std.specs.Prelude.{List};
+ghost use Rattle.table_replica.specs.Remaining.{remaining};
 ghost use Rattle.table_replica.specs.declared.filters.Row.{Row as GhostRow};
 ghost use Rattle.table_replica.specs.Lent.{shown_filter, AreDifferent, held_filters};
 ghost use Rattle.filter_table.specs.Tables.{instructions_of, replaced, filter_at};
-ghost use Rattle.std.specs.Prelude.{leb, OnOk};
+ghost use Rattle.std.specs.Prelude.{leb, OnOk, MatchOption};
 ghost use Rattle.std.specs.Iterator.{YieldsFirstBy, item_count};
 ghost use Rattle.std.specs.Prelude.{map};
 ghost use Rattle.std.specs.Option.{option_map};
@@ -14,20 +15,20 @@ ghost use Rattle.filter_table.specs.Tables.{AreReceivers};
 
 use crate::Kept;
 use crate::boxed::BoxedFilters;
-use crate::lost::{are_under_none, lost_ids};
 use crate::programs::KeptPrograms;
 use crate::reaches::{
     Chains, Reach, add_reach, all_reaches, reaches_and, reaches_without, receivers, receivers_with,
 };
+use crate::remaining::{Remaining, Under, are_under_none};
 use crate::settling::{Settling, settle, trim};
 use crate::shifts::{Shift, rows_after};
 use bpf_insn::Insn;
+use chunked::Sorted;
 use endpoint_caps::Caps;
 use filter_group::Lists;
 use filter_verify::Verified;
 use std::alloc::{AllocError, Global};
 use std::marker::Model;
-use std::snapshot::Snapshot;
 
 /// A filter that is listed.
 #[derive(Clone, Copy)]
@@ -96,7 +97,7 @@ pub(crate) struct Filters {
     reaches: Vec<Reach>,
     chains: Chains,
     instructions: u32,
-    under: Snapshot<Caps>,
+    under: Under,
 }
 
 // By hand, so that the proofs of its owners have one call and not a drop of each part.
@@ -120,14 +121,14 @@ impl Model for Filters {
 
     ghost Value = { FilterTable };
 
-    ghost view = { λ a. record { listed = map (listed_row a.programs) a.rows.items; under = a.under.value } };
+    ghost view = { λ a. record { listed = map (listed_row a.programs) a.rows.items; under = a.under } };
 
-    ghost invariant = { λ a. IsKept a.under.value.held a.rows.items a.programs a.reaches.items a.chains a.instructions };
+    ghost invariant = { λ a. IsKept a.under.held a.rows.items a.programs a.reaches.items a.chains a.instructions };
 }
 
 impl Filters {
     /// No filter.
-    pub(crate) fn new(alloc: Global, caps: &Caps) -> Filters
+    pub(crate) fn new(alloc: Global, caps: &Remaining<'_>) -> Filters
         ensures { result ≡ record { listed = []; under = caps.now } }
     {
         Filters {
@@ -136,7 +137,7 @@ impl Filters {
             reaches: Vec::new(alloc),
             chains: Chains::none(alloc),
             instructions: 0,
-            under: Snapshot::of(caps),
+            under: Under::of(caps),
         }
     }
 
@@ -173,7 +174,7 @@ impl Filters {
     pub(crate) fn with(
         &self,
         alloc: Global,
-        caps: &Caps,
+        caps: &Remaining<'_>,
         filter: Filter<'_>,
     ) -> Result<Box<Filters>, AllocError>
         requires caps { caps.now ≡ self.now.under }
@@ -201,51 +202,35 @@ impl Filters {
         rebuilt(alloc, caps, all, instructions)
     }
 
-    /// The same filters under capabilities that hold those of the filters as before.
-    #[inline(never)]
-    pub(crate) fn under(&self, alloc: Global, caps: &Caps) -> Result<Box<Filters>, AllocError>
-        requires { AreHeldAlike self.now.under caps.now self.now.listed }
-        ensures { IfOk result (λ filters. filters.value ≡ record { listed = self.now.listed; under = caps.now }) }
+    /// The same filters stand under capabilities that hold those of the filters as before. Takes no memory.
+    pub(crate) fn stand_under(&mut self, caps: &Remaining<'_>)
+        requires { AreHeldAlike self.old.under caps.now self.old.listed }
+        ensures { self.new ≡ record { listed = self.old.listed; under = caps.now } }
     {
-        let instructions = self.instructions;
-        let rows = Vec::from_slice(alloc, &self.rows)?;
-        let programs = self.programs.copy(alloc)?;
-        let reaches = Vec::from_slice(alloc, &self.reaches)?;
-        let chains = self.chains.copy(alloc)?;
-        let filters = Filters {
-            rows,
-            programs,
-            reaches,
-            chains,
-            instructions,
-            under: Snapshot::of(caps),
-        };
-        Ok(Box::new(alloc, filters)?)
+        self.under = Under::of(caps);
     }
 
-    /// The same filters under capabilities of which some may be gone. Where no filter is under one that is gone, nothing is sorted.
+    /// The filters once some capabilities have gone. None where no filter is under one of these: then the filters may stay.
     #[inline(never)]
-    pub(crate) fn under_fewer(
+    pub(crate) fn once_gone(
         &self,
         alloc: Global,
-        before: &Caps,
         caps: &Caps,
-    ) -> Result<Box<Filters>, AllocError>
-        requires before { before.now ≡ self.now.under }
-        requires fewer { AreFewer before.now.held caps.now.held }
-        ensures { IfOk result (λ filters. filters.value ≡ record { listed = self.now.listed; under = caps.now }) }
+        gone: &Sorted<()>,
+    ) -> Result<Option<Box<Filters>>, AllocError>
+        requires { caps.now.table ≡ self.now.under }
+        ensures { IfOk result (λ next. MatchOption next (AreHeldAlike caps.now.table (remaining caps.now.table (Some gone.now.entries)) self.now.listed) (λ filters. filters.value ≡ record { listed = self.now.listed; under = remaining caps.now.table (Some gone.now.entries) })) }
     {
-        let lost = lost_ids(alloc, before, caps)?;
-        if are_under_none(&self.rows, &lost) {
-            self.under(alloc, caps)
-        } else {
-            self.under_others(alloc, caps)
+        if are_under_none(&self.rows, gone) {
+            return Ok(None);
         }
+        let after = self.under_fewer(alloc, &Remaining::without(caps, gone))?;
+        Ok(Some(after))
     }
 
     /// The same filters under capabilities of which some may be gone.
     #[inline(never)]
-    fn under_others(&self, alloc: Global, caps: &Caps) -> Result<Box<Filters>, AllocError>
+    fn under_fewer(&self, alloc: Global, caps: &Remaining<'_>) -> Result<Box<Filters>, AllocError>
         requires { AreFewer self.now.under.held caps.now.held }
         ensures { IfOk result (λ filters. filters.value ≡ record { listed = self.now.listed; under = caps.now }) }
     {
@@ -352,7 +337,7 @@ impl Filters {
     pub(crate) fn without(
         &self,
         alloc: Global,
-        caps: &Caps,
+        caps: &Remaining<'_>,
         id: u32,
     ) -> Result<Box<Filters>, AllocError>
         requires { caps.now ≡ self.now.under }
@@ -375,7 +360,7 @@ impl Filters {
     pub(crate) fn replacing(
         &self,
         alloc: Global,
-        caps: &Caps,
+        caps: &Remaining<'_>,
         id: u32,
         program: &Verified,
     ) -> Result<Box<Filters>, AllocError>
@@ -447,7 +432,7 @@ fn rows_without(alloc: Global, rows: &[Row], id: u32) -> Result<Vec<Row>, AllocE
 /// The rows, the program of one filter replaced by one that runs, and their reaches beside those of the other rows.
 fn rows_with(
     alloc: Global,
-    caps: &Caps,
+    caps: &Remaining<'_>,
     rows: &[Row],
     reaches: &mut Vec<Reach>,
     id: u32,
@@ -477,7 +462,7 @@ fn rows_with(
 #[inline(never)]
 fn rebuilt(
     alloc: Global,
-    caps: &Caps,
+    caps: &Remaining<'_>,
     mut all: Settling,
     instructions: u32,
 ) -> Result<Box<Filters>, AllocError>
@@ -487,13 +472,19 @@ fn rebuilt(
 {
     let chains = settle(alloc, caps, &mut all)?;
     trim(alloc, caps, &mut all)?;
+    let Settling {
+        rows,
+        programs,
+        reaches,
+    } = all;
+    let programs = programs.planned(alloc)?;
     let filters = Filters {
-        rows: all.rows,
-        programs: all.programs,
-        reaches: all.reaches,
+        rows,
+        programs,
+        reaches,
         chains,
         instructions,
-        under: Snapshot::of(caps),
+        under: Under::of(caps),
     };
     Ok(Box::new(alloc, filters)?)
 }

@@ -1,15 +1,16 @@
 //! The table that every core keeps a replica of: capabilities over endpoints, and the filters that say which packets reach them.
 //!
-//! A replica changes by operations that are staged beside the shown table and then committed or aborted, which takes no memory
+//! A replica changes in place, by operations that are staged, which takes all memory, and then committed or aborted, which takes none
 //! (Baumann and others, "The Multikernel", SOSP 2009: replicated state, changed by two-phase commit).
 #![tactic(auto)]
 
 mod boxed;
 mod contents;
 mod filters;
-mod lost;
+mod plan;
 mod programs;
 mod reaches;
+mod remaining;
 mod replica;
 mod settling;
 mod shifts;

@@ -81,6 +81,15 @@ impl KeptPrograms {
         }
     }
 
+    /// The same programs, with a plan of which of those that run a packet is run on. It is made once for all changes before it.
+    pub(crate) fn planned(self, alloc: Global) -> Result<KeptPrograms, AllocError>
+        ensures { IfOk result (λ programs. programs ≡ self) }
+    {
+        let KeptPrograms { running, resting } = self;
+        let running = running.planned(alloc)?;
+        Ok(KeptPrograms { running, resting })
+    }
+
     /// Takes one out of those that rest, or run: the last of these gets its place. Without memory that list is lost.
     pub(crate) fn take_out(
         &mut self,

@@ -16,7 +16,7 @@ ghost use Rattle.table_replica.specs.Receiving.{raised, at_endpoint, Accepts, Ar
 
 use crate::Kept;
 use crate::filters::Row;
-use endpoint_caps::Caps;
+use crate::remaining::Remaining;
 use filter_group::{Hit, Lists, Programs};
 use std::alloc::{AllocError, Global};
 
@@ -41,13 +41,13 @@ fn reach_of(row: &Row) -> Reach
 pub(crate) fn all_reaches(
     alloc: Global,
     rows: &[Row],
-    caps: &Caps,
+    caps: &Remaining<'_>,
 ) -> Result<Vec<Reach>, AllocError>
     ensures { IfOk result (λ reaches. AreReaches caps.now.held rows.now reaches.items) }
 {
     let mut reaches = Vec::with_capacity(alloc, rows.len())?;
     for row in rows {
-        if caps.get(row.cap).is_some() {
+        if caps.holds(row.cap) {
             reaches.push(reach_of(row))?;
         }
     }
@@ -60,7 +60,7 @@ pub(crate) fn all_reaches(
 pub(crate) fn reaches_and(
     alloc: Global,
     reaches: &[Reach],
-    caps: &Caps,
+    caps: &Remaining<'_>,
     row: &Row,
 ) -> Result<Vec<Reach>, AllocError>
     ensures { IfOk result (λ all. (rows : List GhostRow) → AreReaches caps.now.held rows reaches.now → AreReaches caps.now.held (rows ++ row.now ∷ []) all.items) }
@@ -72,10 +72,14 @@ pub(crate) fn reaches_and(
 }
 
 /// The reaches of one more row too.
-pub(crate) fn add_reach(reaches: &mut Vec<Reach>, caps: &Caps, row: &Row) -> Result<(), AllocError>
+pub(crate) fn add_reach(
+    reaches: &mut Vec<Reach>,
+    caps: &Remaining<'_>,
+    row: &Row,
+) -> Result<(), AllocError>
     ensures { OnOk result ((rows : List GhostRow) → AreReaches caps.now.held rows reaches.old.items → AreReaches caps.now.held (rows ++ row.now ∷ []) reaches.new.items) }
 {
-    if caps.get(row.cap).is_none() {
+    if !caps.holds(row.cap) {
         return Ok(());
     }
     let reach = reach_of(row);
@@ -94,7 +98,7 @@ pub(crate) fn add_reach(reaches: &mut Vec<Reach>, caps: &Caps, row: &Row) -> Res
 pub(crate) fn reaches_without(
     alloc: Global,
     reaches: &[Reach],
-    caps: &Caps,
+    caps: &Remaining<'_>,
     rows: &[Row],
     id: u32,
 ) -> Result<Vec<Reach>, AllocError>
@@ -118,11 +122,11 @@ pub(crate) fn reaches_without(
 }
 
 /// Whether a row of another filter has this endpoint and program, and its capability is held.
-fn is_live_without(reach: Reach, caps: &Caps, rows: &[Row], id: u32) -> bool
+fn is_live_without(reach: Reach, caps: &Remaining<'_>, rows: &[Row], id: u32) -> bool
     ensures { IsTrue result ↔ IsLive caps.now.held (filter (λ row. not (row.id == id)) rows.now) reach }
 {
     for row in rows {
-        if row.id != id && reach_of(row) == reach && caps.get(row.cap).is_some() {
+        if row.id != id && reach_of(row) == reach && caps.holds(row.cap) {
             return true;
         }
     }

@@ -1,4 +1,4 @@
-//! The replica of a core: the table that it shows, and the one that is staged beside it.
+//! The replica of a core: the table that it shows, and what is planned of the operation that is staged.
 ghost use Rattle.std.specs.Prelude.{◌≡◌, ◌≤◌, [], None, Some, IsSome, is_some, IsOk, IfOk, IfErr, OnOk, OnErr};
 ghost use Rattle.filter_table.specs.Tables.{Accepting, Allowed, after, instructions, instructions_of, made};
 ghost use Rattle.table_replica.specs.Lent.{AreDifferent, held_filters};
@@ -13,21 +13,11 @@ use crate::{
 use endpoint_caps::Caps;
 use std::alloc::{AllocError, Global};
 use std::marker::Model;
-use std::snapshot::Snapshot;
-
-/// The table after an operation, not shown yet.
-#[derive(Drop)]
-struct Staged {
-    next: Contents,
-    made: Made,
-    op: Snapshot<Op>,
-}
 
 /// A replica of the table: a budget of instructions, the table that is shown, and the operation that is staged, if one is.
 pub struct Replica {
     budget: u32,
-    shown: Contents,
-    staged: Option<Staged>,
+    contents: Contents,
 }
 
 // By hand, so that the proofs of its owners have one call and not a drop of each part.
@@ -35,8 +25,7 @@ impl Drop for Replica {
     fn drop(self) {
         let Replica {
             budget: _,
-            shown: _,
-            staged: _,
+            contents: _,
         } = self;
     }
 }
@@ -48,12 +37,12 @@ impl Model for Replica {
 
     ghost Value = { ReplicaState };
 
-    ghost use Rattle.table_replica.specs.Replicas.{staged_op, IsStaged};
+    ghost use Rattle.table_replica.specs.Replicas.{AllowsStaged};
     ghost use Rattle.filter_table.specs.Soundness.{IsSoundTable};
 
-    ghost view = { λ a. record { budget = a.budget; shown = a.shown; staged = staged_op a.staged } };
+    ghost view = { λ a. record { budget = a.budget; shown = a.contents.table; staged = a.contents.staged } };
 
-    ghost invariant = { λ a. (instructions_of a.shown.filters ≤ a.budget) × IsSoundTable a.shown × IsStaged a.budget a.shown a.staged };
+    ghost invariant = { λ a. (instructions_of a.contents.table.filters ≤ a.budget) × IsSoundTable a.contents.table × AllowsStaged a.budget a.contents.table a.contents.staged };
 }
 
 impl Replica {
@@ -78,19 +67,15 @@ impl Replica {
         ensures ok { IsOk result }
         ensures empty { IfOk result (λ replica. replica ≡ record { budget = budget; shown = record { version = version; caps = record { held = []; next = next_cap }; filters = []; next_filter = next_filter }; staged = None }) }
     {
-        let shown = Contents::resume(alloc, version, next_cap, next_filter)?;
-        Ok(Replica {
-            budget,
-            shown,
-            staged: None,
-        })
+        let contents = Contents::resume(alloc, version, next_cap, next_filter);
+        Ok(Replica { budget, contents })
     }
 
     /// The version of the table.
     pub fn version(&self) -> u64
         ensures { result ≡ self.now.shown.version }
     {
-        self.shown.version()
+        self.contents.version()
     }
 
     /// How many instructions the filters may have.
@@ -104,14 +89,14 @@ impl Replica {
     pub fn total_instructions(&self) -> u32
         ensures { result ≡ instructions_of self.now.shown.filters }
     {
-        self.shown.filters().instructions()
+        self.contents.filters().instructions()
     }
 
     /// How many different programs the listed filters have.
     pub fn distinct_programs(&self) -> usize
         ensures { AreDifferent self.now.shown.filters result }
     {
-        self.shown.filters().distinct_programs()
+        self.contents.filters().distinct_programs()
     }
 
     /// How many programs a packet is run on: the different ones of the filters whose capability is held. So a filter whose
@@ -119,21 +104,21 @@ impl Replica {
     pub fn running_programs(&self) -> usize
         ensures { AreDifferent (held_filters self.now.shown.caps.held self.now.shown.filters) result }
     {
-        self.shown.filters().running_programs()
+        self.contents.filters().running_programs()
     }
 
     /// Whether an operation is staged.
     pub fn staged(&self) -> bool
         ensures { result ≡ is_some self.now.staged }
     {
-        self.staged.is_some()
+        self.contents.staged()
     }
 
     /// The capabilities.
     pub fn caps(&self) -> &Caps
-        ensures { result.now ≡ self.now.shown.caps }
+        ensures { result.now.table ≡ self.now.shown.caps }
     {
-        self.shown.caps()
+        self.contents.caps()
     }
 
     /// The filters of the shown table, in order of installation. Whenever this is asked, the table is sound: ids increase and
@@ -144,7 +129,7 @@ impl Replica {
         ensures sound { IsSoundTable self.now.shown }
     {
         FilterIter {
-            filters: self.shown.filters(),
+            filters: self.contents.filters(),
             next: 0,
         }
     }
@@ -160,7 +145,7 @@ impl Replica {
     ) -> Result<Vec<Kept>, AllocError>
         ensures { IfOk result (λ kept. Accepting self.now.shown (record { bytes = bytes.now; original = original }) kept.items) }
     {
-        self.shown.filters().accepting(alloc, bytes, original)
+        self.contents.filters().accepting(alloc, bytes, original)
     }
 
     /// The same, in place of what the scratch kept. Takes memory only where the scratch was never as long as the packet needs.
@@ -172,7 +157,7 @@ impl Replica {
     ) -> Result<(), AllocError>
         ensures { OnOk result (Accepting self.now.shown (record { bytes = bytes.now; original = original }) scratch.new.kept.items) }
     {
-        self.shown
+        self.contents
             .filters()
             .accepting_with(scratch, bytes, original)
     }
@@ -185,11 +170,10 @@ impl Replica {
         ensures memory { result ≡ Err StageFault.NoMemory → ⊥ }
         ensures fits { instructions_of self.now.shown.filters ≤ self.now.budget }
     {
-        let _ = &self.shown;
-        if self.staged.is_some() {
+        if self.contents.staged() {
             return Err(StageFault::AlreadyStaged);
         }
-        self.shown.check(room, self.budget, op)
+        self.contents.check(room, self.budget, op)
     }
 
     /// The same of an operation whose program lies elsewhere.
@@ -205,15 +189,14 @@ impl Replica {
         ensures memory { result ≡ Err StageFault.NoMemory → ⊥ }
         ensures fits { instructions_of self.now.shown.filters ≤ self.now.budget }
     {
-        let _ = &self.shown;
-        if self.staged.is_some() {
+        if self.contents.staged() {
             return Err(StageFault::AlreadyStaged);
         }
-        self.shown.check_load(room, self.budget, load, program)
+        self.contents.check_load(room, self.budget, load, program)
     }
 
-    /// Makes the table after the operation, beside the one that is shown, so that `commit` and `abort` take no memory. Memory is
-    /// asked for only once no test but the verifier's search for unwritten words is left.
+    /// Plans the operation and takes the memory that it needs, so that `commit` and `abort` take none. The table that is shown stays.
+    /// Memory is asked for only once no test but the verifier's search for unwritten words is left.
     pub fn stage(&mut self, alloc: Global, op: &Op) -> Result<(), StageFault>
         ensures ok { OnOk result (Allowed self.old.shown self.old.budget op.now None) }
         ensures nothing_staged { OnOk result (self.old.staged ≡ None) }
@@ -224,20 +207,13 @@ impl Replica {
         ensures budget { self.new.budget ≡ self.old.budget }
         ensures fits { instructions_of self.old.shown.filters ≤ self.old.budget }
     {
-        if self.staged.is_some() {
+        if self.contents.staged() {
             return Err(StageFault::AlreadyStaged);
         }
-        let next = self.shown.after(alloc, self.budget, op)?;
-        let made = self.shown.made(op);
-        self.staged = Some(Staged {
-            next,
-            made,
-            op: Snapshot::of(op),
-        });
-        Ok(())
+        self.contents.prepare(alloc, self.budget, op)
     }
 
-    /// Shows the table that is staged, and answers what its operation made. Takes no memory.
+    /// Does the operation that is staged, and answers what it made. Takes no memory.
     #[tactic(auto, using(filter_table::proofs::Soundness::ids_stay))]
     pub fn commit(&mut self) -> Result<Made, NothingStaged>
         ensures ok { IfOk result (λ id. (op : GhostOp) × (self.old.staged ≡ Some op) × (self.new.shown ≡ after self.old.shown op) × (id ≡ made self.old.shown op)) }
@@ -247,21 +223,13 @@ impl Replica {
         ensures budget { self.new.budget ≡ self.old.budget }
         ensures ids { IdsGrow self.old.shown self.new.shown }
     {
-        match self.staged.take() {
+        match self.contents.perform() {
             None => Err(NothingStaged),
-            Some(staged) => {
-                let Staged {
-                    next,
-                    made,
-                    op: _op,
-                } = staged;
-                self.shown = next;
-                Ok(made)
-            }
+            Some(made) => Ok(made),
         }
     }
 
-    /// Drops what is staged. Takes no memory.
+    /// Gives up the operation that is staged. Takes no memory.
     pub fn abort(&mut self) -> Result<(), NothingStaged>
         ensures err { OnErr result (self.old.staged ≡ None) }
         ensures ok { OnOk result (IsSome self.old.staged) }
@@ -269,9 +237,10 @@ impl Replica {
         ensures none_staged { self.new.staged ≡ None }
         ensures budget { self.new.budget ≡ self.old.budget }
     {
-        match self.staged.take() {
-            None => Err(NothingStaged),
-            Some(_) => Ok(()),
+        if !self.contents.staged() {
+            return Err(NothingStaged);
         }
+        self.contents.forget();
+        Ok(())
     }
 }

@@ -10,8 +10,8 @@ ghost use Rattle.table_replica.specs.Keeping.{AreFiled, HasReach, HasRest, IsIdl
 use crate::filters::Row;
 use crate::programs::KeptPrograms;
 use crate::reaches::{Chains, Reach, chained};
+use crate::remaining::Remaining;
 use crate::shifts::{Shift, lower_all, reaches_after, shift_all};
-use endpoint_caps::Caps;
 use std::alloc::{AllocError, Global};
 
 /// Rows with their programs and reaches, while programs go to rest or are taken out.
@@ -35,7 +35,11 @@ impl Settling {
 
 /// Puts programs to rest until each that runs has a reach. The chains of the reaches.
 #[inline(never)]
-pub(crate) fn settle(alloc: Global, caps: &Caps, left: &mut Settling) -> Result<Chains, AllocError>
+pub(crate) fn settle(
+    alloc: Global,
+    caps: &Remaining<'_>,
+    left: &mut Settling,
+) -> Result<Chains, AllocError>
     requires { AreFiled caps.now.held left.old.rows.items left.old.programs left.old.reaches.items }
     ensures like { OnOk result (IsLike caps.now.held left.old left.new) }
     ensures chained { IfOk result (λ chains. AreChained 0 left.new.reaches.items chains.first.items chains.next.items) }
@@ -52,7 +56,11 @@ pub(crate) fn settle(alloc: Global, caps: &Caps, left: &mut Settling) -> Result<
 
 /// Takes programs out until each that rests has a row.
 #[inline(never)]
-pub(crate) fn trim(alloc: Global, caps: &Caps, left: &mut Settling) -> Result<(), AllocError>
+pub(crate) fn trim(
+    alloc: Global,
+    caps: &Remaining<'_>,
+    left: &mut Settling,
+) -> Result<(), AllocError>
     requires { AreFiled caps.now.held left.old.rows.items left.old.programs left.old.reaches.items }
     ensures like { OnOk result (IsLike caps.now.held left.old left.new) }
     ensures reaches { OnOk result (left.new.reaches.items ≡ left.old.reaches.items) }

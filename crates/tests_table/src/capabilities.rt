@@ -66,9 +66,9 @@ fn answer<Place: Debug>(rt: &impl Abort, caps: &mut Caps, calls: &[(Call, Answer
 
 /// These capabilities are held.
 fn holds_rows(rt: &impl Abort, caps: &Caps, rows: &[Row]) {
-    equal_at(rt, caps.list().len(), rows.len(), &rows);
-    for (held, row) in caps.list().iter().zip(rows.iter()) {
-        equal_at(rt, *held, cap(row), row);
+    equal_at(rt, caps.len(), rows.len(), &rows);
+    for (entry, row) in caps.list().zip(rows.iter()) {
+        equal_at(rt, entry.1, cap(row), row);
         equal_at(rt, caps.get(row.0).copied(), Some(cap(row)), row);
     }
 }
@@ -147,8 +147,19 @@ static TABLES: [&[Run]; 3] = [
 /// A copy shows the same.
 fn has_same_copy(rt: &impl Abort, alloc: Global, caps: &Caps) {
     let copy = caps.copy(alloc).expect(rt, "there is memory");
-    equal(rt, copy.list(), caps.list());
-    equal(rt, copy.next(), caps.next());
+    equal(rt, (copy.len(), copy.next()), (caps.len(), caps.next()));
+    for (one, other) in copy.list().zip(caps.list()) {
+        equal(rt, one.1, other.1);
+    }
+}
+
+/// What was made ready and is given up leaves the capabilities.
+fn stays_once_forgotten(rt: &impl Abort, caps: &mut Caps) {
+    let held = caps.len();
+    let next = caps.next();
+    equal(rt, caps.prepare_create(1000), Ok(()));
+    caps.forget();
+    equal(rt, (caps.len(), caps.next()), (held, next));
 }
 
 /// The calls of each run answer so, and leave the capabilities that it names.
@@ -158,14 +169,14 @@ fn all_answer(rt: &impl Abort, alloc: Global, mut caps: Caps, runs: &[Run]) {
         holds_rows(rt, &caps, rows);
         equal(rt, caps.get(1000), None);
         has_same_copy(rt, alloc, &caps);
+        stays_once_forgotten(rt, &mut caps);
     }
 }
 
 #[test]
 fn derives_and_revokes(rt: HostRuntime) {
     for runs in &TABLES {
-        let caps = Caps::new(rt.alloc()).expect(&rt, "there is memory");
-        all_answer(&rt, rt.alloc(), caps, runs);
+        all_answer(&rt, rt.alloc(), Caps::new(rt.alloc()), runs);
     }
 }
 
@@ -193,7 +204,7 @@ static LAST_IDS: [(u32, &[(Call, Answer)]); 3] = [
 #[test]
 fn ids_are_spent(rt: HostRuntime) {
     for (next, calls) in &LAST_IDS {
-        let mut caps = Caps::resume(rt.alloc(), *next).expect(&rt, "there is memory");
+        let mut caps = Caps::resume(rt.alloc(), *next);
         answer(&rt, &mut caps, calls, next);
     }
 }
@@ -220,17 +231,17 @@ fn fills(rt: &impl Abort, caps: &mut Caps) {
 
 #[test]
 fn table_is_full(rt: HostRuntime) {
-    let mut caps = Caps::new(rt.alloc()).expect(&rt, "there is memory");
+    let mut caps = Caps::new(rt.alloc());
     fills(&rt, &mut caps);
     has_same_copy(&rt, rt.alloc(), &caps);
 }
 
 /// A call, made once more where a growth was refused, which has changed nothing.
 fn answers_again(rt: &impl Abort, caps: &mut Caps, call: Call, id: u32) {
-    let held = caps.list().len();
+    let held = caps.len();
     let mut found = make(caps, call);
     if found == Err(CapFault::NoMemory) {
-        equal(rt, caps.list().len(), held);
+        equal(rt, caps.len(), held);
         found = make(caps, call);
     }
     equal(rt, found, Ok(id));
@@ -245,21 +256,39 @@ fn fills_again(rt: &impl Abort, caps: &mut Caps) {
     answers_again(rt, caps, Call::Mint(1, 1, 2, Rights::R), 41);
 }
 
-fn copied_again(rt: &impl Abort, alloc: Global, caps: &Caps) -> Caps {
-    match caps.copy(alloc) {
-        Ok(copy) => copy,
-        Err(_) => caps.copy(alloc).expect(rt, "there is memory"),
-    }
-}
-
-fn has_same_list_again(rt: &impl Abort, alloc: Global, caps: &Caps) {
-    equal(rt, copied_again(rt, alloc, caps).list(), caps.list());
-}
-
 /// A growth that is refused changes nothing, and the same call again answers as ever.
 #[test]
 fn refused_growth_changes_nothing(rt: HostRuntime) {
-    let mut caps = Caps::new(rt.alloc()).expect(&rt, "there is memory");
+    let mut caps = Caps::new(rt.alloc());
     fills_again(&rt, &mut caps);
-    has_same_list_again(&rt, rt.alloc(), &caps);
+}
+
+/// A capability with its children, another one, and a grandchild.
+static FAMILY: [(Call, Answer); 4] = [
+    (Call::Create(1, 7), Ok(1)),
+    (Call::Mint(1, 1, 1, Rights::Rm), Ok(2)),
+    (Call::Create(1, 8), Ok(3)),
+    (Call::Mint(1, 2, 1, Rights::R), Ok(4)),
+];
+
+/// The ids that a revocation and a drop would remove.
+#[test]
+fn tells_what_goes(rt: HostRuntime) {
+    let mut caps = Caps::new(rt.alloc());
+    answer(&rt, &mut caps, &FAMILY, &"family");
+    let revoked = caps
+        .revoked_ids(rt.alloc(), 1)
+        .expect(&rt, "there is memory");
+    let dropped = caps
+        .dropped_ids(rt.alloc(), 2)
+        .expect(&rt, "there is memory");
+    for (id, by_revoke, by_drop) in [
+        (1, false, false),
+        (2, true, true),
+        (3, false, false),
+        (4, true, true),
+    ] {
+        equal_at(&rt, revoked.contains(id), by_revoke, &id);
+        equal_at(&rt, dropped.contains(id), by_drop, &id);
+    }
 }

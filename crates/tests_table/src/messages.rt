@@ -6,7 +6,7 @@ use crate::asks::{Sent, message, said};
 use crate::facts::{equal, holds};
 use bpf_insn::Insn;
 use endpoint_caps::Rights;
-use monitor_messages::{Decision, DecodeFault, Message, Veto, Vote, decode, encode};
+use monitor_messages::{Decision, DecodeFault, Message, Veto, Vote, decode, encode, short_bytes};
 use std::alloc::{AllocError, Global};
 use std::process::Abort;
 use table_replica::{Made, Op, OpFault, Program};
@@ -46,7 +46,19 @@ fn copied(rt: &impl Abort, alloc: Global, message: Message, wanted: &[u8])
     requires { IsShort message }
 {
     let copy = message.clone().expect(rt, "there is memory");
+    short(rt, &copy, wanted);
     equal(rt, bytes_of(rt, alloc, copy).as_slice(), wanted);
+}
+
+/// A message that brings no operation has these bytes without memory, too.
+fn short(rt: &impl Abort, message: &Message, wanted: &[u8]) {
+    match short_bytes(1, message) {
+        Some(bytes) => equal(rt, bytes.as_slice(), wanted),
+        None => holds(
+            rt,
+            matches!(message, Message::Prepare { .. } | Message::Submit { .. }),
+        ),
+    }
 }
 
 /// The bytes are read as a message that has them.

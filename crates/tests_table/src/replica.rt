@@ -113,7 +113,7 @@ fn lists(rt: &impl Abort, replica: &Replica, wanted: &[Listed]) {
 }
 
 fn holds_caps(rt: &impl Abort, replica: &Replica, wanted: &[(u32, u16, u16)]) {
-    equal_at(rt, replica.caps().list().len(), wanted.len(), &wanted);
+    equal_at(rt, replica.caps().len(), wanted.len(), &wanted);
     for (id, endpoint, holder) in wanted {
         let cap = Cap {
             id: *id,
@@ -644,7 +644,7 @@ fn seen(replica: &Replica) -> (bool, u64, u32, usize, usize, usize) {
         replica.total_instructions(),
         replica.distinct_programs(),
         replica.running_programs(),
-        replica.caps().list().len(),
+        replica.caps().len(),
     )
 }
 

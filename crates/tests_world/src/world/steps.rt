@@ -189,7 +189,7 @@ fn shown<C: Channel>(world: &WorldOver<C>, core: u16) -> Option<(u64, usize, usi
     let replica = world.replica(core)?;
     Some((
         replica.version(),
-        replica.caps().list().len(),
+        replica.caps().len(),
         listed(replica),
         replica.total_instructions(),
     ))
@@ -202,7 +202,8 @@ fn first_filter<C: Channel>(world: &WorldOver<C>) -> Option<(u32, u16, u32, u16)
 }
 
 fn first_cap<C: Channel>(world: &WorldOver<C>) -> Option<Cap> {
-    world.replica(0)?.caps().list().first().copied()
+    let entry = world.replica(0)?.caps().list().next()?;
+    Some(entry.1)
 }
 
 fn waits_to_create<C: Channel>(world: &WorldOver<C>, core: u16) -> bool {

@@ -9,4 +9,4 @@ count-filters-requires c = omega (arith, filters_counted _ c.filters.ensures.sou
 pub returns : goal.returns
 returns c =
     same_text _ _ _ _ c.writeln.ensures.bytes
-    (simp (append_assoc, c.version-version.ensures, c.list.ensures.caps, c.caps.ensures, c.count-filters.ensures, c.filters.ensures.filters, c.total_instructions-instructions.ensures))
+    (simp (append_assoc, c.version-version.ensures, c.len-caps.ensures, c.caps.ensures, c.count-filters.ensures, c.filters.ensures.filters, c.total_instructions-instructions.ensures))

@@ -1,22 +1,23 @@
-use Rattle.std.proofs.Common.{None, drop, leb, slice_index_or, arith}
-use Rattle.std.proofs.lemmas.Bool.{le-leb}
-use Rattle.std.proofs.lemmas.Bool.Decides.{nat_tests}
-use Rattle.std.proofs.lemmas.List.{drop_more}
+use Rattle.std.proofs.Common.{◌≡◌, ◌∷◌, ◌∙◌, ℕ, nat_le, List, [], filter, map, refl, ap, sym, subst, arith}
 use Rattle.endpoint_caps.specs.declared.Cap.{Cap}
-use Rattle.endpoint_caps.specs.declared.Rights.TheVariants.{R}
-use Rattle.table_listing.specs.Rows.{cap_row}
-use Rattle.table_listing.proofs.Laying.{lays_kept, lays_left_out}
-use Rattle.table_listing.proofs.caps.list_caps.Goals.{then-cap-from+else-count-room, else-cap-from}
+use Rattle.endpoint_caps.specs.Keeping.{entries_of}
+use Rattle.table_listing.specs.declared.caps.CapRow.{CapRow}
+use Rattle.table_listing.specs.Rows.{cap_row, cap_rows}
+use Rattle.table_listing.proofs.Laying.{Lays, lays_none, lays_one}
 use Rattle.table_listing.proofs.caps.list_caps.Goals as goal
 
-pub loop-cap-preserved : goal.loop-cap-preserved
-loop-cap-preserved c =
-    let items = c.list-cap-items.result.now in let i = c.loop-cap.cap-index in
-    let none : Cap = record { id = 0; endpoint = 0; holder = 0; rights = R; parent = None } in
-    let next = drop_more items i none (omega arith) in
-    elim c.if-cap-from.branch [
-      | then-cap-from+else-count-room w ↦ lays_kept (λ cap. leb c.args.from cap.id) cap_row _ _ _ (slice_index_or items i none) next _ _ _ _ _ c.loop-cap.invariant w.row_of.result
-          (le-leb _ _ w.if-cap-from.true) w.row_of.ensures (omega arith) w.room-is w.count-is
-      | else-cap-from w ↦ lays_left_out (λ cap. leb c.args.from cap.id) cap_row _ _ _ (slice_index_or items i none) next _ _ _ _ _ c.loop-cap.invariant
-          (grind (arith, nat_tests)) w.room-is w.count-is
-    ]
+rows_of : (caps : List Cap) → map (λ (entry : ℕ × Cap). cap_row entry.1) (entries_of caps) ≡ map cap_row caps
+rows_of [] = refl
+rows_of (c ∷ caps) = ap (λ rows. cap_row c ∷ rows) (rows_of caps)
+
+pub loop-entry-init : goal.loop-entry-init
+loop-entry-init c =
+    let rows = cap_rows c.args.from c.args.caps.now.table.held in
+    subst (λ (left : List CapRow). Lays rows left c.args.room.now c.args.room.now 0)
+    (sym (ap (map (λ (entry : ℕ × Cap). cap_row entry.1)) (c.into_iter-entry-iterator.ensures.into_iter_gives ∙ c.list_from-entry-items.ensures) ∙ rows_of (filter (λ cap. nat_le c.args.from cap.id) c.args.caps.now.table.held)))
+    (lays_none rows c.args.room.now)
+
+pub loop-entry-preserved : goal.loop-entry-preserved
+loop-entry-preserved c =
+    lays_one _ _ (map (λ (entry : ℕ × Cap). cap_row entry.1) c.next.new.self) _ _ _ c.row_of.result c.loop-entry.invariant
+    (ap (map (λ (entry : ℕ × Cap). cap_row entry.1)) c.in-Some.ensures.steps ∙ ap (λ (row : CapRow). row ∷ map (λ (entry : ℕ × Cap). cap_row entry.1) c.next.new.self) (sym c.row_of.ensures)) (omega arith)

@@ -1,4 +1,4 @@
-use Rattle.std.proofs.Common.{◌≡◌, ◌∙◌, ◌≤◌, ◌<◌, ◌++◌, ◌∷◌, [], List, ap, sym, subst, inl, inr, not, insert, length, get_or, Contains, arith}
+use Rattle.std.proofs.Common.{◌≡◌, ◌∙◌, ◌≤◌, ◌<◌, ◌++◌, ◌∷◌, [], List, ap, sym, subst, inl, inr, insert, length, get_or, Contains, arith}
 use Rattle.std.proofs.lemmas.List.Elements.{Contains-get_or}
 use Rattle.table_replica.specs.declared.reaches.Reach.{Reach}
 use Rattle.table_replica.specs.Keeping.{AreReaches}
@@ -8,9 +8,9 @@ use Rattle.table_replica.proofs.Reaching.{not_added, one_added, is_held, not_hel
 use Rattle.table_replica.proofs.reaches.add_reach.Goals as goal
 use Rattle.table_replica.proofs.reaches.add_reach.Goals.{then-loop-place-test+else-index-reach, else-loop-place-test}
 
-pub returns-then-is_none : goal.returns-then-is_none
-returns-then-is_none c = λ rows are.
-    not_added c.args.caps.now.held rows c.args.reaches.now.items c.args.row.now (inl (not_held c.get.result _ c.get.ensures (c.is_none.ensures ∙ ap not c.if-is_none.true))) are
+pub returns-then-not-holds : goal.returns-then-not-holds
+returns-then-not-holds c = λ rows are.
+    not_added c.args.caps.now.held rows c.args.reaches.now.items c.args.row.now (inl (not_held c.holds.result _ c.holds.ensures c.if-not-holds.true)) are
 
 pub returns-then-eq : goal.returns-then-eq
 returns-then-eq c = λ rows are. (
@@ -21,7 +21,7 @@ returns-then-eq c = λ rows are. (
 pub returns : goal.returns
 returns c = λ rows are.
     subst (λ (rs : List Reach). AreReaches c.args.caps.now.held (rows ++ c.args.row.now ∷ []) rs) (sym (c.in_ok-insert.ensures.items ∙ ap (insert c.args.reaches.now.items c.loop-place.place) c.reach_of-reach.ensures))
-    (one_added c.args.caps.now.held rows c.args.reaches.now.items c.args.row.now c.loop-place.place (is_held c.get.result _ c.get.ensures (c.is_none.ensures ∙ ap not c.if-is_none.false))
+    (one_added c.args.caps.now.held rows c.args.reaches.now.items c.args.row.now c.loop-place.place (is_held c.holds.result _ c.holds.ensures c.if-not-holds.false)
     c.loop-place.invariant.inside (λ k d lt. (let le = c.loop-place.invariant.earlier k d lt in let same = ap (λ (r : Reach). r.endpoint) c.reach_of-reach.ensures in omega arith)) (λ lt d. later lt d) are)
   where
     later : c.loop-place.place < length c.args.reaches.now.items → (d : Reach) → c.args.row.now.endpoint ≤ (get_or c.args.reaches.now.items c.loop-place.place d).endpoint

@@ -6,18 +6,18 @@ use Rattle.filter_table.proofs.Lists.{in_filter, get_some, eq_true, eq_false}
 use Rattle.table_replica.proofs.Ordered.{reach_decides}
 use Rattle.table_replica.proofs.Reaching.{not_live, is_held, not_held}
 use Rattle.table_replica.proofs.reaches.is_live_without.Goals as goal
-use Rattle.table_replica.proofs.reaches.is_live_without.Goals.{else-row-id-via-then-row-id+then-eq+else-is_some, else-row-id-via-then-row-id+else-eq, else-row-id-via-else-row-id}
+use Rattle.table_replica.proofs.reaches.is_live_without.Goals.{else-row-id-via-then-row-id+then-eq+else-holds, else-row-id-via-then-row-id+else-eq, else-row-id-via-else-row-id}
 
 abbrev no_row : Row
 no_row = record { id = 0; owner = 0; cap = 0; endpoint = 0; rests = false; program = 0 }
 
-pub returns-then-is_some : goal.returns-then-is_some
-returns-then-is_some c = (
+pub returns-then-holds : goal.returns-then-holds
+returns-then-holds c = (
   λ _. record {
     row = get_or c.args.rows.now c.loop-row.row-index no_row;
     listed = in_filter (λ row. not (row.id == c.args.id)) c.args.rows.now (get_or c.args.rows.now c.loop-row.row-index no_row)
         (Contains-get_or c.args.rows.now c.loop-row.row-index no_row (omega (arith, c.loop-row-test.true))) (ap not (eq_false _ _ c.if-row-id.true));
-    held = is_held c.get.result _ c.get.ensures (sym c.is_some.ensures ∙ c.if-is_some.true);
+    held = is_held c.holds.result _ c.holds.ensures c.if-holds.true;
     is = sym c.reach_of.ensures ∙ (reach_decides c.reach_of.result c.args.reach).0 (sym c.eq.ensures ∙ c.if-eq.true);
   },
   λ _. refl,
@@ -27,8 +27,8 @@ pub loop-row-preserved : goal.loop-row-preserved
 loop-row-preserved c =
     let at = get_some c.args.rows.now c.loop-row.row-index no_row (omega (arith, c.loop-row-test.true)) in
     elim c.else-row-id.branch [
-      | else-row-id-via-then-row-id+then-eq+else-is_some w ↦ not_live c.args.caps.now.held (λ row. not (row.id == c.args.id)) c.args.rows.now c.loop-row.row-index (get_or c.args.rows.now c.loop-row.row-index no_row) c.args.reach at
-          (λ other same held. (let none = not_held w.get.result _ w.get.ensures (sym w.is_some.ensures ∙ w.if-is_some.false) in cc)) c.loop-row.invariant
+      | else-row-id-via-then-row-id+then-eq+else-holds w ↦ not_live c.args.caps.now.held (λ row. not (row.id == c.args.id)) c.args.rows.now c.loop-row.row-index (get_or c.args.rows.now c.loop-row.row-index no_row) c.args.reach at
+          (λ other same held. (let none = not_held w.holds.result _ w.holds.ensures w.if-holds.false in cc)) c.loop-row.invariant
       | else-row-id-via-then-row-id+else-eq w ↦ not_live c.args.caps.now.held (λ row. not (row.id == c.args.id)) c.args.rows.now c.loop-row.row-index (get_or c.args.rows.now c.loop-row.row-index no_row) c.args.reach at
           (λ other same held. (let is = (reach_decides w.reach_of.result c.args.reach).1 (w.reach_of.ensures ∙ same) in let no = sym w.eq.ensures ∙ w.if-eq.false in cc)) c.loop-row.invariant
       | else-row-id-via-else-row-id w ↦ not_live c.args.caps.now.held (λ row. not (row.id == c.args.id)) c.args.rows.now c.loop-row.row-index (get_or c.args.rows.now c.loop-row.row-index no_row) c.args.reach at

@@ -1,7 +1,10 @@
-use Rattle.std.proofs.Common.{ap, ◌∙◌, nat_eq}
-use Rattle.std.specs.Map.{lookup}
+use Rattle.std.proofs.Common.{◌≡◌, ap, ◌∙◌}
+use Rattle.chunked.specs.Maps.{value_at}
+use Rattle.endpoint_caps.specs.Capabilities.{cap_at}
 use Rattle.endpoint_caps.proofs.Keeping.{lookup-entries}
 use Rattle.endpoint_caps.proofs.table.Caps.get.Goals as goal
 
 pub returns : goal.returns
-returns c = rw (← c.self.view_is) (c.get.ensures.value ∙ (ap (lookup (nat_eq c.args.id)) c.self.invariant.by_id ∙ lookup-entries c.args.id _))
+returns c =
+    let same : c.from.result ≡ c.args.id = c.from.ensures in
+    rw (← c.self.view_is) (c.get.ensures ∙ (ap (λ es. value_at es c.from.result) c.self.invariant.kept.by_id ∙ (lookup-entries c.from.result _ ∙ ap (cap_at _) same)))

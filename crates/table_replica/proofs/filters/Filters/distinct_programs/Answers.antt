@@ -10,4 +10,4 @@ returns c =
     let i = c.self.inside in
     subst (λ (fs : List ListedFilter). AreDifferent fs c.len.result) (ap (λ (t : FilterTable). t.listed) c.self.view_is)
     (subst (λ (n : ℕ). AreDifferent (map (listed_row i.programs) i.rows.items) n) (sym c.len.ensures)
-    (all_different i.under.value.held i.rows.items i.programs i.reaches.items c.self.invariant.filed c.self.invariant.live c.self.invariant.rest))
+    (all_different i.under.held i.rows.items i.programs i.reaches.items c.self.invariant.filed c.self.invariant.live c.self.invariant.rest))

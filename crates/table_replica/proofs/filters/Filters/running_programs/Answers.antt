@@ -9,5 +9,5 @@ pub returns : goal.returns
 returns c =
     let i = c.self.inside in
     subst (λ (t : FilterTable). AreDifferent (held_filters t.under.held t.listed) c.count.result) c.self.view_is
-    (subst (λ (n : ℕ). AreDifferent (held_filters i.under.value.held (map (listed_row i.programs) i.rows.items)) n) (sym c.count.ensures)
-    (running_different i.under.value.held i.rows.items i.programs i.reaches.items c.self.invariant.filed c.self.invariant.live))
+    (subst (λ (n : ℕ). AreDifferent (held_filters i.under.held (map (listed_row i.programs) i.rows.items)) n) (sym c.count.ensures)
+    (running_different i.under.held i.rows.items i.programs i.reaches.items c.self.invariant.filed c.self.invariant.live))

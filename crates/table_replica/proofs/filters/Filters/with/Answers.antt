@@ -32,7 +32,7 @@ rebuilt-requires-clause-total c =
     let filter = c.args.filter in
     let row : Row = record { id = filter.id; owner = filter.owner; cap = filter.cap; endpoint = filter.endpoint; rests = false; program = kept.program } in
     let pushed = c.in_ok-push.ensures.items ∙ ap (λ (rs : List Row). rs ++ row ∷ []) (c.in_ok-rows.ensures ∙ ap (rows_after kept.wakes) c.deref-2.ensures.value) in
-    let shows = with_shows i.under.value.held i.programs c.with_running.new.into filter.program.now kept.program kept.wakes i.rows.items i.reaches.items kept.ensures c.self.invariant.filed row c.push.new.self.items refl refl pushed in
+    let shows = with_shows i.under.held i.programs c.with_running.new.into filter.program.now kept.program kept.wakes i.rows.items i.reaches.items kept.ensures c.self.invariant.filed row c.push.new.self.items refl refl pushed in
     let sum = ap instructions_of shows ∙ instructions-push (map (listed_row i.programs) i.rows.items) (shown_filter filter) in
     let long : length c.code.result.now ≡ length filter.program.now = ap (length {A = Insn}) c.code.ensures.code in
     let total = c.self.invariant.total in
@@ -45,5 +45,5 @@ returns c =
     let filter = c.args.filter in
     let row : Row = record { id = filter.id; owner = filter.owner; cap = filter.cap; endpoint = filter.endpoint; rests = false; program = kept.program } in
     let pushed = c.in_ok-push.ensures.items ∙ ap (λ (rs : List Row). rs ++ row ∷ []) (c.in_ok-rows.ensures ∙ ap (rows_after kept.wakes) c.deref-2.ensures.value) in
-    let shows = with_shows i.under.value.held i.programs c.with_running.new.into filter.program.now kept.program kept.wakes i.rows.items i.reaches.items kept.ensures c.self.invariant.filed row c.push.new.self.items refl refl pushed in
+    let shows = with_shows i.under.held i.programs c.with_running.new.into filter.program.now kept.program kept.wakes i.rows.items i.reaches.items kept.ensures c.self.invariant.filed row c.push.new.self.items refl refl pushed in
     shows_ok c.rebuilt.result c.args.caps.now _ _ (shows ∙ ap (λ (t : FilterTable). t.listed ++ shown_filter filter ∷ []) c.self.view_is) c.rebuilt.ensures

@@ -1,0 +1,56 @@
+-- What is ready for a staged operation, so that to perform it takes no memory and can't fail.
+-- No public clause cites these.
+use Rattle.std.specs.Prelude.{◌≡◌, ◌<◌, IsTrue, Option, Some, None, List}
+use Rattle.endpoint_caps.specs.Capabilities.{CapTable, created, minted_from, revoked, dropped, first, create_tests, mint_tests}
+use Rattle.endpoint_caps.specs.Holding.{Holding}
+use Rattle.filter_table.specs.Listed.{ListedFilter, FilterTable}
+use Rattle.filter_table.specs.Tables.{TableState, after, made}
+use Rattle.filter_table.specs.declared.operation.Op.{Op}
+use Rattle.filter_table.specs.declared.operation.Op.TheVariants as ops
+use Rattle.table_replica.specs.declared.plan.CapChange.{CapChange}
+use Rattle.table_replica.specs.declared.plan.CapChange.TheVariants.{Nothing, Create, Mint, Revoke, DropCap}
+use Rattle.table_replica.specs.declared.plan.Plan.{Plan}
+use Rattle.table_replica.specs.Keeping.{AreHeldAlike}
+
+-- what an operation does to the capabilities
+abbrev pub change_of : Op → CapChange
+change_of (ops.Create domain endpoint) = Create domain endpoint
+change_of (ops.Mint domain cap to rights) = Mint domain cap to rights
+change_of (ops.Revoke domain cap) = Revoke cap
+change_of (ops.DropCap domain cap) = DropCap cap
+change_of op = Nothing
+
+abbrev pub caps_after : CapTable → CapChange → CapTable
+caps_after table Nothing = table
+caps_after table (Create domain endpoint) = created table domain endpoint
+caps_after table (Mint domain cap to rights) = minted_from table cap to rights
+caps_after table (Revoke cap) = revoked table cap
+caps_after table (DropCap cap) = dropped table cap
+
+-- one more capability takes no memory, and nothing refuses it
+abbrev pub IsReady : Holding → CapChange → Type 0
+IsReady caps (Create domain endpoint) = IsTrue caps.ready × (first (create_tests caps.table endpoint) ≡ None)
+IsReady caps (Mint domain cap to rights) = IsTrue caps.ready × (first (mint_tests caps.table domain cap rights) ≡ None)
+IsReady caps change = Unit {0}
+
+-- the filters of the next table, whose capabilities these are: those of this table may stay, or here are others
+abbrev pub AreNextFilters : TableState → List ListedFilter → CapTable → Option FilterTable → Type 0
+AreNextFilters s listed caps None = (listed ≡ s.filters) × AreHeldAlike s.caps caps s.filters
+AreNextFilters s listed caps (Some filters) = filters ≡ record { listed = listed; under = caps }
+
+-- the plan is that of its operation
+pub record IsPlan (s : TableState) (caps : Holding) (plan : Plan) : Type 0 where
+  pub change : plan.caps ≡ change_of plan.op.value
+  pub ready : IsReady caps plan.caps
+  pub filters : AreNextFilters s (after s plan.op.value).filters (after s plan.op.value).caps plan.filters
+  pub next_filter : plan.next_filter ≡ (after s plan.op.value).next_filter
+  pub made : plan.made ≡ made s plan.op.value
+  pub version : s.version < 18446744073709551615
+
+abbrev pub staged_op : Option Plan → Option Op
+staged_op None = None
+staged_op (Some plan) = Some plan.op.value
+
+abbrev pub IsPlanned : TableState → Holding → Option Plan → Type 0
+IsPlanned s caps None = Unit {0}
+IsPlanned s caps (Some plan) = IsPlan s caps plan
