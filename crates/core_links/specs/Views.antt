@@ -104,8 +104,8 @@ pub record HandedOver (v w : LinkView) (message : Vec ℕ Global) (r : Result (U
   pub told : w.told ≡ v.told
   pub answer : MatchResult r (λ u. (v.ready ≡ true) × (w.sent ≡ v.sent ++ message.items ∷ [])) (λ back. (back.0 ≡ message) × (v.ready ≡ false) × (w ≡ v))
 
--- a short message was handed over, which a ready link takes, or it was not, and nothing has changed
-pub record HandedShort (v w : LinkView) (message : List ℕ) (took : Bool) : Type 0 where
+-- these bytes were handed over, which a ready link takes, or they were not, and nothing has changed
+pub record HandedBytes (v w : LinkView) (message : List ℕ) (took : Bool) : Type 0 where
   pub taken : w.taken ≡ v.taken
   pub kept : w.kept ≡ v.kept
   pub stopped : w.stopped ≡ v.stopped

@@ -1,5 +1,6 @@
 //! What a core asks of its links.
 
+use seq::Shared;
 use ump_ring::{Busy, LineFault};
 
 /// The links of a core to its peers, which are named by their numbers. No call takes memory. `look`, `take`, `pump` and a
@@ -9,7 +10,7 @@ pub trait Links: Drop {
     ghost use Rattle.std.specs.Borrow.{sem};
     ghost use Rattle.ump_ring.specs.Joiners.{shown_items};
     ghost use Rattle.core_links.specs.Flows.{Flow, FlowsOut, FlowsIn, FlowsAt};
-    ghost use Rattle.core_links.specs.Views.{LinkView, first_of, AtPeer, Pulled, GivenUp, Looked, Taken, HandedOver, HandedShort, Pumped, LeavesSo};
+    ghost use Rattle.core_links.specs.Views.{LinkView, first_of, AtPeer, Pulled, GivenUp, Looked, Taken, HandedOver, HandedBytes, Pumped, LeavesSo};
 
     /// What was sent to a peer and taken from it.
     ghost view: { Self → ℕ → LinkView };
@@ -69,7 +70,14 @@ pub trait Links: Drop {
     /// other.
     fn send_short(&mut self, peer: u16, message: &[u8]) -> bool
         requires length { (1 ≤ length message.now) × (length message.now ≤ 56) }
-        ensures sent { AtPeer same view peer (λ v w. HandedShort v w message.now result) self.old self.new }
+        ensures sent { AtPeer same view peer (λ v w. HandedBytes v w message.now result) self.old self.new }
+        ensures lines { (p : ℕ) → flow self.new p ≡ flow self.old p };
+
+    /// Hands a message of 1 to 32,832 bytes over that is sent to other peers, too, and says whether the link took it: a ready one
+    /// does, and no other.
+    fn send_shared(&mut self, peer: u16, message: Shared<u8>) -> bool
+        requires length { (1 ≤ length message) × (length message ≤ 32832) }
+        ensures sent { AtPeer same view peer (λ v w. HandedBytes v w message result) self.old self.new }
         ensures lines { (p : ℕ) → flow self.new p ≡ flow self.old p };
 
     /// Moves on what waits to be sent, as far as there is room.

@@ -4,6 +4,7 @@ ghost use Rattle.std.specs.Prelude.{◌≤◌, vec_len};
 
 use crate::links::Links;
 use crate::message_list::MessageList;
+use seq::Shared;
 use std::alloc::{AllocError, Global};
 use ump_ring::{Busy, LineFault};
 
@@ -229,6 +230,17 @@ impl Links for ListLinks {
         match &mut self.slots[place] {
             None => false,
             Some(link) => link.sent.put_short(message),
+        }
+    }
+
+    fn send_shared(&mut self, peer: u16, message: Shared<u8>) -> bool {
+        let place = usize::from(peer);
+        if place >= self.slots.len() {
+            return false;
+        }
+        match &mut self.slots[place] {
+            None => false,
+            Some(link) => link.sent.put_shared(message),
         }
     }
 

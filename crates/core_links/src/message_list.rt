@@ -2,6 +2,7 @@
 
 ghost use Rattle.std.specs.Prelude.{◌≤◌, vec_len, vec_capacity, length};
 
+use seq::Shared;
 use std::alloc::{AllocError, Global};
 use ump_ring::{Busy, Piece};
 
@@ -77,6 +78,21 @@ impl MessageList {
             return false;
         }
         self.messages.push_reserved(Piece::short(message));
+        true
+    }
+
+    /// Puts a message that shares its memory at the end, and says whether it did: not where the list has as many as it takes. Takes
+    /// no memory.
+    pub(crate) fn put_shared(&mut self, message: Shared<u8>) -> bool
+        ensures room { result ≡ has_room self.old }
+        ensures rest { (read_of self.new ≡ read_of self.old) × (capacity_of self.new ≡ capacity_of self.old) }
+        ensures ok { IsTrue result → (all_of self.new ≡ all_of self.old ++ message ∷ []) × (unread_of self.new ≡ unread_of self.old ++ message ∷ []) }
+        ensures busy { IsFalse result → self.new ≡ self.old }
+    {
+        if !self.has_room() {
+            return false;
+        }
+        self.messages.push_reserved(Piece::Shared(message));
         true
     }
 

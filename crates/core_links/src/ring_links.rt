@@ -3,6 +3,7 @@
 ghost use Rattle.std.specs.Prelude.{◌≤◌, length, vec_len};
 
 use crate::links::Links;
+use seq::Shared;
 use std::alloc::{AllocError, Global};
 use ump_ring::{Busy, LineFault, Receiver, Sender, beside};
 
@@ -122,7 +123,7 @@ impl Link {
     ghost use Rattle.ump_ring.specs.Receivers.{message_last};
     ghost use Rattle.ump_ring.specs.Senders.{sender_capacity};
     ghost use Rattle.core_links.specs.Flows.{FlowsOut, FlowsIn, IsExact, IsLooked, IsResting, link_flow};
-    ghost use Rattle.core_links.specs.Views.{first_of, IsSameView, Pulled, GivenUp, HandedOver, HandedShort, Pumped};
+    ghost use Rattle.core_links.specs.Views.{first_of, IsSameView, Pulled, GivenUp, HandedOver, HandedBytes, Pumped};
     ghost use mathlib.Core.List.{IsPrefix};
     ghost use Rattle.core_links.specs.RingSlots.{link_view, SameLink, AreJoined};
 
@@ -183,10 +184,19 @@ impl Link {
     fn send_short(&mut self, message: &[u8]) -> bool
         requires length { (1 ≤ length message.now) × (length message.now ≤ 56) }
         ensures link { SameLink self.old self.new }
-        ensures sent { HandedShort (link_view self.old) (link_view self.new) message.now result }
+        ensures sent { HandedBytes (link_view self.old) (link_view self.new) message.now result }
         ensures lines { link_flow self.new ≡ link_flow self.old }
     {
         self.sender.offer_short(message)
+    }
+
+    fn send_shared(&mut self, message: Shared<u8>) -> bool
+        requires length { (1 ≤ length message) × (length message ≤ 32832) }
+        ensures link { SameLink self.old self.new }
+        ensures sent { HandedBytes (link_view self.old) (link_view self.new) message result }
+        ensures lines { link_flow self.new ≡ link_flow self.old }
+    {
+        self.sender.offer_shared(message)
     }
 
     fn pump(&mut self)
@@ -303,6 +313,17 @@ impl Links for RingLinks {
         match &mut self.slots[place] {
             None => false,
             Some(link) => link.send_short(message),
+        }
+    }
+
+    fn send_shared(&mut self, peer: u16, message: Shared<u8>) -> bool {
+        let place = usize::from(peer);
+        if place >= self.slots.len() {
+            return false;
+        }
+        match &mut self.slots[place] {
+            None => false,
+            Some(link) => link.send_shared(message),
         }
     }
 

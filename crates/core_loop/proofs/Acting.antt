@@ -21,14 +21,14 @@ use Rattle.core_loop.specs.declared.part.Part.{Part}
 use Rattle.core_loop.specs.declared.part.Part.TheVariants as part
 use Rattle.core_loop.specs.declared.refusal.Refusal.{Refusal}
 use Rattle.core_loop.specs.declared.refusal.Refusal.TheVariants as refusal
-use Rattle.core_loop.specs.Carrying.{Carries0, IsFirst}
+use Rattle.core_loop.specs.Carrying.{Carries0}
 use Rattle.core_loop.specs.Standing.{Stands0, StandsOther}
 use Rattle.core_loop.specs.Keeping.{IsStanding, replica_of}
 use Rattle.core_loop.specs.Events.{Acts, ActsOther}
 use Rattle.core_loop.specs.Outcomes.{OnEvent, OnNone, OnIdle}
 use Rattle.core_loop.specs.Beginning.{CanBeginNext, IsFitting}
 use Rattle.core_loop.specs.Receipts.{Receives}
-use Rattle.core_loop.specs.Taking.{CannotTake, TakeLacksMemory}
+use Rattle.core_loop.specs.Taking.{CannotTake}
 use Rattle.core_loop.specs.Choosing.{IsLeastShowing}
 use Rattle.core_loop.specs.Turning.{HasRequest, HasWork, MayReceive}
 use Rattle.world_histories.proofs.Lists.{prefix_then}
@@ -54,11 +54,6 @@ other_acts_on number cores clock v w p x y (Err r) e f h = tt
 pub spent_take : (cores clock peer : ℕ) (p : Part) (m : Stamping) (view : ℕ → LinkView) → CannotTake cores clock peer p m view refusal.Spent → 18446744073709551615 ≤ max clock m.stamp
 spent_take cores clock peer (part.Core0 x) m view h = h
 spent_take cores clock peer (part.OtherCore x) m view h = h
-
--- core 0 alone lacks memory to take a message
-pub lacks_take : (cores clock peer : ℕ) (p : Part) (m : Stamping) (view : ℕ → LinkView) → IsFirst (view peer) m → CannotTake cores clock peer p m view refusal.NoMemory → TakeLacksMemory cores clock peer p view
-lacks_take cores clock peer (part.Core0 x) m view first h = inr (m, first, h)
-lacks_take cores clock peer (part.OtherCore x) m view first h = absurd h
 
 -- a core that stands at its history stands at the longer one
 pub acts_stand : (x y : Part) (number cores clock : ℕ) (h : List Stamped) (s : Stamped) (v w : ℕ → LinkView) → IsStanding x number cores clock h v → Acts number cores clock v w x y s → IsStanding y number cores s.stamp (h ++ s ∷ []) w

@@ -2,18 +2,20 @@
 use Rattle.std.proofs.Common.{◌≡◌, ◌≢◌, ◌<◌, ◌≤◌, ◌+◌, ◌⊎◌, inl, inr, All, ◌∙◌, ℕ, suc, Bool, List, true, [], ◌∷◌, sym, ap, subst, arith}
 use Rattle.std.specs.Prelude.{Result, Ok, Err, Vec}
 use Rattle.std.specs.Global.{Global}
+use Rattle.arrayvec.specs.ArrayVec.{ArrayVec}
 use Rattle.std.proofs.lemmas.List.{append-nil}
 use Rattle.ump_ring.specs.declared.sender.Busy.{Busy}
-use Rattle.core_links.specs.Views.{LinkView, HandedOver, HandedShort}
-use Rattle.monitor_messages.specs.Coding.{Coded}
+use Rattle.core_links.specs.Views.{LinkView, HandedOver, HandedBytes}
+use Rattle.monitor_messages.specs.Coding.{Coded, IsNumbered}
 use Rattle.monitor_messages.specs.declared.message.Message.{Message}
+use Rattle.monitor_messages.specs.declared.message.Message.TheVariants as message
 use Rattle.world_model.specs.Cases.{Outgoing, nothing, to_all, to_one}
 use Rattle.world_model.proofs.Lists.{same_or_not}
 use Rattle.world_model.proofs.Submissions.{eq_self, eq_other}
 use Rattle.world_histories.specs.Histories.{for_entry, with_stamp}
 use Rattle.core_loop.specs.Carrying.{Hands, HandsOut, CanCarry}
 use Rattle.core_loop.specs.declared.sending.Ready.TheVariants as ready
-use Rattle.core_loop.specs.Sending.{IsPiece, IsMade}
+use Rattle.core_loop.specs.Sending.{IsPiece, IsMade, IsShortAnswer}
 
 pub hands_none : (v w : LinkView) → w ≡ v → Hands v w []
 hands_none v w e = record {
@@ -33,13 +35,22 @@ handed v w piece (Ok u) stamp m ready h coded = record {
 }
 handed v w piece (Err b) stamp m ready h coded = absurd (let no = h.answer.1 in cc)
 
-pub handed_short : (v w : LinkView) (bytes : List ℕ) (took : Bool) (stamp : ℕ) (m : Message) → v.ready ≡ true → HandedShort v w bytes took → Coded bytes stamp m → Hands v w (with_stamp stamp (m ∷ []))
-handed_short v w bytes took stamp m ready h coded = record {
+pub handed_bytes : (v w : LinkView) (bytes : List ℕ) (took : Bool) (stamp : ℕ) (m : Message) → v.ready ≡ true → HandedBytes v w bytes took → Coded bytes stamp m → Hands v w (with_stamp stamp (m ∷ []))
+handed_bytes v w bytes took stamp m ready h coded = record {
   sends = (bytes ∷ [], h.sent (h.ready ∙ ready), (coded, tt));
   taken_same = h.taken;
   kept_same = h.kept;
   still_ready = λ n. absurd (let e = n in cc);
 }
+
+pub answer_numbered : (m : Message) → IsShortAnswer m → IsNumbered m
+answer_numbered (message.Vote txn vote) h = tt
+answer_numbered (message.Ack txn) h = tt
+answer_numbered (message.Prepare txn op) h = absurd h
+answer_numbered (message.Commit txn) h = absurd h
+answer_numbered (message.Abort txn) h = absurd h
+answer_numbered (message.Submit op) h = absurd h
+answer_numbered (message.Reply decision) h = absurd h
 
 -- nothing goes to any
 pub hands_nothing : (others stamp : ℕ) (old new : ℕ → LinkView) → ((p : ℕ) → new p ≡ old p) → HandsOut others stamp nothing old new
@@ -114,16 +125,21 @@ nothing_sent others stamp nothing old new made same = hands_nothing others stamp
 nothing_sent others stamp (to_all m) old new made same = absurd made
 nothing_sent others stamp (to_one entry m) old new made same = hands_beyond others stamp entry m old new made same
 
-pub all_sent : (others stamp : ℕ) (out : Outgoing) (pieces : Vec (Vec ℕ Global) Global) (old new : ℕ → LinkView) → IsMade others stamp out (ready.ToAll pieces) → ((stamp : ℕ) (m : Message) → All (IsPiece stamp m) pieces.items → HandsOut others stamp (to_all m) old new) → HandsOut others stamp out old new
+pub all_sent : (others stamp : ℕ) (out : Outgoing) (pieces : Vec (List ℕ) Global) (old new : ℕ → LinkView) → IsMade others stamp out (ready.ToAll pieces) → ((stamp : ℕ) (m : Message) → All (λ bytes. Coded bytes stamp m) pieces.items → HandsOut others stamp (to_all m) old new) → HandsOut others stamp out old new
 all_sent others stamp nothing pieces old new made f = absurd made
 all_sent others stamp (to_all m) pieces old new made f = f stamp m made.0
 all_sent others stamp (to_one entry m) pieces old new made f = absurd made
 
-pub one_sent : (others stamp : ℕ) (out : Outgoing) (entry : ℕ) (piece : Vec ℕ Global) (old new : ℕ → LinkView) → IsMade others stamp out (ready.ToOne entry piece) → ((stamp : ℕ) (m : Message) → IsPiece stamp m piece → Hands (old (entry + 1)) (new (entry + 1)) (with_stamp stamp (m ∷ []))) → ((p : ℕ) → p ≢ entry + 1 → new p ≡ old p)
+pub short_sent : (others stamp : ℕ) (out : Outgoing) (bytes : ArrayVec ℕ) (old new : ℕ → LinkView) → IsMade others stamp out (ready.ShortToAll bytes) → ((stamp : ℕ) (m : Message) → Coded bytes.items stamp m → HandsOut others stamp (to_all m) old new) → HandsOut others stamp out old new
+short_sent others stamp nothing bytes old new made f = absurd made
+short_sent others stamp (to_all m) bytes old new made f = f stamp m made
+short_sent others stamp (to_one entry m) bytes old new made f = absurd made
+
+pub one_sent : (others stamp : ℕ) (out : Outgoing) (entry : ℕ) (bytes : ArrayVec ℕ) (old new : ℕ → LinkView) → IsMade others stamp out (ready.ShortToOne entry bytes) → ((stamp : ℕ) (m : Message) → Coded bytes.items stamp m → Hands (old (entry + 1)) (new (entry + 1)) (with_stamp stamp (m ∷ []))) → ((p : ℕ) → p ≢ entry + 1 → new p ≡ old p)
     → HandsOut others stamp out old new
-one_sent others stamp nothing entry piece old new made f same = absurd made
-one_sent others stamp (to_all m) entry piece old new made f same = absurd made
-one_sent others stamp (to_one entry' m) entry piece old new made f same =
+one_sent others stamp nothing entry bytes old new made f same = absurd made
+one_sent others stamp (to_all m) entry bytes old new made f same = absurd made
+one_sent others stamp (to_one entry' m) entry bytes old new made f same =
     let at : entry + 1 ≡ suc entry' = omega (arith, made.0) in
     hands_one others stamp entry' m old new made.1 (subst (λ (n : ℕ). Hands (old n) (new n) (with_stamp stamp (m ∷ []))) at (f stamp m made.2)) (subst (λ (n : ℕ). (p : ℕ) → p ≢ n → new p ≡ old p) at same)
 

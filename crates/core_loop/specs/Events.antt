@@ -1,8 +1,8 @@
 -- One event of one core: Event's case from each state of its history that it stands in, and what its links carry with it.
-use Rattle.std.specs.Prelude.{◌≡◌, ◌≢◌, ◌⊎◌, ◌<◌, ◌≤◌, ◌-◌, ℕ, suc, max, false, Option}
+use Rattle.std.specs.Prelude.{◌≡◌, ◌⊎◌, ◌<◌, ◌≤◌, ◌-◌, ℕ, suc, max, false, Option}
 use Rattle.monitor_messages.specs.declared.message.Message.{Message}
 use Rattle.monitor_messages.specs.declared.message.Message.TheVariants as message
-use Rattle.world_model.specs.Cases.{Outgoing, nothing, outgoing}
+use Rattle.world_model.specs.Cases.{Outgoing, outgoing}
 use Rattle.world_model.specs.Agreement.{Expects}
 use Rattle.world_histories.specs.declared.history.Stamped.{Stamped}
 use Rattle.world_histories.specs.Histories.{Stamping, Core0State, Step0, OtherState, StepOther}
@@ -10,7 +10,7 @@ use Rattle.core_links.specs.Views.{LinkView}
 use Rattle.core_steps.specs.declared.core0.Core0.{Core0}
 use Rattle.core_steps.specs.declared.core0.Told.{Told}
 use Rattle.core_steps.specs.declared.other_core.OtherCore.{OtherCore}
-use Rattle.core_steps.specs.Core0Steps.{core0_place, TakesUp, MayBeAnswered}
+use Rattle.core_steps.specs.Core0Steps.{core0_place, TakesUp}
 use Rattle.core_steps.specs.OtherCoreSteps.{AwaitsHere}
 use Rattle.core_loop.specs.declared.part.Part.{Part}
 use Rattle.core_loop.specs.declared.part.Part.TheVariants as part
@@ -67,12 +67,11 @@ pub record IsBlocked (others : ℕ) (view : ℕ → LinkView) : Type 0 where
   pub inside : entry < others
   pub not_ready : (view (suc entry)).ready ≡ false
 
--- why core 0 doesn't take a message of this core now
+-- why core 0 doesn't take a message of this core now: never for lack of memory
 abbrev pub CannotTake0 : ℕ → ℕ → ℕ → Core0 → Stamping → (ℕ → LinkView) → Refusal → Type 0
 CannotTake0 others clock from core m view refusal.NotReady = IsBlocked others view × ((core' : Core0) (told : Told) → TakesUp core from m.message core' told → CanCarry others (outgoing told.step (core0_place core')) view → ⊥)
 CannotTake0 others clock from core m view refusal.Spent = 18446744073709551615 ≤ max clock m.stamp
-CannotTake0 others clock from core m view refusal.NoMemory =
-    (max clock m.stamp < 18446744073709551615) × MayBeAnswered m.message × ((core' : Core0) (told : Told) → TakesUp core from m.message core' told → outgoing told.step (core0_place core') ≢ nothing)
+CannotTake0 others clock from core m view refusal.NoMemory = ⊥
 CannotTake0 others clock from core m view refusal.Stranger = (entry : ℕ) → from ≡ suc entry → Expects (core0_place core) core.coordinator.requests entry m.message → ⊥
 
 -- why core 0, which is idle and whose links take messages, doesn't start a request now

@@ -12,8 +12,15 @@ use Rattle.core_loop.specs.declared.sending.Ready.{Ready}
 use Rattle.core_loop.specs.declared.sending.Ready.TheVariants as ready
 
 -- these bytes can be sent over a link
+abbrev pub FitLink : List ℕ → Type 0
+FitLink bytes = (1 ≤ length bytes) × (length bytes ≤ 32832)
+
+-- these bytes fit in one line
+abbrev pub FitOneLine : List ℕ → Type 0
+FitOneLine bytes = (1 ≤ length bytes) × (length bytes ≤ 56)
+
 abbrev pub CanBeHanded : Vec ℕ Global → Type 0
-CanBeHanded piece = (1 ≤ length piece.items) × (length piece.items ≤ 32832)
+CanBeHanded piece = FitLink piece.items
 
 -- they stand for this message under this stamp
 abbrev pub IsPiece : ℕ → Message → Vec ℕ Global → Type 0
@@ -21,20 +28,18 @@ IsPiece stamp m piece = Coded piece.items stamp m
 
 abbrev pub CanBeSent : Ready → Type 0
 CanBeSent ready.Nothing = Unit {0}
-CanBeSent (ready.ToAll pieces) = All CanBeHanded pieces.items
-CanBeSent (ready.ToOne entry piece) = CanBeHanded piece
+CanBeSent (ready.ToAll pieces) = All FitLink pieces.items
+CanBeSent (ready.ShortToAll bytes) = FitOneLine bytes.items
+CanBeSent (ready.ShortToOne entry bytes) = FitOneLine bytes.items
 
 -- what is ready stands for what core 0, with so many others, sends
 abbrev pub IsMade : ℕ → ℕ → Outgoing → Ready → Type 0
 IsMade others stamp nothing ready.Nothing = Unit {0}
-IsMade others stamp (to_all m) (ready.ToAll pieces) = All (IsPiece stamp m) pieces.items × (length pieces.items ≡ others)
+IsMade others stamp (to_all m) (ready.ToAll pieces) = All (λ bytes. Coded bytes stamp m) pieces.items × (length pieces.items ≡ others)
+IsMade others stamp (to_all m) (ready.ShortToAll bytes) = Coded bytes.items stamp m
 IsMade others stamp (to_one entry m) ready.Nothing = others ≤ entry
-IsMade others stamp (to_one entry m) (ready.ToOne entry' piece) = (entry' ≡ entry) × (entry < others) × IsPiece stamp m piece
+IsMade others stamp (to_one entry m) (ready.ShortToOne entry' bytes) = (entry' ≡ entry) × (entry < others) × Coded bytes.items stamp m
 IsMade others stamp out r = ⊥
-
--- these bytes fit in one line
-abbrev pub FitOneLine : List ℕ → Type 0
-FitOneLine bytes = (1 ≤ length bytes) × (length bytes ≤ 56)
 
 -- what another core answers at once
 abbrev pub IsShortAnswer : Message → Type 0

@@ -1,5 +1,5 @@
 -- What a core does with a message that it doesn't take.
-use Rattle.std.specs.Prelude.{◌≡◌, ◌⊎◌, ◌≤◌, ◌-◌, ℕ, max, List, Some}
+use Rattle.std.specs.Prelude.{◌≡◌, ◌≤◌, ◌-◌, ℕ, max, List, Some}
 use Rattle.monitor_messages.specs.declared.message.Message.{Message}
 use Rattle.monitor_messages.specs.Coding.{Coded}
 use Rattle.monitor_messages.specs.Carrying.{CarriesProgram}
@@ -33,11 +33,10 @@ StopsAt cores clock peer x view cause.Stranger = (m : Stamping) × IsFirst (view
 abbrev pub IsUnread : LinkView → Type 0
 IsUnread v = (bytes : List ℕ) × (first_of v.kept ≡ Some bytes) × CarriesProgram bytes
 
--- Memory was refused to the program of the message, or to what core 0 sends once it is taken. Another core takes a message without memory: its
--- vote says that there was none.
+-- Memory was refused to the program of the message that core 0 takes. Another core takes a message without memory: its vote says that there
+-- was none.
 abbrev pub TakeLacksMemory : ℕ → ℕ → ℕ → Part → (ℕ → LinkView) → Type 0
-TakeLacksMemory cores clock peer (part.Core0 core) view =
-    IsUnread (view peer) ⊎ ((m : Stamping) × IsFirst (view peer) m × CannotTake0 (cores - 1) clock peer core m view refusal.NoMemory)
+TakeLacksMemory cores clock peer (part.Core0 core) view = IsUnread (view peer)
 TakeLacksMemory cores clock peer (part.OtherCore core) view = ⊥
 
 -- why a core that looks at a peer's first message can't go on now

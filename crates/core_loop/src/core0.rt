@@ -18,7 +18,7 @@ ghost use Rattle.core_loop.specs.InTurn.{Asks, BeginsInTurn, IsNextInTurn};
 
 use crate::queue::next_request;
 use crate::refusal::{Refusal, next_stamp};
-use crate::sending::{Ready, all_ready, can_carry, make_ready, send};
+use crate::sending::{Ready, all_ready, can_carry, make_ready, make_short, send};
 use core_links::Links;
 use core_steps::Core0;
 use filter_table::{Op, StageFault};
@@ -40,7 +40,6 @@ struct Sending {
 pub(crate) fn take<L: Links>(
     core: &mut Core0,
     links: &mut L,
-    alloc: Global,
     others: u16,
     clock: u64,
     peer: u16,
@@ -58,7 +57,7 @@ pub(crate) fn take<L: Links>(
     ensures why { IfErr result (CannotTake0 others clock peer core.old (record { stamp = sent; message = message }) (L.view links.old)) }
     ensures same { OnErr result ((core.new ≡ core.old) × (links.new ≡ links.old)) }
 {
-    let sending = match ready_take(core, links, alloc, others, clock, peer, sent, &message) {
+    let sending = match ready_take(core, links, others, clock, peer, sent, &message) {
         Ok(sending) => sending,
         Err(refusal) => {
             drop(message);
@@ -90,7 +89,6 @@ pub(crate) fn take<L: Links>(
 fn ready_take<L: Links>(
     core: &Core0,
     links: &L,
-    alloc: Global,
     others: u16,
     clock: u64,
     peer: u16,
@@ -112,12 +110,9 @@ fn ready_take<L: Links>(
         drop(outgoing);
         return Err(Refusal::Spent);
     };
-    let ready = make_ready(alloc, stamp, others, &outgoing);
+    let ready = make_short(stamp, others, &outgoing);
     drop(outgoing);
-    match ready {
-        Ok(ready) => Ok(Sending { ready, stamp }),
-        Err(AllocError) => Err(Refusal::NoMemory),
-    }
+    Ok(Sending { ready, stamp })
 }
 
 /// Starts the first of its own requests. Core 0 is idle, and the links to its others take messages.

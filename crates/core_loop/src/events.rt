@@ -98,7 +98,7 @@ pub(crate) fn take<L: Links>(
         begun_last: _,
     } = context;
     match part {
-        Part::Core0(core) => core0::take(core, links, alloc, cores - 1, clock, peer, sent, message),
+        Part::Core0(core) => core0::take(core, links, cores - 1, clock, peer, sent, message),
         Part::OtherCore(core) => {
             if peer != 0 {
                 drop(message);
@@ -142,7 +142,7 @@ pub(crate) fn take_kept<L: Links>(
             Ok(stamped) => Ok(Some(stamped)),
             Err(Refusal::NotReady) => Ok(None),
             Err(Refusal::Spent) => Err(Halt::Spent),
-            Err(Refusal::NoMemory) => Err(Halt::NoMemory),
+            Err(Refusal::NoMemory) => unreachable!(),
             Err(Refusal::Stranger) => Err(Halt::Stopped(Cause::Stranger)),
         },
     }

@@ -23,7 +23,7 @@ use crate::sending::{hand, hand_short};
 use core_links::Links;
 use core_steps::{Ballot, OtherCore};
 use filter_table::Op;
-use monitor_messages::{Message, ack_bytes, encode, vote_bytes};
+use monitor_messages::{Message, encode, short_bytes};
 use std::alloc::{AllocError, Global};
 use std::collections::VecDeque;
 use world_events::{Done, Event};
@@ -101,7 +101,11 @@ pub(crate) fn cast<L: Links>(
     };
     let answer = core.cast(ballot.txn, ballot.vote);
     let _ = links.give_up(0);
-    hand_short(links, 0, &vote_bytes(stamp, ballot.txn, ballot.vote));
+    let vote = Message::Vote {
+        txn: ballot.txn,
+        vote: ballot.vote,
+    };
+    send_answer(links, stamp, &vote);
     let event = Event::Take {
         to: number,
         from: 0,
@@ -157,10 +161,9 @@ fn send_answer<L: Links>(links: &mut L, stamp: u64, answer: &Message)
     ensures there { Hands (L.view links.old 0) (L.view links.new 0) (with_stamp stamp (answer.now ∷ [])) }
     ensures elsewhere { (p : ℕ) → p ≢ 0 → L.view links.new p ≡ L.view links.old p }
 {
-    match answer {
-        Message::Vote { txn, vote } => hand_short(links, 0, &vote_bytes(stamp, *txn, *vote)),
-        Message::Ack { txn } => hand_short(links, 0, &ack_bytes(stamp, *txn)),
-        _ => unreachable!(),
+    match short_bytes(stamp, answer) {
+        Some(bytes) => hand_short(links, 0, &bytes),
+        None => unreachable!(),
     }
 }
 

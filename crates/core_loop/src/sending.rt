@@ -1,66 +1,96 @@
 //! What core 0 sends: made ready before a step, and handed to its links after it.
 
-ghost use Rattle.std.specs.Prelude.{◌≡◌, ◌≢◌, ◌<◌, ◌↔◌, ◌∷◌, [], ℕ, suc, true, All, IfOk, OnErr, IsTrue, IsFalse, length, vec_len};
+ghost use Rattle.std.specs.Prelude.{◌≡◌, ◌≢◌, ◌<◌, ◌↔◌, ◌∷◌, [], ℕ, suc, true, All, IfOk, IsTrue, IsFalse, length};
 ghost use Rattle.monitor_messages.specs.declared.message.Message.{Message as GhostMessage};
-ghost use Rattle.core_steps.specs.Core0Steps.{sent, CanBeCoded};
-ghost use Rattle.world_model.specs.Cases.{Outgoing as GhostOutgoing, nothing, to_all, to_one};
+ghost use Rattle.core_steps.specs.Core0Steps.{sent, BringNoOp, CanBeCoded, RepliesAlone};
+ghost use Rattle.world_model.specs.Cases.{Outgoing as GhostOutgoing, to_all, to_one};
 ghost use Rattle.world_histories.specs.Histories.{with_stamp};
 ghost use Rattle.core_loop.specs.Carrying.{CanCarry, Hands, HandsOut};
 ghost use Rattle.core_loop.specs.Events.{IsBlocked};
-ghost use Rattle.monitor_messages.specs.Coding.{Coded};
-ghost use Rattle.core_loop.specs.Sending.{CanBeHanded, CanBeSent, FitOneLine, IsMade, IsPiece};
+ghost use Rattle.monitor_messages.specs.Carrying.{BringsOp};
+ghost use Rattle.monitor_messages.specs.Coding.{Coded, IsNumbered};
+ghost use Rattle.core_loop.specs.Sending.{CanBeHanded, CanBeSent, FitLink, FitOneLine, IsMade, IsPiece};
 
 use core_links::Links;
 use core_steps::Outgoing;
-use monitor_messages::encode;
+use monitor_messages::{Message, ShortBytes, encode, short_bytes};
+use seq::Shared;
 use std::alloc::{AllocError, Global};
 
-/// Byte strings that are ready to be sent: none, one for each other core, or one for the core with this entry.
+/// Bytes that are ready to be sent: none, those of one message to each other core, shared by them or short, or short ones to the
+/// core with this entry.
 #[derive(Drop)]
 pub(crate) enum Ready {
     Nothing,
-    ToAll(Vec<Vec<u8>>),
-    ToOne(u16, Vec<u8>),
+    ToAll(Vec<Shared<u8>>),
+    ShortToAll(ShortBytes),
+    ShortToOne(u16, ShortBytes),
 }
 
-/// Makes ready what core 0, with so many others, sends under this stamp. A message to all is encoded once.
+/// Makes ready what core 0, with so many others, sends under this stamp where it starts a request. A message to all is encoded once.
 pub(crate) fn make_ready(
     alloc: Global,
     stamp: u64,
     others: u16,
     outgoing: &Outgoing,
 ) -> Result<Ready, AllocError>
-    requires { CanBeCoded outgoing.now }
+    requires coded { CanBeCoded outgoing.now }
+    requires replies { RepliesAlone outgoing.now }
     ensures made { IfOk result (IsMade others stamp (sent outgoing.now)) }
     ensures lengths { IfOk result CanBeSent }
-    ensures memory { OnErr result (sent outgoing.now ≢ nothing) }
 {
     match outgoing {
         Outgoing::Nothing => Ok(Ready::Nothing),
         Outgoing::ToAll(message) => {
-            let bytes = encode(alloc, stamp, message)?;
+            let bytes = Shared::from_vec(alloc, encode(alloc, stamp, message)?)?;
             let pieces = copies(alloc, &bytes, others)?;
             Ok(Ready::ToAll(pieces))
         }
-        Outgoing::ToOne(entry, message) => {
-            if *entry >= usize::from(others) {
-                return Ok(Ready::Nothing);
-            }
-            let bytes = encode(alloc, stamp, message)?;
-            Ok(Ready::ToOne(*entry as u16, bytes))
-        }
+        Outgoing::ToOne(entry, message) => Ok(short_to_one(stamp, others, *entry, message)),
     }
 }
 
-// So many copies of these bytes.
-fn copies(alloc: Global, bytes: &[u8], count: u16) -> Result<Vec<Vec<u8>>, AllocError>
-    ensures alike { IfOk result (λ pieces. All (λ piece. piece.items ≡ bytes.now) pieces.items) }
+/// The same of messages that bring no operation. Takes no memory.
+pub(crate) fn make_short(stamp: u64, others: u16, outgoing: &Outgoing) -> Ready
+    requires coded { CanBeCoded outgoing.now }
+    requires no_op { BringNoOp outgoing.now }
+    ensures made { IsMade others stamp (sent outgoing.now) result }
+    ensures lengths { CanBeSent result }
+{
+    match outgoing {
+        Outgoing::Nothing => Ready::Nothing,
+        Outgoing::ToAll(message) => match short_bytes(stamp, message) {
+            Some(bytes) => Ready::ShortToAll(bytes),
+            None => unreachable!(),
+        },
+        Outgoing::ToOne(entry, message) => short_to_one(stamp, others, *entry, message),
+    }
+}
+
+// A message that brings no operation, to the core with an entry.
+fn short_to_one(stamp: u64, others: u16, entry: usize, message: &Message) -> Ready
+    requires numbered { IsNumbered message.now }
+    requires no_op { BringsOp message.now → ⊥ }
+    ensures made { IsMade others stamp (to_one entry message.now) result }
+    ensures lengths { CanBeSent result }
+{
+    if entry >= usize::from(others) {
+        return Ready::Nothing;
+    }
+    match short_bytes(stamp, message) {
+        Some(bytes) => Ready::ShortToOne(entry as u16, bytes),
+        None => unreachable!(),
+    }
+}
+
+// So many lists that share these bytes.
+fn copies(alloc: Global, bytes: &Shared<u8>, count: u16) -> Result<Vec<Shared<u8>>, AllocError>
+    ensures alike { IfOk result (λ pieces. All (λ piece. piece ≡ bytes.now) pieces.items) }
     ensures count { IfOk result (λ pieces. length pieces.items ≡ count) }
 {
     let mut pieces = Vec::with_capacity(alloc, usize::from(count))?;
     for _i in 0..count {
-        let piece = Vec::from_slice(alloc, bytes)?;
-        pieces.push(piece)?;
+        pieces.push(bytes.clone()?)?;
     }
     Ok(pieces)
 }
@@ -106,24 +136,49 @@ pub(crate) fn send<L: Links>(links: &mut L, others: u16, ready: Ready)
     match ready {
         Ready::Nothing => {}
         Ready::ToAll(pieces) => send_all(links, others, pieces),
-        Ready::ToOne(entry, piece) => hand(links, entry + 1, piece),
+        Ready::ShortToAll(bytes) => send_short_to_all(links, others, &bytes),
+        Ready::ShortToOne(entry, bytes) => hand_short(links, entry + 1, &bytes),
     }
 }
 
-fn send_all<L: Links>(links: &mut L, others: u16, mut pieces: Vec<Vec<u8>>)
+fn send_all<L: Links>(links: &mut L, others: u16, mut pieces: Vec<Shared<u8>>)
     requires count { length pieces.items ≡ others }
-    requires lengths { All CanBeHanded pieces.items }
+    requires lengths { All FitLink pieces.items }
     requires ready { (entry : ℕ) → entry < others → (L.view links.old (suc entry)).ready ≡ true }
     ensures links { L.same links.old links.new }
     ensures lines { (p : ℕ) → L.flow links.new p ≡ L.flow links.old p }
-    ensures sent { (stamp : ℕ) (m : GhostMessage) → All (IsPiece stamp m) pieces.items → HandsOut others stamp (to_all m) (L.view links.old) (L.view links.new) }
+    ensures sent { (stamp : ℕ) (m : GhostMessage) → All (λ bytes. Coded bytes stamp m) pieces.items → HandsOut others stamp (to_all m) (L.view links.old) (L.view links.new) }
 {
     for entry in 0..others {
         match pieces.pop() {
-            Some(piece) => hand(links, entry + 1, piece),
+            Some(piece) => hand_shared(links, entry + 1, piece),
             None => {}
         }
     }
+}
+
+fn send_short_to_all<L: Links>(links: &mut L, others: u16, bytes: &[u8])
+    requires lengths { FitOneLine bytes.now }
+    requires ready { (entry : ℕ) → entry < others → (L.view links.old (suc entry)).ready ≡ true }
+    ensures links { L.same links.old links.new }
+    ensures lines { (p : ℕ) → L.flow links.new p ≡ L.flow links.old p }
+    ensures sent { (stamp : ℕ) (m : GhostMessage) → Coded bytes.now stamp m → HandsOut others stamp (to_all m) (L.view links.old) (L.view links.new) }
+{
+    for entry in 0..others {
+        hand_short(links, entry + 1, bytes);
+    }
+}
+
+/// Hands a message that others get, too, to a peer whose link takes messages.
+fn hand_shared<L: Links>(links: &mut L, peer: u16, bytes: Shared<u8>)
+    requires lengths { FitLink bytes }
+    requires ready { (L.view links.old peer).ready ≡ true }
+    ensures links { L.same links.old links.new }
+    ensures lines { (p : ℕ) → L.flow links.new p ≡ L.flow links.old p }
+    ensures there { (stamp : ℕ) (m : GhostMessage) → Coded bytes stamp m → Hands (L.view links.old peer) (L.view links.new peer) (with_stamp stamp (m ∷ [])) }
+    ensures elsewhere { (p : ℕ) → p ≢ peer → L.view links.new p ≡ L.view links.old p }
+{
+    let _ = links.send_shared(peer, bytes);
 }
 
 /// Hands a message to a peer whose link takes messages.

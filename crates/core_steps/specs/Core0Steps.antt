@@ -8,6 +8,7 @@ use Rattle.monitor_messages.specs.declared.message.Message.TheVariants as messag
 use Rattle.filter_table.specs.declared.decision.Decision.{Decision}
 use Rattle.filter_table.specs.declared.decision.Decision.TheVariants.{Refused}
 use Rattle.monitor_messages.specs.Coding.{IsShort, IsNumbered}
+use Rattle.monitor_messages.specs.Carrying.{BringsOp}
 use Rattle.monitor_2pc.specs.Places.{after_commit}
 use Rattle.monitor_2pc.specs.Coordinators.{CoordinatorPlace, CanStart, StagedByPhase, coordinator_place, veto_of}
 use Rattle.world_model.specs.Cases.{Outgoing, nothing, to_all, to_one, StartsAt, StartsForAt, TakesUpAt}
@@ -78,17 +79,22 @@ sent sends.Nothing = nothing
 sent (sends.ToAll m) = to_all m
 sent (sends.ToOne entry m) = to_one entry m
 
--- a message with which core 0 may send something
-abbrev pub MayBeAnswered : Message → Type 0
-MayBeAnswered (message.Vote txn vote) = Unit {0}
-MayBeAnswered (message.Ack txn) = Unit {0}
-MayBeAnswered m = ⊥
-
 -- bytes stand for the messages
 abbrev pub CanBeCoded : Sends → Type 0
 CanBeCoded sends.Nothing = Unit {0}
 CanBeCoded (sends.ToAll m) = IsShort m × IsNumbered m
 CanBeCoded (sends.ToOne entry m) = IsShort m × IsNumbered m
+
+-- no message of these brings an operation
+abbrev pub BringNoOp : Sends → Type 0
+BringNoOp sends.Nothing = Unit {0}
+BringNoOp (sends.ToAll m) = BringsOp m → ⊥
+BringNoOp (sends.ToOne entry m) = BringsOp m → ⊥
+
+-- one that goes to a single core brings none
+abbrev pub RepliesAlone : Sends → Type 0
+RepliesAlone (sends.ToOne entry m) = BringsOp m → ⊥
+RepliesAlone sends = Unit {0}
 
 -- Prepare to every other core, if there is one, where the request was staged
 abbrev pub asks : ℕ → ℕ → Op → Outgoing

@@ -7,10 +7,10 @@ ghost use Rattle.monitor_messages.specs.declared.message.Message.TheVariants as 
 ghost use Rattle.monitor_2pc.specs.Coordinators.{Idle, CanStart, coordinator_place, no_requests};
 ghost use Rattle.monitor_2pc.specs.Starting.{WasStaged};
 ghost use Rattle.world_model.specs.Agreement.{Expects};
-ghost use Rattle.world_model.specs.Cases.{nothing, outgoing, start_told};
+ghost use Rattle.world_model.specs.Cases.{outgoing, start_told};
 ghost use Rattle.core_steps.specs.declared.core0.Core0.{Core0 as GhostCore0};
 ghost use Rattle.core_steps.specs.declared.core0.Told.{Told as GhostTold};
-ghost use Rattle.core_steps.specs.Core0Steps.{BetweenSteps, CanBegin, core0_place, sent, CanBeCoded, start_sends, start_for_sends, Starts, StartsForCore, TakesUp, MayBeAnswered, HasWaiting};
+ghost use Rattle.core_steps.specs.Core0Steps.{BetweenSteps, CanBegin, core0_place, sent, CanBeCoded, start_sends, start_for_sends, Starts, StartsForCore, TakesUp, BringNoOp, RepliesAlone, HasWaiting};
 
 use crate::outgoing::Outgoing;
 use filter_table::{Op, StageFault};
@@ -92,6 +92,7 @@ impl Core0 {
         requires tried { WasStaged self.now.replica op.now refusal }
         ensures sends { IfOk result (λ out. sent out ≡ start_sends self.now op.now refusal) }
         ensures codable { IfOk result CanBeCoded }
+        ensures replies { IfOk result RepliesAlone }
     {
         if let Some(_) = refusal {
             return Ok(Outgoing::Nothing);
@@ -112,6 +113,7 @@ impl Core0 {
         requires waits { (entry : ℕ) × (op : GhostOp) × HasWaiting self.now core entry op × WasStaged self.now.replica op refusal }
         ensures sends { IfOk result (λ out. (entry : ℕ) (op : GhostOp) → HasWaiting self.now core entry op → sent out ≡ start_for_sends entry self.now op refusal) }
         ensures codable { IfOk result CanBeCoded }
+        ensures replies { IfOk result RepliesAlone }
     {
         if let Some(fault) = refusal {
             let decision = Decision::Refused {
@@ -172,7 +174,7 @@ impl Core0 {
         requires { BetweenSteps self.now }
         ensures sends { (after : GhostCore0) (told : GhostTold) → TakesUp self.now from message.now after told → outgoing told.step (core0_place after) ≡ sent result }
         ensures codable { CanBeCoded result }
-        ensures answered { sent result ≢ nothing → MayBeAnswered message.now }
+        ensures no_op { BringNoOp result }
     {
         match message {
             Message::Vote { txn, vote } => self.vote_sends(from, *txn, *vote),
@@ -188,6 +190,7 @@ impl Core0 {
     fn vote_sends(&self, from: u16, txn: u64, vote: Vote) -> Outgoing
         ensures sends { (after : GhostCore0) (told : GhostTold) → TakesUp self.now from (message.Vote txn vote) after told → outgoing told.step (core0_place after) ≡ sent result }
         ensures codable { CanBeCoded result }
+        ensures no_op { BringNoOp result }
     {
         match self.coordinator.verdict_after(from, vote) {
             Some(Say::Commit) => Outgoing::ToAll(Message::Commit { txn }),
@@ -201,6 +204,7 @@ impl Core0 {
         requires { BetweenSteps self.now }
         ensures sends { (txn : ℕ) (after : GhostCore0) (told : GhostTold) → TakesUp self.now from (message.Ack txn) after told → outgoing told.step (core0_place after) ≡ sent result }
         ensures codable { CanBeCoded result }
+        ensures no_op { BringNoOp result }
     {
         let Some((core, decision)) = self.coordinator.reply_after(from) else {
             return Outgoing::Nothing;

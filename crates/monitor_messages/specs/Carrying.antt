@@ -9,6 +9,12 @@ use Rattle.monitor_messages.specs.declared.loaded.Carrier.TheVariants as carrier
 use Rattle.monitor_messages.specs.declared.message.Message.{Message}
 use Rattle.monitor_messages.specs.declared.message.Message.TheVariants as message
 
+-- the message brings an operation
+abbrev pub BringsOp : Message → Type 0
+BringsOp (message.Prepare txn op) = Unit {0}
+BringsOp (message.Submit op) = Unit {0}
+BringsOp m = ⊥
+
 -- the program of the operation that a message carries, if it carries one
 abbrev pub program_in : Message → Option (List Insn)
 program_in (message.Prepare txn op) = program_of op

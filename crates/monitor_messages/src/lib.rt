@@ -45,5 +45,5 @@ pub use filter_table::{Decision, Load, Veto, Vote};
 pub use loaded::{Carrier, Loaded};
 pub use message::Message;
 pub use reading::{decode, decode_into};
-pub use short::{ack_bytes, vote_bytes};
+pub use short::{ShortBytes, short_bytes};
 pub use writing::encode;

@@ -1,16 +1,16 @@
 //! Messages written as bytes.
 
 ghost use Rattle.std.specs.Prelude.{◌≡◌, ◌<◌, ◌≤◌, ◌++◌, ◌∷◌, length, All, IfOk, OnOk};
-ghost use Rattle.std.specs.Int.{w16, w32, w64, to_le_bytes};
+ghost use Rattle.std.specs.Int.{w16, w32, to_le_bytes};
 ghost use Rattle.bpf_insn.specs.Table.{InRange, bytes_of};
 ghost use Rattle.filter_table.specs.Tables.{HasShortProgram};
-ghost use Rattle.monitor_messages.specs.Coding.{fault_number, fault_bytes, made_bytes, veto_bytes, decision_bytes, rights_number, program_bytes, op_bytes, coded, Coded, IsShort, IsNumbered, IsOp, IsMade, IsFault, IsVeto, IsDecision, IsMessage};
+ghost use Rattle.monitor_messages.specs.Coding.{rights_number, program_bytes, op_bytes, coded, Coded, IsShort, IsNumbered, IsOp, IsMessage};
 
 use crate::message::Message;
-use crate::short::number_of_vote;
+use crate::short::{headed, numbered, short_bytes};
 use bpf_insn::Insn;
 use endpoint_caps::Rights;
-use filter_table::{Decision, Made, Op, OpFault, Program, Veto};
+use filter_table::{Op, Program};
 use std::alloc::{AllocError, Global};
 
 /// The bytes of a message that is sent under this stamp.
@@ -32,43 +32,18 @@ fn put_message(out: &mut Vec<u8>, stamp: u64, message: &Message) -> Result<(), A
 {
     match message {
         Message::Prepare { txn, op } => {
-            put_numbered(out, 1, stamp, *txn)?;
+            out.extend_from_slice(&numbered(1, stamp, *txn))?;
             put_op(out, op)
         }
-        Message::Vote { txn, vote } => {
-            put_numbered(out, 2, stamp, *txn)?;
-            out.push(number_of_vote(*vote))?;
-            Ok(())
-        }
-        Message::Commit { txn } => put_numbered(out, 3, stamp, *txn),
-        Message::Abort { txn } => put_numbered(out, 4, stamp, *txn),
-        Message::Ack { txn } => put_numbered(out, 5, stamp, *txn),
         Message::Submit { op } => {
-            put_head(out, 6, stamp)?;
+            out.extend_from_slice(&headed(6, stamp))?;
             put_op(out, op)
         }
-        Message::Reply { decision } => {
-            put_head(out, 7, stamp)?;
-            put_decision(out, decision)
-        }
+        _ => match short_bytes(stamp, message) {
+            Some(bytes) => out.extend_from_slice(&bytes),
+            None => unreachable!(),
+        },
     }
-}
-
-// The kind of a message and its stamp.
-fn put_head(out: &mut Vec<u8>, kind: u8, stamp: u64) -> Result<(), AllocError>
-    ensures { OnOk result (out.new.items ≡ out.old.items ++ (kind ∷ to_le_bytes w64 stamp)) }
-{
-    out.push(kind)?;
-    out.extend_from_slice(&stamp.to_le_bytes())
-}
-
-// The kind of a message, its stamp, and the number of what it is about.
-fn put_numbered(out: &mut Vec<u8>, kind: u8, stamp: u64, txn: u64) -> Result<(), AllocError>
-    ensures { OnOk result (out.new.items ≡ out.old.items ++ (kind ∷ to_le_bytes w64 stamp ++ to_le_bytes w64 txn)) }
-{
-    out.push(kind)?;
-    out.extend_from_slice(&stamp.to_le_bytes())?;
-    out.extend_from_slice(&txn.to_le_bytes())
 }
 
 fn number_of_rights(rights: Rights) -> u8
@@ -154,90 +129,4 @@ fn put_insn(out: &mut Vec<u8>, insn: Insn) -> Result<(), AllocError>
     ensures fits { InRange insn }
 {
     out.extend_from_slice(&insn.to_bytes())
-}
-
-fn put_decision(out: &mut Vec<u8>, decision: &Decision) -> Result<(), AllocError>
-    ensures bytes { OnOk result (out.new.items ≡ out.old.items ++ decision_bytes decision.now) }
-    ensures fits { OnOk result (IsDecision decision.now) }
-{
-    match *decision {
-        Decision::Committed { version, made } => {
-            out.push(0)?;
-            out.extend_from_slice(&version.to_le_bytes())?;
-            put_made(out, made)
-        }
-        Decision::Refused { core, why } => {
-            out.push(1)?;
-            out.extend_from_slice(&core.to_le_bytes())?;
-            put_veto(out, why)
-        }
-    }
-}
-
-fn put_made(out: &mut Vec<u8>, made: Made) -> Result<(), AllocError>
-    ensures bytes { OnOk result (out.new.items ≡ out.old.items ++ made_bytes made) }
-    ensures fits { OnOk result (IsMade made) }
-{
-    match made {
-        Made::Nothing => {
-            out.push(0)?;
-            Ok(())
-        }
-        Made::Cap(id) => {
-            out.push(1)?;
-            out.extend_from_slice(&id.to_le_bytes())
-        }
-        Made::Filter(id) => {
-            out.push(2)?;
-            out.extend_from_slice(&id.to_le_bytes())
-        }
-    }
-}
-
-fn put_veto(out: &mut Vec<u8>, why: Veto) -> Result<(), AllocError>
-    ensures bytes { OnOk result (out.new.items ≡ out.old.items ++ veto_bytes why) }
-    ensures fits { OnOk result (IsVeto why) }
-{
-    match why {
-        Veto::Budget => out.push(0)?,
-        Veto::NoMemory => out.push(1)?,
-        Veto::Rule(fault) => {
-            out.push(2)?;
-            put_fault(out, fault)?;
-        }
-    }
-    Ok(())
-}
-
-fn put_fault(out: &mut Vec<u8>, fault: OpFault) -> Result<(), AllocError>
-    ensures bytes { OnOk result (out.new.items ≡ out.old.items ++ fault_bytes fault) }
-    ensures fits { OnOk result (IsFault fault) }
-{
-    if let OpFault::BadProgram { rule, pc } = fault {
-        out.push(17)?;
-        out.push(rule)?;
-        return out.extend_from_slice(&pc.to_le_bytes());
-    }
-    out.push(number_of_fault(fault))?;
-    Ok(())
-}
-
-fn number_of_fault(fault: OpFault) -> u8
-    ensures { fault_number fault ≡ result }
-{
-    match fault {
-        OpFault::NoCap => 1,
-        OpFault::NotHolder => 2,
-        OpFault::NoRight => 3,
-        OpFault::RightsExceed => 4,
-        OpFault::EndpointTaken => 5,
-        OpFault::CapsFull => 6,
-        OpFault::IdsSpent => 7,
-        OpFault::NoFilter => 11,
-        OpFault::NotOwner => 12,
-        OpFault::TableFull => 13,
-        OpFault::FilterIdsSpent => 14,
-        OpFault::BadProgram { .. } => 17,
-        OpFault::VersionsSpent => 18,
-    }
 }

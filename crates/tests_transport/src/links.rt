@@ -6,6 +6,7 @@ ghost use Rattle.core_links.specs.RingSlots.{AreJoinedLinks};
 use crate::facts::{equal, holds};
 use core_links::{LineFault, Links, ListLinks, RingLinks};
 use rtrb::RingBuffer;
+use seq::Shared;
 use std::alloc::Global;
 use std::process::Abort;
 use ump_ring::{Joiner, Line, Receiver, ring};
@@ -151,6 +152,44 @@ fn a_short_message_over_links_of_both_kinds(rt: HostRuntime) {
     holds(&rt, lists.mark_collected(1));
     match lists.last_collected(1) {
         Some(bytes) => holds(&rt, bytes == [1, 2, 3].as_slice()),
+        None => holds(&rt, false),
+    }
+}
+
+// Whether the link to a peer takes a message that others get, too.
+fn sends_shared<L: Links>(links: &mut L, peer: u16, bytes: Shared<u8>) -> bool
+    requires { (1 ≤ length bytes) × (length bytes ≤ 32832) }
+    ensures { L.same links.old links.new }
+{
+    links.send_shared(peer, bytes)
+}
+
+// A message of this many bytes whose memory is shared.
+fn shared(rt: &impl Abort, alloc: Global, byte: u8, size: usize) -> Shared<u8>
+    ensures { length result ≡ size }
+{
+    let bytes = message(rt, alloc, byte, size);
+    Shared::from_vec(alloc, bytes).expect(rt, "there is memory")
+}
+
+#[test]
+fn one_message_goes_to_several_peers(rt: HostRuntime) {
+    let alloc = rt.alloc();
+    let bytes = shared(&rt, alloc, 7, 100);
+    let (mut first, mut second) = joined(&rt, alloc, 4);
+    let mut lists = ListLinks::new(alloc, 0, 2, 1).expect(&rt, "there is memory");
+    let copy = bytes.clone().expect(&rt, "there is memory");
+    holds(&rt, sends_shared(&mut first, 1, copy));
+    let copy = bytes.clone().expect(&rt, "there is memory");
+    holds(&rt, !sends_shared(&mut first, 1, copy));
+    let copy = bytes.clone().expect(&rt, "there is memory");
+    holds(&rt, sends_shared(&mut lists, 1, copy));
+    first.pump();
+    holds(&rt, first.ready(1));
+    holds(&rt, takes(&mut second, 0, bytes.as_slice()));
+    holds(&rt, lists.mark_collected(1));
+    match lists.last_collected(1) {
+        Some(collected) => holds(&rt, collected == bytes.as_slice()),
         None => holds(&rt, false),
     }
 }

@@ -1,5 +1,5 @@
 -- Steps of a sender.
-use Rattle.std.proofs.Common.{◌≡◌, ◌+◌, ◌-◌, ◌%◌, ◌<◌, ◌∷◌, [], ◌++◌, ℕ, List, length, take, refl, arith, ap, ◌∙◌, sym, subst, length-append, append_assoc, All, Option, Some, None}
+use Rattle.std.proofs.Common.{◌≡◌, ◌+◌, ◌-◌, ◌%◌, ◌<◌, ◌≤◌, ◌∷◌, [], ◌++◌, ℕ, List, length, take, refl, arith, ap, ◌∙◌, sym, subst, length-append, append_assoc, All, Option, Some, None, false}
 use Rattle.std.proofs.lemmas.List.{append-nil}
 use Rattle.std.proofs.Math.Seq.{take-append_seam}
 use Rattle.std.proofs.lemmas.List.Elements.{All-nil, All-append, All-cons}
@@ -8,6 +8,9 @@ use Rattle.ump_ring.specs.Sending.{IsSending, bytes_going}
 use Rattle.ump_ring.specs.Offered.{settled, message_list}
 use Rattle.ump_ring.proofs.Counts.{length-lines_below, below-more}
 use Rattle.ump_ring.proofs.Laws.{messages-stream, lines_in, length-stream, stream-append}
+use Rattle.std.specs.Option.{is_some}
+use Rattle.ump_ring.specs.declared.piece.Piece.{Piece}
+use Rattle.ump_ring.specs.Pieces.{going}
 
 settled-is : (b : List ℕ) (out : ℕ) (done lines : List (List ℕ)) → lines ≡ done ++ lines_below (length b) b (length done) out → settled out lines ≡ done
 settled-is b out done lines split =
@@ -123,3 +126,17 @@ module _ (message : Option (List ℕ)) (v : List ℕ) (out count number : ℕ) (
         subst (λ (m : Option (List ℕ)). IsSending m (out + count) ((number + count) % 0x1_0000_0000) now) (sym e) sending,
         ap (λ ms. ms ++ message_list message) read,
       )
+
+-- a message begins to go out where none does
+pub begins-going : (piece : Option Piece) (m : List ℕ) (out number : ℕ) (lines : List (List ℕ)) → is_some piece ≡ false → IsMessage m
+    → IsSending (going piece) out number lines → IsSending (Some m) 0 number lines
+begins-going (Some piece) m out number lines none fits was = absurd cc
+begins-going None m out number lines none fits was =
+    let zero : out ≡ 0 = was.idle refl in
+    let done : List (List ℕ) = settled out lines in
+    sending-from (Some m) 0 number done lines was.numbered was.whole was.messages
+    (was.split ∙ ap (λ n. done ++ lines_below 0 [] (length done) n) zero)
+    (λ v is.
+    let same : m ≡ v = cc in
+    (rw same at fits, omega (arith, fits.least, ap length same)))
+    (λ none. absurd cc)

@@ -2,6 +2,8 @@
 
 ghost use Rattle.std.specs.Prelude.{◌≤◌};
 
+use seq::Shared;
+
 /// The bytes of a message that one line holds.
 pub const SHORT_MOST: usize = 56;
 
@@ -22,10 +24,11 @@ impl Drop for ShortMessage {
     }
 }
 
-/// A message: in memory of its own, or a short one, which takes none.
+/// A message: in memory of its own, in memory that it shares with what is sent to others, or a short one, which takes none.
 #[derive(Drop)]
 pub enum Piece {
     Whole(Vec<u8>),
+    Shared(Shared<u8>),
     Short(ShortMessage),
 }
 
@@ -52,6 +55,7 @@ impl Piece {
     {
         match self {
             Piece::Whole(message) => message,
+            Piece::Shared(message) => message.as_slice(),
             Piece::Short(message) => &message.bytes[..message.length],
         }
     }

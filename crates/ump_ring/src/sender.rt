@@ -1,5 +1,5 @@
 //! The end of a ring that sends.
-ghost use Rattle.std.specs.Prelude.{◌≡◌, ◌+◌, ◌<◌, ◌≤◌, ◌++◌, ℕ, List, length};
+ghost use Rattle.std.specs.Prelude.{◌≡◌, ◌+◌, ◌<◌, ◌≤◌, ◌++◌, ℕ, List, length, slice_index};
 ghost use mathlib.Core.List.{IsPrefix};
 ghost use Rattle.ump_ring.specs.Lines.{line_count, lines_below, number_after};
 ghost use Rattle.ump_ring.specs.Pieces.{going};
@@ -9,6 +9,7 @@ ghost use Rattle.rtrb.specs.Ring.{sent, known_free, SameProducer};
 use crate::line::{Line, MESSAGE_MOST, line_at};
 use crate::piece::{Piece, SHORT_MOST};
 use rtrb::Producer;
+use seq::Shared;
 
 /// The end of a ring that sends messages, one at a time.
 pub struct Sender {
@@ -73,6 +74,14 @@ fn push_lines(producer: &mut Producer<Line>, message: &[u8], out: u32, number: u
     pushed
 }
 
+// What a slice of bytes has is bytes, which a list of any items doesn't say of itself. A law: nothing is done.
+#[inline(always)]
+fn are_bytes(bytes: &[u8])
+    ensures { (i : ℕ) → slice_index bytes.now i < 256 }
+{
+    let _ = bytes;
+}
+
 impl Sender {
     ghost use Rattle.std.specs.Prelude.{◌≡◌, ◌+◌, ◌<◌, ◌≤◌, ◌↔◌, ◌≢◌, ◌++◌, ◌∷◌, ℕ, List, [], length, vec_len, IsTrue, IsFalse, OnOk, IfErr, None, Some};
     ghost use mathlib.Core.List.{IsPrefix};
@@ -132,6 +141,24 @@ impl Sender {
             return false;
         }
         self.message = Some(Piece::short(message));
+        self.out = 0;
+        true
+    }
+
+    /// Takes a message of 1 to 32,832 bytes that is sent to others, too, and says whether it did: not where one is still going
+    /// out. Takes no memory.
+    pub fn offer_shared(&mut self, message: Shared<u8>) -> bool
+        requires length { (1 ≤ length message) × (length message ≤ 32832) }
+        ensures ring { SameSender self.old self.new × (lines_sent self.new ≡ lines_sent self.old) }
+        ensures room { room_known self.new ≡ room_known self.old }
+        ensures taken { IsTrue result → (current self.old ≡ None) × (current self.new ≡ Some message) × (messages_offered self.new ≡ messages_offered self.old ++ message ∷ []) }
+        ensures busy { IsFalse result → (current self.old ≢ None) × (current self.new ≡ current self.old) × (messages_offered self.new ≡ messages_offered self.old) }
+    {
+        if self.message.is_some() {
+            return false;
+        }
+        are_bytes(message.as_slice());
+        self.message = Some(Piece::Shared(message));
         self.out = 0;
         true
     }

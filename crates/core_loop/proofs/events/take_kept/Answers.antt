@@ -3,7 +3,7 @@ use Rattle.world_histories.specs.Histories.{Stamping}
 use Rattle.core_loop.specs.declared.refusal.Refusal.{Refusal}
 use Rattle.core_loop.specs.Carrying.{IsFirst}
 use Rattle.core_loop.specs.Taking.{CannotTake}
-use Rattle.core_loop.proofs.Acting.{spent_take, lacks_take}
+use Rattle.core_loop.proofs.Acting.{spent_take}
 use Rattle.core_loop.proofs.Order.{not_ready_waits}
 use Rattle.core_loop.proofs.events.take_kept.Goals as goal
 
@@ -20,10 +20,3 @@ returns-in-Err-NotReady-clause-waits g c =
     let m : Stamping = record { stamp = c.in-Ok.sent; message = c.in-Ok.message } in
     let first : IsFirst (view c.args.peer) m = search rules in
     not_ready_waits c.args.context.cores c.args.context.clock c.args.peer c.args.part.now m view first (subst (λ (r : Refusal). CannotTake c.args.context.cores c.args.context.clock c.args.peer c.args.part.now m view r) c.in-Err-NotReady.field-0-is c.in-Err-NotReady.ensures.why)
-
-pub returns-in-Err-NoMemory-take-clause-why : goal.returns-in-Err-NoMemory-take-clause-why
-returns-in-Err-NoMemory-take-clause-why g c =
-    let view = g.L.Links.view c.args.links.now in
-    let m : Stamping = record { stamp = c.in-Ok.sent; message = c.in-Ok.message } in
-    let first : IsFirst (view c.args.peer) m = search rules in
-    lacks_take c.args.context.cores c.args.context.clock c.args.peer c.args.part.now m view first (subst (λ (r : Refusal). CannotTake c.args.context.cores c.args.context.clock c.args.peer c.args.part.now m view r) c.in-Err-NoMemory-take.field-0-is c.in-Err-NoMemory-take.ensures.why)

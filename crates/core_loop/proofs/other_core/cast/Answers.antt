@@ -20,7 +20,7 @@ returns-clause-acts g c = λ entry number.
     record {
       m = Some m;
       leads = leads_take_other entry c.args.clock stamp c.args.number c.args.core.now c.cast-answer.new.self m answer c.in-Some.ensures.some number t;
-      carries = take_carries_other _ m (Some (Vote ballot.txn ballot.vote)) (view c.args.links.now) (view c.give_up.new.self) (view c.hand_short.new.links) (sent_by_take c.args.number 0 false answer ∙ c.cast-answer.ensures.sent false)
-          (takes_first _ _ m c.requires.ballot.1 given.1) given.2 (c.hand_short.ensures.there stamp (Vote ballot.txn ballot.vote) c.vote_bytes.ensures) c.hand_short.ensures.elsewhere;
+      carries = take_carries_other _ m (Some (Vote ballot.txn ballot.vote)) (view c.args.links.now) (view c.give_up.new.self) (view c.send_answer.new.links) (sent_by_take c.args.number 0 false answer ∙ c.cast-answer.ensures.sent false)
+          (takes_first _ _ m c.requires.ballot.1 given.1) given.2 c.send_answer.ensures.there c.send_answer.ensures.elsewhere;
       same_budget = t.same_budget;
     }
