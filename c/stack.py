@@ -13,7 +13,7 @@ import subprocess
 import sys
 
 # Bytes that a call may take; all that aren't named take at most 2,048.
-MOST = {"mkdemux_boot_cores": 13440, "mkdemux_turn": 9984, "mkdemux_settle": 12096, "mkdemux_close_core": 2688, "mkdemux_assemble": 6656}
+MOST = {"mkdemux_boot_cores": 15040, "mkdemux_turn": 9216, "mkdemux_settle": 11392, "mkdemux_close_core": 3008, "mkdemux_assemble": 6656}
 OTHERS = 2048
 # Functions that call themselves, and how many of their calls are open at a time at most. A list that is sorted here has at most 1,024 items.
 # A shape of operands has at most nine parts, and a machine eight cores.

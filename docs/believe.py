@@ -61,7 +61,7 @@ CALLS = [
         "core_join::agree[agree]",
         "core_join::conclude",
         "core_join::merge",
-    ], 2060),
+    ], 2061),
 ]
 COMMANDS = [
     Part("`match`", ["console::run_match"], 930),
@@ -90,7 +90,7 @@ ROWS = {
     "mkdemux_c": 260,
     "pcap_reader": 360,
     "capture_reader": 530,
-    "endpoint_caps": 60,
+    "endpoint_caps": 61,
     "filter_table": 280,
     "definitions_tried": 340,
     "monitor_messages": 220,
