@@ -6,6 +6,7 @@
 #   packets       packets a second and thread: 16 and 1,000 filters, 0, 100 and 10,000 changes a second, 1 to 4 threads
 #   decide        from ask to decision
 #   asleep        the same where threads sleep until a turn names their core, and their processor time while nothing is asked
+#   turns         idle turns and changes of 8 and of 64 cores in one thread
 #   memory        the peak after 10^6 packets and 10^4 changes, and after 10^8 and 10^6 more
 #   allocations   for each packet and each change
 # FOLDER has the library, as ./libmkdemux --cores FOLDER makes it, by default dist/. WRAP="chrt -r 5" is put before each command. Needs a
@@ -23,7 +24,7 @@ while getopts r:l: option; do
     esac
 done
 shift $((OPTIND - 1))
-[ $# -gt 0 ] || set -- alone packets decide asleep memory allocations
+[ $# -gt 0 ] || set -- alone packets decide asleep turns memory allocations
 work=$(mktemp -d)
 trap 'rm -rf "$work"' EXIT
 cc=${CC:-cc}
@@ -57,7 +58,7 @@ packets() {
 }
 
 decide() {
-    for cores in 2 4; do
+    for cores in 2 4 64; do
         for asker in 0 1; do
             for batch in 0 32; do
                 $WRAP "$work/live_peer" decide $cores $asker $batch 2000
@@ -74,6 +75,10 @@ asleep() {
     done
 }
 
+turns() {
+    $WRAP "$work/live_peer" turns 64 21
+}
+
 memory() {
     $WRAP "$work/live_peer" memory 100000000 1000000
 }
@@ -86,7 +91,7 @@ allocations() {
 
 for part; do
     case $part in
-    alone | packets | decide | asleep | memory | allocations) "$part" ;;
+    alone | packets | decide | asleep | turns | memory | allocations) "$part" ;;
     *) echo "live: there is no part $part" >&2; exit 2 ;;
     esac
 done

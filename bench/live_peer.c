@@ -7,6 +7,7 @@
    live_peer decide CORES ASKER BATCH ROUNDS         nanoseconds from ask to decision, where each core receives BATCH packets a turn
    live_peer asleep CORES ASKER ROUNDS               the same, where each thread sleeps until another core's turn names its core, and the
                                                      processor time of all in a second in which nothing is asked
+   live_peer turns CORES ROUNDS                      in one thread: idle turns, and from ask to decision, beside 8 cores
    live_peer memory PACKETS CHANGES                  memory after so many, and after a hundredth of them, on two cores
    live_peer allocations FILTERS                     allocations for each packet and for each change */
 #include <pcap.h>
@@ -152,7 +153,7 @@ static struct bpf_insn *copy_of(const struct bpf_program *program)
 /* Each core in a cache line of its own, since each call writes to its struct. */
 static struct {
     _Alignas(64) mkdemux_core core;
-} lines[MKDEMUX_CORE_MOST_CORES];
+} lines[MKDEMUX_CORE_MOST_CORES_WITH_LIMITS];
 static size_t core_count;
 
 static const struct mkdemux_insn *code_of(const struct bpf_program *program)
@@ -175,12 +176,13 @@ static uint32_t made(size_t asker)
 
 static void boot(size_t count, uint32_t filters)
 {
-    uint32_t budgets[MKDEMUX_CORE_MOST_CORES] = {0};
-    mkdemux_core cores[MKDEMUX_CORE_MOST_CORES] = {{NULL}};
+    static const struct mkdemux_limits limits = {MKDEMUX_CORE_MOST_CAPS, MKDEMUX_CORE_MOST_FILTERS, 0, 0, 0};
+    uint32_t budgets[MKDEMUX_CORE_MOST_CORES_WITH_LIMITS] = {0};
+    mkdemux_core cores[MKDEMUX_CORE_MOST_CORES_WITH_LIMITS] = {{NULL}};
     for (size_t i = 0; i < count; i++)
         budgets[i] = BUDGET;
     core_count = count;
-    if (mkdemux_boot(budgets, count, cores))
+    if (mkdemux_boot_limits(&limits, budgets, count, cores))
         die("no machine");
     for (size_t i = 0; i < count; i++)
         lines[i].core = cores[i];
@@ -211,7 +213,7 @@ static struct thread {
     uint64_t received, changed;
     volatile size_t kept; /* so that no way is left out */
     atomic_ullong generation; /* the last change that it has seen */
-} threads[MKDEMUX_CORE_MOST_CORES];
+} threads[MKDEMUX_CORE_MOST_CORES_WITH_LIMITS];
 static enum way way;
 static double rate;
 static size_t thread_count;
@@ -586,7 +588,7 @@ static void go_on(uint64_t packet_count, uint64_t change_count)
 
 /* ---- Threads that sleep ---- */
 
-static int bells[MKDEMUX_CORE_MOST_CORES]; /* an eventfd for each core */
+static int bells[MKDEMUX_CORE_MOST_CORES_WITH_LIMITS]; /* an eventfd for each core */
 
 /* Turns a core until a turn could do nothing, and rings for the cores that it woke. Whether it has a decision. */
 static bool turn_and_ring(size_t number)
@@ -707,6 +709,50 @@ static void measure_allocations(uint32_t filters)
     shut();
 }
 
+/* ---- One thread that turns all cores ---- */
+
+/* Nanoseconds of an idle turn of this core, over many. */
+static double idle_turn(size_t core)
+{
+    enum { TURNS = 200000 };
+    mkdemux_turned turned;
+    double begin = now();
+    for (int i = 0; i < TURNS; i++)
+        if (mkdemux_turn(&lines[core].core, &turned) != MKDEMUX_CORE_IDLE)
+            die("a turn that isn't idle");
+    return (now() - begin) / TURNS * 1e9;
+}
+
+/* Idle turns of core 0 and of the last core, and from ask to decision at the last, with 8 cores and with so many in neighbouring runs. */
+static void measure_turns(size_t count, int rounds)
+{
+    double least[2][3] = {{1e18, 1e18, 1e18}, {1e18, 1e18, 1e18}}, ratios[MOST_ROUNDS];
+    for (int round = 0; round < rounds; round++) {
+        double took[2][3];
+        for (int which = 0; which < 2; which++) {
+            boot(which ? count : 8, 0);
+            took[which][0] = idle_turn(0);
+            took[which][1] = idle_turn(core_count - 1);
+            double begin = now();
+            for (uint32_t i = 0; i < 200; i++) {
+                mkdemux_ask_create(&lines[core_count - 1].core, 1, (uint16_t)i);
+                made(core_count - 1);
+            }
+            took[which][2] = (now() - begin) / 200 * 1e9;
+            for (int what = 0; what < 3; what++)
+                if (took[which][what] < least[which][what])
+                    least[which][what] = took[which][what];
+            shut();
+        }
+        ratios[round] = took[1][0] / took[0][0];
+    }
+    qsort(ratios, (size_t)rounds, sizeof *ratios, less);
+    printf("idle turn of core 0: %.0f ns with 8 cores, %.0f with %zu: ratio %.2f (%.2f to %.2f); of the last core: %.0f, %.0f; "
+           "a change asked there, in one thread: %.1f us, %.1f us\n",
+        least[0][0], least[1][0], count, ratios[rounds / 2], ratios[0], ratios[rounds - 1], least[0][1], least[1][1], least[0][2] / 1e3,
+        least[1][2] / 1e3);
+}
+
 int main(int argc, char **argv)
 {
     const char *part = argc > 1 ? argv[1] : "";
@@ -719,6 +765,8 @@ int main(int argc, char **argv)
         measure_decisions((size_t)atoi(argv[2]), (size_t)atoi(argv[3]), (size_t)atoi(argv[4]), rounds);
     else if (argc == 5 && !strcmp(part, "asleep") && rounds >= 1 && rounds <= 10000)
         measure_asleep((size_t)atoi(argv[2]), (size_t)atoi(argv[3]), rounds);
+    else if (argc == 4 && !strcmp(part, "turns") && atoi(argv[3]) >= 1 && atoi(argv[3]) <= MOST_ROUNDS)
+        measure_turns((size_t)atoi(argv[2]), atoi(argv[3]));
     else if (argc == 4 && !strcmp(part, "memory"))
         measure_memory(strtoull(argv[2], NULL, 10), strtoull(argv[3], NULL, 10));
     else if (argc == 3 && !strcmp(part, "allocations"))

@@ -299,6 +299,9 @@ try_cores() {
     [ -z "$watch" ] || try "core_calls under valgrind" $watch "$made/core_calls"
     try "fair.c without a warning" build fair mkdemux_cores
     try "busy cores starve nobody" "$made/fair"
+    try "scale.c without a warning" build scale mkdemux_cores -Wl,--wrap=malloc,--wrap=realloc,--wrap=free
+    try "65,536 filters, and 64 cores" "$made/scale"
+    [ -z "$watch" ] || try "1,000 filters, and 64 cores under valgrind" $watch "$made/scale" 1000
     try "the second program of docs/c-library.md" shows_cores
     if [ -n "$pcap" ]; then
         try_live

@@ -416,6 +416,29 @@ static void boots(void)
     mkdemux_close(&cores[3]);
 }
 
+/* Numbers that are no limits, and 65 cores. Nothing is opened. */
+static void bad_limits(void)
+{
+    static const struct mkdemux_limits bad[] = {{0, 1, 0, 0, 0}, {1, 0, 0, 0, 0}, {65537, 1, 0, 0, 0}, {1, 65537, 0, 0, 0}, {4, 4, 5, 0, 0},
+        {4, 4, 0, 5, 0}, {0xffffffff, 0xffffffff, 1, 1, 1}};
+    static const struct mkdemux_limits least = {1, 1, 1, 1, 1}, most = {65536, 65536, 65536, 65536, 0xffffffff};
+    static uint32_t budgets[65];
+    static mkdemux_core cores[65];
+    size_t i;
+    for (i = 0; i < sizeof bad / sizeof *bad; i++)
+        CHECK(mkdemux_boot_limits(&bad[i], budgets, 1, cores) == MKDEMUX_CORE_BAD_LIMITS && !cores[0].at);
+    CHECK(mkdemux_boot_limits(&bad[0], budgets, 65, cores) == MKDEMUX_CORE_NOT_CORES);
+    CHECK(mkdemux_boot_limits(&most, budgets, 0, cores) == MKDEMUX_CORE_NOT_CORES);
+    CHECK(mkdemux_boot_limits_cores(1, 1, 2, 0, 0, budgets, 1, cores, 2) == MKDEMUX_CORE_BAD_LIMITS);
+    CHECK(mkdemux_boot_limits_cores(1, 1, 0, 0, 0, budgets, 1, cores, 2) == MKDEMUX_CORE_NO_ROOM && !cores[0].at);
+    CHECK(mkdemux_boot_limits(&most, budgets, 64, cores) == MKDEMUX_CORE_OK && cores[63].at && !cores[64].at);
+    CHECK(mkdemux_boot_limits(&least, budgets, 64, cores) == MKDEMUX_CORE_OPEN);
+    for (i = 0; i < 64; i++)
+        mkdemux_close(&cores[i]);
+    CHECK(mkdemux_boot_limits(&least, budgets, 1, cores) == MKDEMUX_CORE_OK);
+    mkdemux_close(&cores[0]);
+}
+
 static void idles(void)
 {
     struct machine machine;
@@ -540,6 +563,38 @@ static void fills(void)
     for (i = 0; i < ROOM; i++)
         bad += room[i].endpoint != i + 1 || room[i].kept != 10;
     CHECK(bad == 0 && room[ROOM].endpoint == 9);
+    close_all(&machine);
+}
+
+/* Of three capabilities one domain may make two, and of three filters it may have two, with three instructions together. */
+static void has_shares(void)
+{
+    static const struct mkdemux_limits limits = {3, 3, 2, 2, 3};
+    static const uint32_t budgets[2] = {100, 100};
+    struct machine machine = {{{NULL}}, 2};
+    size_t at;
+    CHECK(mkdemux_boot_limits(&limits, budgets, 2, machine.cores) == MKDEMUX_CORE_OK);
+    for (at = 0; at < 2; at++) {
+        mkdemux_core *core = &machine.cores[at];
+        uint16_t domain = (uint16_t)(at + 1);
+        uint32_t cap = (uint32_t)(2 * at + 1);
+        if (at == 0) {
+            CHECK(is_committed(answer_at(&machine, at, mkdemux_ask_create(core, domain, 1)), 1, 1));
+            CHECK(is_committed(answer_at(&machine, at, mkdemux_ask_mint(core, domain, cap, 9, MKDEMUX_RIGHT_BOTH)), 2, 2));
+            RULE(answer_at(&machine, at, mkdemux_ask_create(core, domain, 7)), DOMAIN_FULL);
+            RULE(answer_at(&machine, at, mkdemux_ask_mint(core, domain, cap, 2, MKDEMUX_RIGHT_BOTH)), DOMAIN_FULL);
+            CHECK(is_committed(answer_at(&machine, at, mkdemux_ask_install(core, domain, cap, ten, 1)), 3, 1));
+            RULE(answer_at(&machine, at, mkdemux_ask_install(core, domain, cap, txa(3), 3)), DOMAIN_FULL);
+            CHECK(is_committed(answer_at(&machine, at, mkdemux_ask_install(core, domain, cap, txa(2), 2)), 4, 2));
+            RULE(answer_at(&machine, at, mkdemux_ask_replace(core, domain, 1, txa(2), 2)), DOMAIN_FULL);
+            RULE(answer_at(&machine, at, mkdemux_ask_install(core, domain, cap, ten, 1)), DOMAIN_FULL);
+        } else {
+            CHECK(is_committed(answer_at(&machine, at, mkdemux_ask_create(core, domain, 2)), 5, 3));
+            RULE(answer_at(&machine, at, mkdemux_ask_create(core, domain, 3)), CAPS_FULL);
+            CHECK(is_committed(answer_at(&machine, at, mkdemux_ask_install(core, domain, cap, txa(3), 3)), 6, 3));
+            RULE(answer_at(&machine, at, mkdemux_ask_install(core, domain, cap, ten, 1)), TABLE_FULL);
+        }
+    }
     close_all(&machine);
 }
 
@@ -866,11 +921,11 @@ static void says(void)
     CHECK(!strcmp(mkdemux_core_word(MKDEMUX_CORE_OK), "Ok") && !strcmp(mkdemux_core_word(MKDEMUX_CORE_IDLE), "Idle"));
     CHECK(!strcmp(mkdemux_core_word(MKDEMUX_CORE_NOT_CORES), "NoCores"));
     CHECK(!strcmp(mkdemux_core_word(MKDEMUX_CORE_BAD_RIGHTS), "BadRights") && !strcmp(mkdemux_core_word(11), "NoFilter"));
-    CHECK(!strcmp(mkdemux_core_word(MKDEMUX_CORE_NOT_MACHINE), "NotMachine") && !strcmp(mkdemux_core_word(13), "?"));
+    CHECK(!strcmp(mkdemux_core_word(MKDEMUX_CORE_BAD_LIMITS), "BadLimits") && !strcmp(mkdemux_core_word(14), "?"));
     CHECK(!strcmp(mkdemux_core_rule_word(MKDEMUX_RULE_NO_CAP), "NoCap"));
     CHECK(!strcmp(mkdemux_core_rule_word(MKDEMUX_RULE_MEMORY), "NoMemory"));
     CHECK(!strcmp(mkdemux_core_rule_word(MKDEMUX_RULE_BAD_PROGRAM + 9), "BadProgram"));
-    CHECK(!strcmp(mkdemux_core_rule_word(0), "?") && !strcmp(mkdemux_core_rule_word(15), "?"));
+    CHECK(!strcmp(mkdemux_core_rule_word(0), "?") && !strcmp(mkdemux_core_rule_word(15), "DomainFull") && !strcmp(mkdemux_core_rule_word(16), "?"));
     CHECK(sizeof(mkdemux_turned) == 56 && sizeof(struct mkdemux_kept) == 8 && sizeof(struct mkdemux_insn) == 8);
 }
 
@@ -1088,6 +1143,7 @@ int main(void)
     size_t count, at;
     closed();
     boots();
+    bad_limits();
     idles();
     for (count = 1; count <= MOST; count++)
         for (at = 0; at < count; at++)
@@ -1098,6 +1154,7 @@ int main(void)
     refuses(0);
     refuses(1);
     fills();
+    has_shares();
     vetoes();
     asks_too_much();
     refuses_in_order();

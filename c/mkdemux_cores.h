@@ -88,8 +88,13 @@ typedef struct mkdemux_core {
     void *at; /* for the library alone */
 } mkdemux_core;
 
+/* The first three after MOST_INSNS are the limits of a machine that mkdemux_boot opens; one that is given its
+ * limits, by mkdemux_boot_limits, has at most 64 cores, and gives one packet to as many endpoints as it has
+ * capabilities at most. */
 enum {
     MKDEMUX_CORE_MOST_CORES = 8,
+    MKDEMUX_CORE_MOST_CORES_WITH_LIMITS = 64,
+    MKDEMUX_CORE_MOST_LISTED = 65536,   /* the most that limits may allow, of capabilities and of filters */
     MKDEMUX_CORE_MOST_INSNS = 4096,     /* of one program */
     MKDEMUX_CORE_MOST_CAPS = 1024,      /* that are held at a time */
     MKDEMUX_CORE_MOST_FILTERS = 1024,   /* that are listed at a time */
@@ -101,7 +106,7 @@ enum {
 enum mkdemux_core_answer {
     MKDEMUX_CORE_OK = 0,
     MKDEMUX_CORE_CLOSED = 1,     /* the core is closed */
-    MKDEMUX_CORE_NOT_CORES = 2,  /* of mkdemux_boot: not 1 to 8 cores */
+    MKDEMUX_CORE_NOT_CORES = 2,  /* of mkdemux_boot: not 1 to 8 cores; of mkdemux_boot_limits: not 1 to 64 */
     MKDEMUX_CORE_NO_MEMORY = 3,  /* malloc or realloc refused */
     MKDEMUX_CORE_NO_ROOM = 4,    /* of receipts and mkdemux_filter_code: the room is too small */
     MKDEMUX_CORE_TOO_LONG = 5,   /* of requests: a program of more than 4,096 instructions, which no message
@@ -111,10 +116,11 @@ enum mkdemux_core_answer {
                                     proved): something else has written to its memory. It stays stopped */
     MKDEMUX_CORE_SPENT = 7,      /* a number that only grows is at its end, 2^64 - 1 */
     MKDEMUX_CORE_IDLE = 8,       /* of mkdemux_turn: no message was complete, and no request could begin */
-    MKDEMUX_CORE_OPEN = 9,       /* of mkdemux_boot: one of the cores is open already */
+    MKDEMUX_CORE_OPEN = 9,       /* of mkdemux_boot and mkdemux_boot_limits: one of the cores is open already */
     MKDEMUX_CORE_BAD_RIGHTS = 10, /* of mkdemux_ask_mint: rights that aren't 1, 2 or 3 */
     MKDEMUX_CORE_NO_FILTER = 11,  /* of mkdemux_filter_code: no filter of this id is listed */
-    MKDEMUX_CORE_NOT_MACHINE = 12 /* of mkdemux_settle: not the cores of one machine, each in its place */
+    MKDEMUX_CORE_NOT_MACHINE = 12, /* of mkdemux_settle: not the cores of one machine, each in its place */
+    MKDEMUX_CORE_BAD_LIMITS = 13   /* of mkdemux_boot_limits: a total of 0 or above 65,536, or a share above it */
 };
 
 /* ---- A machine ---- */
@@ -132,6 +138,30 @@ uint32_t mkdemux_boot_cores(const uint32_t *budgets, size_t count, mkdemux_core 
 MKDEMUX_CALL uint32_t mkdemux_boot(const uint32_t *budgets, size_t count, mkdemux_core *cores)
 {
     return mkdemux_boot_cores(budgets, count, cores, count);
+}
+
+/* How much a machine may have: of all domains together, and of each one. A domain's share of 0 is the whole. A
+ * capability counts for the domain that made it: who created it, or minted it. */
+struct mkdemux_limits {
+    uint32_t caps;           /* that are held at a time, 1 to 65,536 */
+    uint32_t filters;        /* that are listed at a time, 1 to 65,536 */
+    uint32_t domain_caps;    /* of them, those that one domain made */
+    uint32_t domain_filters; /* of them, those of one domain */
+    uint32_t domain_insns;   /* of the filters of one domain together */
+};
+
+/* mkdemux_boot_limits calls this, with the length of each array. It checks NOT_CORES first, then
+ * BAD_LIMITS, then NO_ROOM, if the lengths differ, then OPEN. */
+uint32_t mkdemux_boot_limits_cores(uint32_t caps, uint32_t filters, uint32_t domain_caps, uint32_t domain_filters, uint32_t domain_insns,
+                                   const uint32_t *budgets, size_t count, mkdemux_core *cores, size_t room);
+
+/* As mkdemux_boot, for a machine with these limits and 1 to 64 cores. What is beyond a limit is refused by a
+ * rule, the same at every core: CAPS_FULL, TABLE_FULL or DOMAIN_FULL.
+ * BAD_LIMITS: a total is 0 or above 65,536, or a domain's share is above the whole. None was touched. */
+MKDEMUX_CALL uint32_t mkdemux_boot_limits(const struct mkdemux_limits *limits, const uint32_t *budgets, size_t count, mkdemux_core *cores)
+{
+    return mkdemux_boot_limits_cores(limits->caps, limits->filters, limits->domain_caps, limits->domain_filters, limits->domain_insns,
+                                     budgets, count, cores, count);
 }
 
 /* Closes a core, and frees all its memory. In C and C++ it has the shorter name mkdemux_close, too. Does nothing for a closed core. The other cores of its machine
@@ -164,15 +194,16 @@ enum mkdemux_core_rule {
     MKDEMUX_RULE_NO_RIGHT = 3,          /* it doesn't have the right */
     MKDEMUX_RULE_RIGHTS_EXCEED = 4,     /* rights are asked for that it doesn't have */
     MKDEMUX_RULE_ENDPOINT_TAKEN = 5,    /* a capability of the endpoint is held */
-    MKDEMUX_RULE_CAPS_FULL = 6,         /* 1,024 capabilities are held */
+    MKDEMUX_RULE_CAPS_FULL = 6,         /* as many capabilities are held as the limits allow: 1,024, if none are given */
     MKDEMUX_RULE_IDS_SPENT = 7,         /* no id of a capability is left */
     MKDEMUX_RULE_NO_FILTER = 8,         /* no filter of this id is listed */
     MKDEMUX_RULE_NOT_OWNER = 9,         /* another domain installed it */
-    MKDEMUX_RULE_TABLE_FULL = 10,       /* 1,024 filters are listed */
+    MKDEMUX_RULE_TABLE_FULL = 10,       /* as many filters are listed as the limits allow: 1,024, if none are given */
     MKDEMUX_RULE_FILTER_IDS_SPENT = 11, /* no id of a filter is left */
     MKDEMUX_RULE_VERSIONS_SPENT = 12,   /* no version is left */
     MKDEMUX_RULE_BUDGET = 13,           /* VETOED: the filters would have more instructions than the budget */
     MKDEMUX_RULE_MEMORY = 14,           /* VETOED: the core has no memory for the change */
+    MKDEMUX_RULE_DOMAIN_FULL = 15,      /* the domain has its share of the capabilities, the filters or the instructions */
     MKDEMUX_RULE_BAD_PROGRAM = 256      /* plus the verifier's number, 1 to 10, as in mkdemux.h */
 };
 
@@ -254,11 +285,11 @@ enum mkdemux_rights {
 };
 
 /* Makes a capability of an endpoint with both rights, held by the domain.
- * Refused: ENDPOINT_TAKEN, CAPS_FULL, IDS_SPENT. */
+ * Refused: ENDPOINT_TAKEN, CAPS_FULL, DOMAIN_FULL, IDS_SPENT. */
 uint32_t mkdemux_ask_create(mkdemux_core *core, uint16_t domain, uint16_t endpoint);
 
 /* Makes a capability of the endpoint of `cap`, with some of its rights, held by `to`.
- * Refused: NO_CAP, NOT_HOLDER, NO_RIGHT (to mint), RIGHTS_EXCEED, CAPS_FULL, IDS_SPENT. */
+ * Refused: NO_CAP, NOT_HOLDER, NO_RIGHT (to mint), RIGHTS_EXCEED, CAPS_FULL, DOMAIN_FULL, IDS_SPENT. */
 uint32_t mkdemux_ask_mint(mkdemux_core *core, uint16_t domain, uint32_t cap, uint16_t to, uint8_t rights);
 
 /* Removes all that was minted from `cap`, through any number of mints. Filters whose capability is gone get
@@ -269,7 +300,8 @@ uint32_t mkdemux_ask_revoke(mkdemux_core *core, uint16_t domain, uint32_t cap);
 uint32_t mkdemux_ask_drop(mkdemux_core *core, uint16_t domain, uint32_t cap);
 
 /* Makes a filter at the endpoint of `cap`, owned by the domain. The program is as pcap_compile gives it.
- * Refused: NO_CAP, NOT_HOLDER, NO_RIGHT (to receive), TABLE_FULL, FILTER_IDS_SPENT, BAD_PROGRAM. */
+ * Refused: NO_CAP, NOT_HOLDER, NO_RIGHT (to receive), TABLE_FULL, DOMAIN_FULL, FILTER_IDS_SPENT,
+ * BAD_PROGRAM. */
 uint32_t mkdemux_ask_install(mkdemux_core *core, uint16_t domain, uint32_t cap,
     const struct mkdemux_insn *code, size_t count);
 
@@ -277,7 +309,7 @@ uint32_t mkdemux_ask_install(mkdemux_core *core, uint16_t domain, uint32_t cap,
 uint32_t mkdemux_ask_remove(mkdemux_core *core, uint16_t domain, uint32_t filter);
 
 /* Gives a filter another program. It keeps its id, its owner and its capability.
- * Refused: NO_FILTER, NOT_OWNER, NO_CAP, NOT_HOLDER, NO_RIGHT (to receive), BAD_PROGRAM. */
+ * Refused: NO_FILTER, NOT_OWNER, NO_CAP, NOT_HOLDER, NO_RIGHT (to receive), DOMAIN_FULL, BAD_PROGRAM. */
 uint32_t mkdemux_ask_replace(mkdemux_core *core, uint16_t domain, uint32_t filter,
     const struct mkdemux_insn *code, size_t count);
 
@@ -374,7 +406,7 @@ uint32_t mkdemux_filter_code(mkdemux_core *core, uint32_t filter, struct mkdemux
 MKDEMUX_CALL const char *mkdemux_core_word(uint32_t answer)
 {
     static const char *const words[] = {"Ok", "Closed", "NoCores", "NoMemory", "NoRoom", "TooLong", "Stopped",
-        "Spent", "Idle", "Open", "BadRights", "NoFilter", "NotMachine"};
+        "Spent", "Idle", "Open", "BadRights", "NoFilter", "NotMachine", "BadLimits"};
     return answer < sizeof words / sizeof *words ? words[answer] : "?";
 }
 
@@ -383,7 +415,7 @@ MKDEMUX_CALL const char *mkdemux_core_rule_word(uint32_t rule)
 {
     static const char *const words[] = {"?", "NoCap", "NotHolder", "NoRight", "RightsExceed", "EndpointTaken",
         "CapsFull", "IdsSpent", "NoFilter", "NotOwner", "TableFull", "FilterIdsSpent", "VersionsSpent", "Budget",
-        "NoMemory"};
+        "NoMemory", "DomainFull"};
     if (rule > MKDEMUX_RULE_BAD_PROGRAM && rule <= MKDEMUX_RULE_BAD_PROGRAM + 10)
         return "BadProgram";
     return rule < sizeof words / sizeof *words ? words[rule] : "?";

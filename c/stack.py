@@ -13,20 +13,27 @@ import subprocess
 import sys
 
 # Bytes that a call may take; all that aren't named take at most 2,048.
-MOST = {"mkdemux_boot_cores": 15040, "mkdemux_turn": 9216, "mkdemux_settle": 11392, "mkdemux_close_core": 3008, "mkdemux_assemble": 6656}
+MOST = {
+    "mkdemux_boot_cores": 15744,
+    "mkdemux_boot_limits_cores": 15744,
+    "mkdemux_turn": 9216,
+    "mkdemux_settle": 25728,
+    "mkdemux_close_core": 3072,
+    "mkdemux_assemble": 6656,
+}
 OTHERS = 2048
-# Functions that call themselves, and how many of their calls are open at a time at most. A list that is sorted here has at most 1,024 items.
-# A shape of operands has at most nine parts, and a machine eight cores.
+# Functions that call themselves, and how many of their calls are open at a time at most. A list that is sorted here has at most 65,536
+# items. A shape of operands has at most nine parts, and a machine 64 cores.
 TIMES = {
-    "core::slice::sort::unstable::quicksort": 20,
+    "core::slice::sort::unstable::quicksort": 32,
     "core::slice::sort::pivot::median_of_medians": 4,
     "filter_asm::operands::operands_at": 10,
-    "core_settle::settling::turn_each": 9,
-    "core_settle::looking::look_at_all": 8,
-    "core_settle::settling::at_rest": 9,
-    "mkdemux_cores::settling::fault_of": 9,
-    "mkdemux_cores::settling::take_all": 9,
-    "mkdemux_cores::booting::put_all": 9,
+    "core_settle::settling::turn_each": 65,
+    "core_settle::looking::look_at_all": 64,
+    "core_settle::settling::at_rest": 65,
+    "mkdemux_cores::settling::fault_of": 65,
+    "mkdemux_cores::settling::take_all": 65,
+    "mkdemux_cores::booting::put_all": 65,
 }
 OUTSIDE = {"malloc", "realloc", "free", "memcpy", "memmove", "memset", "memcmp"}
 

@@ -17,7 +17,7 @@ import textwrap
 
 TOP = pathlib.Path(__file__).resolve().parent.parent
 SHARE = TOP / "dist" / "share"
-DATE = "2026-11-27"
+DATE = "2026-11-28"
 PAGE = "man/man1/mkdemux.1"
 BASH = "bash-completion/completions/mkdemux"
 ZSH = "zsh/site-functions/_mkdemux"

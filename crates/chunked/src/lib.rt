@@ -11,8 +11,6 @@ mod room;
 mod settling;
 mod sorted;
 mod starts;
-#[cfg(test)]
-mod tests;
 
 pub use items::Items;
 pub use list::Chunked;

@@ -273,7 +273,10 @@ A script says how many cores there are, which filters and packets, what domains 
 taken and packets received. FILEs are captures: `capture NAME N` in the script is the N-th, from 1. They are opened in order,
 before the script is read. A line of a script that is empty, or whose first word begins with `#`, is skipped.
 
-    cores B0 B1 ..        1 to 8 cores, each with its budget; the first line
+    limits CAPS FILTERS   the most capabilities and filters, each 1 to 65,536
+                          (without it 1,024 each); before `cores`
+    cores B0 B1 ..        1 to 8 cores, after `limits` 1 to 64, each with its
+                          budget; the first line but for `limits`
     asm NAME .. end,
     ddd NAME TEXT         a filter
     packet NAME HEX [N]   a packet, of N bytes before it was cut; HEX is `-`
@@ -304,7 +307,8 @@ The script is read whole before its first event. Its first fault is printed as `
     BadLine    an unknown word, a wrong number of words, a bad name or bad rights, `asm` without `end`
     NoCores    there is a line before `cores`
     BadNumber  a number is out of its range, or none
-    Twice      there is a second `cores`, or a name is taken
+    Twice      there is a second `cores` or `limits`, or a name is taken
+    AfterCores `limits` stands after `cores`
     NoName     there is no such filter, packet, capture or FILE
     BadBody    digits, a filter or a capture can't be read; the words of check, match or dump follow
 
@@ -334,9 +338,9 @@ Exit status: 0 done; 1 a refused script or FILE, whose line is on standard outpu
 memory, a FILE that can't be opened or a device that failed, with one line on standard error.
 
 docs/messages.md has the meaning and the cure of each word that is printed:
-  after `line N:`  BadBody BadLine BadNumber NoCores NoName Twice
-  after `refused`  BadProgram Budget CapsFull EndpointTaken FilterIdsSpent IdsSpent NoCap NoFilter NoMemory NoRight
-                   NotHolder NotOwner RightsExceed TableFull VersionsSpent
+  after `line N:`  AfterCores BadBody BadLine BadNumber NoCores NoName Twice
+  after `refused`  BadProgram Budget CapsFull DomainFull EndpointTaken FilterIdsSpent IdsSpent NoCap NoFilter NoMemory
+                   NoRight NotHolder NotOwner RightsExceed TableFull VersionsSpent
   after `fault`    InputTooLong NoneWaiting NoSuchCore NotIdle NotReady Nothing Outstanding Spent";
 
 pub(crate) const RUN_ABOUT: &str = "Run a script on cores that are threads";
@@ -347,7 +351,9 @@ they did: a line for each event.
 
 The script is one for `sim` without an order of events: `mkdemux sim --help` has its lines. These may stand in it:
 
-    cores B0 B1 ..                  1 to 8 cores, each with a budget of instructions; the first line
+    limits CAPS FILTERS             the most capabilities and filters; before `cores`
+    cores B0 B1 ..                  1 to 8 cores, after `limits` 1 to 64, each with a budget of instructions; the first line
+                                    but for `limits`
     asm NAME .. end, ddd NAME TEXT, packet NAME HEX [ORIGINAL], capture NAME N
                                     filters and packets
     home D C                        requests of domain D enter at core C, not at core 0
@@ -398,9 +404,9 @@ Exit status: 0 done; 1 a refused script or FILE, whose line is on standard outpu
 memory, a FILE that can't be opened, a device that failed, or a core that halted, with one line on standard error.
 
 docs/messages.md has the meaning and the cure of each word that is printed:
-  after `line N:`  BadBody BadLine BadNumber NoCores NoName Twice
-  after `refused`  BadProgram Budget CapsFull EndpointTaken FilterIdsSpent IdsSpent NoCap NoFilter NoMemory NoRight
-                   NotHolder NotOwner RightsExceed TableFull VersionsSpent
+  after `line N:`  AfterCores BadBody BadLine BadNumber NoCores NoName Twice
+  after `refused`  BadProgram Budget CapsFull DomainFull EndpointTaken FilterIdsSpent IdsSpent NoCap NoFilter NoMemory
+                   NoRight NotHolder NotOwner RightsExceed TableFull VersionsSpent
   after `fault`    InputTooLong";
 
 pub(crate) const DRAW_ABOUT: &str = "Draw what sim or run printed";

@@ -10,6 +10,7 @@ use Rattle.core_links.specs.declared.ring_links.RingLinks.{RingLinks}
 use Rattle.core_join.specs.Machines.{RingCore}
 use Rattle.core_boot.specs.Booting.{ComesUp, AddsCore, HaveComeUp}
 use Rattle.std.proofs.lemmas.Option.{slice_get_within}
+use Rattle.filter_table.specs.Limits.{TableLimits}
 
 same_some : {A : Type 0} (x y : A) → Some x ≡ Some y → x ≡ y
 same_some x y e = cc
@@ -19,14 +20,14 @@ get_middle [] x ys = refl
 get_middle (a ∷ xs) x ys = get_middle xs x ys
 
 -- the cores over the links seen have come up, and the lanes of the others are as they were
-pub record ComingUp (count : ℕ) (budgets : List ℕ) (start lanes : List (VecDeque Op Global)) (links seen rest : List RingLinks) (cores : List RingCore) (ports : List Port) : Type 0 where
+pub record ComingUp (count : ℕ) (limits : TableLimits) (budgets : List ℕ) (start lanes : List (VecDeque Op Global)) (links seen rest : List RingLinks) (cores : List RingCore) (ports : List Port) : Type 0 where
   pub split : links ≡ seen ++ rest
   pub long : length lanes ≡ length start
   pub ahead : (i : ℕ) → length seen ≤ i → slice_get lanes i ≡ slice_get start i
-  pub up : HaveComeUp count budgets start seen cores ports
+  pub up : HaveComeUp count limits budgets start seen cores ports
 
-module _ (count : ℕ) (budgets : List ℕ) (start lanes : List (VecDeque Op Global)) (links seen rest items : List RingLinks) (link : RingLinks) (cores cores' : List RingCore) (ports ports' : List Port)
-    (was : ComingUp count budgets start lanes links seen items cores ports) (next : items ≡ link ∷ rest) where
+module _ (count : ℕ) (limits : TableLimits) (budgets : List ℕ) (start lanes : List (VecDeque Op Global)) (links seen rest items : List RingLinks) (link : RingLinks) (cores cores' : List RingCore) (ports ports' : List Port)
+    (was : ComingUp count limits budgets start lanes links seen items cores ports) (next : items ≡ link ∷ rest) where
   pub next_link : slice_get links (length cores) ≡ Some link
   next_link =
       let is : links ≡ seen ++ (link ∷ rest) = was.split ∙ ap (λ (l : List RingLinks). seen ++ l) next in
@@ -39,9 +40,9 @@ module _ (count : ℕ) (budgets : List ℕ) (start lanes : List (VecDeque Op Glo
   next_lane lane at = sym (was.ahead (length cores) (omega (arith, was.up.all))) ∙ at
 
   module _ (budget : ℕ) (lane : VecDeque Op Global) (emptied : VecDeque Op Global) (at_lane : slice_get lanes (length cores) ≡ Some lane) (at_budget : slice_get budgets (length cores) ≡ Some budget)
-      (adds : AddsCore count budget link lane.items cores cores' ports ports') where
+      (adds : AddsCore count limits budget link lane.items cores cores' ports ports') where
     each_more : (i b : ℕ) (r : VecDeque Op Global) (l : RingLinks) (c : RingCore) (p : Port) → slice_get budgets i ≡ Some b → slice_get start i ≡ Some r → slice_get (seen ++ link ∷ []) i ≡ Some l
-        → slice_get (cores ++ adds.core ∷ []) i ≡ Some c → slice_get (ports ++ adds.port ∷ []) i ≡ Some p → ComesUp i count b l r.items c p
+        → slice_get (cores ++ adds.core ∷ []) i ≡ Some c → slice_get (ports ++ adds.port ∷ []) i ≡ Some p → ComesUp i count limits b l r.items c p
     each_more i b r l c p at_b at_r at_l at_c at_p = elim (get_more cores adds.core c i at_c) [
       | inl last ↦ last_up i b r l c p at_b at_r at_l at_p last.0 last.1
       | inr old ↦ was.up.each i b r l c p at_b at_r (old_link i l old.0 at_l) old.1 (old_port i p old.0 at_p)
@@ -54,20 +55,20 @@ module _ (count : ℕ) (budgets : List ℕ) (start lanes : List (VecDeque Op Glo
         old_port i p below at = elim (get_more ports adds.port p i at) [ inl e ↦ absurd (omega (arith, e.0, was.up.all, was.up.all_ports)) | inr o ↦ o.1 ]
 
         last_up : (i b : ℕ) (r : VecDeque Op Global) (l : RingLinks) (c : RingCore) (p : Port) → slice_get budgets i ≡ Some b → slice_get start i ≡ Some r → slice_get (seen ++ link ∷ []) i ≡ Some l
-            → slice_get (ports ++ adds.port ∷ []) i ≡ Some p → i ≡ length cores → c ≡ adds.core → ComesUp i count b l r.items c p
+            → slice_get (ports ++ adds.port ∷ []) i ≡ Some p → i ≡ length cores → c ≡ adds.core → ComesUp i count limits b l r.items c p
         last_up i b r l c p at_b at_r at_l at_p place is_c =
             let is_b : budget ≡ b = same_some budget b (sym at_budget ∙ subst (λ (n : ℕ). slice_get budgets n ≡ Some b) place at_b) in
             let is_r : lane ≡ r = same_some lane r (sym (next_lane lane at_lane) ∙ subst (λ (n : ℕ). slice_get start n ≡ Some r) place at_r) in
             let is_l : link ≡ l = elim (get_more seen link l i at_l) [ inl e ↦ sym e.1 | inr o ↦ absurd (omega (arith, o.0, place, was.up.all)) ] in
             let is_p : adds.port ≡ p = elim (get_more ports adds.port p i at_p) [ inl e ↦ sym e.1 | inr o ↦ absurd (omega (arith, o.0, place, was.up.all, was.up.all_ports)) ] in
-            subst (λ (n : ℕ). ComesUp n count b l r.items c p) (sym place)
-            (subst (λ (x : RingCore). ComesUp (length cores) count b l r.items x p) (sym is_c)
-            (subst (λ (x : Port). ComesUp (length cores) count b l r.items adds.core x) is_p
-            (subst (λ (x : RingLinks). ComesUp (length cores) count b x r.items adds.core adds.port) is_l
-            (subst (λ (x : VecDeque Op Global). ComesUp (length cores) count b link x.items adds.core adds.port) is_r
-            (subst (λ (x : ℕ). ComesUp (length cores) count x link lane.items adds.core adds.port) is_b adds.comes_up)))))
+            subst (λ (n : ℕ). ComesUp n count limits b l r.items c p) (sym place)
+            (subst (λ (x : RingCore). ComesUp (length cores) count limits b l r.items x p) (sym is_c)
+            (subst (λ (x : Port). ComesUp (length cores) count limits b l r.items adds.core x) is_p
+            (subst (λ (x : RingLinks). ComesUp (length cores) count limits b x r.items adds.core adds.port) is_l
+            (subst (λ (x : VecDeque Op Global). ComesUp (length cores) count limits b link x.items adds.core adds.port) is_r
+            (subst (λ (x : ℕ). ComesUp (length cores) count limits x link lane.items adds.core adds.port) is_b adds.comes_up)))))
 
-    pub coming_more : ComingUp count budgets start (slice_set lanes (length cores) emptied) links (seen ++ link ∷ []) rest cores' ports'
+    pub coming_more : ComingUp count limits budgets start (slice_set lanes (length cores) emptied) links (seen ++ link ∷ []) rest cores' ports'
     coming_more = record {
       split = was.split ∙ ap (λ (l : List RingLinks). seen ++ l) next ∙ sym (append_assoc seen (link ∷ []) rest);
       long = length-slice_set lanes (length cores) emptied ∙ was.long;
@@ -81,8 +82,8 @@ module _ (count : ℕ) (budgets : List ℕ) (start lanes : List (VecDeque Op Glo
       };
     }
 
-pub coming_last : (count : ℕ) (budgets : List ℕ) (start lanes : List (VecDeque Op Global)) (links seen rest : List RingLinks) (cores : List RingCore) (ports : List Port)
-    → ComingUp count budgets start lanes links seen rest cores ports → rest ≡ [] → HaveComeUp count budgets start links cores ports
-coming_last count budgets start lanes links seen rest cores ports was none =
+pub coming_last : (count : ℕ) (limits : TableLimits) (budgets : List ℕ) (start lanes : List (VecDeque Op Global)) (links seen rest : List RingLinks) (cores : List RingCore) (ports : List Port)
+    → ComingUp count limits budgets start lanes links seen rest cores ports → rest ≡ [] → HaveComeUp count limits budgets start links cores ports
+coming_last count limits budgets start lanes links seen rest cores ports was none =
     let is : links ≡ seen = was.split ∙ ap (λ (l : List RingLinks). seen ++ l) none ∙ append-nil seen in
-    subst (λ (l : List RingLinks). HaveComeUp count budgets start l cores ports) (sym is) was.up
+    subst (λ (l : List RingLinks). HaveComeUp count limits budgets start l cores ports) (sym is) was.up

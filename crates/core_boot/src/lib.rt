@@ -5,6 +5,6 @@ mod booting;
 mod lanes;
 mod wiring;
 
-pub use booting::{boot_cores, boot_with_ports};
+pub use booting::{boot_cores, boot_machine, boot_with_ports};
 pub use lanes::by_core;
 pub use world_core::BootFault;

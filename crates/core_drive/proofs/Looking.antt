@@ -15,6 +15,7 @@ use Rattle.core_join.specs.Conclusions.{AreRunning, Conclude}
 use Rattle.core_drive.specs.declared.step.CoreStep.{CoreStep}
 use Rattle.core_drive.specs.declared.step.StepOutcome.{StepOutcome}
 use Rattle.core_drive.specs.Driving.{DrivesAt, AreDriven}
+use Rattle.filter_table.specs.Limits.{TableLimits}
 use Rattle.core_join.proofs.Along.{looked_same, same_along}
 
 pub driven_looked : (steps : List CoreStep) (outcomes : List StepOutcome) (a b c : List RingCore) → AreDriven steps outcomes a b → AreLookedAt b c → AreDriven steps outcomes a c
@@ -32,8 +33,8 @@ driven_looked steps outcomes a b c h l = record { answered = h.answered; all = l
         }
 
 -- cores that are running once they were looked at were running before
-pub ran_before : (budget : ℕ) (budgets : List ℕ) (old new : List RingCore) → AreLookedAt old new → Conclude budget budgets new → AreRunning old
-ran_before budget budgets old [] l h i c at = absurd h
-ran_before budget budgets old (first ∷ others) l h i c at =
+pub ran_before : (limits : TableLimits) (budget : ℕ) (budgets : List ℕ) (old new : List RingCore) → AreLookedAt old new → Conclude limits budget budgets new → AreRunning old
+ran_before limits budget budgets old [] l h i c at = absurd h
+ran_before limits budget budgets old (first ∷ others) l h i c at =
     let d = get_at (first ∷ others) i (omega (arith, slice_get_within old i c at, l.all)) in
     sym (ap (λ (x : RingCore). x.stopped) (l.each i c d.0 at d.1).core) ∙ h.running i d.0 d.1

@@ -14,6 +14,7 @@ use Rattle.core_drive.specs.declared.step.Task.{Task}
 use Rattle.core_drive.specs.declared.step.StepOutcome.{StepOutcome}
 use Rattle.core_drive.specs.Steps.{IsOf, did, asked_op, decided, of_core}
 use Rattle.core_drive.specs.Driving.{CoreDrives, DrivesAt, AreDriven}
+use Rattle.filter_table.specs.Limits.{TableLimits}
 use Rattle.core_drive.proofs.Tasks.{drives_none, drives_along}
 
 -- of the steps of one core, those of a longer list
@@ -77,12 +78,12 @@ driven_one s o cores core new there number is h = record { answered = (is, tt); 
 pub driven_same : (steps : List CoreStep) (outcomes : List StepOutcome) (old new : List RingCore) → AreDriven steps outcomes old new → AreSameCores old new
 driven_same steps outcomes old new h = record { all = h.all; each = λ i c d at at'. (h.each i c d at at').same }
 
-number_at : (budget : ℕ) (budgets : List ℕ) (cores : List RingCore) (i : ℕ) (c : RingCore) → IsMachine budget budgets cores → slice_get cores i ≡ Some c → c.number ≡ i
-number_at budget budgets [] i c machine at = absurd machine
-number_at budget budgets (first ∷ others) zero c machine at = let e : first ≡ c = cc in subst (λ (x : RingCore). x.number ≡ 0) e machine.place.number_is
-number_at budget budgets (first ∷ others) (suc i) c machine at =
+number_at : (limits : TableLimits) (budget : ℕ) (budgets : List ℕ) (cores : List RingCore) (i : ℕ) (c : RingCore) → IsMachine limits budget budgets cores → slice_get cores i ≡ Some c → c.number ≡ i
+number_at limits budget budgets [] i c machine at = absurd machine
+number_at limits budget budgets (first ∷ others) zero c machine at = let e : first ≡ c = cc in subst (λ (x : RingCore). x.number ≡ 0) e machine.place.number_is
+number_at limits budget budgets (first ∷ others) (suc i) c machine at =
     let b = get_at budgets i (omega (arith, slice_get_within others i c at, machine.all)) in
     (machine.peers i b.0 c b.1 at).place.number_is
 
-pub placed : (budget : ℕ) (budgets : List ℕ) (old new : List RingCore) → IsMachine budget budgets old → AreSameCores old new → (i : ℕ) (c : RingCore) → slice_get new i ≡ Some c → c.number ≡ i
-placed budget budgets old new machine same i c at = number_at budget budgets new i c (machine_ran budget budgets old new machine same) at
+pub placed : (limits : TableLimits) (budget : ℕ) (budgets : List ℕ) (old new : List RingCore) → IsMachine limits budget budgets old → AreSameCores old new → (i : ℕ) (c : RingCore) → slice_get new i ≡ Some c → c.number ≡ i
+placed limits budget budgets old new machine same i c at = number_at limits budget budgets new i c (machine_ran limits budget budgets old new machine same) at

@@ -77,7 +77,7 @@ turned core rx turn.NoMemory old new same requests one decision none = rests old
 
 pub asked_one : (op : Op) (old new : RingCore) → new ≡ record old { pending = old.pending ++ op ∷ [] } → CoreDrives [] (op ∷ []) [] old new
 asked_one op old new is = subst (λ (c : RingCore). CoreDrives [] (op ∷ []) [] old c) (sym is) (record {
-  same = record { number = refl; cores = refl; budget = refl; links = SameLinks-itself old.links; intake = intake_itself old.intake };
+  same = record { number = refl; cores = refl; limits = refl; budget = refl; links = SameLinks-itself old.links; intake = intake_itself old.intake };
   history = sym (append-nil (unstamped old.history));
   requests_are = sym (append_assoc (begun old.history) old.pending (op ∷ []));
   decisions_are = sym (append-nil (decisions old.history));
@@ -90,7 +90,7 @@ pub received : (packet : CapturedPacket) (kept : List Kept) (version : ℕ) (old
 received packet kept version old new h at =
     let s : Stamped = receipt old.number (old.clock + 1) (version_now old) packet.bytes packet.original kept in
     rw at (subst (λ (c : RingCore). CoreDrives (s.done ∷ []) [] [] old c) (sym h.new_is) (record {
-      same = record { number = refl; cores = refl; budget = refl; links = SameLinks-itself old.links; intake = intake_itself old.intake };
+      same = record { number = refl; cores = refl; limits = refl; budget = refl; links = SameLinks-itself old.links; intake = intake_itself old.intake };
       history = map-append (λ (x : Stamped). x.done) old.history (s ∷ []);
       requests_are = begun_more old.history (old.history ++ s ∷ []) s old.pending old.pending refl refl ∙ sym (append-nil (begun old.history ++ old.pending));
       decisions_are = more_from false old.history s;

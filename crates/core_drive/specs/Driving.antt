@@ -13,6 +13,7 @@ use Rattle.core_loop.specs.declared.live.NotReceived.TheVariants as no
 use Rattle.core_loop.specs.Beginning.{CanBeginNext}
 use Rattle.core_loop.specs.Choosing.{NoMessageNow}
 use Rattle.core_loop.specs.Cores.{SameCore, DidOne, CanReceive, AreShort, begun}
+use Rattle.core_loop.specs.Keeping.{replica_of}
 use Rattle.core_loop.specs.Turning.{IsSpent, LacksMemory}
 use Rattle.core_loop.specs.Receiving.{HasReceived, IsRefused, version_now}
 use Rattle.core_loop.specs.Answering.{decisions}
@@ -72,12 +73,16 @@ IsRunning (Turned (turn.Stopped cause)) = ⊥
 IsRunning (NotReceived (no.Stopped cause)) = ⊥
 IsRunning outcome = Unit {0}
 
--- what came of a task is right of its core before and after it; there is room for 1,024 endpoints
+-- a packet has room for so many endpoints: as many as there can be capabilities
+abbrev pub most_kept : RingCore → ℕ
+most_kept core = (replica_of core.part).shown.limits.caps.total
+
+-- what came of a task is right of its core before and after it
 abbrev pub IsRight : Task → StepOutcome → RingCore → RingCore → Type 0
 IsRight (tasks.Turn rx) (Turned answer) old new = TurnsRightly rx answer old new
 IsRight (Ask op) Asked old new = new ≡ record old { pending = old.pending ++ op ∷ [] }
 IsRight (Receive packet) (Received version kept) old new = (version ≡ version_now old) × HasReceived old new packet.bytes packet.original kept.items
-IsRight (Receive packet) (NotReceived why) old new = IsRefused old packet.bytes packet.original 1024 why × (new ≡ old)
+IsRight (Receive packet) (NotReceived why) old new = IsRefused old packet.bytes packet.original (most_kept old) why × (new ≡ old)
 IsRight task NoMemory old new = new ≡ old
 IsRight task outcome old new = ⊥
 

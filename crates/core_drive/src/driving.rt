@@ -1,6 +1,7 @@
 //! Steps that are done.
 
 ghost use Rattle.std.specs.Prelude.{◌≡◌, ◌<◌, ◌∷◌, [], ℕ, List, None, Some, length, slice_get, IfOk, OnOk, OnErr};
+ghost use Rattle.filter_table.specs.Limits.{TableLimits};
 ghost use Rattle.std.specs.List.{All};
 ghost use Rattle.core_join.specs.Machines.{RingCore, IsMachine, AreSameCores};
 ghost use Rattle.core_join.specs.Conclusions.{AreRunning, Conclude};
@@ -15,9 +16,6 @@ use filter_table::Kept;
 use pcap_reader::SharedPacket;
 use std::alloc::{AllocError, Global};
 
-/// How many endpoints can get a packet.
-const MOST_KEPT: usize = 1024;
-
 /// Does these steps on the cores of a machine, in this order, and gives what came of each. At the end no core is in a call, so all
 /// that holds of a machine's histories holds of these. No core of a machine ever stops, so no outcome says that one has. The one error
 /// is that there is no memory for the list of the outcomes; nothing is done then.
@@ -26,13 +24,13 @@ pub fn drive(
     cores: &mut [Core<RingLinks>],
     steps: Vec<CoreStep>,
 ) -> Result<Vec<StepOutcome>, AllocError>
-    requires machine { (budget : ℕ) × (budgets : List ℕ) × IsMachine budget budgets cores.old }
+    requires machine { (limits : TableLimits) × (budget : ℕ) × (budgets : List ℕ) × IsMachine limits budget budgets cores.old }
     requires steps { All (IsStep (length cores.old)) steps.items }
     ensures driven { IfOk result (λ outcomes. AreDriven steps.items outcomes.items cores.old cores.new) }
     ensures in_turn { IfOk result (λ outcomes. AreDoneAndLookedAt steps.items outcomes.items cores.old cores.new) }
     ensures running { IfOk result (λ outcomes. All IsRunning outcomes.items) }
     ensures machine { AreSameCores cores.old cores.new }
-    ensures concludes { (budget : ℕ) (budgets : List ℕ) → IsMachine budget budgets cores.old → OnOk result (Conclude budget budgets cores.new) }
+    ensures concludes { (limits : TableLimits) (budget : ℕ) (budgets : List ℕ) → IsMachine limits budget budgets cores.old → OnOk result (Conclude limits budget budgets cores.new) }
     ensures err { OnErr result (cores.new ≡ cores.old) }
 {
     let mut outcomes = Vec::with_capacity(alloc, steps.len())?;
@@ -73,7 +71,7 @@ fn do_task(alloc: Global, core: &mut Core<RingLinks>, task: Task) -> StepOutcome
     }
 }
 
-// Has a core receive a packet, in a room that is always enough.
+// Has a core receive a packet, in a room that is always enough: an endpoint that gets one has a capability that is held.
 fn receive(alloc: Global, core: &mut Core<RingLinks>, packet: SharedPacket) -> StepOutcome
     ensures answered { IsOf (GhostTask.Receive packet) result }
     ensures drives { CoreDrives (did core.old.number (GhostTask.Receive packet) result) [] [] core.old core.new }
@@ -84,7 +82,8 @@ fn receive(alloc: Global, core: &mut Core<RingLinks>, packet: SharedPacket) -> S
         endpoint: 0,
         kept: 0,
     };
-    let Ok(mut room) = vec![in alloc; none; MOST_KEPT] else {
+    let most = core.replica().limits().caps().total() as usize;
+    let Ok(mut room) = vec![in alloc; none; most] else {
         return StepOutcome::NoMemory;
     };
     let version = core.version();

@@ -20,6 +20,7 @@ use Rattle.core_join.proofs.Lists.{first_same, rest_same}
 use Rattle.core_join.proofs.Machines.{joined_links, ring_same}
 use Rattle.core_join.proofs.Joined.{looked_itself, beside_at, stood}
 use Rattle.core_join.proofs.Ends.{concludes}
+use Rattle.filter_table.specs.Limits.{TableLimits}
 use Rattle.core_join.proofs.Unstopped.{IsExactCore}
 
 -- a view that was looked at is the view
@@ -88,8 +89,8 @@ pub more_took : (first first' c : RingCore) (cs : List RingCore) → IsLookedAt 
 more_took first first' c cs l t rest zero x e = let is_x : c ≡ x = cc in subst (λ (z : RingCore). TookInOrder first z) is_x t
 more_took first first' c cs l t rest (suc k) x e = took_before first first' x x l (looked_itself x) (rest k x e)
 
-peer : (budget : ℕ) (budgets : List ℕ) (first : RingCore) (others : List RingCore) (k : ℕ) (c : RingCore) → AreMachine budget budgets first others → slice_get others k ≡ Some c → (b : ℕ) × IsPeer (length budgets) k b first c
-peer budget budgets first others k c machine at =
+peer : (limits : TableLimits) (budget : ℕ) (budgets : List ℕ) (first : RingCore) (others : List RingCore) (k : ℕ) (c : RingCore) → AreMachine limits budget budgets first others → slice_get others k ≡ Some c → (b : ℕ) × IsPeer (length budgets) k limits b first c
+peer limits budget budgets first others k c machine at =
     let b = get_at budgets k (omega (arith, slice_get_within others k c at, machine.all)) in
     (b.0, machine.peers k b.0 c b.1 at)
 
@@ -111,8 +112,8 @@ none_exact first k c at = absurd cc
 pub none_only : (first : RingCore) → LooksOnlyAt [] first first
 none_only first p apart = refl
 
-pub all_own : (budget : ℕ) (budgets : List ℕ) (first : RingCore) (others : List RingCore) → AreMachine budget budgets first others → HaveOwnLinks others
-all_own budget budgets first others machine j k c d at_c at_d e = omega (arith, e, (peer budget budgets first others j c machine at_c).1.place.links_are, (peer budget budgets first others k d machine at_d).1.place.links_are)
+pub all_own : (limits : TableLimits) (budget : ℕ) (budgets : List ℕ) (first : RingCore) (others : List RingCore) → AreMachine limits budget budgets first others → HaveOwnLinks others
+all_own limits budget budgets first others machine j k c d at_c at_d e = omega (arith, e, (peer limits budget budgets first others j c machine at_c).1.place.links_are, (peer limits budget budgets first others k d machine at_d).1.place.links_are)
 
 -- the links of core 0 are joined to those of the others still
 pub rest_joined : (first first' c : RingCore) (cs : List RingCore) → IsLookedAt first first' → ((k : ℕ) (x : RingCore) → slice_get (c ∷ cs) k ≡ Some x → AreJoinedLinks first.links x.links)
@@ -127,18 +128,18 @@ pub rest_joined_of : (first first' : RingCore) (others : List RingCore) (c : Rin
     → ((k : ℕ) (x : RingCore) → slice_get others k ≡ Some x → AreJoinedLinks first.links x.links) → (k : ℕ) (x : RingCore) → slice_get cs k ≡ Some x → AreJoinedLinks first'.links x.links
 rest_joined_of first first' others c cs e l joined = rest_joined first first' c cs l (λ k x at. joined k x (ap (λ (m : List RingCore). slice_get m k) e ∙ at))
 
-pub all_joined : (budget : ℕ) (budgets : List ℕ) (first : RingCore) (others : List RingCore) → AreMachine budget budgets first others
+pub all_joined : (limits : TableLimits) (budget : ℕ) (budgets : List ℕ) (first : RingCore) (others : List RingCore) → AreMachine limits budget budgets first others
     → (k : ℕ) (c : RingCore) → slice_get others k ≡ Some c → AreJoinedLinks first.links c.links
-all_joined budget budgets first others machine k c at = (peer budget budgets first others k c machine at).1.joined
+all_joined limits budget budgets first others machine k c at = (peer limits budget budgets first others k c machine at).1.joined
 
-pub agrees : (budget : ℕ) (budgets : List ℕ) (first first' : RingCore) (others : List RingCore) → AreMachine budget budgets first others → IsLookedAt first first' → Stands ring_view first'
-    → HasStopped first'.cores first'.clock first'.part (ring_view first'.links) first'.stopped → EachTookInOrder first others → Concludes budget budgets first others
-agrees budget budgets first first' others machine looked stands stopped took =
-    concludes budget budgets first others machine (stood first first' looked stands) (λ k c at. (took k c at).stands) (λ k c at. beside k c at) (stopped_before first first' looked stopped) (λ k c at. exact k c at)
+pub agrees : (limits : TableLimits) (budget : ℕ) (budgets : List ℕ) (first first' : RingCore) (others : List RingCore) → AreMachine limits budget budgets first others → IsLookedAt first first' → Stands ring_view first'
+    → HasStopped first'.cores first'.clock first'.part (ring_view first'.links) first'.stopped → EachTookInOrder first others → Concludes limits budget budgets first others
+agrees limits budget budgets first first' others machine looked stands stopped took =
+    concludes limits budget budgets first others machine (stood first first' looked stands) (λ k c at. (took k c at).stands) (λ k c at. beside k c at) (stopped_before first first' looked stopped) (λ k c at. exact k c at)
   where
     exact : (k : ℕ) (c : RingCore) → slice_get others k ≡ Some c → IsExactCore k first c
     exact k c at =
-        let p = (peer budget budgets first others k c machine at).1 in
+        let p = (peer limits budget budgets first others k c machine at).1 in
         let t = took k c at in
         let own : own_of c.links ≡ suc k = p.place.links_are in
         let own0 : own_of first.links ≡ 0 = machine.place.links_are in
@@ -150,22 +151,22 @@ agrees budget budgets first first' others machine looked stands stopped took =
 
     beside : (k : ℕ) (c : RingCore) → slice_get others k ≡ Some c → AreBeside k (ring_view first.links) (ring_view c.links)
     beside k c at =
-        let p = (peer budget budgets first others k c machine at).1 in
+        let p = (peer limits budget budgets first others k c machine at).1 in
         let t = took k c at in
         beside_at k (own_of c.links) (own_of first.links) first first c c p.place.links_are machine.place.links_are (looked_itself first) (looked_itself c) t.up t.down
 
 -- what holds of the first core and the others holds of them as one list
 pub of_machine : (cores : List RingCore) (first : RingCore) (others : List RingCore) → cores ≡ first ∷ others
-    → ((budget : ℕ) (budgets : List ℕ) → AreMachine budget budgets first others → Concludes budget budgets first others) → OfMachine cores Concludes
-of_machine cores first others whole agree budget budgets a rest e machine =
+    → ((limits : TableLimits) (budget : ℕ) (budgets : List ℕ) → AreMachine limits budget budgets first others → Concludes limits budget budgets first others) → OfMachine cores Concludes
+of_machine cores first others whole agree limits budget budgets a rest e machine =
     let same : first ∷ others ≡ a ∷ rest = sym whole ∙ e in
     let is_first = first_same first a others rest same in
     let is_rest = rest_same first a others rest same in
-    subst (λ (x : RingCore). Concludes budget budgets x rest) is_first
-    (subst (λ (l : List RingCore). Concludes budget budgets first l) is_rest
-    (agree budget budgets (subst (λ (x : RingCore). AreMachine budget budgets x others) (sym is_first) (subst (λ (l : List RingCore). AreMachine budget budgets a l) (sym is_rest) machine))))
+    subst (λ (x : RingCore). Concludes limits budget budgets x rest) is_first
+    (subst (λ (l : List RingCore). Concludes limits budget budgets first l) is_rest
+    (agree limits budget budgets (subst (λ (x : RingCore). AreMachine limits budget budgets x others) (sym is_first) (subst (λ (l : List RingCore). AreMachine limits budget budgets a l) (sym is_rest) machine))))
 
 -- a machine has a core
-pub some_cores : (budget : ℕ) (budgets : List ℕ) (cores : List RingCore) → IsMachine budget budgets cores → length cores ≡ 0 → ⊥
-some_cores budget budgets [] machine none = machine
-some_cores budget budgets (first ∷ others) machine none = omega (arith, none)
+pub some_cores : (limits : TableLimits) (budget : ℕ) (budgets : List ℕ) (cores : List RingCore) → IsMachine limits budget budgets cores → length cores ≡ 0 → ⊥
+some_cores limits budget budgets [] machine none = machine
+some_cores limits budget budgets (first ∷ others) machine none = omega (arith, none)

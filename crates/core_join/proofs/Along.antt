@@ -14,6 +14,7 @@ use Rattle.core_loop.specs.Cores.{SameCore}
 use Rattle.core_join.specs.Machines.{RingCore}
 use Rattle.core_join.specs.Looking.{IsLookedAt, AreLookedAt}
 use Rattle.core_join.specs.Conclusions.{histories_of, views_of, StandsAtOther, IsIdle0, version_of_core, ShowsTable, Concludes, Conclude}
+use Rattle.filter_table.specs.Limits.{TableLimits}
 use Rattle.core_join.proofs.Agreeing.{same_view}
 
 pub intake_itself : (i : Intake) → SameIntake i i
@@ -23,12 +24,13 @@ intake_along : (i j k : Intake) → SameIntake i j → SameIntake j k → SameIn
 intake_along i j k a b = search rules
 
 pub same_itself : (c : RingCore) → SameCore SameLinks c c
-same_itself c = record { number = refl; cores = refl; budget = refl; links = SameLinks-itself c.links; intake = intake_itself c.intake }
+same_itself c = record { number = refl; cores = refl; limits = refl; budget = refl; links = SameLinks-itself c.links; intake = intake_itself c.intake }
 
 pub same_along : (a b c : RingCore) → SameCore SameLinks a b → SameCore SameLinks b c → SameCore SameLinks a c
 same_along a b c h k = record {
   number = k.number ∙ h.number;
   cores = k.cores ∙ h.cores;
+  limits = k.limits ∙ h.limits;
   budget = k.budget ∙ h.budget;
   links = SameLinks-along a.links b.links c.links h.links k.links;
   intake = intake_along a.intake b.intake c.intake h.intake k.intake;
@@ -38,6 +40,7 @@ pub looked_same : (c d : RingCore) → IsLookedAt c d → SameCore SameLinks c d
 looked_same c d l = record {
   number = ap (λ (x : RingCore). x.number) l.core;
   cores = ap (λ (x : RingCore). x.cores) l.core;
+  limits = ap (λ (x : RingCore). (replica_of x.part).shown.limits) l.core;
   budget = ap (λ (x : RingCore). (replica_of x.part).budget) l.core;
   links = l.links;
   intake = subst (λ (x : RingCore). SameIntake c.intake x.intake) (sym l.core) (same_itself c).intake;
@@ -69,8 +72,8 @@ all_views_same (c ∷ cs) (d ∷ ds) l =
     let rest = all_views_same cs ds (record { all = (let e : suc (length ds) ≡ suc (length cs) = l.all in omega arith); each = λ i x y at at'. l.each (suc i) x y at at' }) in
     rw (first, rest) refl
 
-pub concludes_along : (budget : ℕ) (budgets : List ℕ) (c d : RingCore) (cs ds : List RingCore) → IsLookedAt c d → AreLookedAt cs ds → Concludes budget budgets c cs → Concludes budget budgets d ds
-concludes_along budget budgets c d cs ds first rest h = record {
+pub concludes_along : (limits : TableLimits) (budget : ℕ) (budgets : List ℕ) (c d : RingCore) (cs ds : List RingCore) → IsLookedAt c d → AreLookedAt cs ds → Concludes limits budget budgets c cs → Concludes limits budget budgets d ds
+concludes_along limits budget budgets c d cs ds first rest h = record {
   end = h.end;
   ends = h.ends;
   computation = rw (history first, histories_same cs ds rest) h.computation;
@@ -103,13 +106,13 @@ concludes_along budget budgets c d cs ds first rest h = record {
     version : {x y : RingCore} → IsLookedAt x y → version_of_core y ≡ version_of_core x
     version {x} {y} l = ap version_of_core l.core
 
-    shows : {x y : RingCore} → IsLookedAt x y → ShowsTable h.end.log x → ShowsTable h.end.log y
+    shows : {x y : RingCore} → IsLookedAt x y → ShowsTable limits h.end.log x → ShowsTable limits h.end.log y
     shows {x} {y} l s = rw (part l) s
 
     look_of : (i : ℕ) (x y : RingCore) → slice_get (c ∷ cs) i ≡ Some x → slice_get (d ∷ ds) i ≡ Some y → IsLookedAt x y
     look_of zero x y at at' = let e : c ≡ x = cc in let f : d ≡ y = cc in subst (λ (z : RingCore). IsLookedAt z y) e (subst (λ (z : RingCore). IsLookedAt c z) f first)
     look_of (suc i) x y at at' = rest.each i x y at at'
 
-pub concluded : (budget : ℕ) (budgets : List ℕ) (cores : List RingCore) (c d : RingCore) (cs ds : List RingCore) → cores ≡ c ∷ cs → IsLookedAt c d → AreLookedAt cs ds
-    → Concludes budget budgets c cs → Conclude budget budgets (d ∷ ds)
-concluded budget budgets cores c d cs ds is first rest h = concludes_along budget budgets c d cs ds first rest h
+pub concluded : (limits : TableLimits) (budget : ℕ) (budgets : List ℕ) (cores : List RingCore) (c d : RingCore) (cs ds : List RingCore) → cores ≡ c ∷ cs → IsLookedAt c d → AreLookedAt cs ds
+    → Concludes limits budget budgets c cs → Conclude limits budget budgets (d ∷ ds)
+concluded limits budget budgets cores c d cs ds is first rest h = concludes_along limits budget budgets c d cs ds first rest h

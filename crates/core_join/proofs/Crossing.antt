@@ -10,6 +10,7 @@ use Rattle.std.proofs.vec.Vec.TheSendSync as vec
 use Rattle.std.proofs.collections.VecDeque.TheSendSync as deque
 use Rattle.std.specs.contracts.snapshot.Snapshot as snapshot
 use Rattle.endpoint_caps.proofs.table.Caps.TheSendSync as caps
+use Rattle.filter_table.proofs.limits.Limits.TheSendSync as limits
 use Rattle.table_replica.proofs.programs.KeptPrograms.TheSendSync as programs
 use Rattle.table_replica.proofs.filters.Row.TheSendSync as row
 use Rattle.table_replica.proofs.reaches.Reach.TheSendSync as reach
@@ -58,7 +59,7 @@ plan_send : IsSend plan.the_row
 plan_send = search (sendable, crosses, snapshot_send, boxed_send) depth 20
 
 contents_send : IsSend contents.the_row
-contents_send = search (sendable, crosses, caps.the_send, boxed_send, plan_send) depth 14
+contents_send = search (sendable, crosses, limits.the_send, caps.the_send, boxed_send, plan_send) depth 14
 
 replica_send : IsSend replica.the_row
 replica_send = search (sendable, contents_send) depth 14

@@ -2,6 +2,7 @@
 use Rattle.std.proofs.Common.{◌≡◌, ◌==◌, ◌++◌, ◌∷◌, ℕ, zero, suc, Bool, true, false, cond, Option, Some, None, List, [], length, slice_get, slice_set, refl, ap, sym, ◌∙◌}
 use Rattle.std.specs.Prelude.{fold}
 use Rattle.std.proofs.lemmas.List.Sums.{fold-append}
+use Rattle.filter_table.specs.Limits.{TableLimits}
 use Rattle.filter_table.specs.declared.operation.Op.{Op}
 use Rattle.filter_table.specs.Tables.{TableState}
 use Rattle.filter_table.specs.declared.decision.Decision.{Decision}
@@ -218,15 +219,15 @@ follows_more events w w' done g = record {
   asks = λ core. rw (told_more events done, told_by_answer (told events) done.event done.answer, request_more events done core) (g.1 core);
 }
 
-follows_boot : (budget : ℕ) (budgets : List ℕ) → Follows [] (boot budget budgets)
-follows_boot budget budgets = record { tells = record { log_is = refl; on = λ votes ph. absurd cc }; asks = λ core. refl }
+follows_boot : (limits : TableLimits) (budget : ℕ) (budgets : List ℕ) → Follows [] (boot limits budget budgets)
+follows_boot limits budget budgets = record { tells = record { log_is = refl; on = λ votes ph. absurd cc }; asks = λ core. refl }
 
-run_follows : (budget : ℕ) (budgets : List ℕ) (events : List Done) (w : World) → Run budget budgets events w → Follows events w
-run_follows budget budgets = run_keeps budget budgets Follows (follows_boot budget budgets) (λ events w w' done run k h.
-    let known = run_known budget budgets events w run in
+run_follows : (limits : TableLimits) (budget : ℕ) (budgets : List ℕ) (events : List Done) (w : World) → Run limits budget budgets events w → Follows events w
+run_follows limits budget budgets = run_keeps limits budget budgets Follows (follows_boot limits budget budgets) (λ events w w' done run k h.
+    let known = run_known limits budget budgets events w run in
     follows_more events w w' done (goes_on events w w' done.event done.answer k
-    (λ i op at. waits_sent w (λ j. request_of (suc j) events) i op (run_stages budget budgets events w run) (known.waiting_long ∙ sym known.cores) at) h))
+    (λ i op at. waits_sent w (λ j. request_of (suc j) events) i op (run_stages limits budget budgets events w run) (known.waiting_long ∙ sym known.cores) at) h))
 
 -- in every run the log is what the events tell of it
-pub run_log : (budget : ℕ) (budgets : List ℕ) (events : List Done) (w : World) → Run budget budgets events w → w.log ≡ log_of events
-run_log budget budgets events w run = (run_follows budget budgets events w run).tells.log_is
+pub run_log : (limits : TableLimits) (budget : ℕ) (budgets : List ℕ) (events : List Done) (w : World) → Run limits budget budgets events w → w.log ≡ log_of events
+run_log limits budget budgets events w run = (run_follows limits budget budgets events w run).tells.log_is

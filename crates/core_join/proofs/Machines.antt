@@ -7,6 +7,7 @@ use Rattle.core_links.specs.Flows.{HoldLines, place_capacity, ring_capacity}
 use Rattle.core_loop.specs.Cores.{SameCore}
 use Rattle.core_join.specs.Machines.{RingCore, HasPlace, IsMachine, AreSameCores}
 use Rattle.std.proofs.lemmas.Option.{slice_get_within}
+use Rattle.filter_table.specs.Limits.{TableLimits}
 use Rattle.table_replica.proofs.Shared.{get_at}
 
 joined_slots : (a b c d : Option Link) → SameSlot a b → SameSlot c d → AreJoinedSlots a c → AreJoinedSlots b d
@@ -44,22 +45,23 @@ no_link_still None None same none = refl
 no_link_still None (Some b) same none = absurd same
 no_link_still (Some a) b same none = absurd cc
 
-same_place : (number cores budget : ℕ) (c d : RingCore) → HasPlace number cores budget c → SameCore SameLinks c d → HasPlace number cores budget d
-same_place number cores budget c d p same = record {
+same_place : (limits : TableLimits) (number cores budget : ℕ) (c d : RingCore) → HasPlace number cores limits budget c → SameCore SameLinks c d → HasPlace number cores limits budget d
+same_place limits number cores budget c d p same = record {
   number_is = same.number ∙ p.number_is;
   cores_are = same.cores ∙ p.cores_are;
+  limits_are = same.limits ∙ p.limits_are;
   budget_is = same.budget ∙ p.budget_is;
   links_are = same.links.own ∙ p.links_are;
 }
 
-pub machine_ran : (budget : ℕ) (budgets : List ℕ) (old new : List RingCore) → IsMachine budget budgets old → AreSameCores old new → IsMachine budget budgets new
-machine_ran budget budgets [] new machine same = absurd machine
-machine_ran budget budgets (first ∷ others) [] machine same = absurd (let e = same.all in cc)
-machine_ran budget budgets (first ∷ others) (again ∷ others_again) machine same =
+pub machine_ran : (limits : TableLimits) (budget : ℕ) (budgets : List ℕ) (old new : List RingCore) → IsMachine limits budget budgets old → AreSameCores old new → IsMachine limits budget budgets new
+machine_ran limits budget budgets [] new machine same = absurd machine
+machine_ran limits budget budgets (first ∷ others) [] machine same = absurd (let e = same.all in cc)
+machine_ran limits budget budgets (first ∷ others) (again ∷ others_again) machine same =
     let ran0 : SameCore SameLinks first again = same.each 0 first again refl refl in
     let long : length others_again ≡ length others = (let e = same.all in omega (arith, e)) in
     record {
-      place = same_place 0 (suc (length budgets)) budget first again machine.place ran0;
+      place = same_place limits 0 (suc (length budgets)) budget first again machine.place ran0;
       all = long ∙ machine.all;
       no_itself = no_link_still (link_to first.links 0) (link_to again.links 0) (ran0.links.each 0) machine.no_itself;
       peers = λ i b d at_b at_d.
@@ -67,7 +69,7 @@ machine_ran budget budgets (first ∷ others) (again ∷ others_again) machine s
           let p = machine.peers i b c.0 at_b c.1 in
           let ran : SameCore SameLinks c.0 d = same.each (suc i) c.0 d c.1 at_d in
           record {
-            place = same_place (suc i) (suc (length budgets)) b c.0 d p.place ran;
+            place = same_place limits (suc i) (suc (length budgets)) b c.0 d p.place ran;
             joined = joined_links first.links again.links c.0.links d.links ran0.links ran.links p.joined;
             holds = hold_still first.links again.links c.0.links d.links ran0.links ran.links p.holds;
             no_other = λ entry. no_link_still (link_to c.0.links (suc entry)) (link_to d.links (suc entry)) (ran.links.each (suc entry)) (p.no_other entry);

@@ -115,9 +115,9 @@ merged_all all left list none was core0 others merged e m =
     w.list_is ∙ ap as_listed whole
 
 pub runs : (all : List (List Stamped)) (list : List Done) → ListsAll all list → ListsRuns all list
-runs all list lists = λ budget budgets core0 others end ends e h.
-    let o = one_run budget budgets core0 others end ends h in
-    record { merged = o.merged; is_merged = o.is_merged; is_listed = lists core0 others o.merged e o.is_merged; run = run_of budget budgets core0 others end ends o.merged h o.is_merged }
+runs all list lists = λ limits budget budgets core0 others end ends e h.
+    let o = one_run limits budget budgets core0 others end ends h in
+    record { merged = o.merged; is_merged = o.is_merged; is_listed = lists core0 others o.merged e o.is_merged; run = run_of limits budget budgets core0 others end ends o.merged h o.is_merged }
 
 -- a slice is put in place of another
 pub shown_set : (left : List (Bor (List Stamped))) (core : ℕ) (h : Bor (List Stamped)) → shown_histories (slice_set left core h) ≡ slice_set (shown_histories left) core h.now

@@ -23,6 +23,7 @@ use Rattle.core_sound.proofs.Stopping.{other_goes_on, first_goes_on}
 use Rattle.core_join.specs.Machines.{RingCore, AreMachine}
 use Rattle.core_join.specs.Looking.{IsExactRing}
 use Rattle.core_join.specs.Conclusions.{histories_of, StandsAt0, StandsAtOther}
+use Rattle.filter_table.specs.Limits.{TableLimits}
 use Rattle.core_join.proofs.Lists.{same_some}
 
 -- both rings of core 0 and the core with this entry were looked at, and if the latter has stopped, its links show why
@@ -47,14 +48,14 @@ mapped f (y ∷ ys) (suc i) x e = mapped f ys i x e
 
 -- The cores of a machine at the ends of their histories
 
-module _ (budget : ℕ) (budgets : List ℕ) (first : RingCore) (others : List RingCore) (machine : AreMachine budget budgets first others) where
+module _ (limits : TableLimits) (budget : ℕ) (budgets : List ℕ) (first : RingCore) (others : List RingCore) (machine : AreMachine limits budget budgets first others) where
   views : List (ℕ → LinkView)
   views = map (λ (c : RingCore). ring_view c.links) others
 
-  pub stand_beside : (end : Core0State) (ends : List OtherState) → Stands0 (length budgets) budget first.history (ring_view first.links) end → length ends ≡ length budgets
-      → ((i b : ℕ) (c : RingCore) (d : OtherState) → slice_get budgets i ≡ Some b → slice_get others i ≡ Some c → slice_get ends i ≡ Some d → StandsOther i b c.history (ring_view c.links) d)
+  pub stand_beside : (end : Core0State) (ends : List OtherState) → Stands0 limits (length budgets) budget first.history (ring_view first.links) end → length ends ≡ length budgets
+      → ((i b : ℕ) (c : RingCore) (d : OtherState) → slice_get budgets i ≡ Some b → slice_get others i ≡ Some c → slice_get ends i ≡ Some d → StandsOther i limits b c.history (ring_view c.links) d)
       → ((k : ℕ) (c : RingCore) → slice_get others k ≡ Some c → AreBeside k (ring_view first.links) (ring_view c.links))
-      → StandBeside budget budgets first.history (histories_of others) (ring_view first.links) (map (λ (c : RingCore). ring_view c.links) others) end ends
+      → StandBeside limits budget budgets first.history (histories_of others) (ring_view first.links) (map (λ (c : RingCore). ring_view c.links) others) end ends
   stand_beside end ends stands all stand beside = record {
     histories = length-map others (λ (c : RingCore). c.history) ∙ machine.all;
     all_views = length-map others (λ (c : RingCore). ring_view c.links) ∙ machine.all;
@@ -66,13 +67,13 @@ module _ (budget : ℕ) (budgets : List ℕ) (first : RingCore) (others : List R
         let y = get_map (λ (c : RingCore). ring_view c.links) others i v at_v in
         let is_h : c.0.history ≡ h = ap (λ (c : RingCore). c.history) (same_some c.0 x.0 (sym c.1 ∙ x.1)) ∙ sym x.2 in
         let is_v : ring_view c.0.links ≡ v = ap (λ (c : RingCore). ring_view c.links) (same_some c.0 y.0 (sym c.1 ∙ y.1)) ∙ sym y.2 in (
-          subst (λ (x : List Stamped). StandsOther i b x v d) is_h (subst (λ (x : ℕ → LinkView). StandsOther i b c.0.history x d) is_v (stand i b c.0 d at_b c.1 at_d)),
+          subst (λ (x : List Stamped). StandsOther i limits b x v d) is_h (subst (λ (x : ℕ → LinkView). StandsOther i limits b c.0.history x d) is_v (stand i b c.0 d at_b c.1 at_d)),
           subst (λ (x : ℕ → LinkView). AreBeside i (ring_view first.links) x) is_v (beside i c.0 c.1),
         );
   }
 
   module _ (end : Core0State) (ends : List OtherState) (all_ends : length ends ≡ length budgets)
-      (s : StandBeside budget budgets first.history (histories_of others) (ring_view first.links) (map (λ (c : RingCore). ring_view c.links) others) end ends) where
+      (s : StandBeside limits budget budgets first.history (histories_of others) (ring_view first.links) (map (λ (c : RingCore). ring_view c.links) others) end ends) where
     -- another core
     other_runs : (i b : ℕ) (c : RingCore) (d : OtherState) → slice_get budgets i ≡ Some b → slice_get others i ≡ Some c → slice_get ends i ≡ Some d → StandsAtOther c.part c.clock d → IsExactCore i first c → c.stopped ≡ None
     other_runs i b c d at_b at_c at_d is_at exact = by_stop c.stopped refl exact.stopped
@@ -80,7 +81,7 @@ module _ (budget : ℕ) (budgets : List ℕ) (first : RingCore) (others : List R
         by_part : (x : Part) (peer : ℕ) (why : Cause) → c.part ≡ x → StandsAtOther x c.clock d → (replica_of x).budget ≡ b → StopsAt c.cores c.clock peer x (ring_view c.links) why → ⊥
         by_part (part.Core0 core) peer why e at eb st = at
         by_part (part.OtherCore core) zero why e at eb st =
-            other_goes_on budget budgets first.history (histories_of others) (ring_view first.links) (map (λ (c : RingCore). ring_view c.links) others) end ends s i b c.history (ring_view c.links) d core c.cores c.clock
+            other_goes_on limits budget budgets first.history (histories_of others) (ring_view first.links) (map (λ (c : RingCore). ring_view c.links) others) end ends s i b c.history (ring_view c.links) d core c.cores c.clock
             exact.down.capacity exact.down.out exact.down.come why at_b (mapped (λ (c : RingCore). c.history) others i c at_c) (mapped (λ (c : RingCore). ring_view c.links) others i c at_c) at_d at eb exact.down.exact st
         by_part (part.OtherCore core) (suc peer) why e at eb st =
             nothing_stops c.cores c.clock (suc peer) (part.OtherCore core) (ring_view c.links) why (no_link_at (link_to c.links (suc peer)) ((machine.peers i b c at_b at_c).no_other peer)) st
@@ -103,7 +104,7 @@ module _ (budget : ℕ) (budgets : List ℕ) (first : RingCore) (others : List R
             let c = get_at others i (omega (arith, inside, machine.all)) in
             let d = get_at ends i (omega (arith, inside, all_ends)) in
             let x = (exact i c.0 c.1).up in
-            first_goes_on budget budgets first.history (histories_of others) (ring_view first.links) (map (λ (c : RingCore). ring_view c.links) others) end ends s i b.0 c.0.history (ring_view c.0.links) d.0 core first.cores first.clock
+            first_goes_on limits budget budgets first.history (histories_of others) (ring_view first.links) (map (λ (c : RingCore). ring_view c.links) others) end ends s i b.0 c.0.history (ring_view c.0.links) d.0 core first.cores first.clock
             x.capacity x.out x.come why b.1 (mapped (λ (c : RingCore). c.history) others i c.0 c.1) (mapped (λ (c : RingCore). ring_view c.links) others i c.0 c.1) d.1 at x.exact st
 
         by_stop : (o : Option Cause) → first.stopped ≡ o → HasStopped first.cores first.clock first.part (ring_view first.links) o → first.stopped ≡ None

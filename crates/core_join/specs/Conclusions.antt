@@ -1,6 +1,7 @@
 -- What the joined cores of one machine did.
 use Rattle.std.specs.Prelude.{◌≡◌, ◌++◌, ℕ, List, [], ◌∷◌, length, map, None, Some, slice_get, Vec}
 use Rattle.std.specs.Global.{Global}
+use Rattle.filter_table.specs.Limits.{TableLimits}
 use Rattle.filter_table.specs.declared.operation.Op.{Op}
 use Rattle.filter_table.specs.Tables.{table}
 use Rattle.filter_table.specs.declared.decision.Decision.{Decision}
@@ -51,49 +52,49 @@ abbrev pub version_of_core : RingCore → ℕ
 version_of_core core = (replica_of core.part).shown.version
 
 -- the core shows the table that the log makes up to the core's version
-abbrev pub ShowsTable : List Op → RingCore → Type 0
-ShowsTable log core = (replica_of core.part).shown ≡ table log (version_of_core core)
+abbrev pub ShowsTable : TableLimits → List Op → RingCore → Type 0
+ShowsTable limits log core = (replica_of core.part).shown ≡ table limits log (version_of_core core)
 
 -- what holds of the histories of a computation, and of its end
-pub record IsRight (budget : ℕ) (budgets : List ℕ) (core0 : List Stamped) (others : List (List Stamped)) (end : Core0State) (ends : List OtherState) : Type 0 where
-  pub agree : HistoriesAgree budget budgets core0 others end ends
-  pub decided : (before after : List Stamped) (s : Stamped) → core0 ≡ before ++ s ∷ after → DecidesAs budget budgets others end.log before s
+pub record IsRight (limits : TableLimits) (budget : ℕ) (budgets : List ℕ) (core0 : List Stamped) (others : List (List Stamped)) (end : Core0State) (ends : List OtherState) : Type 0 where
+  pub agree : HistoriesAgree limits budget budgets core0 others end ends
+  pub decided : (before after : List Stamped) (s : Stamped) → core0 ≡ before ++ s ∷ after → DecidesAs limits budget budgets others end.log before s
   pub replied : (entry : ℕ) (h before after : List Stamped) (s : Stamped) (decision : Decision) → slice_get others entry ≡ Some h → h ≡ before ++ s ∷ after →
-      s.done.answer ≡ TookReply decision → Replied core0 end.log entry before decision
+      s.done.answer ≡ TookReply decision → Replied core0 limits end.log entry before decision
   -- by stamp and then by core the events make one list, which is a run
   pub merged : List Stamped
   pub is_merged : Merged core0 others merged
   pub one_list : (again : List Stamped) → Merged core0 others again → again ≡ merged
-  pub run : IsRun budget budgets merged end ends
-  pub in_run : (core : ℕ) (h before after : List Stamped) (s : Stamped) → slice_get (core0 ∷ others) core ≡ Some h → h ≡ before ++ s ∷ after → InRun budget budgets core0 others end.log merged core before s
+  pub run : IsRun limits budget budgets merged end ends
+  pub in_run : (core : ℕ) (h before after : List Stamped) (s : Stamped) → slice_get (core0 ∷ others) core ≡ Some h → h ≡ before ++ s ∷ after → InRun limits budget budgets core0 others end.log merged core before s
   -- the histories tell where they end
-  pub one_end : (again : Core0State) (ends_again : List OtherState) → Computation budget budgets core0 others again ends_again → (again ≡ end) × (ends_again ≡ ends)
+  pub one_end : (again : Core0State) (ends_again : List OtherState) → Computation limits budget budgets core0 others again ends_again → (again ≡ end) × (ends_again ≡ ends)
 
 -- no core has stopped
 abbrev pub AreRunning : List RingCore → Type 0
 AreRunning cores = (i : ℕ) (c : RingCore) → slice_get cores i ≡ Some c → c.stopped ≡ None
 
--- The histories of these cores are a computation under these budgets. Each core stands at its end, with the table of the log at its
+-- The histories of these cores are a computation under these limits and budgets. Each core stands at its end, with the table of the log at its
 -- version; core 0's version is the log's length, and so is every core's where core 0 is idle. No core has stopped.
-pub record Concludes (budget : ℕ) (budgets : List ℕ) (first : RingCore) (others : List RingCore) : Type 0 where
+pub record Concludes (limits : TableLimits) (budget : ℕ) (budgets : List ℕ) (first : RingCore) (others : List RingCore) : Type 0 where
   pub end : Core0State
   pub ends : List OtherState
-  pub computation : Computation budget budgets first.history (histories_of others) end ends
-  pub right : IsRight budget budgets first.history (histories_of others) end ends
+  pub computation : Computation limits budget budgets first.history (histories_of others) end ends
+  pub right : IsRight limits budget budgets first.history (histories_of others) end ends
   pub ends0 : StandsAt0 (length budgets) first.part first.clock end
   pub ends_other : (i : ℕ) (c : RingCore) (d : OtherState) → slice_get others i ≡ Some c → slice_get ends i ≡ Some d → StandsAtOther c.part c.clock d
-  pub tables : (i : ℕ) (c : RingCore) → slice_get (first ∷ others) i ≡ Some c → ShowsTable end.log c
+  pub tables : (i : ℕ) (c : RingCore) → slice_get (first ∷ others) i ≡ Some c → ShowsTable limits end.log c
   pub newest : version_of_core first ≡ length end.log
   pub settled : IsIdle0 first.part → (i : ℕ) (c : RingCore) → slice_get (first ∷ others) i ≡ Some c → version_of_core c ≡ length end.log
   pub running : AreRunning (first ∷ others)
   -- over each link was taken the front of what was sent
-  pub beside : StandBeside budget budgets first.history (histories_of others) (ring_view first.links) (views_of others) end ends
+  pub beside : StandBeside limits budget budgets first.history (histories_of others) (ring_view first.links) (views_of others) end ends
 
--- whatever budgets make these cores a machine
-abbrev pub OfMachine : List RingCore → (ℕ → List ℕ → RingCore → List RingCore → Type 0) → Type 0
-OfMachine cores P = (budget : ℕ) (budgets : List ℕ) (first : RingCore) (others : List RingCore) → cores ≡ first ∷ others → AreMachine budget budgets first others → P budget budgets first others
+-- whatever limits and budgets make these cores a machine
+abbrev pub OfMachine : List RingCore → (TableLimits → ℕ → List ℕ → RingCore → List RingCore → Type 0) → Type 0
+OfMachine cores P = (limits : TableLimits) (budget : ℕ) (budgets : List ℕ) (first : RingCore) (others : List RingCore) → cores ≡ first ∷ others → AreMachine limits budget budgets first others → P limits budget budgets first others
 
 -- the same of core 0 and the others in one list
-abbrev pub Conclude : ℕ → List ℕ → List RingCore → Type 0
-Conclude budget budgets [] = ⊥
-Conclude budget budgets (first ∷ others) = Concludes budget budgets first others
+abbrev pub Conclude : TableLimits → ℕ → List ℕ → List RingCore → Type 0
+Conclude limits budget budgets [] = ⊥
+Conclude limits budget budgets (first ∷ others) = Concludes limits budget budgets first others

@@ -4,6 +4,7 @@ use Rattle.std.specs.Borrow.{Bor}
 use Rattle.world_events.specs.declared.event.Done.{Done}
 use Rattle.world_histories.specs.declared.history.Stamped.{Stamped}
 use Rattle.world_histories.specs.Histories.{Core0State, OtherState, Computation}
+use Rattle.filter_table.specs.Limits.{TableLimits}
 use Rattle.world_histories.specs.Merging.{Merged, IsRun, as_listed, listed}
 
 -- the list has the events of these histories by stamp and then by core, wherever they have such an order
@@ -11,16 +12,16 @@ abbrev pub ListsAll : List (List Stamped) → List Done → Type 0
 ListsAll histories list = (core0 : List Stamped) (others : List (List Stamped)) (merged : List Stamped) → histories ≡ core0 ∷ others → Merged core0 others merged → list ≡ as_listed merged
 
 -- the list is the one run that the histories of a computation make, and it ends where the cores end
-pub record ListsRun (budget : ℕ) (budgets : List ℕ) (core0 : List Stamped) (others : List (List Stamped)) (end : Core0State) (ends : List OtherState) (list : List Done) : Type 0 where
+pub record ListsRun (limits : TableLimits) (budget : ℕ) (budgets : List ℕ) (core0 : List Stamped) (others : List (List Stamped)) (end : Core0State) (ends : List OtherState) (list : List Done) : Type 0 where
   pub merged : List Stamped
   pub is_merged : Merged core0 others merged
   pub is_listed : list ≡ as_listed merged
-  pub run : IsRun budget budgets merged end ends
+  pub run : IsRun limits budget budgets merged end ends
 
 -- so for every computation with these histories
 abbrev pub ListsRuns : List (List Stamped) → List Done → Type 0
-ListsRuns histories list = (budget : ℕ) (budgets : List ℕ) (core0 : List Stamped) (others : List (List Stamped)) (end : Core0State) (ends : List OtherState) → histories ≡ core0 ∷ others →
-    Computation budget budgets core0 others end ends → ListsRun budget budgets core0 others end ends list
+ListsRuns histories list = (limits : TableLimits) (budget : ℕ) (budgets : List ℕ) (core0 : List Stamped) (others : List (List Stamped)) (end : Core0State) (ends : List OtherState) → histories ≡ core0 ∷ others →
+    Computation limits budget budgets core0 others end ends → ListsRun limits budget budgets core0 others end ends list
 
 -- events in memory, as the list has them
 abbrev pub shown_list : List (Bor Stamped) → List Done

@@ -1,6 +1,7 @@
 //! What holds of the cores of one machine at a moment when none of them is in a call.
 
 ghost use Rattle.std.specs.Prelude.{◌≡◌, ◌<◌, ℕ, List, Some, length, slice_get};
+ghost use Rattle.filter_table.specs.Limits.{TableLimits};
 ghost use mathlib.Core.List.{IsPrefix};
 ghost use Rattle.core_links.specs.Flows.{LooksAt};
 ghost use Rattle.core_links.specs.RingSlots.{AreJoinedLinks, own_of, ring_view};
@@ -15,10 +16,10 @@ use core_loop::{Core, RingLinks};
 /// of the log at its version. No core of a machine ever stops. After it each end of a ring knows all that is in it. Nothing is joined or
 /// ended, no event is done, no line moves, and what is read of each core stays as it was.
 pub fn agree(first: &mut Core<RingLinks>, others: &mut [Core<RingLinks>])
-    requires { (budget : ℕ) × (budgets : List ℕ) × AreMachine budget budgets first.old others.old }
+    requires { (limits : TableLimits) × (budget : ℕ) × (budgets : List ℕ) × AreMachine limits budget budgets first.old others.old }
     ensures first { IsLookedAt first.old first.new }
     ensures others { AreLookedAt others.old others.new }
-    ensures agree { (budget : ℕ) (budgets : List ℕ) → AreMachine budget budgets first.old others.old → Concludes budget budgets first.old others.old }
+    ensures agree { (limits : TableLimits) (budget : ℕ) (budgets : List ℕ) → AreMachine limits budget budgets first.old others.old → Concludes limits budget budgets first.old others.old }
     ensures exact { EachIsExact first.new others.new }
 {
     look_at_all(first, others);

@@ -1,6 +1,7 @@
 //! The histories of the cores of a machine, once they are joined.
 
 ghost use Rattle.std.specs.Prelude.{◌≡◌, ◌∷◌, ℕ, List, IfOk};
+ghost use Rattle.filter_table.specs.Limits.{TableLimits};
 ghost use Rattle.core_join.specs.Machines.{IsMachine};
 ghost use Rattle.core_join.specs.Looking.{AreLookedAt, AreExactMachine};
 ghost use Rattle.core_join.specs.Conclusions.{Concludes, Conclude, OfMachine, histories_of, listed_histories};
@@ -47,11 +48,11 @@ fn part(alloc: Global, recorded: Vec<Recorded<RingLinks>>) -> Result<Parted, All
 
 /// The cores of one machine, as they stand, as one list: `agree` of the first and the others.
 pub fn agree_all(cores: &mut [Core<RingLinks>])
-    requires { (budget : ℕ) × (budgets : List ℕ) × IsMachine budget budgets cores.old }
+    requires { (limits : TableLimits) × (budget : ℕ) × (budgets : List ℕ) × IsMachine limits budget budgets cores.old }
     ensures looked { AreLookedAt cores.old cores.new }
     ensures exact { AreExactMachine cores.new }
     ensures agree { OfMachine cores.old Concludes }
-    ensures concludes { (budget : ℕ) (budgets : List ℕ) → IsMachine budget budgets cores.old → Conclude budget budgets cores.new }
+    ensures concludes { (limits : TableLimits) (budget : ℕ) (budgets : List ℕ) → IsMachine limits budget budgets cores.old → Conclude limits budget budgets cores.new }
 {
     match cores.split_first_mut() {
         None => {}
@@ -63,7 +64,7 @@ pub fn agree_all(cores: &mut [Core<RingLinks>])
 /// time was, they are one computation: each core took the messages of each other in the order in which they were sent, and
 /// stands where its history ends. The one error is that there is no memory; the cores are gone then.
 pub fn conclude(alloc: Global, cores: Vec<Recorded<RingLinks>>) -> Result<Histories, AllocError>
-    requires { (budget : ℕ) × (budgets : List ℕ) × IsMachine budget budgets cores.items }
+    requires { (limits : TableLimits) × (budget : ℕ) × (budgets : List ℕ) × IsMachine limits budget budgets cores.items }
     ensures histories { IfOk result (λ h. listed_histories h.cores.items ≡ histories_of cores.items) }
     ensures computation { IfOk result (λ _. OfMachine cores.items Concludes) }
 {

@@ -5,10 +5,11 @@ use mathlib.Core.List.{IsPrefix}
 use Rattle.rx_queue.specs.declared.intake.Intake.{Intake}
 use Rattle.rx_queue.specs.Queue.{jobs_seen}
 use Rattle.core_links.specs.Views.{LinkView}
+use Rattle.filter_table.specs.Limits.{TableLimits}
 use Rattle.filter_table.specs.declared.operation.Op.{Op}
 use Rattle.table_replica.specs.Shown.{ReplicaState}
 use Rattle.filter_table.specs.Tables.{TableState, table}
-use Rattle.filter_table.proofs.Tables.{table_version}
+use Rattle.filter_table.proofs.Tables.{table_version, table_limits}
 use Rattle.pcap_reader.specs.declared.capture.CapturedPacket.{CapturedPacket}
 use Rattle.world_events.specs.declared.event.Event.{Event}
 use Rattle.world_events.specs.declared.event.Event.TheVariants.{Rx}
@@ -31,6 +32,7 @@ use Rattle.core_loop.specs.Receipts.{Receives}
 use Rattle.core_loop.specs.Taking.{CannotTake}
 use Rattle.core_loop.specs.Choosing.{IsLeastShowing}
 use Rattle.core_loop.specs.Turning.{HasRequest, HasWork, MayReceive}
+use Rattle.world_histories.proofs.Clocks.{step0_limits, step_limits}
 use Rattle.world_histories.proofs.Lists.{prefix_then}
 use Rattle.core_loop.proofs.Standings.{stands0_more, stands_other_more}
 use Rattle.core_loop.proofs.Carrying.{start_carries, submit_carries}
@@ -55,6 +57,24 @@ pub spent_take : (cores clock peer : ℕ) (p : Part) (m : Stamping) (view : ℕ 
 spent_take cores clock peer (part.Core0 x) m view h = h
 spent_take cores clock peer (part.OtherCore x) m view h = h
 
+-- an event keeps the limits: those of the tables that the history leads to
+shown_limits : (s : TableState) (limits : TableLimits) (log : List Op) (v : ℕ) → s ≡ table limits log v → s.limits ≡ limits
+shown_limits s limits log v is = ap (λ (t : TableState). t.limits) is ∙ table_limits limits log v
+
+pub acts_limits : (x y : Part) (number cores clock : ℕ) (h : List Stamped) (s : Stamped) (u v w : ℕ → LinkView) → IsStanding x number cores clock h u → Acts number cores clock v w x y s → (replica_of y).shown.limits ≡ (replica_of x).shown.limits
+acts_limits (part.Core0 x) (part.Core0 y) number cores clock h s u v w st a =
+    let l = a.leads st.0 st.2 in
+    shown_limits y.replica.shown l.after.limits l.after.log (length l.after.log) l.stands.shown_is
+    ∙ (step0_limits (cores - 1) x.replica.budget st.0 l.after s.stamp s.done.event a.m s.done.answer a.out l.step
+    ∙ sym (shown_limits x.replica.shown st.0.limits st.0.log (length st.0.log) st.2.shown_is))
+acts_limits (part.Core0 x) (part.OtherCore y) number cores clock h s u v w st a = absurd a
+acts_limits (part.OtherCore x) (part.Core0 y) number cores clock h s u v w st a = absurd a
+acts_limits (part.OtherCore x) (part.OtherCore y) number cores clock h s u v w st a =
+    let l = a.2.leads st.1 st.3 in
+    shown_limits y.replica.shown l.after.limits l.after.log (length l.after.log) l.stands.shown_is
+    ∙ (step_limits a.0 x.replica.budget st.1 l.after s.stamp s.done.event a.2.m s.done.answer l.step
+    ∙ sym (shown_limits x.replica.shown st.1.limits st.1.log (length st.1.log) st.3.shown_is))
+
 -- a core that stands at its history stands at the longer one
 pub acts_stand : (x y : Part) (number cores clock : ℕ) (h : List Stamped) (s : Stamped) (v w : ℕ → LinkView) → IsStanding x number cores clock h v → Acts number cores clock v w x y s → IsStanding y number cores s.stamp (h ++ s ∷ []) w
 acts_stand (part.Core0 x) (part.Core0 y) number cores clock h s v w st a =
@@ -62,9 +82,10 @@ acts_stand (part.Core0 x) (part.Core0 y) number cores clock h s v w st a =
       l.after,
       st.1,
       l.stands,
-      subst (λ (b : ℕ). Stands0 (cores - 1) b (h ++ s ∷ []) w l.after) (sym a.same_budget)
-          (stands0_more (cores - 1) x.replica.budget h v w st.0 l.after s a.m a.out st.3 l.step (λ e lt. (a.carries.to_others e lt).sends) (λ e lt. (a.carries.to_others e lt).takes) (a.carries.itself.sent_same, a.carries.itself.taken_same)
-          (λ e le. ((a.carries.beyond e le).sent_same, (a.carries.beyond e le).taken_same))),
+      subst (λ (b : ℕ). Stands0 y.replica.shown.limits (cores - 1) b (h ++ s ∷ []) w l.after) (sym a.same_budget)
+          (subst (λ (m : TableLimits). Stands0 m (cores - 1) x.replica.budget (h ++ s ∷ []) w l.after) (sym (acts_limits (part.Core0 x) (part.Core0 y) number cores clock h s v v w st a))
+          (stands0_more x.replica.shown.limits (cores - 1) x.replica.budget h v w st.0 l.after s a.m a.out st.3 l.step (λ e lt. (a.carries.to_others e lt).sends) (λ e lt. (a.carries.to_others e lt).takes) (a.carries.itself.sent_same, a.carries.itself.taken_same)
+          (λ e le. ((a.carries.beyond e le).sent_same, (a.carries.beyond e le).taken_same)))),
     )
 acts_stand (part.Core0 x) (part.OtherCore y) number cores clock h s v w st a = absurd a
 acts_stand (part.OtherCore x) (part.Core0 y) number cores clock h s v w st a = absurd a
@@ -76,16 +97,17 @@ acts_stand (part.OtherCore x) (part.OtherCore y) number cores clock h s v w st a
       l.after,
       st.2,
       l.stands,
-      subst (λ (n : ℕ). StandsOther st.0 n (h ++ s ∷ []) w l.after) (sym b.same_budget)
-          (stands_other_more st.0 x.replica.budget h v w st.1 l.after s b.m st.4 l.step b.carries.to_first.sends b.carries.to_first.takes (λ p. ((b.carries.elsewhere p).sent_same, (b.carries.elsewhere p).taken_same))),
+      subst (λ (n : ℕ). StandsOther st.0 y.replica.shown.limits n (h ++ s ∷ []) w l.after) (sym b.same_budget)
+          (subst (λ (m : TableLimits). StandsOther st.0 m x.replica.budget (h ++ s ∷ []) w l.after) (sym (acts_limits (part.OtherCore x) (part.OtherCore y) number cores clock h s v v w st a))
+          (stands_other_more x.replica.shown.limits st.0 x.replica.budget h v w st.1 l.after s b.m st.4 l.step b.carries.to_first.sends b.carries.to_first.takes (λ p. ((b.carries.elsewhere p).sent_same, (b.carries.elsewhere p).taken_same)))),
     )
 
 -- The receipt of a packet
 
-receives_at : (log : List Op) (replica : ReplicaState) (packet : CapturedPacket) (floor : ℕ) (answer : Answer) → replica.shown ≡ table log (length log) → ReceivesAt replica.shown replica.shown.version packet floor answer → ReceivesAt (table log (length log)) (length log) packet floor answer
-receives_at log replica packet floor answer shown h =
-    let version : replica.shown.version ≡ length log = ap (λ (s : TableState). s.version) shown ∙ table_version log in
-    subst (λ (v : ℕ). ReceivesAt (table log (length log)) v packet floor answer) version (subst (λ (s : TableState). ReceivesAt s replica.shown.version packet floor answer) shown h)
+receives_at : (limits : TableLimits) (log : List Op) (replica : ReplicaState) (packet : CapturedPacket) (floor : ℕ) (answer : Answer) → replica.shown ≡ table limits log (length log) → ReceivesAt replica.shown replica.shown.version packet floor answer → ReceivesAt (table limits log (length log)) (length log) packet floor answer
+receives_at limits log replica packet floor answer shown h =
+    let version : replica.shown.version ≡ length log = ap (λ (s : TableState). s.version) shown ∙ table_version limits log in
+    subst (λ (v : ℕ). ReceivesAt (table limits log (length log)) v packet floor answer) version (subst (λ (s : TableState). ReceivesAt s replica.shown.version packet floor answer) shown h)
 
 quiet_carries0 : (others : ℕ) (s : Stamped) (v : ℕ → LinkView) → taking s.done.event None ≡ [] → Carries0 others s None nothing v v
 quiet_carries0 others s v none = start_carries others s nothing v v none (hands_nothing others s.stamp v v (λ p. refl))
@@ -100,7 +122,7 @@ receives_act number cores clock (part.Core0 core) s v f r = record {
     step = record {
       ticks = r.stamp_next ∙ ap (λ n. n + 1) (sym h.clock_is);
       does = subst (λ (e : Event). Does0 (cores - 1) core.replica.budget before s.stamp e None (record before { clock = s.stamp }) s.done.answer nothing) (sym (r.is_event ∙ ap (λ (n : ℕ). Rx n r.job.number r.job.packet r.job.floor) f.0))
-          (record { here = receives_at before.log core.replica r.job.packet r.job.floor s.done.answer h.shown_is r.here; next = refl; sends = refl });
+          (record { here = receives_at before.limits before.log core.replica r.job.packet r.job.floor s.done.answer h.shown_is r.here; next = refl; sends = refl });
     };
   };
   carries = quiet_carries0 (cores - 1) s v (ap (λ (e : Event). taking e None) r.is_event);
@@ -117,7 +139,7 @@ receives_act number cores clock (part.OtherCore core) s v f r = (
       step = record {
         ticks = r.stamp_next ∙ ap (λ n. n + 1) (sym h.clock_is);
         does = subst (λ (e : Event). DoesOther f.0 core.replica.budget before s.stamp e None (record before { clock = s.stamp }) s.done.answer) (sym (r.is_event ∙ ap (λ (n : ℕ). Rx n r.job.number r.job.packet r.job.floor) f.1))
-            (refl, record { here = receives_at before.log core.replica r.job.packet r.job.floor s.done.answer h.shown_is r.here; next = refl });
+            (refl, record { here = receives_at before.limits before.log core.replica r.job.packet r.job.floor s.done.answer h.shown_is r.here; next = refl });
       };
     };
     carries = submit_carries s None v v (subst (λ (e : Event). sent_up e s.done.answer ≡ None) (sym r.is_event) (subst (λ (a : Answer). sent_up (Rx number r.job.number r.job.packet r.job.floor) a ≡ None) (sym r.here.is_answer) refl)) (hands_none (v 0) (v 0) refl) (λ p ne. refl);

@@ -123,15 +123,15 @@ step0 : (own : Bool) (others budget : ℕ) (c c' : Core0State) (stamp : ℕ) (ev
     → KeepsOwn own event answer c.place.phase c.requests.asker c'.place.phase c'.requests.asker
 step0 own others budget c c' stamp (Start op) None answer out knows h =
     let idle = h.here.can_start.0 in
-    rw h.next (starts own op others (table c.log (length c.log)) budget c.place h.place h.committed h.told c.requests.asker answer idle (subst (λ (p : Phase). KnowsOwn own p c.requests.asker) idle knows) h.here.starts h.here.is_answer)
+    rw h.next (starts own op others (table c.limits c.log (length c.log)) budget c.place h.place h.committed h.told c.requests.asker answer idle (subst (λ (p : Phase). KnowsOwn own p c.requests.asker) idle knows) h.here.starts h.here.is_answer)
 step0 own others budget c c' stamp (StartFor (suc entry)) None answer out knows h =
     let idle = h.here.can_start.0 in
     let none : c.requests.asker ≡ None = subst (λ (p : Phase). KnowsOwn own p c.requests.asker) idle knows in
     let for_it = h.here.starts in
-    rw (h.next, none) (starts_for own entry for_it.op others (table c.log (length c.log)) budget c.place h.place h.committed for_it.begun h.told h.requests.asker answer idle for_it.starts
+    rw (h.next, none) (starts_for own entry for_it.op others (table c.limits c.log (length c.log)) budget c.place h.place h.committed for_it.begun h.told h.requests.asker answer idle for_it.starts
     (ap (λ (t : Step). t.decided) for_it.tells) (ap (λ (t : Step). t.txn) for_it.tells) h.here.is_answer (ap (λ (r : Requests). r.asker) for_it.next))
 step0 own others budget c c' stamp (Take zero (suc entry) short) (Some m) answer out knows h =
-    rw h.next (takes own (table c.log (length c.log)) c.place h.place c.requests h.requests entry short m.message h.committed h.told answer knows h.here)
+    rw h.next (takes own (table c.limits c.log (length c.log)) c.place h.place c.requests h.requests entry short m.message h.committed h.told answer knows h.here)
 step0 own others budget c c' stamp (Rx zero number packet floor) None answer out knows h =
     rw (h.here.is_answer, h.next) (record { knows = knows; counts = refl; tells = refl })
 step0 own others budget c c' stamp event m answer out knows h = absurd h
@@ -184,7 +184,7 @@ step_other : (own : Bool) (entry budget : ℕ) (c c' : OtherState) (stamp : ℕ)
     → DoesOther entry budget c stamp event m c' answer → KeepsOther own event answer c.outstanding c'.outstanding
 step_other own entry budget c c' stamp (Submit (suc core) op) None answer h = rw (h.1.next, h.1.here.is_answer, h.1.here.none_outstanding, h.1.here.now_outstanding) (record { counts = refl; tells = refl })
 step_other own entry budget c c' stamp (Take (suc to) zero short) (Some m) answer h =
-    rw h.1.next (down own short (suc to) (table c.log (length c.log)) budget (length c.log) c.place h.1.place c.outstanding h.1.outstanding m.message h.1.committed answer h.1.here)
+    rw h.1.next (down own short (suc to) (table c.limits c.log (length c.log)) budget (length c.log) c.place h.1.place c.outstanding h.1.outstanding m.message h.1.committed answer h.1.here)
 step_other own entry budget c c' stamp (Rx (suc core) number packet floor) None answer h = rw (h.1.next, h.1.here.is_answer) (record { counts = refl; tells = refl })
 step_other own entry budget c c' stamp event m answer h = absurd h
 
@@ -200,13 +200,13 @@ along own entry budget c c' (s ∷ later) taken h =
 
 pub decided : (x : Part) (number cores clock : ℕ) (history : List Stamped) (view : ℕ → LinkView) → IsStanding x number cores clock history view → AreDecided x history
 decided (part.Core0 core) number cores clock history view st =
-    let h = along0 false (cores - 1) core.replica.budget (core0_first (cores - 1)) st.0 history st.3.sent st.3.taken refl st.3.is_history in
+    let h = along0 false (cores - 1) core.replica.budget (core0_first core.replica.shown.limits (cores - 1)) st.0 history st.3.sent st.3.taken refl st.3.is_history in
     let phase : st.0.place.phase ≡ core.coordinator.phase = ap (λ (p : CoordinatorPlace). p.phase) st.2.place_is in
     let asker : st.0.requests.asker ≡ core.coordinator.requests.asker = ap (λ (r : Requests). r.asker) st.2.requests_are in
     let same : voted_on st.0.place.phase st.0.requests.asker ≡ voted_on core.coordinator.phase core.coordinator.requests.asker = rw (phase, asker) refl in
     omega (arith, h.counts, same)
 decided (part.OtherCore core) number cores clock history view st =
-    let h = along false st.0 core.replica.budget other_first st.1 history st.4.taken st.4.is_history in
+    let h = along false st.0 core.replica.budget (other_first core.replica.shown.limits) st.1 history st.4.taken st.4.is_history in
     omega (arith, h, ap count_if st.3.outstanding_is)
 
 -- the decisions of a longer history
@@ -218,7 +218,7 @@ told : (x y : Part) (number cores clock : ℕ) (history : List Stamped) (s : Sta
     → own_decision (own_after false history) s.done.event s.done.answer ≡ own_decision (asks_itself y) s.done.event s.done.answer
 told (part.Core0 core) (part.Core0 core') number cores clock history s v seen w st a =
     let l = a.leads st.0 st.2 in
-    let knows = (along0 false (cores - 1) core.replica.budget (core0_first (cores - 1)) st.0 history st.3.sent st.3.taken refl st.3.is_history).knows in
+    let knows = (along0 false (cores - 1) core.replica.budget (core0_first core.replica.shown.limits (cores - 1)) st.0 history st.3.sent st.3.taken refl st.3.is_history).knows in
     (step0 (own_after false history) (cores - 1) core.replica.budget st.0 l.after s.stamp s.done.event a.m s.done.answer a.out knows l.step.does).tells
     ∙ ap (λ (r : Requests). own_decision (by_itself r.asker) s.done.event s.done.answer) l.stands.requests_are
 told (part.Core0 core) (part.OtherCore core') number cores clock history s v seen w st a = absurd a

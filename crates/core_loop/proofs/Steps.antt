@@ -22,14 +22,14 @@ use Rattle.core_loop.specs.Events.{Leads0, LeadsOther}
 
 -- where core 0 stands once it has moved
 abbrev pub moved : ℕ → Core0 → Core0State → Option Op → Core0State
-moved stamp core' before committed = record { clock = stamp; place = core0_place core'; requests = core'.coordinator.requests; log = joined before.log committed }
+moved stamp core' before committed = record { limits = before.limits; clock = stamp; place = core0_place core'; requests = core'.coordinator.requests; log = joined before.log committed }
 
 pub moved_core0 : (others clock stamp : ℕ) (core core' : Core0) (before : Core0State) (committed : Option Op) → Moves core committed core' → IsCore0 others core clock before → IsCore0 others core' stamp (moved stamp core' before committed)
 moved_core0 others clock stamp core core' before committed m h = record {
   clock_is = refl;
   place_is = refl;
   requests_are = refl;
-  shown_is = m.shown_next ∙ (ap (λ (s : TableState). after_commit s committed) h.shown_is ∙ table_joined before.log committed);
+  shown_is = m.shown_next ∙ (ap (λ (s : TableState). after_commit s committed) h.shown_is ∙ table_joined before.limits before.log committed);
   others_are = m.same_others ∙ h.others_are;
   between = m.between;
 }
@@ -39,7 +39,7 @@ pub leads_take : (others clock stamp from : ℕ) (core core' : Core0) (m : Stamp
     → Leads0 others core.replica.budget core' before (record { stamp = stamp; done = record { event = Take 0 from false; answer = told.answer } }) (Some m) (outgoing told.step (core0_place core'))
 leads_take others clock stamp from core core' m told e t before h =
     let after = moved stamp core' before t.committed in
-    let here : TakesUpAt (table before.log (length before.log)) before.place before.requests t.entry m.message (core0_place core') core'.coordinator.requests t.committed told.step told.answer =
+    let here : TakesUpAt (table before.limits before.log (length before.log)) before.place before.requests t.entry m.message (core0_place core') core'.coordinator.requests t.committed told.step told.answer =
     subst (λ (s : TableState). TakesUpAt s before.place before.requests t.entry m.message (core0_place core') core'.coordinator.requests t.committed told.step told.answer) h.shown_is
     (subst (λ (p : CoordinatorPlace). TakesUpAt core.replica.shown p before.requests t.entry m.message (core0_place core') core'.coordinator.requests t.committed told.step told.answer) (sym h.place_is)
     (subst (λ (r : Requests). TakesUpAt core.replica.shown (core0_place core) r t.entry m.message (core0_place core') core'.coordinator.requests t.committed told.step told.answer) (sym h.requests_are) t.here)) in
@@ -72,8 +72,8 @@ pub leads_start : (others clock stamp : ℕ) (core : Core0) (staged : Option Op)
     → Leads0 others core.replica.budget core' before (record { stamp = stamp; done = record { event = Start op; answer = told.answer } }) None (outgoing told.step (core0_place core'))
 leads_start others clock stamp core staged core' op told e none t before h =
     let place : before.place ≡ coordinator_place core.coordinator None = h.place_is ∙ ap (λ (s : Option Op). coordinator_place core.coordinator s) none in
-    let here : StartsAt others (table before.log (length before.log)) core.replica.budget before.place op (core0_place core') t.committed told.step told.answer =
-    subst (λ (n : ℕ). StartsAt n (table before.log (length before.log)) core.replica.budget before.place op (core0_place core') t.committed told.step told.answer) h.others_are
+    let here : StartsAt others (table before.limits before.log (length before.log)) core.replica.budget before.place op (core0_place core') t.committed told.step told.answer =
+    subst (λ (n : ℕ). StartsAt n (table before.limits before.log (length before.log)) core.replica.budget before.place op (core0_place core') t.committed told.step told.answer) h.others_are
     (subst (λ (s : TableState). StartsAt core.coordinator.others s core.replica.budget before.place op (core0_place core') t.committed told.step told.answer) h.shown_is
     (subst (λ (p : CoordinatorPlace). StartsAt core.coordinator.others core.replica.shown core.replica.budget p op (core0_place core') t.committed told.step told.answer) (sym place) t.here)) in
     record {
@@ -86,7 +86,7 @@ leads_start others clock stamp core staged core' op told e none t before h =
           committed = t.committed;
           told = told.step;
           here = here;
-          next = ap (λ (r : Requests). let x : Core0State = record { clock = stamp; place = core0_place core'; requests = r; log = joined before.log t.committed } in x) (t.same_requests ∙ sym h.requests_are);
+          next = ap (λ (r : Requests). let x : Core0State = record { limits = before.limits; clock = stamp; place = core0_place core'; requests = r; log = joined before.log t.committed } in x) (t.same_requests ∙ sym h.requests_are);
           sends = refl;
         };
       };
@@ -98,8 +98,8 @@ pub leads_start_for : (others clock stamp from entry : ℕ) (core : Core0) (stag
 leads_start_for others clock stamp from entry core staged core' told e is none t before h =
     let place : before.place ≡ coordinator_place core.coordinator None = h.place_is ∙ ap (λ (s : Option Op). coordinator_place core.coordinator s) none in
     let after = moved stamp core' before t.committed in
-    let here : StartsForAt others (table before.log (length before.log)) core.replica.budget before.place before.requests entry (core0_place core') core'.coordinator.requests t.committed told.step told.answer =
-    subst (λ (n : ℕ). StartsForAt n (table before.log (length before.log)) core.replica.budget before.place before.requests entry (core0_place core') core'.coordinator.requests t.committed told.step told.answer) h.others_are
+    let here : StartsForAt others (table before.limits before.log (length before.log)) core.replica.budget before.place before.requests entry (core0_place core') core'.coordinator.requests t.committed told.step told.answer =
+    subst (λ (n : ℕ). StartsForAt n (table before.limits before.log (length before.log)) core.replica.budget before.place before.requests entry (core0_place core') core'.coordinator.requests t.committed told.step told.answer) h.others_are
     (subst (λ (s : TableState). StartsForAt core.coordinator.others s core.replica.budget before.place before.requests entry (core0_place core') core'.coordinator.requests t.committed told.step told.answer) h.shown_is
     (subst (λ (p : CoordinatorPlace). StartsForAt core.coordinator.others core.replica.shown core.replica.budget p before.requests entry (core0_place core') core'.coordinator.requests t.committed told.step told.answer) (sym place)
     (subst (λ (r : Requests). StartsForAt core.coordinator.others core.replica.shown core.replica.budget (coordinator_place core.coordinator None) r entry (core0_place core') core'.coordinator.requests t.committed told.step told.answer) (sym h.requests_are) t.here))) in
@@ -119,10 +119,10 @@ leads_start_for others clock stamp from entry core staged core' told e is none t
 pub leads_take_other : (entry clock stamp number : ℕ) (core core' : OtherCore) (m : Stamping) (answer : Answer) → stamp ≡ tick clock (Some m) → number ≡ suc entry → TakesDown false core m.message core' answer → (before : OtherState) → IsOtherCore core clock before
     → LeadsOther entry core.replica.budget core' before (record { stamp = stamp; done = record { event = Take number 0 false; answer = answer } }) (Some m)
 leads_take_other entry clock stamp number core core' m answer e is t before h =
-    let after : OtherState = record { clock = stamp; place = other_place core'; outstanding = core'.participant.outstanding; log = joined before.log t.committed } in
-    let version : core.replica.shown.version ≡ length before.log = ap (λ (s : TableState). s.version) h.shown_is ∙ table_version before.log in
-    let here : TakesDownAt false (table before.log (length before.log)) core.replica.budget (length before.log) before.place before.outstanding m.message (other_place core') core'.participant.outstanding t.committed answer =
-    subst (λ (v : ℕ). TakesDownAt false (table before.log (length before.log)) core.replica.budget v before.place before.outstanding m.message (other_place core') core'.participant.outstanding t.committed answer) version
+    let after : OtherState = record { limits = before.limits; clock = stamp; place = other_place core'; outstanding = core'.participant.outstanding; log = joined before.log t.committed } in
+    let version : core.replica.shown.version ≡ length before.log = ap (λ (s : TableState). s.version) h.shown_is ∙ table_version before.limits before.log in
+    let here : TakesDownAt false (table before.limits before.log (length before.log)) core.replica.budget (length before.log) before.place before.outstanding m.message (other_place core') core'.participant.outstanding t.committed answer =
+    subst (λ (v : ℕ). TakesDownAt false (table before.limits before.log (length before.log)) core.replica.budget v before.place before.outstanding m.message (other_place core') core'.participant.outstanding t.committed answer) version
     (subst (λ (s : TableState). TakesDownAt false s core.replica.budget core.replica.shown.version before.place before.outstanding m.message (other_place core') core'.participant.outstanding t.committed answer) h.shown_is
     (subst (λ (p : ParticipantPlace). TakesDownAt false core.replica.shown core.replica.budget core.replica.shown.version p before.outstanding m.message (other_place core') core'.participant.outstanding t.committed answer) (sym h.place_is)
     (subst (λ (b : Bool). TakesDownAt false core.replica.shown core.replica.budget core.replica.shown.version (other_place core) b m.message (other_place core') core'.participant.outstanding t.committed answer) (sym h.outstanding_is) t.here))) in
@@ -132,7 +132,7 @@ leads_take_other entry clock stamp number core core' m answer e is t before h =
         clock_is = refl;
         place_is = refl;
         outstanding_is = refl;
-        shown_is = t.shown_next ∙ (ap (λ (s : TableState). after_commit s t.committed) h.shown_is ∙ table_joined before.log t.committed);
+        shown_is = t.shown_next ∙ (ap (λ (s : TableState). after_commit s t.committed) h.shown_is ∙ table_joined before.limits before.log t.committed);
         between = t.between;
       };
       step = record {

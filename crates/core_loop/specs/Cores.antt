@@ -54,10 +54,11 @@ AreShort (suc entry) ops = All HasShortProgram ops
 abbrev pub Stands : {L : Type 0} → (L → ℕ → LinkView) → CoreState L → Type 0
 Stands view c = IsStanding c.part c.number c.cores c.clock c.history (view c.links)
 
--- what every call keeps: the core's number, the count of cores, its budget, its links and its queue
+-- what every call keeps: the core's number, the count of cores, its machine's limits, its budget, its links and its queue
 pub record SameCore {L : Type 0} (same : L → L → Type 0) (old new : CoreState L) : Type 0 where
   pub number : new.number ≡ old.number
   pub cores : new.cores ≡ old.cores
+  pub limits : (replica_of new.part).shown.limits ≡ (replica_of old.part).shown.limits
   pub budget : (replica_of new.part).budget ≡ (replica_of old.part).budget
   pub links : same old.links new.links
   pub intake : SameIntake old.intake new.intake

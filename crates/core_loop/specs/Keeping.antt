@@ -23,7 +23,7 @@ pub record IsCore0 (others : ℕ) (core : Core0) (clock : ℕ) (c : Core0State) 
   pub clock_is : c.clock ≡ clock
   pub place_is : c.place ≡ core0_place core
   pub requests_are : c.requests ≡ core.coordinator.requests
-  pub shown_is : core.replica.shown ≡ table c.log (length c.log)
+  pub shown_is : core.replica.shown ≡ table c.limits c.log (length c.log)
   pub others_are : core.coordinator.others ≡ others
   pub between : BetweenSteps core
 
@@ -32,12 +32,12 @@ pub record IsOtherCore (core : OtherCore) (clock : ℕ) (c : OtherState) : Type 
   pub clock_is : c.clock ≡ clock
   pub place_is : c.place ≡ other_place core
   pub outstanding_is : c.outstanding ≡ core.participant.outstanding
-  pub shown_is : core.replica.shown ≡ table c.log (length c.log)
+  pub shown_is : core.replica.shown ≡ table c.limits c.log (length c.log)
   pub between : IsBetweenSteps core
 
 -- the history leads to a state, which the core stands in, and the links carried what the history says
 abbrev pub IsStanding : Part → ℕ → ℕ → ℕ → List Stamped → (ℕ → LinkView) → Type 0
 IsStanding (part.Core0 core) number cores clock history view =
-    (c : Core0State) × (number ≡ 0) × IsCore0 (cores - 1) core clock c × Stands0 (cores - 1) core.replica.budget history view c
+    (c : Core0State) × (number ≡ 0) × IsCore0 (cores - 1) core clock c × Stands0 core.replica.shown.limits (cores - 1) core.replica.budget history view c
 IsStanding (part.OtherCore core) number cores clock history view =
-    (entry : ℕ) × (c : OtherState) × (number ≡ suc entry) × IsOtherCore core clock c × StandsOther entry core.replica.budget history view c
+    (entry : ℕ) × (c : OtherState) × (number ≡ suc entry) × IsOtherCore core clock c × StandsOther entry core.replica.shown.limits core.replica.budget history view c

@@ -1,6 +1,7 @@
 //! A core's part in the protocol.
 
 use core_steps::{Core0, OtherCore};
+use filter_table::Limits;
 use std::alloc::{AllocError, Global};
 use table_replica::Replica;
 
@@ -14,6 +15,7 @@ pub(crate) enum Part {
 impl Part {
     ghost use Rattle.std.specs.Prelude.{◌≡◌, ◌<◌, ◌≤◌, [], ℕ, IfOk};
     ghost use Rattle.core_links.specs.Views.{LinkView};
+    ghost use Rattle.monitor_2pc.specs.declared.most.TheConstants.{MOST_CORES};
     ghost use Rattle.core_loop.specs.Keeping.{IsStanding, replica_of};
     ghost use Rattle.core_loop.specs.Answering.{count_if, under_way};
     ghost use Rattle.core_loop.specs.Owning.{asks_itself};
@@ -23,19 +25,21 @@ impl Part {
     #[inline(never)]
     pub(crate) fn new(
         alloc: Global,
+        limits: Limits,
         budget: u32,
         number: u16,
         cores: u16,
     ) -> Result<Part, AllocError>
         requires number { number < cores }
-        requires cores { cores ≤ 8 }
+        requires cores { cores ≤ MOST_CORES }
         ensures stands { IfOk result (λ part. (view : ℕ → LinkView) → ((peer : ℕ) → IsSilent (view peer)) → IsStanding part number cores 0 [] view) }
+        ensures limits { IfOk result (λ part. (replica_of part).shown.limits ≡ limits) }
         ensures budget { IfOk result (λ part. (replica_of part).budget ≡ budget) }
     {
         if number == 0 {
-            Ok(Part::Core0(Core0::new(alloc, budget, cores)?))
+            Ok(Part::Core0(Core0::new(alloc, limits, budget, cores)?))
         } else {
-            Ok(Part::OtherCore(OtherCore::new(alloc, budget)?))
+            Ok(Part::OtherCore(OtherCore::new(alloc, limits, budget)?))
         }
     }
 

@@ -12,7 +12,7 @@ use crate::refusal::Halt;
 use crate::sending::all_ready;
 use crate::turning::next_event;
 use core_links::Links;
-use filter_table::Op;
+use filter_table::{Limits, Op};
 use ghost_log::Log;
 use rx_queue::{Intake, Job, Port};
 use std::alloc::{AllocError, Global};
@@ -64,6 +64,7 @@ impl<L: Links> Drop for Core<L> {
 
 impl<L: Links> Model for Core<L> {
     ghost use Rattle.std.specs.Prelude.{◌≡◌, ◌<◌, ◌≤◌};
+    ghost use Rattle.monitor_2pc.specs.declared.most.TheConstants.{MOST_CORES};
     ghost use Rattle.core_loop.specs.Cores.{CoreState, AreShort};
     ghost use Rattle.core_loop.specs.Keeping.{IsStanding};
     ghost use Rattle.core_loop.specs.InTurn.{last_begun};
@@ -74,12 +75,13 @@ impl<L: Links> Model for Core<L> {
 
     ghost view = { λ c. record { number = c.number; cores = c.cores; links = c.links; part = c.part; clock = c.clock; pending = c.requests.items; intake = c.intake; history = c.history.items; stopped = c.stopped } };
 
-    ghost invariant = { λ c. (c.number < c.cores) × (c.cores ≤ 8) × IsStanding c.part c.number c.cores c.clock c.history.items (L.view c.links) × AreShort c.number c.requests.items × (c.begun_last ≡ last_begun c.history.items) × HasStopped c.cores c.clock c.part (L.view c.links) c.stopped × IsGivenCount c.given c.history.items c.requests.items };
+    ghost invariant = { λ c. (c.number < c.cores) × (c.cores ≤ MOST_CORES) × IsStanding c.part c.number c.cores c.clock c.history.items (L.view c.links) × AreShort c.number c.requests.items × (c.begun_last ≡ last_begun c.history.items) × HasStopped c.cores c.clock c.part (L.view c.links) c.stopped × IsGivenCount c.given c.history.items c.requests.items };
 }
 
 impl<L: Links> Core<L> {
     ghost use Rattle.std.specs.Prelude.{◌≡◌, ◌≢◌, ◌<◌, ◌≤◌, ◌↔◌, ◌++◌, ◌∷◌, ℕ, List, Option, option_to_list, [], length, true, false, Some, None, IfOk, IfSome, IfNone, IsTrue, MatchOption};
     ghost use mathlib.Core.List.{IsPrefix};
+    ghost use Rattle.monitor_2pc.specs.declared.most.TheConstants.{MOST_CORES};
     ghost use Rattle.rx_queue.specs.Queue.{jobs_put, jobs_seen, jobs_taken, AreEnds, SamePort, SameIntake};
     ghost use Rattle.rx_queue.specs.declared.job.Job.{Job as GhostJob};
     ghost use Rattle.world_histories.specs.declared.history.Stamped.{Stamped as GhostStamped};
@@ -103,6 +105,7 @@ impl<L: Links> Core<L> {
     pub fn new(
         alloc: Global,
         links: L,
+        limits: Limits,
         budget: u32,
         number: u16,
         cores: u16,
@@ -110,17 +113,18 @@ impl<L: Links> Core<L> {
         intake: Intake,
     ) -> Result<Core<L>, AllocError>
         requires number { number < cores }
-        requires cores { cores ≤ 8 }
+        requires cores { cores ≤ MOST_CORES }
         requires short { AreShort number requests.items }
         requires silent { (peer : ℕ) → IsSilent (L.view links peer) }
         requires intake { jobs_taken intake ≡ [] }
         ensures place { IfOk result (λ core. (core.number ≡ number) × (core.cores ≡ cores) × ((replica_of core.part).budget ≡ budget)) }
+        ensures limits { IfOk result (λ core. (replica_of core.part).shown.limits ≡ limits) }
         ensures parts { IfOk result (λ core. (core.links ≡ links) × (core.intake ≡ intake)) }
         ensures history { IfOk result (λ core. core.history ≡ []) }
         ensures running { IfOk result (λ core. core.stopped ≡ None) }
         ensures requests { IfOk result (λ core. core.pending ≡ requests.items) }
     {
-        let part = Part::new(alloc, budget, number, cores)?;
+        let part = Part::new(alloc, limits, budget, number, cores)?;
         let given = requests.len() as u64;
         Ok(Core {
             alloc,

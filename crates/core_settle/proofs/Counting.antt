@@ -1,5 +1,6 @@
 -- Events of all cores, and what they were asked.
 use Rattle.std.proofs.Common.{◌≡◌, ◌*◌, ◌<◌, ◌≤◌, ◌⊎◌, inl, inr, ℕ, zero, suc, Some, List, [], ◌∷◌, length, length-append, slice_get, refl, sym, ap, subst, arith}
+use Rattle.filter_table.specs.Limits.{TableLimits}
 use Rattle.filter_table.specs.declared.operation.Op.{Op}
 use Rattle.world_events.specs.declared.event.Event.{Event}
 use Rattle.world_events.specs.declared.event.Event.TheVariants.{Start, Submit}
@@ -28,9 +29,9 @@ asked_counted [] = omega arith
 asked_counted (c ∷ cs) = let rest = asked_counted cs in omega (arith, rest, begun_counted c.history, length-append (begun c.history) c.pending)
 
 -- the events of a computation are at most those that all requests take
-pub steps_within : (budget : ℕ) (budgets : List ℕ) (first : RingCore) (others : List RingCore) (end : Core0State) (ends : List OtherState) → length others ≡ length budgets → Computation budget budgets first.history (histories_of others) end ends
+pub steps_within : (limits : TableLimits) (budget : ℕ) (budgets : List ℕ) (first : RingCore) (others : List RingCore) (end : Core0State) (ends : List OtherState) → length others ≡ length budgets → Computation limits budget budgets first.history (histories_of others) end ends
     → total steps (histories_of (first ∷ others)) ≤ events_in_all (first ∷ others)
-steps_within budget budgets first others end ends long c = most (per_request (length budgets)) (per_request (length others)) (ap per_request (sym long)) (asked_counted (first ∷ others)) (computation_bounded budget budgets first.history (histories_of others) end ends c)
+steps_within limits budget budgets first others end ends long c = most (per_request (length budgets)) (per_request (length others)) (ap per_request (sym long)) (asked_counted (first ∷ others)) (computation_bounded limits budget budgets first.history (histories_of others) end ends c)
   where
     times : (k m n : ℕ) → m ≤ n → k * m ≤ k * n
     times zero m n le = omega arith

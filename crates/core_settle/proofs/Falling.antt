@@ -3,6 +3,7 @@ use Rattle.std.proofs.Common.{◌≡◌, ◌∙◌, ◌+◌, ◌-◌, ◌*◌, �
 use Rattle.std.proofs.lemmas.Option.{slice_get_within, get_or_from_slice_get}
 use Rattle.table_replica.proofs.Shared.{get_at}
 use Rattle.world_model.proofs.Lists.{get_map}
+use Rattle.filter_table.specs.Limits.{TableLimits}
 use Rattle.filter_table.specs.declared.operation.Op.{Op}
 use Rattle.monitor_2pc.specs.Coordinators.{CoordinatorPlace, Idle}
 use Rattle.world_model.specs.Cases.{outgoing}
@@ -90,8 +91,8 @@ exact_pair first c entry m n e f x y = record {
       (subst (λ (j : ℕ). IsExact (ring_capacity c.links m) (ring_view c.links m) (ring_view first.links j) (ring_flow c.links m) (ring_flow first.links j)) f y);
 }
 
-pub pair_of : (budget : ℕ) (budgets : List ℕ) (first : RingCore) (others : List RingCore) → AreMachine budget budgets first others → EachIsExact first others → (k : ℕ) (c : RingCore) → slice_get others k ≡ Some c → ExactPair first c k
-pair_of budget budgets first others machine exact k c at =
+pub pair_of : (limits : TableLimits) (budget : ℕ) (budgets : List ℕ) (first : RingCore) (others : List RingCore) → AreMachine limits budget budgets first others → EachIsExact first others → (k : ℕ) (c : RingCore) → slice_get others k ≡ Some c → ExactPair first c k
+pair_of limits budget budgets first others machine exact k c at =
     let b = get_at budgets k (omega (arith, slice_get_within others k c at, machine.all)) in
     let x = exact k c at in
     exact_pair first c k (own_of first.links) (own_of c.links) machine.place.links_are (machine.peers k b.0 c b.1 at).place.links_are x.0 x.1
@@ -101,8 +102,8 @@ pub record HoldPair (first c : RingCore) (entry : ℕ) : Type 0 where
   pub down : 1 ≤ ring_capacity first.links (suc entry)
   pub up : 1 ≤ ring_capacity c.links 0
 
-pub hold_pair : (budget : ℕ) (budgets : List ℕ) (first : RingCore) (others : List RingCore) → AreMachine budget budgets first others → (k : ℕ) (c : RingCore) → slice_get others k ≡ Some c → HoldPair first c k
-hold_pair budget budgets first others machine k c at =
+pub hold_pair : (limits : TableLimits) (budget : ℕ) (budgets : List ℕ) (first : RingCore) (others : List RingCore) → AreMachine limits budget budgets first others → (k : ℕ) (c : RingCore) → slice_get others k ≡ Some c → HoldPair first c k
+hold_pair limits budget budgets first others machine k c at =
     let b = get_at budgets k (omega (arith, slice_get_within others k c at, machine.all)) in
     let p = machine.peers k b.0 c b.1 at in
     record {
@@ -127,10 +128,10 @@ EachIsKnown first others = (k : ℕ) (c : RingCore) → slice_get others k ≡ S
 known_of : (capacity : ℕ) (from to : LinkView) (out come : Flow) → 1 ≤ capacity → IsExact capacity from to out come → KnownRing out come
 known_of capacity from to out come some x = record { capacity = capacity; some = some; known = record { below = omega (arith, x.ends.items); items = omega (arith, x.ends.items); places = x.ends.places } }
 
-pub each_known : (budget : ℕ) (budgets : List ℕ) (first : RingCore) (others : List RingCore) → AreMachine budget budgets first others → EachIsExact first others → EachIsKnown first others
-each_known budget budgets first others machine exact k c at =
-    let p = pair_of budget budgets first others machine exact k c at in
-    let h = hold_pair budget budgets first others machine k c at in
+pub each_known : (limits : TableLimits) (budget : ℕ) (budgets : List ℕ) (first : RingCore) (others : List RingCore) → AreMachine limits budget budgets first others → EachIsExact first others → EachIsKnown first others
+each_known limits budget budgets first others machine exact k c at =
+    let p = pair_of limits budget budgets first others machine exact k c at in
+    let h = hold_pair limits budget budgets first others machine k c at in
     record { down = known_of _ _ _ _ _ h.down p.down; up = known_of _ _ _ _ _ h.up p.up }
 
 still_flow : (v w : Flow) → FlowsOn v w → w.out ≡ v.out → w.come ≡ v.come → IsStill v w
@@ -186,8 +187,8 @@ pub record DidNothing (f m l : RingCore) (os ms ls : List RingCore) : Type 0 whe
 
 -- Turns of some cores, and then all are looked at
 
-module _ (budget : ℕ) (budgets : List ℕ) (f m l : RingCore) (os ms ls : List RingCore) (all_went : AllWent Passed (f ∷ os) (m ∷ ms))
-    (looked : AreLookedAt (m ∷ ms) (l ∷ ls)) (machine' : AreMachine budget budgets l ls) (exact' : EachIsExact l ls) (con : Concludes budget budgets l ls) where
+module _ (limits : TableLimits) (budget : ℕ) (budgets : List ℕ) (f m l : RingCore) (os ms ls : List RingCore) (all_went : AllWent Passed (f ∷ os) (m ∷ ms))
+    (looked : AreLookedAt (m ∷ ms) (l ∷ ls)) (machine' : AreMachine limits budget budgets l ls) (exact' : EachIsExact l ls) (con : Concludes limits budget budgets l ls) where
   look0 : IsLookedAt m l
   look0 = looked.each 0 m l refl refl
 
@@ -204,7 +205,7 @@ module _ (budget : ℕ) (budgets : List ℕ) (f m l : RingCore) (os ms ls : List
   same_steps = ap (total steps) (histories_same (m ∷ ms) (l ∷ ls) looked)
 
   within : total steps (histories_of (l ∷ ls)) ≤ events_in_all (l ∷ ls)
-  within = steps_within budget budgets l ls con.end con.ends machine'.all con.computation
+  within = steps_within limits budget budgets l ls con.end con.ends machine'.all con.computation
 
   few_messages : (k : ℕ) (c : RingCore) → slice_get ls k ≡ Some c → length (ring_view l.links (1 + k)).sent + length (ring_view c.links 0).sent ≤ events_in_all (l ∷ ls)
   few_messages k c at =
@@ -248,7 +249,7 @@ module _ (budget : ℕ) (budgets : List ℕ) (f m l : RingCore) (os ms ls : List
         let x = get_at ms k (let e = all_went.all in omega (arith, slice_get_within os k c at, e)) in
         let s = each_passed (suc k) c x.0 at x.1 in
         let h = looked.each (suc k) x.0 d x.1 at' in
-        let p = pair_of budget budgets l ls machine' exact' k d at' in
+        let p = pair_of limits budget budgets l ls machine' exact' k d at' in
         let e : suc k ≡ 1 + k = omega arith in
         subst (λ (i : ℕ). LinkMoved f l i c d) e
         (record { down = ring_moved f m l (suc k) c x.0 d 0 passed0 look0 s h p.down; up = ring_moved c x.0 d 0 f m l (suc k) s h passed0 look0 p.up })
@@ -281,9 +282,9 @@ module _ (budget : ℕ) (budgets : List ℕ) (f m l : RingCore) (os ms ls : List
 
 -- Where no core did an event and no line moved, all are at rest
 
-module _ (budget : ℕ) (budgets : List ℕ) (f m l : RingCore) (os ms ls : List RingCore) (known : EachIsKnown f os) (all : length ms ≡ length os)
+module _ (limits : TableLimits) (budget : ℕ) (budgets : List ℕ) (f m l : RingCore) (os ms ls : List RingCore) (known : EachIsKnown f os) (all : length ms ≡ length os)
     (stayed : (i : ℕ) (c d : RingCore) → slice_get (f ∷ os) i ≡ Some c → slice_get (m ∷ ms) i ≡ Some d → Stayed c d) (looked : AreLookedAt (m ∷ ms) (l ∷ ls))
-    (machine' : AreMachine budget budgets l ls) (exact' : EachIsExact l ls) (con : Concludes budget budgets l ls) (still : AllStill f l 1 os ls) where
+    (machine' : AreMachine limits budget budgets l ls) (exact' : EachIsExact l ls) (con : Concludes limits budget budgets l ls) (still : AllStill f l 1 os ls) where
   stayed0 : Stayed f m
   stayed0 = stayed 0 f m refl refl
 
@@ -293,7 +294,7 @@ module _ (budget : ℕ) (budgets : List ℕ) (f m l : RingCore) (os ms ls : List
   long_after : length ls ≡ length os
   long_after = let e = looked.all in omega (arith, e, all)
 
-  others_cores : (k : ℕ) (d : RingCore) → slice_get ls k ≡ Some d → (b : ℕ) × IsPeer (length budgets) k b l d
+  others_cores : (k : ℕ) (d : RingCore) → slice_get ls k ≡ Some d → (b : ℕ) × IsPeer (length budgets) k limits b l d
   others_cores k d at = let b = get_at budgets k (omega (arith, slice_get_within ls k d at, machine'.all)) in (b.0, machine'.peers k b.0 d b.1 at)
 
   same_view0 : ring_view m.links ≡ ring_view l.links
@@ -344,7 +345,7 @@ module _ (budget : ℕ) (budgets : List ℕ) (f m l : RingCore) (os ms ls : List
         looked_k = looked.each (suc k) x.0 d x.1 at';
         still_k = subst (λ (i : ℕ). LinkStill f l i c.0 d) e (still k c.0 d c.1 at');
         before = known k c.0 c.1;
-        after = pair_of budget budgets l ls machine' exact' k d at';
+        after = pair_of limits budget budgets l ls machine' exact' k d at';
       }
 
   -- the parts of the others, by entry
@@ -415,7 +416,7 @@ module _ (budget : ℕ) (budgets : List ℕ) (f m l : RingCore) (os ms ls : List
       by_part (part.OtherCore core) is s = by_entry k v e d.0 core d.1 d.2 is s
 
   all_left : (core : Core0) → l.part ≡ part.Core0 core → IsCore0 (length budgets) core l.clock con.end → NothingIsLeft (ring_view l.links) (views_of ls) con.end con.ends l.pending pending_at (ring_flow m.links) flow_after
-  all_left core is home = still_rests budget budgets l.history (histories_of ls) (ring_view l.links) (views_of ls) con.end con.ends con.beside core l.clock l.pending core_at pending_at (ring_flow f.links) (ring_flow m.links) flow_before flow_after home
+  all_left core is home = still_rests limits budget budgets l.history (histories_of ls) (ring_view l.links) (views_of ls) con.end con.ends con.beside core l.clock l.pending core_at pending_at (ring_flow f.links) (ring_flow m.links) flow_before flow_after home
       (idles0 (length budgets) core l.pending (ring_view l.links) (ring_flow m.links) no_itself (moved NoMessageNow _ _ _ _ _ _ cores0 y same_view0 stayed0.no_message)
       (moved (λ (a : ℕ) (b : Part) (w : ℕ → LinkView). CanBeginNext a b l.pending w → ⊥) _ _ _ _ _ _ cores0 y same_view0 (subst (λ (o : List Op). CanBeginNext m.cores m.part o (ring_view m.links) → ⊥) (sym q) stayed0.no_request))
       (subst (λ (w : ℕ → LinkView). (p : ℕ) → (w p).ready ≡ false → (ring_flow m.links p).room ≡ 0) same_view0 stayed0.full)
@@ -493,13 +494,13 @@ module _ (budget : ℕ) (budgets : List ℕ) (f m l : RingCore) (os ms ls : List
 
 -- One round
 
-module _ (budget : ℕ) (budgets : List ℕ) (f m l : RingCore) (os ms ls : List RingCore) (machine : AreMachine budget budgets f os) (exact : EachIsExact f os) (all_went : AllWent Stayed (f ∷ os) (m ∷ ms))
-    (looked : AreLookedAt (m ∷ ms) (l ∷ ls)) (machine' : AreMachine budget budgets l ls) (exact' : EachIsExact l ls) (con : Concludes budget budgets l ls) where
+module _ (limits : TableLimits) (budget : ℕ) (budgets : List ℕ) (f m l : RingCore) (os ms ls : List RingCore) (machine : AreMachine limits budget budgets f os) (exact : EachIsExact f os) (all_went : AllWent Stayed (f ∷ os) (m ∷ ms))
+    (looked : AreLookedAt (m ∷ ms) (l ∷ ls)) (machine' : AreMachine limits budget budgets l ls) (exact' : EachIsExact l ls) (con : Concludes limits budget budgets l ls) where
   passed_all : AllWent Passed (f ∷ os) (m ∷ ms)
   passed_all = record { all = all_went.all; each = λ i c d at at'. went_passed c d (all_went.each i c d at at') }
 
   rests : DidNothing f m l os ms ls → ((i : ℕ) (c d : RingCore) → slice_get (f ∷ os) i ≡ Some c → slice_get (m ∷ ms) i ≡ Some d → Stayed c d) → AreAtRest (l ∷ ls)
-  rests n stayed = all_rest budget budgets f m l os ms ls (each_known budget budgets f os machine exact) (let e = all_went.all in omega (arith, e)) stayed looked machine' exact' con n.still
+  rests n stayed = all_rest limits budget budgets f m l os ms ls (each_known limits budget budgets f os machine exact) (let e = all_went.all in omega (arith, e)) stayed looked machine' exact' con n.still
 
   pub falls : AreAtRest (l ∷ ls) ⊎ (work_ahead (l ∷ ls) < work_ahead (f ∷ os))
   falls = by_count (counted Stayed (f ∷ os) (m ∷ ms) all_went)
@@ -513,5 +514,5 @@ module _ (budget : ℕ) (budgets : List ℕ) (f m l : RingCore) (os ms ls : List
         where
           by_either : (total steps (histories_of (f ∷ os)) < total steps (histories_of (m ∷ ms))) ⊎ ((i : ℕ) (x y : RingCore) → slice_get (f ∷ os) i ≡ Some x → slice_get (m ∷ ms) i ≡ Some y → Stayed x y)
               → AreAtRest (l ∷ ls) ⊎ (work_ahead (l ∷ ls) < work_ahead (f ∷ os))
-          by_either (inl lt) = inr (event_falls budget budgets f m l os ms ls passed_all looked machine' exact' con lt)
-          by_either (inr stayed) = by_nothing stayed (falls_or_not budget budgets f m l os ms ls passed_all looked machine' exact' con)
+          by_either (inl lt) = inr (event_falls limits budget budgets f m l os ms ls passed_all looked machine' exact' con lt)
+          by_either (inr stayed) = by_nothing stayed (falls_or_not limits budget budgets f m l os ms ls passed_all looked machine' exact' con)

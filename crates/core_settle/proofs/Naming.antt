@@ -5,6 +5,7 @@ use Rattle.std.proofs.lemmas.Bool.{cases_lt}
 use Rattle.table_replica.proofs.Shared.{get_at}
 use Rattle.world_model.proofs.Lists.{get-set_same, get-set_other, length-slice_set, same_or_not}
 use Rattle.world_model.proofs.Submissions.{eq_self, eq_other}
+use Rattle.filter_table.specs.Limits.{TableLimits}
 use Rattle.filter_table.specs.declared.operation.Op.{Op}
 use Rattle.world_histories.specs.declared.history.Stamped.{Stamped}
 use Rattle.core_links.specs.declared.ring_links.Link.{Link}
@@ -50,17 +51,17 @@ facing_other (suc i) (suc k) f = absurd f
 abbrev ExactTo : RingCore → ℕ → RingCore → ℕ → Type 0
 ExactTo c i d j = IsExact (ring_capacity c.links j) (ring_view c.links j) (ring_view d.links i) (ring_flow c.links j) (ring_flow d.links i)
 
-facing_exact : (budget : ℕ) (budgets : List ℕ) (cores : List RingCore) → IsMachine budget budgets cores → AreExactMachine cores → (i j : ℕ) (c d : RingCore) → Facing i j → slice_get cores i ≡ Some c → slice_get cores j ≡ Some d
+facing_exact : (limits : TableLimits) (budget : ℕ) (budgets : List ℕ) (cores : List RingCore) → IsMachine limits budget budgets cores → AreExactMachine cores → (i j : ℕ) (c d : RingCore) → Facing i j → slice_get cores i ≡ Some c → slice_get cores j ≡ Some d
     → (1 ≤ ring_capacity c.links j) × ExactTo c i d j
-facing_exact budget budgets [] machine exact i j c d f at at' = absurd machine
-facing_exact budget budgets (first ∷ others) machine exact zero zero c d f at at' = absurd f
-facing_exact budget budgets (first ∷ others) machine exact zero (suc k) c d f at at' =
+facing_exact limits budget budgets [] machine exact i j c d f at at' = absurd machine
+facing_exact limits budget budgets (first ∷ others) machine exact zero zero c d f at at' = absurd f
+facing_exact limits budget budgets (first ∷ others) machine exact zero (suc k) c d f at at' =
     let same : first ≡ c = cc in
-    subst (λ (x : RingCore). (1 ≤ ring_capacity x.links (suc k)) × ExactTo x 0 d (suc k)) same ((hold_pair budget budgets first others machine k d at').down, (pair_of budget budgets first others machine exact k d at').down)
-facing_exact budget budgets (first ∷ others) machine exact (suc k) zero c d f at at' =
+    subst (λ (x : RingCore). (1 ≤ ring_capacity x.links (suc k)) × ExactTo x 0 d (suc k)) same ((hold_pair limits budget budgets first others machine k d at').down, (pair_of limits budget budgets first others machine exact k d at').down)
+facing_exact limits budget budgets (first ∷ others) machine exact (suc k) zero c d f at at' =
     let same : first ≡ d = cc in
-    subst (λ (x : RingCore). (1 ≤ ring_capacity c.links 0) × ExactTo c (suc k) x 0) same ((hold_pair budget budgets first others machine k c at).up, (pair_of budget budgets first others machine exact k c at).up)
-facing_exact budget budgets (first ∷ others) machine exact (suc i) (suc j) c d f at at' = absurd f
+    subst (λ (x : RingCore). (1 ≤ ring_capacity c.links 0) × ExactTo c (suc k) x 0) same ((hold_pair limits budget budgets first others machine k c at).up, (pair_of limits budget budgets first others machine exact k c at).up)
+facing_exact limits budget budgets (first ∷ others) machine exact (suc i) (suc j) c d f at at' = absurd f
 
 -- Cores that sleep
 
@@ -80,8 +81,8 @@ pub record Sleeps (cores : List RingCore) (i : ℕ) (c turned : RingCore) : Type
   pub looked : IsLookedAt turned c
   pub knows : (j : ℕ) (d : RingCore) → Facing i j → slice_get cores j ≡ Some d → KnowsEnd (ring_flow turned.links j) (ring_flow d.links i)
 
-pub record Known (budget : ℕ) (budgets : List ℕ) (awake : Awake) (cores : List RingCore) : Type 0 where
-  pub machine : IsMachine budget budgets cores
+pub record Known (limits : TableLimits) (budget : ℕ) (budgets : List ℕ) (awake : Awake) (cores : List RingCore) : Type 0 where
+  pub machine : IsMachine limits budget budgets cores
   pub exact : AreExactMachine cores
   pub asleep : (i : ℕ) (c : RingCore) → slice_get cores i ≡ Some c → awake i ≡ false → (turned : RingCore) × Sleeps cores i c turned
 
@@ -114,18 +115,18 @@ set_same old place core becomes at k = record { all = length-slice_set old place
 
 -- A named turn
 
-module _ (budget : ℕ) (budgets : List ℕ) (awake awake' : Awake) (old new : List RingCore) (k : Known budget budgets awake old) (t : NamedTurn awake awake' old new) where
+module _ (limits : TableLimits) (budget : ℕ) (budgets : List ℕ) (awake awake' : Awake) (old new : List RingCore) (k : Known limits budget budgets awake old) (t : NamedTurn awake awake' old new) where
   abbrev mid : List RingCore
   mid = slice_set old t.place t.becomes
 
-  mid_machine : IsMachine budget budgets mid
-  mid_machine = machine_ran budget budgets old mid k.machine (set_same old t.place t.core t.becomes t.there t.turn.goes_on.keeps.same)
+  mid_machine : IsMachine limits budget budgets mid
+  mid_machine = machine_ran limits budget budgets old mid k.machine (set_same old t.place t.core t.becomes t.there t.turn.goes_on.keeps.same)
 
   long : length new ≡ length old
   long = t.seen.looked.all ∙ length-slice_set old t.place t.becomes
 
-  new_machine : IsMachine budget budgets new
-  new_machine = machine_ran budget budgets mid new mid_machine (kept_same mid new t.seen.looked.all (all_looked mid new t.seen.looked))
+  new_machine : IsMachine limits budget budgets new
+  new_machine = machine_ran limits budget budgets mid new mid_machine (kept_same mid new t.seen.looked.all (all_looked mid new t.seen.looked))
 
   -- what stands at a place before, in the middle and after
   record Stands (i : ℕ) (c' : RingCore) : Type 0 where
@@ -174,8 +175,8 @@ module _ (budget : ℕ) (budgets : List ℕ) (awake awake' : Awake) (old new : L
 
       knows : (j : ℕ) (d' : RingCore) → Facing t.place j → Stands j d' → KnowsEnd (ring_flow t.becomes.links j) (ring_flow d'.links t.place)
       knows j d' facing x =
-          let here = facing_exact budget budgets old k.machine k.exact t.place j t.core x.c facing t.there x.at in
-          let back = facing_exact budget budgets old k.machine k.exact j t.place x.c t.core (facing_back t.place j facing) x.at t.there in
+          let here = facing_exact limits budget budgets old k.machine k.exact t.place j t.core x.c facing t.there x.at in
+          let back = facing_exact limits budget budgets old k.machine k.exact j t.place x.c t.core (facing_back t.place j facing) x.at t.there in
           let on = idled.lines j in
           let same = other_lines j d' x (facing_other t.place j facing) t.place in
           record {
@@ -223,11 +224,11 @@ module _ (budget : ℕ) (budgets : List ℕ) (awake awake' : Awake) (old new : L
           let a = k.asleep i s.c s.at both.0 in
           (a.0, other_sleeps i c' a.0 s ne both.1 a.1)
 
-  turn_known : Known budget budgets awake' new
+  turn_known : Known limits budget budgets awake' new
   turn_known = record { machine = new_machine; exact = t.seen.exact; asleep = now_asleep }
 
-  turn_concludes : Conclude budget budgets new
-  turn_concludes = t.seen.concludes budget budgets mid_machine
+  turn_concludes : Conclude limits budget budgets new
+  turn_concludes = t.seen.concludes limits budget budgets mid_machine
 
   -- All went on, of which one turned
 
@@ -263,7 +264,7 @@ module _ (budget : ℕ) (budgets : List ℕ) (awake awake' : Awake) (old new : L
       peer : (c : RingCore) × (slice_get old i ≡ Some c)
       peer = get_at old i lt
 
-      none_there : (cores : List RingCore) (place j : ℕ) (c : RingCore) → IsMachine budget budgets cores → slice_get cores (suc place) ≡ Some c → names c (suc j) ≡ false
+      none_there : (cores : List RingCore) (place j : ℕ) (c : RingCore) → IsMachine limits budget budgets cores → slice_get cores (suc place) ≡ Some c → names c (suc j) ≡ false
       none_there [] place j c machine at = absurd machine
       none_there (first ∷ others) place j c machine at =
           let b = get_at budgets place (omega (arith, slice_get_within others place c at, machine.all)) in
@@ -365,21 +366,21 @@ still_lines f m l os ms ls still looked long (suc k) zero c d facing at at' lt =
     record { out = sym seen.out ∙ s.up.out; come = sym seen.come ∙ s.down.come }
 still_lines f m l os ms ls still looked long (suc i) (suc j) c d facing at at' lt = absurd facing
 
-falls_or_has_nothing : (budget : ℕ) (budgets : List ℕ) (old mid new : List RingCore) → AllWent Passed old mid → AreLookedAt mid new → IsMachine budget budgets new → AreExactMachine new → Conclude budget budgets new
+falls_or_has_nothing : (limits : TableLimits) (budget : ℕ) (budgets : List ℕ) (old mid new : List RingCore) → AllWent Passed old mid → AreLookedAt mid new → IsMachine limits budget budgets new → AreExactMachine new → Conclude limits budget budgets new
     → (work_ahead new < work_ahead old) ⊎ HasNothing old mid new
-falls_or_has_nothing budget budgets old mid [] went looked machine exact con = absurd machine
-falls_or_has_nothing budget budgets old [] (l ∷ ls) went looked machine exact con = absurd (let e = looked.all in omega (arith, e))
-falls_or_has_nothing budget budgets [] (m ∷ ms) (l ∷ ls) went looked machine exact con = absurd (let e = went.all in omega (arith, e))
-falls_or_has_nothing budget budgets (f ∷ os) (m ∷ ms) (l ∷ ls) went looked machine exact con = by_nothing (falls_or_not budget budgets f m l os ms ls went looked machine exact con)
+falls_or_has_nothing limits budget budgets old mid [] went looked machine exact con = absurd machine
+falls_or_has_nothing limits budget budgets old [] (l ∷ ls) went looked machine exact con = absurd (let e = looked.all in omega (arith, e))
+falls_or_has_nothing limits budget budgets [] (m ∷ ms) (l ∷ ls) went looked machine exact con = absurd (let e = went.all in omega (arith, e))
+falls_or_has_nothing limits budget budgets (f ∷ os) (m ∷ ms) (l ∷ ls) went looked machine exact con = by_nothing (falls_or_not limits budget budgets f m l os ms ls went looked machine exact con)
   where
     by_nothing : (work_ahead (l ∷ ls) < work_ahead (f ∷ os)) ⊎ DidNothing f m l os ms ls → (work_ahead (l ∷ ls) < work_ahead (f ∷ os)) ⊎ HasNothing (f ∷ os) (m ∷ ms) (l ∷ ls)
     by_nothing (inl lt) = inl lt
     by_nothing (inr n) = inr (record { passed = n.passed; most = n.most; still = still_lines f m l os ms ls n.still looked (let e = went.all in omega (arith, e)) })
 
-pub turn_fewer : (budget : ℕ) (budgets : List ℕ) (awake awake' : Awake) (old new : List RingCore) → Known budget budgets awake old → NamedTurn awake awake' old new → turns_ahead awake' new < turns_ahead awake old
-turn_fewer budget budgets awake awake' old new k t =
+pub turn_fewer : (limits : TableLimits) (budget : ℕ) (budgets : List ℕ) (awake awake' : Awake) (old new : List RingCore) → Known limits budget budgets awake old → NamedTurn awake awake' old new → turns_ahead awake' new < turns_ahead awake old
+turn_fewer limits budget budgets awake awake' old new k t =
     subst (λ (n : ℕ). work_ahead new * (1 + n) + count_awake awake' n < turns_ahead awake old) (sym same)
-    (by_work (falls_or_has_nothing budget budgets old turned new (all_went budget budgets awake awake' old new k t) t.seen.looked (new_machine budget budgets awake awake' old new k t) t.seen.exact (turn_concludes budget budgets awake awake' old new k t)))
+    (by_work (falls_or_has_nothing limits budget budgets old turned new (all_went limits budget budgets awake awake' old new k t) t.seen.looked (new_machine limits budget budgets awake awake' old new k t) t.seen.exact (turn_concludes limits budget budgets awake awake' old new k t)))
   where
     turned : List RingCore
     turned = slice_set old t.place t.becomes
@@ -397,10 +398,10 @@ turn_fewer budget budgets awake awake' old new k t =
 
         asleep : (b : Bool) → awake' t.place ≡ b → awake' t.place ≡ false
         asleep false e = e
-        asleep true e = absurd (no_event budget budgets awake awake' old new k t (n.passed t.place t.core t.becomes t.there here).history (t.wakes.more e))
+        asleep true e = absurd (no_event limits budget budgets awake awake' old new k t (n.passed t.place t.core t.becomes t.there here).history (t.wakes.more e))
 
         others : (i : ℕ) → i < length old → i ≢ t.place → awake' i ≡ awake i
-        others i lt ne = t.wakes.others i ne ∙ by_bool (awake i) (names t.becomes i) (unnamed budget budgets awake awake' old new k t (λ j c facing at. n.still t.place j t.core t.becomes facing t.there here (slice_get_within old j c at)) i lt ne)
+        others i lt ne = t.wakes.others i ne ∙ by_bool (awake i) (names t.becomes i) (unnamed limits budget budgets awake awake' old new k t (λ j c facing at. n.still t.place j t.core t.becomes facing t.there here (slice_get_within old j c at)) i lt ne)
           where
             by_bool : (b named : Bool) → named ≡ false → cond b true named ≡ b
             by_bool true named e = refl
@@ -422,7 +423,7 @@ set_exact (first ∷ others) (suc n) core x at same exact = λ k c at_c. by_plac
         subst (λ (r : RingLinks). IsExactAt first.links r × IsExactAt r first.links) (sym same ∙ ap (λ (y : RingCore). y.links) is) (exact n core at)
     by_place k c at_c (inr ne) = exact k c (sym (get-set_other others n k x ne) ∙ at_c)
 
-module _ (budget : ℕ) (budgets : List ℕ) (awake awake' : Awake) (old new : List RingCore) (k : Known budget budgets awake old) (a : IsAsked awake awake' old new) where
+module _ (limits : TableLimits) (budget : ℕ) (budgets : List ℕ) (awake awake' : Awake) (old new : List RingCore) (k : Known limits budget budgets awake old) (a : IsAsked awake awake' old new) where
   abbrev asked_core : RingCore
   asked_core = record a.core { pending = a.core.pending ++ a.op ∷ [] }
 
@@ -430,7 +431,7 @@ module _ (budget : ℕ) (budgets : List ℕ) (awake awake' : Awake) (old new : L
   asked_list = slice_set old a.place asked_core
 
   same_asked : SameCore SameLinks a.core asked_core
-  same_asked = let s = same_itself a.core in record { number = refl; cores = refl; budget = refl; links = s.links; intake = s.intake }
+  same_asked = let s = same_itself a.core in record { number = refl; cores = refl; limits = refl; budget = refl; links = s.links; intake = s.intake }
 
   is_awake : awake' a.place ≡ true
   is_awake = a.wakes a.place ∙ ap (λ (b : Bool). cond b true (awake a.place)) (eq_self a.place)
@@ -465,9 +466,9 @@ module _ (budget : ℕ) (budgets : List ℕ) (awake awake' : Awake) (old new : L
           let s = k.asleep i c (sym (get-set_other old a.place i asked_core ne) ∙ at) (asleep_before i ne asleep) in
           (s.0, sleeps_on i c s.0 s.1)
 
-  ask_known : Known budget budgets awake' new
-  ask_known = subst (λ (cs : List RingCore). Known budget budgets awake' cs) (sym a.new_is) (record {
-    machine = machine_ran budget budgets old asked_list k.machine (set_same old a.place a.core asked_core a.there same_asked);
+  ask_known : Known limits budget budgets awake' new
+  ask_known = subst (λ (cs : List RingCore). Known limits budget budgets awake' cs) (sym a.new_is) (record {
+    machine = machine_ran limits budget budgets old asked_list k.machine (set_same old a.place a.core asked_core a.there same_asked);
     exact = set_exact old a.place a.core asked_core a.there refl k.exact;
     asleep = asked_asleep;
   })
@@ -498,12 +499,12 @@ known_ring out come out' come' o c a b below = record {
   known = record { below = omega (arith, below, o.out, c.come); items = omega (arith, b.items, o.out); places = omega (arith, a.places, c.come) };
 }
 
-all_asleep : (budget : ℕ) (budgets : List ℕ) (cores turned : List RingCore) → IsMachine budget budgets cores → AreExactMachine cores → Conclude budget budgets cores → length turned ≡ length cores
+all_asleep : (limits : TableLimits) (budget : ℕ) (budgets : List ℕ) (cores turned : List RingCore) → IsMachine limits budget budgets cores → AreExactMachine cores → Conclude limits budget budgets cores → length turned ≡ length cores
     → ((i : ℕ) (c t : RingCore) → slice_get cores i ≡ Some c → slice_get turned i ≡ Some t → Sleeps cores i c t) → AreAtRest cores
-all_asleep budget budgets [] turned machine exact con long sleeps = absurd machine
-all_asleep budget budgets (l ∷ ls) [] machine exact con long sleeps = absurd (omega (arith, long))
-all_asleep budget budgets (l ∷ ls) (m ∷ ms) machine exact con long sleeps =
-    all_rest budget budgets m m l ms ms ls known refl stayed looked machine exact con still
+all_asleep limits budget budgets [] turned machine exact con long sleeps = absurd machine
+all_asleep limits budget budgets (l ∷ ls) [] machine exact con long sleeps = absurd (omega (arith, long))
+all_asleep limits budget budgets (l ∷ ls) (m ∷ ms) machine exact con long sleeps =
+    all_rest limits budget budgets m m l ms ms ls known refl stayed looked machine exact con still
   where
     sleeper : (i : ℕ) (t : RingCore) → slice_get (m ∷ ms) i ≡ Some t → (c : RingCore) × (slice_get (l ∷ ls) i ≡ Some c) × Sleeps (l ∷ ls) i c t
     sleeper i t at =
@@ -522,7 +523,7 @@ all_asleep budget budgets (l ∷ ls) (m ∷ ms) machine exact con long sleeps =
     known : EachIsKnown m ms
     known k t at =
         let s = sleeper (suc k) t at in
-        let p = pair_of budget budgets l ls machine exact k s.0 s.1 in
+        let p = pair_of limits budget budgets l ls machine exact k s.0 s.1 in
         record {
           down = known_ring (ring_flow m.links (suc k)) (ring_flow t.links 0) (ring_flow l.links (suc k)) (ring_flow s.0.links 0) (first.looked.lines (suc k)) (s.2.looked.lines 0) (first.knows (suc k) s.0 tt s.1) (s.2.knows 0 l tt refl) (omega (arith, p.down.ends.items));
           up = known_ring (ring_flow t.links 0) (ring_flow m.links (suc k)) (ring_flow s.0.links 0) (ring_flow l.links (suc k)) (s.2.looked.lines 0) (first.looked.lines (suc k)) (s.2.knows 0 l tt refl) (first.knows (suc k) s.0 tt s.1) (omega (arith, p.up.ends.items));
@@ -537,44 +538,44 @@ all_asleep budget budgets (l ∷ ls) (m ∷ ms) machine exact con long sleeps =
           up = record { out = (s.looked.lines 0).out; come = (first.looked.lines (suc k)).come };
         })
 
-none_awake_rests : (budget : ℕ) (budgets : List ℕ) (awake : Awake) (cores : List RingCore) → Known budget budgets awake cores → Conclude budget budgets cores → NoneAwake (length cores) awake → AreAtRest cores
-none_awake_rests budget budgets awake cores k con none =
+none_awake_rests : (limits : TableLimits) (budget : ℕ) (budgets : List ℕ) (awake : Awake) (cores : List RingCore) → Known limits budget budgets awake cores → Conclude limits budget budgets cores → NoneAwake (length cores) awake → AreAtRest cores
+none_awake_rests limits budget budgets awake cores k con none =
     let c = chosen (λ (i : ℕ) (x y : RingCore). Sleeps cores i x y) cores (λ i x at. k.asleep i x at (none i (slice_get_within cores i x at))) in
-    all_asleep budget budgets cores c.0 k.machine k.exact con c.1 c.2
+    all_asleep limits budget budgets cores c.0 k.machine k.exact con c.1 c.2
 
 -- Turns one after another
 
-known_first : (budget : ℕ) (budgets : List ℕ) (awake : Awake) (old first : List RingCore) → IsMachine budget budgets old → AreSeen old first → AllAwake awake → Known budget budgets awake first
-known_first budget budgets awake old first machine seen all = record {
-  machine = machine_ran budget budgets old first machine (kept_same old first seen.looked.all (all_looked old first seen.looked));
+known_first : (limits : TableLimits) (budget : ℕ) (budgets : List ℕ) (awake : Awake) (old first : List RingCore) → IsMachine limits budget budgets old → AreSeen old first → AllAwake awake → Known limits budget budgets awake first
+known_first limits budget budgets awake old first machine seen all = record {
+  machine = machine_ran limits budget budgets old first machine (kept_same old first seen.looked.all (all_looked old first seen.looked));
   exact = seen.exact;
   asleep = λ i c at asleep. absurd (let both : true ≡ false = sym (all i) ∙ asleep in cc);
 }
 
-pub turns_known : (budget : ℕ) (budgets : List ℕ) (steps : ℕ) (awake awake' : Awake) (first last : List RingCore) → Known budget budgets awake first → NamedTurns steps awake awake' first last → Known budget budgets awake' last
-turns_known budget budgets zero awake awake' first last k t = subst (λ (x : Awake). Known budget budgets x last) (sym t.0) (subst (λ (x : List RingCore). Known budget budgets awake x) (sym t.1) k)
-turns_known budget budgets (suc steps) awake awake' first last k t = by_step (turns_known budget budgets steps awake t.0 first t.1 k t.2) t.3
+pub turns_known : (limits : TableLimits) (budget : ℕ) (budgets : List ℕ) (steps : ℕ) (awake awake' : Awake) (first last : List RingCore) → Known limits budget budgets awake first → NamedTurns steps awake awake' first last → Known limits budget budgets awake' last
+turns_known limits budget budgets zero awake awake' first last k t = subst (λ (x : Awake). Known limits budget budgets x last) (sym t.0) (subst (λ (x : List RingCore). Known limits budget budgets awake x) (sym t.1) k)
+turns_known limits budget budgets (suc steps) awake awake' first last k t = by_step (turns_known limits budget budgets steps awake t.0 first t.1 k t.2) t.3
   where
-    by_step : Known budget budgets t.0 t.1 → NamedTurn t.0 awake' t.1 last ⊎ IsAsked t.0 awake' t.1 last → Known budget budgets awake' last
-    by_step m (inl x) = turn_known budget budgets t.0 awake' t.1 last m x
-    by_step m (inr x) = ask_known budget budgets t.0 awake' t.1 last m x
+    by_step : Known limits budget budgets t.0 t.1 → NamedTurn t.0 awake' t.1 last ⊎ IsAsked t.0 awake' t.1 last → Known limits budget budgets awake' last
+    by_step m (inl x) = turn_known limits budget budgets t.0 awake' t.1 last m x
+    by_step m (inr x) = ask_known limits budget budgets t.0 awake' t.1 last m x
 
-machine_some : (budget : ℕ) (budgets : List ℕ) (cores : List RingCore) → IsMachine budget budgets cores → 0 < length cores
-machine_some budget budgets [] machine = absurd machine
-machine_some budget budgets (first ∷ others) machine = omega arith
+machine_some : (limits : TableLimits) (budget : ℕ) (budgets : List ℕ) (cores : List RingCore) → IsMachine limits budget budgets cores → 0 < length cores
+machine_some limits budget budgets [] machine = absurd machine
+machine_some limits budget budgets (first ∷ others) machine = omega arith
 
-pub named_rest : (budget : ℕ) (budgets : List ℕ) (steps : ℕ) (awake awake' : Awake) (old first last : List RingCore) → IsMachine budget budgets old → AreSeen old first → AllAwake awake → NamedTurns steps awake awake' first last
+pub named_rest : (limits : TableLimits) (budget : ℕ) (budgets : List ℕ) (steps : ℕ) (awake awake' : Awake) (old first last : List RingCore) → IsMachine limits budget budgets old → AreSeen old first → AllAwake awake → NamedTurns steps awake awake' first last
     → NoneAwake (length last) awake' → AreAtRest last
-named_rest budget budgets zero awake awake' old first last machine seen all t none =
-    let k = turns_known budget budgets zero awake awake' first last (known_first budget budgets awake old first machine seen all) t in
-    absurd (let both : true ≡ false = sym (ap (λ (x : Awake). x 0) t.0 ∙ all 0) ∙ none 0 (machine_some budget budgets last k.machine) in cc)
-named_rest budget budgets (suc steps) awake awake' old first last machine seen all t none = by_step (turns_known budget budgets steps awake t.0 first t.1 (known_first budget budgets awake old first machine seen all) t.2) t.3
+named_rest limits budget budgets zero awake awake' old first last machine seen all t none =
+    let k = turns_known limits budget budgets zero awake awake' first last (known_first limits budget budgets awake old first machine seen all) t in
+    absurd (let both : true ≡ false = sym (ap (λ (x : Awake). x 0) t.0 ∙ all 0) ∙ none 0 (machine_some limits budget budgets last k.machine) in cc)
+named_rest limits budget budgets (suc steps) awake awake' old first last machine seen all t none = by_step (turns_known limits budget budgets steps awake t.0 first t.1 (known_first limits budget budgets awake old first machine seen all) t.2) t.3
   where
-    by_step : Known budget budgets t.0 t.1 → NamedTurn t.0 awake' t.1 last ⊎ IsAsked t.0 awake' t.1 last → AreAtRest last
-    by_step m (inl x) = none_awake_rests budget budgets awake' last (turn_known budget budgets t.0 awake' t.1 last m x) (turn_concludes budget budgets t.0 awake' t.1 last m x) none
-    by_step m (inr x) = absurd (let both : true ≡ false = sym (is_awake budget budgets t.0 awake' t.1 last m x) ∙ none x.place (ask_inside budget budgets t.0 awake' t.1 last m x) in cc)
+    by_step : Known limits budget budgets t.0 t.1 → NamedTurn t.0 awake' t.1 last ⊎ IsAsked t.0 awake' t.1 last → AreAtRest last
+    by_step m (inl x) = none_awake_rests limits budget budgets awake' last (turn_known limits budget budgets t.0 awake' t.1 last m x) (turn_concludes limits budget budgets t.0 awake' t.1 last m x) none
+    by_step m (inr x) = absurd (let both : true ≡ false = sym (is_awake limits budget budgets t.0 awake' t.1 last m x) ∙ none x.place (ask_inside limits budget budgets t.0 awake' t.1 last m x) in cc)
 
-pub named_fewer : (budget : ℕ) (budgets : List ℕ) (steps : ℕ) (awake between awake' : Awake) (old first mid last : List RingCore) → IsMachine budget budgets old → AreSeen old first → AllAwake awake → NamedTurns steps awake between first mid
+pub named_fewer : (limits : TableLimits) (budget : ℕ) (budgets : List ℕ) (steps : ℕ) (awake between awake' : Awake) (old first mid last : List RingCore) → IsMachine limits budget budgets old → AreSeen old first → AllAwake awake → NamedTurns steps awake between first mid
     → NamedTurn between awake' mid last → turns_ahead awake' last < turns_ahead between mid
-named_fewer budget budgets steps awake between awake' old first mid last machine seen all t x =
-    turn_fewer budget budgets between awake' mid last (turns_known budget budgets steps awake between first mid (known_first budget budgets awake old first machine seen all) t) x
+named_fewer limits budget budgets steps awake between awake' old first mid last machine seen all t x =
+    turn_fewer limits budget budgets between awake' mid last (turns_known limits budget budgets steps awake between first mid (known_first limits budget budgets awake old first machine seen all) t) x

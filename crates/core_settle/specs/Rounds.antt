@@ -1,6 +1,7 @@
 -- Rounds in which each core takes a turn, and cores at rest.
 use Rattle.std.specs.Prelude.{◌≡◌, ◌≢◌, ◌⊎◌, ◌+◌, ◌<◌, ◌≤◌, ℕ, zero, suc, false, All, List, [], Option, None, Some, length, slice_get}
 use mathlib.Core.List.{IsPrefix}
+use Rattle.filter_table.specs.Limits.{TableLimits}
 use Rattle.filter_table.specs.declared.operation.Op.{Op}
 use Rattle.rx_queue.specs.Queue.{jobs_taken}
 use Rattle.world_histories.specs.declared.history.Stamped.{Stamped}
@@ -100,7 +101,7 @@ pub record HaltsAmong (lists : Type 0) (number : ℕ) (why : Halt) (cores : List
 pub record AreSeen (old new : List RingCore) : Type 0 where
   pub looked : AreLookedAt old new
   pub exact : AreExactMachine new
-  pub concludes : (budget : ℕ) (budgets : List ℕ) → IsMachine budget budgets old → Conclude budget budgets new
+  pub concludes : (limits : TableLimits) (budget : ℕ) (budgets : List ℕ) → IsMachine limits budget budgets old → Conclude limits budget budgets new
 
 -- A round: each core takes at least one turn, none halts, and then the cores are looked at. A turn changes its core alone, so it is all the same
 -- in what order the cores take theirs.
@@ -131,9 +132,10 @@ HasAllDecided c = length (decisions c.history) ≡ length (asked c)
 
 -- the cores show the table of one log, and all of it
 pub record HaveOneTable (cores : List RingCore) : Type 0 where
+  pub limits : TableLimits
   pub log : List Op
   pub version : (i : ℕ) (c : RingCore) → slice_get cores i ≡ Some c → version_of_core c ≡ length log
-  pub table_is : (i : ℕ) (c : RingCore) → slice_get cores i ≡ Some c → ShowsTable log c
+  pub table_is : (i : ℕ) (c : RingCore) → slice_get cores i ≡ Some c → ShowsTable limits log c
 
 -- How settling ends
 

@@ -1,6 +1,7 @@
 //! All cores of a machine, looked at while none of them is in a call.
 
 ghost use Rattle.std.specs.Prelude.{◌≡◌, ℕ, List, Some, map, slice_get};
+ghost use Rattle.filter_table.specs.Limits.{TableLimits};
 ghost use Rattle.core_links.specs.Flows.{LooksAt};
 ghost use Rattle.core_links.specs.RingSlots.{AreJoinedLinks, own_of, ring_view};
 ghost use Rattle.core_loop.specs.Cores.{Stands};
@@ -13,10 +14,10 @@ use crate::member::Member;
 
 /// The cores of one machine, as they stand, however they are kept: as `core_join::agree` of core 0 and the others.
 pub fn look_at_machine<T: Member>(cores: &mut [T])
-    requires { (budget : ℕ) × (budgets : List ℕ) × IsMachine budget budgets (map T.core cores.old) }
+    requires { (limits : TableLimits) × (budget : ℕ) × (budgets : List ℕ) × IsMachine limits budget budgets (map T.core cores.old) }
     ensures looked { AreLookedAt (map T.core cores.old) (map T.core cores.new) }
     ensures exact { AreExactMachine (map T.core cores.new) }
-    ensures concludes { (budget : ℕ) (budgets : List ℕ) → IsMachine budget budgets (map T.core cores.old) → Conclude budget budgets (map T.core cores.new) }
+    ensures concludes { (limits : TableLimits) (budget : ℕ) (budgets : List ℕ) → IsMachine limits budget budgets (map T.core cores.old) → Conclude limits budget budgets (map T.core cores.new) }
 {
     match cores.split_first_mut() {
         None => {}

@@ -1,6 +1,7 @@
 //! Turns of all cores until nothing is left to do.
 
 ghost use Rattle.std.specs.Prelude.{◌≡◌, ◌↔◌, ℕ, List, length, map, None, All, IfSome, IfNone, IsTrue};
+ghost use Rattle.filter_table.specs.Limits.{TableLimits};
 ghost use Rattle.core_join.specs.Machines.{RingCore, IsMachine, AreSameCores};
 ghost use Rattle.core_join.specs.Looking.{AreExactMachine};
 ghost use Rattle.core_join.specs.Conclusions.{Conclude};
@@ -31,12 +32,12 @@ pub enum Settled {
 /// ahead, which is a number of events and lines, and a machine at rest takes none. Everything done so far is kept, so
 /// settling again goes on from there. No job is received.
 pub fn settle<T: Member>(cores: &mut [T]) -> Settled
-    requires machine { (budget : ℕ) × (budgets : List ℕ) × IsMachine budget budgets (map T.core cores.old) }
+    requires machine { (limits : TableLimits) × (budget : ℕ) × (budgets : List ℕ) × IsMachine limits budget budgets (map T.core cores.old) }
     ensures machine { AreSameCores (map T.core cores.old) (map T.core cores.new) }
     ensures keeps { AllKeep (map T.core cores.old) (map T.core cores.new) }
     ensures ends { EndsFor T.lists result (map T.core cores.new) }
     ensures rounds { TakesRounds result (map T.core cores.old) (map T.core cores.new) }
-    ensures concludes { (budget : ℕ) (budgets : List ℕ) → IsMachine budget budgets (map T.core cores.old) → Conclude budget budgets (map T.core cores.new) }
+    ensures concludes { (limits : TableLimits) (budget : ℕ) (budgets : List ℕ) → IsMachine limits budget budgets (map T.core cores.old) → Conclude limits budget budgets (map T.core cores.new) }
 {
     look_at_machine(cores);
     if at_rest(cores) {
@@ -51,13 +52,13 @@ pub fn settle<T: Member>(cores: &mut [T]) -> Settled
 
 // A round: a turn of each core, in order, until one halts, and a look at all. It answers where settling ends.
 fn round<T: Member>(cores: &mut [T]) -> Option<Settled>
-    requires machine { (budget : ℕ) × (budgets : List ℕ) × IsMachine budget budgets (map T.core cores.old) }
+    requires machine { (limits : TableLimits) × (budget : ℕ) × (budgets : List ℕ) × IsMachine limits budget budgets (map T.core cores.old) }
     ensures machine { AreSameCores (map T.core cores.old) (map T.core cores.new) }
     ensures keeps { AllKeep (map T.core cores.old) (map T.core cores.new) }
     ensures exact { AreExactMachine (map T.core cores.new) }
     ensures goes_on { IfNone result (Round (map T.core cores.old) (map T.core cores.new) × (AreAtRest (map T.core cores.new) → ⊥)) }
     ensures ends { IfSome result (λ settled. EndsRound settled (map T.core cores.old) (map T.core cores.new) × EndsFor T.lists settled (map T.core cores.new)) }
-    ensures concludes { (budget : ℕ) (budgets : List ℕ) → IsMachine budget budgets (map T.core cores.old) → Conclude budget budgets (map T.core cores.new) }
+    ensures concludes { (limits : TableLimits) (budget : ℕ) (budgets : List ℕ) → IsMachine limits budget budgets (map T.core cores.old) → Conclude limits budget budgets (map T.core cores.new) }
 {
     let halted = turn_each(cores);
     look_at_machine(cores);

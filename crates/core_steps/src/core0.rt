@@ -13,7 +13,7 @@ ghost use Rattle.core_steps.specs.declared.core0.Told.{Told as GhostTold};
 ghost use Rattle.core_steps.specs.Core0Steps.{BetweenSteps, CanBegin, core0_place, sent, CanBeCoded, start_sends, start_for_sends, Starts, StartsForCore, TakesUp, BringNoOp, RepliesAlone, HasWaiting};
 
 use crate::outgoing::Outgoing;
-use filter_table::{Op, StageFault};
+use filter_table::{Limits, Op, StageFault};
 use monitor_2pc::{Coordinator, Decision, MOST_CORES, Message, Say, Step, Stranger, Vote, veto_of};
 use std::alloc::{AllocError, Global};
 use table_replica::Replica;
@@ -45,15 +45,15 @@ pub struct Told {
 impl Core0 {
     /// Core 0 that has done nothing yet, of a machine with so many cores.
     #[inline(never)]
-    pub fn new(alloc: Global, budget: u32, cores: u16) -> Result<Core0, AllocError>
+    pub fn new(alloc: Global, limits: Limits, budget: u32, cores: u16) -> Result<Core0, AllocError>
         requires least { 1 ≤ cores }
         requires most { cores ≤ MOST_CORES }
-        ensures replica { IfOk result (λ core. core.replica ≡ record { budget = budget; shown = empty_table; staged = None }) }
+        ensures replica { IfOk result (λ core. core.replica ≡ record { budget = budget; shown = empty_table limits; staged = None }) }
         ensures coordinator { IfOk result (λ core. core.coordinator ≡ record { others = cores - 1; last = 0; phase = Idle; requests = no_requests (cores - 1) }) }
         ensures between { IfOk result BetweenSteps }
     {
         Ok(Core0 {
-            replica: Replica::new(alloc, budget)?,
+            replica: Replica::with_limits(alloc, limits, budget)?,
             coordinator: Coordinator::new(alloc, cores, 0)?,
         })
     }

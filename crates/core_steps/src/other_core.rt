@@ -14,6 +14,7 @@ ghost use Rattle.core_steps.specs.OtherCoreSteps.{IsBetweenSteps, AwaitsHere, Co
 ghost use Rattle.core_steps.specs.Unread.{CannotVote};
 
 use crate::spare::{Ballot, Spare, Unread};
+use filter_table::Limits;
 use filter_verify::Room;
 use monitor_2pc::{Decision, Message, Participant, Stranger, Vote};
 use std::alloc::{AllocError, Global};
@@ -44,13 +45,13 @@ impl Drop for OtherCore {
 impl OtherCore {
     /// A core that has done nothing yet. It takes the memory for the longest program and for the verifier.
     #[inline(never)]
-    pub fn new(alloc: Global, budget: u32) -> Result<OtherCore, AllocError>
-        ensures replica { IfOk result (λ core. core.replica ≡ record { budget = budget; shown = empty_table; staged = None }) }
+    pub fn new(alloc: Global, limits: Limits, budget: u32) -> Result<OtherCore, AllocError>
+        ensures replica { IfOk result (λ core. core.replica ≡ record { budget = budget; shown = empty_table limits; staged = None }) }
         ensures participant { IfOk result (λ core. core.participant ≡ record { last = 0; voted = None; outstanding = false }) }
         ensures between { IfOk result IsBetweenSteps }
     {
         Ok(OtherCore {
-            replica: Replica::new(alloc, budget)?,
+            replica: Replica::with_limits(alloc, limits, budget)?,
             participant: Participant::new(0),
             room: Room::new(alloc)?,
             spare: Spare::new(alloc)?,

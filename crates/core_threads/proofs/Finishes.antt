@@ -6,6 +6,7 @@ use Rattle.rx_queue.specs.declared.job.Job.{Job}
 use Rattle.rx_queue.specs.declared.intake.Intake.{Intake}
 use Rattle.rx_queue.specs.Queue.{SameIntake}
 use Rattle.core_links.specs.RingSlots.{ring_view}
+use Rattle.filter_table.specs.Limits.{TableLimits}
 use Rattle.core_join.specs.Machines.{RingCore, IsMachine}
 use Rattle.core_join.specs.Looking.{AreLookedAt}
 use Rattle.core_join.specs.Conclusions.{AreRunning}
@@ -47,8 +48,8 @@ module _ (old new : List Ran) (outlets : List Outlet) (can : CanFinish old outle
       ap (λ (c : RingCore). c.number) r.2.core.core ∙ (can.fed.each i r.0 o.0 r.1 o.1).number
 
   -- the cores whose jobs were left are the machine still
-  left_so : IsMachine can.budget can.budgets (cores_of new)
-  left_so = machine_ran can.budget can.budgets (cores_of old) (cores_of new) can.machine (record {
+  left_so : IsMachine can.limits can.budget can.budgets (cores_of new)
+  left_so = machine_ran can.limits can.budget can.budgets (cores_of old) (cores_of new) can.machine (record {
     all = length-map new (λ r. r.core) ∙ same.all ∙ sym (length-map old (λ r. r.core));
     each = λ i c d at_c at_d. (let r = get_map (λ (r : Ran). r.core) old i c at_c in
         let s = get_map (λ (r : Ran). r.core) new i d at_d in
@@ -56,13 +57,13 @@ module _ (old new : List Ran) (outlets : List Outlet) (can : CanFinish old outle
   })
     where
       taken_with : (c : RingCore) (intake : Intake) → SameIntake c.intake intake → SameCore SameLinks c (record c { intake = intake })
-      taken_with c intake i = (let s = same_itself c in record { number = s.number; cores = s.cores; budget = s.budget; links = s.links; intake = i })
+      taken_with c intake i = (let s = same_itself c in record { number = s.number; cores = s.cores; limits = s.limits; budget = s.budget; links = s.links; intake = i })
 
       taken_same : (c d : RingCore) → SameButTaken c d → SameCore SameLinks c d
       taken_same c d e = subst (λ (x : RingCore). SameCore SameLinks c x) (sym e.core) (taken_with c d.intake e.intake)
 
-  pub left_machine : (slice : List RingCore) → slice ≡ cores_of new → (budget : ℕ) × (budgets : List ℕ) × IsMachine budget budgets (map (λ (c : RingCore). c) slice)
-  left_machine slice is = (can.budget, can.budgets, subst (λ (l : List RingCore). IsMachine can.budget can.budgets l) (sym (map-id slice ∙ is)) left_so)
+  pub left_machine : (slice : List RingCore) → slice ≡ cores_of new → (limits : TableLimits) × (budget : ℕ) × (budgets : List ℕ) × IsMachine limits budget budgets (map (λ (c : RingCore). c) slice)
+  left_machine slice is = (can.limits, can.budget, can.budgets, subst (λ (l : List RingCore). IsMachine can.limits can.budget can.budgets l) (sym (map-id slice ∙ is)) left_so)
 
   -- whatever was taken from its queue
   stands_still : (why : Halt) (c d : RingCore) → SameButTaken c d → StandsFor ring_view why c → StandsFor ring_view why d

@@ -20,6 +20,7 @@ use Rattle.core_threads.specs.declared.halt.Halt.{Halt}
 use Rattle.core_threads.specs.declared.halt.Halt.TheVariants as halt
 use Rattle.core_threads.specs.Reasons.{IsSpentNow, LacksMemoryNow, RestsNow}
 use Rattle.core_threads.specs.Runs.{StandsFor, StandsSo}
+use Rattle.filter_table.specs.Limits.{TableLimits}
 use Rattle.core_threads.specs.Ending.{IsAtEnd, IsDone, AreAllDone, IsSoAt, IsLeastUnfinished, HaltsFor, HaltsRightly, HaltEach, CoreEnds}
 
 -- One core
@@ -131,9 +132,9 @@ module _ (old new : List RingCore) (looked : AreLookedAt old new) where
   }
 
 -- no core of a machine stops
-pub runs : (budget : ℕ) (budgets : List ℕ) (cores : List RingCore) → Conclude budget budgets cores → AreRunning cores
-runs budget budgets [] con = absurd con
-runs budget budgets (first ∷ others) con = con.running
+pub runs : (limits : TableLimits) (budget : ℕ) (budgets : List ℕ) (cores : List RingCore) → Conclude limits budget budgets cores → AreRunning cores
+runs limits budget budgets [] con = absurd con
+runs limits budget budgets (first ∷ others) con = con.running
 
 -- What a vector has after the call that looked at its cores, of which this slice was lent
 
@@ -154,5 +155,5 @@ module _ (n : ℕ) (items slice seen : List RingCore) (is : slice ≡ items) (lo
   pub looked_from : (first : List RingCore) → items ≡ first → AreLookedAt first (take n (seen ++ drop (length seen) items))
   looked_from first e = subst (λ (l : List RingCore). AreLookedAt l (take n (seen ++ drop (length seen) items))) e looked_back
 
-  pub running_back : (budget : ℕ) (budgets : List ℕ) → Conclude budget budgets (map (λ (c : RingCore). c) seen) → AreRunning (take n (seen ++ drop (length seen) items))
-  running_back budget budgets con = subst AreRunning (sym back) (runs budget budgets seen (subst (λ (l : List RingCore). Conclude budget budgets l) (map-id seen) con))
+  pub running_back : (limits : TableLimits) (budget : ℕ) (budgets : List ℕ) → Conclude limits budget budgets (map (λ (c : RingCore). c) seen) → AreRunning (take n (seen ++ drop (length seen) items))
+  running_back limits budget budgets con = subst AreRunning (sym back) (runs limits budget budgets seen (subst (λ (l : List RingCore). Conclude limits budget budgets l) (map-id seen) con))

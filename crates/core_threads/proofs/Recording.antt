@@ -7,6 +7,7 @@ use Rattle.core_join.specs.Machines.{RingCore}
 use Rattle.core_boot.specs.Booted.{AreBooted}
 use Rattle.core_boot.specs.Booting.{IsMachineOf}
 use Rattle.core_threads.specs.Booted.{IsBootedMachine}
+use Rattle.filter_table.specs.Limits.{TableLimits}
 use Rattle.core_threads.specs.Recording.{HaveNoHistories}
 
 get_next : (seen : List RingCore) (core : RingCore) (rest : List RingCore) → slice_get (seen ++ core ∷ rest) (length seen) ≡ Some core
@@ -26,6 +27,6 @@ booted_none cores ports booted i c at =
     (booted.each i c p.0 at p.1).history
 
 -- cores that came up with these budgets are a machine that has done nothing
-pub booted_machine : (budgets : List ℕ) (cores : List RingCore) (ports : List Port) → IsMachineOf budgets cores → AreBooted cores ports → IsBootedMachine cores ports
-booted_machine [] cores ports m booted = absurd m
-booted_machine (budget ∷ others) cores ports m booted = record { budget = budget; budgets = others; machine = m; booted = booted }
+pub booted_machine : (limits : TableLimits) (budgets : List ℕ) (cores : List RingCore) (ports : List Port) → IsMachineOf limits budgets cores → AreBooted cores ports → IsBootedMachine cores ports
+booted_machine limits [] cores ports m booted = absurd m
+booted_machine limits (budget ∷ others) cores ports m booted = record { limits = limits; budget = budget; budgets = others; machine = m; booted = booted }

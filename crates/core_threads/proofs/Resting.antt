@@ -24,6 +24,7 @@ use Rattle.core_threads.specs.declared.halt.Halt.TheVariants as halt
 use Rattle.core_threads.specs.Ending.{IsAtEnd, AreAllDone, HaltsFor, HaltsRightly, CoreEnds, EndsRightly}
 use Rattle.core_threads.specs.Searching.{EachIsAtEnd}
 use Rattle.core_threads.specs.Settling.{HaveSettled, LeavesReceivable, Names, IsUndone, SettlesWhere, RunsToRest}
+use Rattle.filter_table.specs.Limits.{TableLimits}
 use Rattle.core_threads.proofs.Looked.{written, runs}
 
 -- Lists as settling sees them
@@ -31,15 +32,15 @@ use Rattle.core_threads.proofs.Looked.{written, runs}
 abbrev itself : List RingCore → List RingCore
 itself cores = map (λ (c : RingCore). c) cores
 
-pub machine_itself : (budget : ℕ) (budgets : List ℕ) (cores : List RingCore) → IsMachine budget budgets cores → IsMachine budget budgets (map (λ (c : RingCore). c) cores)
-machine_itself budget budgets cores m = subst (λ (l : List RingCore). IsMachine budget budgets l) (sym (map-id cores)) m
+pub machine_itself : (limits : TableLimits) (budget : ℕ) (budgets : List ℕ) (cores : List RingCore) → IsMachine limits budget budgets cores → IsMachine limits budget budgets (map (λ (c : RingCore). c) cores)
+machine_itself limits budget budgets cores m = subst (λ (l : List RingCore). IsMachine limits budget budgets l) (sym (map-id cores)) m
 
-pub have_settled : (budget : ℕ) (budgets : List ℕ) (old new : List RingCore) → AreSameCores (map (λ (c : RingCore). c) old) (map (λ (c : RingCore). c) new) → AllKeep (map (λ (c : RingCore). c) old) (map (λ (c : RingCore). c) new)
-    → Conclude budget budgets (map (λ (c : RingCore). c) new) → HaveSettled old new
-have_settled budget budgets old new same keeps con = record {
+pub have_settled : (limits : TableLimits) (budget : ℕ) (budgets : List ℕ) (old new : List RingCore) → AreSameCores (map (λ (c : RingCore). c) old) (map (λ (c : RingCore). c) new) → AllKeep (map (λ (c : RingCore). c) old) (map (λ (c : RingCore). c) new)
+    → Conclude limits budget budgets (map (λ (c : RingCore). c) new) → HaveSettled old new
+have_settled limits budget budgets old new same keeps con = record {
   same = subst (λ (l : List RingCore). AreSameCores l new) (map-id old) (subst (λ (l : List RingCore). AreSameCores (itself old) l) (map-id new) same);
   keeps = subst (λ (l : List RingCore). AllKeep l new) (map-id old) (subst (λ (l : List RingCore). AllKeep (itself old) l) (map-id new) keeps);
-  running = runs budget budgets new (subst (λ (l : List RingCore). Conclude budget budgets l) (map-id new) con);
+  running = runs limits budget budgets new (subst (λ (l : List RingCore). Conclude limits budget budgets l) (map-id new) con);
 }
 
 pub ends_itself : (settled : Settled) (cores : List RingCore) → EndsFor (Unit {0}) settled (map (λ (c : RingCore). c) cores) → EndsFor (Unit {0}) settled cores
@@ -47,10 +48,10 @@ ends_itself settled cores e = subst (λ (l : List RingCore). EndsFor (Unit {0}) 
 
 -- The cores of a machine by their places
 
-number_at : (budget : ℕ) (budgets : List ℕ) (cores : List RingCore) → IsMachine budget budgets cores → (i : ℕ) (c : RingCore) → slice_get cores i ≡ Some c → c.number ≡ i
-number_at budget budgets [] m i c at = absurd m
-number_at budget budgets (first ∷ others) m zero c at = let is : first ≡ c = cc in sym (ap (λ (x : RingCore). x.number) is) ∙ m.place.number_is
-number_at budget budgets (first ∷ others) m (suc k) c at =
+number_at : (limits : TableLimits) (budget : ℕ) (budgets : List ℕ) (cores : List RingCore) → IsMachine limits budget budgets cores → (i : ℕ) (c : RingCore) → slice_get cores i ≡ Some c → c.number ≡ i
+number_at limits budget budgets [] m i c at = absurd m
+number_at limits budget budgets (first ∷ others) m zero c at = let is : first ≡ c = cc in sym (ap (λ (x : RingCore). x.number) is) ∙ m.place.number_is
+number_at limits budget budgets (first ∷ others) m (suc k) c at =
     let b = get_at budgets k (let within = slice_get_within others k c at in let all = m.all in omega (arith, within, all)) in
     (m.peers k b.0 c b.1 at).place.number_is
 
@@ -61,9 +62,9 @@ each_of P cores i c all at =
     subst P is (all i c within)
 
 -- all are done: each has nothing to do, and settling says that all that each was asked is decided
-pub all_done : (budget : ℕ) (budgets : List ℕ) (old new : List RingCore) (left : List (ℕ × Job)) → IsMachine budget budgets old → HaveSettled old new → EndsFor (Unit {0}) AtRest new → EachIsAtEnd new left → AreAllDone new left
-all_done budget budgets old new left m s ends each i c at = record {
-  at_end = subst (λ (n : ℕ). IsAtEnd (items_for n left) c) (number_at budget budgets new (machine_ran budget budgets old new m s.same) i c at) (each i c at);
+pub all_done : (limits : TableLimits) (budget : ℕ) (budgets : List ℕ) (old new : List RingCore) (left : List (ℕ × Job)) → IsMachine limits budget budgets old → HaveSettled old new → EndsFor (Unit {0}) AtRest new → EachIsAtEnd new left → AreAllDone new left
+all_done limits budget budgets old new left m s ends each i c at = record {
+  at_end = subst (λ (n : ℕ). IsAtEnd (items_for n left) c) (number_at limits budget budgets new (machine_ran limits budget budgets old new m s.same) i c at) (each i c at);
   decided = each_of HasAllDecided new i c ends.1 at;
 }
 
@@ -115,12 +116,12 @@ module _ (cores : List RingCore) (left : List (ℕ × Job)) (rest : AreAtRest co
       by_lesser (inr can) = inr can
 
   -- where not each has nothing to do, a job is left that can be received
-  pub leaves_receivable : (budget : ℕ) (budgets : List ℕ) → IsMachine budget budgets cores → (EachIsAtEnd cores left → ⊥) → LeavesReceivable cores left
-  leaves_receivable budget budgets m not = by_all (below_or_rest (length cores) (omega arith))
+  pub leaves_receivable : (limits : TableLimits) (budget : ℕ) (budgets : List ℕ) → IsMachine limits budget budgets cores → (EachIsAtEnd cores left → ⊥) → LeavesReceivable cores left
+  leaves_receivable limits budget budgets m not = by_all (below_or_rest (length cores) (omega arith))
     where
       by_all : AreAtEndBelow (length cores) ⊎ LeavesReceivable cores left → LeavesReceivable cores left
       by_all (inr can) = can
-      by_all (inl all) = absurd (not (λ i c at. subst (λ (n : ℕ). IsAtEnd (items_for n left) c) (sym (number_at budget budgets cores m i c at)) (all i c (slice_get_within cores i c at) at)))
+      by_all (inl all) = absurd (not (λ i c at. subst (λ (n : ℕ). IsAtEnd (items_for n left) c) (sym (number_at limits budget budgets cores m i c at)) (all i c (slice_get_within cores i c at) at)))
 
 -- The core that is named is one of the machine's
 
@@ -132,11 +133,11 @@ halts_within cores left place halt.NoRoom h = h
 halts_within cores left place halt.Limit h = slice_get_within cores place h.core h.there
 halts_within cores left place halt.Early h = slice_get_within cores place h.core h.there
 
-module _ (budget : ℕ) (budgets : List ℕ) (joined cores : List RingCore) (left : List (ℕ × Job)) (halted : ℕ × Halt) (m : IsMachine budget budgets cores) (long : length cores ≡ length joined) (h : HaltsFor joined left halted.0 halted.1) where
+module _ (limits : TableLimits) (budget : ℕ) (budgets : List ℕ) (joined cores : List RingCore) (left : List (ℕ × Job)) (halted : ℕ × Halt) (m : IsMachine limits budget budgets cores) (long : length cores ≡ length joined) (h : HaltsFor joined left halted.0 halted.1) where
   number_within : (name : ℕ) (for : Why) → HaltedAt (Unit {0}) name for cores → name < length cores
   number_within name for a =
       let within = slice_get_within cores a.place a.now a.there in
-      let at = number_at budget budgets cores m a.place a.now a.there in
+      let at = number_at limits budget budgets cores m a.place a.now a.there in
       omega (arith, within, at, a.number_is)
 
   name_within : (settled : Settled) (why : ℕ × Halt) → EndsFor (Unit {0}) settled cores → Names settled cores left halted why → why.0 < length cores
@@ -149,10 +150,10 @@ module _ (budget : ℕ) (budgets : List ℕ) (joined cores : List RingCore) (lef
   named_within None u = tt
   named_within (Some why) u = name_within u.settled why u.ends u.names
 
-named_so : (budget : ℕ) (budgets : List ℕ) (joined cores : List RingCore) (left : List (ℕ × Job)) (halted undone : Option (ℕ × Halt)) → IsMachine budget budgets cores → length cores ≡ length joined → HaltsRightly joined left halted
+named_so : (limits : TableLimits) (budget : ℕ) (budgets : List ℕ) (joined cores : List RingCore) (left : List (ℕ × Job)) (halted undone : Option (ℕ × Halt)) → IsMachine limits budget budgets cores → length cores ≡ length joined → HaltsRightly joined left halted
     → SettlesWhere halted undone joined cores left → IfSome undone (λ named. named.0 < length cores)
-named_so budget budgets joined cores left None answer m long h s = subst (λ (o : Option (ℕ × Halt)). IfSome o (λ named. named.0 < length cores)) (sym s.0) tt
-named_so budget budgets joined cores left (Some halted) answer m long h s = named_within budget budgets joined cores left halted m long h answer s.2
+named_so limits budget budgets joined cores left None answer m long h s = subst (λ (o : Option (ℕ × Halt)). IfSome o (λ named. named.0 < length cores)) (sym s.0) tt
+named_so limits budget budgets joined cores left (Some halted) answer m long h s = named_within limits budget budgets joined cores left halted m long h answer s.2
 
 -- One after another
 
@@ -166,8 +167,8 @@ at_end_more cores c cs left b whole first rest = subst (λ (l : List RingCore). 
 pub at_end_first : (cores : List RingCore) (c : RingCore) (cs : List RingCore) (left : List (ℕ × Job)) → cores ≡ c ∷ cs → EachIsAtEnd cores left → IsAtEnd (items_for c.number left) c
 at_end_first cores c cs left whole each = each 0 c (ap (λ (l : List RingCore). slice_get l 0) whole)
 
-pub machine_settled : (joined cores : List RingCore) → HaveSettled joined cores → (budget : ℕ) (budgets : List ℕ) → IsMachine budget budgets joined → IsMachine budget budgets cores
-machine_settled joined cores s budget budgets m = machine_ran budget budgets joined cores m s.same
+pub machine_settled : (joined cores : List RingCore) → HaveSettled joined cores → (limits : TableLimits) (budget : ℕ) (budgets : List ℕ) → IsMachine limits budget budgets joined → IsMachine limits budget budgets cores
+machine_settled joined cores s limits budget budgets m = machine_ran limits budget budgets joined cores m s.same
 
 -- A run that was settled: what the joined cores ended as holds of them still
 
@@ -214,13 +215,13 @@ module _ (machine joined slice new : List RingCore) (jobs left lent : List (ℕ 
   pub rests_after : EndsRightly machine jobs joined left halted → RunsToRest machine jobs (take n (new ++ drop (length new) joined)) left undone
   rests_after e = subst (λ (l : List RingCore). RunsToRest machine jobs l left undone) (sym back) (runs_to_rest machine joined new jobs left halted undone e settles_so)
 
-  pub machine_after : (budget : ℕ) (budgets : List ℕ) → IsMachine budget budgets joined → IsMachine budget budgets (take n (new ++ drop (length new) joined))
-  machine_after budget budgets m = subst (λ (l : List RingCore). IsMachine budget budgets l) (sym back) (machine_ran budget budgets joined new m same_so)
+  pub machine_after : (limits : TableLimits) (budget : ℕ) (budgets : List ℕ) → IsMachine limits budget budgets joined → IsMachine limits budget budgets (take n (new ++ drop (length new) joined))
+  machine_after limits budget budgets m = subst (λ (l : List RingCore). IsMachine limits budget budgets l) (sym back) (machine_ran limits budget budgets joined new m same_so)
 
   pub count_after : length (take n (new ++ drop (length new) joined)) ≡ length joined
   count_after = ap (λ (l : List RingCore). length l) back ∙ same_so.all
 
-  pub named_after : (budget : ℕ) (budgets : List ℕ) → IsMachine budget budgets joined → HaltsRightly joined left halted → IfSome undone (λ named. named.0 < length (take n (new ++ drop (length new) joined)))
-  named_after budget budgets m h =
+  pub named_after : (limits : TableLimits) (budget : ℕ) (budgets : List ℕ) → IsMachine limits budget budgets joined → HaltsRightly joined left halted → IfSome undone (λ named. named.0 < length (take n (new ++ drop (length new) joined)))
+  named_after limits budget budgets m h =
       subst (λ (k : ℕ). IfSome undone (λ named. named.0 < k)) (sym (ap (λ (l : List RingCore). length l) back))
-      (named_so budget budgets joined new left halted undone (machine_ran budget budgets joined new m same_so) same_so.all h settles_so)
+      (named_so limits budget budgets joined new left halted undone (machine_ran limits budget budgets joined new m same_so) same_so.all h settles_so)

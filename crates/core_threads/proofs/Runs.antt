@@ -9,6 +9,7 @@ use Rattle.core_links.specs.declared.ring_links.RingLinks.{RingLinks}
 use Rattle.core_links.specs.RingSlots.{SameLinks}
 use Rattle.core_loop.specs.Keeping.{replica_of}
 use Rattle.core_loop.specs.Cores.{SameCore, begun, receipts}
+use Rattle.filter_table.specs.Limits.{TableLimits}
 use Rattle.core_join.specs.Machines.{RingCore, IsMachine}
 use Rattle.core_join.proofs.Machines.{machine_ran}
 use Rattle.core_threads.specs.declared.feeding.Outlet.{Outlet}
@@ -102,8 +103,8 @@ module _ (machine : List RingCore) (ports : List Port) (jobs : List (ℕ × Job)
       let p = get_at ports i (omega (arith, slice_get_within machine i c at_c, booted.all)) in
       (booted.each i c p.0 at_c p.1).running
 
-  ran_machine : IsMachine up.budget up.budgets (map (λ (r : Ran). r.core) ran)
-  ran_machine = machine_ran up.budget up.budgets machine (map (λ (r : Ran). r.core) ran) up.machine (record {
+  ran_machine : IsMachine up.limits up.budget up.budgets (map (λ (r : Ran). r.core) ran)
+  ran_machine = machine_ran up.limits up.budget up.budgets machine (map (λ (r : Ran). r.core) ran) up.machine (record {
     all = length-map ran (λ r. r.core) ∙ long_ran;
     each = λ i c d at_c at_d. (let r = get_map (λ (r : Ran). r.core) ran i d at_d in
         let a = pair_at (λ c r. ThreadRan c r.core r.halted) machine ran i r.0 have_ran r.1 in
@@ -113,6 +114,7 @@ module _ (machine : List RingCore) (ports : List Port) (jobs : List (ℕ × Job)
 
   pub can_finish : CanFinish ran outlets
   can_finish = record {
+    limits = up.limits;
     budget = up.budget;
     budgets = up.budgets;
     machine = ran_machine;
@@ -144,6 +146,7 @@ module _ (machine : List RingCore) (ports : List Port) (jobs : List (ℕ × Job)
           core = record {
             number = ap (λ (c : RingCore). c.number) s.core ∙ ran_so.ran.core.number;
             cores = ap (λ (c : RingCore). c.cores) s.core ∙ ran_so.ran.core.cores;
+            limits = ap (λ (c : RingCore). (replica_of c.part).shown.limits) s.core ∙ ran_so.ran.core.limits;
             budget = ap (λ (c : RingCore). (replica_of c.part).budget) s.core ∙ ran_so.ran.core.budget;
             links = subst (λ (l : RingLinks). SameLinks old.links l) (sym (ap (λ (c : RingCore). c.links) s.core)) ran_so.ran.core.links;
             intake = intake_along old.intake r.0.core.intake mid.intake ran_so.ran.core.intake s.intake;
@@ -163,6 +166,6 @@ module _ (machine : List RingCore) (ports : List Port) (jobs : List (ℕ × Job)
 
 -- the cores of a machine that ended are its cores still
 pub machine_still : (machine : List RingCore) (jobs : List (ℕ × Job)) (cores : List RingCore) (left : List (ℕ × Job)) (halted : Option (ℕ × Halt)) → EndsRightly machine jobs cores left halted
-    → (budget : ℕ) (budgets : List ℕ) → IsMachine budget budgets machine → IsMachine budget budgets cores
-machine_still machine jobs cores left halted ends budget budgets is =
-    machine_ran budget budgets machine cores is (record { all = ends.all; each = λ i c d at_c at_d. (ends.each i c d at_c at_d).core })
+    → (limits : TableLimits) (budget : ℕ) (budgets : List ℕ) → IsMachine limits budget budgets machine → IsMachine limits budget budgets cores
+machine_still machine jobs cores left halted ends limits budget budgets is =
+    machine_ran limits budget budgets machine cores is (record { all = ends.all; each = λ i c d at_c at_d. (ends.each i c d at_c at_d).core })

@@ -2,6 +2,7 @@
 use Rattle.std.specs.Prelude.{ℕ, List}
 use Rattle.rx_queue.specs.declared.port.Port.{Port}
 use Rattle.core_join.specs.Machines.{RingCore, IsMachine}
+use Rattle.filter_table.specs.Limits.{TableLimits}
 use Rattle.core_boot.specs.Booted.{AreBooted}
 
 -- its cores, and the port of each one's queue
@@ -11,7 +12,8 @@ pub record MachineState : Type 0 where
 
 -- the cores are those of one machine, have come up, and have done nothing
 pub record IsBootedMachine (cores : List RingCore) (ports : List Port) : Type 0 where
+  pub limits : TableLimits
   pub budget : ℕ
   pub budgets : List ℕ
-  pub machine : IsMachine budget budgets cores
+  pub machine : IsMachine limits budget budgets cores
   pub booted : AreBooted cores ports

@@ -12,13 +12,15 @@ use Rattle.core_threads.specs.Ending.{HaltsRightly}
 use Rattle.core_threads.specs.Feeding.{jobs_through}
 use Rattle.core_boot.specs.Lanes.{items_for}
 use Rattle.core_threads.specs.Leaving.{AreFedBy, IsLeft}
+use Rattle.filter_table.specs.Limits.{TableLimits}
 use Rattle.core_threads.specs.Runs.{StandsSo}
 
 -- the cores are those of a machine, each beside the outlet of its queue, and why it halted stands
 pub record CanFinish (ran : List Ran) (outlets : List Outlet) : Type 0 where
+  pub limits : TableLimits
   pub budget : ℕ
   pub budgets : List ℕ
-  pub machine : IsMachine budget budgets (map (λ r. r.core) ran)
+  pub machine : IsMachine limits budget budgets (map (λ r. r.core) ran)
   pub fed : AreFedBy ran outlets
   pub stands : (i : ℕ) (r : Ran) → slice_get ran i ≡ Some r → StandsSo ring_view r.halted r.core
 

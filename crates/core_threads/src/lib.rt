@@ -14,7 +14,7 @@ mod settling;
 mod threads;
 mod turning;
 
-pub use booting::boot;
+pub use booting::{boot, boot_with_limits};
 pub use core_boot::BootFault;
 pub use gate::{Free, Gate, Notes, Question};
 pub use halt::{Halt, RunFault};

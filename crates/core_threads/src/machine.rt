@@ -1,6 +1,7 @@
 //! A machine, and its run.
 
 ghost use Rattle.std.specs.Prelude.{◌≡◌, ◌<◌, ℕ, All, List, length, IfOk};
+ghost use Rattle.filter_table.specs.Limits.{TableLimits};
 ghost use Rattle.core_join.specs.Machines.{IsMachine};
 ghost use Rattle.core_threads.specs.Booted.{IsBootedMachine};
 ghost use Rattle.core_threads.specs.Ending.{EndsRightly, HaltEach};
@@ -122,8 +123,8 @@ pub fn run_machine<R: Threads + Wait + Clock + Sync, G: Gate + Sync>(
     requires { All (λ j. j.0 < length machine.cores) jobs.items }
     ensures ended { IfOk result (λ ended. EndsRightly machine.cores jobs.items ended.cores.items ended.left.items ended.halted) }
     ensures halts { IfOk result (λ ended. HaltEach ended.cores.items ended.halts.items ended.halted) }
-    ensures machine { IfOk result (λ ended. (budget : ℕ) (budgets : List ℕ) → IsMachine budget budgets machine.cores → IsMachine budget budgets ended.cores.items) }
-    ensures one_machine { IfOk result (λ ended. (budget : ℕ) × (budgets : List ℕ) × IsMachine budget budgets ended.cores.items) }
+    ensures machine { IfOk result (λ ended. (limits : TableLimits) (budget : ℕ) (budgets : List ℕ) → IsMachine limits budget budgets machine.cores → IsMachine limits budget budgets ended.cores.items) }
+    ensures one_machine { IfOk result (λ ended. (limits : TableLimits) × (budget : ℕ) × (budgets : List ℕ) × IsMachine limits budget budgets ended.cores.items) }
 {
     let (cores, outlets) = load(alloc, machine, jobs)?;
     let flags = Flags::new(alloc, cores.len())?;

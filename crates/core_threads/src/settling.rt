@@ -1,6 +1,7 @@
 //! A run whose machine is settled after its threads are joined.
 
 ghost use Rattle.std.specs.Prelude.{◌≡◌, ◌↔◌, ◌<◌, ℕ, All, List, IfNone, IfSome, IfOk, IsTrue, length};
+ghost use Rattle.filter_table.specs.Limits.{TableLimits};
 ghost use Rattle.core_join.specs.Machines.{IsMachine};
 ghost use Rattle.core_threads.specs.Ending.{AreAllDone};
 ghost use Rattle.core_threads.specs.Searching.{EachIsAtEnd};
@@ -45,7 +46,7 @@ pub fn run_to_rest<R: Threads + Wait + Clock + Sync, G: Gate + Sync>(
 ) -> Result<Rested, RunFault>
     requires { All (λ j. j.0 < length machine.cores) jobs.items }
     ensures rests { IfOk result (λ rested. RunsToRest machine.cores jobs.items rested.cores.items rested.left.items rested.undone) }
-    ensures machine { IfOk result (λ rested. (budget : ℕ) (budgets : List ℕ) → IsMachine budget budgets machine.cores → IsMachine budget budgets rested.cores.items) }
+    ensures machine { IfOk result (λ rested. (limits : TableLimits) (budget : ℕ) (budgets : List ℕ) → IsMachine limits budget budgets machine.cores → IsMachine limits budget budgets rested.cores.items) }
     ensures count { IfOk result (λ rested. length rested.cores.items ≡ length machine.cores) }
     ensures named { IfOk result (λ rested. IfSome rested.undone (λ why. why.0 < length rested.cores.items)) }
 {
@@ -70,7 +71,7 @@ fn settle_where_halted(
     left: &[(u16, Job)],
     halted: Option<(u16, Halt)>,
 ) -> Option<(u16, Halt)>
-    requires machine { (budget : ℕ) × (budgets : List ℕ) × IsMachine budget budgets cores.old }
+    requires machine { (limits : TableLimits) × (budget : ℕ) × (budgets : List ℕ) × IsMachine limits budget budgets cores.old }
     ensures { SettlesWhere halted result cores.old cores.new left.now }
 {
     match halted {
@@ -86,7 +87,7 @@ fn settle_halted(
     left: &[(u16, Job)],
     halted: (u16, Halt),
 ) -> Option<(u16, Halt)>
-    requires machine { (budget : ℕ) × (budgets : List ℕ) × IsMachine budget budgets cores.old }
+    requires machine { (limits : TableLimits) × (budget : ℕ) × (budgets : List ℕ) × IsMachine limits budget budgets cores.old }
     ensures settled { HaveSettled cores.old cores.new }
     ensures done { IfNone result (AreAllDone cores.new left.now) }
     ensures undone { IfSome result (IsUndone cores.new left.now halted) }

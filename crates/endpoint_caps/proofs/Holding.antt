@@ -1,5 +1,5 @@
 -- What keeps the indices of a table that is changed in place, as one capability comes.
-use Rattle.std.proofs.Common.{◌≡◌, ◌⊎◌, inl, inr, ◌<◌, ◌+◌, ◌/◌, ◌%◌, ◌==◌, ◌||◌, ◌&&◌, ℕ, Bool, true, false, cond, Option, Some, None, is_none, is_some, List, [], ◌∷◌, ◌++◌, length, refl, ap, sym, ◌∙◌, subst, arith, Greater}
+use Rattle.std.proofs.Common.{◌≡◌, ◌⊎◌, inl, inr, ◌<◌, ◌+◌, ◌/◌, ◌%◌, ◌==◌, ◌||◌, ◌&&◌, not, ℕ, Bool, true, false, cond, Option, Some, None, is_none, is_some, List, [], ◌∷◌, ◌++◌, length, refl, ap, sym, ◌∙◌, subst, arith, Greater}
 use Rattle.std.proofs.lemmas.Bool.Decides.{nat_tests, Decides-eqb}
 use Rattle.std.proofs.lemmas.List.Folds.{list_any-append}
 use Rattle.std.proofs.lemmas.Nat.{div-mul-add, mod-mul-add, div-add-mod'}
@@ -10,9 +10,10 @@ use Rattle.std.specs.Option.{ForSome}
 use Rattle.std.specs.Prelude.{if◌then◌else◌, leb}
 use Rattle.chunked.specs.Maps.{value_at}
 use Rattle.endpoint_caps.specs.declared.Cap.{Cap}
-use Rattle.endpoint_caps.specs.Capabilities.{CapTable, cap_at, parent_at, is_some_and, first, create_tests, room_tests, minted_from, child_of}
+use Rattle.endpoint_caps.specs.Capabilities.{CapBounds, CapTable, cap_at, parent_at, is_some_and, has_right, is_within, count_for, first, holder_tests, create_tests, mint_tests, room_tests, minted_from, child_of}
 use Rattle.endpoint_caps.specs.declared.Rights.{Rights}
-use Rattle.endpoint_caps.specs.declared.CapFault.TheVariants.{EndpointTaken, CapsFull, IdsSpent}
+use Rattle.endpoint_caps.specs.declared.CapFault.TheVariants.{NoRight, RightsExceed, EndpointTaken, CapsFull, DomainFull, IdsSpent}
+use Rattle.endpoint_caps.specs.declared.Right.TheVariants.{Mint}
 use Rattle.endpoint_caps.specs.Capabilities.{IdsBetween, ParentsHeld}
 use Rattle.endpoint_caps.specs.Keeping.{entries_of, caps_of, IsKept}
 use Rattle.endpoint_caps.specs.Holding.{Holding, ids, child_key, is_child_key, EndpointsPassOn, IsHeld}
@@ -289,16 +290,41 @@ pub record MayCreate (caps : List Cap) (next endpoint : ℕ) : Type 0 where
   pub free : list_any (λ (x : Cap). x.endpoint == endpoint) caps ≡ false
   pub more : (next == 4294967295) ≡ false
 
-pub may_create : (table : CapTable) (endpoint : ℕ) → first (create_tests table endpoint) ≡ None → MayCreate table.held table.next endpoint
-may_create table endpoint h =
-    let free = first_none (list_any (λ (x : Cap). x.endpoint == endpoint) table.held) EndpointTaken (room_tests table) h in
-    let room = first_none (leb 1024 (length table.held)) CapsFull ((table.next == 4294967295, IdsSpent) ∷ []) free.1 in
-    let more = first_none (table.next == 4294967295) IdsSpent [] room.1 in
-    record { free = free.0; more = more.0 }
+some_room : (limits : CapBounds) (table : CapTable) (domain : ℕ) → first (room_tests limits table domain) ≡ None → (table.next == 4294967295) ≡ false
+some_room limits table domain h =
+    let total = first_none (leb limits.total (length table.held)) CapsFull ((leb limits.share (count_for table.held domain), DomainFull) ∷ (table.next == 4294967295, IdsSpent) ∷ []) h in
+    let share = first_none (leb limits.share (count_for table.held domain)) DomainFull ((table.next == 4294967295, IdsSpent) ∷ []) total.1 in
+    (first_none (table.next == 4294967295) IdsSpent [] share.1).0
+
+pub may_create : (limits : CapBounds) (table : CapTable) (domain endpoint : ℕ) → first (create_tests limits table domain endpoint) ≡ None → MayCreate table.held table.next endpoint
+may_create limits table domain endpoint h =
+    let free = first_none (list_any (λ (x : Cap). x.endpoint == endpoint) table.held) EndpointTaken (room_tests limits table domain) h in
+    record { free = free.0; more = some_room limits table domain free.1 }
+
+-- what is true where a mint isn't refused
+pub record MayMint (caps : List Cap) (next domain cap : ℕ) : Type 0 where
+  pub held : first (holder_tests caps domain cap) ≡ None
+  pub more : (next == 4294967295) ≡ false
+
+pub may_mint : (limits : CapBounds) (table : CapTable) (domain cap : ℕ) (rights : Rights) → first (mint_tests limits table domain cap rights) ≡ None → MayMint table.held table.next domain cap
+may_mint limits table domain cap rights h =
+    let held = first_append (holder_tests table.held domain cap) ((not (is_some_and (λ (c : Cap). has_right c.rights Mint) (cap_at table.held cap)), NoRight) ∷ (not (is_some_and (λ (c : Cap). is_within rights c.rights) (cap_at table.held cap)), RightsExceed) ∷ room_tests limits table domain) h in
+    let right = first_none (not (is_some_and (λ (c : Cap). has_right c.rights Mint) (cap_at table.held cap))) NoRight ((not (is_some_and (λ (c : Cap). is_within rights c.rights) (cap_at table.held cap)), RightsExceed) ∷ room_tests limits table domain) held.1 in
+    let within = first_none (not (is_some_and (λ (c : Cap). is_within rights c.rights) (cap_at table.held cap))) RightsExceed (room_tests limits table domain) right.1 in
+    record { held = held.0; more = some_room limits table domain within.1 }
+  where
+    first_append : {A : Type 0} (ts us : List (Bool × A)) → first (ts ++ us) ≡ None → (first ts ≡ None) × (first us ≡ None)
+    first_append [] us h = (refl, h)
+    first_append ((true, fault) ∷ ts) us h = absurd cc
+    first_append ((false, fault) ∷ ts) us h = first_append ts us h
 
 pub more_ids : (next : ℕ) → next < ids → (next == 4294967295) ≡ false → next + 1 < ids
 unfolding ids
 more_ids next lt more = grind (arith, nat_tests)
+
+pub more_below : (next : ℕ) → next < ids → (next == 4294967295) ≡ false → next < 4294967295
+unfolding ids
+more_below next lt more = grind (arith, nat_tests)
 
 pub below_ids : (next : ℕ) → next < 4294967295 → next + 1 < ids
 unfolding ids

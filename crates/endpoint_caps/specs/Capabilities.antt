@@ -8,12 +8,21 @@ use Rattle.endpoint_caps.specs.declared.Rights.TheVariants.{R, M, Rm}
 use Rattle.endpoint_caps.specs.declared.Right.{Right}
 use Rattle.endpoint_caps.specs.declared.Right.TheVariants.{Receive, Mint}
 use Rattle.endpoint_caps.specs.declared.CapFault.{CapFault}
-use Rattle.endpoint_caps.specs.declared.CapFault.TheVariants.{NoCap, NotHolder, NoRight, RightsExceed, EndpointTaken, CapsFull, IdsSpent, NoMemory}
+use Rattle.endpoint_caps.specs.declared.CapFault.TheVariants.{NoCap, NotHolder, NoRight, RightsExceed, EndpointTaken, CapsFull, DomainFull, IdsSpent, NoMemory}
 
 -- the capabilities that are held, in order of their ids, and the next id
 pub record CapTable : Type 0 where
   pub held : List Cap
   pub next : ℕ
+
+-- how many capabilities may be held together, and how many of them may count for one domain
+pub record CapBounds : Type 0 where
+  pub total : ℕ
+  pub share : ℕ
+
+-- those that hold where none are given: one domain may have all
+abbrev pub default_caps : CapBounds
+default_caps = record { total = 1024; share = 1024 }
 
 abbrev pub no_caps : CapTable
 no_caps = record { held = []; next = 1 }
@@ -38,6 +47,23 @@ cap_at caps id = find (λ cap. cap.id == id) caps
 abbrev pub is_some_and : {A : Type 0} → (A → Bool) → Option A → Bool
 is_some_and test None = false
 is_some_and test (Some x) = test x
+
+-- Whose a capability is
+
+-- the capability by whose holder this one was made: its parent, or itself where it has none
+abbrev pub made_by_holder_of : List Cap → Cap → Option Cap
+made_by_holder_of caps cap = of_parent cap.parent
+  where
+    of_parent : Option ℕ → Option Cap
+    of_parent None = Some cap
+    of_parent (Some parent) = cap_at caps parent
+
+-- a capability counts for the domain that made it, whoever holds it
+abbrev pub counts_for : List Cap → ℕ → Cap → Bool
+counts_for caps domain cap = is_some_and (λ c. c.holder == domain) (made_by_holder_of caps cap)
+
+abbrev pub count_for : List Cap → ℕ → ℕ
+count_for caps domain = length (filter (counts_for caps domain) caps)
 
 -- What every table of capabilities keeps
 
@@ -126,17 +152,22 @@ right_tests caps domain cap right =
     ++ (not (is_some_and (λ c. has_right c.rights right) (cap_at caps cap)), NoRight)
     ∷ []
 
-abbrev pub room_tests : CapTable → List (Bool × CapFault)
-room_tests table = (leb 1024 (length table.held), CapsFull) ∷ (table.next == 4294967295, IdsSpent) ∷ []
+-- room for one more that counts for the domain
+abbrev pub room_tests : CapBounds → CapTable → ℕ → List (Bool × CapFault)
+room_tests limits table domain =
+    (leb limits.total (length table.held), CapsFull)
+    ∷ (leb limits.share (count_for table.held domain), DomainFull)
+    ∷ (table.next == 4294967295, IdsSpent)
+    ∷ []
 
-abbrev pub create_tests : CapTable → ℕ → List (Bool × CapFault)
-create_tests table endpoint = (list_any (λ c. c.endpoint == endpoint) table.held, EndpointTaken) ∷ room_tests table
+abbrev pub create_tests : CapBounds → CapTable → ℕ → ℕ → List (Bool × CapFault)
+create_tests limits table domain endpoint = (list_any (λ c. c.endpoint == endpoint) table.held, EndpointTaken) ∷ room_tests limits table domain
 
-abbrev pub mint_tests : CapTable → ℕ → ℕ → Rights → List (Bool × CapFault)
-mint_tests table domain cap rights =
+abbrev pub mint_tests : CapBounds → CapTable → ℕ → ℕ → Rights → List (Bool × CapFault)
+mint_tests limits table domain cap rights =
     right_tests table.held domain cap Mint
     ++ (not (is_some_and (λ c. is_within rights c.rights) (cap_at table.held cap)), RightsExceed)
-    ∷ room_tests table
+    ∷ room_tests limits table domain
 
 -- The fault is the first that stands. Memory is refused only where none does.
 abbrev pub Refused : List (Bool × CapFault) → CapFault → Type 0

@@ -9,8 +9,10 @@ ghost use Rattle.endpoint_caps.specs.Capabilities.{has_right, is_within};
 
 use thiserror::Error;
 
+mod limits;
 mod table;
 
+pub use limits::{CapLimits, MOST_LISTED};
 pub use table::Caps;
 
 /// What a capability lets its holder do.
@@ -92,6 +94,9 @@ pub enum CapFault {
     /// As many capabilities are held as may be.
     #[error("as many capabilities are held as may be")]
     CapsFull,
+    /// As many capabilities count for the domain as may.
+    #[error("as many capabilities count for the domain as may")]
+    DomainFull,
     /// The last id has been given out.
     #[error("the last id of a capability has been given out")]
     IdsSpent,

@@ -1,15 +1,15 @@
 //! The table of capabilities, changed in place: room is made before, and then a change can't fail.
-ghost use Rattle.std.specs.Prelude.{◌≡◌, ◌+◌, ◌++◌, ◌∷◌, ◌≤◌, [], ◌<◌, ◌⊎◌, ◌==◌, ◌||◌, ℕ, Some, None, is_none, is_some, false, true, length, filter, nat_le, IsTrue, IsErr, IfSome, IfNone, IfOk, IfErr, OnOk, OnErr};
+ghost use Rattle.std.specs.Prelude.{◌≡◌, ◌+◌, ◌++◌, ◌∷◌, ◌≤◌, [], ◌<◌, ◌⊎◌, ◌==◌, ◌||◌, ℕ, Some, None, is_none, is_some, false, true, length, filter, nat_le, IsTrue, IsErr, IfSome, IfNone, IfOk, IfErr, OnOk, OnErr, leb};
 ghost use Rattle.std.specs.List.{list_any};
 ghost use Rattle.std.specs.Option.{option_copied};
 ghost use Rattle.std.specs.Result.{result_err};
-ghost use Rattle.endpoint_caps.specs.Capabilities.{no_caps, cap_at, parent_at, created, minted_from, revoked, dropped, first, holder_tests, right_tests, room_tests, create_tests, mint_tests, is_some_and, is_under, Refused};
+ghost use Rattle.endpoint_caps.specs.Capabilities.{CapBounds, default_caps, no_caps, cap_at, parent_at, created, minted_from, revoked, dropped, first, holder_tests, right_tests, counts_for, count_for, room_tests, create_tests, mint_tests, is_some_and, is_under, Refused};
 ghost use Rattle.endpoint_caps.specs.Capabilities.{IdsBetween, ParentsHeld, IsRevoked, IsDropped, Under};
 ghost use Rattle.endpoint_caps.specs.Holding.{child_key, without, IsChild, IsFirstKey, IsLeaf};
 ghost use Rattle.endpoint_caps.specs.Keeping.{entries_of};
 ghost use Rattle.chunked.specs.Maps.{value_at};
 
-use crate::{Cap, CapFault, Right, Rights};
+use crate::{Cap, CapFault, CapLimits, Right, Rights};
 use chunked::{Items, Sorted};
 use std::alloc::{AllocError, Global};
 use std::marker::Model;
@@ -54,9 +54,6 @@ impl Model for Caps {
 }
 
 impl Caps {
-    /// How many capabilities may be held.
-    pub const LIMIT: usize = 1024;
-
     /// An empty table, whose first id is 1. `alloc` is what later capabilities are kept in. Takes no memory.
     pub fn new(alloc: Global) -> Caps
         ensures { result ≡ record { table = no_caps; ready = false } }
@@ -139,21 +136,32 @@ impl Caps {
     }
 
     /// Whether `prepare_create` would be refused, memory aside.
-    pub fn check_create(&self, endpoint: u16) -> Result<(), CapFault>
-        ensures fault { result_err result ≡ first (create_tests self.now.table endpoint) }
-        ensures err { IfErr result (Refused (create_tests self.now.table endpoint)) }
+    pub fn check_create(
+        &self,
+        limits: CapLimits,
+        domain: u16,
+        endpoint: u16,
+    ) -> Result<(), CapFault>
+        ensures fault { result_err result ≡ first (create_tests limits self.now.table domain endpoint) }
+        ensures err { IfErr result (Refused (create_tests limits self.now.table domain endpoint)) }
         ensures below { OnOk result (self.now.table.next < 4294967295) }
     {
         if self.is_taken(endpoint) {
             return Err(CapFault::EndpointTaken);
         }
-        self.room()
+        self.room(limits, domain)
     }
 
     /// Whether `prepare_mint` would be refused, memory aside; the capability that it would mint from.
-    pub fn check_mint(&self, domain: u16, cap: u32, rights: Rights) -> Result<Cap, CapFault>
-        ensures fault { result_err result ≡ first (mint_tests self.now.table domain cap rights) }
-        ensures err { IfErr result (Refused (mint_tests self.now.table domain cap rights)) }
+    pub fn check_mint(
+        &self,
+        limits: CapLimits,
+        domain: u16,
+        cap: u32,
+        rights: Rights,
+    ) -> Result<Cap, CapFault>
+        ensures fault { result_err result ≡ first (mint_tests limits self.now.table domain cap rights) }
+        ensures err { IfErr result (Refused (mint_tests limits self.now.table domain cap rights)) }
         ensures from { IfOk result (λ from. cap_at self.now.table.held cap ≡ Some from) }
         ensures below { OnOk result (self.now.table.next < 4294967295) }
     {
@@ -164,7 +172,7 @@ impl Caps {
         if !rights.is_within(from.rights) {
             return Err(CapFault::RightsExceed);
         }
-        self.room()?;
+        self.room(limits, domain)?;
         Ok(from)
     }
 
@@ -200,13 +208,16 @@ impl Caps {
         self.taken.contains(u64::from(endpoint))
     }
 
-    /// Whether one more capability may be made.
-    fn room(&self) -> Result<(), CapFault>
-        ensures fault { result_err result ≡ first (room_tests self.now.table) }
+    /// Whether one more capability may be made that counts for the domain.
+    fn room(&self, limits: CapLimits, domain: u16) -> Result<(), CapFault>
+        ensures fault { result_err result ≡ first (room_tests limits self.now.table domain) }
         ensures below { OnOk result (self.now.table.next < 4294967295) }
     {
-        if self.len() >= Caps::LIMIT {
+        if self.len() >= limits.total() as usize {
             return Err(CapFault::CapsFull);
+        }
+        if self.is_full_for(domain, limits.share()) {
+            return Err(CapFault::DomainFull);
         }
         if self.next() == u32::MAX {
             return Err(CapFault::IdsSpent);
@@ -214,27 +225,96 @@ impl Caps {
         Ok(())
     }
 
-    /// Makes a capability of the endpoint with all rights and no parent, held by the domain, and answers its id.
+    /// Whether so many capabilities count for the domain. None is looked at where fewer are held.
+    #[tactic(auto, using(crate::proofs::Shares::few_count))]
+    fn is_full_for(&self, domain: u16, share: u32) -> bool
+        ensures { result ≡ leb share (count_for self.now.table.held domain) }
+    {
+        if self.len() < share as usize {
+            return false;
+        }
+        let mut left = share;
+        for entry in self.list() {
+            if left == 0 {
+                return true;
+            }
+            if self.counts_for(domain, &entry.1) {
+                left -= 1;
+            }
+        }
+        left == 0
+    }
+
+    /// Whether the capability counts for the domain, which made it: it holds its parent, or the capability where it has none.
+    fn counts_for(&self, domain: u16, cap: &Cap) -> bool
+        ensures { result ≡ counts_for self.now.table.held domain cap.now }
+    {
+        match cap.parent {
+            None => cap.holder == domain,
+            Some(parent) => match self.get(parent) {
+                None => false,
+                Some(parent) => parent.holder == domain,
+            },
+        }
+    }
+
+    /// Makes a capability of the endpoint with all rights and no parent, held by the domain, and answers its id. The limits are the
+    /// default ones.
     pub fn create(&mut self, domain: u16, endpoint: u16) -> Result<u32, CapFault>
         ensures id { IfOk result (λ id. id ≡ self.old.table.next) }
         ensures ok { OnOk result (self.new.table ≡ created self.old.table domain endpoint) }
-        ensures allowed { OnOk result (first (create_tests self.old.table endpoint) ≡ None) }
-        ensures err { IfErr result (Refused (create_tests self.old.table endpoint)) }
+        ensures allowed { OnOk result (first (create_tests default_caps self.old.table domain endpoint) ≡ None) }
+        ensures err { IfErr result (Refused (create_tests default_caps self.old.table domain endpoint)) }
         ensures unchanged { OnErr result (self.new.table ≡ self.old.table) }
     {
-        self.prepare_create(endpoint)?;
+        self.create_within(CapLimits::DEFAULT, domain, endpoint)
+    }
+
+    /// The same within other limits.
+    pub fn create_within(
+        &mut self,
+        limits: CapLimits,
+        domain: u16,
+        endpoint: u16,
+    ) -> Result<u32, CapFault>
+        ensures id { IfOk result (λ id. id ≡ self.old.table.next) }
+        ensures ok { OnOk result (self.new.table ≡ created self.old.table domain endpoint) }
+        ensures allowed { OnOk result (first (create_tests limits self.old.table domain endpoint) ≡ None) }
+        ensures err { IfErr result (Refused (create_tests limits self.old.table domain endpoint)) }
+        ensures unchanged { OnErr result (self.new.table ≡ self.old.table) }
+    {
+        self.prepare_create(limits, domain, endpoint)?;
         Ok(self.perform_create(domain, endpoint))
     }
 
-    /// Makes a capability with the endpoint of `cap`, which the domain holds, and rights within those of it, held by `to`.
+    /// Makes a capability with the endpoint of `cap`, which the domain holds, and rights within those of it, held by `to`. The
+    /// limits are the default ones.
     pub fn mint(&mut self, domain: u16, cap: u32, to: u16, rights: Rights) -> Result<u32, CapFault>
         ensures id { IfOk result (λ id. id ≡ self.old.table.next) }
         ensures ok { OnOk result (self.new.table ≡ minted_from self.old.table cap to rights) }
-        ensures allowed { OnOk result (first (mint_tests self.old.table domain cap rights) ≡ None) }
-        ensures err { IfErr result (Refused (mint_tests self.old.table domain cap rights)) }
+        ensures allowed { OnOk result (first (mint_tests default_caps self.old.table domain cap rights) ≡ None) }
+        ensures err { IfErr result (Refused (mint_tests default_caps self.old.table domain cap rights)) }
         ensures unchanged { OnErr result (self.new.table ≡ self.old.table) }
     {
-        self.prepare_mint(domain, cap, rights)?;
+        self.mint_within(CapLimits::DEFAULT, domain, cap, to, rights)
+    }
+
+    /// The same within other limits.
+    pub fn mint_within(
+        &mut self,
+        limits: CapLimits,
+        domain: u16,
+        cap: u32,
+        to: u16,
+        rights: Rights,
+    ) -> Result<u32, CapFault>
+        ensures id { IfOk result (λ id. id ≡ self.old.table.next) }
+        ensures ok { OnOk result (self.new.table ≡ minted_from self.old.table cap to rights) }
+        ensures allowed { OnOk result (first (mint_tests limits self.old.table domain cap rights) ≡ None) }
+        ensures err { IfErr result (Refused (mint_tests limits self.old.table domain cap rights)) }
+        ensures unchanged { OnErr result (self.new.table ≡ self.old.table) }
+    {
+        self.prepare_mint(limits, domain, cap, rights)?;
         Ok(self.perform_mint(domain, cap, to, rights))
     }
 
@@ -290,24 +370,35 @@ impl Caps {
     }
 
     /// Makes room for `perform_create`, where nothing refuses it. The table stays, whatever the result.
-    pub fn prepare_create(&mut self, endpoint: u16) -> Result<(), CapFault>
+    pub fn prepare_create(
+        &mut self,
+        limits: CapLimits,
+        domain: u16,
+        endpoint: u16,
+    ) -> Result<(), CapFault>
         ensures table { self.new.table ≡ self.old.table }
         ensures ready { OnOk result (IsTrue self.new.ready) }
-        ensures allowed { OnOk result (first (create_tests self.old.table endpoint) ≡ None) }
-        ensures err { IfErr result (Refused (create_tests self.old.table endpoint)) }
+        ensures allowed { OnOk result (first (create_tests limits self.old.table domain endpoint) ≡ None) }
+        ensures err { IfErr result (Refused (create_tests limits self.old.table domain endpoint)) }
     {
-        self.check_create(endpoint)?;
+        self.check_create(limits, domain, endpoint)?;
         self.make_room()
     }
 
     /// Makes room for `perform_mint`, where nothing refuses it. The table stays, whatever the result.
-    pub fn prepare_mint(&mut self, domain: u16, cap: u32, rights: Rights) -> Result<(), CapFault>
+    pub fn prepare_mint(
+        &mut self,
+        limits: CapLimits,
+        domain: u16,
+        cap: u32,
+        rights: Rights,
+    ) -> Result<(), CapFault>
         ensures table { self.new.table ≡ self.old.table }
         ensures ready { OnOk result (IsTrue self.new.ready) }
-        ensures allowed { OnOk result (first (mint_tests self.old.table domain cap rights) ≡ None) }
-        ensures err { IfErr result (Refused (mint_tests self.old.table domain cap rights)) }
+        ensures allowed { OnOk result (first (mint_tests limits self.old.table domain cap rights) ≡ None) }
+        ensures err { IfErr result (Refused (mint_tests limits self.old.table domain cap rights)) }
     {
-        self.check_mint(domain, cap, rights)?;
+        self.check_mint(limits, domain, cap, rights)?;
         self.make_room()
     }
 
@@ -345,7 +436,7 @@ impl Caps {
     /// Makes a capability of the endpoint with all rights and no parent, held by the domain, and answers its id. Takes no memory.
     pub fn perform_create(&mut self, domain: u16, endpoint: u16) -> u32
         requires ready { IsTrue self.old.ready }
-        requires allowed { first (create_tests self.old.table endpoint) ≡ None }
+        requires allowed { (limits : CapBounds) × (first (create_tests limits self.old.table domain endpoint) ≡ None) }
         ensures id { result ≡ self.old.table.next }
         ensures made { self.new ≡ record { table = created self.old.table domain endpoint; ready = false } }
     {
@@ -367,11 +458,12 @@ impl Caps {
     /// memory.
     pub fn perform_mint(&mut self, domain: u16, cap: u32, to: u16, rights: Rights) -> u32
         requires ready { IsTrue self.old.ready }
-        requires allowed { first (mint_tests self.old.table domain cap rights) ≡ None }
+        requires allowed { (limits : CapBounds) × (first (mint_tests limits self.old.table domain cap rights) ≡ None) }
         ensures id { result ≡ self.old.table.next }
         ensures made { self.new ≡ record { table = minted_from self.old.table cap to rights; ready = false } }
     {
-        match self.check_mint(domain, cap, rights) {
+        let _next = self.next;
+        match self.held_by(domain, cap) {
             Ok(from) => self.add_child(from, to, rights),
             Err(_) => unreachable!(),
         }

@@ -29,13 +29,13 @@ version_room s budget op h lt = not_last s.version 18446744073709551615 (by_op o
     by_op (Replace domain id program) h = first_none (tests s budget (Replace domain id program)) 0 _ h refl
 
 pub filter_id_room : (s : TableState) (budget domain cap : ℕ) (program : List Insn) → first (tests s budget (Install domain cap program)) ≡ None → s.next_filter < 4294967296 → s.next_filter < 4294967295
-filter_id_room s budget domain cap program h lt = not_last s.next_filter 4294967295 (first_none (tests s budget (Install domain cap program)) 5 _ h refl) (omega arith)
+filter_id_room s budget domain cap program h lt = not_last s.next_filter 4294967295 (first_none (tests s budget (Install domain cap program)) 7 _ h refl) (omega arith)
 
 pub install_room : (s : TableState) (budget domain cap : ℕ) (program : List Insn) → first (tests s budget (Install domain cap program)) ≡ None → instructions_of s.filters + length program ≤ budget
-install_room s budget domain cap program h = let within = first_none (tests s budget (Install domain cap program)) 6 _ h refl in grind (arith, nat_tests, within)
+install_room s budget domain cap program h = let within = first_none (tests s budget (Install domain cap program)) 8 _ h refl in grind (arith, nat_tests, within)
 
 pub replace_room : (s : TableState) (budget domain id : ℕ) (program : List Insn) → first (tests s budget (Replace domain id program)) ≡ None → instructions_of (replaced s.filters id program) ≤ budget
-replace_room s budget domain id program h = let within = first_none (tests s budget (Replace domain id program)) 6 _ h refl in grind (arith, nat_tests, within)
+replace_room s budget domain id program h = let within = first_none (tests s budget (Replace domain id program)) 7 _ h refl in grind (arith, nat_tests, within)
 
 -- No test names memory, or what is staged
 

@@ -14,6 +14,7 @@ use Rattle.endpoint_caps.proofs.Keeping.{caps-entries, entries-append, at-append
 use Rattle.filter_table.specs.Listed.{ListedFilter}
 use Rattle.filter_table.specs.declared.operation.Op.{Op}
 use Rattle.filter_table.specs.declared.operation.Op.TheVariants.{Create, Mint, Revoke, DropCap, Install, Remove, Replace}
+use Rattle.filter_table.specs.Limits.{TableLimits}
 use Rattle.filter_table.specs.Tables.{TableState, tests, Allowed, Verifies, program_of, replaced, after, endpoint_of}
 use Rattle.filter_table.specs.Soundness.{FilterIdsBetween, IsRightful, IsSoundTable, IdsGrow}
 use Rattle.filter_table.proofs.Lists.{from_filter, was_mapped}
@@ -205,8 +206,8 @@ ids_grow s (Install domain cap program) = record { caps = omega arith; filters =
 ids_grow s (Remove domain id) = record { caps = omega arith; filters = omega arith }
 ids_grow s (Replace domain id program) = record { caps = omega arith; filters = omega arith }
 
-pub sound_empty : (version next_cap next_filter : ℕ) → IsSoundTable (record { version = version; caps = record { held = []; next = next_cap }; filters = []; next_filter = next_filter })
-sound_empty version next_cap next_filter = record {
+pub sound_empty : (limits : TableLimits) (version next_cap next_filter : ℕ) → IsSoundTable (record { limits = limits; version = version; caps = record { held = []; next = next_cap }; filters = []; next_filter = next_filter })
+sound_empty limits version next_cap next_filter = record {
   cap_ids = omega arith;
   parents = record { each = λ id parent cap at is. absurd cc };
   filter_ids = omega arith;

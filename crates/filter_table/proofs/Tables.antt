@@ -17,6 +17,7 @@ use Rattle.filter_verify.specs.Rules.{Sound, Refuses}
 use Rattle.filter_verify.specs.Numbers.{number_of, place_of}
 use Rattle.filter_verify.proofs.Reasons.{Refuses-sound}
 use Rattle.endpoint_caps.specs.Capabilities.{first}
+use Rattle.filter_table.specs.Limits.{TableLimits}
 use Rattle.filter_table.specs.Tables.{TableState, replaced, empty_table, after, after_all, table, instructions, instructions_of, tests, AnswersFirst, program_of, Verifies, Allowed}
 
 pub version-after : (s : TableState) (op : Op) → (after s op).version ≡ s.version + 1
@@ -37,21 +38,40 @@ pub version-after_all : (s : TableState) (ops : List Op) → (after_all s ops).v
 version-after_all s [] = omega arith
 version-after_all s (op ∷ ops) = omega (arith, version-after_all (after s op) ops, version-after s op)
 
--- the table after the whole log
-pub table_whole : (log : List Op) → table log (length log) ≡ after_all empty_table log
-unfolding table
-table_whole log = ap (after_all empty_table) (take_all (length log) log (omega arith))
+-- no operation changes the limits
+pub limits-after : (s : TableState) (op : Op) → (after s op).limits ≡ s.limits
+unfolding after
+limits-after s (Create domain endpoint) = refl
+limits-after s (Mint domain from to rights) = refl
+limits-after s (Revoke domain from) = refl
+limits-after s (DropCap domain from) = refl
+limits-after s (Install domain from program) = refl
+limits-after s (Remove domain id) = refl
+limits-after s (Replace domain id program) = refl
 
-pub table_next : (log : List Op) (op : Op) → table (log ++ op ∷ []) (length (log ++ op ∷ [])) ≡ after (table log (length log)) op
-table_next log op = table_whole (log ++ op ∷ []) ∙ after_all-append empty_table log (op ∷ []) ∙ ap (λ s. after s op) (sym (table_whole log))
+limits-after_all : (s : TableState) (ops : List Op) → (after_all s ops).limits ≡ s.limits
+limits-after_all s [] = refl
+limits-after_all s (op ∷ ops) = limits-after_all (after s op) ops ∙ limits-after s op
+
+pub table_limits : (limits : TableLimits) (log : List Op) (v : ℕ) → (table limits log v).limits ≡ limits
+unfolding table
+table_limits limits log v = limits-after_all (empty_table limits) (take v log)
+
+-- the table after the whole log
+pub table_whole : (limits : TableLimits) (log : List Op) → table limits log (length log) ≡ after_all (empty_table limits) log
+unfolding table
+table_whole limits log = ap (after_all (empty_table limits)) (take_all (length log) log (omega arith))
+
+pub table_next : (limits : TableLimits) (log : List Op) (op : Op) → table limits (log ++ op ∷ []) (length (log ++ op ∷ [])) ≡ after (table limits log (length log)) op
+table_next limits log op = table_whole limits (log ++ op ∷ []) ∙ after_all-append (empty_table limits) log (op ∷ []) ∙ ap (λ s. after s op) (sym (table_whole limits log))
 
 -- a longer log has the same tables at the versions of the shorter
-pub table_front : (log more : List Op) (v : ℕ) → v ≤ length log → table (log ++ more) v ≡ table log v
+pub table_front : (limits : TableLimits) (log more : List Op) (v : ℕ) → v ≤ length log → table limits (log ++ more) v ≡ table limits log v
 unfolding table
-table_front log more v h = ap (after_all empty_table) (take-append-le v log more h)
+table_front limits log more v h = ap (after_all (empty_table limits)) (take-append-le v log more h)
 
-pub table_version : (log : List Op) → (table log (length log)).version ≡ length log
-table_version log = ap (λ (s : TableState). s.version) (table_whole log) ∙ (version-after_all empty_table log ∙ omega arith)
+pub table_version : (limits : TableLimits) (log : List Op) → (table limits log (length log)).version ≡ length log
+table_version limits log = ap (λ (s : TableState). s.version) (table_whole limits log) ∙ (version-after_all (empty_table limits) log ∙ omega arith)
 
 -- the tests of an allowed operation fail
 pub first_none : {A : Type 0} (tests : List (Bool × A)) (i : ℕ) (test : Bool × A) → first tests ≡ None → slice_get tests i ≡ Some test → test.0 ≡ false
@@ -87,19 +107,19 @@ tests_fit s budget (Mint domain from to rights) passed h = h
 tests_fit s budget (Revoke domain from) passed h = h
 tests_fit s budget (DropCap domain from) passed h = h
 tests_fit s budget (Install domain from program) passed h =
-    let within = first_none (tests s budget (Install domain from program)) 6 _ passed refl in
+    let within = first_none (tests s budget (Install domain from program)) 8 _ passed refl in
     simp sum_by-append (grind (arith, nat_tests, within))
 tests_fit s budget (Remove domain id) passed h = omega (arith, sum_filter (λ f. not (f.id == id)) s.filters)
 tests_fit s budget (Replace domain id program) passed h =
-    let within = first_none (tests s budget (Replace domain id program)) 6 _ passed refl in
+    let within = first_none (tests s budget (Replace domain id program)) 7 _ passed refl in
     grind (arith, nat_tests, within)
 
 pub allowed_fits : (s : TableState) (budget : ℕ) (op : Op) → Allowed s budget op None → instructions s ≤ budget → instructions (after s op) ≤ budget
 allowed_fits s budget op allowed h = tests_fit s budget op (allowed_tests s budget op allowed) h
 
-pub instructions_opening : instructions empty_table ≡ 0
+pub instructions_opening : (limits : TableLimits) → instructions (empty_table limits) ≡ 0
 unfolding instructions
-instructions_opening = refl
+instructions_opening limits = refl
 
 -- The budget decides nothing but the budget: what one core allows, no core refuses by a rule
 
@@ -160,10 +180,10 @@ allowed_elsewhere s b b' (Revoke domain from) fault a r = let x = allowed_answer
 allowed_elsewhere s b b' (DropCap domain from) fault a r = let x = allowed_answers s b' (DropCap domain from) _ None (allowed_tests s b (DropCap domain from) a) r in cc
 allowed_elsewhere s b b' (Remove domain id) fault a r = let x = allowed_answers s b' (Remove domain id) _ None (allowed_tests s b (Remove domain id) a) r in cc
 allowed_elsewhere s b b' (Install domain from program) fault a r =
-    elsewhere_last s b b' (Install domain from program) fault program (take 6 (tests s b (Install domain from program)))
+    elsewhere_last s b b' (Install domain from program) fault program (take 8 (tests s b (Install domain from program)))
     (ltb b (instructions_of s.filters + length program)) (ltb b' (instructions_of s.filters + length program)) refl refl refl a r
 allowed_elsewhere s b b' (Replace domain id program) fault a r =
-    elsewhere_last s b b' (Replace domain id program) fault program (take 6 (tests s b (Replace domain id program)))
+    elsewhere_last s b b' (Replace domain id program) fault program (take 7 (tests s b (Replace domain id program)))
     (ltb b (instructions_of (replaced s.filters id program))) (ltb b' (instructions_of (replaced s.filters id program))) refl refl refl a r
 
 -- Where the first refusal is the budget's, the operation exceeds it
@@ -221,8 +241,8 @@ over_budget s budget (Revoke domain from) a = absurd (let x = first_budget (test
 over_budget s budget (DropCap domain from) a = absurd (let x = first_budget (tests s budget (DropCap domain from)) (budget_first s budget (DropCap domain from) a) in cc)
 over_budget s budget (Remove domain id) a = absurd (let x = first_budget (tests s budget (Remove domain id)) (budget_first s budget (Remove domain id) a) in cc)
 over_budget s budget (Install domain from program) a =
-    let over = over_last s budget (Install domain from program) (take 6 (tests s budget (Install domain from program))) (ltb budget (instructions_of s.filters + length program)) refl refl a in
+    let over = over_last s budget (Install domain from program) (take 8 (tests s budget (Install domain from program))) (ltb budget (instructions_of s.filters + length program)) refl refl a in
     simp sum_by-append (grind (arith, nat_tests, over))
 over_budget s budget (Replace domain id program) a =
-    let over = over_last s budget (Replace domain id program) (take 6 (tests s budget (Replace domain id program))) (ltb budget (instructions_of (replaced s.filters id program))) refl refl a in
+    let over = over_last s budget (Replace domain id program) (take 7 (tests s budget (Replace domain id program))) (ltb budget (instructions_of (replaced s.filters id program))) refl refl a in
     grind (arith, nat_tests, over)

@@ -1,4 +1,5 @@
 pub mod Listed
+pub mod Limits
 pub mod Tables
 pub mod Loading
 pub mod Staging

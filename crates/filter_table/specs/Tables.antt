@@ -14,9 +14,10 @@ use Rattle.endpoint_caps.specs.declared.CapFault.TheVariants as cap_fault
 use Rattle.endpoint_caps.specs.declared.Right.TheVariants.{Receive}
 use Rattle.endpoint_caps.specs.Capabilities.{CapTable, no_caps, cap_at, is_some_and, created, minted_from, revoked, dropped, first, holder_tests, right_tests, create_tests, mint_tests}
 use Rattle.filter_table.specs.Listed.{ListedFilter}
+use Rattle.filter_table.specs.Limits.{TableLimits}
 use Rattle.filter_table.specs.declared.operation.Op.{Op}
 use Rattle.filter_table.specs.declared.operation.Op.TheVariants.{Create, Mint, Revoke, DropCap, Install, Remove, Replace}
-use Rattle.filter_table.specs.declared.operation.OpFault.TheVariants.{NoCap, NotHolder, NoRight, RightsExceed, EndpointTaken, CapsFull, IdsSpent, NoFilter, NotOwner, TableFull, FilterIdsSpent, BadProgram, VersionsSpent}
+use Rattle.filter_table.specs.declared.operation.OpFault.TheVariants.{NoCap, NotHolder, NoRight, RightsExceed, EndpointTaken, CapsFull, IdsSpent, NoFilter, NotOwner, TableFull, DomainFull, FilterIdsSpent, BadProgram, VersionsSpent}
 use Rattle.filter_table.specs.declared.operation.StageFault.{StageFault}
 use Rattle.filter_table.specs.declared.operation.StageFault.TheVariants.{Rule, Budget, NoMemory}
 use Rattle.filter_table.specs.declared.operation.Made.{Made}
@@ -26,13 +27,14 @@ use Rattle.filter_table.specs.declared.delivery.Kept.{Kept}
 -- The state
 
 pub record TableState : Type 0 where
+  pub limits : TableLimits  -- no operation changes them
   pub version : ℕ
   pub caps : CapTable
   pub filters : List ListedFilter  -- in order of installation
   pub next_filter : ℕ
 
-abbrev pub empty_table : TableState
-empty_table = record { version = 0; caps = no_caps; filters = []; next_filter = 1 }
+abbrev pub empty_table : TableLimits → TableState
+empty_table limits = record { limits = limits; version = 0; caps = no_caps; filters = []; next_filter = 1 }
 
 abbrev pub filter_at : List ListedFilter → ℕ → Option ListedFilter
 filter_at filters id = find (λ f. f.id == id) filters
@@ -40,6 +42,10 @@ filter_at filters id = find (λ f. f.id == id) filters
 -- the instructions of all filters, which a core's budget bounds
 abbrev pub instructions_of : List ListedFilter → ℕ
 instructions_of filters = sum_by (λ f. length f.program) filters
+
+-- the filters of one domain, of which its share is counted
+abbrev pub owned_by : ℕ → List ListedFilter → List ListedFilter
+owned_by domain filters = filter (λ f. f.owner == domain) filters
 
 unfoldable pub instructions : TableState → ℕ
 instructions s = instructions_of s.filters
@@ -83,6 +89,7 @@ rule_of cap_fault.NoRight = Rule NoRight
 rule_of cap_fault.RightsExceed = Rule RightsExceed
 rule_of cap_fault.EndpointTaken = Rule EndpointTaken
 rule_of cap_fault.CapsFull = Rule CapsFull
+rule_of cap_fault.DomainFull = Rule DomainFull
 rule_of cap_fault.IdsSpent = Rule IdsSpent
 rule_of cap_fault.NoMemory = NoMemory
 
@@ -105,7 +112,9 @@ owner_tests filters domain id =
 abbrev pub install_tests : TableState → ℕ → ℕ → ℕ → List Insn → List (Bool × StageFault)
 install_tests s budget domain cap program =
     as_rules (right_tests s.caps.held domain cap Receive)
-    ++ (leb 1024 (length s.filters), Rule TableFull)
+    ++ (leb s.limits.filters (length s.filters), Rule TableFull)
+    ∷ (leb s.limits.domain_filters (length (owned_by domain s.filters)), Rule DomainFull)
+    ∷ (ltb s.limits.domain_insns (instructions_of (owned_by domain s.filters) + length program), Rule DomainFull)
     ∷ (s.next_filter == 4294967295, Rule FilterIdsSpent)
     ∷ (ltb budget (instructions_of s.filters + length program), Budget)
     ∷ []
@@ -115,13 +124,14 @@ abbrev pub replace_tests : TableState → ℕ → ℕ → ℕ → List Insn → 
 replace_tests s budget domain id program =
     owner_tests s.filters domain id
     ++ as_rules (right_tests s.caps.held domain (cap_of (filter_at s.filters id)) Receive)
-    ++ (ltb budget (instructions_of (replaced s.filters id program)), Budget)
+    ++ (ltb s.limits.domain_insns (instructions_of (owned_by domain (replaced s.filters id program))), Rule DomainFull)
+    ∷ (ltb budget (instructions_of (replaced s.filters id program)), Budget)
     ∷ []
 
 -- what is tested of an operation, in order, before its program is verified
 abbrev pub tests : TableState → ℕ → Op → List (Bool × StageFault)
-tests s budget (Create domain endpoint) = version_test s ∷ as_rules (create_tests s.caps endpoint)
-tests s budget (Mint domain cap to rights) = version_test s ∷ as_rules (mint_tests s.caps domain cap rights)
+tests s budget (Create domain endpoint) = version_test s ∷ as_rules (create_tests s.limits.caps s.caps domain endpoint)
+tests s budget (Mint domain cap to rights) = version_test s ∷ as_rules (mint_tests s.limits.caps s.caps domain cap rights)
 tests s budget (Revoke domain cap) = version_test s ∷ as_rules (holder_tests s.caps.held domain cap)
 tests s budget (DropCap domain cap) = version_test s ∷ as_rules (holder_tests s.caps.held domain cap)
 tests s budget (Install domain cap program) = version_test s ∷ install_tests s budget domain cap program
@@ -195,6 +205,6 @@ abbrev pub after_all : TableState → List Op → TableState
 after_all s [] = s
 after_all s (op ∷ ops) = after_all (after s op) ops
 
--- the table after the first v operations of the log
-unfoldable pub table : List Op → ℕ → TableState
-table log v = after_all empty_table (take v log)
+-- the table after the first v operations of the log, on a machine with these limits
+unfoldable pub table : TableLimits → List Op → ℕ → TableState
+table limits log v = after_all (empty_table limits) (take v log)

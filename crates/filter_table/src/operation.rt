@@ -11,13 +11,14 @@ pub type Program = Shared<Insn>;
 /// An operation on the table, asked for by a domain. Refusals are looked for in the order given, after VersionsSpent.
 #[derive(Clone, Drop)]
 pub enum Op {
-    /// A capability of the endpoint with all rights, held by the domain. Refused as EndpointTaken, CapsFull, IdsSpent.
+    /// A capability of the endpoint with all rights, held by the domain. Refused as EndpointTaken, CapsFull,
+    /// DomainFull (the domain made its share of the capabilities), IdsSpent.
     Create {
         domain: u16,
         endpoint: u16,
     },
     /// A capability of the same endpoint as `cap`, held by `to`. Refused as NoCap, NotHolder, NoRight (`cap` lacks Mint),
-    /// RightsExceed, CapsFull, IdsSpent.
+    /// RightsExceed, CapsFull, DomainFull (as in `Create`: the new one counts for `domain`, not for `to`), IdsSpent.
     Mint {
         domain: u16,
         cap: u32,
@@ -35,7 +36,8 @@ pub enum Op {
         cap: u32,
     },
     /// A filter for the endpoint of the capability, last in order. Refused as NoCap, NotHolder, NoRight (it lacks Receive),
-    /// TableFull, FilterIdsSpent, Budget, BadProgram.
+    /// TableFull, DomainFull (of the domain's filters, or of their instructions with the program's), FilterIdsSpent, Budget,
+    /// BadProgram.
     Install {
         domain: u16,
         cap: u32,
@@ -47,7 +49,8 @@ pub enum Op {
         filter: u32,
     },
     /// The filter gets another program, and keeps all else. Refused as NoFilter, NotOwner, NoCap, NotHolder, NoRight (its
-    /// capability lacks Receive), Budget (the new program counts in place of the old), BadProgram.
+    /// capability lacks Receive), DomainFull (of the domain's instructions) and Budget (the new program counts in place of the old
+    /// in both), BadProgram.
     Replace {
         domain: u16,
         filter: u32,
@@ -73,7 +76,7 @@ pub enum OpFault {
     /// A capability of that endpoint is held.
     #[error("a capability of that endpoint is held")]
     EndpointTaken,
-    /// 1,024 capabilities are held.
+    /// As many capabilities are held as the machine's limits allow.
     #[error("as many capabilities are held as may be")]
     CapsFull,
     /// The last id of a capability has been given out.
@@ -85,9 +88,12 @@ pub enum OpFault {
     /// Another domain owns the filter.
     #[error("another domain owns the filter")]
     NotOwner,
-    /// 1,024 filters are listed.
+    /// As many filters are listed as the machine's limits allow.
     #[error("as many filters are listed as may be")]
     TableFull,
+    /// The domain has as much as the machine's limits allow to one: of capabilities that it made, of filters, or of instructions.
+    #[error("the domain has as much as one may have")]
+    DomainFull,
     /// The last id of a filter has been given out.
     #[error("the last id of a filter has been given out")]
     FilterIdsSpent,

@@ -1,6 +1,7 @@
 -- Events that are done one after another.
 use Rattle.std.proofs.Common.{◌≡◌, ◌++◌, ◌∷◌, ℕ, suc, List, [], All, length, refl, ap, sym, ◌∙◌, subst, append_assoc, arith}
 use Rattle.std.proofs.lemmas.List.{append-nil, length-map}
+use Rattle.filter_table.specs.Limits.{TableLimits}
 use Rattle.filter_table.specs.declared.operation.Op.{Op}
 use Rattle.filter_table.specs.Tables.{HasShortProgram}
 use Rattle.world_events.specs.declared.event.Event.{Event}
@@ -12,15 +13,15 @@ use Rattle.world_core.specs.Refusals.{Extends, IsShortEvent}
 use Rattle.headline.specs.Shown.{replica_of_peer, replicas_of}
 
 pub extends_none : (w : World) → Extends w [] w
-extends_none w budget budgets before run = subst (λ (l : List Done). Run budget budgets l w) (sym (append-nil before)) run
+extends_none w limits budget budgets before run = subst (λ (l : List Done). Run limits budget budgets l w) (sym (append-nil before)) run
 
 pub extends_more : (w mid w' : World) (events : List Done) (done : Done) → Extends w events mid → Extends mid (done ∷ []) w' → Extends w (events ++ done ∷ []) w'
-extends_more w mid w' events done first last budget budgets before run =
-    subst (λ (l : List Done). Run budget budgets l w') (append_assoc before events (done ∷ [])) (last budget budgets (before ++ events) (first budget budgets before run))
+extends_more w mid w' events done first last limits budget budgets before run =
+    subst (λ (l : List Done). Run limits budget budgets l w') (append_assoc before events (done ∷ [])) (last limits budget budgets (before ++ events) (first limits budget budgets before run))
 
 -- a machine that comes up so has done these events
-pub extends_boot : (budget : ℕ) (budgets : List ℕ) (w w' : World) (events : List Done) → w ≡ boot budget budgets → Extends w events w' → Run budget budgets events w'
-extends_boot budget budgets w w' events is extends = extends budget budgets [] is
+pub extends_boot : (limits : TableLimits) (budget : ℕ) (budgets : List ℕ) (w w' : World) (events : List Done) → w ≡ boot limits budget budgets → Extends w events w' → Run limits budget budgets events w'
+extends_boot limits budget budgets w w' events is extends = extends limits budget budgets [] is
 
 -- the operations that these events submit are short
 pub short_event : (before after events : List Event) (event : Event) → events ≡ before ++ event ∷ after
@@ -39,5 +40,5 @@ short_event before after events event e all = by_event event (at before (subst (
     by_event e s = tt
 
 -- a machine has a replica for each budget
-pub all_replicas : (budget : ℕ) (budgets : List ℕ) (events : List Done) (w : World) → Run budget budgets events w → length (replicas_of w) ≡ length (budget ∷ budgets)
-all_replicas budget budgets events w run = ap suc (length-map w.peers (replica_of_peer w) ∙ (run_known budget budgets events w run).cores)
+pub all_replicas : (limits : TableLimits) (budget : ℕ) (budgets : List ℕ) (events : List Done) (w : World) → Run limits budget budgets events w → length (replicas_of w) ≡ length (budget ∷ budgets)
+all_replicas limits budget budgets events w run = ap suc (length-map w.peers (replica_of_peer w) ∙ (run_known limits budget budgets events w run).cores)

@@ -2,6 +2,7 @@
 use Rattle.std.proofs.Common.{◌≡◌, ◌+◌, ◌<◌, ◌≤◌, ◌++◌, ◌∷◌, ◌⊎◌, inl, inr, ℕ, zero, suc, Bool, true, false, cond, Some, List, [], length, refl, ap, sym, ◌∙◌, subst, arith}
 use Rattle.std.proofs.lemmas.List.Sums.{sum_by-append}
 use Rattle.std.proofs.lemmas.Option.{slice_get_within}
+use Rattle.filter_table.specs.Limits.{TableLimits}
 use Rattle.filter_table.specs.declared.operation.Op.{Op}
 use Rattle.table_replica.proofs.Shared.{get_at}
 use Rattle.world_events.specs.declared.event.Event.{Event}
@@ -47,10 +48,10 @@ quiet_runs core w w' (x ∷ xs) r = (λ ne. quiet_one core w r.0 x ne r.1, quiet
 
 -- How many requests a core submitted and core 0 started, by a run
 
-pub record Counts (budget : ℕ) (budgets : List ℕ) (told : List Done) : Type 0 where
+pub record Counts (limits : TableLimits) (budget : ℕ) (budgets : List ℕ) (told : List Done) : Type 0 where
   pub events : List Done
   pub world : World
-  pub run : Run budget budgets events world
+  pub run : Run limits budget budgets events world
   pub submits : (core : ℕ) → submits_of core told ≡ submits_of core events
   pub starts : (core : ℕ) → begins_of core told ≡ begins_of core events
 
@@ -87,21 +88,21 @@ starts_in core (d ∷ events) some = by_event d.event refl (starts_in core event
     by_event (Rx to number packet floor) is rest = later (ap (begins_for core) (sym is)) rest
 
 -- the core that core 0 starts a request for is another of the machine
-run_inside : (budget : ℕ) (budgets : List ℕ) (events : List Done) (w : World) → Run budget budgets events w → (core : ℕ) → StartsIn core events → (i : ℕ) × (core ≡ suc i) × (i < length budgets)
-run_inside budget budgets events w run zero s =
-    let r = runs_split (boot budget budgets) w s.before (record { event = StartFor 0; answer = s.answer } ∷ s.after) (subst (λ (xs : List Done). Run budget budgets xs w) s.is_split run) in
+run_inside : (limits : TableLimits) (budget : ℕ) (budgets : List ℕ) (events : List Done) (w : World) → Run limits budget budgets events w → (core : ℕ) → StartsIn core events → (i : ℕ) × (core ≡ suc i) × (i < length budgets)
+run_inside limits budget budgets events w run zero s =
+    let r = runs_split (boot limits budget budgets) w s.before (record { event = StartFor 0; answer = s.answer } ∷ s.after) (subst (λ (xs : List Done). Run limits budget budgets xs w) s.is_split run) in
     absurd r.2.1
-run_inside budget budgets events w run (suc i) s =
-    let r = runs_split (boot budget budgets) w s.before (record { event = StartFor (suc i); answer = s.answer } ∷ s.after) (subst (λ (xs : List Done). Run budget budgets xs w) s.is_split run) in
+run_inside limits budget budgets events w run (suc i) s =
+    let r = runs_split (boot limits budget budgets) w s.before (record { event = StartFor (suc i); answer = s.answer } ∷ s.after) (subst (λ (xs : List Done). Run limits budget budgets xs w) s.is_split run) in
     let h : HappensStartFor r.0 i r.2.0 s.answer = r.2.1 in
     let starts = h.here.starts in
-    let known = run_known budget budgets s.before r.0 r.1 in
+    let known = run_known limits budget budgets s.before r.0 r.1 in
     (i, refl, omega (arith, slice_get_within r.0.requests.waiting i (Some starts.op) starts.is_waiting, known.waiting_long))
 
-run_counts : (budget : ℕ) (budgets : List ℕ) (events : List Done) (w : World) → Run budget budgets events w → (i : ℕ) → i < length budgets → (begins_of (suc i) events ≤ submits_of (suc i) events) × (submits_of (suc i) events ≤ begins_of (suc i) events + 1)
-run_counts budget budgets events w run i lt =
-    let p = get_at w.peers i (omega (arith, lt, (run_known budget budgets events w run).cores)) in
-    let k = run_tracks budget budgets events w run i p.0 p.1 in
+run_counts : (limits : TableLimits) (budget : ℕ) (budgets : List ℕ) (events : List Done) (w : World) → Run limits budget budgets events w → (i : ℕ) → i < length budgets → (begins_of (suc i) events ≤ submits_of (suc i) events) × (submits_of (suc i) events ≤ begins_of (suc i) events + 1)
+run_counts limits budget budgets events w run i lt =
+    let p = get_at w.peers i (omega (arith, lt, (run_known limits budget budgets events w run).cores)) in
+    let k = run_tracks limits budget budgets events w run i p.0 p.1 in
     let most = at_most (request_of (suc i) events) in
     (omega (arith, k.counted), omega (arith, k.counted, most))
   where
@@ -129,8 +130,8 @@ split_last (x ∷ events) (b ∷ before) after d last e =
       | inr h ↦ inr (h.0, rw same (ap (λ (ds : List Done). b ∷ ds) h.1))
     ]
 
-pub order_one : (budget : ℕ) (budgets : List ℕ) (events : List Done) (d : Done) → Counts budget budgets events → Counts budget budgets (events ++ d ∷ []) → StartOneByOne events → StartOneByOne (events ++ d ∷ [])
-order_one budget budgets events d counts counts' order before after core answer e = elim (split_last events before after (record { event = StartFor core; answer = answer }) d e) [
+pub order_one : (limits : TableLimits) (budget : ℕ) (budgets : List ℕ) (events : List Done) (d : Done) → Counts limits budget budgets events → Counts limits budget budgets (events ++ d ∷ []) → StartOneByOne events → StartOneByOne (events ++ d ∷ [])
+order_one limits budget budgets events d counts counts' order before after core answer e = elim (split_last events before after (record { event = StartFor core; answer = answer }) d e) [
   | inl h ↦ subst (λ (ds : List Done). length (submitted_in core ds) ≡ started_for core ds + 1) (sym h.0) (last h.1)
   | inr h ↦ order before h.0 core answer h.1
 ]
@@ -142,10 +143,10 @@ order_one budget budgets events d counts counts' order before after core answer 
         let one_start : begins_of core (events ++ d ∷ []) ≡ begins_of core events + 1 =
         omega (arith, sum_by-append (λ (x : Done). cond (begins_for core x.event) 1 0) events (d ∷ []), ap (λ (x : Done). begins_of core (x ∷ [])) is, count_first (λ (x : Done). begins_for core x.event) start [], ap {B = ℕ} (λ (b : Bool). cond b 1 0) (eq_self core)) in
         let more = counts'.starts core in
-        let there = run_inside budget budgets counts'.events counts'.world counts'.run core (starts_in core counts'.events (omega (arith, one_start, more))) in
+        let there = run_inside limits budget budgets counts'.events counts'.world counts'.run core (starts_in core counts'.events (omega (arith, one_start, more))) in
         let i = there.0 in
-        let c = run_counts budget budgets counts.events counts.world counts.run i there.2 in
-        let c' = run_counts budget budgets counts'.events counts'.world counts'.run i there.2 in
+        let c = run_counts limits budget budgets counts.events counts.world counts.run i there.2 in
+        let c' = run_counts limits budget budgets counts'.events counts'.world counts'.run i there.2 in
         let own : (xs : List Done) → submits_of core xs ≡ submits_of (suc i) xs = λ xs. ap (λ (n : ℕ). submits_of n xs) there.1 in
         let own' : (xs : List Done) → begins_of core xs ≡ begins_of (suc i) xs = λ xs. ap (λ (n : ℕ). begins_of n xs) there.1 in
         omega (arith, no_submit, one_start, more, counts.submits core, counts.starts core, counts'.submits core, c.0, c.1, c'.0, c'.1, own counts.events, own' counts.events, own counts'.events, own' counts'.events, submitted_count core events)

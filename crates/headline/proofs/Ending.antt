@@ -4,6 +4,7 @@ use Rattle.std.proofs.lemmas.List.{append-nil, length-map}
 use Rattle.std.proofs.lemmas.List.Elements.{All-nil, All-cons, All-head, All-tail}
 use Rattle.std.proofs.lemmas.Option.{slice_get_within}
 use Rattle.std.proofs.lemmas.Bool.{cases_lt}
+use Rattle.filter_table.specs.Limits.{TableLimits}
 use Rattle.filter_table.specs.declared.operation.Op.{Op}
 use Rattle.filter_table.specs.Tables.{HasShortProgram}
 use Rattle.table_replica.specs.Shown.{ReplicaState}
@@ -56,15 +57,15 @@ items_none {T} core count (i ∷ is) all le =
     let other : (i.0 == core) ≡ false = eq_other i.0 core (λ e. omega (arith, less, le, e)) in
     ap (λ (b : Bool). (cond b (i.1 ∷ []) []) ++ items_for core is) other ∙ items_none core count is (All-tail P i is all) le
 
-ran_machine : (budgets : List ℕ) (machine cores : List RingCore) → IsMachineOf budgets machine → ((budget : ℕ) (others : List ℕ) → IsMachine budget others machine → IsMachine budget others cores) → IsMachineOf budgets cores
-ran_machine [] machine cores is keeps = absurd is
-ran_machine (budget ∷ budgets) machine cores is keeps = keeps budget budgets is
+ran_machine : (limits : TableLimits) (budgets : List ℕ) (machine cores : List RingCore) → IsMachineOf limits budgets machine → ((budget : ℕ) (others : List ℕ) → IsMachine limits budget others machine → IsMachine limits budget others cores) → IsMachineOf limits budgets cores
+ran_machine limits [] machine cores is keeps = absurd is
+ran_machine limits (budget ∷ budgets) machine cores is keeps = keeps budget budgets is
 
-ended_whole : (budgets : List ℕ) (requests : List (ℕ × Op)) (jobs : List (ℕ × Job)) (machine cores : List RingCore) (left : List (ℕ × Job)) → IsMachineOf budgets machine → length machine ≡ length budgets → HaveRequests requests machine
-    → EndsRightly machine jobs cores left None → ((budget : ℕ) (others : List ℕ) → IsMachine budget others machine → IsMachine budget others cores) → HaveEnded budgets requests jobs cores left
-ended_whole budgets requests jobs machine cores left is count have ends keeps = record {
+ended_whole : (limits : TableLimits) (budgets : List ℕ) (requests : List (ℕ × Op)) (jobs : List (ℕ × Job)) (machine cores : List RingCore) (left : List (ℕ × Job)) → IsMachineOf limits budgets machine → length machine ≡ length budgets → HaveRequests requests machine
+    → EndsRightly machine jobs cores left None → ((budget : ℕ) (others : List ℕ) → IsMachine limits budget others machine → IsMachine limits budget others cores) → HaveEnded limits budgets requests jobs cores left
+ended_whole limits budgets requests jobs machine cores left is count have ends keeps = record {
   count = ends.all ∙ count;
-  machine = ran_machine budgets machine cores is keeps;
+  machine = ran_machine limits budgets machine cores is keeps;
   begun_all = λ i c at.
       let old = before i c at in
       let core = ends.each i old.0 c old.1 at in
@@ -77,15 +78,15 @@ ended_whole budgets requests jobs machine cores left is count have ends keeps = 
     before : (i : ℕ) (c : RingCore) → slice_get cores i ≡ Some c → (old : RingCore) × (slice_get machine i ≡ Some old)
     before i c at = get_at machine i (omega (arith, ends.all, slice_get_within cores i c at))
 
-pub have_ended : (budgets : List ℕ) (requests : List (ℕ × Op)) (jobs : List (ℕ × Job)) (machine cores : List RingCore) (left : List (ℕ × Job)) (named : Option (ℕ × Halt)) → named ≡ None → IsMachineOf budgets machine → length machine ≡ length budgets
-    → HaveRequests requests machine → RunsToRest machine jobs cores left named → ((budget : ℕ) (others : List ℕ) → IsMachine budget others machine → IsMachine budget others cores) → HaveEnded budgets requests jobs cores left
-have_ended budgets requests jobs machine cores left named none is count have rests keeps =
-    ended_whole budgets requests jobs machine cores left is count have (subst (RunsToRest machine jobs cores left) none rests) keeps
+pub have_ended : (limits : TableLimits) (budgets : List ℕ) (requests : List (ℕ × Op)) (jobs : List (ℕ × Job)) (machine cores : List RingCore) (left : List (ℕ × Job)) (named : Option (ℕ × Halt)) → named ≡ None → IsMachineOf limits budgets machine → length machine ≡ length budgets
+    → HaveRequests requests machine → RunsToRest machine jobs cores left named → ((budget : ℕ) (others : List ℕ) → IsMachine limits budget others machine → IsMachine limits budget others cores) → HaveEnded limits budgets requests jobs cores left
+have_ended limits budgets requests jobs machine cores left named none is count have rests keeps =
+    ended_whole limits budgets requests jobs machine cores left is count have (subst (RunsToRest machine jobs cores left) none rests) keeps
 
 -- they are a machine
-pub ended_machine : (budgets : List ℕ) (requests : List (ℕ × Op)) (jobs : List (ℕ × Job)) (cores : List RingCore) (left : List (ℕ × Job)) → HaveEnded budgets requests jobs cores left → (budget : ℕ) × (others : List ℕ) × IsMachine budget others cores
-ended_machine [] requests jobs cores left e = absurd e.machine
-ended_machine (budget ∷ others) requests jobs cores left e = (budget, others, e.machine)
+pub ended_machine : (limits : TableLimits) (budgets : List ℕ) (requests : List (ℕ × Op)) (jobs : List (ℕ × Job)) (cores : List RingCore) (left : List (ℕ × Job)) → HaveEnded limits budgets requests jobs cores left → (budget : ℕ) × (others : List ℕ) × IsMachine limits budget others cores
+ended_machine limits [] requests jobs cores left e = absurd e.machine
+ended_machine limits (budget ∷ others) requests jobs cores left e = (budget, others, e.machine)
 
 -- core 0 decides nothing
 pub idle_at : (cores : ℕ) (p : Part) (links : RingLinks) (others clock : ℕ) (end : Core0State) → HasNothingUnderWay cores p (ring_view links) → StandsAt0 others p clock end → IsIdle0 p
@@ -93,10 +94,10 @@ idle_at cores (role.Core0 core) links others clock end idle stands = idle.0
 idle_at cores (role.OtherCore core) links others clock end idle stands = absurd stands
 
 -- What the one list of events says of them
-module _ (budgets : List ℕ) (requests : List (ℕ × Op)) (jobs : List (ℕ × Job)) (left : List (ℕ × Job)) (list : List Done) where
+module _ (limits : TableLimits) (budgets : List ℕ) (requests : List (ℕ × Op)) (jobs : List (ℕ × Job)) (left : List (ℕ × Job)) (list : List Done) where
   record Said (cores : List RingCore) : Type 0 where
-    delivers : Delivers (log_of list) list
-    tables : ShowTables list (replicas_of_cores cores)
+    delivers : Delivers limits (log_of list) list
+    tables : ShowTables limits list (replicas_of_cores cores)
     begun_each : (core : ℕ) (c : RingCore) → slice_get cores core ≡ Some c → begun_in core list ≡ begun c.history
     decided_each : (core : ℕ) (c : RingCore) → slice_get cores core ≡ Some c → decided_in core list ≡ decisions c.history
     received_each : (core : ℕ) (c : RingCore) → slice_get cores core ≡ Some c → received_in core list ≡ receipts c.history
@@ -105,38 +106,38 @@ module _ (budgets : List ℕ) (requests : List (ℕ × Op)) (jobs : List (ℕ ×
     none_decided : (core : ℕ) → length cores ≤ core → decided_in core list ≡ []
     none_received : (core : ℕ) → length cores ≤ core → received_in core list ≡ []
 
-  said : (cores : List RingCore) → HaveEnded budgets requests jobs cores left → OfMachine cores Concludes → ListsRuns (histories_of cores) list → Said cores
-  said cores e computes lists = by_machine cores (ended_machine budgets requests jobs cores left e) e.done computes lists
+  said : (cores : List RingCore) → HaveEnded limits budgets requests jobs cores left → OfMachine cores Concludes → ListsRuns (histories_of cores) list → Said cores
+  said cores e computes lists = by_machine cores (ended_machine limits budgets requests jobs cores left e) e.done computes lists
     where
-      by_machine : (cores : List RingCore) → ((budget : ℕ) × (others : List ℕ) × IsMachine budget others cores) → AreAllDone cores left
+      by_machine : (cores : List RingCore) → ((budget : ℕ) × (others : List ℕ) × IsMachine limits budget others cores) → AreAllDone cores left
           → OfMachine cores Concludes → ListsRuns (histories_of cores) list → Said cores
       by_machine [] m ended computes lists = absurd m.2
       by_machine (first ∷ others) m ended computes lists =
-          let con = computes m.0 m.1 first others refl m.2 in
+          let con = computes limits m.0 m.1 first others refl m.2 in
           record {
-            delivers = joined_deliver m.0 m.1 first others list con lists;
-            tables = joined_tables m.0 m.1 first others list con lists;
-            begun_each = joined_begun m.0 m.1 first others list con lists;
-            decided_each = joined_decided m.0 m.1 first others list con lists;
-            received_each = joined_received m.0 m.1 first others list con lists;
-            newest = joined_newest m.0 m.1 first others list con lists (idle_at first.cores first.part first.links (length m.1) first.clock con.end (ended 0 first refl).at_end.idle con.ends0);
-            none_begun = joined_none_begun m.0 m.1 first others list con lists;
-            none_decided = joined_none_decided m.0 m.1 first others list con lists;
-            none_received = joined_none_received m.0 m.1 first others list con lists;
+            delivers = joined_deliver limits m.0 m.1 first others list con lists;
+            tables = joined_tables limits m.0 m.1 first others list con lists;
+            begun_each = joined_begun limits m.0 m.1 first others list con lists;
+            decided_each = joined_decided limits m.0 m.1 first others list con lists;
+            received_each = joined_received limits m.0 m.1 first others list con lists;
+            newest = joined_newest limits m.0 m.1 first others list con lists (idle_at first.cores first.part first.links (length m.1) first.clock con.end (ended 0 first refl).at_end.idle con.ends0);
+            none_begun = joined_none_begun limits m.0 m.1 first others list con lists;
+            none_decided = joined_none_decided limits m.0 m.1 first others list con lists;
+            none_received = joined_none_received limits m.0 m.1 first others list con lists;
           }
 
-  pub ended_deliver : (cores : List RingCore) → HaveEnded budgets requests jobs cores left → OfMachine cores Concludes → ListsRuns (histories_of cores) list → Delivers (log_of list) list
+  pub ended_deliver : (cores : List RingCore) → HaveEnded limits budgets requests jobs cores left → OfMachine cores Concludes → ListsRuns (histories_of cores) list → Delivers limits (log_of list) list
   ended_deliver cores e computes lists = (said cores e computes lists).delivers
 
-  pub ended_tables : (cores : List RingCore) (replicas : List ReplicaState) → replicas ≡ replicas_of_cores cores → HaveEnded budgets requests jobs cores left → OfMachine cores Concludes → ListsRuns (histories_of cores) list → ShowTables list replicas
-  ended_tables cores replicas is e computes lists = subst (ShowTables list) (sym is) (said cores e computes lists).tables
+  pub ended_tables : (cores : List RingCore) (replicas : List ReplicaState) → replicas ≡ replicas_of_cores cores → HaveEnded limits budgets requests jobs cores left → OfMachine cores Concludes → ListsRuns (histories_of cores) list → ShowTables limits list replicas
+  ended_tables cores replicas is e computes lists = subst (ShowTables limits list) (sym is) (said cores e computes lists).tables
 
-  pub ended_newest : (cores : List RingCore) (replicas : List ReplicaState) → replicas ≡ replicas_of_cores cores → HaveEnded budgets requests jobs cores left → OfMachine cores Concludes → ListsRuns (histories_of cores) list
+  pub ended_newest : (cores : List RingCore) (replicas : List ReplicaState) → replicas ≡ replicas_of_cores cores → HaveEnded limits budgets requests jobs cores left → OfMachine cores Concludes → ListsRuns (histories_of cores) list
       → All (λ (r : ReplicaState). r.shown.version ≡ length (log_of list)) replicas
   ended_newest cores replicas is e computes lists = subst (All (λ (r : ReplicaState). r.shown.version ≡ length (log_of list))) (sym is) (said cores e computes lists).newest
 
   -- the first job that is left of a core waits for a version that was not made
-  pub ended_left : (cores : List RingCore) → HaveEnded budgets requests jobs cores left → OfMachine cores Concludes → ListsRuns (histories_of cores) list
+  pub ended_left : (cores : List RingCore) → HaveEnded limits budgets requests jobs cores left → OfMachine cores Concludes → ListsRuns (histories_of cores) list
       → (core : ℕ) (job : Job) (later : List Job) → items_for core left ≡ job ∷ later → length (log_of list) < job.floor
   ended_left cores e computes lists core job later is = elim (cases_lt core (length budgets)) [
     | inl within ↦ (let c = get_at cores core (omega (arith, within, e.count)) in
@@ -152,7 +153,7 @@ module _ (budgets : List ℕ) (requests : List (ℕ × Op)) (jobs : List (ℕ ×
           (All-head (λ (r : ReplicaState). r.shown.version ≡ length (log_of list)) (replica_of x.part) (replicas_of_cores cs) all))
       at_core (x ∷ cs) (suc k) c at all = at_core cs k c at (All-tail (λ (r : ReplicaState). r.shown.version ≡ length (log_of list)) (replica_of x.part) (replicas_of_cores cs) all)
 
-  pub ended_begun : (cores : List RingCore) → All (λ (r : ℕ × Op). r.0 < length budgets) requests → HaveEnded budgets requests jobs cores left → OfMachine cores Concludes → ListsRuns (histories_of cores) list
+  pub ended_begun : (cores : List RingCore) → All (λ (r : ℕ × Op). r.0 < length budgets) requests → HaveEnded limits budgets requests jobs cores left → OfMachine cores Concludes → ListsRuns (histories_of cores) list
       → (core : ℕ) → begun_in core list ≡ items_for core requests
   ended_begun cores inside e computes lists core = elim (cases_lt core (length budgets)) [
     | inl within ↦ (let c = get_at cores core (omega (arith, within, e.count)) in
@@ -161,7 +162,7 @@ module _ (budgets : List ℕ) (requests : List (ℕ × Op)) (jobs : List (ℕ ×
   ]
 
   -- each request is decided
-  pub ended_decided : (cores : List RingCore) → All (λ (r : ℕ × Op). r.0 < length budgets) requests → HaveEnded budgets requests jobs cores left → OfMachine cores Concludes → ListsRuns (histories_of cores) list
+  pub ended_decided : (cores : List RingCore) → All (λ (r : ℕ × Op). r.0 < length budgets) requests → HaveEnded limits budgets requests jobs cores left → OfMachine cores Concludes → ListsRuns (histories_of cores) list
       → (core : ℕ) → length (decided_in core list) ≡ length (items_for core requests)
   ended_decided cores inside e computes lists core = elim (cases_lt core (length budgets)) [
     | inl within ↦ (let c = get_at cores core (omega (arith, within, e.count)) in
@@ -171,7 +172,7 @@ module _ (budgets : List ℕ) (requests : List (ℕ × Op)) (jobs : List (ℕ ×
     | inr beyond ↦ ap length ((said cores e computes lists).none_decided core (omega (arith, beyond, e.count))) ∙ sym (ap length (items_none core (length budgets) requests inside beyond))
   ]
 
-  pub ended_received : (cores : List RingCore) → All (λ (j : ℕ × Job). j.0 < length budgets) jobs → HaveEnded budgets requests jobs cores left → OfMachine cores Concludes → ListsRuns (histories_of cores) list
+  pub ended_received : (cores : List RingCore) → All (λ (j : ℕ × Job). j.0 < length budgets) jobs → HaveEnded limits budgets requests jobs cores left → OfMachine cores Concludes → ListsRuns (histories_of cores) list
       → (core : ℕ) → received_in core list ++ items_for core left ≡ items_for core jobs
   ended_received cores inside e computes lists core = elim (cases_lt core (length budgets)) [
     | inl within ↦ (let c = get_at cores core (omega (arith, within, e.count)) in
@@ -180,9 +181,9 @@ module _ (budgets : List ℕ) (requests : List (ℕ × Op)) (jobs : List (ℕ ×
         ∙ (items_none core (length budgets) left e.left_inside beyond ∙ sym (items_none core (length budgets) jobs inside beyond))
   ]
 
-pub count_replicas : (budgets : List ℕ) (requests : List (ℕ × Op)) (jobs : List (ℕ × Job)) (cores : List RingCore) (left : List (ℕ × Job)) (replicas : List ReplicaState) → replicas ≡ replicas_of_cores cores
-    → HaveEnded budgets requests jobs cores left → length replicas ≡ length budgets
-count_replicas budgets requests jobs cores left replicas is e = ap length is ∙ (length-map cores (λ (c : RingCore). replica_of c.part) ∙ e.count)
+pub count_replicas : (limits : TableLimits) (budgets : List ℕ) (requests : List (ℕ × Op)) (jobs : List (ℕ × Job)) (cores : List RingCore) (left : List (ℕ × Job)) (replicas : List ReplicaState) → replicas ≡ replicas_of_cores cores
+    → HaveEnded limits budgets requests jobs cores left → length replicas ≡ length budgets
+count_replicas limits budgets requests jobs cores left replicas is e = ap length is ∙ (length-map cores (λ (c : RingCore). replica_of c.part) ∙ e.count)
 
 -- cores that were looked at have their replicas still
 pub looked_replicas : (old new : List RingCore) → AreLookedAt old new → replicas_of_cores new ≡ replicas_of_cores old

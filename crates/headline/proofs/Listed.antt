@@ -3,6 +3,7 @@ use Rattle.std.proofs.Common.{◌≡◌, ◌==◌, ◌+◌, ◌++◌, ◌∷◌,
 use Rattle.std.specs.Prelude.{fold, count_by}
 use Rattle.std.proofs.lemmas.List.{map-append}
 use Rattle.std.proofs.lemmas.Option.{slice_get_within}
+use Rattle.filter_table.specs.Limits.{TableLimits}
 use Rattle.filter_table.specs.declared.operation.Op.{Op}
 use Rattle.filter_table.specs.declared.decision.Vote.TheVariants as vote
 use Rattle.filter_table.specs.Tables.{table}
@@ -89,31 +90,31 @@ begun_in_same core (x ∷ xs) = rw (begun_same core x.done.event x.done.answer, 
 
 -- So what holds of the list of a run holds of the events as the cores did them
 
-pub tables_same : (xs : List Stamped) (replicas : List ReplicaState) → ShowTables (as_listed xs) replicas → ShowTables (unstamped xs) replicas
-tables_same xs replicas h core r at =
+pub tables_same : (limits : TableLimits) (xs : List Stamped) (replicas : List ReplicaState) → ShowTables limits (as_listed xs) replicas → ShowTables limits (unstamped xs) replicas
+tables_same limits xs replicas h core r at =
     let s = h core r at in
     record {
       numbered = s.numbered ∙ sym (version_same core xs);
-      shown = s.shown ∙ (ap (table (log_of (as_listed xs))) (sym (version_same core xs)) ∙ ap (λ (l : List Op). table l (version_of core (unstamped xs))) (sym (log_same xs)));
+      shown = s.shown ∙ (ap (table limits (log_of (as_listed xs))) (sym (version_same core xs)) ∙ ap (λ (l : List Op). table limits l (version_of core (unstamped xs))) (sym (log_same xs)));
     }
 
 listed_at : (xs : List Stamped) (before after : List Done) (d : Done) → (f : Found (λ (s : Stamped). s.done) xs before d after) → as_listed xs ≡ as_listed f.front ++ listed f.item ∷ as_listed f.rest
 listed_at xs before after d f = ap as_listed f.is_split ∙ map-append listed f.front (f.item ∷ f.rest)
 
-delivers_by : (log : List Op) (xs : List Stamped) (event : Event) (answer : Answer) → DeliversBy log (as_listed xs) (as_short event answer) answer → DeliversBy log (unstamped xs) event answer
-delivers_by log xs (Rx core number packet floor) answer h = rw (version_same core xs) h
-delivers_by log xs (Start op) answer h = tt
-delivers_by log xs (Submit core op) answer h = tt
-delivers_by log xs (StartFor core) answer h = tt
-delivers_by log xs (Take to from short) answer h = tt
+delivers_by : (limits : TableLimits) (log : List Op) (xs : List Stamped) (event : Event) (answer : Answer) → DeliversBy limits log (as_listed xs) (as_short event answer) answer → DeliversBy limits log (unstamped xs) event answer
+delivers_by limits log xs (Rx core number packet floor) answer h = rw (version_same core xs) h
+delivers_by limits log xs (Start op) answer h = tt
+delivers_by limits log xs (Submit core op) answer h = tt
+delivers_by limits log xs (StartFor core) answer h = tt
+delivers_by limits log xs (Take to from short) answer h = tt
 
-pub delivers_same : (xs : List Stamped) → Delivers (log_of (as_listed xs)) (as_listed xs) → Delivers (log_of (unstamped xs)) (unstamped xs)
-delivers_same xs h before after done e =
+pub delivers_same : (limits : TableLimits) (xs : List Stamped) → Delivers limits (log_of (as_listed xs)) (as_listed xs) → Delivers limits (log_of (unstamped xs)) (unstamped xs)
+delivers_same limits xs h before after done e =
     let f = found (λ (s : Stamped). s.done) xs before after done e in
-    let its = delivers_by (log_of (as_listed xs)) f.front f.item.done.event f.item.done.answer (h (as_listed f.front) (as_listed f.rest) (listed f.item) (listed_at xs before after done f)) in
-    let there = subst (λ (ds : List Done). DeliversBy (log_of (as_listed xs)) ds f.item.done.event f.item.done.answer) f.is_front its in
-    let this = subst (λ (d : Done). DeliversBy (log_of (as_listed xs)) before d.event d.answer) f.is_item there in
-    subst (λ (log : List Op). DeliversBy log before done.event done.answer) (sym (log_same xs)) this
+    let its = delivers_by limits (log_of (as_listed xs)) f.front f.item.done.event f.item.done.answer (h (as_listed f.front) (as_listed f.rest) (listed f.item) (listed_at xs before after done f)) in
+    let there = subst (λ (ds : List Done). DeliversBy limits (log_of (as_listed xs)) ds f.item.done.event f.item.done.answer) f.is_front its in
+    let this = subst (λ (d : Done). DeliversBy limits (log_of (as_listed xs)) before d.event d.answer) f.is_item there in
+    subst (λ (log : List Op). DeliversBy limits log before done.event done.answer) (sym (log_same xs)) this
 
 pub starts_one : (xs : List Stamped) → StartOneByOne (as_listed xs) → StartOneByOne (unstamped xs)
 starts_one xs h before after core answer e =
@@ -126,28 +127,28 @@ starts_one xs h before after core answer e =
 
 -- In a run core 0 starts the requests of a core one by one
 
-pub run_starts : (budget : ℕ) (budgets : List ℕ) (events : List Done) (w : World) → Run budget budgets events w → StartOneByOne events
-run_starts budget budgets events w run before after zero answer e =
-    let s = runs_split (boot budget budgets) w before (record { event = StartFor 0; answer = answer } ∷ after) (subst (λ (xs : List Done). Run budget budgets xs w) e run) in
+pub run_starts : (limits : TableLimits) (budget : ℕ) (budgets : List ℕ) (events : List Done) (w : World) → Run limits budget budgets events w → StartOneByOne events
+run_starts limits budget budgets events w run before after zero answer e =
+    let s = runs_split (boot limits budget budgets) w before (record { event = StartFor 0; answer = answer } ∷ after) (subst (λ (xs : List Done). Run limits budget budgets xs w) e run) in
     absurd s.2.1
-run_starts budget budgets events w run before after (suc i) answer e =
-    let s = runs_split (boot budget budgets) w before (record { event = StartFor (suc i); answer = answer } ∷ after) (subst (λ (xs : List Done). Run budget budgets xs w) e run) in
+run_starts limits budget budgets events w run before after (suc i) answer e =
+    let s = runs_split (boot limits budget budgets) w before (record { event = StartFor (suc i); answer = answer } ∷ after) (subst (λ (xs : List Done). Run limits budget budgets xs w) e run) in
     let h : HappensStartFor s.0 i s.2.0 answer = s.2.1 in
     let starts = h.here.starts in
-    let is_sent = run_waits budget budgets before s.0 s.1 i starts.op starts.is_waiting in
-    let known = run_known budget budgets before s.0 s.1 in
+    let is_sent = run_waits limits budget budgets before s.0 s.1 i starts.op starts.is_waiting in
+    let known = run_known limits budget budgets before s.0 s.1 in
     let p = get_at s.0.peers i (omega (arith, slice_get_within s.0.requests.waiting i (Some starts.op) starts.is_waiting, known.waiting_long, known.cores)) in
-    let k : Tracks (suc i) before (sent starts.op) = subst (λ (r : Request). Tracks (suc i) before r) is_sent (run_tracks budget budgets before s.0 s.1 i p.0 p.1) in
+    let k : Tracks (suc i) before (sent starts.op) = subst (λ (r : Request). Tracks (suc i) before r) is_sent (run_tracks limits budget budgets before s.0 s.1 i p.0 p.1) in
     omega (arith, k.counted, submitted_count (suc i) before)
 
 -- The one list of the events
 
-pub merged_lists : (budget : ℕ) (budgets : List ℕ) (first : RingCore) (others : List RingCore) → (con : Concludes budget budgets first others) → ListsRuns (histories_of (first ∷ others)) (as_listed con.right.merged)
-merged_lists budget budgets first others con b bs core0 rest end ends e computes =
+pub merged_lists : (limits : TableLimits) (budget : ℕ) (budgets : List ℕ) (first : RingCore) (others : List RingCore) → (con : Concludes limits budget budgets first others) → ListsRuns (histories_of (first ∷ others)) (as_listed con.right.merged)
+merged_lists limits budget budgets first others con m b bs core0 rest end ends e computes =
     let first_is : first.history ≡ core0 = cc in
     let rest_is : histories_of others ≡ rest = cc in
     let merged : Merged core0 rest con.right.merged = subst (λ (h : List Stamped). Merged h rest con.right.merged) first_is (subst (λ (hs : List (List Stamped)). Merged first.history hs con.right.merged) rest_is con.right.is_merged) in
-    record { merged = con.right.merged; is_merged = merged; is_listed = refl; run = run_of b bs core0 rest end ends con.right.merged computes merged }
+    record { merged = con.right.merged; is_merged = merged; is_listed = refl; run = run_of m b bs core0 rest end ends con.right.merged computes merged }
 
 -- The events of a core
 

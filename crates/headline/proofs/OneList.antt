@@ -3,6 +3,7 @@ use Rattle.std.proofs.Common.{All, ◌≡◌, ◌==◌, ◌<◌, ◌≤◌, ◌�
 use Rattle.std.specs.Prelude.{option_map}
 use Rattle.std.proofs.lemmas.List.{length-map}
 use Rattle.std.proofs.lemmas.Option.{slice_get_within, slice_get-get_or}
+use Rattle.filter_table.specs.Limits.{TableLimits}
 use Rattle.filter_table.specs.declared.operation.Op.{Op}
 use Rattle.filter_table.specs.declared.decision.Vote.TheVariants as vote
 use Rattle.filter_table.specs.Tables.{TableState, table}
@@ -43,48 +44,48 @@ use Rattle.core_join.proofs.Told.{list_log, list_run, one_list}
 
 other_version : (x : Part) (clock : ℕ) (d : OtherState) → StandsAtOther x clock d → (replica_of x).shown.version ≡ length d.log
 other_version (role.Core0 core) clock d s = absurd s
-other_version (role.OtherCore core) clock d s = ap (λ (t : TableState). t.version) s.shown_is ∙ table_version d.log
+other_version (role.OtherCore core) clock d s = ap (λ (t : TableState). t.version) s.shown_is ∙ table_version d.limits d.log
 
 -- a core's version is how often it committed
-core_version : (budget : ℕ) (budgets : List ℕ) (first : RingCore) (others : List RingCore) (list : List Done) → (con : Concludes budget budgets first others) → (l : ListsRun budget budgets first.history (histories_of others) con.end con.ends list)
+core_version : (limits : TableLimits) (budget : ℕ) (budgets : List ℕ) (first : RingCore) (others : List RingCore) (list : List Done) → (con : Concludes limits budget budgets first others) → (l : ListsRun limits budget budgets first.history (histories_of others) con.end con.ends list)
     → (core : ℕ) (c : RingCore) → slice_get (first ∷ others) core ≡ Some c → version_of_core c ≡ version_of core list
-core_version budget budgets first others list con l zero c at =
-    let run = list_run budget budgets first others list con l in
+core_version limits budget budgets first others list con l zero c at =
+    let run = list_run limits budget budgets first others list con l in
     let w = l.run.world in
     let same : first ≡ c = cc in
-    let long : w.version ≡ length w.log = (run_agrees budget budgets list w run).core0 in
-    ap version_of_core (sym same) ∙ (con.newest ∙ (ap (λ (log : List Op). length log) (sym l.run.all_end.log_is) ∙ (sym long ∙ run_versions budget budgets list w run 0 w.version refl)))
-core_version budget budgets first others list con l (suc i) c at =
-    let run = list_run budget budgets first others list con l in
+    let long : w.version ≡ length w.log = (run_agrees limits budget budgets list w run).core0 in
+    ap version_of_core (sym same) ∙ (con.newest ∙ (ap (λ (log : List Op). length log) (sym l.run.all_end.log_is) ∙ (sym long ∙ run_versions limits budget budgets list w run 0 w.version refl)))
+core_version limits budget budgets first others list con l (suc i) c at =
+    let run = list_run limits budget budgets first others list con l in
     let w = l.run.world in
     let within : i < length others = slice_get_within others i c at in
     let long : length others ≡ length budgets = sym (length-map others (λ (x : RingCore). x.history)) ∙ con.computation.cores in
     let d = get_at con.ends i (omega (arith, within, long, con.computation.all_end)) in
-    let p = get_at w.peers i (omega (arith, within, long, (run_known budget budgets list w run).cores)) in
+    let p = get_at w.peers i (omega (arith, within, long, (run_known limits budget budgets list w run).cores)) in
     let ends = l.run.all_end.others i p.0 d.0 p.1 d.1 in
     other_version c.part c.clock d.0 (con.ends_other i c d.0 at d.1)
-    ∙ (sym ends.version_is ∙ run_versions budget budgets list w run (suc i) p.0.version (ap (option_map (λ (x : Peer). x.version)) p.1))
+    ∙ (sym ends.version_is ∙ run_versions limits budget budgets list w run (suc i) p.0.version (ap (option_map (λ (x : Peer). x.version)) p.1))
 
-pub joined_tables : (budget : ℕ) (budgets : List ℕ) (first : RingCore) (others : List RingCore) (list : List Done) → Concludes budget budgets first others → ListsRuns (histories_of (first ∷ others)) list
-    → ShowTables list (replicas_of_cores (first ∷ others))
-joined_tables budget budgets first others list con lists core r at =
-    let l = one_list budget budgets first others list con lists in
-    let log = list_log budget budgets first others list con l in
+pub joined_tables : (limits : TableLimits) (budget : ℕ) (budgets : List ℕ) (first : RingCore) (others : List RingCore) (list : List Done) → Concludes limits budget budgets first others → ListsRuns (histories_of (first ∷ others)) list
+    → ShowTables limits list (replicas_of_cores (first ∷ others))
+joined_tables limits budget budgets first others list con lists core r at =
+    let l = one_list limits budget budgets first others list con lists in
+    let log = list_log limits budget budgets first others list con l in
     let c = get_map (λ (x : RingCore). replica_of x.part) (first ∷ others) core r at in
-    let version = core_version budget budgets first others list con l core c.0 c.1 in
+    let version = core_version limits budget budgets first others list con l core c.0 c.1 in
     record {
       numbered = ap (λ (x : ReplicaState). x.shown.version) c.2 ∙ version;
-      shown = ap (λ (x : ReplicaState). x.shown) c.2 ∙ (con.tables core c.0 c.1 ∙ (ap (table con.end.log) version ∙ ap (λ (x : List Op). table x (version_of core list)) log));
+      shown = ap (λ (x : ReplicaState). x.shown) c.2 ∙ (con.tables core c.0 c.1 ∙ (ap (table limits con.end.log) version ∙ ap (λ (x : List Op). table limits x (version_of core list)) log));
     }
 
 -- where core 0 decides nothing, each replica has the newest version
-pub joined_newest : (budget : ℕ) (budgets : List ℕ) (first : RingCore) (others : List RingCore) (list : List Done) → Concludes budget budgets first others → ListsRuns (histories_of (first ∷ others)) list
+pub joined_newest : (limits : TableLimits) (budget : ℕ) (budgets : List ℕ) (first : RingCore) (others : List RingCore) (list : List Done) → Concludes limits budget budgets first others → ListsRuns (histories_of (first ∷ others)) list
     → IsIdle0 first.part → All (λ (r : ReplicaState). r.shown.version ≡ length (log_of list)) (replicas_of_cores (first ∷ others))
-joined_newest budget budgets first others list con lists idle core d within =
-    let l = one_list budget budgets first others list con lists in
+joined_newest limits budget budgets first others list con lists idle core d within =
+    let l = one_list limits budget budgets first others list con lists in
     let r = get_or (replicas_of_cores (first ∷ others)) core d in
     let c = get_map (λ (x : RingCore). replica_of x.part) (first ∷ others) core r (slice_get-get_or (replicas_of_cores (first ∷ others)) core d within) in
-    ap (λ (x : ReplicaState). x.shown.version) c.2 ∙ (con.settled idle core c.0 c.1 ∙ ap (λ (log : List Op). length log) (list_log budget budgets first others list con l))
+    ap (λ (x : ReplicaState). x.shown.version) c.2 ∙ (con.settled idle core c.0 c.1 ∙ ap (λ (log : List Op). length log) (list_log limits budget budgets first others list con l))
 
 -- What was given
 
@@ -172,28 +173,28 @@ history_at [] core c at = absurd cc
 history_at (x ∷ cores) zero c at = (let e : x ≡ c = cc in rw e refl)
 history_at (x ∷ cores) (suc k) c at = history_at cores k c at
 
-of_history : (budget : ℕ) (budgets : List ℕ) (first : RingCore) (others : List RingCore) (list : List Done) → (con : Concludes budget budgets first others) → (l : ListsRun budget budgets first.history (histories_of others) con.end con.ends list)
+of_history : (limits : TableLimits) (budget : ℕ) (budgets : List ℕ) (first : RingCore) (others : List RingCore) (list : List Done) → (con : Concludes limits budget budgets first others) → (l : ListsRun limits budget budgets first.history (histories_of others) con.end con.ends list)
     → (core : ℕ) (c : RingCore) → slice_get (first ∷ others) core ≡ Some c → part core l.merged ≡ c.history
-of_history budget budgets first others list con l core c at = l.is_merged.of_each core c.history (history_at (first ∷ others) core c at)
+of_history limits budget budgets first others list con l core c at = l.is_merged.of_each core c.history (history_at (first ∷ others) core c at)
 
 -- what the list has of a core is what the core's history has
-pub joined_begun : (budget : ℕ) (budgets : List ℕ) (first : RingCore) (others : List RingCore) (list : List Done) → Concludes budget budgets first others → ListsRuns (histories_of (first ∷ others)) list
+pub joined_begun : (limits : TableLimits) (budget : ℕ) (budgets : List ℕ) (first : RingCore) (others : List RingCore) (list : List Done) → Concludes limits budget budgets first others → ListsRuns (histories_of (first ∷ others)) list
     → (core : ℕ) (c : RingCore) → slice_get (first ∷ others) core ≡ Some c → begun_in core list ≡ begun c.history
-joined_begun budget budgets first others list con lists core c at =
-    let l = one_list budget budgets first others list con lists in
-    ap (begun_in core) l.is_listed ∙ (begun_part core l.merged ∙ ap begun (of_history budget budgets first others list con l core c at))
+joined_begun limits budget budgets first others list con lists core c at =
+    let l = one_list limits budget budgets first others list con lists in
+    ap (begun_in core) l.is_listed ∙ (begun_part core l.merged ∙ ap begun (of_history limits budget budgets first others list con l core c at))
 
-pub joined_received : (budget : ℕ) (budgets : List ℕ) (first : RingCore) (others : List RingCore) (list : List Done) → Concludes budget budgets first others → ListsRuns (histories_of (first ∷ others)) list
+pub joined_received : (limits : TableLimits) (budget : ℕ) (budgets : List ℕ) (first : RingCore) (others : List RingCore) (list : List Done) → Concludes limits budget budgets first others → ListsRuns (histories_of (first ∷ others)) list
     → (core : ℕ) (c : RingCore) → slice_get (first ∷ others) core ≡ Some c → received_in core list ≡ receipts c.history
-joined_received budget budgets first others list con lists core c at =
-    let l = one_list budget budgets first others list con lists in
-    ap (received_in core) l.is_listed ∙ (received_part core l.merged ∙ ap receipts (of_history budget budgets first others list con l core c at))
+joined_received limits budget budgets first others list con lists core c at =
+    let l = one_list limits budget budgets first others list con lists in
+    ap (received_in core) l.is_listed ∙ (received_part core l.merged ∙ ap receipts (of_history limits budget budgets first others list con l core c at))
 
-pub joined_decided : (budget : ℕ) (budgets : List ℕ) (first : RingCore) (others : List RingCore) (list : List Done) → Concludes budget budgets first others → ListsRuns (histories_of (first ∷ others)) list
+pub joined_decided : (limits : TableLimits) (budget : ℕ) (budgets : List ℕ) (first : RingCore) (others : List RingCore) (list : List Done) → Concludes limits budget budgets first others → ListsRuns (histories_of (first ∷ others)) list
     → (core : ℕ) (c : RingCore) → slice_get (first ∷ others) core ≡ Some c → decided_in core list ≡ decisions c.history
-joined_decided budget budgets first others list con lists core c at =
-    let l = one_list budget budgets first others list con lists in
-    ap (decided_in core) l.is_listed ∙ (decided_part core l.merged ∙ ap decisions (of_history budget budgets first others list con l core c at))
+joined_decided limits budget budgets first others list con lists core c at =
+    let l = one_list limits budget budgets first others list con lists in
+    ap (decided_in core) l.is_listed ∙ (decided_part core l.merged ∙ ap decisions (of_history limits budget budgets first others list con l core c at))
 
 -- The list has no event of a core beyond them
 
@@ -203,26 +204,26 @@ none_beyond core (x ∷ xs) less =
     let first : core_of x.done.event < core = less 0 x refl in
     part_other core x xs (λ same. omega (arith, first, same)) ∙ none_beyond core xs (λ k s at. less (suc k) s at)
 
-no_part : (budget : ℕ) (budgets : List ℕ) (first : RingCore) (others : List RingCore) (list : List Done) → (con : Concludes budget budgets first others) → (l : ListsRun budget budgets first.history (histories_of others) con.end con.ends list)
+no_part : (limits : TableLimits) (budget : ℕ) (budgets : List ℕ) (first : RingCore) (others : List RingCore) (list : List Done) → (con : Concludes limits budget budgets first others) → (l : ListsRun limits budget budgets first.history (histories_of others) con.end con.ends list)
     → (core : ℕ) → length (first ∷ others) ≤ core → part core l.merged ≡ []
-no_part budget budgets first others list con l core beyond =
+no_part limits budget budgets first others list con l core beyond =
     let long : length (histories_of others) ≡ length others = length-map others (λ (x : RingCore). x.history) in
     none_beyond core l.merged (λ k s at. (let its = l.is_merged.of_cores k s at in omega (arith, its, long, beyond)))
 
-pub joined_none_begun : (budget : ℕ) (budgets : List ℕ) (first : RingCore) (others : List RingCore) (list : List Done) → Concludes budget budgets first others → ListsRuns (histories_of (first ∷ others)) list
+pub joined_none_begun : (limits : TableLimits) (budget : ℕ) (budgets : List ℕ) (first : RingCore) (others : List RingCore) (list : List Done) → Concludes limits budget budgets first others → ListsRuns (histories_of (first ∷ others)) list
     → (core : ℕ) → length (first ∷ others) ≤ core → begun_in core list ≡ []
-joined_none_begun budget budgets first others list con lists core beyond =
-    let l = one_list budget budgets first others list con lists in
-    ap (begun_in core) l.is_listed ∙ (begun_part core l.merged ∙ ap begun (no_part budget budgets first others list con l core beyond))
+joined_none_begun limits budget budgets first others list con lists core beyond =
+    let l = one_list limits budget budgets first others list con lists in
+    ap (begun_in core) l.is_listed ∙ (begun_part core l.merged ∙ ap begun (no_part limits budget budgets first others list con l core beyond))
 
-pub joined_none_received : (budget : ℕ) (budgets : List ℕ) (first : RingCore) (others : List RingCore) (list : List Done) → Concludes budget budgets first others → ListsRuns (histories_of (first ∷ others)) list
+pub joined_none_received : (limits : TableLimits) (budget : ℕ) (budgets : List ℕ) (first : RingCore) (others : List RingCore) (list : List Done) → Concludes limits budget budgets first others → ListsRuns (histories_of (first ∷ others)) list
     → (core : ℕ) → length (first ∷ others) ≤ core → received_in core list ≡ []
-joined_none_received budget budgets first others list con lists core beyond =
-    let l = one_list budget budgets first others list con lists in
-    ap (received_in core) l.is_listed ∙ (received_part core l.merged ∙ ap receipts (no_part budget budgets first others list con l core beyond))
+joined_none_received limits budget budgets first others list con lists core beyond =
+    let l = one_list limits budget budgets first others list con lists in
+    ap (received_in core) l.is_listed ∙ (received_part core l.merged ∙ ap receipts (no_part limits budget budgets first others list con l core beyond))
 
-pub joined_none_decided : (budget : ℕ) (budgets : List ℕ) (first : RingCore) (others : List RingCore) (list : List Done) → Concludes budget budgets first others → ListsRuns (histories_of (first ∷ others)) list
+pub joined_none_decided : (limits : TableLimits) (budget : ℕ) (budgets : List ℕ) (first : RingCore) (others : List RingCore) (list : List Done) → Concludes limits budget budgets first others → ListsRuns (histories_of (first ∷ others)) list
     → (core : ℕ) → length (first ∷ others) ≤ core → decided_in core list ≡ []
-joined_none_decided budget budgets first others list con lists core beyond =
-    let l = one_list budget budgets first others list con lists in
-    ap (decided_in core) l.is_listed ∙ (decided_part core l.merged ∙ ap decisions (no_part budget budgets first others list con l core beyond))
+joined_none_decided limits budget budgets first others list con lists core beyond =
+    let l = one_list limits budget budgets first others list con lists in
+    ap (decided_in core) l.is_listed ∙ (decided_part core l.merged ∙ ap decisions (no_part limits budget budgets first others list con l core beyond))

@@ -6,6 +6,7 @@ use Rattle.std.proofs.lemmas.List.Elements.{All-nil, All-cons, All-head, All-tai
 use Rattle.std.proofs.lemmas.Option.{slice_get_within, get_or_from_slice_get}
 use Rattle.std.proofs.lemmas.Bool.{cases_lt}
 use mathlib.Core.List.{IsPrefix}
+use Rattle.filter_table.specs.Limits.{TableLimits}
 use Rattle.filter_table.specs.declared.operation.Op.{Op}
 use Rattle.filter_table.specs.Tables.{HasShortProgram}
 use Rattle.table_replica.proofs.Shared.{get_at}
@@ -89,8 +90,8 @@ decided_stamped : (own : Bool) (h : List Stamped) → decided_from own (unstampe
 decided_stamped own [] = refl
 decided_stamped own (s ∷ h) = ap (λ (ds : List Decision). own_decision own s.done.event s.done.answer ++ ds) (decided_stamped (is_own own s.done.event) h)
 
-module _ (budget : ℕ) (budgets : List ℕ) (steps : List CoreStep) (outcomes : List StepOutcome) (old : List RingCore) (first : RingCore) (others : List RingCore)
-    (inside : All (λ (s : CoreStep). s.core < length old) steps) (nothing : HaveNoHistories old) (driven : AreDriven steps outcomes old (first ∷ others)) (con : Concludes budget budgets first others) where
+module _ (limits : TableLimits) (budget : ℕ) (budgets : List ℕ) (steps : List CoreStep) (outcomes : List StepOutcome) (old : List RingCore) (first : RingCore) (others : List RingCore)
+    (inside : All (λ (s : CoreStep). s.core < length old) steps) (nothing : HaveNoHistories old) (driven : AreDriven steps outcomes old (first ∷ others)) (con : Concludes limits budget budgets first others) where
   abbrev merged : List Stamped
   merged = con.right.merged
 
@@ -119,7 +120,7 @@ module _ (budget : ℕ) (budgets : List ℕ) (steps : List CoreStep) (outcomes :
   own_each : AllZip (λ (s : CoreStep) (o : StepOutcome). All (λ (d : Done). core_of d.event ≡ s.core) (did s.core s.task o)) steps outcomes
   own_each = steps_own steps outcomes driven.answered told_own
 
-  has_counts : Counts budget budgets (events_of steps outcomes)
+  has_counts : Counts limits budget budgets (events_of steps outcomes)
   has_counts = record {
     events = as_listed merged;
     world = con.right.run.world;
@@ -129,20 +130,20 @@ module _ (budget : ℕ) (budgets : List ℕ) (steps : List CoreStep) (outcomes :
   }
 
   -- so the list of the steps says what the list of the run says
-  says : StartOneByOne (events_of steps outcomes) → Says (events_of steps outcomes) (replicas_of_cores (first ∷ others))
+  says : StartOneByOne (events_of steps outcomes) → Says limits (events_of steps outcomes) (replicas_of_cores (first ∷ others))
   says order =
-      let lists = merged_lists budget budgets first others con in
-      let quiet : (core : ℕ) → Silent (commits core) core (unstamped merged) = λ core. quiet_runs core (boot budget budgets) con.right.run.world merged con.right.run.run in
-      let ordered = starts_one merged (run_starts budget budgets (as_listed merged) con.right.run.world con.right.run.run) in
-      parts_say (events_of steps outcomes) merged (replicas_of_cores (first ∷ others)) told_parts quiet order ordered
-      (tables_same merged (replicas_of_cores (first ∷ others)) (joined_tables budget budgets first others (as_listed merged) con lists))
-      (delivers_same merged (joined_deliver budget budgets first others (as_listed merged) con lists))
+      let lists = merged_lists limits budget budgets first others con in
+      let quiet : (core : ℕ) → Silent (commits core) core (unstamped merged) = λ core. quiet_runs core (boot limits budget budgets) con.right.run.world merged con.right.run.run in
+      let ordered = starts_one merged (run_starts limits budget budgets (as_listed merged) con.right.run.world con.right.run.run) in
+      parts_say limits (events_of steps outcomes) merged (replicas_of_cores (first ∷ others)) told_parts quiet order ordered
+      (tables_same limits merged (replicas_of_cores (first ∷ others)) (joined_tables limits budget budgets first others (as_listed merged) con lists))
+      (delivers_same limits merged (joined_deliver limits budget budgets first others (as_listed merged) con lists))
 
   begun_each : ((i : ℕ) (c : RingCore) → slice_get old i ≡ Some c → c.pending ≡ []) → (core : ℕ) → IsPrefix (begun_in core (events_of steps outcomes)) (of_core asked_op core steps outcomes)
   begun_each idle core = subst (λ (ops : List Op). IsPrefix ops (of_core asked_op core steps outcomes)) (sym whole) (by_place (cases_lt core (length (first ∷ others))))
     where
       lists : ListsRuns (histories_of (first ∷ others)) (as_listed merged)
-      lists = merged_lists budget budgets first others con
+      lists = merged_lists limits budget budgets first others con
 
       whole : begun_in core (events_of steps outcomes) ≡ begun_in core (as_listed merged)
       whole = begun_at core (events_of steps outcomes) ∙ (ap (begun_in core) (told_parts core) ∙ (sym (begun_at core (unstamped merged)) ∙ begun_in_same core merged))
@@ -153,19 +154,19 @@ module _ (budget : ℕ) (budgets : List ℕ) (steps : List CoreStep) (outcomes :
           let o = get_at old core (omega (arith, within, driven.all)) in
           let drives = driven.each core o.0 c.0 o.1 c.1 in (
             c.0.pending,
-            ap (λ (ops : List Op). ops ++ c.0.pending) (joined_begun budget budgets first others (as_listed merged) con lists core c.0 c.1)
+            ap (λ (ops : List Op). ops ++ c.0.pending) (joined_begun limits budget budgets first others (as_listed merged) con lists core c.0 c.1)
                 ∙ (drives.requests_are ∙ (ap (λ (h : List Stamped). (begun h ++ o.0.pending) ++ of_core asked_op core steps outcomes) (nothing core o.0 o.1) ∙ ap (λ (ops : List Op). ops ++ of_core asked_op core steps outcomes) (idle core o.0 o.1))),
           )
-      by_place (inr beyond) = subst (λ (ops : List Op). IsPrefix ops (of_core asked_op core steps outcomes)) (sym (joined_none_begun budget budgets first others (as_listed merged) con lists core beyond)) (of_core asked_op core steps outcomes, refl)
+      by_place (inr beyond) = subst (λ (ops : List Op). IsPrefix ops (of_core asked_op core steps outcomes)) (sym (joined_none_begun limits budget budgets first others (as_listed merged) con lists core beyond)) (of_core asked_op core steps outcomes, refl)
 
   -- and where the cores are at rest, all of it is decided
   newest_each : StartOneByOne (events_of steps outcomes) → IsIdle0 first.part → All (λ (r : ReplicaState). r.shown.version ≡ length (log_of (events_of steps outcomes))) (replicas_of_cores (first ∷ others))
   newest_each order idle =
-      let quiet : (core : ℕ) → Silent (commits core) core (unstamped merged) = λ core. quiet_runs core (boot budget budgets) con.right.run.world merged con.right.run.run in
-      let ordered = starts_one merged (run_starts budget budgets (as_listed merged) con.right.run.world con.right.run.run) in
+      let quiet : (core : ℕ) → Silent (commits core) core (unstamped merged) = λ core. quiet_runs core (boot limits budget budgets) con.right.run.world merged con.right.run.run in
+      let ordered = starts_one merged (run_starts limits budget budgets (as_listed merged) con.right.run.world con.right.run.run) in
       let log = parts_log (events_of steps outcomes) merged told_parts quiet order ordered ∙ log_same merged in
       subst (λ (l : List Op). All (λ (r : ReplicaState). r.shown.version ≡ length l) (replicas_of_cores (first ∷ others))) (sym log)
-      (joined_newest budget budgets first others (as_listed merged) con (merged_lists budget budgets first others con) idle)
+      (joined_newest limits budget budgets first others (as_listed merged) con (merged_lists limits budget budgets first others con) idle)
 
   decided_each : ((i : ℕ) (c : RingCore) → slice_get (first ∷ others) i ≡ Some c → HasAllDecided c) → ((i : ℕ) (c : RingCore) → slice_get old i ≡ Some c → c.pending ≡ []) → (core : ℕ)
       → length (decided_in core (events_of steps outcomes)) ≡ length (of_core asked_op core steps outcomes)
@@ -187,38 +188,38 @@ module _ (budget : ℕ) (budgets : List ℕ) (steps : List CoreStep) (outcomes :
           ap (λ (ds : List Done). length (decided_from false ds)) (own ∙ none_of (did core) core (length old) steps outcomes inside (omega (arith, beyond, driven.all)))
           ∙ sym (ap (λ (ops : List Op). length ops) (none_of asked_op core (length old) steps outcomes inside (omega (arith, beyond, driven.all))))
 
-counts_for : (budget : ℕ) (budgets : List ℕ) (steps : List CoreStep) (outcomes : List StepOutcome) (old cores : List RingCore) → All (λ (s : CoreStep). s.core < length old) steps → HaveNoHistories old → AreDriven steps outcomes old cores
-    → Conclude budget budgets cores → Counts budget budgets (events_of steps outcomes)
-counts_for budget budgets steps outcomes old [] inside nothing driven con = absurd con
-counts_for budget budgets steps outcomes old (first ∷ others) inside nothing driven con = has_counts budget budgets steps outcomes old first others inside nothing driven con
+counts_for : (limits : TableLimits) (budget : ℕ) (budgets : List ℕ) (steps : List CoreStep) (outcomes : List StepOutcome) (old cores : List RingCore) → All (λ (s : CoreStep). s.core < length old) steps → HaveNoHistories old → AreDriven steps outcomes old cores
+    → Conclude limits budget budgets cores → Counts limits budget budgets (events_of steps outcomes)
+counts_for limits budget budgets steps outcomes old [] inside nothing driven con = absurd con
+counts_for limits budget budgets steps outcomes old (first ∷ others) inside nothing driven con = has_counts limits budget budgets steps outcomes old first others inside nothing driven con
 
-says_for : (budget : ℕ) (budgets : List ℕ) (steps : List CoreStep) (outcomes : List StepOutcome) (old cores : List RingCore) → All (λ (s : CoreStep). s.core < length old) steps → HaveNoHistories old → AreDriven steps outcomes old cores
-    → Conclude budget budgets cores → StartOneByOne (events_of steps outcomes) → Says (events_of steps outcomes) (replicas_of_cores cores)
-says_for budget budgets steps outcomes old [] inside nothing driven con order = absurd con
-says_for budget budgets steps outcomes old (first ∷ others) inside nothing driven con order = says budget budgets steps outcomes old first others inside nothing driven con order
+says_for : (limits : TableLimits) (budget : ℕ) (budgets : List ℕ) (steps : List CoreStep) (outcomes : List StepOutcome) (old cores : List RingCore) → All (λ (s : CoreStep). s.core < length old) steps → HaveNoHistories old → AreDriven steps outcomes old cores
+    → Conclude limits budget budgets cores → StartOneByOne (events_of steps outcomes) → Says limits (events_of steps outcomes) (replicas_of_cores cores)
+says_for limits budget budgets steps outcomes old [] inside nothing driven con order = absurd con
+says_for limits budget budgets steps outcomes old (first ∷ others) inside nothing driven con order = says limits budget budgets steps outcomes old first others inside nothing driven con order
 
-begun_for : (budget : ℕ) (budgets : List ℕ) (steps : List CoreStep) (outcomes : List StepOutcome) (old cores : List RingCore) → All (λ (s : CoreStep). s.core < length old) steps → HaveNoHistories old → ((i : ℕ) (c : RingCore) → slice_get old i ≡ Some c → c.pending ≡ []) → AreDriven steps outcomes old cores
-    → Conclude budget budgets cores → (core : ℕ) → IsPrefix (begun_in core (events_of steps outcomes)) (of_core asked_op core steps outcomes)
-begun_for budget budgets steps outcomes old [] inside nothing idle driven con = absurd con
-begun_for budget budgets steps outcomes old (first ∷ others) inside nothing idle driven con = begun_each budget budgets steps outcomes old first others inside nothing driven con idle
+begun_for : (limits : TableLimits) (budget : ℕ) (budgets : List ℕ) (steps : List CoreStep) (outcomes : List StepOutcome) (old cores : List RingCore) → All (λ (s : CoreStep). s.core < length old) steps → HaveNoHistories old → ((i : ℕ) (c : RingCore) → slice_get old i ≡ Some c → c.pending ≡ []) → AreDriven steps outcomes old cores
+    → Conclude limits budget budgets cores → (core : ℕ) → IsPrefix (begun_in core (events_of steps outcomes)) (of_core asked_op core steps outcomes)
+begun_for limits budget budgets steps outcomes old [] inside nothing idle driven con = absurd con
+begun_for limits budget budgets steps outcomes old (first ∷ others) inside nothing idle driven con = begun_each limits budget budgets steps outcomes old first others inside nothing driven con idle
 
-own_for : (budget : ℕ) (budgets : List ℕ) (steps : List CoreStep) (outcomes : List StepOutcome) (old cores : List RingCore) → All (λ (s : CoreStep). s.core < length old) steps → HaveNoHistories old → AreDriven steps outcomes old cores
-    → Conclude budget budgets cores → AllZip (λ (s : CoreStep) (o : StepOutcome). All (λ (d : Done). core_of d.event ≡ s.core) (did s.core s.task o)) steps outcomes
-own_for budget budgets steps outcomes old [] inside nothing driven con = absurd con
-own_for budget budgets steps outcomes old (first ∷ others) inside nothing driven con = own_each budget budgets steps outcomes old first others inside nothing driven con
+own_for : (limits : TableLimits) (budget : ℕ) (budgets : List ℕ) (steps : List CoreStep) (outcomes : List StepOutcome) (old cores : List RingCore) → All (λ (s : CoreStep). s.core < length old) steps → HaveNoHistories old → AreDriven steps outcomes old cores
+    → Conclude limits budget budgets cores → AllZip (λ (s : CoreStep) (o : StepOutcome). All (λ (d : Done). core_of d.event ≡ s.core) (did s.core s.task o)) steps outcomes
+own_for limits budget budgets steps outcomes old [] inside nothing driven con = absurd con
+own_for limits budget budgets steps outcomes old (first ∷ others) inside nothing driven con = own_each limits budget budgets steps outcomes old first others inside nothing driven con
 
-newest_for : (budget : ℕ) (budgets : List ℕ) (steps : List CoreStep) (outcomes : List StepOutcome) (old cores : List RingCore) → All (λ (s : CoreStep). s.core < length old) steps → HaveNoHistories old → AreDriven steps outcomes old cores
-    → Conclude budget budgets cores → StartOneByOne (events_of steps outcomes) → AreAtRest cores → All (λ (r : ReplicaState). r.shown.version ≡ length (log_of (events_of steps outcomes))) (replicas_of_cores cores)
-newest_for budget budgets steps outcomes old [] inside nothing driven con order rest = absurd con
-newest_for budget budgets steps outcomes old (first ∷ others) inside nothing driven con order rest =
+newest_for : (limits : TableLimits) (budget : ℕ) (budgets : List ℕ) (steps : List CoreStep) (outcomes : List StepOutcome) (old cores : List RingCore) → All (λ (s : CoreStep). s.core < length old) steps → HaveNoHistories old → AreDriven steps outcomes old cores
+    → Conclude limits budget budgets cores → StartOneByOne (events_of steps outcomes) → AreAtRest cores → All (λ (r : ReplicaState). r.shown.version ≡ length (log_of (events_of steps outcomes))) (replicas_of_cores cores)
+newest_for limits budget budgets steps outcomes old [] inside nothing driven con order rest = absurd con
+newest_for limits budget budgets steps outcomes old (first ∷ others) inside nothing driven con order rest =
     let here : CoreRests first = rest 0 first (omega arith) in
-    newest_each budget budgets steps outcomes old first others inside nothing driven con order (idle_at first.cores first.part first.links (length budgets) first.clock con.end here.nothing_under_way con.ends0)
+    newest_each limits budget budgets steps outcomes old first others inside nothing driven con order (idle_at first.cores first.part first.links (length budgets) first.clock con.end here.nothing_under_way con.ends0)
 
-decided_for : (budget : ℕ) (budgets : List ℕ) (steps : List CoreStep) (outcomes : List StepOutcome) (old cores : List RingCore) → All (λ (s : CoreStep). s.core < length old) steps → HaveNoHistories old → ((i : ℕ) (c : RingCore) → slice_get old i ≡ Some c → c.pending ≡ []) → AreDriven steps outcomes old cores
-    → Conclude budget budgets cores → All HasAllDecided cores → (core : ℕ) → length (decided_in core (events_of steps outcomes)) ≡ length (of_core asked_op core steps outcomes)
-decided_for budget budgets steps outcomes old [] inside nothing idle driven con decides = absurd con
-decided_for budget budgets steps outcomes old (first ∷ others) inside nothing idle driven con decides =
-    decided_each budget budgets steps outcomes old first others inside nothing driven con
+decided_for : (limits : TableLimits) (budget : ℕ) (budgets : List ℕ) (steps : List CoreStep) (outcomes : List StepOutcome) (old cores : List RingCore) → All (λ (s : CoreStep). s.core < length old) steps → HaveNoHistories old → ((i : ℕ) (c : RingCore) → slice_get old i ≡ Some c → c.pending ≡ []) → AreDriven steps outcomes old cores
+    → Conclude limits budget budgets cores → All HasAllDecided cores → (core : ℕ) → length (decided_in core (events_of steps outcomes)) ≡ length (of_core asked_op core steps outcomes)
+decided_for limits budget budgets steps outcomes old [] inside nothing idle driven con decides = absurd con
+decided_for limits budget budgets steps outcomes old (first ∷ others) inside nothing idle driven con decides =
+    decided_each limits budget budgets steps outcomes old first others inside nothing driven con
     (λ i c at. subst HasAllDecided (get_or_from_slice_get (first ∷ others) i c first at) (decides i first (slice_get_within (first ∷ others) i c at))) idle
 
 -- One step more
@@ -248,38 +249,38 @@ pub inside_front : {T : Type 0} (P : T → Type 0) (xs ys : List T) → All P (x
 inside_front P [] ys all = All-nil P
 inside_front P (x ∷ xs) ys all = All-cons P x xs (All-head P x (xs ++ ys) all) (inside_front P xs ys (All-tail P x (xs ++ ys) all))
 
-pub done_none : (outcomes : List StepOutcome) (old new : List RingCore) → ((budget : ℕ) × (budgets : List ℕ) × IsMachine budget budgets old) → AreDriven [] outcomes old new → AreSameCores old new
-    → ((budget : ℕ) (budgets : List ℕ) → IsMachine budget budgets old → Conclude budget budgets new) → AreDone [] outcomes new new
-done_none outcomes old new m driven same concludes = record {
+pub done_none : (limits : TableLimits) (outcomes : List StepOutcome) (old new : List RingCore) → ((budget : ℕ) × (budgets : List ℕ) × IsMachine limits budget budgets old) → AreDriven [] outcomes old new → AreSameCores old new
+    → ((budget : ℕ) (budgets : List ℕ) → IsMachine limits budget budgets old → Conclude limits budget budgets new) → AreDone limits [] outcomes new new
+done_none limits outcomes old new m driven same concludes = record {
   budget = m.0;
   budgets = m.1;
-  machine = machine_ran m.0 m.1 old new m.2 same;
+  machine = machine_ran limits m.0 m.1 old new m.2 same;
   con = concludes m.0 m.1 m.2;
   driven = subst (λ (os : List StepOutcome). AreDriven [] os new new) (sym (no_outcome outcomes driven.answered)) (driven_none new);
   order = λ before after core answer e. absurd (nothing_left before after (record { event = StartFor core; answer = answer }) e);
 }
 
-order_step : (budget : ℕ) (budgets : List ℕ) (core : ℕ) (task : Task) (outcome : StepOutcome) (events : List Done) → Counts budget budgets events → Counts budget budgets (events ++ did core task outcome) → StartOneByOne events → StartOneByOne (events ++ did core task outcome)
-order_step budget budgets core task outcome events counts counts' order = elim (few core task outcome) [
+order_step : (limits : TableLimits) (budget : ℕ) (budgets : List ℕ) (core : ℕ) (task : Task) (outcome : StepOutcome) (events : List Done) → Counts limits budget budgets events → Counts limits budget budgets (events ++ did core task outcome) → StartOneByOne events → StartOneByOne (events ++ did core task outcome)
+order_step limits budget budgets core task outcome events counts counts' order = elim (few core task outcome) [
   | inl none ↦ subst StartOneByOne (sym (ap (λ (ds : List Done). events ++ ds) none ∙ append-nil events)) order
-  | inr one ↦ subst (λ (ds : List Done). StartOneByOne (events ++ ds)) (sym one.1) (order_one budget budgets events one.0 counts (subst (λ (ds : List Done). Counts budget budgets (events ++ ds)) one.1 counts') order)
+  | inr one ↦ subst (λ (ds : List Done). StartOneByOne (events ++ ds)) (sym one.1) (order_one limits budget budgets events one.0 counts (subst (λ (ds : List Done). Counts limits budget budgets (events ++ ds)) one.1 counts') order)
 ]
 
-pub done_more : (steps : List CoreStep) (outcomes : List StepOutcome) (s : CoreStep) (came : List StepOutcome) (old mid new : List RingCore) → All (IsStep (length old)) (steps ++ s ∷ []) → HaveNoHistories old
-    → AreDone steps outcomes old mid → AreDriven (s ∷ []) came mid new → AreSameCores mid new → ((budget : ℕ) (budgets : List ℕ) → IsMachine budget budgets mid → Conclude budget budgets new) → AreDone (steps ++ s ∷ []) (outcomes ++ came) old new
-done_more steps outcomes s came old mid new can nothing done driven same concludes =
+pub done_more : (limits : TableLimits) (steps : List CoreStep) (outcomes : List StepOutcome) (s : CoreStep) (came : List StepOutcome) (old mid new : List RingCore) → All (IsStep (length old)) (steps ++ s ∷ []) → HaveNoHistories old
+    → AreDone limits steps outcomes old mid → AreDriven (s ∷ []) came mid new → AreSameCores mid new → ((budget : ℕ) (budgets : List ℕ) → IsMachine limits budget budgets mid → Conclude limits budget budgets new) → AreDone limits (steps ++ s ∷ []) (outcomes ++ came) old new
+done_more limits steps outcomes s came old mid new can nothing done driven same concludes =
     let o = one_outcome s came driven.answered in
     let whole : AreDriven (steps ++ s ∷ []) (outcomes ++ o.0 ∷ []) old new = driven_more steps outcomes s o.0 old mid new done.driven (subst (λ (os : List StepOutcome). AreDriven (s ∷ []) os mid new) o.1 driven) in
     let con = concludes done.budget done.budgets done.machine in
     let Inside : CoreStep → Type 0 = λ x. x.core < length old in
     let inside : All Inside (steps ++ s ∷ []) = λ k d within. (can k d within).0 in
-    let counts = counts_for done.budget done.budgets steps outcomes old mid (inside_front Inside steps (s ∷ []) inside) nothing done.driven done.con in
-    let counts' = counts_for done.budget done.budgets (steps ++ s ∷ []) (outcomes ++ o.0 ∷ []) old new inside nothing whole con in
+    let counts = counts_for limits done.budget done.budgets steps outcomes old mid (inside_front Inside steps (s ∷ []) inside) nothing done.driven done.con in
+    let counts' = counts_for limits done.budget done.budgets (steps ++ s ∷ []) (outcomes ++ o.0 ∷ []) old new inside nothing whole con in
     let more = events_more steps outcomes s o.0 done.driven.answered in
     let order : StartOneByOne (events_of (steps ++ s ∷ []) (outcomes ++ o.0 ∷ [])) =
-    subst StartOneByOne (sym more) (order_step done.budget done.budgets s.core s.task o.0 (events_of steps outcomes) counts (subst (Counts done.budget done.budgets) more counts') done.order) in
-    subst (λ (os : List StepOutcome). AreDone (steps ++ s ∷ []) (outcomes ++ os) old new) (sym o.1)
-    (record { budget = done.budget; budgets = done.budgets; machine = machine_ran done.budget done.budgets mid new done.machine same; con = con; driven = whole; order = order })
+    subst StartOneByOne (sym more) (order_step limits done.budget done.budgets s.core s.task o.0 (events_of steps outcomes) counts (subst (Counts limits done.budget done.budgets) more counts') done.order) in
+    subst (λ (os : List StepOutcome). AreDone limits (steps ++ s ∷ []) (outcomes ++ os) old new) (sym o.1)
+    (record { budget = done.budget; budgets = done.budgets; machine = machine_ran limits done.budget done.budgets mid new done.machine same; con = con; driven = whole; order = order })
 
 -- Cores that were looked at first
 
@@ -314,46 +315,46 @@ written_back {T} n new old same long =
     ap (λ (rest : List T). take n (new ++ rest)) (drop_all (length new) old (omega (arith, same)))
     ∙ (ap (λ (items : List T). take n items) (append-nil new) ∙ take_all n new (omega (arith, same, long)))
 
-pub says_after : (n : ℕ) (steps : List CoreStep) (outcomes : List StepOutcome) (cores slice new : List RingCore) → slice ≡ cores → n ≡ length cores → All (λ (s : CoreStep). s.core < length cores) steps → All HasDoneNothing cores
-    → AreDriven steps outcomes slice new → ((budget : ℕ) × (budgets : List ℕ) × Conclude budget budgets new) → StartOneByOne (events_of steps outcomes) → Says (events_of steps outcomes) (replicas_of_cores (take n (new ++ drop (length new) cores)))
-says_after n steps outcomes cores slice new is long inside nothing driven con order =
+pub says_after : (limits : TableLimits) (n : ℕ) (steps : List CoreStep) (outcomes : List StepOutcome) (cores slice new : List RingCore) → slice ≡ cores → n ≡ length cores → All (λ (s : CoreStep). s.core < length cores) steps → All HasDoneNothing cores
+    → AreDriven steps outcomes slice new → ((budget : ℕ) × (budgets : List ℕ) × Conclude limits budget budgets new) → StartOneByOne (events_of steps outcomes) → Says limits (events_of steps outcomes) (replicas_of_cores (take n (new ++ drop (length new) cores)))
+says_after limits n steps outcomes cores slice new is long inside nothing driven con order =
     let drives : AreDriven steps outcomes cores new = subst (λ (old : List RingCore). AreDriven steps outcomes old new) is driven in
-    subst (λ (left : List RingCore). Says (events_of steps outcomes) (replicas_of_cores left)) (sym (written_back n new cores drives.all long))
-    (says_for con.0 con.1 steps outcomes cores new inside (no_histories [] cores cores nothing (driven_none cores)) drives con.2 order)
+    subst (λ (left : List RingCore). Says limits (events_of steps outcomes) (replicas_of_cores left)) (sym (written_back n new cores drives.all long))
+    (says_for limits con.0 con.1 steps outcomes cores new inside (no_histories [] cores cores nothing (driven_none cores)) drives con.2 order)
 
-pub begun_after : (steps : List CoreStep) (outcomes : List StepOutcome) (cores slice new : List RingCore) → slice ≡ cores → All (λ (s : CoreStep). s.core < length cores) steps → All HasDoneNothing cores → AreDriven steps outcomes slice new
-    → ((budget : ℕ) × (budgets : List ℕ) × Conclude budget budgets new) → (core : ℕ) → IsPrefix (begun_in core (events_of steps outcomes)) (of_core asked_op core steps outcomes)
-begun_after steps outcomes cores slice new is inside nothing driven con =
-    begun_for con.0 con.1 steps outcomes cores new inside (no_histories [] cores cores nothing (driven_none cores)) (λ i c at. (done_nothing cores i c nothing at).pending) (subst (λ (old : List RingCore). AreDriven steps outcomes old new) is driven) con.2
+pub begun_after : (limits : TableLimits) (steps : List CoreStep) (outcomes : List StepOutcome) (cores slice new : List RingCore) → slice ≡ cores → All (λ (s : CoreStep). s.core < length cores) steps → All HasDoneNothing cores → AreDriven steps outcomes slice new
+    → ((budget : ℕ) × (budgets : List ℕ) × Conclude limits budget budgets new) → (core : ℕ) → IsPrefix (begun_in core (events_of steps outcomes)) (of_core asked_op core steps outcomes)
+begun_after limits steps outcomes cores slice new is inside nothing driven con =
+    begun_for limits con.0 con.1 steps outcomes cores new inside (no_histories [] cores cores nothing (driven_none cores)) (λ i c at. (done_nothing cores i c nothing at).pending) (subst (λ (old : List RingCore). AreDriven steps outcomes old new) is driven) con.2
 
-pub own_after : (steps : List CoreStep) (outcomes : List StepOutcome) (cores slice new : List RingCore) → slice ≡ cores → All (λ (s : CoreStep). s.core < length cores) steps → All HasDoneNothing cores → AreDriven steps outcomes slice new
-    → ((budget : ℕ) × (budgets : List ℕ) × Conclude budget budgets new) → AllZip (λ (s : CoreStep) (o : StepOutcome). All (λ (d : Done). core_of d.event ≡ s.core) (did s.core s.task o)) steps outcomes
-own_after steps outcomes cores slice new is inside nothing driven con =
-    own_for con.0 con.1 steps outcomes cores new inside (no_histories [] cores cores nothing (driven_none cores)) (subst (λ (old : List RingCore). AreDriven steps outcomes old new) is driven) con.2
+pub own_after : (limits : TableLimits) (steps : List CoreStep) (outcomes : List StepOutcome) (cores slice new : List RingCore) → slice ≡ cores → All (λ (s : CoreStep). s.core < length cores) steps → All HasDoneNothing cores → AreDriven steps outcomes slice new
+    → ((budget : ℕ) × (budgets : List ℕ) × Conclude limits budget budgets new) → AllZip (λ (s : CoreStep) (o : StepOutcome). All (λ (d : Done). core_of d.event ≡ s.core) (did s.core s.task o)) steps outcomes
+own_after limits steps outcomes cores slice new is inside nothing driven con =
+    own_for limits con.0 con.1 steps outcomes cores new inside (no_histories [] cores cores nothing (driven_none cores)) (subst (λ (old : List RingCore). AreDriven steps outcomes old new) is driven) con.2
 
-pub newest_after : (n : ℕ) (steps : List CoreStep) (outcomes : List StepOutcome) (cores slice new : List RingCore) → slice ≡ cores → n ≡ length cores → All (λ (s : CoreStep). s.core < length cores) steps → All HasDoneNothing cores
-    → AreDriven steps outcomes slice new → ((budget : ℕ) × (budgets : List ℕ) × Conclude budget budgets new) → StartOneByOne (events_of steps outcomes) → AreAtRest new
+pub newest_after : (limits : TableLimits) (n : ℕ) (steps : List CoreStep) (outcomes : List StepOutcome) (cores slice new : List RingCore) → slice ≡ cores → n ≡ length cores → All (λ (s : CoreStep). s.core < length cores) steps → All HasDoneNothing cores
+    → AreDriven steps outcomes slice new → ((budget : ℕ) × (budgets : List ℕ) × Conclude limits budget budgets new) → StartOneByOne (events_of steps outcomes) → AreAtRest new
     → All (λ (r : ReplicaState). r.shown.version ≡ length (log_of (events_of steps outcomes))) (replicas_of_cores (take n (new ++ drop (length new) cores)))
-newest_after n steps outcomes cores slice new is long inside nothing driven con order rest =
+newest_after limits n steps outcomes cores slice new is long inside nothing driven con order rest =
     let drives : AreDriven steps outcomes cores new = subst (λ (old : List RingCore). AreDriven steps outcomes old new) is driven in
     subst (λ (left : List RingCore). All (λ (r : ReplicaState). r.shown.version ≡ length (log_of (events_of steps outcomes))) (replicas_of_cores left)) (sym (written_back n new cores drives.all long))
-    (newest_for con.0 con.1 steps outcomes cores new inside (no_histories [] cores cores nothing (driven_none cores)) drives con.2 order rest)
+    (newest_for limits con.0 con.1 steps outcomes cores new inside (no_histories [] cores cores nothing (driven_none cores)) drives con.2 order rest)
 
-pub decided_after : (steps : List CoreStep) (outcomes : List StepOutcome) (cores slice new : List RingCore) → slice ≡ cores → All (λ (s : CoreStep). s.core < length cores) steps → All HasDoneNothing cores → AreDriven steps outcomes slice new
-    → ((budget : ℕ) × (budgets : List ℕ) × Conclude budget budgets new) → All HasAllDecided new → (core : ℕ) → length (decided_in core (events_of steps outcomes)) ≡ length (of_core asked_op core steps outcomes)
-decided_after steps outcomes cores slice new is inside nothing driven con decides =
-    decided_for con.0 con.1 steps outcomes cores new inside (no_histories [] cores cores nothing (driven_none cores)) (λ i c at. (done_nothing cores i c nothing at).pending) (subst (λ (old : List RingCore). AreDriven steps outcomes old new) is driven) con.2 decides
+pub decided_after : (limits : TableLimits) (steps : List CoreStep) (outcomes : List StepOutcome) (cores slice new : List RingCore) → slice ≡ cores → All (λ (s : CoreStep). s.core < length cores) steps → All HasDoneNothing cores → AreDriven steps outcomes slice new
+    → ((budget : ℕ) × (budgets : List ℕ) × Conclude limits budget budgets new) → All HasAllDecided new → (core : ℕ) → length (decided_in core (events_of steps outcomes)) ≡ length (of_core asked_op core steps outcomes)
+decided_after limits steps outcomes cores slice new is inside nothing driven con decides =
+    decided_for limits con.0 con.1 steps outcomes cores new inside (no_histories [] cores cores nothing (driven_none cores)) (λ i c at. (done_nothing cores i c nothing at).pending) (subst (λ (old : List RingCore). AreDriven steps outcomes old new) is driven) con.2 decides
 
 -- and cores that were looked at
 pub seen_same : (old new : List RingCore) → AreSeen old new → AreSameCores old new
 seen_same old new seen = record { all = seen.looked.all; each = λ i c d at at'. looked_same c d (seen.looked.each i c d at at') }
 
-pub done_looked : (steps : List CoreStep) (outcomes : List StepOutcome) (old mid new : List RingCore) → AreDone steps outcomes old mid → AreSeen mid new → AreDone steps outcomes old new
-done_looked steps outcomes old mid new done seen = record {
+pub done_looked : (limits : TableLimits) (steps : List CoreStep) (outcomes : List StepOutcome) (old mid new : List RingCore) → AreDone limits steps outcomes old mid → AreSeen mid new → AreDone limits steps outcomes old new
+done_looked limits steps outcomes old mid new done seen = record {
   budget = done.budget;
   budgets = done.budgets;
-  machine = machine_ran done.budget done.budgets mid new done.machine (seen_same mid new seen);
-  con = seen.concludes done.budget done.budgets done.machine;
+  machine = machine_ran limits done.budget done.budgets mid new done.machine (seen_same mid new seen);
+  con = seen.concludes limits done.budget done.budgets done.machine;
   driven = driven_looked steps outcomes old mid new done.driven seen.looked;
   order = done.order;
 }
@@ -366,13 +367,13 @@ turn_step n s t = (t.inside, subst (IsGivable s.core) (sym t.is_turn) tt)
 pub turns_more : (n : ℕ) (turns : List CoreStep) (core : ℕ) → All (IsTurnOf n) turns → core < n → All (IsTurnOf n) (turns ++ turn_of_core core ∷ [])
 turns_more n turns core all inside = All-append (IsTurnOf n) turns (turn_of_core core ∷ []) all (All-cons (IsTurnOf n) (turn_of_core core) [] (record { inside = inside; is_turn = refl }) (All-nil (IsTurnOf n)))
 
-pub turned_more : (steps turns : List CoreStep) (outcomes : List StepOutcome) (core : ℕ) (o : StepOutcome) (old mid new : List RingCore) → All (IsStep (length old)) steps → All (IsTurnOf (length mid)) turns → core < length mid → All HasDoneNothing old
-    → AreDone (steps ++ turns) outcomes old mid → AreDriven (turn_of_core core ∷ []) (o ∷ []) mid new → AreSameCores mid new → ((budget : ℕ) (budgets : List ℕ) → IsMachine budget budgets mid → Conclude budget budgets new)
-    → AreDone (steps ++ (turns ++ turn_of_core core ∷ [])) (outcomes ++ o ∷ []) old new
-turned_more steps turns outcomes core o old mid new can after inside nothing done driven same concludes =
+pub turned_more : (limits : TableLimits) (steps turns : List CoreStep) (outcomes : List StepOutcome) (core : ℕ) (o : StepOutcome) (old mid new : List RingCore) → All (IsStep (length old)) steps → All (IsTurnOf (length mid)) turns → core < length mid → All HasDoneNothing old
+    → AreDone limits (steps ++ turns) outcomes old mid → AreDriven (turn_of_core core ∷ []) (o ∷ []) mid new → AreSameCores mid new → ((budget : ℕ) (budgets : List ℕ) → IsMachine limits budget budgets mid → Conclude limits budget budgets new)
+    → AreDone limits (steps ++ (turns ++ turn_of_core core ∷ [])) (outcomes ++ o ∷ []) old new
+turned_more limits steps turns outcomes core o old mid new can after inside nothing done driven same concludes =
     let s = turn_of_core core in
     let after' = subst (λ (n : ℕ). All (IsTurnOf n) (turns ++ s ∷ [])) done.driven.all (turns_more (length mid) turns core after inside) in
     let all : All (IsStep (length old)) (steps ++ (turns ++ s ∷ [])) = All-append (IsStep (length old)) steps (turns ++ s ∷ []) can (λ k d within. turn_step (length old) _ (after' k d within)) in
     let assoc : (steps ++ turns) ++ s ∷ [] ≡ steps ++ (turns ++ s ∷ []) = append_assoc steps turns (s ∷ []) in
-    subst (λ (l : List CoreStep). AreDone l (outcomes ++ o ∷ []) old new) assoc
-    (done_more (steps ++ turns) outcomes s (o ∷ []) old mid new (subst (All (IsStep (length old))) (sym assoc) all) (no_histories [] old old nothing (driven_none old)) done driven same concludes)
+    subst (λ (l : List CoreStep). AreDone limits l (outcomes ++ o ∷ []) old new) assoc
+    (done_more limits (steps ++ turns) outcomes s (o ∷ []) old mid new (subst (All (IsStep (length old))) (sym assoc) all) (no_histories [] old old nothing (driven_none old)) done driven same concludes)

@@ -3,6 +3,7 @@ use Rattle.std.proofs.Common.{◌≡◌, ◌≢◌, ◌∙◌, ◌+◌, ◌++◌
 use Rattle.std.specs.Prelude.{option_to_list}
 use Rattle.std.proofs.lemmas.Bool.{cases_lt}
 use Rattle.std.proofs.lemmas.List.{get_or-set_same, get_or-set_other, get_or_past}
+use Rattle.filter_table.specs.Limits.{TableLimits}
 use Rattle.filter_table.specs.declared.decision.Decision.{Decision}
 use Rattle.world_model.proofs.Lists.{length-slice_set}
 use Rattle.world_histories.specs.declared.history.Stamped.{Stamped}
@@ -28,27 +29,27 @@ use Rattle.core_drive.proofs.Tasks.{turned}
 use Rattle.headline.specs.Waking.{Halts, awake_of, turn_of_core}
 
 -- the cores were looked at and took such turns since
-pub record Named (budget : ℕ) (budgets : List ℕ) (awake : Awake) (cores : List RingCore) : Type 0 where
+pub record Named (limits : TableLimits) (budget : ℕ) (budgets : List ℕ) (awake : Awake) (cores : List RingCore) : Type 0 where
   pub old : List RingCore
   pub first : List RingCore
   pub start : Awake
   pub count : ℕ
-  pub machine : IsMachine budget budgets old
+  pub machine : IsMachine limits budget budgets old
   pub seen : AreSeen old first
   pub all : AllAwake start
   pub turns : NamedTurns count start awake first cores
 
-pub named_start : (budget : ℕ) (budgets : List ℕ) (awake : Awake) (old first : List RingCore) → IsMachine budget budgets old → AreSeen old first → AllAwake awake → Named budget budgets awake first
-named_start budget budgets awake old first machine seen all = record { old = old; first = first; start = awake; count = 0; machine = machine; seen = seen; all = all; turns = (refl, refl) }
+pub named_start : (limits : TableLimits) (budget : ℕ) (budgets : List ℕ) (awake : Awake) (old first : List RingCore) → IsMachine limits budget budgets old → AreSeen old first → AllAwake awake → Named limits budget budgets awake first
+named_start limits budget budgets awake old first machine seen all = record { old = old; first = first; start = awake; count = 0; machine = machine; seen = seen; all = all; turns = (refl, refl) }
 
-pub named_more : (budget : ℕ) (budgets : List ℕ) (awake awake' : Awake) (cores new : List RingCore) → Named budget budgets awake cores → NamedTurn awake awake' cores new → Named budget budgets awake' new
-named_more budget budgets awake awake' cores new n t = record { old = n.old; first = n.first; start = n.start; count = suc n.count; machine = n.machine; seen = n.seen; all = n.all; turns = (awake, cores, n.turns, inl t) }
+pub named_more : (limits : TableLimits) (budget : ℕ) (budgets : List ℕ) (awake awake' : Awake) (cores new : List RingCore) → Named limits budget budgets awake cores → NamedTurn awake awake' cores new → Named limits budget budgets awake' new
+named_more limits budget budgets awake awake' cores new n t = record { old = n.old; first = n.first; start = n.start; count = suc n.count; machine = n.machine; seen = n.seen; all = n.all; turns = (awake, cores, n.turns, inl t) }
 
-pub named_rests : (budget : ℕ) (budgets : List ℕ) (awake : Awake) (cores : List RingCore) → Named budget budgets awake cores → NoneAwake (length cores) awake → AreAtRest cores
-named_rests budget budgets awake cores n none = named_rest budget budgets n.count n.start awake n.old n.first cores n.machine n.seen n.all n.turns none
+pub named_rests : (limits : TableLimits) (budget : ℕ) (budgets : List ℕ) (awake : Awake) (cores : List RingCore) → Named limits budget budgets awake cores → NoneAwake (length cores) awake → AreAtRest cores
+named_rests limits budget budgets awake cores n none = named_rest limits budget budgets n.count n.start awake n.old n.first cores n.machine n.seen n.all n.turns none
 
-pub named_less : (budget : ℕ) (budgets : List ℕ) (awake awake' : Awake) (cores new : List RingCore) → Named budget budgets awake cores → NamedTurn awake awake' cores new → turns_ahead awake' new < turns_ahead awake cores
-named_less budget budgets awake awake' cores new n t = named_fewer budget budgets n.count n.start awake awake' n.old n.first cores new n.machine n.seen n.all n.turns t
+pub named_less : (limits : TableLimits) (budget : ℕ) (budgets : List ℕ) (awake awake' : Awake) (cores new : List RingCore) → Named limits budget budgets awake cores → NamedTurn awake awake' cores new → turns_ahead awake' new < turns_ahead awake cores
+named_less limits budget budgets awake awake' cores new n t = named_fewer limits budget budgets n.count n.start awake awake' n.old n.first cores new n.machine n.seen n.all n.turns t
 
 -- A turn
 
@@ -179,17 +180,17 @@ pub indexed_at : (cores : List RingCore) (core place : ℕ) (read : RingCore) �
 indexed_at cores core place read from is inside =
     get_indexed cores place read is (subst (λ (n : ℕ). n < length cores) (sym from) inside) ∙ ap (λ (x : RingCore). Some x) is
 
-turned_at : (budget : ℕ) (budgets : List ℕ) (core place : ℕ) (t : Turn) (cores : List RingCore) (old new : RingCore) → IsMachine budget budgets cores → place ≡ core → slice_get cores place ≡ Some old
+turned_at : (limits : TableLimits) (budget : ℕ) (budgets : List ℕ) (core place : ℕ) (t : Turn) (cores : List RingCore) (old new : RingCore) → IsMachine limits budget budgets cores → place ≡ core → slice_get cores place ≡ Some old
     → CoreDrives (did old.number (task.Turn false) (Turned t)) [] (decided (Turned t)) old new → AreDriven (turn_of_core core ∷ []) (Turned t ∷ []) cores (slice_set cores place new)
-turned_at budget budgets core place t cores old new machine is there drives =
+turned_at limits budget budgets core place t cores old new machine is there drives =
     subst (λ (n : ℕ). AreDriven (turn_of_core n ∷ []) (Turned t ∷ []) cores (slice_set cores place new)) is
-    (driven_one (turn_of_core place) (Turned t) cores old new there (placed budget budgets cores cores machine (driven_same [] [] cores cores (driven_none cores)) place old there) tt drives)
+    (driven_one (turn_of_core place) (Turned t) cores old new there (placed limits budget budgets cores cores machine (driven_same [] [] cores cores (driven_none cores)) place old there) tt drives)
 
 -- by the clauses of the turn
-pub turn_driven : (budget : ℕ) (budgets : List ℕ) (core place : ℕ) (t : Turn) (cores : List RingCore) (read old new : RingCore) → IsMachine budget budgets cores → core < length cores → place ≡ core → read ≡ slice_index_or cores place read
+pub turn_driven : (limits : TableLimits) (budget : ℕ) (budgets : List ℕ) (core place : ℕ) (t : Turn) (cores : List RingCore) (read old new : RingCore) → IsMachine limits budget budgets cores → core < length cores → place ≡ core → read ≡ slice_index_or cores place read
     → old ≡ slice_index_or cores place read → SameCore SameLinks old new → begun new.history ++ new.pending ≡ begun old.history ++ old.pending
     → ((s : Stamped) (d : Option Decision) → t ≡ turn.Did s d → DidOne ring_view old new s)
     → ((s : Stamped) (d : Option Decision) → t ≡ turn.Did s d → decisions new.history ≡ decisions old.history ++ option_to_list d)
     → (((s : Stamped) (d : Option Decision) → t ≡ turn.Did s d → ⊥) → NothingDone ring_view old new) → AreDriven (turn_of_core core ∷ []) (Turned t ∷ []) cores (slice_set cores place new)
-turn_driven budget budgets core place t cores read old new machine inside from at is same requests one decision none =
-    turned_at budget budgets core place t cores old new machine from (indexed_at cores core place read from at inside ∙ ap (λ (x : RingCore). Some x) (sym is)) (turned old.number false t old new same requests one decision none)
+turn_driven limits budget budgets core place t cores read old new machine inside from at is same requests one decision none =
+    turned_at limits budget budgets core place t cores old new machine from (indexed_at cores core place read from at inside ∙ ap (λ (x : RingCore). Some x) (sym is)) (turned old.number false t old new same requests one decision none)

@@ -1,5 +1,6 @@
 -- The headline, by what can be seen alone: the events that a machine did, with their answers, and the replicas of its cores.
 use Rattle.std.specs.Prelude.{◌≡◌, ◌==◌, ℕ, if◌then◌else◌, Some, List, [], ◌∷◌, slice_get, flat_map}
+use Rattle.filter_table.specs.Limits.{TableLimits}
 use Rattle.filter_table.specs.declared.operation.Op.{Op}
 use Rattle.filter_table.specs.Tables.{table}
 use Rattle.table_replica.specs.Shown.{ReplicaState}
@@ -12,14 +13,14 @@ use Rattle.world_model.specs.Readings.{version_of}
 
 -- Replicas
 
--- a replica shows the table that the log makes at this version
-pub record ShowsTable (log : List Op) (version : ℕ) (replica : ReplicaState) : Type 0 where
+-- a replica shows the table that the log makes at this version, under these limits
+pub record ShowsTable (limits : TableLimits) (log : List Op) (version : ℕ) (replica : ReplicaState) : Type 0 where
   pub numbered : replica.shown.version ≡ version
-  pub shown : replica.shown ≡ table log version
+  pub shown : replica.shown ≡ table limits log version
 
--- each core's replica shows the table that the committed operations make at the core's version: how often it committed
-abbrev pub ShowTables : List Done → List ReplicaState → Type 0
-ShowTables events replicas = (core : ℕ) (replica : ReplicaState) → slice_get replicas core ≡ Some replica → ShowsTable (log_of events) (version_of core events) replica
+-- each core's replica shows the table that the committed operations make under these limits at the core's version: how often it committed
+abbrev pub ShowTables : TableLimits → List Done → List ReplicaState → Type 0
+ShowTables limits events replicas = (core : ℕ) (replica : ReplicaState) → slice_get replicas core ≡ Some replica → ShowsTable limits (log_of events) (version_of core events) replica
 
 -- replicas at one version hold equal tables, next ids included
 abbrev pub AreEqualByVersion : List ReplicaState → Type 0

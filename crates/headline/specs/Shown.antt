@@ -10,11 +10,11 @@ use Rattle.headline.specs.declared.replicas.Holder.{Holder}
 use Rattle.headline.specs.declared.replicas.Holder.TheVariants as holder
 
 abbrev pub replica_of_peer : World → Peer → ReplicaState
-replica_of_peer w p = record { budget = p.budget; shown = table w.log p.version; staged = p.place.staged }
+replica_of_peer w p = record { budget = p.budget; shown = table w.limits w.log p.version; staged = p.place.staged }
 
 -- core 0's first
 abbrev pub replicas_of : World → List ReplicaState
-replicas_of w = record { budget = w.budget; shown = table w.log w.version; staged = w.place.staged } ∷ map (replica_of_peer w) w.peers
+replicas_of w = record { budget = w.budget; shown = table w.limits w.log w.version; staged = w.place.staged } ∷ map (replica_of_peer w) w.peers
 
 abbrev pub replicas_of_cores : List RingCore → List ReplicaState
 replicas_of_cores cores = map (λ c. replica_of c.part) cores

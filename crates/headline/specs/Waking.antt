@@ -12,13 +12,14 @@ use Rattle.core_drive.specs.Driving.{AreDriven}
 use Rattle.core_settle.specs.Naming.{Awake}
 use Rattle.headline.specs.Served.{events_of}
 use Rattle.headline.specs.Starts.{StartOneByOne}
+use Rattle.filter_table.specs.Limits.{TableLimits}
 
--- the cores of a machine did these steps, and were looked at after each
-pub record AreDone (steps : List CoreStep) (outcomes : List StepOutcome) (old new : List RingCore) : Type 0 where
+-- the cores of a machine with these limits did these steps, and were looked at after each
+pub record AreDone (limits : TableLimits) (steps : List CoreStep) (outcomes : List StepOutcome) (old new : List RingCore) : Type 0 where
   pub budget : ℕ
   pub budgets : List ℕ
-  pub machine : IsMachine budget budgets new
-  pub con : Conclude budget budgets new
+  pub machine : IsMachine limits budget budgets new
+  pub con : Conclude limits budget budgets new
   pub driven : AreDriven steps outcomes old new
   pub order : StartOneByOne (events_of steps outcomes)
 

@@ -11,8 +11,8 @@ use world_core::WorldFault;
 /// Why a machine has not done all that it was given. The machine is gone then.
 #[derive(Clone, Copy, PartialEq, Eq, Debug, Drop, Error)]
 pub enum Fault {
-    /// A machine has 1 to 8 cores.
-    #[error("a machine has 1 to 8 cores")]
+    /// A machine has 1 to 64 cores.
+    #[error("a machine has 1 to 64 cores")]
     CoreCount,
     /// A core can't do its event, for this.
     #[error(transparent)]

@@ -1,6 +1,7 @@
 //! Cores that were joined: what they did, in one list.
 
 ghost use Rattle.std.specs.Prelude.{◌≡◌, ℕ, List, IfOk};
+ghost use Rattle.filter_table.specs.Limits.{TableLimits};
 ghost use Rattle.core_join.specs.Machines.{IsMachine};
 ghost use Rattle.core_join.specs.Conclusions.{Concludes, OfMachine, histories_of, listed_histories};
 ghost use Rattle.core_join.specs.Merges.{ListsRuns};
@@ -38,7 +39,7 @@ fn part(alloc: Global, recorded: Vec<Recorded<RingLinks>>) -> Result<Parted, All
 
 // The first of the cores and the others agree.
 fn agree_all(cores: &mut [Core<RingLinks>])
-    requires { (budget : ℕ) × (budgets : List ℕ) × IsMachine budget budgets cores.old }
+    requires { (limits : TableLimits) × (budget : ℕ) × (budgets : List ℕ) × IsMachine limits budget budgets cores.old }
     ensures concludes { OfMachine cores.old Concludes }
     ensures replicas { replicas_of_cores cores.new ≡ replicas_of_cores cores.old }
 {
@@ -53,7 +54,7 @@ pub(crate) fn conclude_all(
     alloc: Global,
     recorded: Vec<Recorded<RingLinks>>,
 ) -> Result<Did, AllocError>
-    requires { (budget : ℕ) × (budgets : List ℕ) × IsMachine budget budgets recorded.items }
+    requires { (limits : TableLimits) × (budget : ℕ) × (budgets : List ℕ) × IsMachine limits budget budgets recorded.items }
     ensures concludes { IfOk result (λ did. OfMachine recorded.items Concludes) }
     ensures list { IfOk result (λ did. ListsRuns (histories_of recorded.items) did.events.items) }
     ensures replicas { IfOk result (λ did. did.replicas ≡ replicas_of_cores recorded.items) }

@@ -12,6 +12,7 @@ ghost use Rattle.world_model.specs.Committed.{log_of};
 
 use crate::fault::Fault;
 use crate::replicas::{Holder, Replicas};
+use filter_table::Limits;
 use std::alloc::Global;
 use world_core::{BootFault, World};
 use world_events::{Done, Event};
@@ -25,19 +26,24 @@ pub struct Did {
     pub replicas: Replicas,
 }
 
-/// Boots a machine with a core for each budget, 1 to 8 of them, and does these events one after another, in any order: a core
-/// starts or submits a request, takes a message or receives a packet. An operation that is submitted has a program of at most
-/// 4,096 instructions.
-pub fn one_by_one(alloc: Global, budgets: &[u32], events: Vec<Event>) -> Result<Did, Fault>
+/// Boots a machine with these limits and a core for each budget, 1 to 64 of them, and does these events one after another, in any
+/// order: a core starts or submits a request, takes a message or receives a packet. An operation that is submitted has a program
+/// of at most 4,096 instructions.
+pub fn one_by_one(
+    alloc: Global,
+    limits: Limits,
+    budgets: &[u32],
+    events: Vec<Event>,
+) -> Result<Did, Fault>
     requires short { All (λ event. (core : ℕ) (op : GhostOp) → event ≡ Submit core op → HasShortProgram op) events.items }
-    ensures count { result ≡ Err CoreCount ↔ ((length budgets.now ≡ 0) ⊎ (8 < length budgets.now)) }
+    ensures count { result ≡ Err CoreCount ↔ ((length budgets.now ≡ 0) ⊎ (64 < length budgets.now)) }
     ensures given { IfOk result (λ did. map (λ done. done.event) did.events.items ≡ events.items) }
     ensures cores { IfOk result (λ did. length did.replicas ≡ length budgets.now) }
-    ensures tables { IfOk result (λ did. ShowTables did.events.items did.replicas) }
+    ensures tables { IfOk result (λ did. ShowTables limits did.events.items did.replicas) }
     ensures equal { IfOk result (λ did. AreEqualByVersion did.replicas) }
-    ensures delivers { IfOk result (λ did. Delivers (log_of did.events.items) did.events.items) }
+    ensures delivers { IfOk result (λ did. Delivers limits (log_of did.events.items) did.events.items) }
 {
-    let mut world = match World::boot(alloc, budgets) {
+    let mut world = match World::boot_with_limits(alloc, limits, budgets) {
         Ok(world) => world,
         Err(BootFault::CoreCount) => return Err(Fault::CoreCount),
         Err(BootFault::NoMemory) => return Err(Fault::NoMemory),

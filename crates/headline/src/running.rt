@@ -16,18 +16,18 @@ use crate::joined::conclude_all;
 use crate::machine::Did;
 use core_join::Recorded;
 use core_loop::RingLinks;
-use core_threads::{BootFault, Free, boot, run_to_rest};
-use filter_table::Op;
+use core_threads::{BootFault, Free, boot_with_limits, run_to_rest};
+use filter_table::{Limits, Op};
 use rx_queue::Job;
 use std::alloc::Global;
 use std::sync::Wait;
 use std::thread::Threads;
 use std::time::Clock;
 
-/// Boots a machine with a core for each budget, 1 to 8 of them, and runs each core in a thread of its own, until these requests are
-/// decided and these jobs are received. Requests and jobs have the number of their core before them, and each core's come in order;
-/// a request of a core other than 0 has a program of at most 4,096 instructions. A core halts after `limit` turns in a row that
-/// did nothing.
+/// Boots a machine with these limits and a core for each budget, 1 to 64 of them, and runs each core in a thread of its own, until
+/// these requests are decided and these jobs are received. Requests and jobs have the number of their core before them, and each
+/// core's come in order; a request of a core other than 0 has a program of at most 4,096 instructions. A core halts after `limit`
+/// turns in a row that did nothing.
 ///
 /// Where a core halts, the cores are settled once the threads are joined, so that each request is decided. It gives what the
 /// cores did in one order, that of their clocks, and the jobs that are left, which wait for a later version. Else it names the
@@ -35,6 +35,7 @@ use std::time::Clock;
 pub fn threads<R: Threads + Wait + Clock + Sync>(
     rt: &R,
     alloc: Global,
+    limits: Limits,
     budgets: &[u32],
     requests: Vec<(u16, Op)>,
     jobs: Vec<(u16, Job)>,
@@ -43,11 +44,11 @@ pub fn threads<R: Threads + Wait + Clock + Sync>(
     requires requests { All (λ r. r.0 < length budgets.now) requests.items }
     requires short { All (λ r. 0 < r.0 → HasShortProgram r.1) requests.items }
     requires jobs { All (λ j. j.0 < length budgets.now) jobs.items }
-    ensures count { result ≡ Err CoreCount ↔ ((length budgets.now ≡ 0) ⊎ (8 < length budgets.now)) }
+    ensures count { result ≡ Err CoreCount ↔ ((length budgets.now ≡ 0) ⊎ (64 < length budgets.now)) }
     ensures cores { IfOk result (λ ran. length ran.0.replicas ≡ length budgets.now) }
-    ensures tables { IfOk result (λ ran. ShowTables ran.0.events.items ran.0.replicas) }
+    ensures tables { IfOk result (λ ran. ShowTables limits ran.0.events.items ran.0.replicas) }
     ensures equal { IfOk result (λ ran. AreEqualByVersion ran.0.replicas) }
-    ensures delivers { IfOk result (λ ran. Delivers (log_of ran.0.events.items) ran.0.events.items) }
+    ensures delivers { IfOk result (λ ran. Delivers limits (log_of ran.0.events.items) ran.0.events.items) }
     ensures newest { IfOk result (λ ran. All (λ replica. replica.shown.version ≡ length (log_of ran.0.events.items)) ran.0.replicas) }
 
     // Each request is decided: the n-th decision of a core is that on its n-th request.
@@ -61,7 +62,7 @@ pub fn threads<R: Threads + Wait + Clock + Sync>(
     // A core that is named is one of the machine's.
     ensures halted { (core : ℕ) → result ≡ Err (Halted core) → core < length budgets.now }
 {
-    let (cores, left) = run_cores(rt, alloc, budgets, requests, jobs, limit)?;
+    let (cores, left) = run_cores(rt, alloc, limits, budgets, requests, jobs, limit)?;
     let did = conclude_all(alloc, cores)?;
     Ok((did, left))
 }
@@ -70,6 +71,7 @@ pub fn threads<R: Threads + Wait + Clock + Sync>(
 fn run_cores<R: Threads + Wait + Clock + Sync>(
     rt: &R,
     alloc: Global,
+    limits: Limits,
     budgets: &[u32],
     requests: Vec<(u16, Op)>,
     jobs: Vec<(u16, Job)>,
@@ -78,11 +80,11 @@ fn run_cores<R: Threads + Wait + Clock + Sync>(
     requires requests { All (λ r. r.0 < length budgets.now) requests.items }
     requires short { All (λ r. 0 < r.0 → HasShortProgram r.1) requests.items }
     requires jobs { All (λ j. j.0 < length budgets.now) jobs.items }
-    ensures count { result ≡ Err CoreCount ↔ ((length budgets.now ≡ 0) ⊎ (8 < length budgets.now)) }
-    ensures ended { IfOk result (λ r. HaveEnded budgets.now requests.items jobs.items r.0.items r.1.items) }
+    ensures count { result ≡ Err CoreCount ↔ ((length budgets.now ≡ 0) ⊎ (64 < length budgets.now)) }
+    ensures ended { IfOk result (λ r. HaveEnded limits budgets.now requests.items jobs.items r.0.items r.1.items) }
     ensures halted { (core : ℕ) → result ≡ Err (Halted core) → core < length budgets.now }
 {
-    let machine = match boot(alloc, budgets, requests) {
+    let machine = match boot_with_limits(alloc, limits, budgets, requests) {
         Ok(machine) => machine,
         Err(BootFault::CoreCount) => return Err(Fault::CoreCount),
         Err(BootFault::NoMemory) => return Err(Fault::NoMemory),

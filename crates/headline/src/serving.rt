@@ -1,6 +1,7 @@
 //! A machine whose cores serve in one thread, and then come to rest.
 
 ghost use Rattle.std.specs.Prelude.{◌≡◌, ◌≢◌, ◌↔◌, ◌⊎◌, ◌<◌, ◌≤◌, ◌++◌, ◌∷◌, [], ℕ, List, All, Err, None, Some, true, false, IfOk, IfSome, IfNone, IsOkUnless, IsTrue, IsFalse, OnOk, Option, length, if◌then◌else◌};
+ghost use Rattle.filter_table.specs.Limits.{TableLimits};
 ghost use Rattle.std.specs.List.{AllZip};
 ghost use mathlib.Core.List.{IsPrefix};
 ghost use Rattle.filter_table.specs.declared.operation.Op.{Op as GhostOp};
@@ -29,11 +30,12 @@ ghost use Rattle.headline.specs.Waking.{AreDone, Halts, IsTurnOf, awake_of, turn
 
 use crate::fault::Fault;
 use crate::replicas::{Holder, Replicas};
-use core_boot::{BootFault, boot_cores};
+use core_boot::{BootFault, boot_machine};
 use core_drive::{CoreStep, StepOutcome, Task, drive};
 use core_join::agree_all;
 use core_loop::{Core, RingLinks, Turn};
 use core_settle::at_rest;
+use filter_table::Limits;
 use std::alloc::{AllocError, Global};
 
 /// What came of steps, and what the cores have in the end.
@@ -49,19 +51,24 @@ pub struct Served {
     pub replicas: Replicas,
 }
 
-/// Boots a machine with a core for each budget, 1 to 8 of them, and does these steps on its cores, one after another, in any
-/// order: a core takes a turn, is asked one request more, or receives a packet. A request of a core other than 0 has a program
-/// of at most 4,096 instructions. Then the cores take turns until nothing is left to do, or one has no memory or no number for
-/// what it would do next. The outcomes of the steps and of these turns tell the events that the cores did.
-pub fn serve(alloc: Global, budgets: &[u32], steps: Vec<CoreStep>) -> Result<Served, Fault>
+/// Boots a machine with these limits and a core for each budget, 1 to 64 of them, and does these steps on its cores, one after
+/// another, in any order: a core takes a turn, is asked one request more, or receives a packet. A request of a core other than 0
+/// has a program of at most 4,096 instructions. Then the cores take turns until nothing is left to do, or one has no memory or no
+/// number for what it would do next. The outcomes of the steps and of these turns tell the events that the cores did.
+pub fn serve(
+    alloc: Global,
+    limits: Limits,
+    budgets: &[u32],
+    steps: Vec<CoreStep>,
+) -> Result<Served, Fault>
     requires steps { All (λ step. step.core < length budgets.now) steps.items }
     requires short { All (λ step. (op : GhostOp) → step.task ≡ Ask op → 0 < step.core → HasShortProgram op) steps.items }
-    ensures count { result ≡ Err CoreCount ↔ ((length budgets.now ≡ 0) ⊎ (8 < length budgets.now)) }
-    ensures memory { 0 < length budgets.now → length budgets.now ≤ 8 → IsOkUnless result NoMemory }
+    ensures count { result ≡ Err CoreCount ↔ ((length budgets.now ≡ 0) ⊎ (64 < length budgets.now)) }
+    ensures memory { 0 < length budgets.now → length budgets.now ≤ 64 → IsOkUnless result NoMemory }
     ensures cores { IfOk result (λ served. length served.replicas ≡ length budgets.now) }
-    ensures tables { IfOk result (λ served. ShowTables (events_of (steps.items ++ served.turns.items) served.outcomes.items) served.replicas) }
+    ensures tables { IfOk result (λ served. ShowTables limits (events_of (steps.items ++ served.turns.items) served.outcomes.items) served.replicas) }
     ensures equal { IfOk result (λ served. AreEqualByVersion served.replicas) }
-    ensures delivers { IfOk result (λ served. let events = events_of (steps.items ++ served.turns.items) served.outcomes.items in Delivers (log_of events) events) }
+    ensures delivers { IfOk result (λ served. let events = events_of (steps.items ++ served.turns.items) served.outcomes.items in Delivers limits (log_of events) events) }
 
     // Each outcome is one of its step, and tells events of the step's core alone. The turns receive no packet.
     ensures answered { IfOk result (λ served. AllZip (λ step outcome. IsOf step.task outcome) (steps.items ++ served.turns.items) served.outcomes.items) }
@@ -80,7 +87,7 @@ pub fn serve(alloc: Global, budgets: &[u32], steps: Vec<CoreStep>) -> Result<Ser
     ensures halted { IfOk result (λ served. IfSome served.halted (λ core. core < length budgets.now)) }
     ensures halts { IfOk result (λ served. IfSome served.halted (EndsHalted served.turns.items served.outcomes.items)) }
 {
-    let mut cores = match boot_cores(alloc, budgets) {
+    let mut cores = match boot_machine(alloc, limits, budgets) {
         Ok(cores) => cores,
         Err(BootFault::CoreCount) => return Err(Fault::CoreCount),
         Err(BootFault::NoMemory) => return Err(Fault::NoMemory),
@@ -115,11 +122,11 @@ fn serve_all(
     cores: &mut [Core<RingLinks>],
     steps: Vec<CoreStep>,
 ) -> Result<Work, AllocError>
-    requires machine { (budget : ℕ) × (budgets : List ℕ) × IsMachine budget budgets cores.old }
-    requires few { length cores.old ≤ 8 }
+    requires machine { (limits : TableLimits) × (budget : ℕ) × (budgets : List ℕ) × IsMachine limits budget budgets cores.old }
+    requires few { length cores.old ≤ 64 }
     requires steps { All (IsStep (length cores.old)) steps.items }
     requires nothing { All HasDoneNothing cores.old }
-    ensures done { IfOk result (λ work. AreDone (steps.items ++ work.turns.items) work.outcomes.items cores.old cores.new) }
+    ensures done { (limits : TableLimits) (budget : ℕ) (budgets : List ℕ) → IsMachine limits budget budgets cores.old → IfOk result (λ work. AreDone limits (steps.items ++ work.turns.items) work.outcomes.items cores.old cores.new) }
     ensures turns { IfOk result (λ work. All (IsTurnOf (length cores.old)) work.turns.items) }
     ensures running { IfOk result (λ work. All IsRunning work.outcomes.items) }
     ensures rests { IfOk result (λ work. work.halted ≡ None → AreAtRest cores.new × All HasAllDecided cores.new) }
@@ -137,10 +144,10 @@ fn drive_each(
     cores: &mut [Core<RingLinks>],
     steps: Vec<CoreStep>,
 ) -> Result<Vec<StepOutcome>, AllocError>
-    requires machine { (budget : ℕ) × (budgets : List ℕ) × IsMachine budget budgets cores.old }
+    requires machine { (limits : TableLimits) × (budget : ℕ) × (budgets : List ℕ) × IsMachine limits budget budgets cores.old }
     requires steps { All (IsStep (length cores.old)) steps.items }
     requires nothing { All HasDoneNothing cores.old }
-    ensures done { IfOk result (λ outcomes. AreDone steps.items outcomes.items cores.old cores.new) }
+    ensures done { (limits : TableLimits) (budget : ℕ) (budgets : List ℕ) → IsMachine limits budget budgets cores.old → IfOk result (λ outcomes. AreDone limits steps.items outcomes.items cores.old cores.new) }
     ensures running { IfOk result (λ outcomes. All IsRunning outcomes.items) }
 {
     let mut outcomes = drive(alloc, cores, Vec::new(alloc))?;
@@ -157,10 +164,10 @@ fn settle_each(
     cores: &mut [Core<RingLinks>],
     given: Vec<StepOutcome>,
 ) -> Result<Work, AllocError>
-    requires machine { (budget : ℕ) × (budgets : List ℕ) × IsMachine budget budgets cores.old }
-    requires few { length cores.old ≤ 8 }
+    requires machine { (limits : TableLimits) × (budget : ℕ) × (budgets : List ℕ) × IsMachine limits budget budgets cores.old }
+    requires few { length cores.old ≤ 64 }
     requires running { All IsRunning given.items }
-    ensures done { (steps : List GhostStep) (first : List RingCore) → All (IsStep (length first)) steps → All HasDoneNothing first → AreDone steps given.items first cores.old → IfOk result (λ work. AreDone (steps ++ work.turns.items) work.outcomes.items first cores.new) }
+    ensures done { (limits : TableLimits) (steps : List GhostStep) (first : List RingCore) → All (IsStep (length first)) steps → All HasDoneNothing first → AreDone limits steps given.items first cores.old → IfOk result (λ work. AreDone limits (steps ++ work.turns.items) work.outcomes.items first cores.new) }
     ensures turns { IfOk result (λ work. All (IsTurnOf (length cores.old)) work.turns.items) }
     ensures running { IfOk result (λ work. All IsRunning work.outcomes.items) }
     ensures rests { IfOk result (λ work. work.halted ≡ None → AreAtRest cores.new × All HasAllDecided cores.new) }
@@ -206,7 +213,7 @@ fn turn_of(core: u16) -> CoreStep
 
 // The first core that has something to do.
 fn first_awake(awake: &[bool]) -> Option<u16>
-    requires few { length awake.now ≤ 8 }
+    requires few { length awake.now ≤ 64 }
     ensures some { IfSome result (λ core. (core < length awake.now) × (awake_of awake.now core ≡ true)) }
     ensures none { IfNone result (NoneAwake (length awake.now) (awake_of awake.now)) }
 {
@@ -237,8 +244,8 @@ fn is_event(answer: &Turn) -> bool
 // A core that has something to do takes a turn, and then all are looked at. Unless that halted the core, `awake` says which cores have
 // something to do now.
 fn turn_named(cores: &mut [Core<RingLinks>], awake: &mut [bool], core: u16) -> Turn
-    requires machine { (budget : ℕ) × (budgets : List ℕ) × IsMachine budget budgets cores.old }
-    requires few { length cores.old ≤ 8 }
+    requires machine { (limits : TableLimits) × (budget : ℕ) × (budgets : List ℕ) × IsMachine limits budget budgets cores.old }
+    requires few { length cores.old ≤ 64 }
     requires each { length awake.old ≡ length cores.old }
     requires core { core < length cores.old }
     requires is_awake { awake_of awake.old core ≡ true }
@@ -246,7 +253,7 @@ fn turn_named(cores: &mut [Core<RingLinks>], awake: &mut [bool], core: u16) -> T
     ensures driven { AreDriven (turn_of_core core ∷ []) (Turned result ∷ []) cores.old cores.new }
     ensures running { IsRunning (Turned result) }
     ensures machine { AreSameCores cores.old cores.new }
-    ensures concludes { (budget : ℕ) (budgets : List ℕ) → IsMachine budget budgets cores.old → Conclude budget budgets cores.new }
+    ensures concludes { (limits : TableLimits) (budget : ℕ) (budgets : List ℕ) → IsMachine limits budget budgets cores.old → Conclude limits budget budgets cores.new }
     ensures named { halt_of result ≡ None → NamedTurn (awake_of awake.old) (awake_of awake.new) cores.old cores.new }
 {
     let place = usize::from(core);
@@ -259,7 +266,7 @@ fn turn_named(cores: &mut [Core<RingLinks>], awake: &mut [bool], core: u16) -> T
 
 // The cores that this one names have something to do.
 fn wake(awake: &mut [bool], named_by: &Core<RingLinks>, core: u16)
-    requires few { length awake.old ≤ 8 }
+    requires few { length awake.old ≤ 64 }
     ensures each { length awake.new ≡ length awake.old }
     ensures itself { awake_of awake.new core ≡ awake_of awake.old core }
     ensures others { (i : ℕ) → i ≢ core → awake_of awake.new i ≡ if awake_of awake.old i then true else names named_by.now i }

@@ -1,5 +1,5 @@
 -- What is known after one more line.
-use Rattle.std.proofs.Common.{◌≡◌, ℕ, ◌+◌, Bool, true, false, ◌||◌, eqb, if◌then◌else◌, List, [], ◌∷◌, ◌++◌, length, Option, Some, None, length-append, append-nil, refl, sym, ap, ◌∙◌, inl, inr}
+use Rattle.std.proofs.Common.{◌≡◌, ℕ, ◌+◌, Bool, true, false, ◌||◌, eqb, if◌then◌else◌, List, [], ◌∷◌, ◌++◌, length, Option, Some, None, length-append, append-nil, refl, sym, ap, ◌∙◌, inl, inr, slice_get}
 use Rattle.std.specs.Prelude.{map}
 use Rattle.std.specs.List.{flat_map, list_any}
 use Rattle.std.specs.Map.{update}
@@ -10,11 +10,12 @@ use Rattle.std.proofs.lemmas.List.Folds.{list_any-append}
 use Rattle.std.proofs.lemmas.Slice.Eq.{bytes_eq-Decides}
 use Rattle.std.proofs.Math.Bool.{or-false, or-true}
 use Rattle.bpf_insn.specs.declared.insn.Insn.{Insn}
+use Rattle.filter_table.specs.Limits.{TableLimits}
 use Rattle.pcap_reader.specs.declared.capture.CapturedPacket.{CapturedPacket}
 use Rattle.world_events.specs.declared.event.Event.{Event}
 use Rattle.mk_script.specs.declared.script.Item.{Item}
 use Rattle.mk_script.specs.declared.script.Item.TheVariants.{Ask, Apply}
-use Rattle.mk_script.specs.Meanings.{Meaning, Budgets, NamedProgram, NamedPacket, NamedCapture, Home, Does, Receives, Trace, Nothing, Jobs, Counted, Named, budgets_in, programs_in, packets_in, captures_in, jobs_in, is_trace, is_act, named, home_from, is_traced, jobs_behind, items_in, items_of}
+use Rattle.mk_script.specs.Meanings.{Meaning, Limits, Budgets, NamedProgram, NamedPacket, NamedCapture, Home, Does, Receives, Trace, Nothing, Jobs, Counted, Named, limits_in, budgets_in, programs_in, packets_in, captures_in, jobs_in, is_trace, is_act, named, home_from, is_traced, jobs_behind, items_in, items_of}
 use Rattle.mk_script.specs.Changes.{KnowsParts, asks_in, events_in}
 use Rattle.filter_asm.proofs.DefineLemmas.{bytes_eq-comm}
 
@@ -60,6 +61,11 @@ named_push (d ∷ names) name x other new =
           ]
     ]
 
+-- the first of one that is given where none was
+first_push : (found : List TableLimits) (l : TableLimits) → None ≡ slice_get found 0 → Some l ≡ slice_get (found ++ l ∷ []) 0
+first_push [] l none = refl
+first_push (x ∷ found) l none = absurd (cc)
+
 asks_none : (events : List Event) → flat_map asks_in (map (λ e. Apply e) events) ≡ []
 asks_none [] = refl
 asks_none (e ∷ events) = asks_none events
@@ -90,10 +96,11 @@ untraced_from n given e = elim (cases_Bool (is_traced given)) [
   | inr untraced ↦ let counted = rw untraced at e in let same : n ≡ length (flat_map jobs_in given) = cc in (untraced, same)
 ]
 
-module _ (budgets : List ℕ) (programs : List ℕ → Option (List Insn)) (packets : List ℕ → Option CapturedPacket) (captures : List ℕ → Option (List CapturedPacket)) (home : ℕ → ℕ) (acted : Bool)
-    (jobs : Jobs) (items : List Item) (given : List Meaning) (knows : KnowsParts budgets programs packets captures home acted jobs items given) where
-  pub knows_nothing : KnowsParts budgets programs packets captures home acted jobs items (given ++ Nothing ∷ [])
+module _ (limits : Option TableLimits) (budgets : List ℕ) (programs : List ℕ → Option (List Insn)) (packets : List ℕ → Option CapturedPacket) (captures : List ℕ → Option (List CapturedPacket)) (home : ℕ → ℕ) (acted : Bool)
+    (jobs : Jobs) (items : List Item) (given : List Meaning) (knows : KnowsParts limits budgets programs packets captures home acted jobs items given) where
+  pub knows_nothing : KnowsParts limits budgets programs packets captures home acted jobs items (given ++ Nothing ∷ [])
   knows_nothing = record {
+    same_limits = knows.same_limits ∙ sym (ap (λ l. slice_get l 0) (same_flat limits_in given (Nothing) refl));
     same_budgets = knows.same_budgets ∙ sym (same_flat budgets_in given (Nothing) refl);
     same_programs = λ n. knows.same_programs n ∙ ap (λ l. named l n) (sym (same_flat programs_in given (Nothing) refl));
     same_packets = λ n. knows.same_packets n ∙ ap (λ l. named l n) (sym (same_flat packets_in given (Nothing) refl));
@@ -104,8 +111,22 @@ module _ (budgets : List ℕ) (programs : List ℕ → Option (List Insn)) (pack
     same_items = knows.same_items ∙ sym (items_push given (Nothing) refl ∙ append-nil (items_of given));
   }
 
-  pub knows_budgets : (more : List ℕ) → budgets ≡ [] → KnowsParts more programs packets captures home acted jobs items (given ++ Budgets more ∷ [])
+  pub knows_limits : (l : TableLimits) → limits ≡ None → KnowsParts (Some l) budgets programs packets captures home acted jobs items (given ++ Limits l ∷ [])
+  knows_limits l none = record {
+    same_limits = first_push (flat_map limits_in given) l (sym none ∙ knows.same_limits) ∙ ap (λ ls. slice_get ls 0) (sym (push_flat limits_in given (Limits l)));
+    same_budgets = knows.same_budgets ∙ sym (same_flat budgets_in given (Limits l) refl);
+    same_programs = λ n. knows.same_programs n ∙ ap (λ ls. named ls n) (sym (same_flat programs_in given (Limits l) refl));
+    same_packets = λ n. knows.same_packets n ∙ ap (λ ls. named ls n) (sym (same_flat packets_in given (Limits l) refl));
+    same_captures = λ n. knows.same_captures n ∙ ap (λ ls. named ls n) (sym (same_flat captures_in given (Limits l) refl));
+    same_home = λ d. knows.same_home d ∙ sym (home_push 0 given (Limits l) d);
+    same_acted = knows.same_acted ∙ sym (same_any is_act given (Limits l) refl);
+    same_jobs = knows.same_jobs ∙ sym (same_jobs_behind given (Limits l) refl refl);
+    same_items = knows.same_items ∙ sym (items_push given (Limits l) refl ∙ append-nil (items_of given));
+  }
+
+  pub knows_budgets : (more : List ℕ) → budgets ≡ [] → KnowsParts limits more programs packets captures home acted jobs items (given ++ Budgets more ∷ [])
   knows_budgets more none = record {
+    same_limits = knows.same_limits ∙ sym (ap (λ l. slice_get l 0) (same_flat limits_in given (Budgets more) refl));
     same_budgets = sym (push_flat budgets_in given (Budgets more) ∙ ap (λ l. l ++ more) (sym knows.same_budgets ∙ none));
     same_programs = λ n. knows.same_programs n ∙ ap (λ l. named l n) (sym (same_flat programs_in given (Budgets more) refl));
     same_packets = λ n. knows.same_packets n ∙ ap (λ l. named l n) (sym (same_flat packets_in given (Budgets more) refl));
@@ -116,8 +137,9 @@ module _ (budgets : List ℕ) (programs : List ℕ → Option (List Insn)) (pack
     same_items = knows.same_items ∙ sym (items_push given (Budgets more) refl ∙ append-nil (items_of given));
   }
 
-  pub knows_program : (name : List ℕ) (x : List Insn) (newer : List ℕ → Option (List Insn)) → programs name ≡ None → ((n : List ℕ) → newer n ≡ update bytes_eq programs name (Some x) n) → KnowsParts budgets newer packets captures home acted jobs items (given ++ NamedProgram name x ∷ [])
+  pub knows_program : (name : List ℕ) (x : List Insn) (newer : List ℕ → Option (List Insn)) → programs name ≡ None → ((n : List ℕ) → newer n ≡ update bytes_eq programs name (Some x) n) → KnowsParts limits budgets newer packets captures home acted jobs items (given ++ NamedProgram name x ∷ [])
   knows_program name x newer new changed = record {
+    same_limits = knows.same_limits ∙ sym (ap (λ l. slice_get l 0) (same_flat limits_in given (NamedProgram name x) refl));
     same_budgets = knows.same_budgets ∙ sym (same_flat budgets_in given (NamedProgram name x) refl);
     same_programs = λ n. changed n ∙ ap (λ v. if bytes_eq name n then Some x else v) (knows.same_programs n) ∙ sym (ap (λ l. named l n) (push_flat programs_in given (NamedProgram name x)) ∙ named_push (flat_map programs_in given) name x n (sym (knows.same_programs name) ∙ new));
     same_packets = λ n. knows.same_packets n ∙ ap (λ l. named l n) (sym (same_flat packets_in given (NamedProgram name x) refl));
@@ -128,8 +150,9 @@ module _ (budgets : List ℕ) (programs : List ℕ → Option (List Insn)) (pack
     same_items = knows.same_items ∙ sym (items_push given (NamedProgram name x) refl ∙ append-nil (items_of given));
   }
 
-  pub knows_packet : (name : List ℕ) (x : CapturedPacket) (newer : List ℕ → Option (CapturedPacket)) → packets name ≡ None → ((n : List ℕ) → newer n ≡ update bytes_eq packets name (Some x) n) → KnowsParts budgets programs newer captures home acted jobs items (given ++ NamedPacket name x ∷ [])
+  pub knows_packet : (name : List ℕ) (x : CapturedPacket) (newer : List ℕ → Option (CapturedPacket)) → packets name ≡ None → ((n : List ℕ) → newer n ≡ update bytes_eq packets name (Some x) n) → KnowsParts limits budgets programs newer captures home acted jobs items (given ++ NamedPacket name x ∷ [])
   knows_packet name x newer new changed = record {
+    same_limits = knows.same_limits ∙ sym (ap (λ l. slice_get l 0) (same_flat limits_in given (NamedPacket name x) refl));
     same_budgets = knows.same_budgets ∙ sym (same_flat budgets_in given (NamedPacket name x) refl);
     same_programs = λ n. knows.same_programs n ∙ ap (λ l. named l n) (sym (same_flat programs_in given (NamedPacket name x) refl));
     same_packets = λ n. changed n ∙ ap (λ v. if bytes_eq name n then Some x else v) (knows.same_packets n) ∙ sym (ap (λ l. named l n) (push_flat packets_in given (NamedPacket name x)) ∙ named_push (flat_map packets_in given) name x n (sym (knows.same_packets name) ∙ new));
@@ -140,8 +163,9 @@ module _ (budgets : List ℕ) (programs : List ℕ → Option (List Insn)) (pack
     same_items = knows.same_items ∙ sym (items_push given (NamedPacket name x) refl ∙ append-nil (items_of given));
   }
 
-  pub knows_capture : (name : List ℕ) (x : List CapturedPacket) (newer : List ℕ → Option (List CapturedPacket)) → captures name ≡ None → ((n : List ℕ) → newer n ≡ update bytes_eq captures name (Some x) n) → KnowsParts budgets programs packets newer home acted jobs items (given ++ NamedCapture name x ∷ [])
+  pub knows_capture : (name : List ℕ) (x : List CapturedPacket) (newer : List ℕ → Option (List CapturedPacket)) → captures name ≡ None → ((n : List ℕ) → newer n ≡ update bytes_eq captures name (Some x) n) → KnowsParts limits budgets programs packets newer home acted jobs items (given ++ NamedCapture name x ∷ [])
   knows_capture name x newer new changed = record {
+    same_limits = knows.same_limits ∙ sym (ap (λ l. slice_get l 0) (same_flat limits_in given (NamedCapture name x) refl));
     same_budgets = knows.same_budgets ∙ sym (same_flat budgets_in given (NamedCapture name x) refl);
     same_programs = λ n. knows.same_programs n ∙ ap (λ l. named l n) (sym (same_flat programs_in given (NamedCapture name x) refl));
     same_packets = λ n. knows.same_packets n ∙ ap (λ l. named l n) (sym (same_flat packets_in given (NamedCapture name x) refl));
@@ -152,8 +176,9 @@ module _ (budgets : List ℕ) (programs : List ℕ → Option (List Insn)) (pack
     same_items = knows.same_items ∙ sym (items_push given (NamedCapture name x) refl ∙ append-nil (items_of given));
   }
 
-  pub knows_home : (domain core : ℕ) (newer : ℕ → ℕ) → ((d : ℕ) → newer d ≡ (if eqb domain d then core else home d)) → KnowsParts budgets programs packets captures newer acted jobs items (given ++ Home domain core ∷ [])
+  pub knows_home : (domain core : ℕ) (newer : ℕ → ℕ) → ((d : ℕ) → newer d ≡ (if eqb domain d then core else home d)) → KnowsParts limits budgets programs packets captures newer acted jobs items (given ++ Home domain core ∷ [])
   knows_home domain core newer changed = record {
+    same_limits = knows.same_limits ∙ sym (ap (λ l. slice_get l 0) (same_flat limits_in given (Home domain core) refl));
     same_budgets = knows.same_budgets ∙ sym (same_flat budgets_in given (Home domain core) refl);
     same_programs = λ n. knows.same_programs n ∙ ap (λ l. named l n) (sym (same_flat programs_in given (Home domain core) refl));
     same_packets = λ n. knows.same_packets n ∙ ap (λ l. named l n) (sym (same_flat packets_in given (Home domain core) refl));
@@ -164,8 +189,9 @@ module _ (budgets : List ℕ) (programs : List ℕ → Option (List Insn)) (pack
     same_items = knows.same_items ∙ sym (items_push given (Home domain core) refl ∙ append-nil (items_of given));
   }
 
-  pub knows_does : (item : Item) (newer : Bool) (more : List Item) → newer ≡ (acted || is_act (Does item)) → more ≡ items ++ item ∷ [] → KnowsParts budgets programs packets captures home newer jobs more (given ++ Does item ∷ [])
+  pub knows_does : (item : Item) (newer : Bool) (more : List Item) → newer ≡ (acted || is_act (Does item)) → more ≡ items ++ item ∷ [] → KnowsParts limits budgets programs packets captures home newer jobs more (given ++ Does item ∷ [])
   knows_does item newer more changed pushed = record {
+    same_limits = knows.same_limits ∙ sym (ap (λ l. slice_get l 0) (same_flat limits_in given (Does item) refl));
     same_budgets = knows.same_budgets ∙ sym (same_flat budgets_in given (Does item) refl);
     same_programs = λ n. knows.same_programs n ∙ ap (λ l. named l n) (sym (same_flat programs_in given (Does item) refl));
     same_packets = λ n. knows.same_packets n ∙ ap (λ l. named l n) (sym (same_flat packets_in given (Does item) refl));
@@ -176,8 +202,9 @@ module _ (budgets : List ℕ) (programs : List ℕ → Option (List Insn)) (pack
     same_items = pushed ∙ ap (λ l. l ++ item ∷ []) knows.same_items ∙ sym (items_push given (Does item) refl);
   }
 
-  pub knows_receives : (events : List Event) (n count : ℕ) (more : List Item) → jobs ≡ Counted n → count ≡ n + length events → more ≡ items ++ map (λ e. Apply e) events → KnowsParts budgets programs packets captures home acted (Counted count) more (given ++ Receives events ∷ [])
+  pub knows_receives : (events : List Event) (n count : ℕ) (more : List Item) → jobs ≡ Counted n → count ≡ n + length events → more ≡ items ++ map (λ e. Apply e) events → KnowsParts limits budgets programs packets captures home acted (Counted count) more (given ++ Receives events ∷ [])
   knows_receives events n count more counted length_is pushed = record {
+    same_limits = knows.same_limits ∙ sym (ap (λ l. slice_get l 0) (same_flat limits_in given (Receives events) refl));
     same_budgets = knows.same_budgets ∙ sym (same_flat budgets_in given (Receives events) refl);
     same_programs = λ n. knows.same_programs n ∙ ap (λ l. named l n) (sym (same_flat programs_in given (Receives events) refl));
     same_packets = λ n. knows.same_packets n ∙ ap (λ l. named l n) (sym (same_flat packets_in given (Receives events) refl));
@@ -188,8 +215,9 @@ module _ (budgets : List ℕ) (programs : List ℕ → Option (List Insn)) (pack
     same_items = let before = untraced_from n given (sym counted ∙ knows.same_jobs) in pushed ∙ ap (λ l. l ++ map (λ e. Apply e) events) knows.same_items ∙ sym (items_push given (Receives events) refl ∙ ap (λ t. items_of given ++ items_in t (Receives events)) before.0);
   }
 
-  pub knows_trace : (n : ℕ) (asks : List Item) (events : List Event) → jobs ≡ Counted n → acted ≡ false → asks ≡ flat_map asks_in items → events ≡ flat_map events_in items → KnowsParts budgets programs packets captures home acted (Named events) asks (given ++ Trace ∷ [])
+  pub knows_trace : (n : ℕ) (asks : List Item) (events : List Event) → jobs ≡ Counted n → acted ≡ false → asks ≡ flat_map asks_in items → events ≡ flat_map events_in items → KnowsParts limits budgets programs packets captures home acted (Named events) asks (given ++ Trace ∷ [])
   knows_trace n asks events counted quiet asks_is events_is = record {
+    same_limits = knows.same_limits ∙ sym (ap (λ l. slice_get l 0) (same_flat limits_in given (Trace) refl));
     same_budgets = knows.same_budgets ∙ sym (same_flat budgets_in given (Trace) refl);
     same_programs = λ n. knows.same_programs n ∙ ap (λ l. named l n) (sym (same_flat programs_in given (Trace) refl));
     same_packets = λ n. knows.same_packets n ∙ ap (λ l. named l n) (sym (same_flat packets_in given (Trace) refl));

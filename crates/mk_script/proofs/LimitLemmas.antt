@@ -19,6 +19,7 @@ use Rattle.pcap_reader.specs.declared.capture.CapturedPacket.{CapturedPacket}
 use Rattle.capture_reader.specs.Entries.{packets_in as found_in}
 use Rattle.capture_reader.specs.Captures.{AllFew}
 use Rattle.capture_reader.proofs.LawLemmas.{few_captured}
+use Rattle.filter_table.specs.Limits.{default_limits}
 use Rattle.filter_table.specs.Tables.{HasShortProgram}
 use Rattle.filter_table.specs.declared.operation.Op.{Op}
 use Rattle.filter_table.specs.declared.operation.Op.TheVariants.{Create, Mint, Revoke, DropCap, Install, Remove, Replace}
@@ -26,7 +27,7 @@ use Rattle.world_events.specs.declared.event.Event.{Event}
 use Rattle.world_events.specs.declared.event.Event.TheVariants.{Take, Rx}
 use Rattle.mk_script.specs.declared.fault.ScriptFault.{ScriptFault}
 use Rattle.mk_script.specs.declared.fault.ScriptFaultKind.{ScriptFaultKind}
-use Rattle.mk_script.specs.declared.fault.ScriptFaultKind.TheVariants.{BadLine, NoCores, BadNumber, Twice, NoName}
+use Rattle.mk_script.specs.declared.fault.ScriptFaultKind.TheVariants.{BadLine, NoCores, BadNumber, Twice, AfterCores, NoName}
 use Rattle.mk_script.specs.declared.rows.Command.{Command}
 use Rattle.mk_script.specs.declared.rows.Command.TheVariants as command
 use Rattle.mk_script.specs.declared.rows.Request.{Request}
@@ -35,13 +36,13 @@ use Rattle.mk_script.specs.declared.script.Item.{Item}
 use Rattle.mk_script.specs.declared.script.Item.TheVariants as item
 use Rattle.mk_script.specs.declared.script.Script.{Script}
 use Rattle.mk_script.specs.Bodies.{MeansAssembled, MeansDecimal, MeansCaptured, DraftMeans, DraftedMeans}
-use Rattle.mk_script.specs.Drafts.{Settings, Draft, Whole, Assembler, Decimal, Savefile, draft_of, has_cores, is_new, behind_word, optional_below, bytes_or_fault, hex_bytes, may_stand, is_cores, core_limit, is_short, numbers_below, cores_draft, asm_draft, ddd_draft, packet_draft, capture_draft, home_draft, create_op, mint_op, rights_of, held, held_program, op_of, domain_of, request_draft, core_draft, take_draft, packet_number, packet_of, packet_at, floor_at, rx_draft, replayed, replay_draft, draft_by, script_draft, counted, job_at, is_rx_at, job_draft, event_by, event_draft, trace_draft, is_left, draft_in}
+use Rattle.mk_script.specs.Drafts.{Settings, Draft, Whole, Assembler, Decimal, Savefile, draft_of, has_cores, is_new, behind_word, optional_below, bytes_or_fault, hex_bytes, may_stand, is_early, has_limits, limits_of, limits_draft, core_limit, is_short, numbers_below, cores_draft, asm_draft, ddd_draft, packet_draft, capture_draft, home_draft, create_op, mint_op, rights_of, held, held_program, op_of, domain_of, request_draft, core_draft, take_draft, packet_number, packet_of, packet_at, floor_at, rx_draft, replayed, replay_draft, draft_by, script_draft, counted, job_at, is_rx_at, job_draft, event_by, event_draft, trace_draft, is_left, draft_in}
 use Rattle.mk_script.specs.Limits.{IsShortPacket, IsTakeOrRx, IsLimited, EntersBelow, HasLimits}
-use Rattle.mk_script.specs.Meanings.{Meaning, Budgets, NamedProgram, NamedPacket, NamedCapture, Home, Does, Receives, Trace, Nothing, Known, Jobs, Counted, Named, known, named, home_from, budgets_in, programs_in, packets_in, captures_in, jobs_in, items_in, items_of, is_traced, jobs_behind}
+use Rattle.mk_script.specs.Meanings.{Meaning, Limits, Budgets, NamedProgram, NamedPacket, NamedCapture, Home, Does, Receives, Trace, Nothing, Known, Jobs, Counted, Named, known, named, home_from, limits_behind, budgets_in, programs_in, packets_in, captures_in, jobs_in, items_in, items_of, is_traced, jobs_behind}
 use Rattle.mk_script.specs.Rows.{before_dot, command_of, event_of}
 use Rattle.mk_script.specs.Scripts.{MeanBehind, Stands, script_of}
 use Rattle.mk_script.specs.Statements.{Statement, Opened, opened, longer, is_skipped, opens_block, is_end, statements_from, statements}
-use Rattle.mk_script.specs.Words.{◌>>=◌, check, whole_number, below, number_below}
+use Rattle.mk_script.specs.Words.{◌>>=◌, check, whole_number, below, number_below, number_up_to}
 use Rattle.line_words.specs.Words.{word_at}
 use Rattle.mk_script.proofs.RowLemmas.{cores_few}
 use Rattle.mk_script.proofs.WordLemmas.{AllShort, word_short, lines_short}
@@ -114,7 +115,7 @@ EntersIn cores meaning = Unit {0}
 
 -- budgets are the first, and few; homes and requests are at cores that are there
 abbrev IsFirst : Known → Meaning → Type 0
-IsFirst k (Budgets budgets) = (length k.budgets ≡ 0) × (length budgets ≤ 8)
+IsFirst k (Budgets budgets) = (length k.budgets ≡ 0) × (length budgets ≤ 64)
 IsFirst k meaning = EntersIn (length k.budgets) meaning
 
 -- what is known is within the limits
@@ -257,6 +258,15 @@ numbers_length limit (word ∷ words) numbers e =
 pub no_budgets : (k : Known) → not (has_cores k) ≡ true → length k.budgets ≡ 0
 no_budgets k e = grind (arith, nat_tests)
 
+limits_within : (k : Known) (words : List (List ℕ)) (d : Draft) → limits_draft k words ≡ Ok d → IsDraftWithin k d
+unfolding limits_draft
+limits_within k words d e =
+    let caps = bound (number_up_to 65536 (word_at words 1)) _ d e in
+    let filters = bound (number_up_to 65536 (word_at words 2)) _ d caps.next in
+    let first = bound (check (not (has_limits k)) Twice) _ d filters.next in
+    let early = bound (check (not (has_cores k)) AfterCores) _ d first.next in
+    subst (IsDraftWithin k) (same_ok (Whole (Limits (limits_of caps.value filters.value))) d early.next) (tt, tt)
+
 cores_within : (s : Settings) (k : Known) (words : List (List ℕ)) (d : Draft) → command_of s.threads words ≡ Some command.Cores → cores_draft k words ≡ Ok d → IsDraftWithin k d
 unfolding cores_draft command_of
 cores_within s k words d is e =
@@ -325,7 +335,8 @@ home_within k words d e =
     subst (IsDraftWithin k) (same_ok (Whole (Home domain.value core.value)) d core.next) (tt, below_is (length k.budgets) (word_at words 2) core.value core.gave)
 
 by_within : (s : Settings) (k : Known) (received : ℕ) (words : List (List ℕ)) (line : List ℕ) (block : Option (List ℕ)) (c : Command) (d : Draft) → AreShort k → length (word_at words 2) < 2 ^ 32
-    → command_of s.threads words ≡ Some c → (is_cores c || has_cores k) ≡ true → draft_by s k received words line block c ≡ Ok d → IsDraftWithin k d
+    → command_of s.threads words ≡ Some c → (is_early c || has_cores k) ≡ true → draft_by s k received words line block c ≡ Ok d → IsDraftWithin k d
+by_within s k received words line block command.Limits d short few is ready e = limits_within k words d e
 by_within s k received words line block command.Cores d short few is ready e = cores_within s k words d is e
 by_within s k received words line block command.Asm d short few is ready e = asm_within k words block d e
 by_within s k received words line block command.Ddd d short few is ready e = ddd_within k words line d e
@@ -348,9 +359,9 @@ script_within : (s : Settings) (k : Known) (received : ℕ) (words : List (List 
 unfolding script_draft
 script_within s k received words line block d short few e =
     let c = bound (ok_or (command_of s.threads words) BadLine) _ d e in
-    let allowed = bound (check (may_stand k.acted block c.value) BadLine) _ d c.next in
-    let ready = bound (check (is_cores c.value || has_cores k) NoCores) _ d allowed.next in
-    by_within s k received words line block c.value d short few (some_ok (command_of s.threads words) BadLine c.value c.gave) (passed (is_cores c.value || has_cores k) NoCores ready.value ready.gave) ready.next
+    let allowed = bound (check (may_stand k words block c.value) BadLine) _ d c.next in
+    let ready = bound (check (is_early c.value || has_cores k) NoCores) _ d allowed.next in
+    by_within s k received words line block c.value d short few (some_ok (command_of s.threads words) BadLine c.value c.gave) (passed (is_early c.value || has_cores k) NoCores ready.value ready.gave) ready.next
 
 -- Traces
 
@@ -541,10 +552,10 @@ statements_within n number (Some o) (line ∷ lines) own all = elim (cases_Bool 
 
 pub record Kept (given : List Meaning) : Type 0 where
   pub each : AllByRecursion IsWithin given
-  pub few : length (flat_map budgets_in given) ≤ 8
+  pub few : length (flat_map budgets_in given) ≤ 64
   pub enter : AllByRecursion (EntersIn (length (flat_map budgets_in given))) given
 
-budgets_few : (given : List Meaning) (m : Meaning) → length (flat_map budgets_in given) ≤ 8 → IsFirst (known given) m → length (flat_map budgets_in given ++ budgets_in m) ≤ 8
+budgets_few : (given : List Meaning) (m : Meaning) → length (flat_map budgets_in given) ≤ 64 → IsFirst (known given) m → length (flat_map budgets_in given ++ budgets_in m) ≤ 64
 budgets_few given (Budgets budgets) few first = omega (arith, first.0, first.1, length-append (flat_map budgets_in given) budgets)
 budgets_few given _ few first = omega (arith, few, length-append (flat_map budgets_in given) [])
 
@@ -560,7 +571,7 @@ kept_more given m kept both =
     let cores = length (flat_map budgets_in (given ++ m ∷ [])) in
     record {
       each = each_append IsWithin given (m ∷ []) kept.each (both.0, tt);
-      few = subst (λ (l : List ℕ). length l ≤ 8) (sym pushed) (budgets_few given m kept.few both.1);
+      few = subst (λ (l : List ℕ). length l ≤ 64) (sym pushed) (budgets_few given m kept.few both.1);
       enter = each_append (EntersIn cores) given (m ∷ []) (enter_more (length before) cores given more kept.enter) (enters_more (length before) cores m more (first_enters given m both.1), tt);
     }
 
@@ -575,7 +586,7 @@ script_limited : (given : List Meaning) (script : Script) → Kept given → Ok 
 script_limited given script kept e = elim (cases_Bool (has_cores (known given))) [
   | inl some ↦
       let is = rw some at e in
-      let made : Script = record { budgets = flat_map budgets_in given; items = items_of given } in
+      let made : Script = record { limits = unwrap_or (limits_behind given) default_limits; budgets = flat_map budgets_in given; items = items_of given } in
       let same : made ≡ script = sym (same_ok script made is) in
       subst HasLimits same (record {
         some = some_budgets (known given) some;
@@ -596,9 +607,9 @@ by_meanings : (s : Settings) (text : List ℕ) (meanings : Result (List Meaning)
 by_meanings s text (Ok given) script few means e = script_limited given script (kept_meanings s text given few means) e
 by_meanings s text (Err fault) script few means e = absurd (cc)
 
-has_limits : (s : Settings) (text : List ℕ) (script : Script) → length text < 2 ^ 32 → Stands s text (Ok script) → HasLimits script
-has_limits s text script few stands = by_meanings s text stands.0 script few stands.1 stands.2
+stands_limited : (s : Settings) (text : List ℕ) (script : Script) → length text < 2 ^ 32 → Stands s text (Ok script) → HasLimits script
+stands_limited s text script few stands = by_meanings s text stands.0 script few stands.1 stands.2
 
 pub limits_from : (s : Settings) (text : List ℕ) (r : Result Script ScriptFault) → length text < 2 ^ 32 → IfOk r (λ p. Stands s text (Ok p)) → IfOk r HasLimits
-limits_from s text (Ok script) few found = has_limits s text script few found
+limits_from s text (Ok script) few found = stands_limited s text script few found
 limits_from s text (Err fault) few found = tt

@@ -1,6 +1,6 @@
 -- The fault that is told is the first that a statement has.
 use Rattle.std.proofs.Common.{◌≡◌, ℕ, zero, suc, ◌+◌, ◌-◌, ◌^◌, ◌≤◌, ◌<◌, eqb, Bool, true, false, not, ◌&&◌, ◌||◌, if◌then◌else◌, List, [], ◌∷◌, ◌++◌, length, drop, append-nil, Option, Some, None, Result, Ok, Err, refl, subst, inl, inr, arith, slice_get, is_ok}
-use Rattle.std.specs.Prelude.{map, codes, nat_lt, is_some, option_and_then, unwrap_or}
+use Rattle.std.specs.Prelude.{map, codes, nat_le, nat_lt, is_some, option_and_then, unwrap_or}
 use Rattle.std.specs.Option.{ok_or}
 use Rattle.std.specs.List.{All, list_all, list_any, find, before_first, after_first}
 use Rattle.std.specs.Str.{bytes_eq}
@@ -23,7 +23,7 @@ use Rattle.world_events.specs.declared.event.Event.TheVariants.{Rx}
 use Rattle.mk_script.specs.declared.fault.BodyFault.{BodyFault}
 use Rattle.mk_script.specs.declared.fault.BodyFault.TheVariants as fault
 use Rattle.mk_script.specs.declared.fault.ScriptFaultKind.{ScriptFaultKind}
-use Rattle.mk_script.specs.declared.fault.ScriptFaultKind.TheVariants.{BadLine, NoCores, BadNumber, Twice, NoName, BadBody, NoMemory}
+use Rattle.mk_script.specs.declared.fault.ScriptFaultKind.TheVariants.{BadLine, NoCores, BadNumber, Twice, AfterCores, NoName, BadBody, NoMemory}
 use Rattle.mk_script.specs.declared.rows.Command.{Command}
 use Rattle.mk_script.specs.declared.rows.Command.TheVariants as command
 use Rattle.mk_script.specs.declared.rows.Request.{Request}
@@ -31,13 +31,13 @@ use Rattle.mk_script.specs.declared.rows.Request.TheVariants as request
 use Rattle.mk_script.specs.declared.script.Item.{Item}
 use Rattle.mk_script.specs.declared.script.Item.TheVariants as item
 use Rattle.mk_script.specs.Bodies.{MeansAssembled, MeansDecimal, MeansCaptured, DraftMeans, DraftedMeans, Means}
-use Rattle.mk_script.specs.Drafts.{Settings, Draft, Whole, Assembler, Decimal, Savefile, draft_of, has_cores, behind_word, optional_below, bytes_or_fault, hex_bytes, may_stand, is_cores, core_limit, is_short, numbers_below, cores_draft, asm_draft, ddd_draft, packet_draft, capture_draft, home_draft, create_op, mint_op, held, held_program, op_of, domain_of, request_draft, core_draft, take_draft, is_dotted, packet_of, packet_at, rx_draft, replayed, replay_draft, draft_by, script_draft, counted, job_at, job_draft, event_by, event_draft, trace_draft, is_left, draft_in}
-use Rattle.mk_script.specs.Meanings.{Meaning, Budgets, NamedPacket, Does, Receives, Nothing, Known, Jobs, Counted, Named}
-use Rattle.mk_script.specs.Orders.{rank, Number, Below, AnySize, is_good, number16, number32, optional, behind_dot, request_numbers, numbers, is_taken, lacks, lacks_number, lacks_packet, is_missing, Body, NoBody, Digits, Block, Decimals, File, file_body, body_of, is_hex, HasBadBody, Demands, line_alone, command_demands, event_numbers, is_job_missing, event_demands, trace_demands, demands_in, Breaks, HasFault, IsFirstFault}
+use Rattle.mk_script.specs.Drafts.{Settings, Draft, Whole, Assembler, Decimal, Savefile, draft_of, has_cores, behind_word, optional_below, bytes_or_fault, hex_bytes, may_stand, is_early, core_limit, is_short, has_limits, limits_of, limits_draft, numbers_below, cores_draft, asm_draft, ddd_draft, packet_draft, capture_draft, home_draft, create_op, mint_op, held, held_program, op_of, domain_of, request_draft, core_draft, take_draft, is_dotted, packet_of, packet_at, rx_draft, replayed, replay_draft, draft_by, script_draft, counted, job_at, job_draft, event_by, event_draft, trace_draft, is_left, draft_in}
+use Rattle.mk_script.specs.Meanings.{Meaning, Limits, Budgets, NamedPacket, Does, Receives, Nothing, Known, Jobs, Counted, Named}
+use Rattle.mk_script.specs.Orders.{rank, Number, Below, AnySize, is_good, number16, number32, optional, behind_dot, request_numbers, numbers, is_taken, is_late, lacks, lacks_number, lacks_packet, is_missing, Body, NoBody, Digits, Block, Decimals, File, file_body, body_of, is_hex, HasBadBody, Demands, line_alone, command_demands, event_numbers, is_job_missing, event_demands, trace_demands, demands_in, Breaks, HasFault, IsFirstFault}
 use Rattle.mk_script.specs.Rows.{Row, command_by, command_of, event_of, event_rows, is_shaped}
 use Rattle.mk_script.specs.Scripts.{AreFiles}
 use Rattle.mk_script.specs.Statements.{Statement}
-use Rattle.mk_script.specs.Words.{◌>>=◌, check, below, number_below}
+use Rattle.mk_script.specs.Words.{◌>>=◌, check, below, number_below, up_to}
 use Rattle.line_words.specs.Words.{word_at}
 
 -- an outcome's fault is this one; or there is none, and what is there is so
@@ -56,11 +56,11 @@ abbrev hex_fault : Body → Option ScriptFaultKind
 hex_fault (Digits word) = if is_hex word then None else Some (BadBody fault.Hex)
 hex_fault body = None
 
-abbrev behind_numbers : Bool → Bool → Body → Option ScriptFaultKind
-behind_numbers taken missing body = if taken then Some Twice else if missing then Some NoName else hex_fault body
+abbrev behind_numbers : Bool → Bool → Bool → Body → Option ScriptFaultKind
+behind_numbers taken late missing body = if taken then Some Twice else if late then Some AfterCores else if missing then Some NoName else hex_fault body
 
 abbrev first_of : Demands → Option ScriptFaultKind
-first_of d = if d.is_line then (if d.is_ready then numbered (list_all is_good d.numbers) (behind_numbers d.is_taken d.is_missing d.body) else Some NoCores) else Some BadLine
+first_of d = if d.is_line then (if d.is_ready then numbered (list_all is_good d.numbers) (behind_numbers d.is_taken d.is_late d.is_missing d.body) else Some NoCores) else Some BadLine
 
 -- a draft brings the body
 abbrev Brings : Body → Draft → Type 0
@@ -117,6 +117,14 @@ below_tells limit (Some v) more rest brings f next = elim (cases_Bool (nat_lt v 
 number_tells : {B : Type 0} (limit : ℕ) (word : List ℕ) (more : Bool) (rest : Option ScriptFaultKind) (brings : B → Type 0) (f : ℕ → Result B ScriptFaultKind)
     → ((n : ℕ) → number_of word ≡ Some n → Tells (numbered more rest) brings (f n)) → Tells (numbered (is_good (Below limit word) && more) rest) brings (number_below limit word >>= f)
 number_tells limit word more rest brings f next = below_tells limit (number_of word) more rest brings f next
+
+up_to_tells : {B : Type 0} (most : ℕ) (o : Option ℕ) (more : Bool) (rest : Option ScriptFaultKind) (brings : B → Type 0) (f : ℕ → Result B ScriptFaultKind)
+    → ((n : ℕ) → Tells (numbered more rest) brings (f n)) → Tells (numbered (is_some (up_to most o) && more) rest) brings (ok_or (up_to most o) BadNumber >>= f)
+up_to_tells most None more rest brings f next = refl
+up_to_tells most (Some v) more rest brings f next = elim (cases_Bool (nat_le 1 v && nat_le v most)) [
+  | inl within ↦ rw within (next v)
+  | inr out ↦ rw out refl
+]
 
 optional_tells : {B : Type 0} (limit : ℕ) (words : List (List ℕ)) (place : ℕ) (more : List Number) (rest : Option ScriptFaultKind) (brings : B → Type 0) (f : Option ℕ → Result B ScriptFaultKind)
     → ((n : Option ℕ) → Tells (numbered (list_all is_good more) rest) brings (f n)) → Tells (numbered (list_all is_good (optional limit words place ++ more)) rest) brings (optional_below limit words place >>= f)
@@ -219,6 +227,18 @@ replay_tells k received words =
 
 -- Definitions
 
+early_tells : (late : Bool) (m : Meaning) → Tells (if late then Some AfterCores else None) (Brings NoBody) (check (not late) AfterCores >>= λ early. Ok (Whole m))
+early_tells true m = refl
+early_tells false m = (refl, tt)
+
+limits_tells : (s : Settings) (k : Known) (words : List (List ℕ))
+    → Tells (numbered (list_all is_good (numbers s k words command.Limits)) (if has_limits k then Some Twice else if has_cores k then Some AfterCores else None)) (Brings NoBody) (limits_draft k words)
+unfolding limits_draft
+limits_tells s k words =
+    up_to_tells 65536 (number_of (word_at words 1)) _ _ (Brings NoBody) _
+    (λ caps. up_to_tells 65536 (number_of (word_at words 2)) true _ (Brings NoBody) _
+    (λ filters. new_tells (has_limits k) _ (Brings NoBody) _ (early_tells (has_cores k) (Limits (limits_of caps filters)))))
+
 cores_tells : (s : Settings) (k : Known) (words : List (List ℕ)) → Tells (numbered (list_all is_good (numbers s k words command.Cores)) (if has_cores k then Some Twice else None)) (Brings NoBody) (cores_draft k words)
 unfolding cores_draft
 cores_tells s k words =
@@ -244,7 +264,7 @@ hex_tells word = elim (cases_Bool (bytes_eq word (codes "-"))) [
 ]
 
 digits_tells : (k : Known) (words : List (List ℕ))
-    → Tells (numbered (list_all is_good (optional (2 ^ 32) words 3)) (behind_numbers (is_some (k.packets (word_at words 1))) false (Digits (word_at words 2)))) (Brings (Digits (word_at words 2))) (packet_draft k words)
+    → Tells (numbered (list_all is_good (optional (2 ^ 32) words 3)) (behind_numbers (is_some (k.packets (word_at words 1))) false false (Digits (word_at words 2)))) (Brings (Digits (word_at words 2))) (packet_draft k words)
 unfolding packet_draft
 digits_tells k words =
     let brings = Brings (Digits (word_at words 2)) in
@@ -257,14 +277,14 @@ file_tells name None = refl
 file_tells name (Some bytes) = (refl, refl)
 
 numbered_file_tells : (s : Settings) (name : List ℕ) (taken : Bool) (o : Option ℕ)
-    → Tells (numbered (is_some o && true) (behind_numbers taken (lacks_number (counted s.files) o) (file_body (option_and_then (counted s.files) o)))) (Brings (file_body (option_and_then (counted s.files) o)))
+    → Tells (numbered (is_some o && true) (behind_numbers taken false (lacks_number (counted s.files) o) (file_body (option_and_then (counted s.files) o)))) (Brings (file_body (option_and_then (counted s.files) o)))
     (ok_or o BadNumber >>= λ number. check (not taken) Twice >>= λ new. ok_or (counted s.files number) NoName >>= λ file. Ok (Savefile name file))
 numbered_file_tells s name taken None = refl
 numbered_file_tells s name true (Some n) = refl
 numbered_file_tells s name false (Some n) = file_tells name (counted s.files n)
 
 capture_tells : (s : Settings) (k : Known) (words : List (List ℕ)) (st : Statement)
-    → Tells (numbered (list_all is_good (numbers s k words command.Capture)) (behind_numbers (is_taken k words command.Capture) (is_missing s k words command.Capture) (body_of s words st command.Capture)))
+    → Tells (numbered (list_all is_good (numbers s k words command.Capture)) (behind_numbers (is_taken k words command.Capture) (is_late k command.Capture) (is_missing s k words command.Capture) (body_of s words st command.Capture)))
     (Brings (body_of s words st command.Capture)) (capture_draft s k words)
 unfolding capture_draft
 capture_tells s k words st = numbered_file_tells s (word_at words 1) (is_some (k.captures (word_at words 1))) (number_of (word_at words 2))
@@ -277,7 +297,8 @@ home_tells s k words =
 -- Commands
 
 by_tells : (s : Settings) (k : Known) (received : ℕ) (words : List (List ℕ)) (st : Statement) (c : Command)
-    → Tells (numbered (list_all is_good (numbers s k words c)) (behind_numbers (is_taken k words c) (is_missing s k words c) (body_of s words st c))) (Brings (body_of s words st c)) (draft_by s k received words st.line st.block c)
+    → Tells (numbered (list_all is_good (numbers s k words c)) (behind_numbers (is_taken k words c) (is_late k c) (is_missing s k words c) (body_of s words st c))) (Brings (body_of s words st c)) (draft_by s k received words st.line st.block c)
+by_tells s k received words st command.Limits = limits_tells s k words
 by_tells s k received words st command.Cores = cores_tells s k words
 by_tells s k received words st command.Asm = asm_tells k words st.block
 by_tells s k received words st command.Ddd = ddd_tells k words st.line
@@ -297,11 +318,11 @@ by_tells s k received words st command.Trace = (refl, tt)
 
 command_tells : (s : Settings) (k : Known) (received : ℕ) (words : List (List ℕ)) (st : Statement) (o : Option Command)
     → Tells (first_of (command_demands s k words st o)) (Brings (command_demands s k words st o).body)
-    (ok_or o BadLine >>= λ c. check (may_stand k.acted st.block c) BadLine >>= λ allowed. check (is_cores c || has_cores k) NoCores >>= λ ready. draft_by s k received words st.line st.block c)
+    (ok_or o BadLine >>= λ c. check (may_stand k words st.block c) BadLine >>= λ allowed. check (is_early c || has_cores k) NoCores >>= λ ready. draft_by s k received words st.line st.block c)
 command_tells s k received words st None = refl
 command_tells s k received words st (Some c) =
     let brings = Brings (body_of s words st c) in
-    check_tells (may_stand k.acted st.block c) BadLine _ brings _ (check_tells (is_cores c || has_cores k) NoCores _ brings _ (by_tells s k received words st c))
+    check_tells (may_stand k words st.block c) BadLine _ brings _ (check_tells (is_early c || has_cores k) NoCores _ brings _ (by_tells s k received words st c))
 
 script_tells : (s : Settings) (k : Known) (received : ℕ) (words : List (List ℕ)) (st : Statement)
     → Tells (first_of (command_demands s k words st (command_of s.threads words))) (Brings (command_demands s k words st (command_of s.threads words)).body) (script_draft s k received words st.line st.block)
@@ -529,19 +550,29 @@ after_taken d line ready good new BadNumber breaks = absurd (cc)
 after_taken d line ready good new Twice breaks = absurd (cc)
 after_taken d line ready good new other breaks = omega arith
 
+after_late : (d : Demands) → d.is_line ≡ true → d.is_ready ≡ true → list_all is_good d.numbers ≡ true → d.is_taken ≡ false → d.is_late ≡ false → (other : ScriptFaultKind) → Breaks d other → 5 ≤ rank other
+after_late d line ready good new early BadLine breaks = absurd (cc)
+after_late d line ready good new early NoCores breaks = absurd (cc)
+after_late d line ready good new early BadNumber breaks = absurd (cc)
+after_late d line ready good new early Twice breaks = absurd (cc)
+after_late d line ready good new early AfterCores breaks = absurd (cc)
+after_late d line ready good new early other breaks = omega arith
+
 -- nothing but the body is wrong
 record IsSound (d : Demands) : Type 0 where
   pub line : d.is_line ≡ true
   pub ready : d.is_ready ≡ true
   pub good : list_all is_good d.numbers ≡ true
   pub new : d.is_taken ≡ false
+  pub early : d.is_late ≡ false
   pub there : d.is_missing ≡ false
 
-after_missing : (d : Demands) → IsSound d → (other : ScriptFaultKind) → Breaks d other → 5 ≤ rank other
+after_missing : (d : Demands) → IsSound d → (other : ScriptFaultKind) → Breaks d other → 6 ≤ rank other
 after_missing d sound BadLine breaks = let is = sound.line in absurd (cc)
 after_missing d sound NoCores breaks = let is = sound.ready in absurd (cc)
 after_missing d sound BadNumber breaks = let is = sound.good in absurd (cc)
 after_missing d sound Twice breaks = let is = sound.new in absurd (cc)
+after_missing d sound AfterCores breaks = let is = sound.early in absurd (cc)
 after_missing d sound NoName breaks = let is = sound.there in absurd (cc)
 after_missing d sound other breaks = omega arith
 
@@ -550,6 +581,7 @@ none_breaks d sound whole BadLine breaks = let is = sound.line in absurd (cc)
 none_breaks d sound whole NoCores breaks = let is = sound.ready in absurd (cc)
 none_breaks d sound whole BadNumber breaks = let is = sound.good in absurd (cc)
 none_breaks d sound whole Twice breaks = let is = sound.new in absurd (cc)
+none_breaks d sound whole AfterCores breaks = let is = sound.early in absurd (cc)
 none_breaks d sound whole NoName breaks = let is = sound.there in absurd (cc)
 none_breaks d sound whole (BadBody why) breaks = whole why breaks
 none_breaks d sound whole NoMemory breaks = breaks
@@ -566,17 +598,18 @@ body_least d (Digits word) e sound = elim (cases_Bool (is_hex word)) [
 ]
 body_least d body e sound = (sound, rw e refl)
 
-names_least : (d : Demands) → d.is_line ≡ true → d.is_ready ≡ true → list_all is_good d.numbers ≡ true → (taken missing : Bool) → d.is_taken ≡ taken → d.is_missing ≡ missing → IsLeast d (behind_numbers taken missing d.body)
-names_least d line ready good true missing is is' = (is, after_numbers d line ready good)
-names_least d line ready good false true is is' = (is', after_taken d line ready good is)
-names_least d line ready good false false is is' = body_least d d.body refl (record { line = line; ready = ready; good = good; new = is; there = is' })
+names_least : (d : Demands) → d.is_line ≡ true → d.is_ready ≡ true → list_all is_good d.numbers ≡ true → (taken late missing : Bool) → d.is_taken ≡ taken → d.is_late ≡ late → d.is_missing ≡ missing → IsLeast d (behind_numbers taken late missing d.body)
+names_least d line ready good true late missing is is' is'' = (is, after_numbers d line ready good)
+names_least d line ready good false true missing is is' is'' = (is', after_taken d line ready good is)
+names_least d line ready good false false true is is' is'' = (is'', after_late d line ready good is is')
+names_least d line ready good false false false is is' is'' = body_least d d.body refl (record { line = line; ready = ready; good = good; new = is; early = is'; there = is'' })
 
-numbers_least : (d : Demands) → d.is_line ≡ true → d.is_ready ≡ true → (good : Bool) → list_all is_good d.numbers ≡ good → IsLeast d (numbered good (behind_numbers d.is_taken d.is_missing d.body))
-numbers_least d line ready true is = names_least d line ready is d.is_taken d.is_missing refl refl
+numbers_least : (d : Demands) → d.is_line ≡ true → d.is_ready ≡ true → (good : Bool) → list_all is_good d.numbers ≡ good → IsLeast d (numbered good (behind_numbers d.is_taken d.is_late d.is_missing d.body))
+numbers_least d line ready true is = names_least d line ready is d.is_taken d.is_late d.is_missing refl refl refl
 numbers_least d line ready false is = (is, after_cores d line ready)
 
 line_least : (d : Demands) (line ready : Bool) → d.is_line ≡ line → d.is_ready ≡ ready
-    → IsLeast d (if line then (if ready then numbered (list_all is_good d.numbers) (behind_numbers d.is_taken d.is_missing d.body) else Some NoCores) else Some BadLine)
+    → IsLeast d (if line then (if ready then numbered (list_all is_good d.numbers) (behind_numbers d.is_taken d.is_late d.is_missing d.body) else Some NoCores) else Some BadLine)
 line_least d true true is is' = numbers_least d is is' (list_all is_good d.numbers) refl
 line_least d true false is is' = (is', after_line d is)
 line_least d false ready is is' = (is, λ other breaks. omega arith)

@@ -19,6 +19,7 @@ use Rattle.line_words.specs.Words.{texts}
 
 pub known_same : (r : Reading) (given : List Meaning) → Knows r given → known_of r ≡ known given
 known_same r given knows = λ i. record {
+  limits = knows.same_limits i;
   budgets = knows.same_budgets i;
   programs = λ name. knows.same_programs name i;
   packets = λ name. knows.same_packets name i;

@@ -17,7 +17,7 @@ use Rattle.mk_script.specs.declared.rows.Command.TheVariants as command
 use Rattle.mk_script.specs.declared.script.Script.{Script}
 use Rattle.mk_script.specs.Bodies.{DraftedMeans, Means}
 use Rattle.mk_script.specs.declared.rows.Form.TheVariants.{Name}
-use Rattle.mk_script.specs.Drafts.{Settings, Draft, draft_of, draft_in, draft_by, script_draft, rx_draft, capture_draft, may_stand, is_cores, has_cores}
+use Rattle.mk_script.specs.Drafts.{Settings, Draft, draft_of, draft_in, draft_by, script_draft, rx_draft, capture_draft, may_stand, is_early, has_cores}
 use Rattle.mk_script.specs.Meanings.{Meaning, Known, Jobs, Counted, known, jobs_in, jobs_behind}
 use Rattle.mk_script.specs.Rows.{Row, rows, command_of, command_by, is_shaped, row}
 use Rattle.mk_script.specs.Scripts.{MeanBehind, Stands, script_of}
@@ -92,7 +92,7 @@ unended_refused s k jobs before o m opens counts means =
 module _ (files : List (List ℕ)) where
   -- A statement
 
-  rx_more : (k : Known) (received : ℕ) (words : List (List ℕ)) (d : Draft) → length k.budgets ≤ 8 → rx_draft (for_threads files) k received words ≡ Ok d → rx_draft (for_simulation files) k received words ≡ Ok d
+  rx_more : (k : Known) (received : ℕ) (words : List (List ℕ)) (d : Draft) → length k.budgets ≤ 64 → rx_draft (for_threads files) k received words ≡ Ok d → rx_draft (for_simulation files) k received words ≡ Ok d
   unfolding rx_draft
   rx_more k received words d few e =
       let core = bound (number_below (length k.budgets) (word_at words 1)) _ d e in
@@ -103,25 +103,25 @@ module _ (files : List (List ℕ)) where
   unfolding capture_draft
   capture_same k words = refl
 
-  by_more : (k : Known) (received : ℕ) (words : List (List ℕ)) (line : List ℕ) (block : Option (List ℕ)) (c : Command) (d : Draft) → length k.budgets ≤ 8
+  by_more : (k : Known) (received : ℕ) (words : List (List ℕ)) (line : List ℕ) (block : Option (List ℕ)) (c : Command) (d : Draft) → length k.budgets ≤ 64
       → draft_by (for_threads files) k received words line block c ≡ Ok d → draft_by (for_simulation files) k received words line block c ≡ Ok d
   by_more k received words line block command.Rx d few e = rx_more k received words d few e
   by_more k received words line block command.Capture d few e = sym (capture_same k words) ∙ e
   by_more k received words line block c d few e = e
 
-  script_more : (k : Known) (received : ℕ) (words : List (List ℕ)) (line : List ℕ) (block : Option (List ℕ)) (d : Draft) → length k.budgets ≤ 8
+  script_more : (k : Known) (received : ℕ) (words : List (List ℕ)) (line : List ℕ) (block : Option (List ℕ)) (d : Draft) → length k.budgets ≤ 64
       → script_draft (for_threads files) k received words line block ≡ Ok d → script_draft (for_simulation files) k received words line block ≡ Ok d
   unfolding script_draft
   script_more k received words line block d few e =
       let c = bound (ok_or (command_of true words) BadLine) _ d e in
-      let allowed = bound (check (may_stand k.acted block c.value) BadLine) _ d c.next in
-      let ready = bound (check (is_cores c.value || has_cores k) NoCores) _ d allowed.next in
+      let allowed = bound (check (may_stand k words block c.value) BadLine) _ d c.next in
+      let ready = bound (check (is_early c.value || has_cores k) NoCores) _ d allowed.next in
       let found : command_of false words ≡ Some c.value = command_more words c.value (some_ok (command_of true words) BadLine c.value c.gave) in
-      let stands : may_stand k.acted block c.value ≡ true = passed (may_stand k.acted block c.value) BadLine allowed.value allowed.gave in
-      let has : (is_cores c.value || has_cores k) ≡ true = passed (is_cores c.value || has_cores k) NoCores ready.value ready.gave in
+      let stands : may_stand k words block c.value ≡ true = passed (may_stand k words block c.value) BadLine allowed.value allowed.gave in
+      let has : (is_early c.value || has_cores k) ≡ true = passed (is_early c.value || has_cores k) NoCores ready.value ready.gave in
       rw (found, stands, has) (by_more k received words line block c.value d few ready.next)
 
-  drafted_more : (k : Known) (jobs : Jobs) (before : ℕ) (st : Statement) (d : Result Draft ScriptFaultKind) (m : Meaning) → length k.budgets ≤ 8 → jobs ≡ Counted before
+  drafted_more : (k : Known) (jobs : Jobs) (before : ℕ) (st : Statement) (d : Result Draft ScriptFaultKind) (m : Meaning) → length k.budgets ≤ 64 → jobs ≡ Counted before
       → draft_in (for_threads files) k jobs (words_of st.line) st.line st.block ≡ d → DraftedMeans d (Ok m) → DraftedMeans (draft_in (for_simulation files) k jobs (words_of st.line) st.line st.block) (Ok m)
   drafted_more k jobs before st (Err fault) m few counts e means = absurd (cc)
   drafted_more k jobs before st (Ok d) m few counts e means =

@@ -8,26 +8,27 @@ use Rattle.std.proofs.lemmas.Bool.{cases_Bool}
 use Rattle.std.proofs.lemmas.Grind.{flat_map-append}
 use Rattle.std.proofs.lemmas.List.Elements.{All-from_recursion}
 use Rattle.bpf_insn.specs.Texts.{words_of}
+use Rattle.filter_table.specs.Limits.{default_limits}
 use Rattle.pcap_reader.specs.declared.capture.CapturedPacket.{CapturedPacket}
 use Rattle.capture_reader.specs.Entries.{packets_in as found_in}
 use Rattle.world_events.specs.declared.event.Event.{Event}
 use Rattle.world_events.specs.declared.event.Event.TheVariants.{Rx}
 use Rattle.mk_script.specs.declared.fault.ScriptFault.{ScriptFault}
 use Rattle.mk_script.specs.declared.fault.ScriptFaultKind.{ScriptFaultKind}
-use Rattle.mk_script.specs.declared.fault.ScriptFaultKind.TheVariants.{BadLine, NoCores, Twice, NoName}
+use Rattle.mk_script.specs.declared.fault.ScriptFaultKind.TheVariants.{BadLine, NoCores, Twice, AfterCores, NoName}
 use Rattle.mk_script.specs.declared.rows.Command.{Command}
 use Rattle.mk_script.specs.declared.rows.Command.TheVariants as command
 use Rattle.mk_script.specs.declared.rows.Request.{Request}
 use Rattle.mk_script.specs.declared.script.Item.TheVariants as item
 use Rattle.mk_script.specs.declared.script.Script.{Script}
 use Rattle.mk_script.specs.Bodies.{MeansAssembled, MeansDecimal, MeansCaptured, DraftMeans, DraftedMeans}
-use Rattle.mk_script.specs.Drafts.{Settings, Draft, Whole, Assembler, Decimal, Savefile, draft_of, draft_in, has_cores, is_new, behind_word, optional_below, hex_bytes, may_stand, is_cores, core_limit, numbers_below, cores_draft, asm_draft, ddd_draft, packet_draft, capture_draft, home_draft, op_of, domain_of, request_draft, packet_at, floor_at, rx_draft, replayed, replay_draft, draft_by, script_draft, counted}
-use Rattle.mk_script.specs.Meanings.{Meaning, Budgets, NamedProgram, NamedPacket, NamedCapture, Home, Does, Receives, Trace, Known, Jobs, Counted, known, budgets_in, jobs_in, items_in, items_of, is_traced, jobs_behind}
+use Rattle.mk_script.specs.Drafts.{Settings, Draft, Whole, Assembler, Decimal, Savefile, draft_of, draft_in, has_cores, is_new, behind_word, optional_below, hex_bytes, may_stand, is_early, has_limits, limits_of, limits_draft, core_limit, numbers_below, cores_draft, asm_draft, ddd_draft, packet_draft, capture_draft, home_draft, op_of, domain_of, request_draft, packet_at, floor_at, rx_draft, replayed, replay_draft, draft_by, script_draft, counted}
+use Rattle.mk_script.specs.Meanings.{Meaning, Limits, Budgets, NamedProgram, NamedPacket, NamedCapture, Home, Does, Receives, Trace, Known, Jobs, Counted, known, limits_behind, budgets_in, jobs_in, items_in, items_of, is_traced, jobs_behind}
 use Rattle.mk_script.specs.Rows.{Row, rows, command_by, command_of, is_shaped}
 use Rattle.mk_script.specs.Scripts.{MeanBehind, Stands, script_of}
 use Rattle.mk_script.specs.Statements.{Statement, statements}
 use Rattle.mk_script.specs.Threads.{IsForThreads, received_in, received, AreNumbered, IsScriptForThreads}
-use Rattle.mk_script.specs.Words.{check, whole_number, number_below}
+use Rattle.mk_script.specs.Words.{check, whole_number, number_below, number_up_to}
 use Rattle.line_words.specs.Words.{word_at}
 use Rattle.mk_script.proofs.LimitLemmas.{bound, same_ok, some_ok, passed, each_append, numbers_length, no_budgets, some_budgets, below_is, EntersIn, Kept, kept_meanings}
 use Rattle.mk_script.proofs.RowLemmas.{cores_few}
@@ -48,46 +49,7 @@ abbrev IsRowThreaded : Row → Type 0
 IsRowThreaded r = r.for_threads ≡ true → IsThreaded r.command
 
 all_threaded : AllByRecursion IsRowThreaded rows
-all_threaded = (
-  λ e. tt,
-  (
-    λ e. tt,
-    (
-      λ e. tt,
-      (
-        λ e. tt,
-        (
-          λ e. tt,
-          (
-            λ e. tt,
-            (
-              λ e. tt,
-              (
-                λ e. tt,
-                (
-                  λ e. tt,
-                  (
-                    λ e. tt,
-                    (
-                      λ e. tt,
-                      (
-                        λ e. tt,
-                        (
-                          λ e. tt,
-                          (λ e. absurd (cc), (λ e. absurd (cc), (λ e. absurd (cc), (λ e. absurd (cc), (λ e. tt, (λ e. tt, (λ e. absurd (cc), (λ e. absurd (cc), (λ e. absurd (cc), tt))))))))),
-                        ),
-                      ),
-                    ),
-                  ),
-                ),
-              ),
-            ),
-          ),
-        ),
-      ),
-    ),
-  ),
-)
+all_threaded = (λ e. tt, (λ e. tt, (λ e. tt, (λ e. tt, (λ e. tt, (λ e. tt, (λ e. tt, (λ e. tt, (λ e. tt, (λ e. tt, (λ e. tt, (λ e. tt, (λ e. tt, (λ e. tt, (λ e. absurd (cc), (λ e. absurd (cc), (λ e. absurd (cc), (λ e. absurd (cc), (λ e. tt, (λ e. tt, (λ e. absurd (cc), (λ e. absurd (cc), (λ e. absurd (cc), tt)))))))))))))))))))))))
 
 found_threaded : (p : Row → Bool) (table : List Row) (r : Row) → AllByRecursion IsRowThreaded table → find p table ≡ Some r → IsRowThreaded r
 found_threaded p [] r all e = absurd (cc)
@@ -132,7 +94,7 @@ Suits cores before meaning = Unit {0}
 
 -- and budgets are the first, and few
 abbrev SuitsIn : Known → ℕ → Meaning → Type 0
-SuitsIn k before (Budgets budgets) = (length k.budgets ≡ 0) × (length budgets ≤ 8)
+SuitsIn k before (Budgets budgets) = (length k.budgets ≡ 0) × (length budgets ≤ 64)
 SuitsIn k before meaning = Suits (length k.budgets) before meaning
 
 abbrev IsDraftSuited : Known → ℕ → Draft → Type 0
@@ -167,6 +129,15 @@ replay_suited k before words d some e =
     subst (IsDraftSuited k before) (same_ok (Whole (Receives events)) d packets.next) all
 
 -- Definitions and requests
+
+limits_suited : (k : Known) (before : ℕ) (words : List (List ℕ)) (d : Draft) → limits_draft k words ≡ Ok d → IsDraftSuited k before d
+unfolding limits_draft
+limits_suited k before words d e =
+    let caps = bound (number_up_to 65536 (word_at words 1)) _ d e in
+    let filters = bound (number_up_to 65536 (word_at words 2)) _ d caps.next in
+    let first = bound (check (not (has_limits k)) Twice) _ d filters.next in
+    let early = bound (check (not (has_cores k)) AfterCores) _ d first.next in
+    subst (IsDraftSuited k before) (same_ok (Whole (Limits (limits_of caps.value filters.value))) d early.next) tt
 
 cores_suited : (s : Settings) (k : Known) (before : ℕ) (words : List (List ℕ)) (d : Draft) → command_of s.threads words ≡ Some command.Cores → cores_draft k words ≡ Ok d → IsDraftSuited k before d
 unfolding cores_draft command_of
@@ -222,7 +193,8 @@ request_suited k before words c d e =
 -- Lines
 
 by_suited : (s : Settings) (k : Known) (before : ℕ) (words : List (List ℕ)) (line : List ℕ) (block : Option (List ℕ)) (c : Command) (d : Draft) → s.threads ≡ true → IsThreaded c
-    → command_of s.threads words ≡ Some c → (is_cores c || has_cores k) ≡ true → draft_by s k before words line block c ≡ Ok d → IsDraftSuited k before d
+    → command_of s.threads words ≡ Some c → (is_early c || has_cores k) ≡ true → draft_by s k before words line block c ≡ Ok d → IsDraftSuited k before d
+by_suited s k before words line block command.Limits d threads known' is ready e = limits_suited k before words d e
 by_suited s k before words line block command.Cores d threads known' is ready e = cores_suited s k before words d is e
 by_suited s k before words line block command.Asm d threads known' is ready e = asm_suited k before words block d e
 by_suited s k before words line block command.Ddd d threads known' is ready e = ddd_suited k before words line d e
@@ -239,11 +211,11 @@ script_suited : (s : Settings) (k : Known) (before : ℕ) (words : List (List �
 unfolding script_draft
 script_suited s k before words line block d threads e =
     let c = bound (ok_or (command_of s.threads words) BadLine) _ d e in
-    let allowed = bound (check (may_stand k.acted block c.value) BadLine) _ d c.next in
-    let ready = bound (check (is_cores c.value || has_cores k) NoCores) _ d allowed.next in
+    let allowed = bound (check (may_stand k words block c.value) BadLine) _ d c.next in
+    let ready = bound (check (is_early c.value || has_cores k) NoCores) _ d allowed.next in
     let is = some_ok (command_of s.threads words) BadLine c.value c.gave in
     let threaded = command_threaded words c.value (subst (λ (t : Bool). command_of t words ≡ Some c.value) threads is) in
-    by_suited s k before words line block c.value d threads threaded is (passed (is_cores c.value || has_cores k) NoCores ready.value ready.gave) ready.next
+    by_suited s k before words line block c.value d threads threaded is (passed (is_early c.value || has_cores k) NoCores ready.value ready.gave) ready.next
 
 -- a text or a file that is read is a program or a capture
 assembled_suited : (k : Known) (before : ℕ) (name text : List ℕ) (m : Meaning) → MeansAssembled name text (Ok m) → SuitsIn k before m
@@ -306,13 +278,13 @@ untraced cores before (m ∷ given) all = untraced cores (before + length (jobs_
 
 -- what was read for threads
 pub record ReadForThreads (given : List Meaning) : Type 0 where
-  pub few : length (flat_map budgets_in given) ≤ 8
+  pub few : length (flat_map budgets_in given) ≤ 64
   pub each : AreSuited (length (flat_map budgets_in given)) 0 given
 
 pub jobs_counted : (given : List Meaning) → ReadForThreads given → jobs_behind given ≡ Counted (length (flat_map jobs_in given))
 jobs_counted given read = rw (untraced (length (flat_map budgets_in given)) 0 given read.each) refl
 
-read_few : (given : List Meaning) (before : ℕ) (m : Meaning) → length (flat_map budgets_in given) ≤ 8 → SuitsIn (known given) before m → length (flat_map budgets_in given ++ budgets_in m) ≤ 8
+read_few : (given : List Meaning) (before : ℕ) (m : Meaning) → length (flat_map budgets_in given) ≤ 64 → SuitsIn (known given) before m → length (flat_map budgets_in given ++ budgets_in m) ≤ 64
 read_few given before (Budgets budgets) few suits = omega (arith, suits.0, suits.1, length-append (flat_map budgets_in given) budgets)
 read_few given before m few suits = omega (arith, few, length-append (flat_map budgets_in given) [])
 
@@ -329,7 +301,7 @@ read_push given m read suits =
     let more : length budgets ≤ cores = omega (arith, ap length pushed, length-append budgets (budgets_in m)) in
     let from_none : before ≡ 0 + before = omega arith in
     record {
-      few = subst (λ (l : List ℕ). length l ≤ 8) (sym pushed) (read_few given before m read.few suits);
+      few = subst (λ (l : List ℕ). length l ≤ 64) (sym pushed) (read_few given before m read.few suits);
       each = suited_push cores 0 given m (suited_more (length budgets) cores 0 given more read.each)
           (subst (λ (b : ℕ). Suits cores b m) from_none (suits_more (length budgets) cores before m more (read_suits given before m suits)));
     }
@@ -406,7 +378,7 @@ script_threaded given script read kept e = elim (cases_Bool (has_cores (known gi
   | inl some ↦
       let is = rw some at e in
       let cores = length (flat_map budgets_in given) in
-      let made : Script = record { budgets = flat_map budgets_in given; items = items_of given } in
+      let made : Script = record { limits = unwrap_or (limits_behind given) default_limits; budgets = flat_map budgets_in given; items = items_of given } in
       let same : made ≡ script = sym (same_ok script made is) in
       let plain : items_of given ≡ flat_map (items_in false) given = ap (λ t. flat_map (items_in t) given) (untraced cores 0 given read.each) in
       let jobs : received (items_of given) ≡ flat_map jobs_in given = ap received plain ∙ received_items cores 0 given read.each in

@@ -4,7 +4,7 @@ use Rattle.std.specs.declared.vec.Vec.{Vec}
 use Rattle.std.specs.declared.alloc.Global.{Global}
 use Rattle.world_events.specs.declared.event.Event.{Event}
 use Rattle.mk_script.specs.declared.meaning.Meaning.{Meaning}
-use Rattle.mk_script.specs.declared.meaning.Meaning.TheVariants.{Budgets, NamedProgram, NamedPacket, NamedCapture, Home, Does, Receives, Replays, Trace, Nothing}
+use Rattle.mk_script.specs.declared.meaning.Meaning.TheVariants.{Limits, Budgets, NamedProgram, NamedPacket, NamedCapture, Home, Does, Receives, Replays, Trace, Nothing}
 use Rattle.mk_script.specs.declared.meaning.Replay.{Replay}
 use Rattle.mk_script.specs.declared.meaning.Draft.{Draft}
 use Rattle.mk_script.specs.declared.meaning.Draft.TheVariants.{Whole, Assembler, Decimal, Savefile}
@@ -22,6 +22,7 @@ abbrev pub events_of : Replay → List Event
 events_of replay = drafts.replayed replay.cores replay.received replay.floor 0 replay.packets
 
 abbrev pub meaning_of : Meaning → meanings.Meaning
+meaning_of (Limits limits) = meanings.Limits limits
 meaning_of (Budgets budgets) = meanings.Budgets budgets.items
 meaning_of (NamedProgram name program) = meanings.NamedProgram name.now program
 meaning_of (NamedPacket name packet) = meanings.NamedPacket name.now packet
@@ -49,6 +50,7 @@ jobs_of received (Some jobs) = meanings.Named jobs.items
 -- what is known of a script that was read so far
 abbrev pub known_of : Reading → meanings.Known
 known_of r = record {
+  limits = r.limits;
   budgets = r.budgets.items;
   programs = value_of r.programs;
   packets = value_of r.packets;

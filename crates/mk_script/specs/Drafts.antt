@@ -1,6 +1,6 @@
 -- What a statement asks for by its words and by what is known, or its first fault: BadLine, NoCores, BadNumber, Twice,
--- NoName, BadBody, in this order. The bodies of programs and captures are left to be read.
-use Rattle.std.specs.Prelude.{ℕ, ◌+◌, ◌-◌, ◌%◌, ◌^◌, ◌==◌, ◌&&◌, ◌||◌, not, nat_lt, if◌then◌else◌, Bool, true, false, List, [], ◌∷◌, length, drop, codes, Option, Some, None, is_some, option_and_then, unwrap_or, slice_get, Result, Ok, Err}
+-- AfterCores, NoName, BadBody, in this order. The bodies of programs and captures are left to be read.
+use Rattle.std.specs.Prelude.{ℕ, ◌+◌, ◌-◌, ◌%◌, ◌^◌, ◌==◌, ◌&&◌, ◌||◌, not, nat_le, nat_lt, if◌then◌else◌, Bool, true, false, List, [], ◌∷◌, length, drop, codes, Option, Some, None, is_some, option_and_then, unwrap_or, slice_get, Result, Ok, Err}
 use Rattle.std.specs.Option.{ok_or}
 use Rattle.std.specs.List.{position_or_len, before_first, after_first, list_any}
 use Rattle.std.specs.Str.{bytes_eq}
@@ -11,6 +11,7 @@ use Rattle.bpf_insn.specs.declared.insn.Insn.{Insn}
 use Rattle.endpoint_caps.specs.declared.Rights.{Rights}
 use Rattle.endpoint_caps.specs.declared.Rights.TheVariants.{R, M, Rm}
 use Rattle.pcap_reader.specs.declared.capture.CapturedPacket.{CapturedPacket}
+use Rattle.filter_table.specs.Limits.{TableLimits}
 use Rattle.filter_table.specs.declared.operation.Op.{Op}
 use Rattle.filter_table.specs.declared.operation.Op.TheVariants.{Create, Mint, Revoke, DropCap, Install, Remove, Replace}
 use Rattle.world_events.specs.declared.event.Event.{Event}
@@ -23,12 +24,12 @@ use Rattle.mk_script.specs.declared.rows.Request.{Request}
 use Rattle.mk_script.specs.declared.rows.Request.TheVariants as request
 use Rattle.mk_script.specs.declared.fault.BodyFault.TheVariants.{Hex}
 use Rattle.mk_script.specs.declared.fault.ScriptFaultKind.{ScriptFaultKind}
-use Rattle.mk_script.specs.declared.fault.ScriptFaultKind.TheVariants.{BadLine, NoCores, Twice, NoName, BadBody}
-use Rattle.mk_script.specs.Words.{◌>>=◌, check, whole_number, number_below}
+use Rattle.mk_script.specs.declared.fault.ScriptFaultKind.TheVariants.{BadLine, NoCores, Twice, AfterCores, NoName, BadBody}
+use Rattle.mk_script.specs.Words.{◌>>=◌, check, whole_number, number_below, number_up_to}
 use Rattle.line_words.specs.Words.{word_at}
 use Rattle.mk_script.specs.Rows.{command_of, event_of, before_dot}
 use Rattle.mk_script.specs.Statements.{Statement}
-use Rattle.mk_script.specs.Meanings.{Meaning, Budgets, NamedPacket, Home, Does, Receives, Trace, Nothing, Known, Jobs, Counted, Named}
+use Rattle.mk_script.specs.Meanings.{Meaning, Limits, Budgets, NamedPacket, Home, Does, Receives, Trace, Nothing, Known, Jobs, Counted, Named}
 
 -- how a script is read: the bytes of the files, and whether it is for threads
 pub record Settings : Type 0 where
@@ -53,9 +54,24 @@ numbers_below limit (word ∷ words) = do
 abbrev pub has_cores : Known → Bool
 has_cores k = not (length k.budgets == 0)
 
+abbrev pub has_limits : Known → Bool
+has_limits k = is_some k.limits
+
 -- a name isn't taken
 abbrev pub is_new : {X : Type 0} → Option X → Result (Unit {0}) ScriptFaultKind
 is_new found = check (not (is_some found)) Twice
+
+-- the limits of a machine with so many capabilities and filters: one domain may have all of them
+abbrev pub limits_of : ℕ → ℕ → TableLimits
+limits_of caps filters = record { caps = record { total = caps; share = caps }; filters = filters; domain_filters = filters; domain_insns = 4294967295 }
+
+unfoldable pub limits_draft : Known → List (List ℕ) → Result Draft ScriptFaultKind
+limits_draft k words = do
+  caps ← number_up_to 65536 (word_at words 1)
+  filters ← number_up_to 65536 (word_at words 2)
+  first ← check (not (has_limits k)) Twice
+  early ← check (not (has_cores k)) AfterCores
+  Ok (Whole (Limits (limits_of caps filters)))
 
 unfoldable pub cores_draft : Known → List (List ℕ) → Result Draft ScriptFaultKind
 cores_draft k words = do
@@ -225,6 +241,7 @@ replay_draft k received words = do
   Ok (Whole (Receives (replayed (length k.budgets) received floor 0 packets)))
 
 abbrev pub draft_by : Settings → Known → ℕ → List (List ℕ) → List ℕ → Option (List ℕ) → Command → Result Draft ScriptFaultKind
+draft_by s k received words line block command.Limits = limits_draft k words
 draft_by s k received words line block command.Cores = cores_draft k words
 draft_by s k received words line block command.Asm = asm_draft k words block
 draft_by s k received words line block command.Ddd = ddd_draft k words line
@@ -242,21 +259,29 @@ draft_by s k received words line block command.Settle = Ok (Whole (Does item.Set
 draft_by s k received words line block command.Show = core_draft item.Show words
 draft_by s k received words line block command.Trace = Ok (Whole Trace)
 
--- an `asm` block has an end, and nothing stood before `trace` that only a simulation does
-abbrev pub may_stand : Bool → Option (List ℕ) → Command → Bool
-may_stand acted block command.Asm = is_some block
-may_stand acted block command.Trace = not acted
-may_stand acted block _ = true
+-- how many cores there may be: more where a line gives the limits of the machine
+abbrev pub most_cores : Known → ℕ
+most_cores k = if has_limits k then 64 else 8
 
-abbrev pub is_cores : Command → Bool
-is_cores command.Cores = true
-is_cores _ = false
+-- `cores` has no more budgets than there may be cores, an `asm` block has an end, and nothing stood before `trace` that only a
+-- simulation does
+abbrev pub may_stand : Known → List (List ℕ) → Option (List ℕ) → Command → Bool
+may_stand k words block command.Cores = nat_le (length words) (most_cores k + 1)
+may_stand k words block command.Asm = is_some block
+may_stand k words block command.Trace = not k.acted
+may_stand k words block _ = true
+
+-- these stand before `cores`, or are it
+abbrev pub is_early : Command → Bool
+is_early command.Limits = true
+is_early command.Cores = true
+is_early _ = false
 
 unfoldable pub script_draft : Settings → Known → ℕ → List (List ℕ) → List ℕ → Option (List ℕ) → Result Draft ScriptFaultKind
 script_draft s k received words line block = do
   command ← ok_or (command_of s.threads words) BadLine
-  allowed ← check (may_stand k.acted block command) BadLine
-  ready ← check (is_cores command || has_cores k) NoCores
+  allowed ← check (may_stand k words block command) BadLine
+  ready ← check (is_early command || has_cores k) NoCores
   draft_by s k received words line block command
 
 -- a number of any length

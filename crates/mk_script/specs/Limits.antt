@@ -1,4 +1,4 @@
--- What a script is limited to, whatever its text says: the machine takes 1 to 8 cores, a request enters at one of them, a
+-- What a script is limited to, whatever its text says: the machine takes 1 to 64 cores, a request enters at one of them, a
 -- message carries a program of 4,096 instructions at most, and a packet's captured length is a number of 32 bits.
 use Rattle.std.specs.Prelude.{ℕ, ◌≤◌, ◌<◌, ◌^◌, length}
 use Rattle.std.specs.List.{All}
@@ -32,6 +32,6 @@ EntersBelow cores item = Unit {0}
 
 pub record HasLimits (script : Script) : Type 0 where
   pub some : 1 ≤ length script.budgets
-  pub few : length script.budgets ≤ 8
+  pub few : length script.budgets ≤ 64
   pub items : All IsLimited script.items
   pub homes : All (EntersBelow (length script.budgets)) script.items

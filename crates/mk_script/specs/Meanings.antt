@@ -1,9 +1,10 @@
 -- What the lines of a script mean, each by those before it.
-use Rattle.std.specs.Prelude.{ℕ, ◌==◌, not, if◌then◌else◌, Bool, true, false, List, [], ◌∷◌, length, map, Option}
+use Rattle.std.specs.Prelude.{ℕ, ◌==◌, not, if◌then◌else◌, Bool, true, false, List, [], ◌∷◌, length, map, Option, slice_get}
 use Rattle.std.specs.List.{flat_map, list_any}
 use Rattle.std.specs.Map.{lookup}
 use Rattle.std.specs.Str.{bytes_eq}
 use Rattle.bpf_insn.specs.declared.insn.Insn.{Insn}
+use Rattle.filter_table.specs.Limits.{TableLimits}
 use Rattle.pcap_reader.specs.declared.capture.CapturedPacket.{CapturedPacket}
 use Rattle.world_events.specs.declared.event.Event.{Event}
 use Rattle.mk_script.specs.declared.script.Item.{Item}
@@ -11,6 +12,8 @@ use Rattle.mk_script.specs.declared.script.Item.TheVariants.{Ask, Apply}
 
 -- what a line means
 pub data Meaning : Type 0 where
+  -- the limits of the machine
+  Limits : TableLimits → Meaning
   -- the budgets of the cores
   Budgets : List ℕ → Meaning
   -- a name of a program, of a packet or of a capture
@@ -26,6 +29,10 @@ pub data Meaning : Type 0 where
   Trace : Meaning
   -- a line of a trace that tells of no event
   Nothing : Meaning
+
+abbrev pub limits_in : Meaning → List TableLimits
+limits_in (Limits limits) = limits ∷ []
+limits_in _ = []
 
 abbrev pub budgets_in : Meaning → List ℕ
 budgets_in (Budgets budgets) = budgets
@@ -77,6 +84,8 @@ pub data Jobs : Type 0 where
 
 -- what is known after some lines
 pub record Known : Type 0 where
+  -- where a line gives them
+  pub limits : Option TableLimits
   pub budgets : List ℕ
   pub programs : List ℕ → Option (List Insn)
   pub packets : List ℕ → Option CapturedPacket
@@ -93,8 +102,12 @@ is_traced given = list_any is_trace given
 abbrev pub jobs_behind : List Meaning → Jobs
 jobs_behind given = if is_traced given then Named (flat_map jobs_in given) else Counted (length (flat_map jobs_in given))
 
+abbrev pub limits_behind : List Meaning → Option TableLimits
+limits_behind given = slice_get (flat_map limits_in given) 0
+
 abbrev pub known : List Meaning → Known
 known given = record {
+  limits = limits_behind given;
   budgets = flat_map budgets_in given;
   programs = named (flat_map programs_in given);
   packets = named (flat_map packets_in given);

@@ -15,17 +15,17 @@ use Rattle.world_events.specs.declared.event.Event.{Event}
 use Rattle.mk_script.specs.declared.fault.BodyFault.{BodyFault}
 use Rattle.mk_script.specs.declared.fault.BodyFault.TheVariants as fault
 use Rattle.mk_script.specs.declared.fault.ScriptFaultKind.{ScriptFaultKind}
-use Rattle.mk_script.specs.declared.fault.ScriptFaultKind.TheVariants.{BadLine, NoCores, BadNumber, Twice, NoName, BadBody, NoMemory}
+use Rattle.mk_script.specs.declared.fault.ScriptFaultKind.TheVariants.{BadLine, NoCores, BadNumber, Twice, AfterCores, NoName, BadBody, NoMemory}
 use Rattle.mk_script.specs.declared.rows.Command.{Command}
 use Rattle.mk_script.specs.declared.rows.Command.TheVariants as command
 use Rattle.mk_script.specs.declared.rows.Request.{Request}
 use Rattle.mk_script.specs.declared.rows.Request.TheVariants as request
-use Rattle.mk_script.specs.Words.{below}
+use Rattle.mk_script.specs.Words.{below, up_to}
 use Rattle.line_words.specs.Words.{word_at}
 use Rattle.mk_script.specs.Rows.{command_of, event_of}
 use Rattle.mk_script.specs.Statements.{Statement}
 use Rattle.mk_script.specs.Meanings.{Meaning, Known, Jobs, Counted, Named}
-use Rattle.mk_script.specs.Drafts.{Settings, has_cores, is_cores, may_stand, core_limit, is_dotted, packet_of, counted, job_at, is_left, behind_word}
+use Rattle.mk_script.specs.Drafts.{Settings, has_cores, has_limits, is_early, may_stand, core_limit, is_dotted, packet_of, counted, job_at, is_left, behind_word}
 
 -- the order in which faults are told
 abbrev pub rank : ScriptFaultKind → ℕ
@@ -33,17 +33,20 @@ rank BadLine = 0
 rank NoCores = 1
 rank BadNumber = 2
 rank Twice = 3
-rank NoName = 4
-rank (BadBody fault) = 5
-rank NoMemory = 6
+rank AfterCores = 4
+rank NoName = 5
+rank (BadBody fault) = 6
+rank NoMemory = 7
 
--- a word that is to be a number below a limit, or one of any size
+-- a word that is to be a number below a limit, one from 1 to the most, or one of any size
 pub data Number : Type 0 where
   Below : ℕ → List ℕ → Number
+  UpTo : ℕ → List ℕ → Number
   AnySize : List ℕ → Number
 
 abbrev pub is_good : Number → Bool
 is_good (Below limit word) = is_some (below limit (number_of word))
+is_good (UpTo most word) = is_some (up_to most (number_of word))
 is_good (AnySize word) = is_some (number_of word)
 
 abbrev pub number16 : List (List ℕ) → ℕ → Number
@@ -71,6 +74,7 @@ request_numbers words _ = number16 words 1 ∷ number32 words 2 ∷ []
 
 -- the words of a command that are to be numbers
 abbrev pub numbers : Settings → Known → List (List ℕ) → Command → List Number
+numbers s k words command.Limits = UpTo 65536 (word_at words 1) ∷ UpTo 65536 (word_at words 2) ∷ []
 numbers s k words command.Cores = map (λ word. Below (2 ^ 32) word) (drop 1 words)
 numbers s k words command.Packet = optional (2 ^ 32) words 3
 numbers s k words command.Capture = AnySize (word_at words 2) ∷ []
@@ -86,12 +90,18 @@ numbers s k words _ = []
 
 -- whether what a command makes is there already
 abbrev pub is_taken : Known → List (List ℕ) → Command → Bool
+is_taken k words command.Limits = has_limits k
 is_taken k words command.Cores = has_cores k
 is_taken k words command.Asm = is_some (k.programs (word_at words 1))
 is_taken k words command.Ddd = is_some (k.programs (word_at words 1))
 is_taken k words command.Packet = is_some (k.packets (word_at words 1))
 is_taken k words command.Capture = is_some (k.captures (word_at words 1))
 is_taken k words _ = false
+
+-- whether `cores` stands before a command that it is to follow
+abbrev pub is_late : Known → Command → Bool
+is_late k command.Limits = has_cores k
+is_late k _ = false
 
 -- whether there is nothing of this name
 abbrev pub lacks : {X : Type 0} → Option X → Bool
@@ -149,24 +159,27 @@ HasBadBody body why = ⊥
 pub record Demands : Type 0 where
   -- its words are a command or an event, which may stand here
   pub is_line : Bool
-  -- it is `cores`, or stands after that
+  -- it is `limits` or `cores`, or stands after `cores`
   pub is_ready : Bool
   pub numbers : List Number
   pub is_taken : Bool
+  -- it stands after `cores`, and has to stand before
+  pub is_late : Bool
   pub is_missing : Bool
   pub body : Body
 
 -- a line of which nothing is asked but to be one
 abbrev pub line_alone : Bool → Demands
-line_alone is_line = record { is_line = is_line; is_ready = true; numbers = []; is_taken = false; is_missing = false; body = NoBody }
+line_alone is_line = record { is_line = is_line; is_ready = true; numbers = []; is_taken = false; is_late = false; is_missing = false; body = NoBody }
 
 abbrev pub command_demands : Settings → Known → List (List ℕ) → Statement → Option Command → Demands
 command_demands s k words st None = line_alone false
 command_demands s k words st (Some c) = record {
-  is_line = may_stand k.acted st.block c;
-  is_ready = is_cores c || has_cores k;
+  is_line = may_stand k words st.block c;
+  is_ready = is_early c || has_cores k;
   numbers = numbers s k words c;
   is_taken = is_taken k words c;
+  is_late = is_late k c;
   is_missing = is_missing s k words c;
   body = body_of s words st c;
 }
@@ -190,7 +203,7 @@ is_job_missing jobs words _ = false
 
 abbrev pub event_demands : List Event → List (List ℕ) → Option Command → Demands
 event_demands jobs words None = line_alone false
-event_demands jobs words (Some c) = record { is_line = true; is_ready = true; numbers = event_numbers words c; is_taken = false; is_missing = is_job_missing jobs words c; body = NoBody }
+event_demands jobs words (Some c) = record { is_line = true; is_ready = true; numbers = event_numbers words c; is_taken = false; is_late = false; is_missing = is_job_missing jobs words c; body = NoBody }
 
 -- a line of a trace: an event by the words before its colon, or `left C N`
 abbrev pub trace_demands : List Event → List ℕ → Demands
@@ -209,6 +222,7 @@ Breaks d BadLine = d.is_line ≡ false
 Breaks d NoCores = d.is_ready ≡ false
 Breaks d BadNumber = list_all is_good d.numbers ≡ false
 Breaks d Twice = d.is_taken ≡ true
+Breaks d AfterCores = d.is_late ≡ true
 Breaks d NoName = d.is_missing ≡ true
 Breaks d (BadBody why) = HasBadBody d.body why
 Breaks d NoMemory = ⊥

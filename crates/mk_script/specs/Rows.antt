@@ -1,5 +1,5 @@
 -- The commands of a script, and those whose words a trace of a run repeats: data, and what makes words fit them.
-use Rattle.std.specs.Prelude.{ℕ, ◌==◌, ◌&&◌, ◌||◌, not, nat_le, if◌then◌else◌, Bool, true, false, List, [], ◌∷◌, length, codes, Option, Some, None, option_and_then}
+use Rattle.std.specs.Prelude.{ℕ, ◌==◌, ◌&&◌, ◌||◌, not, nat_le, if◌then◌else◌, Bool, true, false, List, [], ◌∷◌, length, codes, Option, Some, None, option_and_then, replicate}
 use Rattle.std.specs.List.{find, before_first}
 use Rattle.std.specs.Str.{bytes_eq}
 use Rattle.mk_script.specs.Words.{is_name}
@@ -52,7 +52,8 @@ rest_of_line word command least forms = record { word = word; command = command;
 
 abbrev pub rows : List Row
 rows =
-    row (codes "cores") command.Cores 1 (Any ∷ Any ∷ Any ∷ Any ∷ Any ∷ Any ∷ Any ∷ Any ∷ [])
+    row (codes "limits") command.Limits 2 (Any ∷ Any ∷ [])
+    ∷ row (codes "cores") command.Cores 1 (replicate 64 Any)
     ∷ row (codes "asm") command.Asm 1 (Name ∷ [])
     ∷ rest_of_line (codes "ddd") command.Ddd 2 (Name ∷ [])
     ∷ row (codes "packet") command.Packet 2 (Name ∷ Any ∷ Any ∷ [])

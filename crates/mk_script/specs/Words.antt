@@ -1,5 +1,5 @@
 -- The words of a script's lines: names and numbers.
-use Rattle.std.specs.Prelude.{ℕ, ◌==◌, ◌&&◌, ◌||◌, nat_lt, if◌then◌else◌, Bool, false, List, [], ◌∷◌, length, Option, Some, None, option_and_then, Result, Ok, Err}
+use Rattle.std.specs.Prelude.{ℕ, ◌==◌, ◌&&◌, ◌||◌, nat_le, nat_lt, if◌then◌else◌, Bool, false, List, [], ◌∷◌, length, Option, Some, None, option_and_then, Result, Ok, Err}
 use Rattle.std.specs.Option.{ok_or}
 use Rattle.std.specs.List.{list_all}
 use Rattle.std.specs.Char.{is_ascii_alphabetic, is_ascii_alphanumeric}
@@ -36,3 +36,10 @@ below limit n = option_and_then (λ v. if nat_lt v limit then Some v else None) 
 
 abbrev pub number_below : ℕ → List ℕ → Result ℕ ScriptFaultKind
 number_below limit word = ok_or (below limit (number_of word)) BadNumber
+
+-- a number from 1 to the most
+abbrev pub up_to : ℕ → Option ℕ → Option ℕ
+up_to most n = option_and_then (λ v. if nat_le 1 v && nat_le v most then Some v else None) n
+
+abbrev pub number_up_to : ℕ → List ℕ → Result ℕ ScriptFaultKind
+number_up_to most word = ok_or (up_to most (number_of word)) BadNumber

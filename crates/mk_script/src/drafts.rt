@@ -17,17 +17,43 @@ ghost use Rattle.mk_script.specs.declared.fault.ScriptFaultKind.TheVariants.{NoM
 use crate::commands::{check, domain_of, op_of};
 use crate::fault::{BodyFault, ScriptFaultKind};
 use crate::meaning::{Draft, Meaning, Replay};
-use crate::number::{number, number16, number16_below, number32, number64};
+use crate::number::{most_listed, number, number16, number16_below, number32, number64};
 use crate::reading::Reading;
 use crate::rows::{Command, Request, command_of};
 use crate::script::Item;
 use crate::settings::Settings;
 use crate::words::behind_word;
+use endpoint_caps::CapLimits;
+use filter_table::Limits;
 use line_words::{cut, word_at};
 use pcap_reader::SharedPacket;
 use seq::Shared;
 use std::alloc::Global;
 use world_events::Event;
+
+/// The limits of a machine with so many capabilities and filters: one domain may have all of them.
+fn limits_of(caps: u32, filters: u32) -> Limits
+    requires some_caps { 1 ≤ caps }
+    requires few_caps { caps ≤ 65536 }
+    requires some_filters { 1 ≤ filters }
+    requires few_filters { filters ≤ 65536 }
+    ensures { result ≡ spec.limits_of caps filters }
+{
+    let caps = CapLimits::new(caps, caps).unwrap();
+    Limits::new(caps, filters, filters, u32::MAX).unwrap()
+}
+
+#[tactic(auto, unfolding(crate::specs::Drafts::limits_draft))]
+fn limits<'a>(reading: &Reading<'a>, words: &[&'a [u8]]) -> Result<Draft<'a>, ScriptFaultKind>
+    ensures drafts { Answered draft_of result (spec.limits_draft (known_of reading.now) (texts words.now)) }
+    ensures follows { IfOk result (λ d. DraftFollows reading.now d) }
+{
+    let caps = most_listed(word_at(words, 1))?;
+    let filters = most_listed(word_at(words, 2))?;
+    check(reading.limits.is_none(), ScriptFaultKind::Twice)?;
+    check(reading.budgets.is_empty(), ScriptFaultKind::AfterCores)?;
+    Ok(Draft::Whole(Meaning::Limits(limits_of(caps, filters))))
+}
 
 /// The numbers of words, as budgets are written.
 fn budgets(alloc: Global, words: &[&[u8]]) -> Result<Vec<u32>, ScriptFaultKind>
@@ -48,7 +74,7 @@ fn cores<'a>(
     words: &[&'a [u8]],
 ) -> Result<Draft<'a>, ScriptFaultKind>
     requires some { 1 ≤ length words.now }
-    requires few { length words.now ≤ 9 }
+    requires few { length words.now ≤ 65 }
     ensures drafts { Answered draft_of result (spec.cores_draft (known_of reading.now) (texts words.now)) }
     ensures follows { IfOk result (λ d. DraftFollows reading.now d) }
 {
@@ -350,15 +376,16 @@ fn draft_by<'a>(
 ) -> Result<Draft<'a>, ScriptFaultKind>
     requires some { 1 ≤ length words.now }
     requires short { length (list_spec.word_at (texts words.now) 2) < 2 ^ 32 }
-    requires ready { spec.is_cores command ≡ false → 0 < vec_len reading.now.budgets }
-    requires few { spec.is_cores command ≡ true → length words.now ≤ 9 }
+    requires ready { spec.is_early command ≡ false → 0 < vec_len reading.now.budgets }
+    requires few { command ≡ Command.Cores → length words.now ≤ 65 }
     requires block_short { IfSome block (λ text. length text.now < 2 ^ 32) }
-    requires stands { spec.may_stand reading.now.acted (option_copied block) command ≡ true }
+    requires stands { spec.may_stand (known_of reading.now) (texts words.now) (option_copied block) command ≡ true }
     requires untraced { reading.now.jobs ≡ None }
     ensures drafts { Answered draft_of result (spec.draft_by (settings_of settings.entry) (known_of reading.now) reading.now.received (texts words.now) line.now (option_copied block.entry) command) }
     ensures follows { IfOk result (λ d. DraftFollows reading.now d) }
 {
     match command {
+        Command::Limits => limits(reading, words),
         Command::Cores => cores(alloc, reading, words),
         Command::Asm => asm(reading, words, block),
         Command::Ddd => ddd(reading, words, line),
@@ -378,20 +405,30 @@ fn draft_by<'a>(
     }
 }
 
-fn may_stand(acted: bool, block: Option<&[u8]>, command: Command) -> bool
-    ensures { result ≡ spec.may_stand acted (option_copied block.entry) command }
+/// How many cores there may be.
+fn most_cores(reading: &Reading<'_>) -> usize
+    ensures is { result ≡ spec.most_cores (known_of reading.now) }
+    ensures most { result ≤ 64 }
+{
+    if reading.limits.is_some() { 64 } else { 8 }
+}
+
+fn may_stand(reading: &Reading<'_>, words: &[&[u8]], block: Option<&[u8]>, command: Command) -> bool
+    ensures { result ≡ spec.may_stand (known_of reading.now) (texts words.now) (option_copied block.entry) command }
 {
     match command {
+        Command::Cores => words.len() <= most_cores(reading) + 1,
         Command::Asm => block.is_some(),
-        Command::Trace => !acted,
+        Command::Trace => !reading.acted,
         _ => true,
     }
 }
 
-fn is_cores(command: Command) -> bool
-    ensures { result ≡ spec.is_cores command }
+/// Whether the command stands before `cores`, or is it.
+fn is_early(command: Command) -> bool
+    ensures { result ≡ spec.is_early command }
 {
-    matches!(command, Command::Cores)
+    matches!(command, Command::Limits | Command::Cores)
 }
 
 /// What a line of a script asks for, by its words and by what is known; not after `trace`.
@@ -413,11 +450,11 @@ pub(crate) fn script_line<'a>(
 {
     let command = command_of(settings.threads, words).ok_or(ScriptFaultKind::BadLine)?;
     check(
-        may_stand(reading.acted, block, command),
+        may_stand(reading, words, block, command),
         ScriptFaultKind::BadLine,
     )?;
     check(
-        is_cores(command) || !reading.budgets.is_empty(),
+        is_early(command) || !reading.budgets.is_empty(),
         ScriptFaultKind::NoCores,
     )?;
     draft_by(alloc, settings, reading, words, line, block, command)

@@ -39,9 +39,12 @@ pub enum ScriptFaultKind {
     /// A word is no number in its range.
     #[error("a number is not in its range, or no number")]
     BadNumber,
-    /// `cores` stands a second time, or a name is taken.
-    #[error("`cores` stands a second time, or a name is taken")]
+    /// `cores` or `limits` stands a second time, or a name is taken.
+    #[error("`cores` or `limits` stands a second time, or a name is taken")]
     Twice,
+    /// `limits` stands after `cores`.
+    #[error("the line stands after `cores`")]
+    AfterCores,
     /// There is no such name, packet, file or job.
     #[error("there is no such name, packet, file or job")]
     NoName,

@@ -13,9 +13,10 @@ ghost use Rattle.std.specs.Prelude.{List, Ok, Result, ℕ};
 
 /// Which fault of a statement is reported, whatever lines stand before it. Each looked at by itself, whatever else is wrong,
 /// it has BadLine where its words are no command that may stand there; NoCores where `cores` is still to come; BadNumber where
-/// a word that is to be a number isn't one, or not one below its limit; Twice where what it makes is there already; NoName
-/// where something that it uses isn't there; and BadBody where the body that it brings can't be read. Of those that it has the
-/// first in this order is reported, and it has a meaning only where it has none.
+/// a word that is to be a number isn't one, or not one in its range; Twice where what it makes is there already; AfterCores
+/// where it has to stand before `cores` and doesn't; NoName where something that it uses isn't there; and BadBody where the body
+/// that it brings can't be read. Of those that it has the first in this order is reported, and it has a meaning only where it
+/// has none.
 pub fn faults_are_told_in_order()
     // A statement has a meaning or is told a fault ..
     ensures some { (s : Settings) (k : Known) (st : Statement) → (outcome : Result Meaning ScriptFaultKind) × Means s k st outcome }

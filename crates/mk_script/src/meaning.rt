@@ -3,7 +3,7 @@
 ghost use Rattle.std.specs.Prelude.{◌<◌, ◌≤◌, ◌^◌};
 
 use crate::script::Item;
-use filter_table::Program;
+use filter_table::{Limits, Program};
 use pcap_reader::SharedPacket;
 use seq::Shared;
 use world_events::Event;
@@ -11,6 +11,8 @@ use world_events::Event;
 /// What a line means.
 #[derive(Drop)]
 pub(crate) enum Meaning<'a> {
+    /// The limits of the machine.
+    Limits(Limits),
     /// The budgets of the cores.
     Budgets(Vec<u32>),
     NamedProgram(&'a [u8], Program),
@@ -37,7 +39,7 @@ pub(crate) struct Replay {
     pub received: u64,
     pub floor: u64,
     ghost some: { 0 < cores },
-    ghost few: { cores ≤ 8 },
+    ghost few: { cores ≤ 64 },
     ghost room: { received < 2 ^ 63 },
 }
 

@@ -1,10 +1,11 @@
 //! Numbers in decimal digits.
 
-ghost use Rattle.std.specs.Prelude.{◌≡◌, ℕ, ◌^◌, ◌≤◌, min, Some, None, MatchOption};
+ghost use Rattle.std.specs.Prelude.{◌≡◌, ℕ, ◌^◌, ◌≤◌, min, Some, None, MatchOption, IfOk};
 ghost use Rattle.bpf_insn.specs.Texts.{number_of};
 ghost use Rattle.mk_script.specs.Words as spec;
 
 use crate::fault::ScriptFaultKind;
+use endpoint_caps::MOST_LISTED;
 
 /// More than any number of a script's fields: what greater numbers are read as.
 pub(crate) const HUGE: u128 = 18_446_744_073_709_551_616;
@@ -68,4 +69,16 @@ pub(crate) fn number64(word: &[u8]) -> Result<u64, ScriptFaultKind>
 {
     let n = number_below(HUGE, word)?;
     Ok(n as u64)
+}
+
+/// How many capabilities or filters there may be at most, from 1.
+pub(crate) fn most_listed(word: &[u8]) -> Result<u32, ScriptFaultKind>
+    ensures is { result ≡ spec.number_up_to 65536 word.now }
+    ensures some { IfOk result (λ n. 1 ≤ n) }
+    ensures few { IfOk result (λ n. n ≤ 65536) }
+{
+    match number(word) {
+        Some(n) if 1 <= n && n <= u128::from(MOST_LISTED) => Ok(n as u32),
+        _ => Err(ScriptFaultKind::BadNumber),
+    }
 }

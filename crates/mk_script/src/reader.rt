@@ -30,6 +30,7 @@ use crate::script::{BudgetList, ItemList, Script};
 use crate::settings::Settings;
 use crate::state::{add, nothing_read};
 use crate::trace::trace_line;
+use filter_table::Limits;
 use seq::Shared;
 use std::alloc::Global;
 
@@ -149,6 +150,7 @@ fn script(alloc: Global, settings: Settings<'_>, text: &[u8]) -> Result<Script, 
         });
     }
     Ok(Script {
+        limits: reading.limits.unwrap_or(Limits::DEFAULT),
         budgets: BudgetList::from_vec(reading.budgets),
         items: ItemList::from_vec(reading.items),
     })
@@ -172,12 +174,14 @@ fn are_files(files: &[Shared<u8>])
 /// number, from 1. Where `threads` is true the script is for cores that run by themselves: it doesn't say in which order
 /// they do things, and core numbers are those of its cores.
 ///
-/// Lines are taken in order. On a line these faults are looked for in this order: BadLine, NoCores (anything before
-/// `cores`; a text without commands has it on line 1), BadNumber, Twice, NoName, BadBody.
+/// Lines are taken in order. On a line these faults are looked for in this order: BadLine, NoCores (anything but `limits`
+/// before `cores`; a text with no other command has it on line 1), BadNumber, Twice, AfterCores (`limits` after `cores`),
+/// NoName, BadBody.
 ///
 /// | Line | Meaning |
 /// |---|---|
-/// | `cores B0 B1 ..` | the budgets of 1 to 8 cores, first of all |
+/// | `limits CAPS FILTERS` | the most capabilities and filters of the machine, 1 to 65,536 each, before `cores`; without it 1,024 each |
+/// | `cores B0 B1 ..` | the budgets of 1 to 8 cores, before all else but `limits`; of 1 to 64 after `limits` |
 /// | `asm NAME` .. `end` | a program in assembler text |
 /// | `ddd NAME TEXT` | a program in decimal text, to the end of the line |
 /// | `packet NAME HEX [ORIGINAL]` | a packet in hexadecimal digits, or `-` |

@@ -5,7 +5,7 @@ ghost use Rattle.std.specs.Prelude.{◌≤◌, vec_len};
 use crate::homes::Homes;
 use crate::names::Names;
 use crate::script::Item;
-use filter_table::Program;
+use filter_table::{Limits, Program};
 use pcap_reader::SharedPacket;
 use seq::Shared;
 use world_events::Event;
@@ -13,6 +13,8 @@ use world_events::Event;
 /// What the lines so far mean for those after them, and what they have done.
 #[derive(Drop)]
 pub(crate) struct Reading<'a> {
+    /// Where a line gives them.
+    pub limits: Option<Limits>,
     /// None before `cores`.
     pub budgets: Vec<u32>,
     pub programs: Names<'a, Program>,
@@ -27,5 +29,5 @@ pub(crate) struct Reading<'a> {
     pub jobs: Option<Vec<Event>>,
     pub items: Vec<Item>,
     ghost counted: { received ≤ vec_len items },
-    ghost few: { vec_len budgets ≤ 8 },
+    ghost few: { vec_len budgets ≤ 64 },
 }

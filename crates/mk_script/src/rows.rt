@@ -28,6 +28,7 @@ pub(crate) enum Form {
 /// What a line asks for.
 #[derive(Clone, Copy)]
 pub(crate) enum Command {
+    Limits,
     Cores,
     Asm,
     Ddd,
@@ -140,21 +141,20 @@ fn command_in(rows: &[Row], threads: bool, words: &[&[u8]]) -> Option<Command>
 }
 
 /// The commands.
-static ROWS: [Row; 22] = [
+static ROWS: [Row; 23] = [
+    Row {
+        word: b"limits",
+        command: Command::Limits,
+        least: 2,
+        forms: &[Form::Any, Form::Any],
+        open_ended: false,
+        for_threads: true,
+    },
     Row {
         word: b"cores",
         command: Command::Cores,
         least: 1,
-        forms: &[
-            Form::Any,
-            Form::Any,
-            Form::Any,
-            Form::Any,
-            Form::Any,
-            Form::Any,
-            Form::Any,
-            Form::Any,
-        ],
+        forms: &[Form::Any; 64],
         open_ended: false,
         for_threads: true,
     },
@@ -376,7 +376,7 @@ static EVENT_ROWS: [Row; 5] = [
 #[tactic(auto, unfolding(crate::specs::Rows::command_of))]
 pub(crate) fn command_of(threads: bool, words: &[&[u8]]) -> Option<Command>
     ensures command { result ≡ spec.command_of threads (texts words.now) }
-    ensures few { result ≡ Some Command.Cores → length words.now ≤ 9 }
+    ensures few { result ≡ Some Command.Cores → length words.now ≤ 65 }
 {
     command_in(&ROWS, threads, words)
 }

@@ -1,6 +1,6 @@
 //! What a script stands for.
 
-use filter_table::Op;
+use filter_table::{Limits, Op};
 use seq::Seq;
 use world_events::Event;
 
@@ -29,9 +29,11 @@ pub type ItemList = Seq<Item>;
 /// The budgets of the cores, by their numbers.
 pub type BudgetList = Seq<u32>;
 
-/// A script: the budgets of its cores, and what it has done.
+/// A script: the limits of its machine, the budgets of its cores, and what it has done.
 #[derive(Drop)]
 pub struct Script {
+    /// The limits of its machine.
+    pub limits: Limits,
     /// The budgets of its cores.
     pub budgets: BudgetList,
     /// What it has done.

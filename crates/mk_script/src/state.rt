@@ -21,6 +21,7 @@ pub(crate) fn nothing_read<'a>(alloc: Global) -> Reading<'a>
     ensures { Knows result [] }
 {
     Reading {
+        limits: None,
         budgets: Vec::new(alloc),
         programs: Names::new(alloc),
         packets: Names::new(alloc),
@@ -125,6 +126,10 @@ pub(crate) fn add<'a>(
     ensures { OnOk result ((given : List meanings.Meaning) → Knows reading.old given → Knows reading.new (given ++ meaning_of meaning.entry ∷ [])) }
 {
     match meaning {
+        Meaning::Limits(limits) => {
+            reading.limits = Some(limits);
+            Ok(())
+        }
         Meaning::Budgets(budgets) => {
             reading.budgets = budgets;
             Ok(())

@@ -83,7 +83,8 @@ fn event<'a>(jobs: &[Event], words: &[&[u8]], rest: &[&[u8]]) -> Result<Draft<'a
         Command::StartFor => start_for(words),
         Command::Take => take(words, is_short(rest)),
         Command::Rx => job(jobs, words),
-        Command::Cores
+        Command::Limits
+        | Command::Cores
         | Command::Asm
         | Command::Ddd
         | Command::Packet

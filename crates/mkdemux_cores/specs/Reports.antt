@@ -7,7 +7,7 @@ use Rattle.filter_table.specs.declared.decision.Veto.TheVariants as veto
 use Rattle.filter_table.specs.declared.operation.Made.{Made}
 use Rattle.filter_table.specs.declared.operation.Made.TheVariants.{Cap, Filter, Nothing}
 use Rattle.filter_table.specs.declared.operation.OpFault.{OpFault}
-use Rattle.filter_table.specs.declared.operation.OpFault.TheVariants.{NoCap, NotHolder, NoRight, RightsExceed, EndpointTaken, CapsFull, IdsSpent, NoFilter, NotOwner, TableFull, FilterIdsSpent, BadProgram, VersionsSpent}
+use Rattle.filter_table.specs.declared.operation.OpFault.TheVariants.{NoCap, NotHolder, NoRight, RightsExceed, EndpointTaken, CapsFull, IdsSpent, NoFilter, NotOwner, TableFull, FilterIdsSpent, BadProgram, VersionsSpent, DomainFull}
 use Rattle.mkdemux_cores.specs.declared.turned.Turned.{Turned}
 use Rattle.mkdemux_cores.specs.declared.turned.TheConstants.{NOTHING, NO_ID, BAD_PROGRAM}
 
@@ -29,6 +29,7 @@ rule_number NotOwner = 9
 rule_number TableFull = 10
 rule_number FilterIdsSpent = 11
 rule_number VersionsSpent = 12
+rule_number DomainFull = 15
 rule_number (BadProgram rule pc) = BAD_PROGRAM + rule
 
 abbrev pub rule_place : OpFault → ℕ

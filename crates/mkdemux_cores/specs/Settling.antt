@@ -1,5 +1,6 @@
 -- All cores of a machine, which are settled.
 use Rattle.std.specs.Prelude.{◌≡◌, ◌≤◌, ◌+◌, ◌⊎◌, ℕ, List, [], ◌∷◌, Option, Some, map, length}
+use Rattle.filter_table.specs.Limits.{TableLimits}
 use Rattle.core_handle.specs.declared.handle.CoreHandle.{CoreHandle}
 use Rattle.core_join.specs.Machines.{RingCore, IsMachine, AreSameCores}
 use Rattle.core_settle.specs.declared.settling.Settled.{Settled}
@@ -24,7 +25,7 @@ AreNumbered place count (c ∷ cs) = IsOf place count c × AreNumbered (place + 
 -- What a caller owes: cores that are numbered as those of one machine are those of one machine. Nothing in a core tells whether another is of
 -- its machine.
 abbrev pub AreOfOneMachine : List CoreHandle → Type 0
-AreOfOneMachine handles = (cs : List RingCore) → AreOpen handles cs → 1 ≤ length cs → AreNumbered 0 (length cs) cs → (budget : ℕ) × (budgets : List ℕ) × IsMachine budget budgets cs
+AreOfOneMachine handles = (cs : List RingCore) → AreOpen handles cs → 1 ≤ length cs → AreNumbered 0 (length cs) cs → (limits : TableLimits) × (budget : ℕ) × (budgets : List ℕ) × IsMachine limits budget budgets cs
 
 -- a handle is closed, or a core has another number or is one of another count of cores
 abbrev pub HasFault : ℕ → ℕ → List CoreHandle → ℕ → Type 0

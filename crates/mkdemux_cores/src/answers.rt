@@ -6,7 +6,7 @@ pub const DONE: u32 = 0;
 /// The core is closed. Nothing has changed.
 pub const CLOSED: u32 = 1;
 
-/// A machine has 1 to 8 cores.
+/// A machine has 1 to 8 cores, or 1 to 64 where it is given its limits.
 pub const NOT_CORES: u32 = 2;
 
 /// Memory was refused. Nothing has changed.
@@ -38,3 +38,6 @@ pub const NO_FILTER: u32 = 11;
 
 /// The cores aren't all those of one machine, in the order of their numbers. Nothing has changed.
 pub const NOT_MACHINE: u32 = 12;
+
+/// The limits are 0 or too great, or a share is above its total. Nothing has changed.
+pub const BAD_LIMITS: u32 = 13;

@@ -17,7 +17,7 @@ pub struct Turned {
     pub version: u64,
     /// The id of the capability or the filter that a commit made, `NO_ID` where it made none.
     pub made: u32,
-    /// Why there is no commit: the rule's number from 1 to 12, `BAD_PROGRAM` and more, or the veto's, 13 or 14.
+    /// Why there is no commit: the rule's number from 1 to 12, 15, or `BAD_PROGRAM` and more, or the veto's, 13 or 14.
     pub rule: u32,
     /// The place of the instruction for which a program is refused.
     pub place: u32,
@@ -118,6 +118,7 @@ fn number_of(fault: OpFault) -> u32
         OpFault::TableFull => 10,
         OpFault::FilterIdsSpent => 11,
         OpFault::VersionsSpent => 12,
+        OpFault::DomainFull => 15,
         OpFault::BadProgram { rule, .. } => BAD_PROGRAM + u32::from(rule),
     }
 }

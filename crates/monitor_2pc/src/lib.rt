@@ -25,6 +25,6 @@ mod waiting;
 
 pub use coordinator::{Coordinator, veto_of};
 pub use monitor_messages::{Decision, DecodeFault, Message, Veto, Vote, decode, encode};
-pub use most::MOST_CORES;
+pub use most::{DEFAULT_MOST_CORES, MOST_CORES};
 pub use participant::Participant;
 pub use step::{Say, StartFault, Step, Stranger};

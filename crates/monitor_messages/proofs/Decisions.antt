@@ -5,7 +5,7 @@ use Rattle.std.proofs.lemmas.Bool.{eqb-true}
 use Rattle.std.proofs.lemmas.Bool.Decides.{nat_tests}
 use Rattle.std.proofs.lemmas.Option.{same_Some}
 use Rattle.filter_table.specs.declared.operation.OpFault.{OpFault}
-use Rattle.filter_table.specs.declared.operation.OpFault.TheVariants.{NoCap, NotHolder, NoRight, RightsExceed, EndpointTaken, CapsFull, IdsSpent, NoFilter, NotOwner, TableFull, FilterIdsSpent, BadProgram, VersionsSpent}
+use Rattle.filter_table.specs.declared.operation.OpFault.TheVariants.{NoCap, NotHolder, NoRight, RightsExceed, EndpointTaken, CapsFull, IdsSpent, NoFilter, NotOwner, TableFull, FilterIdsSpent, BadProgram, VersionsSpent, DomainFull}
 use Rattle.filter_table.specs.declared.operation.Made.{Made}
 use Rattle.filter_table.specs.declared.operation.Made.TheVariants as made_variants
 use Rattle.filter_table.specs.declared.decision.Veto.{Veto}
@@ -42,6 +42,7 @@ plain_is number fault e =
     ⨾ (λ w. subst (IsFaultOf (13 ∷ [])) (same_Some TableFull fault w) (record { spelled = refl; fits = tt; numbered = tt }))
     ⨾ (λ w. subst (IsFaultOf (14 ∷ [])) (same_Some FilterIdsSpent fault w) (record { spelled = refl; fits = tt; numbered = tt }))
     ⨾ (λ w. subst (IsFaultOf (18 ∷ [])) (same_Some VersionsSpent fault w) (record { spelled = refl; fits = tt; numbered = tt }))
+    ⨾ (λ w. subst (IsFaultOf (19 ∷ [])) (same_Some DomainFull fault w) (record { spelled = refl; fits = tt; numbered = tt }))
     ⨾ tt) e
 
 refused_test : {A : Type 0} (b : Bool) (x y : A) → cond b None (Some x) ≡ Some y → (b ≡ false) × (x ≡ y)
@@ -91,6 +92,7 @@ fault_again (BadProgram rule pc) fits numbered =
     let test : ((rule == 0) || leb 11 rule) ≡ false = grind (arith, nat_tests, numbered.0, numbered.1) in
     rw (last_u16_again pc fits.1, test) refl
 fault_again VersionsSpent fits numbered = refl
+fault_again DomainFull fits numbered = refl
 
 -- Why, and what was made
 
@@ -187,6 +189,7 @@ numbered_reply core (veto.Rule TableFull) h = tt
 numbered_reply core (veto.Rule FilterIdsSpent) h = tt
 numbered_reply core (veto.Rule (BadProgram rule pc)) h = h
 numbered_reply core (veto.Rule VersionsSpent) h = tt
+numbered_reply core (veto.Rule DomainFull) h = tt
 
 reply_number : (core : ℕ) (why : Veto) → IsNumbered (Reply (Refused core why)) → VetoHasNumber why
 reply_number core veto.Budget h = tt
@@ -204,6 +207,7 @@ reply_number core (veto.Rule TableFull) h = tt
 reply_number core (veto.Rule FilterIdsSpent) h = tt
 reply_number core (veto.Rule (BadProgram rule pc)) h = h
 reply_number core (veto.Rule VersionsSpent) h = tt
+reply_number core (veto.Rule DomainFull) h = tt
 
 committed_is : (bytes : List ℕ) (decision : Decision) → IsBytes bytes → committed_in bytes ≡ Some decision → IsDecisionOf (0 ∷ bytes) decision
 unfolding committed_in

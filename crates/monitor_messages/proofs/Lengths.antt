@@ -6,7 +6,7 @@ use Rattle.bpf_insn.specs.Table.{bytes_of}
 use Rattle.filter_table.specs.declared.operation.Op.{Op}
 use Rattle.filter_table.specs.declared.operation.Op.TheVariants.{Create, Mint, Revoke, DropCap, Install, Remove, Replace}
 use Rattle.filter_table.specs.declared.operation.OpFault.{OpFault}
-use Rattle.filter_table.specs.declared.operation.OpFault.TheVariants.{NoCap, NotHolder, NoRight, RightsExceed, EndpointTaken, CapsFull, IdsSpent, NoFilter, NotOwner, TableFull, FilterIdsSpent, BadProgram, VersionsSpent}
+use Rattle.filter_table.specs.declared.operation.OpFault.TheVariants.{NoCap, NotHolder, NoRight, RightsExceed, EndpointTaken, CapsFull, IdsSpent, NoFilter, NotOwner, TableFull, FilterIdsSpent, BadProgram, VersionsSpent, DomainFull}
 use Rattle.filter_table.specs.declared.operation.Made.{Made}
 use Rattle.filter_table.specs.declared.operation.Made.TheVariants as made_variants
 use Rattle.filter_table.specs.declared.decision.Veto.{Veto}
@@ -45,6 +45,7 @@ fault_length TableFull = omega arith
 fault_length FilterIdsSpent = omega arith
 fault_length (BadProgram rule pc) = omega arith
 fault_length VersionsSpent = omega arith
+fault_length DomainFull = omega arith
 
 veto_length : (why : Veto) → length (veto_bytes why) ≤ 5
 veto_length veto.Budget = omega arith

@@ -11,7 +11,7 @@ use Rattle.filter_table.specs.Tables.{HasShortProgram}
 use Rattle.filter_table.specs.declared.operation.Op.{Op}
 use Rattle.filter_table.specs.declared.operation.Op.TheVariants.{Create, Mint, Revoke, DropCap, Install, Remove, Replace}
 use Rattle.filter_table.specs.declared.operation.OpFault.{OpFault}
-use Rattle.filter_table.specs.declared.operation.OpFault.TheVariants.{NoCap, NotHolder, NoRight, RightsExceed, EndpointTaken, CapsFull, IdsSpent, NoFilter, NotOwner, TableFull, FilterIdsSpent, BadProgram, VersionsSpent}
+use Rattle.filter_table.specs.declared.operation.OpFault.TheVariants.{NoCap, NotHolder, NoRight, RightsExceed, EndpointTaken, CapsFull, IdsSpent, NoFilter, NotOwner, TableFull, FilterIdsSpent, BadProgram, VersionsSpent, DomainFull}
 use Rattle.filter_table.specs.declared.operation.Made.{Made}
 use Rattle.filter_table.specs.declared.operation.Made.TheVariants as made_variants
 use Rattle.filter_table.specs.declared.decision.Vote.{Vote}
@@ -60,6 +60,7 @@ fault_number TableFull = 13
 fault_number FilterIdsSpent = 14
 fault_number (BadProgram rule pc) = 17
 fault_number VersionsSpent = 18
+fault_number DomainFull = 19
 
 -- what follows it: of a program that is refused, the verifier's number and place
 abbrev pub fault_detail : OpFault → List ℕ

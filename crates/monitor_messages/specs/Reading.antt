@@ -9,7 +9,7 @@ use Rattle.endpoint_caps.specs.declared.Rights.TheVariants.{R, M, Rm}
 use Rattle.filter_table.specs.declared.operation.Op.{Op}
 use Rattle.filter_table.specs.declared.operation.Op.TheVariants.{Create, Mint, Revoke, DropCap, Install, Remove, Replace}
 use Rattle.filter_table.specs.declared.operation.OpFault.{OpFault}
-use Rattle.filter_table.specs.declared.operation.OpFault.TheVariants.{NoCap, NotHolder, NoRight, RightsExceed, EndpointTaken, CapsFull, IdsSpent, NoFilter, NotOwner, TableFull, FilterIdsSpent, BadProgram, VersionsSpent}
+use Rattle.filter_table.specs.declared.operation.OpFault.TheVariants.{NoCap, NotHolder, NoRight, RightsExceed, EndpointTaken, CapsFull, IdsSpent, NoFilter, NotOwner, TableFull, FilterIdsSpent, BadProgram, VersionsSpent, DomainFull}
 use Rattle.filter_table.specs.declared.operation.Made.{Made}
 use Rattle.filter_table.specs.declared.operation.Made.TheVariants as made_variants
 use Rattle.monitor_messages.specs.declared.fault.DecodeFault.{DecodeFault}
@@ -154,7 +154,7 @@ abbrev pub fault_rows : List (ℕ × Option OpFault)
 fault_rows =
     (1, Some NoCap) ∷ (2, Some NotHolder) ∷ (3, Some NoRight) ∷ (4, Some RightsExceed) ∷ (5, Some EndpointTaken)
     ∷ (6, Some CapsFull) ∷ (7, Some IdsSpent) ∷ (11, Some NoFilter) ∷ (12, Some NotOwner) ∷ (13, Some TableFull)
-    ∷ (14, Some FilterIdsSpent) ∷ (18, Some VersionsSpent) ∷ []
+    ∷ (14, Some FilterIdsSpent) ∷ (18, Some VersionsSpent) ∷ (19, Some DomainFull) ∷ []
 
 abbrev pub plain_fault : ℕ → Option OpFault
 plain_fault number = choose number fault_rows

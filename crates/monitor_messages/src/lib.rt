@@ -18,8 +18,8 @@
 //! | Refused | 1, core u16, why: 0 Budget, 1 NoMemory, 2 a rule; after 2 the number of the rule |
 //!
 //! The rules are numbered NoCap 1, NotHolder 2, NoRight 3, RightsExceed 4, EndpointTaken 5, CapsFull 6, IdsSpent 7,
-//! NoFilter 11, NotOwner 12, TableFull 13, FilterIdsSpent 14, BadProgram 17, VersionsSpent 18; after 17 stand the number of
-//! the verifier's refusal, 1 to 10, and its place u16.
+//! NoFilter 11, NotOwner 12, TableFull 13, FilterIdsSpent 14, BadProgram 17, VersionsSpent 18, DomainFull 19; after 17 stand
+//! the number of the verifier's refusal, 1 to 10, and its place u16.
 //!
 //! | Operation | Bytes |
 //! |---|---|

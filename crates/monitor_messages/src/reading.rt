@@ -439,6 +439,7 @@ fn plain_fault(number: u8) -> Result<OpFault, DecodeFault>
         13 => Ok(OpFault::TableFull),
         14 => Ok(OpFault::FilterIdsSpent),
         18 => Ok(OpFault::VersionsSpent),
+        19 => Ok(OpFault::DomainFull),
         _ => Err(DecodeFault::BadMessage),
     }
 }

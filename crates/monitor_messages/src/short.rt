@@ -157,6 +157,7 @@ fn number_of_fault(fault: OpFault) -> u8
         OpFault::FilterIdsSpent => 14,
         OpFault::BadProgram { .. } => 17,
         OpFault::VersionsSpent => 18,
+        OpFault::DomainFull => 19,
     }
 }
 

@@ -2,6 +2,7 @@
 use Rattle.std.proofs.Common.{◌≡◌, ◌<◌, ◌++◌, All, ℕ, zero, suc, false, List, [], ◌∷◌, Option, Some, None, slice_get, length, refl, sym, ap, ◌∙◌, subst}
 use Rattle.std.specs.List.{flat_map}
 use Rattle.std.proofs.lemmas.List.{append-nil}
+use Rattle.filter_table.specs.Limits.{TableLimits}
 use Rattle.filter_table.specs.declared.operation.Op.{Op}
 use Rattle.rx_queue.specs.declared.job.Job.{Job}
 use Rattle.monitor_2pc.specs.Coordinators.{Idle}
@@ -55,10 +56,10 @@ core_did machine cores items left ends have i c at =
       jobs = core.received;
     }
 
-done_by : (budgets : List ℕ) (items : List Item) (machine cores : List RingCore) (left : List (ℕ × Job)) → IsMachineOf budgets machine → length machine ≡ length budgets → HaveRequests (requests_of items) machine
-    → EndsRightly machine (jobs_of items) cores left None → ((budget : ℕ) (others : List ℕ) → IsMachine budget others machine → IsMachine budget others cores) → HaveDone budgets items cores left
-done_by [] items machine cores left is count have ends keeps = absurd is
-done_by (budget ∷ others) items machine cores left is count have ends keeps = record {
+done_by : (limits : TableLimits) (budgets : List ℕ) (items : List Item) (machine cores : List RingCore) (left : List (ℕ × Job)) → IsMachineOf limits budgets machine → length machine ≡ length budgets → HaveRequests (requests_of items) machine
+    → EndsRightly machine (jobs_of items) cores left None → ((budget : ℕ) (others : List ℕ) → IsMachine limits budget others machine → IsMachine limits budget others cores) → HaveDone limits budgets items cores left
+done_by limits [] items machine cores left is count have ends keeps = absurd is
+done_by limits (budget ∷ others) items machine cores left is count have ends keeps = record {
   budget = budget;
   others = others;
   are_budgets = refl;
@@ -69,17 +70,17 @@ done_by (budget ∷ others) items machine cores left is count have ends keeps = 
 }
 
 -- a machine that was booted with these requests ran with these jobs, and its work is done
-pub have_done : (budgets : List ℕ) (items : List Item) (requests : List (ℕ × Op)) (jobs : List (ℕ × Job)) (machine cores : List RingCore) (left : List (ℕ × Job)) (named : Option (ℕ × Halt))
-    → requests ≡ requests_of items → jobs ≡ jobs_of items → named ≡ None → IsMachineOf budgets machine → length machine ≡ length budgets → HaveRequests requests machine
-    → RunsToRest machine jobs cores left named → ((budget : ℕ) (others : List ℕ) → IsMachine budget others machine → IsMachine budget others cores) → HaveDone budgets items cores left
-have_done budgets items requests jobs machine cores left named are_requests are_jobs none is count have rests keeps =
-    done_by budgets items machine cores left is count (subst (λ (rs : List (ℕ × Op)). HaveRequests rs machine) are_requests have)
+pub have_done : (limits : TableLimits) (budgets : List ℕ) (items : List Item) (requests : List (ℕ × Op)) (jobs : List (ℕ × Job)) (machine cores : List RingCore) (left : List (ℕ × Job)) (named : Option (ℕ × Halt))
+    → requests ≡ requests_of items → jobs ≡ jobs_of items → named ≡ None → IsMachineOf limits budgets machine → length machine ≡ length budgets → HaveRequests requests machine
+    → RunsToRest machine jobs cores left named → ((budget : ℕ) (others : List ℕ) → IsMachine limits budget others machine → IsMachine limits budget others cores) → HaveDone limits budgets items cores left
+have_done limits budgets items requests jobs machine cores left named are_requests are_jobs none is count have rests keeps =
+    done_by limits budgets items machine cores left is count (subst (λ (rs : List (ℕ × Op)). HaveRequests rs machine) are_requests have)
     (subst (λ (js : List (ℕ × Job)). EndsRightly machine js cores left None) are_jobs (subst (RunsToRest machine jobs cores left) none rests)) keeps
 
 -- such a machine ran, and its work is not done
-pub has_halted : (budgets : List ℕ) (items : List Item) (requests : List (ℕ × Op)) (jobs : List (ℕ × Job)) (machine cores : List RingCore) (left : List (ℕ × Job)) (named : Option (ℕ × Halt)) (core : ℕ) (why : Halt)
-    → requests ≡ requests_of items → jobs ≡ jobs_of items → named ≡ Some (core, why) → IsMachineOf budgets machine → HaveRequests requests machine → RunsToRest machine jobs cores left named → HasHalted budgets items core why
-has_halted budgets items requests jobs machine cores left named core why are_requests are_jobs is machine_is have rests = record {
+pub has_halted : (limits : TableLimits) (budgets : List ℕ) (items : List Item) (requests : List (ℕ × Op)) (jobs : List (ℕ × Job)) (machine cores : List RingCore) (left : List (ℕ × Job)) (named : Option (ℕ × Halt)) (core : ℕ) (why : Halt)
+    → requests ≡ requests_of items → jobs ≡ jobs_of items → named ≡ Some (core, why) → IsMachineOf limits budgets machine → HaveRequests requests machine → RunsToRest machine jobs cores left named → HasHalted limits budgets items core why
+has_halted limits budgets items requests jobs machine cores left named core why are_requests are_jobs is machine_is have rests = record {
   machine = machine;
   cores = cores;
   left = left;
@@ -110,7 +111,7 @@ of_core (c ∷ cores) zero h at = (c, refl, cc)
 of_core (c ∷ cores) (suc i) h at = of_core cores i h at
 
 -- each other core's history ends where it waits for no reply, since all cores are done
-module _ (budget : ℕ) (budgets : List ℕ) (first : RingCore) (others : List RingCore) (left : List (ℕ × Job)) (c : Concludes budget budgets first others)
+module _ (limits : TableLimits) (budget : ℕ) (budgets : List ℕ) (first : RingCore) (others : List RingCore) (left : List (ℕ × Job)) (c : Concludes limits budget budgets first others)
     (ended : (i : ℕ) (core : RingCore) → slice_get (first ∷ others) i ≡ Some core → IsAtEnd (items_for i left) core) where
   all_answered : length others ≡ length budgets → (i : ℕ) (end : OtherState) → slice_get c.ends i ≡ Some end → end.outstanding ≡ false
   all_answered long i end at =
@@ -123,12 +124,12 @@ module _ (budget : ℕ) (budgets : List ℕ) (first : RingCore) (others : List R
       let idle : IsIdle0 first.part = idle_at first.cores first.part first.links (length budgets) first.clock c.end (ended 0 first refl).idle c.ends0 in
       subst (λ (n : ℕ). n < job.floor) (c.settled idle i core at) ((ended i core at).floor job later is)
 
-pub shows : (script : Script) (cores : List RingCore) (left : List (ℕ × Job)) (events : List Done) (text lines : List ℕ) → HaveDone script.budgets script.items cores left → OfMachine cores Concludes
+pub shows : (script : Script) (cores : List RingCore) (left : List (ℕ × Job)) (events : List Done) (text lines : List ℕ) → HaveDone script.limits script.budgets script.items cores left → OfMachine cores Concludes
     → ListsRuns (histories_of cores) events → ShowsLeft left lines → text ≡ flat_map done_line events ++ lines → ShowsRun script text
 shows script [] left events text lines done computes lists shown printed = absurd done.machine
 shows script (first ∷ others) left events text lines done computes lists shown printed =
-    let c = computes done.budget done.others first others refl done.machine in
-    let r = lists done.budget done.others first.history (histories_of others) c.end c.ends refl c.computation in
+    let c = computes script.limits done.budget done.others first others refl done.machine in
+    let r = lists script.limits done.budget done.others first.history (histories_of others) c.end c.ends refl c.computation in
     record {
       budget = done.budget;
       budgets = done.others;
@@ -142,13 +143,13 @@ shows script (first ∷ others) left events text lines done computes lists shown
         ends = c.ends;
         computation = c.computation;
         settled = settled_at first.cores (length done.others) first.clock first.part c.end first.links (done.ended 0 first refl).idle c.ends0;
-        answered = all_answered done.budget done.others first others left c done.ended done.machine.all;
-        waits = λ core h job later at is. (let own = of_core (first ∷ others) core h at in all_wait done.budget done.others first others left c done.ended core own.0 job later own.1 is);
+        answered = all_answered script.limits done.budget done.others first others left c done.ended done.machine.all;
+        waits = λ core h job later at is. (let own = of_core (first ∷ others) core h at in all_wait script.limits done.budget done.others first others left c done.ended core own.0 job later own.1 is);
         work = λ core h at. let own = of_core (first ∷ others) core h at in subst (DidItsWork script.items left core) (sym own.2) (done.work core own.0 own.1);
         at_cores = subst (λ (bs : List ℕ). All (λ l. l.0 < length bs) left) done.are_budgets done.at_cores;
         is_merged = r.is_merged;
       };
-      delivers = subst (λ (es : List Done). Delivers (log_of es) es) r.is_listed (joined_deliver done.budget done.others first others events c lists);
+      delivers = subst (λ (es : List Done). Delivers script.limits (log_of es) es) r.is_listed (joined_deliver script.limits done.budget done.others first others events c lists);
       last_lines = lines;
       shows_left = shown;
       printed = printed ∙ ap (λ (es : List Done). flat_map done_line es ++ lines) r.is_listed;

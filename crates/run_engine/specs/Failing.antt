@@ -19,37 +19,38 @@ use Rattle.script_input.specs.Inputs.{AreScriptInputs, NoneFailed, ScriptEndsEar
 use Rattle.run_engine.specs.declared.engine.RunFailure.{RunFailure}
 use Rattle.run_engine.specs.declared.engine.RunFailure.TheVariants.{Engine, Spawn, Halted}
 use Rattle.run_engine.specs.Work.{requests_of, jobs_of}
+use Rattle.filter_table.specs.Limits.{TableLimits}
 
 -- the failure that a fault of a run is
 abbrev pub IsFault : RunFault → RunFailure → Type 0
 IsFault run_fault.Spawn failure = failure ≡ Spawn
 IsFault run_fault.NoMemory failure = failure ≡ Engine NoMemory
 
--- cores that were booted with these budgets and the requests of these items ran with their jobs, and were settled; the work isn't done, for this
+-- cores that were booted with these limits, these budgets and the requests of these items ran with their jobs, and were settled; the work isn't done, for this
 -- core, and this
-pub record HasHalted (budgets : List ℕ) (items : List Item) (core : ℕ) (why : Halt) : Type 0 where
+pub record HasHalted (limits : TableLimits) (budgets : List ℕ) (items : List Item) (core : ℕ) (why : Halt) : Type 0 where
   pub machine : List RingCore
   pub cores : List RingCore
   pub left : List (ℕ × Job)
-  pub is_machine : IsMachineOf budgets machine
+  pub is_machine : IsMachineOf limits budgets machine
   pub has_requests : HaveRequests (requests_of items) machine
   pub rests : RunsToRest machine (jobs_of items) cores left (Some (core, why))
 
 -- A run of cores reads nothing and writes nothing: of an engine's faults it has NoMemory alone. No public clause cites this,
 -- nor the next.
-abbrev pub IsOfCores : List ℕ → List Item → RunFailure → Type 0
-IsOfCores budgets items (Engine fault) = fault ≡ NoMemory
-IsOfCores budgets items Spawn = ⊤
-IsOfCores budgets items (Halted core why) = HasHalted budgets items core why
+abbrev pub IsOfCores : TableLimits → List ℕ → List Item → RunFailure → Type 0
+IsOfCores limits budgets items (Engine fault) = fault ≡ NoMemory
+IsOfCores limits budgets items Spawn = ⊤
+IsOfCores limits budgets items (Halted core why) = HasHalted limits budgets items core why
 
 -- where a core is named, it is one of this script's, and the work isn't done for it
 abbrev pub HaltsOf : Script → RunFailure → Type 0
-HaltsOf script (Halted core why) = HasHalted script.budgets script.items core why
+HaltsOf script (Halted core why) = HasHalted script.limits script.budgets script.items core why
 HaltsOf script failure = ⊤
 
 -- the script stands in what was read
 abbrev pub HaltsScript : List (List ℕ) → List ℕ → RunFailure → Type 0
-HaltsScript files input (Halted core why) = (script : Script) × Stands (for_threads files) input (Ok script) × HasHalted script.budgets script.items core why
+HaltsScript files input (Halted core why) = (script : Script) × Stands (for_threads files) input (Ok script) × HasHalted script.limits script.budgets script.items core why
 HaltsScript files input failure = ⊤
 
 -- and that is what was got of the script and its files

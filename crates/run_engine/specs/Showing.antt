@@ -22,6 +22,7 @@ use Rattle.script_input.specs.Faults.{script_fault_line}
 use Rattle.engine_io.specs.Reading.{ShowsTooLong}
 use Rattle.script_input.specs.Inputs.{AllShort, SomeLong}
 use Rattle.run_engine.specs.Work.{requests_of, jobs_of}
+use Rattle.filter_table.specs.Limits.{TableLimits}
 
 -- The core began all requests that the script has for it, in order, and each is decided: the n-th decision is that on the n-th request. It
 -- received the jobs that the script has for it, in order, but for those left.
@@ -30,15 +31,15 @@ pub record DidItsWork (items : List Item) (left : List (ℕ × Job)) (core : ℕ
   pub decided : length (decisions history) ≡ length (begun history)
   pub jobs : receipts history ++ items_for core left ≡ items_for core (jobs_of items)
 
--- Cores with these budgets did the script's work, and these jobs are left. Core 0's history and the others' are a computation, at whose end
+-- Cores with these limits and budgets did the script's work, and these jobs are left. Core 0's history and the others' are a computation, at whose end
 -- no request is being decided or waits for its reply, and the first job left of each core waits for a later version; by stamp and then by
 -- core their events make this list.
-pub record DidWork (budget : ℕ) (budgets : List ℕ) (items : List Item) (left : List (ℕ × Job)) (merged : List Stamped) : Type 0 where
+pub record DidWork (limits : TableLimits) (budget : ℕ) (budgets : List ℕ) (items : List Item) (left : List (ℕ × Job)) (merged : List Stamped) : Type 0 where
   pub core0 : List Stamped
   pub others : List (List Stamped)
   pub end : Core0State
   pub ends : List OtherState
-  pub computation : Computation budget budgets core0 others end ends
+  pub computation : Computation limits budget budgets core0 others end ends
   pub settled : end.place.phase ≡ Idle
   pub answered : (i : ℕ) (other : OtherState) → slice_get ends i ≡ Some other → other.outstanding ≡ false
   pub waits : (core : ℕ) (history : List Stamped) (job : Job) (later : List Job) → slice_get (core0 ∷ others) core ≡ Some history → items_for core left ≡ job ∷ later → length end.log < job.floor
@@ -56,7 +57,7 @@ pub record ShowsLeft (left : List (ℕ × Job)) (text : List ℕ) : Type 0 where
   pub by_number : IsNonDecreasingBy (λ l. l.1.number) in_order
   pub printed : text ≡ left_lines in_order
 
--- What cores with the script's budgets did, a line for each event, and then what is left. Each packet went to exactly the endpoints
+-- What cores with the script's limits and budgets did, a line for each event, and then what is left. Each packet went to exactly the endpoints
 -- that accept it in the table of its core's version.
 pub record ShowsRun (script : Script) (text : List ℕ) : Type 0 where
   pub budget : ℕ
@@ -64,8 +65,8 @@ pub record ShowsRun (script : Script) (text : List ℕ) : Type 0 where
   pub are_budgets : script.budgets ≡ budget ∷ budgets
   pub merged : List Stamped
   pub left : List (ℕ × Job)
-  pub did : DidWork budget budgets script.items left merged
-  pub delivers : Delivers (log_of (as_listed merged)) (as_listed merged)
+  pub did : DidWork script.limits budget budgets script.items left merged
+  pub delivers : Delivers script.limits (log_of (as_listed merged)) (as_listed merged)
   pub last_lines : List ℕ
   pub shows_left : ShowsLeft left last_lines
   pub printed : text ≡ flat_map done_line (as_listed merged) ++ last_lines

@@ -14,8 +14,9 @@ ghost use Rattle.run_engine.specs.Showing.{Shows, ShowsRun, ShowsRunScript};
 use crate::lines::{push_all_left, push_events};
 use crate::work::{Work, work_of};
 use core_join::{conclude, in_order};
-use core_threads::{BootFault, Gate, Halt, Rested, RunFault, boot, run_to_rest};
+use core_threads::{BootFault, Gate, Halt, Rested, RunFault, boot_with_limits, run_to_rest};
 use engine_io::{EngineFault, Sink, Source, refuse_long, write_bytes};
+use filter_table::Limits;
 use mk_script::{Item, Script, read_script};
 use script_input::{read_inputs, refuse};
 use seq::Shared;
@@ -166,10 +167,15 @@ fn text_of_run<T: Threads + Wait + Clock + Sync, G: Gate + Sync>(
     requires limits { HasLimits script }
     requires threads { IsScriptForThreads script }
     ensures shown { IfOk result (λ text. ShowsRun script (string_bytes text)) }
-    ensures failure { IfErr result (IsOfCores script.budgets script.items) }
+    ensures failure { IfErr result (IsOfCores script.limits script.budgets script.items) }
 {
-    let Script { budgets, items } = script;
-    let rested = run_cores(rt, alloc, gate, budgets.as_slice(), items.into_vec())?;
+    let Script {
+        limits,
+        budgets,
+        items,
+    } = script;
+    let items = items.into_vec();
+    let rested = run_cores(rt, alloc, gate, limits, budgets.as_slice(), items)?;
     let Rested { cores, left, .. } = rested;
     let histories = conclude(alloc, cores)?;
     let events = in_order(alloc, &histories)?;
@@ -179,22 +185,23 @@ fn text_of_run<T: Threads + Wait + Clock + Sync, G: Gate + Sync>(
     Ok(text)
 }
 
-/// Runs cores with these budgets until they have done what the items give them.
+/// Runs cores with these limits and budgets until they have done what the items give them.
 fn run_cores<T: Threads + Wait + Clock + Sync, G: Gate + Sync>(
     rt: &T,
     alloc: Global,
     gate: &G,
+    limits: Limits,
     budgets: &[u32],
     items: Vec<Item>,
 ) -> Result<Rested, RunFailure>
-    requires count { (1 ≤ length budgets.now) × (length budgets.now ≤ 8) }
+    requires count { (1 ≤ length budgets.now) × (length budgets.now ≤ 64) }
     requires limited { All IsLimited items.items }
     requires at_cores { All (IsForThreads (length budgets.now)) items.items }
-    ensures done { IfOk result (λ rested. HaveDone budgets.now items.items rested.cores.items rested.left.items) }
-    ensures failure { IfErr result (IsOfCores budgets.now items.items) }
+    ensures done { IfOk result (λ rested. HaveDone limits budgets.now items.items rested.cores.items rested.left.items) }
+    ensures failure { IfErr result (IsOfCores limits budgets.now items.items) }
 {
     let Work { requests, jobs } = work_of(alloc, items, budgets.len())?;
-    let machine = match boot(alloc, budgets, requests) {
+    let machine = match boot_with_limits(alloc, limits, budgets, requests) {
         Ok(machine) => machine,
         Err(BootFault::CoreCount) => unreachable!(),
         Err(BootFault::NoMemory) => return Err(RunFailure::Engine(EngineFault::NoMemory)),

@@ -6,7 +6,7 @@ use Rattle.mk_script.specs.declared.fault.BodyFault.{BodyFault}
 use Rattle.mk_script.specs.declared.fault.BodyFault.TheVariants.{Hex, Asm, Ddd, Capture}
 use Rattle.mk_script.specs.declared.fault.ScriptFault.{ScriptFault}
 use Rattle.mk_script.specs.declared.fault.ScriptFaultKind.{ScriptFaultKind}
-use Rattle.mk_script.specs.declared.fault.ScriptFaultKind.TheVariants.{BadLine, NoCores, BadNumber, Twice, NoName, BadBody, NoMemory}
+use Rattle.mk_script.specs.declared.fault.ScriptFaultKind.TheVariants.{BadLine, NoCores, BadNumber, Twice, AfterCores, NoName, BadBody, NoMemory}
 
 -- what can't be read, and why
 abbrev pub body_words : BodyFault → List ℕ
@@ -20,6 +20,7 @@ kind_words BadLine = codes "BadLine"
 kind_words NoCores = codes "NoCores"
 kind_words BadNumber = codes "BadNumber"
 kind_words Twice = codes "Twice"
+kind_words AfterCores = codes "AfterCores"
 kind_words NoName = codes "NoName"
 kind_words (BadBody fault) = codes "BadBody " ++ body_words fault
 kind_words NoMemory = []

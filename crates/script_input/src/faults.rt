@@ -26,6 +26,7 @@ fn push_kind(line: &mut String, kind: ScriptFaultKind) -> Result<(), AllocError>
         ScriptFaultKind::NoCores => line.push_str("NoCores"),
         ScriptFaultKind::BadNumber => line.push_str("BadNumber"),
         ScriptFaultKind::Twice => line.push_str("Twice"),
+        ScriptFaultKind::AfterCores => line.push_str("AfterCores"),
         ScriptFaultKind::NoName => line.push_str("NoName"),
         ScriptFaultKind::BadBody(fault) => {
             line.push_str("BadBody ")?;

@@ -4,6 +4,7 @@ use Rattle.std.specs.Prelude.{Ok, Err, option_and_then}
 use Rattle.std.specs.List.{All}
 use Rattle.std.proofs.lemmas.Bool.{cases_lt}
 use Rattle.std.proofs.lemmas.Option.{slice_get_within}
+use Rattle.filter_table.specs.Limits.{TableLimits}
 use Rattle.filter_table.specs.declared.operation.Op.{Op}
 use Rattle.world_events.specs.declared.event.Event.{Event}
 use Rattle.world_events.specs.declared.event.Event.TheVariants.{StartFor}
@@ -51,9 +52,9 @@ data NextOrNothing (s : Simulation) : Type 0 where
   nothing_left : NothingLeft s → NextOrNothing s
 
 next_or_nothing : (s : Simulation) → NextOrNothing s
-next_or_nothing s = by (least_waiting s.world 8) s.pending refl
+next_or_nothing s = by (least_waiting s.world 64) s.pending refl
   where
-    by : NoneBelow s.world 8 ⊎ LeastWaiting s.world → (pending : List PendingRequest) → s.pending ≡ pending → NextOrNothing s
+    by : NoneBelow s.world 64 ⊎ LeastWaiting s.world → (pending : List PendingRequest) → s.pending ≡ pending → NextOrNothing s
     by (inr found) pending is = some_next (StartFor found.core) s.pending (waits found.core found.op found.at found.least refl refl)
     by (inl none) [] is = nothing_left (record { none_waits = none; none_pending = is })
     by (inl none) (first ∷ rest) is = some_next (event_of (way_of first.home) first.op) rest (asked first none is refl)
@@ -89,19 +90,19 @@ pub record DrainsAmply (s : Simulation) : Type 0 where
   pub drains : Drains s end text
   pub had_memory : HadDrains drains
 
-module _ (budget : ℕ) (budgets : List ℕ) where
+module _ (limits : TableLimits) (budget : ℕ) (budgets : List ℕ) where
   -- what is begun, where less than this is left and what leaves less than it drains
-  drains_next : (n : ℕ) (s : Simulation) → Reached budget budgets s.world → most_left s < suc n → ((s' : Simulation) → Reached budget budgets s'.world → most_left s' < n → DrainsAmply s') → NextOrNothing s → DrainsAmply s
+  drains_next : (n : ℕ) (s : Simulation) → Reached limits budget budgets s.world → most_left s < suc n → ((s' : Simulation) → Reached limits budget budgets s'.world → most_left s' < n → DrainsAmply s') → NextOrNothing s → DrainsAmply s
   drains_next n s run less more (nothing_left left) = record { end = s; text = []; drains = ends s left; had_memory = tt }
-  drains_next n s run less more (some_next event rest next) = by_told (told_amply budget budgets s.world event run)
+  drains_next n s run less more (some_next event rest next) = by_told (told_amply limits budget budgets s.world event run)
     where
       by_told : Told s.world event → DrainsAmply s
       by_told (is_refused fault tells) = record { end = s; text = event_line event (Err fault); drains = stops s event rest fault next tells; had_memory = tt }
       by_told (is_done answer begun tells had) =
-          let run' = reached_more budget budgets s.world begun event answer run tells in
-          let quiet = quiets_amply budget budgets begun run' in
+          let run' = reached_more limits budget budgets s.world begun event answer run tells in
+          let quiet = quiets_amply limits budget budgets begun run' in
           let s' : Simulation = record { world = quiet.end; pending = rest } in
-          let later = more s' (reached_settled budget budgets begun quiet.end quiet.quiets.taken run' quiet.quiets.settles)
+          let later = more s' (reached_settled limits budget budgets begun quiet.end quiet.quiets.taken run' quiet.quiets.settles)
           (omega (arith, less, begun_leaves s begun quiet.end event rest answer quiet.text next tells quiet.quiets)) in
           record {
             end = later.end;
@@ -110,23 +111,23 @@ module _ (budget : ℕ) (budgets : List ℕ) where
             had_memory = ((had, quiet.had_memory), later.had_memory);
           }
 
-  drains_within : (n : ℕ) (s : Simulation) → Reached budget budgets s.world → most_left s < n → DrainsAmply s
+  drains_within : (n : ℕ) (s : Simulation) → Reached limits budget budgets s.world → most_left s < n → DrainsAmply s
   drains_within zero s run less = absurd (omega arith)
   drains_within (suc n) s run less = drains_next n s run less (λ s' run' less'. drains_within n s' run' less') (next_or_nothing s)
 
-  pub drains_amply : (s : Simulation) → Reached budget budgets s.world → DrainsAmply s
+  pub drains_amply : (s : Simulation) → Reached limits budget budgets s.world → DrainsAmply s
   drains_amply s run = drains_within (most_left s + 1) s run (omega arith)
 
   -- Twice
 
-  module _ (few : length budgets < 8) where
-    waits_low : (w : World) (core : ℕ) (op : Op) → Reached budget budgets w → waiting_at w core ≡ Some op → core < 8
+  module _ (few : length budgets < 64) where
+    waits_low : (w : World) (core : ℕ) (op : Op) → Reached limits budget budgets w → waiting_at w core ≡ Some op → core < 64
     waits_low w zero op run at = absurd cc
     waits_low w (suc entry) op run at =
         let within = slice_get_within w.requests.waiting entry (Some op) (waits_there (slice_get w.requests.waiting entry) op at) in
-        omega (arith, within, few, (run_agrees budget budgets run.0 w run.1).waiting_kept)
+        omega (arith, within, few, (run_agrees limits budget budgets run.0 w run.1).waiting_kept)
 
-    not_waiting : (w : World) (core : ℕ) (op : Op) → Reached budget budgets w → NoneWaits w → waiting_at w core ≡ Some op → ⊥
+    not_waiting : (w : World) (core : ℕ) (op : Op) → Reached limits budget budgets w → NoneWaits w → waiting_at w core ≡ Some op → ⊥
     not_waiting w core op run none at = let x = none core (waits_low w core op run at) in cc
 
     same_core : (w : World) (c c' : ℕ) (op op' : Op) → waiting_at w c ≡ Some op → waiting_at w c' ≡ Some op' → NoneBelow w c → NoneBelow w c' → c ≡ c'
@@ -138,7 +139,7 @@ module _ (budget : ℕ) (budgets : List ℕ) where
       ]
     ]
 
-    next_twice : (s : Simulation) (event event' : Event) (rest rest' : List PendingRequest) → Reached budget budgets s.world → Next s event rest → Next s event' rest' → (event ≡ event') × (rest ≡ rest')
+    next_twice : (s : Simulation) (event event' : Event) (rest rest' : List PendingRequest) → Reached limits budget budgets s.world → Next s event rest → Next s event' rest' → (event ≡ event') × (rest ≡ rest')
     next_twice s event event' rest rest' run (waits core op at least is left) (waits core' op' at' least' is' left') =
         (is ∙ ap (λ (c : ℕ). StartFor c) (same_core s.world core core' op op' at at' least least') ∙ sym is', left ∙ sym left')
     next_twice s event event' rest rest' run (waits core op at least is left) (asked first none pending is') = absurd (not_waiting s.world core op run none at)
@@ -148,11 +149,11 @@ module _ (budget : ℕ) (budgets : List ℕ) where
         let firsts : first ≡ first' = cc in
         (is ∙ ap (λ (r : PendingRequest). event_of (way_of r.home) r.op) firsts ∙ sym is', cc)
 
-    next_left : (s : Simulation) (event : Event) (rest : List PendingRequest) → Reached budget budgets s.world → Next s event rest → NothingLeft s → ⊥
+    next_left : (s : Simulation) (event : Event) (rest : List PendingRequest) → Reached limits budget budgets s.world → Next s event rest → NothingLeft s → ⊥
     next_left s event rest run (waits core op at least is left) nothing = not_waiting s.world core op run nothing.none_waits at
     next_left s event rest run (asked first none pending is) nothing = let x = nothing.none_pending in cc
 
-    pub drained_twice : {s a : Simulation} {t : List ℕ} (x : Drains s a t) (b : Simulation) (u : List ℕ) → Reached budget budgets s.world → Drains s b u → Compared Simulation (HadDrains x) a b t u
+    pub drained_twice : {s a : Simulation} {t : List ℕ} (x : Drains s a t) (b : Simulation) (u : List ℕ) → Reached limits budget budgets s.world → Drains s b u → Compared Simulation (HadDrains x) a b t u
     drained_twice (ends s left) b u run y = by (drained y)
       where
         by : Drained s b u → Compared Simulation (Unit {0}) s b [] u
@@ -167,28 +168,28 @@ module _ (budget : ℕ) (budgets : List ℕ) where
             let e = next_twice s event' event rest' rest run next' next in
             compared_as World Simulation (Unit {0}) (Unit {0}) s.world s.world s b (event_line event (Err fault)) u (λ same'. sym is) (λ had. had)
             (compared_texts World (Unit {0}) s.world s.world (event_line event (Err fault)) (event_line event (Err fault)) (event_line event (Err fault')) u refl (printed ∙ ap (λ (v : Event). event_line v (Err fault')) e.0)
-            (told_twice budget budgets s.world s.world s.world event (Err fault) (Err fault') run tells (subst (λ (v : Event). Tells s.world v (Err fault') s.world) e.0 tells')))
+            (told_twice limits budget budgets s.world s.world s.world event (Err fault) (Err fault') run tells (subst (λ (v : Event). Tells s.world v (Err fault') s.world) e.0 tells')))
         by (went_on event' rest' answer begun quiet taken later next' tells' quiets drains printed) =
             let e = next_twice s event' event rest' rest run next' next in
-            absurd (not_refused budget budgets s.world begun s.world event answer fault run (subst (λ (v : Event). Tells s.world v (Ok answer) begun) e.0 tells') tells)
-    drained_twice (goes_on s a event rest answer begun quiet taken later next tells quiets drains) b u run y = by (λ u' y'. drained_twice drains b u' (reached_settled budget budgets begun quiet quiets.taken run' quiets.settles) y') (drained y)
+            absurd (not_refused limits budget budgets s.world begun s.world event answer fault run (subst (λ (v : Event). Tells s.world v (Ok answer) begun) e.0 tells') tells)
+    drained_twice (goes_on s a event rest answer begun quiet taken later next tells quiets drains) b u run y = by (λ u' y'. drained_twice drains b u' (reached_settled limits budget budgets begun quiet quiets.taken run' quiets.settles) y') (drained y)
       where
-        run' : Reached budget budgets begun
-        run' = reached_more budget budgets s.world begun event answer run tells
+        run' : Reached limits budget budgets begun
+        run' = reached_more limits budget budgets s.world begun event answer run tells
 
         by : ((u' : List ℕ) → Drains (record { world = quiet; pending = rest }) b u' → Compared Simulation (HadDrains drains) a b later u')
             → Drained s b u → Compared Simulation (((LacksMemory event answer → ⊥) × All HadMemory quiets.taken) × HadDrains drains) a b (event_line event (Ok answer) ++ taken ++ later) u
         by more (ended left is printed) = absurd (next_left s event rest run next left)
         by more (stopped event' rest' fault next' tells' is printed) =
             let e = next_twice s event' event rest' rest run next' next in
-            absurd (not_refused budget budgets s.world begun s.world event answer fault run tells (subst (λ (v : Event). Tells s.world v (Err fault) s.world) e.0 tells'))
+            absurd (not_refused limits budget budgets s.world begun s.world event answer fault run tells (subst (λ (v : Event). Tells s.world v (Err fault) s.world) e.0 tells'))
         by more (went_on event' rest' answer' begun' quiet' taken' later' next' tells' quiets' drains' printed) =
             let e = next_twice s event' event rest' rest run next' next in
             compared_texts Simulation (((LacksMemory event answer → ⊥) × All HadMemory quiets.taken) × HadDrains drains) a b (event_line event (Ok answer) ++ taken ++ later) (event_line event (Ok answer) ++ taken ++ later)
             (event_line event (Ok answer') ++ taken' ++ later') u refl (printed ∙ ap (λ (v : Event). event_line v (Ok answer') ++ taken' ++ later') e.0)
             (compared_then World Simulation ((LacksMemory event answer → ⊥) × All HadMemory quiets.taken) (HadDrains drains) quiet quiet' a b (event_line event (Ok answer) ++ taken) (event_line event (Ok answer') ++ taken') later later'
             (compared_then World World (LacksMemory event answer → ⊥) (All HadMemory quiets.taken) begun begun' quiet quiet' (event_line event (Ok answer)) (event_line event (Ok answer')) taken taken'
-            (told_twice budget budgets s.world begun begun' event (Ok answer) (Ok answer') run tells (subst (λ (v : Event). Tells s.world v (Ok answer') begun') e.0 tells'))
-            (λ is. quieted_twice budget budgets begun quiet quiet' taken taken' quiets run' (subst (λ (w : World). Quiets w quiet' taken') (sym is) quiets')))
+            (told_twice limits budget budgets s.world begun begun' event (Ok answer) (Ok answer') run tells (subst (λ (v : Event). Tells s.world v (Ok answer') begun') e.0 tells'))
+            (λ is. quieted_twice limits budget budgets begun quiet quiet' taken taken' quiets run' (subst (λ (w : World). Quiets w quiet' taken') (sym is) quiets')))
             (λ is. more later'
             (subst (λ (r : List PendingRequest). Drains (record { world = quiet; pending = r }) b later') e.1 (subst (λ (w : World). Drains (record { world = w; pending = rest' }) b later') (sym is) drains'))))

@@ -5,6 +5,7 @@ pub mod Settling
 pub mod Printed
 pub mod Departing
 pub mod Twice
+pub mod Waiting
 pub mod First
 pub mod Drained
 pub mod Items

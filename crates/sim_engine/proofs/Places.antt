@@ -28,7 +28,7 @@ kept_from places first firsts home from kept (inl none) = rw none (record { insi
 kept_from places first firsts home from kept (inr at) = kept.homes home from at
 
 -- no request enters at a core that isn't there
-pub none_above : (places : List (Option PendingRequest)) (first : ℕ) (firsts : List ℕ) (home : ℕ) → IsKept places first firsts → 8 ≤ home → NoneBefore places home (length places)
+pub none_above : (places : List (Option PendingRequest)) (first : ℕ) (firsts : List ℕ) (home : ℕ) → IsKept places first firsts → 64 ≤ home → NoneBefore places home (length places)
 none_above places first firsts home kept above = record { inside = omega arith; none = λ k request less here. λ (same : request.home ≡ home). omega (arith, (kept.asked k request here).low, same, above) }
 
 pub kept_note : (places : List (Option PendingRequest)) (first : ℕ) (firsts firsts' : List ℕ) (home place : ℕ) → IsKept places first firsts → NoneBefore places home place

@@ -24,6 +24,7 @@ use Rattle.sim_engine.specs.Showing.{ShowsAmply, ShowsItems, ShowsOneButForMemor
 use Rattle.sim_engine.specs.Simulations.{Simulation, Performs, just}
 use Rattle.sim_engine.proofs.Departing.{Compared, same, one_lacks, other_lacks}
 use Rattle.sim_engine.proofs.Items.{HadPerforms, performs_amply, performs_on, performed_twice}
+use Rattle.filter_table.specs.Limits.{TableLimits}
 
 -- A script's items
 
@@ -38,42 +39,42 @@ as_ample S Had one other text more had (one_lacks lacks departs) = absurd (lacks
 as_ample S Had one other text more had (other_lacks departs) = inr departs
 
 -- on these cores
-shows_on : (budget : ℕ) (others : List ℕ) (items : List Item) (text : List ℕ) → ShowsItems (budget ∷ others) items text → (s' : Simulation) × Performs (just (boot budget others)) items s' text
-shows_on budget others items text x =
+shows_on : (limits : TableLimits) (budget : ℕ) (others : List ℕ) (items : List Item) (text : List ℕ) → ShowsItems limits (budget ∷ others) items text → (s' : Simulation) × Performs (just (boot limits budget others)) items s' text
+shows_on limits budget others items text x =
     let first : x.0 ≡ budget = (let e = x.2 in cc) in
     let rest : x.1 ≡ others = (let e = x.2 in cc) in
-    (x.3.0, subst (λ (b : ℕ). Performs (just (boot b others)) items x.3.0 text) first (subst (λ (bs : List ℕ). Performs (just (boot x.0 bs)) items x.3.0 text) rest x.3.1))
+    (x.3.0, subst (λ (b : ℕ). Performs (just (boot limits b others)) items x.3.0 text) first (subst (λ (bs : List ℕ). Performs (just (boot limits x.0 bs)) items x.3.0 text) rest x.3.1))
 
-record ItemsAmply (budgets : List ℕ) (items : List Item) : Type 0 where
+record ItemsAmply (limits : TableLimits) (budgets : List ℕ) (items : List Item) : Type 0 where
   pub text : List ℕ
-  pub shows : ShowsItems budgets items text
-  pub others : length budgets ≤ 8 → (more : List ℕ) → ShowsItems budgets items more → (text ≡ more) ⊎ DepartsAlone text more
+  pub shows : ShowsItems limits budgets items text
+  pub others : length budgets ≤ 64 → (more : List ℕ) → ShowsItems limits budgets items more → (text ≡ more) ⊎ DepartsAlone text more
 
-items_amply : (budgets : List ℕ) (items : List Item) → 1 ≤ length budgets → ItemsAmply budgets items
-items_amply [] items some = absurd (omega arith)
-items_amply (budget ∷ others) items some =
-    let s = just (boot budget others) in
-    let p = performs_amply budget others s items ([], refl) in
+items_amply : (limits : TableLimits) (budgets : List ℕ) (items : List Item) → 1 ≤ length budgets → ItemsAmply limits budgets items
+items_amply limits [] items some = absurd (omega arith)
+items_amply limits (budget ∷ others) items some =
+    let s = just (boot limits budget others) in
+    let p = performs_amply limits budget others s items ([], refl) in
     record {
       text = p.text;
       shows = (budget, others, refl, (p.end, p.performs));
-      others = λ few more shows. let x = shows_on budget others items more shows in
-          as_ample Simulation (HadPerforms s items p.end p.text p.performs) p.end x.0 p.text more p.had_memory (performed_twice budget others (omega arith) s p.end x.0 items p.text more ([], refl) p.performs x.1);
+      others = λ few more shows. let x = shows_on limits budget others items more shows in
+          as_ample Simulation (HadPerforms s items p.end p.text p.performs) p.end x.0 p.text more p.had_memory (performed_twice limits budget others (omega arith) s p.end x.0 items p.text more ([], refl) p.performs x.1);
     }
 
-items_twice : (budgets : List ℕ) (items : List Item) (text more : List ℕ) → length budgets ≤ 8 → ShowsItems budgets items text → ShowsItems budgets items more → SameButForMemory text more
-items_twice budgets items text more few shows shows' =
-    let s = just (boot shows.0 shows.1) in
-    let x = shows_on shows.0 shows.1 items more (subst (λ (bs : List ℕ). ShowsItems bs items more) shows.2 shows') in
+items_twice : (limits : TableLimits) (budgets : List ℕ) (items : List Item) (text more : List ℕ) → length budgets ≤ 64 → ShowsItems limits budgets items text → ShowsItems limits budgets items more → SameButForMemory text more
+items_twice limits budgets items text more few shows shows' =
+    let s = just (boot limits shows.0 shows.1) in
+    let x = shows_on limits shows.0 shows.1 items more (subst (λ (bs : List ℕ). ShowsItems limits bs items more) shows.2 shows') in
     let long = ap length shows.2 in
     same_but Simulation (HadPerforms s items shows.3.0 text shows.3.1) shows.3.0 x.0 text more
-    (performed_twice shows.0 shows.1 (omega arith) s shows.3.0 x.0 items text more ([], refl) shows.3.1 x.1)
+    (performed_twice limits shows.0 shows.1 (omega arith) s shows.3.0 x.0 items text more ([], refl) shows.3.1 x.1)
 
 -- what the first items print begins what all of them do
-items_on : (budgets : List ℕ) (items before after : List Item) (text : List ℕ) → items ≡ before ++ after → ShowsItems budgets before text → (more : List ℕ) × ShowsItems budgets items (text ++ more)
-items_on budgets items before after text is shows =
-    let all = performs_on shows.0 shows.1 (just (boot shows.0 shows.1)) shows.3.0 before after text ([], refl) shows.3.1 in
-    (all.1, subst (λ (xs : List Item). ShowsItems budgets xs (text ++ all.1)) (sym is) (shows.0, shows.1, shows.2, (all.0, all.2)))
+items_on : (limits : TableLimits) (budgets : List ℕ) (items before after : List Item) (text : List ℕ) → items ≡ before ++ after → ShowsItems limits budgets before text → (more : List ℕ) × ShowsItems limits budgets items (text ++ more)
+items_on limits budgets items before after text is shows =
+    let all = performs_on limits shows.0 shows.1 (just (boot limits shows.0 shows.1)) shows.3.0 before after text ([], refl) shows.3.1 in
+    (all.1, subst (λ (xs : List Item). ShowsItems limits budgets xs (text ++ all.1)) (sym is) (shows.0, shows.1, shows.2, (all.0, all.2)))
 
 -- A script
 
@@ -94,10 +95,10 @@ has_budgets s text script stands = by stands.0 stands.2
     by (Err fault) e = absurd cc
 
 pub script_on : (files : List (List ℕ)) (input : List ℕ) (script : Script) (before after : List Item) (text more : List ℕ) → Stands (for_simulation files) input (Ok script) → script.items ≡ before ++ after
-    → ShowsItems script.budgets before (text ++ more) → (later : List ℕ) × ShowsScript files input 0 (text ++ later)
+    → ShowsItems script.limits script.budgets before (text ++ more) → (later : List ℕ) × ShowsScript files input 0 (text ++ later)
 script_on files input script before after text more stands is shows =
-    let all = items_on script.budgets script.items before after (text ++ more) is shows in
-    (more ++ all.0, inl (script, stands, refl, subst (ShowsItems script.budgets script.items) (append_assoc text more all.0) all.1))
+    let all = items_on script.limits script.budgets script.items before after (text ++ more) is shows in
+    (more ++ all.0, inl (script, stands, refl, subst (ShowsItems script.limits script.budgets script.items) (append_assoc text more all.0) all.1))
 
 module _ (files : List (List ℕ)) (input : List ℕ) (are_files : AreFiles files) where
   same_script : (one other : Script) → Stands (for_simulation files) input (Ok one) → Stands (for_simulation files) input (Ok other) → one ≡ other
@@ -106,7 +107,7 @@ module _ (files : List (List ℕ)) (input : List ℕ) (are_files : AreFiles file
   not_both : (script : Script) (fault : ScriptFault) → Stands (for_simulation files) input (Ok script) → Stands (for_simulation files) input (Err fault) → ⊥
   not_both script fault stands stands' = let never = one_outcome (for_simulation files) are_files input (Ok script) (Err fault) stands stands' in cc
 
-  few_cores : (script : Script) → length input ≤ INPUT_BYTES → Stands (for_simulation files) input (Ok script) → length script.budgets ≤ 8
+  few_cores : (script : Script) → length input ≤ INPUT_BYTES → Stands (for_simulation files) input (Ok script) → length script.budgets ≤ 64
   few_cores script short stands = let limits : HasLimits script = limits_from (for_simulation files) input (Ok script) (omega arith) stands in limits.few
 
   script_once : length input ≤ INPUT_BYTES → ShowsOneButForMemory (ShowsScript files input)
@@ -114,7 +115,7 @@ module _ (files : List (List ℕ)) (input : List ℕ) (are_files : AreFiles file
       let is = same_script two.0 one.0 two.1 one.1 in (
         one.2 ∙ sym two.2,
         λ refused. absurd (omega (arith, one.2, refused)),
-        items_twice one.0.budgets one.0.items text more (few_cores one.0 short one.1) one.3 (subst (λ (s : Script). ShowsItems s.budgets s.items more) is two.3),
+        items_twice one.0.limits one.0.budgets one.0.items text more (few_cores one.0 short one.1) one.3 (subst (λ (s : Script). ShowsItems s.limits s.budgets s.items more) is two.3),
       )
   script_once short status other text more (inl one) (inr two) = absurd (not_both one.0 two.0 one.1 two.1)
   script_once short status other text more (inr one) (inl two) = absurd (not_both two.0 one.0 two.1 one.1)
@@ -139,12 +140,12 @@ module _ (files : List (List ℕ)) (input : List ℕ) (are_files : AreFiles file
   script_some : (script : Script) → AllShort input files → Stands (for_simulation files) input (Ok script) → ShowsAmply (ShowsSim files input)
   script_some script short stands = (0, all.text, inl (short, inl (script, stands, refl, all.shows)), by)
     where
-      all : ItemsAmply script.budgets script.items
-      all = items_amply script.budgets script.items (has_budgets (for_simulation files) input script stands)
+      all : ItemsAmply script.limits script.budgets script.items
+      all = items_amply script.limits script.budgets script.items (has_budgets (for_simulation files) input script stands)
 
       by : (other : ℕ) (more : List ℕ) → ShowsSim files input other more → (all.text ≡ more) ⊎ DepartsAlone all.text more
       by other more (inl (short', inl x)) =
-          all.others (few_cores script short.0 stands) more (subst (λ (s : Script). ShowsItems s.budgets s.items more) (same_script x.0 script x.1 stands) x.3)
+          all.others (few_cores script short.0 stands) more (subst (λ (s : Script). ShowsItems s.limits s.budgets s.items more) (same_script x.0 script x.1 stands) x.3)
       by other more (inl (short', inr x)) = absurd (not_both script x.0 stands x.1)
       by other more (inr long) = absurd (not_long input files short long.0)
 

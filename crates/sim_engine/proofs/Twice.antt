@@ -24,6 +24,7 @@ use Rattle.sim_lines.specs.Events.{event_line, done_line}
 use Rattle.sim_engine.specs.Memory.{DepartsByMemory}
 use Rattle.sim_engine.specs.Simulations.{Tells, Quiets}
 use Rattle.sim_engine.proofs.Departing.{Compared, same, one_lacks, other_lacks, compared_as, compared_texts, compared_then}
+use Rattle.filter_table.specs.Limits.{TableLimits}
 
 -- a fault that is told stands
 pub stands : (w : World) (event : Event) (fault : WorldFault) → fault ≢ NoMemory → WorldRefuses w event fault → StandsFirst w event fault
@@ -85,36 +86,36 @@ pub record QuietsAmply (w : World) : Type 0 where
   pub quiets : Quiets w end text
   pub had_memory : All HadMemory quiets.taken
 
-module _ (budget : ℕ) (budgets : List ℕ) where
-  pub told_amply : (w : World) (event : Event) → Reached budget budgets w → Told w event
-  told_amply w event run = by (event_told budget budgets run.0 w event run.1)
+module _ (limits : TableLimits) (budget : ℕ) (budgets : List ℕ) where
+  pub told_amply : (w : World) (event : Event) → Reached limits budget budgets w → Told w event
+  told_amply w event run = by (event_told limits budget budgets run.0 w event run.1)
     where
       by : DoneOrRefused w event → Told w event
       by (inl d) = is_done d.answer d.next d.happens d.had_memory
       by (inr f) = is_refused f.0 (refuses w event f.0 f.1)
 
-  pub quiets_amply : (w : World) → Reached budget budgets w → QuietsAmply w
+  pub quiets_amply : (w : World) → Reached limits budget budgets w → QuietsAmply w
   quiets_amply w run =
-      let s = run_settles budget budgets run.0 w run.1 in
+      let s = run_settles limits budget budgets run.0 w run.1 in
       record { end = s.end; text = flat_map done_line s.taken; quiets = record { taken = s.taken; settles = s.settles; quiet = s.quiet; printed = refl }; had_memory = s.had_memory }
 
   -- a run goes on
-  pub reached_more : (w w' : World) (event : Event) (answer : Answer) → Reached budget budgets w → Happens w event w' answer → Reached budget budgets w'
-  reached_more w w' event answer run h = (run.0 ++ record { event = event; answer = answer } ∷ [], runs_more (boot budget budgets) w w' run.0 (record { event = event; answer = answer }) run.1 h)
+  pub reached_more : (w w' : World) (event : Event) (answer : Answer) → Reached limits budget budgets w → Happens w event w' answer → Reached limits budget budgets w'
+  reached_more w w' event answer run h = (run.0 ++ record { event = event; answer = answer } ∷ [], runs_more (boot limits budget budgets) w w' run.0 (record { event = event; answer = answer }) run.1 h)
 
-  pub reached_told : (w w' : World) (event : Event) (told : Result Answer WorldFault) → Reached budget budgets w → Tells w event told w' → Reached budget budgets w'
+  pub reached_told : (w w' : World) (event : Event) (told : Result Answer WorldFault) → Reached limits budget budgets w → Tells w event told w' → Reached limits budget budgets w'
   reached_told w w' event (Ok answer) run tells = reached_more w w' event answer run tells
-  reached_told w w' event (Err fault) run tells = subst (Reached budget budgets) (sym tells.2) run
+  reached_told w w' event (Err fault) run tells = subst (Reached limits budget budgets) (sym tells.2) run
 
-  pub reached_settled : (w w' : World) (taken : List Done) → Reached budget budgets w → Settles w taken w' → Reached budget budgets w'
-  reached_settled w w' [] run settles = subst (Reached budget budgets) (sym settles) run
+  pub reached_settled : (w w' : World) (taken : List Done) → Reached limits budget budgets w → Settles w taken w' → Reached limits budget budgets w'
+  reached_settled w w' [] run settles = subst (Reached limits budget budgets) (sym settles) run
   reached_settled w w' (done ∷ taken) run settles = reached_settled settles.0 w' taken (reached_more w settles.0 done.event done.answer run settles.2) settles.3
 
   -- what happens isn't refused
-  pub not_refused : (w w1 w2 : World) (event : Event) (answer : Answer) (fault : WorldFault) → Reached budget budgets w → Tells w event (Ok answer) w1 → Tells w event (Err fault) w2 → ⊥
-  not_refused w w1 w2 event answer fault run done refused = none_stands budget budgets run.0 w w1 event answer fault run.1 done (stands w event fault refused.0 refused.1)
+  pub not_refused : (w w1 w2 : World) (event : Event) (answer : Answer) (fault : WorldFault) → Reached limits budget budgets w → Tells w event (Ok answer) w1 → Tells w event (Err fault) w2 → ⊥
+  not_refused w w1 w2 event answer fault run done refused = none_stands limits budget budgets run.0 w w1 event answer fault run.1 done (stands w event fault refused.0 refused.1)
 
-  pub told_twice : (w w1 w2 : World) (event : Event) (t1 t2 : Result Answer WorldFault) → Reached budget budgets w → Tells w event t1 w1 → Tells w event t2 w2
+  pub told_twice : (w w1 w2 : World) (event : Event) (t1 t2 : Result Answer WorldFault) → Reached limits budget budgets w → Tells w event t1 w1 → Tells w event t2 w2
       → Compared World (HadTold event t1) w1 w2 (event_line event t1) (event_line event t2)
   told_twice w w1 w2 event (Ok a1) (Ok a2) run x y = by (lacks_or_not event a1) (lacks_or_not event a2)
     where
@@ -128,7 +129,7 @@ module _ (budget : ℕ) (budgets : List ℕ) where
   told_twice w w1 w2 event (Err f1) (Err f2) run x y =
       same (x.2 ∙ sym y.2) (ap (λ (f : WorldFault). event_line event (Err f)) (stands_once w event f1 f2 (stands w event f1 x.0 x.1) (stands w event f2 y.0 y.1)))
 
-  settled_twice : (w w1 w2 : World) (xs ys : List Done) → Reached budget budgets w → Settles w xs w1 → AllQuiet w1 → Settles w ys w2 → AllQuiet w2
+  settled_twice : (w w1 w2 : World) (xs ys : List Done) → Reached limits budget budgets w → Settles w xs w1 → AllQuiet w1 → Settles w ys w2 → AllQuiet w2
       → Compared World (All HadMemory xs) w1 w2 (flat_map done_line xs) (flat_map done_line ys)
   settled_twice w w1 w2 [] [] run x quiet y quiet' = same (x ∙ sym y) refl
   settled_twice w w1 w2 [] (d ∷ ys) run x quiet y quiet' = absurd (quiet_no_next w d.event (subst AllQuiet x quiet) y.1)
@@ -142,7 +143,7 @@ module _ (budget : ℕ) (budgets : List ℕ) where
       (compared_then World World (LacksMemory d.event d.answer → ⊥) (All HadMemory xs) x.0 y.0 w1 w2 (done_line d) (done_line d') (flat_map done_line xs) (flat_map done_line ys) now'
       (λ e. settled_twice x.0 w1 w2 xs ys (reached_more w x.0 d.event d.answer run x.2) x.3 quiet (subst (λ (v : World). Settles v ys w2) (sym e) y.3) quiet'))
 
-  pub quieted_twice : (w w1 w2 : World) (t1 t2 : List ℕ) (x : Quiets w w1 t1) → Reached budget budgets w → Quiets w w2 t2 → Compared World (All HadMemory x.taken) w1 w2 t1 t2
+  pub quieted_twice : (w w1 w2 : World) (t1 t2 : List ℕ) (x : Quiets w w1 t1) → Reached limits budget budgets w → Quiets w w2 t2 → Compared World (All HadMemory x.taken) w1 w2 t1 t2
   quieted_twice w w1 w2 t1 t2 x run y =
       compared_texts World (All HadMemory x.taken) w1 w2 (flat_map done_line x.taken) t1 (flat_map done_line y.taken) t2 x.printed y.printed
       (settled_twice w w1 w2 x.taken y.taken run x.settles x.quiet y.settles y.quiet)

@@ -1,5 +1,5 @@
 -- How the requests are kept: a place for each, empty once it has been begun, and for each core the place to look from.
--- They enter at cores below 8, and their programs are short enough to be sent.
+-- They enter at cores below 64, and their programs are short enough to be sent.
 -- No public clause cites these.
 use Rattle.std.specs.Prelude.{◌≡◌, ◌≢◌, ◌<◌, ◌≤◌, ℕ, Some, Option, List, length, slice_get}
 use Rattle.filter_table.specs.Tables.{HasShortProgram}
@@ -16,7 +16,7 @@ pub record NoneBefore (places : List (Option PendingRequest)) (home end : ℕ) :
   pub none : (k : ℕ) (request : PendingRequest) → k < end → slice_get places k ≡ Some (Some request) → request.home ≢ home
 
 pub record IsWellAsked (request : PendingRequest) : Type 0 where
-  pub low : request.home < 8
+  pub low : request.home < 64
   pub short : HasShortProgram request.op
 
 pub record IsKept (places : List (Option PendingRequest)) (first : ℕ) (firsts : List ℕ) : Type 0 where

@@ -11,15 +11,16 @@ use Rattle.script_input.specs.Faults.{script_fault_line}
 use Rattle.script_input.specs.Inputs.{AllShort, SomeLong}
 use Rattle.sim_engine.specs.Memory.{DepartsAlone, SameButForMemory}
 use Rattle.sim_engine.specs.Simulations.{Simulation, Performs, just}
+use Rattle.filter_table.specs.Limits.{TableLimits}
 
--- what the script's items print, on cores with its budgets
-abbrev pub ShowsItems : List ℕ → List Item → List ℕ → Type 0
-ShowsItems budgets items text = (budget : ℕ) × (others : List ℕ) × (budgets ≡ budget ∷ others) × ((s' : Simulation) × Performs (just (boot budget others)) items s' text)
+-- what the script's items print, on cores with its limits and budgets
+abbrev pub ShowsItems : TableLimits → List ℕ → List Item → List ℕ → Type 0
+ShowsItems limits budgets items text = (budget : ℕ) × (others : List ℕ) × (budgets ≡ budget ∷ others) × ((s' : Simulation) × Performs (just (boot limits budget others)) items s' text)
 
 -- what the script prints, or the line of its first fault
 abbrev pub ShowsScript : List (List ℕ) → List ℕ → ℕ → List ℕ → Type 0
 ShowsScript files input status text =
-    ((script : Script) × Stands (for_simulation files) input (Ok script) × (status ≡ 0) × ShowsItems script.budgets script.items text)
+    ((script : Script) × Stands (for_simulation files) input (Ok script) × (status ≡ 0) × ShowsItems script.limits script.budgets script.items text)
     ⊎ ((fault : ScriptFault) × Stands (for_simulation files) input (Err fault) × (status ≡ 1) × (text ≡ script_fault_line fault))
 
 -- the script and each file have a limit

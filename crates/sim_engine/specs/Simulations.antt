@@ -62,7 +62,7 @@ pub data Begins (s : Simulation) (by : Way) (s' : Simulation) (text : List ℕ) 
 
 -- no core has a request waiting on core 0
 abbrev pub NoneWaits : World → Type 0
-NoneWaits w = (core : ℕ) → core < 8 → waiting_at w core ≡ None
+NoneWaits w = (core : ℕ) → core < 64 → waiting_at w core ≡ None
 
 -- what settling begins next, and what is pending without it: the request that the least core has waiting, else the first
 pub data Next (s : Simulation) (event : Event) (rest : List PendingRequest) : Type 0 where
@@ -112,7 +112,7 @@ no_core_line core = codes "show " ++ decimal core ++ codes ": fault NoSuchCore\n
 
 abbrev pub Shows : World → ℕ → List ℕ → Type 0
 Shows w core text =
-    ((version : ℕ) × (version_at w core ≡ Some version) × (text ≡ table_text core (table w.log version)))
+    ((version : ℕ) × (version_at w core ≡ Some version) × (text ≡ table_text core (table w.limits w.log version)))
     ⊎ ((version_at w core ≡ None) × (text ≡ no_core_line core))
 
 -- Items

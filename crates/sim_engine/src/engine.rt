@@ -111,14 +111,15 @@ fn run_script<C: Channel, W: Write>(
 ) -> Result<u8, EngineFault>
     requires limits { HasLimits script.now }
     requires good { writer.old.failed ≡ false }
-    ensures shown { IfOk result (λ status. (status ≡ 0) × ((text : List ℕ) × Writes W.contents writer.old writer.new text × ShowsItems script.now.budgets script.now.items text)) }
+    ensures shown { IfOk result (λ status. (status ≡ 0) × ((text : List ℕ) × Writes W.contents writer.old writer.new text × ShowsItems script.now.limits script.now.budgets script.now.items text)) }
     ensures fault { IfErr result IsPrintFault }
     ensures good { OnOk result (writer.new.failed ≡ false) }
     ensures cause { IfErr result (StopsWriting writer.new) }
     ensures part { IsErrOf result EngineFault.NoMemory → (writer.new ≡ writer.old) ⊎ ((done rest : List GhostItem) × (script.now.items ≡ done ++ rest) × (text more : List ℕ)
-        × ShowsItems script.now.budgets done (text ++ more) × Writes W.contents writer.old writer.new text) }
+        × ShowsItems script.now.limits script.now.budgets done (text ++ more) × Writes W.contents writer.old writer.new text) }
 {
-    let mut world = match WorldOver::<C>::boot(alloc, script.budgets.as_slice()) {
+    let budgets = script.budgets.as_slice();
+    let mut world = match WorldOver::<C>::boot_with_limits(alloc, script.limits, budgets) {
         Ok(world) => world,
         Err(BootFault::CoreCount) => unreachable!(),
         Err(BootFault::NoMemory) => return Err(EngineFault::NoMemory),

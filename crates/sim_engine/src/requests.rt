@@ -6,11 +6,9 @@ ghost use Rattle.sim_engine.specs.Keeping.{IsKept, EmptyBefore, NoneBefore, IsFi
 ghost use Rattle.sim_engine.specs.declared.requests.PendingRequest.{PendingRequest as GhostRequest};
 
 use filter_table::Op;
+use monitor_2pc::MOST_CORES;
 use std::alloc::{AllocError, Global};
 use std::marker::Model;
-
-/// The most cores.
-pub(crate) const CORES: u16 = 8;
 
 /// A request, and the core that it enters at.
 #[derive(Drop)]
@@ -30,7 +28,7 @@ impl PendingRequest {
 }
 
 /// Requests in the order in which they were asked for, seen as a list of places, of which those that were begun are empty.
-/// They enter at cores below 8, and their programs are short enough to be sent.
+/// They enter at cores below 64, and their programs are short enough to be sent.
 #[derive(Drop)]
 pub(crate) struct Requests {
     places: Vec<Option<PendingRequest>>,
@@ -60,13 +58,13 @@ impl Requests {
         Ok(Requests {
             places: Vec::new(alloc),
             first: 0,
-            firsts: vec![in alloc; 0; usize::from(CORES)]?,
+            firsts: vec![in alloc; 0; usize::from(MOST_CORES)]?,
         })
     }
 
     /// One more request, last.
     pub(crate) fn push(&mut self, request: PendingRequest) -> Result<(), AllocError>
-        requires low { request.home < 8 }
+        requires low { request.home < 64 }
         requires short { HasShortProgram request.op }
         ensures { OnOk result (self.new ≡ self.old ++ Some request ∷ []) }
     {
@@ -103,7 +101,7 @@ impl Requests {
     {
         let from = from_at(&self.firsts, home);
         // Such a core has no place to look from, and no request.
-        if home >= CORES {
+        if home >= MOST_CORES {
             return None;
         }
         let place = next_at(&self.places, home, from);

@@ -29,7 +29,7 @@ pub(crate) fn perform_all<C: Channel, W: Write>(
     writer: &mut Sink<W>,
 ) -> Result<(), EngineFault>
     requires limited { All IsLimited items.now }
-    requires entered { All (EntersBelow 8) items.now }
+    requires entered { All (EntersBelow 64) items.now }
     requires good { writer.old.failed ≡ false }
     ensures shown { OnOk result ((s' : Simulation) × (text : List ℕ) × Performs (just world.old) items.now s' text
         × Writes W.contents writer.old writer.new text) }
@@ -72,7 +72,7 @@ fn perform<C: Channel>(
     text: &mut Vec<u8>,
 ) -> Result<(), AllocError>
     requires limited { IsLimited item.now }
-    requires entered { EntersBelow 8 item.now }
+    requires entered { EntersBelow 64 item.now }
     ensures { OnOk result ((lines : List ℕ) × Does (sim world.old requests.old) item.now (sim world.new requests.new) lines
         × (text.new.items ≡ text.old.items ++ lines)) }
 {

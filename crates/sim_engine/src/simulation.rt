@@ -14,9 +14,10 @@ ghost use Rattle.sim_engine.specs.Keeping.{IsFirst};
 ghost use Rattle.sim_engine.specs.Simulations.{Tells, Begins, Quiets, BeginsNext, NoneWaits, SettlesAll, Shows, no_core_line, nothing_line, sim};
 ghost use Rattle.sim_engine.specs.Ways.{event_of, way_of};
 
-use crate::requests::{CORES, Requests};
+use crate::requests::Requests;
 use crate::way::Way;
 use filter_table::Op;
+use monitor_2pc::MOST_CORES;
 use sim_lines::{line_of, show_core};
 use std::alloc::{AllocError, Global};
 use std::fmt::Write;
@@ -138,7 +139,11 @@ fn least_waiting<C: Channel>(world: &WorldOver<C>) -> Option<u16>
     ensures { MatchOption result (NoneWaits world.now) (λ core. (op : GhostOp) × (waiting_at world.now core ≡ Some op)
         × ((less : ℕ) → less < core → waiting_at world.now less ≡ None)) }
 {
-    for core in 0..CORES {
+    for core in 0..MOST_CORES {
+        // No core from here on is there, so that none has a request waiting.
+        let Some(_) = world.replica(core) else {
+            return None;
+        };
         if world.waiting(core).is_some() {
             return Some(core);
         }

@@ -2,7 +2,7 @@
 use Rattle.std.specs.Prelude.{ℕ, List, [], ◌++◌, codes}
 use Rattle.std.specs.Fmt.{decimal}
 use Rattle.filter_table.specs.declared.operation.OpFault.{OpFault}
-use Rattle.filter_table.specs.declared.operation.OpFault.TheVariants.{NoCap, NotHolder, NoRight, RightsExceed, EndpointTaken, CapsFull, IdsSpent, NoFilter, NotOwner, TableFull, FilterIdsSpent, BadProgram, VersionsSpent}
+use Rattle.filter_table.specs.declared.operation.OpFault.TheVariants.{NoCap, NotHolder, NoRight, RightsExceed, EndpointTaken, CapsFull, IdsSpent, NoFilter, NotOwner, TableFull, FilterIdsSpent, BadProgram, VersionsSpent, DomainFull}
 use Rattle.filter_table.specs.declared.operation.Made.{Made}
 use Rattle.filter_table.specs.declared.operation.Made.TheVariants.{Cap, Filter, Nothing}
 use Rattle.filter_table.specs.declared.decision.Vote.{Vote}
@@ -24,6 +24,7 @@ rule_words IdsSpent = codes "IdsSpent"
 rule_words NoFilter = codes "NoFilter"
 rule_words NotOwner = codes "NotOwner"
 rule_words TableFull = codes "TableFull"
+rule_words DomainFull = codes "DomainFull"
 rule_words FilterIdsSpent = codes "FilterIdsSpent"
 rule_words (BadProgram rule pc) = codes "BadProgram " ++ decimal rule ++ codes " " ++ decimal pc
 rule_words VersionsSpent = codes "VersionsSpent"

@@ -61,6 +61,7 @@ fn push_rule(text: &mut String, fault: OpFault) -> Result<(), AllocError>
         OpFault::NoFilter => text.push_str("NoFilter"),
         OpFault::NotOwner => text.push_str("NotOwner"),
         OpFault::TableFull => text.push_str("TableFull"),
+        OpFault::DomainFull => text.push_str("DomainFull"),
         OpFault::FilterIdsSpent => text.push_str("FilterIdsSpent"),
         OpFault::BadProgram { rule, pc } => write!(text, "BadProgram {rule} {pc}"),
         OpFault::VersionsSpent => text.push_str("VersionsSpent"),

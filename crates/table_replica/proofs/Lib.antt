@@ -12,3 +12,4 @@ pub mod Soundness
 pub mod Marking
 pub mod Boxes
 pub mod Planned
+pub mod OfDomain

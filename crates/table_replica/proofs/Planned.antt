@@ -9,6 +9,7 @@ use Rattle.filter_table.specs.Soundness.{IsSoundTable, IdsGrow}
 use Rattle.filter_table.specs.declared.operation.Made.{Made}
 use Rattle.filter_table.proofs.Changes.{fits_after}
 use Rattle.filter_table.proofs.Soundness.{sound_next, ids_stay, ids_after}
+use Rattle.filter_table.proofs.Tables.{limits-after}
 use Rattle.filter_table.specs.Tables.{TableState, after, made, instructions_of}
 use Rattle.filter_table.specs.declared.operation.Op.{Op}
 use Rattle.filter_table.specs.declared.operation.Op.TheVariants.{Create, Mint, Revoke, DropCap, Install, Remove, Replace}
@@ -40,8 +41,8 @@ version_after s (Remove domain id) = refl
 version_after s (Replace domain id program) = refl
 
 pub is_after : (s : TableState) (op : Op) (caps : CapTable) (listed : List ListedFilter) (next : ℕ) → caps ≡ (after s op).caps → listed ≡ (after s op).filters → next ≡ (after s op).next_filter
-    → record { version = s.version + 1; caps = caps; filters = listed; next_filter = next } ≡ after s op
-is_after s op caps listed next c f n = λ j. record { version = sym (version_after s op) j; caps = c j; filters = f j; next_filter = n j }
+    → record { limits = s.limits; version = s.version + 1; caps = caps; filters = listed; next_filter = next } ≡ after s op
+is_after s op caps listed next c f n = λ j. record { limits = sym (limits-after s op) j; version = sym (version_after s op) j; caps = c j; filters = f j; next_filter = n j }
 
 -- the capabilities once they are changed as planned
 pub plan_caps : (s : TableState) (held : Holding) (plan : Plan) (new : CapTable) → IsPlan s held plan → new ≡ caps_after s.caps plan.caps → new ≡ (after s plan.op.value).caps

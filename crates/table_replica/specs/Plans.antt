@@ -1,7 +1,7 @@
 -- What is ready for a staged operation, so that to perform it takes no memory and can't fail.
 -- No public clause cites these.
 use Rattle.std.specs.Prelude.{◌≡◌, ◌<◌, IsTrue, Option, Some, None, List}
-use Rattle.endpoint_caps.specs.Capabilities.{CapTable, created, minted_from, revoked, dropped, first, create_tests, mint_tests}
+use Rattle.endpoint_caps.specs.Capabilities.{CapBounds, CapTable, created, minted_from, revoked, dropped, first, create_tests, mint_tests}
 use Rattle.endpoint_caps.specs.Holding.{Holding}
 use Rattle.filter_table.specs.Listed.{ListedFilter, FilterTable}
 use Rattle.filter_table.specs.Tables.{TableState, after, made}
@@ -27,10 +27,10 @@ caps_after table (Mint domain cap to rights) = minted_from table cap to rights
 caps_after table (Revoke cap) = revoked table cap
 caps_after table (DropCap cap) = dropped table cap
 
--- one more capability takes no memory, and nothing refuses it
+-- one more capability takes no memory, and nothing refuses it under some limits
 abbrev pub IsReady : Holding → CapChange → Type 0
-IsReady caps (Create domain endpoint) = IsTrue caps.ready × (first (create_tests caps.table endpoint) ≡ None)
-IsReady caps (Mint domain cap to rights) = IsTrue caps.ready × (first (mint_tests caps.table domain cap rights) ≡ None)
+IsReady caps (Create domain endpoint) = IsTrue caps.ready × (limits : CapBounds) × (first (create_tests limits caps.table domain endpoint) ≡ None)
+IsReady caps (Mint domain cap to rights) = IsTrue caps.ready × (limits : CapBounds) × (first (mint_tests limits caps.table domain cap rights) ≡ None)
 IsReady caps change = Unit {0}
 
 -- the filters of the next table, whose capabilities these are: those of this table may stay, or here are others

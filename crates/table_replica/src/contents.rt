@@ -16,7 +16,8 @@ ghost use Rattle.table_replica.specs.Plans.{AreNextFilters};
 use crate::boxed::BoxedFilters;
 use crate::plan::{Plan, change_caps, prepare_caps};
 use crate::remaining::Remaining;
-use crate::{Filter, Load, Made, Op, OpFault, StageFault};
+use crate::shares::{exceed, owned_fit_with, owns_as_many};
+use crate::{Filter, Limits, Load, Made, Op, OpFault, StageFault};
 use bpf_insn::Insn;
 use endpoint_caps::{CapFault, Caps, Right};
 use filter_verify::{Refusal, Room, Verified, verify};
@@ -24,11 +25,9 @@ use std::alloc::{AllocError, Global};
 use std::marker::Model;
 use std::snapshot::Snapshot;
 
-/// How many filters may be listed.
-const FILTERS: usize = 1024;
-
 /// The table, and the plan of the operation that is staged, if one is.
 pub(crate) struct Contents {
+    limits: Limits,
     version: u64,
     caps: Caps,
     filters: BoxedFilters,
@@ -40,6 +39,7 @@ pub(crate) struct Contents {
 impl Drop for Contents {
     fn drop(self) {
         let Contents {
+            limits: _,
             version: _,
             caps: _,
             filters: _,
@@ -57,9 +57,9 @@ impl Model for Contents {
 
     ghost Value = { Staging };
 
-    ghost view = { λ a. record { table = record { version = a.version; caps = a.caps.table; filters = a.filters.listed; next_filter = a.next_filter }; staged = staged_op a.plan } };
+    ghost view = { λ a. record { table = record { limits = a.limits; version = a.version; caps = a.caps.table; filters = a.filters.listed; next_filter = a.next_filter }; staged = staged_op a.plan } };
 
-    ghost invariant = { λ a. (a.filters.under ≡ a.caps.table) × IsPlanned (record { version = a.version; caps = a.caps.table; filters = a.filters.listed; next_filter = a.next_filter }) a.caps a.plan };
+    ghost invariant = { λ a. (a.filters.under ≡ a.caps.table) × IsPlanned (record { limits = a.limits; version = a.version; caps = a.caps.table; filters = a.filters.listed; next_filter = a.next_filter }) a.caps a.plan };
 }
 
 /// The fault of the capabilities as a reason not to stage.
@@ -74,6 +74,7 @@ fn ruled(answer: Result<(), CapFault>) -> Result<(), StageFault>
         Err(CapFault::RightsExceed) => Err(StageFault::Rule(OpFault::RightsExceed)),
         Err(CapFault::EndpointTaken) => Err(StageFault::Rule(OpFault::EndpointTaken)),
         Err(CapFault::CapsFull) => Err(StageFault::Rule(OpFault::CapsFull)),
+        Err(CapFault::DomainFull) => Err(StageFault::Rule(OpFault::DomainFull)),
         Err(CapFault::IdsSpent) => Err(StageFault::Rule(OpFault::IdsSpent)),
         Err(CapFault::NoMemory) => Err(StageFault::NoMemory),
     }
@@ -81,18 +82,31 @@ fn ruled(answer: Result<(), CapFault>) -> Result<(), StageFault>
 
 impl Contents {
     /// An empty table.
-    pub(crate) fn resume(alloc: Global, version: u64, next_cap: u32, next_filter: u32) -> Contents
-        ensures { result ≡ record { table = record { version = version; caps = record { held = []; next = next_cap }; filters = []; next_filter = next_filter }; staged = None } }
+    pub(crate) fn resume(
+        alloc: Global,
+        limits: Limits,
+        version: u64,
+        next_cap: u32,
+        next_filter: u32,
+    ) -> Contents
+        ensures { result ≡ record { table = record { limits = limits; version = version; caps = record { held = []; next = next_cap }; filters = []; next_filter = next_filter }; staged = None } }
     {
         let caps = Caps::resume(alloc, next_cap);
         let filters = BoxedFilters::new(&Remaining::all(&caps));
         Contents {
+            limits,
             version,
             caps,
             filters,
             next_filter,
             plan: None,
         }
+    }
+
+    pub(crate) fn limits(&self) -> Limits
+        ensures { result ≡ self.now.table.limits }
+    {
+        self.limits
     }
 
     pub(crate) fn version(&self) -> u64
@@ -130,13 +144,21 @@ impl Contents {
             return Err(StageFault::Rule(OpFault::VersionsSpent));
         }
         match op {
-            Op::Create { endpoint, .. } => ruled(self.caps.check_create(*endpoint)),
+            Op::Create { domain, endpoint } => {
+                ruled(
+                    self.caps
+                        .check_create(self.limits.caps(), *domain, *endpoint),
+                )
+            }
             Op::Mint {
                 domain,
                 cap,
                 rights,
                 ..
-            } => match self.caps.check_mint(*domain, *cap, *rights) {
+            } => match self
+                .caps
+                .check_mint(self.limits.caps(), *domain, *cap, *rights)
+            {
                 Ok(_) => Ok(()),
                 Err(fault) => ruled(Err(fault)),
             },
@@ -213,8 +235,14 @@ impl Contents {
         ensures { result_err result ≡ first (install_tests self.now.table budget domain cap program.now) }
     {
         ruled(self.caps.may(cap, domain, Right::Receive))?;
-        if self.filters.len() >= FILTERS {
+        if self.filters.len() >= self.limits.filters() as usize {
             return Err(StageFault::Rule(OpFault::TableFull));
+        }
+        if owns_as_many(&self.filters, domain, self.limits.domain_filters()) {
+            return Err(StageFault::Rule(OpFault::DomainFull));
+        }
+        if exceed(&self.filters, domain, program, self.limits.domain_insns()) {
+            return Err(StageFault::Rule(OpFault::DomainFull));
         }
         if self.next_filter == u32::MAX {
             return Err(StageFault::Rule(OpFault::FilterIdsSpent));
@@ -253,6 +281,10 @@ impl Contents {
     {
         let cap = self.owned(domain, id)?;
         ruled(self.caps.may(cap, domain, Right::Receive))?;
+        let limit = self.limits.domain_insns();
+        if !owned_fit_with(&self.filters, domain, id, program, limit) {
+            return Err(StageFault::Rule(OpFault::DomainFull));
+        }
         if self.filters.fit_with(id, program, budget) {
             Ok(())
         } else {
@@ -344,7 +376,7 @@ impl Contents {
         let filters = self.filters_after(alloc, budget, op, program)?;
         let made = self.made(op);
         let next_filter = self.next_filter_after(op);
-        let caps = prepare_caps(&mut self.caps, op)?;
+        let caps = prepare_caps(&mut self.caps, self.limits.caps(), op)?;
         self.plan = Some(Plan {
             caps,
             filters,

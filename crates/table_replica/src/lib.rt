@@ -13,11 +13,12 @@ mod reaches;
 mod remaining;
 mod replica;
 mod settling;
+mod shares;
 mod shifts;
 
 pub use bpf_insn::Insn;
 use contents::Contents;
-pub use filter_table::{Kept, Load, Made, Op, OpFault, Program, StageFault};
+pub use filter_table::{Kept, Limits, Load, Made, Op, OpFault, Program, StageFault};
 pub use filter_verify::Room;
 pub use filters::{Filter, FilterIter, Scratch};
 pub use replica::Replica;

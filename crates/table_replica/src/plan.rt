@@ -4,7 +4,7 @@ ghost use Rattle.table_replica.specs.Plans.{change_of, caps_after, IsReady};
 
 use crate::boxed::BoxedFilters;
 use crate::{Made, Op};
-use endpoint_caps::{Caps, Rights};
+use endpoint_caps::{CapLimits, Caps, Rights};
 use std::alloc::AllocError;
 use std::snapshot::Snapshot;
 
@@ -41,32 +41,41 @@ pub(crate) struct Plan {
     pub(crate) op: Snapshot<Op>,
 }
 
-/// Makes the capabilities ready for an operation. They stay, whatever the result.
-pub(crate) fn prepare_caps(caps: &mut Caps, op: &Op) -> Result<CapChange, AllocError>
+/// Makes the capabilities ready for an operation within the limits. They stay, whatever the result.
+pub(crate) fn prepare_caps(
+    caps: &mut Caps,
+    limits: CapLimits,
+    op: &Op,
+) -> Result<CapChange, AllocError>
     ensures table { caps.new.table ≡ caps.old.table }
     ensures change { IfOk result (λ change. change ≡ change_of op.now) }
     ensures ready { IfOk result (λ change. IsReady caps.new change) }
 {
     match op {
-        Op::Create { domain, endpoint } => prepare_create(caps, *domain, *endpoint),
+        Op::Create { domain, endpoint } => prepare_create(caps, limits, *domain, *endpoint),
         Op::Mint {
             domain,
             cap,
             to,
             rights,
-        } => prepare_mint(caps, *domain, *cap, *to, *rights),
+        } => prepare_mint(caps, limits, *domain, *cap, *to, *rights),
         Op::Revoke { cap, .. } => Ok(CapChange::Revoke { cap: *cap }),
         Op::DropCap { cap, .. } => Ok(CapChange::DropCap { cap: *cap }),
         Op::Install { .. } | Op::Remove { .. } | Op::Replace { .. } => Ok(CapChange::Nothing),
     }
 }
 
-fn prepare_create(caps: &mut Caps, domain: u16, endpoint: u16) -> Result<CapChange, AllocError>
+fn prepare_create(
+    caps: &mut Caps,
+    limits: CapLimits,
+    domain: u16,
+    endpoint: u16,
+) -> Result<CapChange, AllocError>
     ensures table { caps.new.table ≡ caps.old.table }
     ensures change { IfOk result (λ change. change ≡ CapChange.Create domain endpoint) }
     ensures ready { IfOk result (λ change. IsReady caps.new change) }
 {
-    match caps.prepare_create(endpoint) {
+    match caps.prepare_create(limits, domain, endpoint) {
         Ok(()) => Ok(CapChange::Create { domain, endpoint }),
         Err(_) => Err(AllocError),
     }
@@ -74,6 +83,7 @@ fn prepare_create(caps: &mut Caps, domain: u16, endpoint: u16) -> Result<CapChan
 
 fn prepare_mint(
     caps: &mut Caps,
+    limits: CapLimits,
     domain: u16,
     cap: u32,
     to: u16,
@@ -83,7 +93,7 @@ fn prepare_mint(
     ensures change { IfOk result (λ change. change ≡ CapChange.Mint domain cap to rights) }
     ensures ready { IfOk result (λ change. IsReady caps.new change) }
 {
-    match caps.prepare_mint(domain, cap, rights) {
+    match caps.prepare_mint(limits, domain, cap, rights) {
         Ok(()) => Ok(CapChange::Mint {
             domain,
             cap,

@@ -2,13 +2,15 @@
 ghost use Rattle.std.specs.Prelude.{◌≡◌, ◌≤◌, [], None, Some, IsSome, is_some, IsOk, IfOk, IfErr, OnOk, OnErr};
 ghost use Rattle.filter_table.specs.Tables.{Accepting, Allowed, after, instructions, instructions_of, made};
 ghost use Rattle.table_replica.specs.Lent.{AreDifferent, held_filters};
+ghost use Rattle.filter_table.specs.Limits.{default_limits};
 ghost use Rattle.filter_table.specs.Loading.{load_op};
 ghost use Rattle.filter_table.specs.Staging.{CannotStage};
 ghost use Rattle.filter_table.specs.Soundness.{IsSoundTable, IdsGrow};
 ghost use Rattle.filter_table.specs.declared.operation.Op.{Op as GhostOp};
 
 use crate::{
-    Contents, FilterIter, Insn, Kept, Load, Made, NothingStaged, Op, Room, Scratch, StageFault,
+    Contents, FilterIter, Insn, Kept, Limits, Load, Made, NothingStaged, Op, Room, Scratch,
+    StageFault,
 };
 use endpoint_caps::Caps;
 use std::alloc::{AllocError, Global};
@@ -46,17 +48,25 @@ impl Model for Replica {
 }
 
 impl Replica {
-    /// An empty replica at version 0 whose filters may have `budget` instructions together; the first ids are 1. Takes no memory
-    /// yet.
+    /// An empty replica at version 0 under the default limits, whose filters may have `budget` instructions together; the first ids
+    /// are 1. Takes no memory yet.
     pub fn new(alloc: Global, budget: u32) -> Result<Replica, AllocError>
         ensures ok { IsOk result }
-        ensures empty { IfOk result (λ replica. replica ≡ record { budget = budget; shown = record { version = 0; caps = record { held = []; next = 1 }; filters = []; next_filter = 1 }; staged = None }) }
+        ensures empty { IfOk result (λ replica. replica ≡ record { budget = budget; shown = record { limits = default_limits; version = 0; caps = record { held = []; next = 1 }; filters = []; next_filter = 1 }; staged = None }) }
     {
-        Replica::resume(alloc, budget, 0, 1, 1)
+        Replica::with_limits(alloc, Limits::DEFAULT, budget)
     }
 
-    /// An empty replica at a version, with the next ids of a capability and of a filter. Takes no memory yet.
-    #[tactic(auto, using(filter_table::proofs::Soundness::sound_empty))]
+    /// The same under other limits.
+    pub fn with_limits(alloc: Global, limits: Limits, budget: u32) -> Result<Replica, AllocError>
+        ensures ok { IsOk result }
+        ensures empty { IfOk result (λ replica. replica ≡ record { budget = budget; shown = record { limits = limits; version = 0; caps = record { held = []; next = 1 }; filters = []; next_filter = 1 }; staged = None }) }
+    {
+        Replica::resume_with_limits(alloc, limits, budget, 0, 1, 1)
+    }
+
+    /// An empty replica at a version under the default limits, with the next ids of a capability and of a filter. Takes no memory
+    /// yet.
     pub fn resume(
         alloc: Global,
         budget: u32,
@@ -65,9 +75,32 @@ impl Replica {
         next_filter: u32,
     ) -> Result<Replica, AllocError>
         ensures ok { IsOk result }
-        ensures empty { IfOk result (λ replica. replica ≡ record { budget = budget; shown = record { version = version; caps = record { held = []; next = next_cap }; filters = []; next_filter = next_filter }; staged = None }) }
+        ensures empty { IfOk result (λ replica. replica ≡ record { budget = budget; shown = record { limits = default_limits; version = version; caps = record { held = []; next = next_cap }; filters = []; next_filter = next_filter }; staged = None }) }
     {
-        let contents = Contents::resume(alloc, version, next_cap, next_filter);
+        Replica::resume_with_limits(
+            alloc,
+            Limits::DEFAULT,
+            budget,
+            version,
+            next_cap,
+            next_filter,
+        )
+    }
+
+    /// The same under other limits.
+    #[tactic(auto, using(filter_table::proofs::Soundness::sound_empty))]
+    pub fn resume_with_limits(
+        alloc: Global,
+        limits: Limits,
+        budget: u32,
+        version: u64,
+        next_cap: u32,
+        next_filter: u32,
+    ) -> Result<Replica, AllocError>
+        ensures ok { IsOk result }
+        ensures empty { IfOk result (λ replica. replica ≡ record { budget = budget; shown = record { limits = limits; version = version; caps = record { held = []; next = next_cap }; filters = []; next_filter = next_filter }; staged = None }) }
+    {
+        let contents = Contents::resume(alloc, limits, version, next_cap, next_filter);
         Ok(Replica { budget, contents })
     }
 
@@ -76,6 +109,13 @@ impl Replica {
         ensures { result ≡ self.now.shown.version }
     {
         self.contents.version()
+    }
+
+    /// How much the table may list. No operation changes it.
+    pub fn limits(&self) -> Limits
+        ensures { result ≡ self.now.shown.limits }
+    {
+        self.contents.limits()
     }
 
     /// How many instructions the filters may have.

@@ -1,4 +1,4 @@
-//! Tests of filters and captures by their public calls: instructions, the verifier, the machine, the assembler, captures.
+//! Tests of filters and captures by their public calls: instructions, the verifier, the machine, programs decoded before, the assembler, captures.
 #![tactic(auto)]
 
 #[cfg(test)]
@@ -9,5 +9,7 @@ mod captures;
 mod facts;
 #[cfg(test)]
 mod instructions;
+#[cfg(test)]
+mod predecoded;
 #[cfg(test)]
 mod verifier;

@@ -7,7 +7,7 @@ ghost use Rattle.world_events.specs.declared.event.Event.TheVariants.{Submit};
 ghost use Rattle.core_drive.specs.declared.step.Task.TheVariants.{Ask};
 
 use crate::facts::equal;
-use filter_table::Op;
+use filter_table::{Limits, Op};
 use headline::{
     CoreStep, Event, Fault, Job, Outcome, Replicas, StepOutcome, Task, filter, one_by_one, serve,
     threads,
@@ -19,7 +19,7 @@ use std::process::Abort;
 use test_words::{ALL, ARP, EventWords, REQUEST, program, tells};
 
 /// A core halts after so many idle turns, which no test comes to.
-const LIMIT: u64 = 50_000_000;
+pub(crate) const LIMIT: u64 = 50_000_000;
 
 fn create() -> Op
     ensures { HasShortProgram result }
@@ -30,7 +30,7 @@ fn create() -> Op
     }
 }
 
-fn install(rt: &impl Abort, alloc: Global) -> Op
+pub(crate) fn install(rt: &impl Abort, alloc: Global) -> Op
     ensures { HasShortProgram result }
 {
     Op::Install {
@@ -91,7 +91,10 @@ fn events(rt: &impl Abort, alloc: Global) -> Vec<Event>
 #[test]
 fn a_machine_does_its_events(rt: HostRuntime) {
     let events = events(&rt, rt.alloc());
-    let did = one_by_one(rt.alloc(), &[100], events).expect(&rt, "each event can be done");
+    let did = one_by_one(rt.alloc(), Limits::DEFAULT, &[100], events).expect(
+        &rt,
+        "each event can be done",
+    );
     equal(&rt, last_version(&did.replicas, 0), Some(2));
     equal(
         &rt,
@@ -120,7 +123,15 @@ fn jobs(rt: &impl Abort, alloc: Global) -> Vec<(u16, Job)>
 fn threads_end_at_one_version(rt: HostRuntime) {
     let requests = requests(&rt, rt.alloc());
     let jobs = jobs(&rt, rt.alloc());
-    let ran = threads(&rt, rt.alloc(), &[100, 100], requests, jobs, LIMIT);
+    let ran = threads(
+        &rt,
+        rt.alloc(),
+        Limits::DEFAULT,
+        &[100, 100],
+        requests,
+        jobs,
+        LIMIT,
+    );
     let (did, left) = ran.expect(&rt, "no core halts");
     equal(&rt, last_version(&did.replicas, 0), Some(2));
     equal(&rt, last_version(&did.replicas, 1), Some(2));
@@ -133,7 +144,15 @@ fn threads_end_at_one_version(rt: HostRuntime) {
 fn requests_are_decided_after_cores_halt(rt: HostRuntime) {
     let requests = requests(&rt, rt.alloc());
     let none = Vec::new(rt.alloc());
-    let ran = threads(&rt, rt.alloc(), &[100, 100], requests, none, 1);
+    let ran = threads(
+        &rt,
+        rt.alloc(),
+        Limits::DEFAULT,
+        &[100, 100],
+        requests,
+        none,
+        1,
+    );
     let (did, left) = ran.expect(&rt, "the cores are settled");
     equal(&rt, last_version(&did.replicas, 0), Some(2));
     equal(&rt, last_version(&did.replicas, 1), Some(2));
@@ -142,7 +161,7 @@ fn requests_are_decided_after_cores_halt(rt: HostRuntime) {
 }
 
 /// A step of core 0.
-fn of_core_0(task: Task) -> CoreStep
+pub(crate) fn of_core_0(task: Task) -> CoreStep
     ensures core { result.core ≡ 0 }
     ensures task { result.task ≡ task }
 {
@@ -176,7 +195,7 @@ fn received(outcomes: &[StepOutcome]) -> Option<(u64, usize)> {
 #[test]
 fn cores_serve(rt: HostRuntime) {
     let steps = steps(&rt, rt.alloc());
-    let served = serve(rt.alloc(), &[100], steps).expect(&rt, "there is memory");
+    let served = serve(rt.alloc(), Limits::DEFAULT, &[100], steps).expect(&rt, "there is memory");
     equal(&rt, received(&served.outcomes), Some((2, 1)));
     equal(&rt, last_version(&served.replicas, 0), Some(2));
     drop(served);
@@ -197,7 +216,10 @@ fn request_of_core_1(rt: &impl Abort, alloc: Global) -> Vec<CoreStep>
 #[test]
 fn cores_that_served_come_to_rest(rt: HostRuntime) {
     let steps = request_of_core_1(&rt, rt.alloc());
-    let served = serve(rt.alloc(), &[100, 100], steps).expect(&rt, "there is memory");
+    let served = serve(rt.alloc(), Limits::DEFAULT, &[100, 100], steps).expect(
+        &rt,
+        "there is memory",
+    );
     equal(&rt, served.halted, None);
     equal(&rt, last_version(&served.replicas, 0), Some(1));
     equal(&rt, last_version(&served.replicas, 1), Some(1));
@@ -210,7 +232,7 @@ fn no_machine_without_a_core(rt: HostRuntime) {
     let none = Vec::new(rt.alloc());
     equal(
         &rt,
-        one_by_one(rt.alloc(), &[], none).err(),
+        one_by_one(rt.alloc(), Limits::DEFAULT, &[], none).err(),
         Some(Fault::CoreCount),
     );
 }

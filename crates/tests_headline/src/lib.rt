@@ -5,3 +5,5 @@
 mod calls;
 #[cfg(test)]
 mod facts;
+#[cfg(test)]
+mod limits;

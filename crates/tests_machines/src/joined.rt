@@ -1,6 +1,7 @@
 //! Machines of one core and of two in one thread, and histories written by hand.
 
 ghost use Rattle.std.specs.Prelude.{◌≡◌, ◌<◌, ◌≤◌, ◌∷◌, [], ℕ, suc, List, None, IfOk};
+ghost use Rattle.filter_table.specs.Limits.{default_limits};
 ghost use Rattle.rx_queue.specs.Queue.{jobs_taken};
 ghost use Rattle.filter_table.specs.Tables.{HasShortProgram};
 ghost use Rattle.core_links.specs.Flows.{HoldLines};
@@ -20,7 +21,7 @@ use seq::Shared;
 use std::alloc::{AllocError, Global};
 use std::collections::VecDeque;
 use std::process::Abort;
-use table_replica::Op;
+use table_replica::{Limits, Op};
 use test_words::{ARP, CAP, EventWords, FILTER, REQUEST, program, tells};
 use ump_ring::ring;
 use world_model::{Answer, Done, Event};
@@ -125,11 +126,20 @@ fn core(
     requires number { (number < cores) × (cores ≤ 8) }
     requires links { (own_of links ≡ number) × ((p : ℕ) → IsSilent (ring_view links p)) }
     requires short { AreShort number requests.items }
-    ensures place { IfOk result (λ core. HasPlace number cores 100 core) }
+    ensures place { IfOk result (λ core. HasPlace number cores default_limits 100 core) }
     ensures links { IfOk result (λ core. core.links ≡ links) }
 {
     let jobs = intake(alloc, job)?;
-    let core = Core::new(alloc, links, 100, number, cores, requests, jobs)?;
+    let core = Core::new(
+        alloc,
+        links,
+        Limits::DEFAULT,
+        100,
+        number,
+        cores,
+        requests,
+        jobs,
+    )?;
     Ok(Recorded::new(alloc, core))
 }
 
@@ -140,7 +150,7 @@ fn two_cores(
     second: VecDeque<Op>,
 ) -> Result<(Recorded<RingLinks>, Recorded<RingLinks>), AllocError>
     requires { AreShort 1 second.items }
-    ensures { IfOk result (λ r. IsMachine 100 (100 ∷ []) (r.0 ∷ r.1 ∷ [])) }
+    ensures { IfOk result (λ r. IsMachine default_limits 100 (100 ∷ []) (r.0 ∷ r.1 ∷ [])) }
 {
     let (links, other_links) = joined_links(alloc)?;
     let first = core(alloc, links, 0, 2, first, 7)?;
@@ -155,7 +165,7 @@ fn two_cores(
 
 // Lets the two take turns.
 fn take_turns(first: &mut Recorded<RingLinks>, second: &mut Recorded<RingLinks>)
-    ensures { (budget : ℕ) (budgets : List ℕ) → IsMachine budget budgets (first.old ∷ second.old ∷ []) → IsMachine budget budgets (first.new ∷ second.new ∷ []) }
+    ensures { (budget : ℕ) (budgets : List ℕ) → IsMachine default_limits budget budgets (first.old ∷ second.old ∷ []) → IsMachine default_limits budget budgets (first.new ∷ second.new ∷ []) }
 {
     for _ in 0..40 {
         let _ = first.turn(true);
@@ -165,7 +175,7 @@ fn take_turns(first: &mut Recorded<RingLinks>, second: &mut Recorded<RingLinks>)
 
 // Lets a core that is alone take turns.
 fn take_turns_alone(core: &mut Recorded<RingLinks>)
-    ensures { (budget : ℕ) (budgets : List ℕ) → IsMachine budget budgets (core.old ∷ []) → IsMachine budget budgets (core.new ∷ []) }
+    ensures { (budget : ℕ) (budgets : List ℕ) → IsMachine default_limits budget budgets (core.old ∷ []) → IsMachine default_limits budget budgets (core.new ∷ []) }
 {
     for _ in 0..10 {
         let _ = core.turn(true);

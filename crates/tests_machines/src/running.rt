@@ -13,7 +13,7 @@ use rx_queue::{Port, queue};
 use std::alloc::{AllocError, Global};
 use std::collections::VecDeque;
 use std::process::Abort;
-use table_replica::Op;
+use table_replica::{Limits, Op};
 
 pub(crate) fn create() -> Op
     ensures { HasShortProgram result }
@@ -46,6 +46,7 @@ pub(crate) fn core_of(
     let core = Core::new(
         alloc,
         links,
+        Limits::DEFAULT,
         100,
         number,
         cores,

@@ -1,6 +1,7 @@
 //! Machines whose cores run in threads.
 
 ghost use Rattle.std.specs.Prelude.{◌≤◌, ◌<◌, ℕ, All, List, length, IfOk};
+ghost use Rattle.filter_table.specs.Limits.{default_limits};
 ghost use Rattle.core_join.specs.Machines.{IsMachine};
 ghost use Rattle.core_boot.specs.Booting.{AreGivable};
 
@@ -9,7 +10,8 @@ use crate::words::job;
 use core_join::{Recorded, conclude, merge};
 use core_loop::RingLinks;
 use core_threads::{
-    BootFault, Ended, Free, Gate, Halt, Machine, Notes, RunFault, boot, run_machine,
+    BootFault, Ended, Free, Gate, Halt, Machine, Notes, RunFault, boot, boot_with_limits,
+    run_machine,
 };
 use rx_queue::Job;
 use std::alloc::{AllocError, Global};
@@ -18,7 +20,7 @@ use std::sync::Wait;
 use std::sync::atomic::{AtomicBool, AtomicU64, Ordering};
 use std::thread::Threads;
 use std::time::Clock;
-use table_replica::Op;
+use table_replica::{Limits, Op};
 use test_words::{ALL, EventWords, is_for_memory, program, tells};
 use world_model::{Done, Event};
 
@@ -63,7 +65,7 @@ fn worked_run<R: Abort + Threads + Wait + Clock + Sync>(
     budgets: &[u32],
 ) -> Ended
     requires { (2 ≤ length budgets.now) × (length budgets.now ≤ 8) }
-    ensures { (budget : ℕ) × (rest : List ℕ) × IsMachine budget rest result.cores.items }
+    ensures { (budget : ℕ) × (rest : List ℕ) × IsMachine default_limits budget rest result.cores.items }
 {
     let requests = requests(rt, alloc, budgets.len());
     let machine = boot(alloc, budgets, requests).expect(rt, "there is memory");
@@ -216,6 +218,17 @@ fn a_machine_has_1_to_8_cores(rt: HostRuntime) {
     equal(&rt, nine.err(), Some(BootFault::CoreCount));
 }
 
+#[test]
+fn a_machine_with_limits_has_1_to_64_cores(rt: HostRuntime) {
+    let alloc = rt.alloc();
+    let none = boot_with_limits(alloc, Limits::DEFAULT, &[], Vec::new(alloc));
+    equal(&rt, none.err(), Some(BootFault::CoreCount));
+    let most = boot_with_limits(alloc, Limits::DEFAULT, &[100; 64], Vec::new(alloc));
+    equal(&rt, most.err(), None);
+    let more = boot_with_limits(alloc, Limits::DEFAULT, &[100; 65], Vec::new(alloc));
+    equal(&rt, more.err(), Some(BootFault::CoreCount));
+}
+
 // Runs a machine of two cores that may be refused memory: its end, or why there is none.
 fn run_within<R: Threads + Wait + Clock + Sync>(
     rt: &R,
@@ -226,7 +239,7 @@ fn run_within<R: Threads + Wait + Clock + Sync>(
     requires inside { All (λ r. r.0 < 2) requests.items }
     requires short { AreGivable requests.items }
     requires jobs { All (λ j. j.0 < 2) jobs.items }
-    ensures { IfOk result (λ ended. (budget : ℕ) × (rest : List ℕ) × IsMachine budget rest ended.cores.items) }
+    ensures { IfOk result (λ ended. (budget : ℕ) × (rest : List ℕ) × IsMachine default_limits budget rest ended.cores.items) }
 {
     match boot(alloc, &[100, 100], requests) {
         Ok(machine) => run_machine(rt, alloc, machine, jobs, &Free, LIMIT),
@@ -239,14 +252,14 @@ fn run_within<R: Threads + Wait + Clock + Sync>(
 
 // The list of what two cores did, or none where there was no memory for it.
 fn list_of(alloc: Global, cores: Vec<Recorded<RingLinks>>) -> Result<Vec<Done>, AllocError>
-    requires { (budget : ℕ) × (rest : List ℕ) × IsMachine budget rest cores.items }
+    requires { (budget : ℕ) × (rest : List ℕ) × IsMachine default_limits budget rest cores.items }
 {
     merge(alloc, &conclude(alloc, cores)?)
 }
 
 // An end with ample memory has all events. Else a core halted, voted or decided that there was none.
 fn ends_within<A: Abort>(rt: &A, alloc: Global, ended: Ended)
-    requires { (budget : ℕ) × (rest : List ℕ) × IsMachine budget rest ended.cores.items }
+    requires { (budget : ℕ) × (rest : List ℕ) × IsMachine default_limits budget rest ended.cores.items }
 {
     let Ended {
         cores,

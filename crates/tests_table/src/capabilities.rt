@@ -1,6 +1,6 @@
 //! The worked calls on a table of capabilities.
 use crate::facts::{equal, equal_at};
-use endpoint_caps::{Cap, CapFault, Caps, Right, Rights};
+use endpoint_caps::{Cap, CapFault, CapLimits, Caps, Right, Rights};
 use std::alloc::Global;
 use std::fmt::Debug;
 use std::process::Abort;
@@ -13,7 +13,7 @@ enum Call {
     Revoke(u16, u32),
     DropCap(u16, u32),
     May(u32, u16, Right),
-    CheckCreate(u16),
+    CheckCreate(u16, u16),
     CheckMint(u16, u32, Rights),
     CheckHolder(u16, u32),
 }
@@ -21,17 +21,19 @@ enum Call {
 /// What a call answers: an id, of which there is none but for Create, Mint and CheckMint.
 type Answer = Result<u32, CapFault>;
 
-fn make(caps: &mut Caps, call: Call) -> Answer {
+fn make(caps: &mut Caps, limits: CapLimits, call: Call) -> Answer {
     let done = match call {
-        Call::Create(domain, endpoint) => return caps.create(domain, endpoint),
-        Call::Mint(domain, cap, to, rights) => return caps.mint(domain, cap, to, rights),
+        Call::Create(domain, endpoint) => return caps.create_within(limits, domain, endpoint),
+        Call::Mint(domain, cap, to, rights) => {
+            return caps.mint_within(limits, domain, cap, to, rights);
+        }
         Call::CheckMint(domain, cap, rights) => {
-            return Ok(caps.check_mint(domain, cap, rights)?.id);
+            return Ok(caps.check_mint(limits, domain, cap, rights)?.id);
         }
         Call::Revoke(domain, cap) => caps.revoke(domain, cap),
         Call::DropCap(domain, cap) => caps.drop_cap(domain, cap),
         Call::May(cap, domain, right) => caps.may(cap, domain, right),
-        Call::CheckCreate(endpoint) => caps.check_create(endpoint),
+        Call::CheckCreate(domain, endpoint) => caps.check_create(limits, domain, endpoint),
         Call::CheckHolder(domain, cap) => caps.check_holder(domain, cap),
     };
     done?;
@@ -57,11 +59,22 @@ fn cap(row: &Row) -> Cap {
     }
 }
 
-/// The calls answer so, one after the other.
-fn answer<Place: Debug>(rt: &impl Abort, caps: &mut Caps, calls: &[(Call, Answer)], place: &Place) {
+/// The calls answer so, one after the other, at these limits.
+fn answer_within<Place: Debug>(
+    rt: &impl Abort,
+    caps: &mut Caps,
+    limits: CapLimits,
+    calls: &[(Call, Answer)],
+    place: &Place,
+) {
     for (number, (call, wanted)) in calls.iter().enumerate() {
-        equal_at(rt, make(caps, *call), *wanted, &(number, place));
+        equal_at(rt, make(caps, limits, *call), *wanted, &(number, place));
     }
+}
+
+/// And at the default.
+fn answer<Place: Debug>(rt: &impl Abort, caps: &mut Caps, calls: &[(Call, Answer)], place: &Place) {
+    answer_within(rt, caps, CapLimits::DEFAULT, calls, place);
 }
 
 /// These capabilities are held.
@@ -114,9 +127,9 @@ static TABLES: [&[Run]; 3] = [
     // What is checked is what would be refused, and nothing is done.
     &[(
         &[
-            (Call::CheckCreate(7), DONE),
+            (Call::CheckCreate(1, 7), DONE),
             (Call::Create(1, 7), Ok(1)),
-            (Call::CheckCreate(7), Err(CapFault::EndpointTaken)),
+            (Call::CheckCreate(1, 7), Err(CapFault::EndpointTaken)),
             (Call::CheckMint(1, 1, Rights::Rm), Ok(1)),
             (Call::CheckMint(2, 1, Rights::R), Err(CapFault::NotHolder)),
             (Call::CheckHolder(1, 1), DONE),
@@ -157,7 +170,7 @@ fn has_same_copy(rt: &impl Abort, alloc: Global, caps: &Caps) {
 fn stays_once_forgotten(rt: &impl Abort, caps: &mut Caps) {
     let held = caps.len();
     let next = caps.next();
-    equal(rt, caps.prepare_create(1000), Ok(()));
+    equal(rt, caps.prepare_create(CapLimits::DEFAULT, 1, 1000), Ok(()));
     caps.forget();
     equal(rt, (caps.len(), caps.next()), (held, next));
 }
@@ -236,13 +249,57 @@ fn table_is_full(rt: HostRuntime) {
     has_same_copy(&rt, rt.alloc(), &caps);
 }
 
+/// Of four capabilities a domain may make two. What is minted counts for who minted it, and not for its holder; and what is full
+/// for all domains is answered before the share of one.
+static SHARES: [(Call, Answer); 14] = [
+    (Call::Create(1, 7), Ok(1)),
+    (Call::Mint(1, 1, 2, Rights::Rm), Ok(2)),
+    (Call::Create(1, 8), Err(CapFault::DomainFull)),
+    (Call::CheckCreate(1, 8), Err(CapFault::DomainFull)),
+    (Call::Mint(1, 1, 2, Rights::R), Err(CapFault::DomainFull)),
+    (Call::CheckMint(1, 1, Rights::R), Err(CapFault::DomainFull)),
+    (Call::Create(1, 7), Err(CapFault::EndpointTaken)),
+    (Call::Mint(2, 2, 1, Rights::R), Ok(3)),
+    (Call::DropCap(1, 3), DONE),
+    (Call::Create(2, 8), Ok(4)),
+    (Call::Mint(2, 2, 1, Rights::R), Ok(5)),
+    (Call::Create(3, 9), Err(CapFault::CapsFull)),
+    (Call::Create(1, 9), Err(CapFault::CapsFull)),
+    (Call::DropCap(1, 1), DONE),
+];
+
+/// What came of the capability that was dropped counts for nobody.
+static SHARES_AFTER: [(Call, Answer); 3] = [
+    (Call::Create(1, 7), Ok(6)),
+    (Call::Create(1, 9), Ok(7)),
+    (Call::Create(1, 10), Err(CapFault::DomainFull)),
+];
+
+#[test]
+fn domain_has_a_share(rt: HostRuntime) {
+    let limits = CapLimits::new(4, 2).expect(&rt, "they are limits");
+    let mut caps = Caps::new(rt.alloc());
+    answer_within(&rt, &mut caps, limits, &SHARES, &"shares");
+    answer_within(&rt, &mut caps, limits, &SHARES_AFTER, &"shares");
+}
+
+#[test]
+fn limits_are_bounded(rt: HostRuntime) {
+    equal(&rt, CapLimits::new(0, 0), None);
+    equal(&rt, CapLimits::new(4, 0), None);
+    equal(&rt, CapLimits::new(4, 5), None);
+    equal(&rt, CapLimits::new(65537, 1), None);
+    equal(&rt, CapLimits::new(1024, 1024), Some(CapLimits::DEFAULT));
+    equal(&rt, CapLimits::new(65536, 65536).is_some(), true);
+}
+
 /// A call, made once more where a growth was refused, which has changed nothing.
 fn answers_again(rt: &impl Abort, caps: &mut Caps, call: Call, id: u32) {
     let held = caps.len();
-    let mut found = make(caps, call);
+    let mut found = make(caps, CapLimits::DEFAULT, call);
     if found == Err(CapFault::NoMemory) {
         equal(rt, caps.len(), held);
-        found = make(caps, call);
+        found = make(caps, CapLimits::DEFAULT, call);
     }
     equal(rt, found, Ok(id));
     equal(rt, caps.next(), id.saturating_add(1));

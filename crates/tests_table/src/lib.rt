@@ -1,10 +1,12 @@
-//! Tests of the table and of two-phase commit by their public calls: capabilities, the replica, messages, both roles.
+//! Tests of the table and of two-phase commit by their public calls: lists in chunks, capabilities, the replica, messages, both roles.
 #![tactic(auto)]
 
 #[cfg(test)]
 mod asks;
 #[cfg(test)]
 mod capabilities;
+#[cfg(test)]
+mod chunks;
 #[cfg(test)]
 mod commit;
 #[cfg(test)]

@@ -188,7 +188,7 @@ static SPELLED: [(Sent, &[u8]); 20] = [
 ];
 
 /// Rules with their bytes in a decision.
-static RULES: [(OpFault, &[u8]); 14] = [
+static RULES: [(OpFault, &[u8]); 15] = [
     (OpFault::NoCap, &[1]),
     (OpFault::NotHolder, &[2]),
     (OpFault::NoRight, &[3]),
@@ -201,6 +201,7 @@ static RULES: [(OpFault, &[u8]); 14] = [
     (OpFault::TableFull, &[13]),
     (OpFault::FilterIdsSpent, &[14]),
     (OpFault::VersionsSpent, &[18]),
+    (OpFault::DomainFull, &[19]),
     (OpFault::BadProgram { rule: 1, pc: 4095 }, &[17, 1, 255, 15]),
     (
         OpFault::BadProgram { rule: 10, pc: 4095 },
@@ -337,7 +338,7 @@ static BAD: [&[u8]; 21] = [
     &[7, 1, 0, 0, 0, 0, 0, 0, 0, 1, 0, 0, 2, 15],
     &[7, 1, 0, 0, 0, 0, 0, 0, 0, 1, 0, 0, 2, 16],
     &[7, 1, 0, 0, 0, 0, 0, 0, 0, 1, 0, 0, 2, 17],
-    &[7, 1, 0, 0, 0, 0, 0, 0, 0, 1, 0, 0, 2, 19],
+    &[7, 1, 0, 0, 0, 0, 0, 0, 0, 1, 0, 0, 2, 20],
     &[7, 1, 0, 0, 0, 0, 0, 0, 0, 1, 0, 0, 2, 17, 0, 0, 0],
     &[7, 1, 0, 0, 0, 0, 0, 0, 0, 1, 0, 0, 2, 17, 11, 0, 0],
     &[7, 1, 0, 0, 0, 0, 0, 0, 0, 1, 0, 0, 2, 17, 255, 0, 0],

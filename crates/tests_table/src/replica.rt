@@ -2,10 +2,12 @@
 use crate::asks::asked;
 use crate::facts::{equal, equal_at, holds};
 use bpf_insn::Insn;
-use endpoint_caps::{Cap, Rights};
+use endpoint_caps::{Cap, CapLimits, Rights};
 use std::alloc::{AllocError, Global};
 use std::process::Abort;
-use table_replica::{Kept, Made, NothingStaged, Op, OpFault, Program, Replica, Room, StageFault};
+use table_replica::{
+    Kept, Limits, Made, NothingStaged, Op, OpFault, Program, Replica, Room, StageFault,
+};
 use test_words::{ALL, Ask, THREE, program};
 
 type Outcome = Result<Made, StageFault>;
@@ -525,6 +527,66 @@ fn worked_runs(rt: HostRuntime) {
     for run in &RUNS {
         works(&rt, rt.alloc(), *run);
     }
+}
+
+/// Of two capabilities a domain may make one, and of three filters it may own two, which may have seven instructions together.
+const SHARES: &[Step] = &[
+    Step::Does(Ask::Create(1, 7), Ok(Made::Cap(1))),
+    Step::Does(
+        Ask::Create(1, 8),
+        Err(StageFault::Rule(OpFault::DomainFull)),
+    ),
+    Step::Does(Ask::Create(2, 8), Ok(Made::Cap(2))),
+    Step::Does(Ask::Create(2, 9), Err(StageFault::Rule(OpFault::CapsFull))),
+    Step::Does(Ask::Install(1, 1, THREE), Ok(Made::Filter(1))),
+    Step::Does(Ask::Install(1, 1, THREE), Ok(Made::Filter(2))),
+    Step::Does(
+        Ask::Install(1, 1, ALL),
+        Err(StageFault::Rule(OpFault::DomainFull)),
+    ),
+    Step::Does(
+        Ask::Replace(1, 2, FIVE_LONG),
+        Err(StageFault::Rule(OpFault::DomainFull)),
+    ),
+    Step::Does(Ask::Remove(1, 1), Ok(Made::Nothing)),
+    Step::Does(
+        Ask::Install(1, 1, FIVE_LONG),
+        Err(StageFault::Rule(OpFault::DomainFull)),
+    ),
+    Step::Does(Ask::Replace(1, 2, FIVE_LONG), Ok(Made::Nothing)),
+    Step::Does(Ask::Install(2, 2, FIVE_LONG), Ok(Made::Filter(3))),
+    Step::Does(Ask::Install(1, 1, ALL), Ok(Made::Filter(4))),
+    Step::Does(
+        Ask::Install(1, 1, ALL),
+        Err(StageFault::Rule(OpFault::TableFull)),
+    ),
+];
+
+const FIVE_LONG: &str = "5,0 0 0 0,7 0 0 0,0 0 0 0,7 0 0 0,6 0 0 64";
+
+#[test]
+fn domain_has_a_share(rt: HostRuntime) {
+    let caps = CapLimits::new(2, 1).expect(&rt, "they are limits");
+    let limits = Limits::new(caps, 3, 2, 7).expect(&rt, "they are limits");
+    let mut replica = Replica::with_limits(rt.alloc(), limits, 1024).expect(&rt, "there is memory");
+    take_steps(&rt, rt.alloc(), &mut replica, "shares", SHARES);
+    equal(&rt, replica.limits(), limits);
+    drop(replica);
+}
+
+#[test]
+fn limits_are_bounded(rt: HostRuntime) {
+    let caps = CapLimits::DEFAULT;
+    equal(&rt, Limits::new(caps, 0, 0, 9), None);
+    equal(&rt, Limits::new(caps, 4, 0, 9), None);
+    equal(&rt, Limits::new(caps, 4, 5, 9), None);
+    equal(&rt, Limits::new(caps, 65537, 1, 9), None);
+    equal(
+        &rt,
+        Limits::new(caps, 1024, 1024, u32::MAX),
+        Some(Limits::DEFAULT),
+    );
+    equal(&rt, Limits::new(caps, 65536, 65536, 0).is_some(), true);
 }
 
 /// The version, the next ids of a capability and of a filter, and the steps of a replica that goes on from there.

@@ -12,7 +12,7 @@ use crate::facts::equal;
 use endpoint_caps::Rights;
 use monitor_messages::{Decision, Veto, Vote};
 use std::alloc::Global;
-use table_replica::{Made, OpFault};
+use table_replica::{Limits, Made, OpFault};
 use test_words::{
     ALL, ARP, Ask, CAP, EventWords, FILTER, NO_FILTER, NO_MEMORY_ON_1, OVER_BUDGET_OF_1, REQUEST,
     TAKEN, THREE,
@@ -33,6 +33,20 @@ fn machines_have_one_to_eight_cores(rt: HostRuntime) {
         Some(BootFault::CoreCount),
     );
     equal(&rt, fault_of(rt.alloc(), &[9; 8]), None);
+}
+
+/// Why there is no machine with the default limits and these budgets, where they are given.
+fn fault_with_limits(alloc: Global, budgets: &[u32]) -> Option<BootFault> {
+    World::boot_with_limits(alloc, Limits::DEFAULT, budgets).err()
+}
+
+#[test]
+fn machines_with_limits_have_one_to_64_cores(rt: HostRuntime) {
+    let alloc = rt.alloc();
+    let none = Some(BootFault::CoreCount);
+    equal(&rt, fault_with_limits(alloc, &[]), none);
+    equal(&rt, fault_with_limits(alloc, &[9; 65]), none);
+    equal(&rt, fault_with_limits(alloc, &[9; 64]), None);
 }
 
 const OTHER_CAP: Decision = Decision::Committed {

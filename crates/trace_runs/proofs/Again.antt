@@ -4,6 +4,7 @@ use Rattle.std.specs.Prelude.{Ok, if◌then◌else◌}
 use Rattle.std.specs.List.{flat_map}
 use Rattle.std.proofs.lemmas.List.{append-nil}
 use mathlib.Core.List.{IsPrefix}
+use Rattle.filter_table.specs.Limits.{TableLimits}
 use Rattle.filter_table.specs.declared.operation.Op.{Op}
 use Rattle.world_events.specs.declared.event.Event.{Event}
 use Rattle.world_events.specs.declared.event.Event.TheVariants.{Start, Submit, StartFor, Take, Rx}
@@ -111,7 +112,7 @@ performs_asks w pending (item.Show core ∷ items) later end text p = performs_a
 pub begin_asked : (items : List Item) (events : List Done) → BeginInOrder items events → Begin events (asked items)
 begin_asked items events h core = subst (λ (ops : List Op). IsPrefix (begun_at core events) ops) (sym (ops_for core (requests_of items))) (h core)
 
-pub can_repeat : (budget : ℕ) (budgets : List ℕ) (items : List Item) (events : List Done) (w : World) → Run budget budgets events w → BeginInOrder items events → CanRepeat budget budgets items events w
-can_repeat budget budgets items events w r h =
-    let a = again (boot budget budgets) w events (asked items) r (begin_asked items events h) in
-    record { end = a.end; performs = performs_asks (boot budget budgets) [] items (map trace_item events) a.end (flat_map done_line events) a.performs; same_world = a.same_world }
+pub can_repeat : (limits : TableLimits) (budget : ℕ) (budgets : List ℕ) (items : List Item) (events : List Done) (w : World) → Run limits budget budgets events w → BeginInOrder items events → CanRepeat limits budget budgets items events w
+can_repeat limits budget budgets items events w r h =
+    let a = again (boot limits budget budgets) w events (asked items) r (begin_asked items events h) in
+    record { end = a.end; performs = performs_asks (boot limits budget budgets) [] items (map trace_item events) a.end (flat_map done_line events) a.performs; same_world = a.same_world }

@@ -52,7 +52,7 @@ module _ (files : List (List ℕ)) (input : List ℕ) (script : Script) (text : 
   threads : IsScriptForThreads script
   threads = threads_from (for_threads files) input (Ok script) (omega (arith, whole_length)) refl stands
 
-  ran : RanScript run.budget run.budgets script.items run.did.end run.did.ends run.merged
+  ran : RanScript script.limits run.budget run.budgets script.items run.did.end run.did.ends run.merged
   ran = record {
     core0 = run.did.core0;
     others = run.did.others;
@@ -82,10 +82,10 @@ module _ (files : List (List ℕ)) (input : List ℕ) (script : Script) (text : 
 
   are_named : All (IsNamed script.items) (as_listed run.merged)
   are_named =
-      let r = run_of run.budget run.budgets run.did.core0 run.did.others run.did.end run.did.ends run.merged run.did.computation run.did.is_merged in
+      let r = run_of script.limits run.budget run.budgets run.did.core0 run.did.others run.did.end run.did.ends run.merged run.did.computation run.did.is_merged in
       all_named script (suc (length run.budgets)) threads limits.few (omega (arith, cores, limits.few)) packets run.merged
       (receptions run.did.core0 run.did.others run.merged script.items run.did.is_merged (λ core history at. (items_for core run.left, (run.did.work core history at).jobs)))
-      (run_names_cores run.budget run.budgets [] (as_listed run.merged) (boot run.budget run.budgets) r.world refl r.run)
+      (run_names_cores script.limits run.budget run.budgets [] (as_listed run.merged) (boot script.limits run.budget run.budgets) r.world refl r.run)
 
   trace_is : trace_of (as_listed run.merged) (by_number run.shows_left.in_order) ≡ codes "trace\n" ++ text
   trace_is = ap (λ (t : List ℕ). codes "trace\n" ++ t) (sym (run.printed ∙ ap (λ (t : List ℕ). flat_map done_line (as_listed run.merged) ++ t) (run.shows_left.printed ∙ left_is run.shows_left.in_order)))

@@ -1,6 +1,7 @@
 -- What the cores of a computation begin, in the one list of all their events.
 use Rattle.std.proofs.Common.{◌≡◌, ◌==◌, ◌<◌, ◌≤◌, ◌⊎◌, inl, inr, ℕ, suc, true, false, Some, List, [], ◌∷◌, length, slice_get, refl, ap, sym, ◌∙◌, subst, arith}
 use mathlib.Core.List.{IsPrefix}
+use Rattle.filter_table.specs.Limits.{TableLimits}
 use Rattle.filter_table.specs.declared.operation.Op.{Op}
 use Rattle.filter_table.specs.declared.decision.Vote.TheVariants as vote
 use Rattle.world_events.specs.declared.event.Event.{Event}
@@ -80,27 +81,27 @@ merged_begin core0 others merged items m front core = subst (λ (ops : List Op).
 
 -- The laws of a merged list
 
-pub can_repeat_merged : (budget : ℕ) (budgets : List ℕ) (items : List Item) (end : Core0State) (ends : List OtherState) (merged : List Stamped) → RanScript budget budgets items end ends merged → CanRepeatMerged budget budgets items end ends merged
-can_repeat_merged budget budgets items end ends merged h =
-    let run = run_of budget budgets h.core0 h.others end ends merged h.computation h.is_merged in
-    record { world = run.world; can = can_repeat budget budgets items (as_listed merged) run.world run.run (merged_begin h.core0 h.others merged items h.is_merged h.begin); all_end = run.all_end }
+pub can_repeat_merged : (limits : TableLimits) (budget : ℕ) (budgets : List ℕ) (items : List Item) (end : Core0State) (ends : List OtherState) (merged : List Stamped) → RanScript limits budget budgets items end ends merged → CanRepeatMerged limits budget budgets items end ends merged
+can_repeat_merged limits budget budgets items end ends merged h =
+    let run = run_of limits budget budgets h.core0 h.others end ends merged h.computation h.is_merged in
+    record { world = run.world; can = can_repeat limits budget budgets items (as_listed merged) run.world run.run (merged_begin h.core0 h.others merged items h.is_merged h.begin); all_end = run.all_end }
 
-pub shown : (budget : ℕ) (budgets : List ℕ) (items : List Item) (end : Core0State) (ends : List OtherState) (merged : List Stamped) → RanScript budget budgets items end ends merged
-    → ShowsTrace (budget ∷ budgets) items (as_listed merged) (flat_map done_line (as_listed merged))
-shown budget budgets items end ends merged h = let c = can_repeat_merged budget budgets items end ends merged h in (budget, budgets, refl, (c.can.end, c.can.performs))
+pub shown : (limits : TableLimits) (budget : ℕ) (budgets : List ℕ) (items : List Item) (end : Core0State) (ends : List OtherState) (merged : List Stamped) → RanScript limits budget budgets items end ends merged
+    → ShowsTrace limits (budget ∷ budgets) items (as_listed merged) (flat_map done_line (as_listed merged))
+shown limits budget budgets items end ends merged h = let c = can_repeat_merged limits budget budgets items end ends merged h in (budget, budgets, refl, (c.can.end, c.can.performs))
 
 text_is : (events : List Done) (w end : World) (text : List ℕ) → Repeats events w end text → (text ≡ flat_map done_line events) ⊎ DiffersByMemory events text
 text_is events w end text (same e is) = inl e
 text_is events w end text (short_of_memory d) = inr d
 
-pub only : (budget : ℕ) (budgets : List ℕ) (items : List Item) (end : Core0State) (ends : List OtherState) (merged : List Stamped) (text : List ℕ) → RanScript budget budgets items end ends merged → All WasNotRefused (as_listed merged)
-    → ShowsTrace (budget ∷ budgets) items (as_listed merged) text → (text ≡ flat_map done_line (as_listed merged)) ⊎ DiffersByMemory (as_listed merged) text
-only budget budgets items end ends merged text h had s =
+pub only : (limits : TableLimits) (budget : ℕ) (budgets : List ℕ) (items : List Item) (end : Core0State) (ends : List OtherState) (merged : List Stamped) (text : List ℕ) → RanScript limits budget budgets items end ends merged → All WasNotRefused (as_listed merged)
+    → ShowsTrace limits (budget ∷ budgets) items (as_listed merged) text → (text ≡ flat_map done_line (as_listed merged)) ⊎ DiffersByMemory (as_listed merged) text
+only limits budget budgets items end ends merged text h had s =
     text_is (as_listed merged) run.world s.3.0.world text
-    (repeats budget budgets items (as_listed merged) run.world s.3.0 text run.run (merged_begin h.core0 h.others merged items h.is_merged h.begin) had performs)
+    (repeats limits budget budgets items (as_listed merged) run.world s.3.0 text run.run (merged_begin h.core0 h.others merged items h.is_merged h.begin) had performs)
   where
-    run : IsRun budget budgets merged end ends
-    run = run_of budget budgets h.core0 h.others end ends merged h.computation h.is_merged
+    run : IsRun limits budget budgets merged end ends
+    run = run_of limits budget budgets h.core0 h.others end ends merged h.computation h.is_merged
 
     first : s.0 ≡ budget
     first = let e = s.2 in cc
@@ -108,5 +109,5 @@ only budget budgets items end ends merged text h had s =
     rest : s.1 ≡ budgets
     rest = let e = s.2 in cc
 
-    performs : PerformsTrace budget budgets items (as_listed merged) s.3.0 text
-    performs = subst (λ (b : ℕ). PerformsTrace b budgets items (as_listed merged) s.3.0 text) first (subst (λ (bs : List ℕ). PerformsTrace s.0 bs items (as_listed merged) s.3.0 text) rest s.3.1)
+    performs : PerformsTrace limits budget budgets items (as_listed merged) s.3.0 text
+    performs = subst (λ (b : ℕ). PerformsTrace limits b budgets items (as_listed merged) s.3.0 text) first (subst (λ (bs : List ℕ). PerformsTrace limits s.0 bs items (as_listed merged) s.3.0 text) rest s.3.1)

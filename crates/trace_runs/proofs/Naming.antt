@@ -3,6 +3,7 @@ use Rattle.std.proofs.Common.{◌≡◌, ◌==◌, ◌<◌, ◌≤◌, ◌^◌, 
 use Rattle.std.specs.List.{All}
 use Rattle.std.proofs.lemmas.List.Elements.{All-nil, All-cons, All-head, All-tail, All-weaker}
 use Rattle.rx_queue.specs.declared.job.Job.{Job}
+use Rattle.filter_table.specs.Limits.{TableLimits}
 use Rattle.filter_table.specs.declared.decision.Vote.TheVariants as vote
 use Rattle.world_events.specs.declared.event.Event.{Event}
 use Rattle.world_events.specs.declared.event.Event.TheVariants.{Start, Submit, StartFor, Take, Rx}
@@ -62,12 +63,12 @@ names_cores others w w' (Take (suc i) zero short) answer peers waiting h = (omeg
 names_cores others w w' (Take (suc i) (suc j) short) answer peers waiting h = absurd h
 names_cores others w w' (Rx core number packet floor) answer peers waiting h = tt
 
-pub run_names_cores : (budget : ℕ) (budgets : List ℕ) (before events : List Done) (w w' : World) → Run budget budgets before w → Runs w events w' → All (λ d. AreCores (suc (length budgets)) d.event) events
-run_names_cores budget budgets before [] w w' run r = All-nil (λ d. AreCores (suc (length budgets)) d.event)
-run_names_cores budget budgets before (d ∷ ds) w w' run r =
-    let k = run_known budget budgets before w run in
+pub run_names_cores : (limits : TableLimits) (budget : ℕ) (budgets : List ℕ) (before events : List Done) (w w' : World) → Run limits budget budgets before w → Runs w events w' → All (λ d. AreCores (suc (length budgets)) d.event) events
+run_names_cores limits budget budgets before [] w w' run r = All-nil (λ d. AreCores (suc (length budgets)) d.event)
+run_names_cores limits budget budgets before (d ∷ ds) w w' run r =
+    let k = run_known limits budget budgets before w run in
     All-cons (λ d. AreCores (suc (length budgets)) d.event) d ds (names_cores (length budgets) w r.0 d.event d.answer k.cores k.waiting_long r.1)
-    (run_names_cores budget budgets (before ++ d ∷ []) ds r.0 w' (runs_more (boot budget budgets) w r.0 before d run r.1) r.2)
+    (run_names_cores limits budget budgets (before ++ d ∷ []) ds r.0 w' (runs_more (boot limits budget budgets) w r.0 before d run r.1) r.2)
 
 -- Packets
 
@@ -146,7 +147,7 @@ receptions core0 others merged items m did k s at =
 
 -- Events
 
-module _ (script : Script) (cores : ℕ) (is : IsScriptForThreads script) (few : length script.budgets ≤ 8) (are_cores : cores ≤ 8) (short : length (received script.items) < 2 ^ 64) where
+module _ (script : Script) (cores : ℕ) (is : IsScriptForThreads script) (few : length script.budgets ≤ 64) (are_cores : cores ≤ 64) (short : length (received script.items) < 2 ^ 64) where
   named_by : (event : Event) → AreCores cores event → IsReception (received script.items) event → IsNamedIn (received script.items) event
   named_by (Start op) inside at = tt
   named_by (Submit core op) inside at = omega (arith, inside, are_cores)

@@ -19,7 +19,7 @@ use Rattle.trace_runs.specs.Repeats.{DiffersByMemory, RanScript}
 use Rattle.trace_runs.proofs.Merged.{shown, only}
 
 module _ (files : List (List ℕ)) (input : List ℕ) (script : Script) (budget : ℕ) (budgets : List ℕ) (end : Core0State) (ends : List OtherState) (merged : List Stamped)
-    (short : AllShort input files) (are_budgets : script.budgets ≡ budget ∷ budgets) (ran : RanScript budget budgets script.items end ends merged)
+    (short : AllShort input files) (are_budgets : script.budgets ≡ budget ∷ budgets) (ran : RanScript script.limits budget budgets script.items end ends merged)
     (stands : Stands (for_simulation files) input (Ok (traced_script script (as_listed merged)))) where
   pub sim_shown : ShowsSim files input 0 (flat_map done_line (as_listed merged))
   sim_shown = inl (
@@ -28,7 +28,7 @@ module _ (files : List (List ℕ)) (input : List ℕ) (script : Script) (budget 
       traced_script script (as_listed merged),
       stands,
       refl,
-      subst (λ (bs : List ℕ). ShowsItems bs (traced_script script (as_listed merged)).items (flat_map done_line (as_listed merged))) (sym are_budgets) (shown budget budgets script.items end ends merged ran),
+      subst (λ (bs : List ℕ). ShowsItems script.limits bs (traced_script script (as_listed merged)).items (flat_map done_line (as_listed merged))) (sym are_budgets) (shown script.limits budget budgets script.items end ends merged ran),
     ),
   )
 
@@ -40,8 +40,8 @@ module _ (files : List (List ℕ)) (input : List ℕ) (script : Script) (budget 
     of_script (inl s) =
         let is : Ok (traced_script script (as_listed merged)) ≡ Ok s.0 = one_outcome (for_simulation files) are_files input (Ok (traced_script script (as_listed merged))) (Ok s.0) stands s.1 in
         let same : s.0 ≡ traced_script script (as_listed merged) = cc in
-        let items : ShowsItems script.budgets (traced_script script (as_listed merged)).items text = subst (λ (x : Script). ShowsItems x.budgets x.items text) same s.3 in
-        (s.2, only budget budgets script.items end ends merged text ran had (subst (λ (bs : List ℕ). ShowsItems bs (traced_script script (as_listed merged)).items text) are_budgets items))
+        let items : ShowsItems script.limits script.budgets (traced_script script (as_listed merged)).items text = subst (λ (x : Script). ShowsItems x.limits x.budgets x.items text) same s.3 in
+        (s.2, only script.limits budget budgets script.items end ends merged text ran had (subst (λ (bs : List ℕ). ShowsItems script.limits bs (traced_script script (as_listed merged)).items text) are_budgets items))
     of_script (inr f) = absurd (let is = one_outcome (for_simulation files) are_files input (Ok (traced_script script (as_listed merged))) (Err f.0) stands f.1 in cc)
 
     pub sim_only : ShowsSim files input status text → (status ≡ 0) × IsOrDiffers text

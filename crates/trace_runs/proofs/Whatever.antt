@@ -4,6 +4,7 @@ use Rattle.std.specs.Prelude.{Result, Ok, Err}
 use Rattle.std.specs.List.{All, flat_map}
 use Rattle.std.proofs.lemmas.List.{append-nil}
 use Rattle.std.proofs.lemmas.List.Elements.{All-head, All-tail}
+use Rattle.filter_table.specs.Limits.{TableLimits}
 use Rattle.filter_table.specs.declared.operation.Op.{Op}
 use Rattle.world_events.specs.declared.event.Event.{Event}
 use Rattle.world_events.specs.declared.event.Event.TheVariants.{Start, Submit, StartFor, Take, Rx}
@@ -63,17 +64,17 @@ retold_item (StartFor core) answer = refl
 retold_item (Take to from short) answer = refl
 retold_item (Rx core number packet floor) answer = refl
 
-module _ (budget : ℕ) (budgets : List ℕ) (before : List Done) (w mid : World) (run : Run budget budgets before w) where
+module _ (limits : TableLimits) (budget : ℕ) (budgets : List ℕ) (before : List Done) (w mid : World) (run : Run limits budget budgets before w) where
   told_once : (event : Event) (answer : Answer) (w' : World) (told : Result Answer WorldFault) → Happens w event mid answer → (LacksMemory event answer → ⊥) → Tells w event told w' → ToldOnce event answer mid w' told
   told_once event answer w' (Ok other) h had tells = by_memory (lacks_or_not event other)
     where
       by_memory : LacksMemory event other ⊎ (LacksMemory event other → ⊥) → ToldOnce event answer mid w' (Ok other)
       by_memory (inl out) = lacking other out refl
       by_memory (inr had') = let one = happens_once w w' mid event other answer tells h had' had in as_before (ap (λ (a : Answer). Ok a) one.0) one.1
-  told_once event answer w' (Err fault) h had tells = absurd (none_stands budget budgets before w mid event answer fault run h (stands w event fault tells.0 tells.1))
+  told_once event answer w' (Err fault) h had tells = absurd (none_stands limits budget budgets before w mid event answer fault run h (stands w event fault tells.0 tells.1))
 
   not_refused : (event : Event) (answer : Answer) (fault : WorldFault) (w' : World) → Happens w event mid answer → Tells w event (Err fault) w' → ⊥
-  not_refused event answer fault w' h tells = none_stands budget budgets before w mid event answer fault run h (stands w event fault tells.0 tells.1)
+  not_refused event answer fault w' h tells = none_stands limits budget budgets before w mid event answer fault run h (stands w event fault tells.0 tells.1)
 
   -- the item's event, its line, and the requests that are left; or out of memory
   data Found (event : Event) (answer : Answer) (later : List Done) (s' : Simulation) (now : List ℕ) : Type 0 where
@@ -139,15 +140,15 @@ one_more d ds w' end now later text line whole (short_of_memory x) = short_of_me
   printed = whole ∙ (rw (line, x.printed) (sym (append_assoc (done_line d) (flat_map done_line x.before) (event_line x.done.event (Ok x.answer) ++ x.more))));
 })
 
-whatever : (budget : ℕ) (budgets : List ℕ) (before events : List Done) (w w' : World) (pending : List PendingRequest) (end : Simulation) (text : List ℕ) → Run budget budgets before w → Runs w events w' → Begin events pending → All WasNotRefused events
+whatever : (limits : TableLimits) (budget : ℕ) (budgets : List ℕ) (before events : List Done) (w w' : World) (pending : List PendingRequest) (end : Simulation) (text : List ℕ) → Run limits budget budgets before w → Runs w events w' → Begin events pending → All WasNotRefused events
     → Performs (at w pending) (map trace_item events) end text → Repeats events w' end.world text
-whatever budget budgets before [] w w' pending end text run r b had p = same p.1 (ap (λ (s : Simulation). s.world) p.0 ∙ sym r)
-whatever budget budgets before (d ∷ ds) w w' pending end text run r b had p =
-    by_found (found budget budgets before w r.0 run (retold d.event d.answer) d.answer ds pending p.0 p.1 (happens_retold w r.0 d.event d.answer r.1) (had_again d.event d.answer (All-head WasNotRefused d ds had)) (retold_begins d.event d.answer ds pending b)
+whatever limits budget budgets before [] w w' pending end text run r b had p = same p.1 (ap (λ (s : Simulation). s.world) p.0 ∙ sym r)
+whatever limits budget budgets before (d ∷ ds) w w' pending end text run r b had p =
+    by_found (found limits budget budgets before w r.0 run (retold d.event d.answer) d.answer ds pending p.0 p.1 (happens_retold w r.0 d.event d.answer r.1) (had_again d.event d.answer (All-head WasNotRefused d ds had)) (retold_begins d.event d.answer ds pending b)
     (subst (λ (i : Item). Does (at w pending) i p.0 p.1) (retold_item d.event d.answer) p.3))
-    (λ begin rest. whatever budget budgets (before ++ d ∷ []) ds r.0 w' p.0.pending end p.2 (runs_more (boot budget budgets) w r.0 before d run r.1) r.2 begin (All-tail WasNotRefused d ds had) rest)
+    (λ begin rest. whatever limits budget budgets (before ++ d ∷ []) ds r.0 w' p.0.pending end p.2 (runs_more (boot limits budget budgets) w r.0 before d run r.1) r.2 begin (All-tail WasNotRefused d ds had) rest)
   where
-    by_found : Found budget budgets before w r.0 run (retold d.event d.answer) d.answer ds p.0 p.1
+    by_found : Found limits budget budgets before w r.0 run (retold d.event d.answer) d.answer ds p.0 p.1
         → (Begin ds p.0.pending → Performs (at r.0 p.0.pending) (map trace_item ds) end p.2 → Repeats ds w' end.world p.2) → Repeats (d ∷ ds) w' end.world text
     by_found (goes_on is line begin) rest =
         one_more d ds w' end.world p.1 p.2 text (line ∙ retold_line d.event d.answer (Ok d.answer)) p.5 (rest begin (subst (λ (x : World). Performs (at x p.0.pending) (map trace_item ds) end p.2) is p.4))
@@ -179,7 +180,7 @@ after_asks w pending (item.Apply event ∷ items) later end text p = after_asks 
 after_asks w pending (item.Settle ∷ items) later end text p = after_asks w pending items later end text p
 after_asks w pending (item.Show core ∷ items) later end text p = after_asks w pending items later end text p
 
-pub repeats : (budget : ℕ) (budgets : List ℕ) (items : List Item) (events : List Done) (w : World) (end : Simulation) (text : List ℕ) → Run budget budgets events w → BeginInOrder items events → All WasNotRefused events
-    → PerformsTrace budget budgets items events end text → Repeats events w end.world text
-repeats budget budgets items events w end text r h had p =
-    whatever budget budgets [] events (boot budget budgets) w (asked items) end text refl r (begin_asked items events h) had (after_asks (boot budget budgets) [] items (map trace_item events) end text p)
+pub repeats : (limits : TableLimits) (budget : ℕ) (budgets : List ℕ) (items : List Item) (events : List Done) (w : World) (end : Simulation) (text : List ℕ) → Run limits budget budgets events w → BeginInOrder items events → All WasNotRefused events
+    → PerformsTrace limits budget budgets items events end text → Repeats events w end.world text
+repeats limits budget budgets items events w end text r h had p =
+    whatever limits budget budgets [] events (boot limits budget budgets) w (asked items) end text refl r (begin_asked items events h) had (after_asks (boot limits budget budgets) [] items (map trace_item events) end text p)

@@ -1,6 +1,7 @@
 //! Laws, each the contract of a function that does nothing.
 
 ghost use Rattle.std.specs.Prelude.{◌≡◌, ◌∷◌, ◌⊎◌, ℕ, All, List, Ok};
+ghost use Rattle.filter_table.specs.Limits.{TableLimits};
 ghost use Rattle.std.specs.List.{flat_map};
 ghost use Rattle.world_events.specs.declared.event.Done.{Done};
 ghost use Rattle.world_model.specs.Worlds.{World, Run};
@@ -25,10 +26,10 @@ ghost use Rattle.trace_runs.specs.Repeats.{BeginInOrder, PerformsTrace, CanRepea
 /// events with their answers, and ends in the run's world. Where core 0 refused no request for lack of memory in that run, `sim`
 /// does and prints nothing else for them, unless memory runs out: then the first line that differs says so.
 pub fn runs_are_done_again()
-    ensures can { (budget : ℕ) (budgets : List ℕ) (items : List Item) (events : List Done) (w : World) →
-        Run budget budgets events w → BeginInOrder items events → CanRepeat budget budgets items events w }
-    ensures only { (budget : ℕ) (budgets : List ℕ) (items : List Item) (events : List Done) (w : World) (end : Simulation) (text : List ℕ) →
-        Run budget budgets events w → BeginInOrder items events → All WasNotRefused events → PerformsTrace budget budgets items events end text →
+    ensures can { (limits : TableLimits) (budget : ℕ) (budgets : List ℕ) (items : List Item) (events : List Done) (w : World) →
+        Run limits budget budgets events w → BeginInOrder items events → CanRepeat limits budget budgets items events w }
+    ensures only { (limits : TableLimits) (budget : ℕ) (budgets : List ℕ) (items : List Item) (events : List Done) (w : World) (end : Simulation) (text : List ℕ) →
+        Run limits budget budgets events w → BeginInOrder items events → All WasNotRefused events → PerformsTrace limits budget budgets items events end text →
         Repeats events w end.world text }
 {}
 
@@ -36,12 +37,12 @@ pub fn runs_are_done_again()
 /// a line for each, and ends where the cores end. Where core 0 refused no request for lack of memory, `sim` shows nothing else,
 /// unless memory runs out: then the first line that differs says so.
 pub fn merged_runs_are_done_again()
-    ensures can { (budget : ℕ) (budgets : List ℕ) (items : List Item) (end : Core0State) (ends : List OtherState) (merged : List Stamped) →
-        RanScript budget budgets items end ends merged → CanRepeatMerged budget budgets items end ends merged }
-    ensures shown { (budget : ℕ) (budgets : List ℕ) (items : List Item) (end : Core0State) (ends : List OtherState) (merged : List Stamped) →
-        RanScript budget budgets items end ends merged → ShowsTrace (budget ∷ budgets) items (as_listed merged) (flat_map done_line (as_listed merged)) }
-    ensures only { (budget : ℕ) (budgets : List ℕ) (items : List Item) (end : Core0State) (ends : List OtherState) (merged : List Stamped) (text : List ℕ) →
-        RanScript budget budgets items end ends merged → All WasNotRefused (as_listed merged) → ShowsTrace (budget ∷ budgets) items (as_listed merged) text →
+    ensures can { (limits : TableLimits) (budget : ℕ) (budgets : List ℕ) (items : List Item) (end : Core0State) (ends : List OtherState) (merged : List Stamped) →
+        RanScript limits budget budgets items end ends merged → CanRepeatMerged limits budget budgets items end ends merged }
+    ensures shown { (limits : TableLimits) (budget : ℕ) (budgets : List ℕ) (items : List Item) (end : Core0State) (ends : List OtherState) (merged : List Stamped) →
+        RanScript limits budget budgets items end ends merged → ShowsTrace limits (budget ∷ budgets) items (as_listed merged) (flat_map done_line (as_listed merged)) }
+    ensures only { (limits : TableLimits) (budget : ℕ) (budgets : List ℕ) (items : List Item) (end : Core0State) (ends : List OtherState) (merged : List Stamped) (text : List ℕ) →
+        RanScript limits budget budgets items end ends merged → All WasNotRefused (as_listed merged) → ShowsTrace limits (budget ∷ budgets) items (as_listed merged) text →
         (text ≡ flat_map done_line (as_listed merged)) ⊎ DiffersByMemory (as_listed merged) text }
 {}
 
@@ -52,10 +53,10 @@ pub fn merged_runs_are_done_again()
 /// The text and its files have to be within the limits of `sim`.
 pub fn sim_shows_the_trace()
     ensures shown { (files : List (List ℕ)) (input : List ℕ) (script : Script) (budget : ℕ) (budgets : List ℕ) (end : Core0State) (ends : List OtherState) (merged : List Stamped) →
-        AllShort input files → script.budgets ≡ budget ∷ budgets → RanScript budget budgets script.items end ends merged → Stands (for_simulation files) input (Ok (traced_script script (as_listed merged))) →
+        AllShort input files → script.budgets ≡ budget ∷ budgets → RanScript script.limits budget budgets script.items end ends merged → Stands (for_simulation files) input (Ok (traced_script script (as_listed merged))) →
         ShowsSim files input 0 (flat_map done_line (as_listed merged)) }
     ensures only { (files : List (List ℕ)) (input : List ℕ) (script : Script) (budget : ℕ) (budgets : List ℕ) (end : Core0State) (ends : List OtherState) (merged : List Stamped) (status : ℕ) (text : List ℕ) →
-        AreFiles files → AllShort input files → script.budgets ≡ budget ∷ budgets → RanScript budget budgets script.items end ends merged → All WasNotRefused (as_listed merged) →
+        AreFiles files → AllShort input files → script.budgets ≡ budget ∷ budgets → RanScript script.limits budget budgets script.items end ends merged → All WasNotRefused (as_listed merged) →
         Stands (for_simulation files) input (Ok (traced_script script (as_listed merged))) → ShowsSim files input status text →
         (status ≡ 0) × ((text ≡ flat_map done_line (as_listed merged)) ⊎ DiffersByMemory (as_listed merged) text) }
 {}

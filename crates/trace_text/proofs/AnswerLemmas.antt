@@ -8,7 +8,7 @@ use Rattle.filter_table.specs.declared.delivery.Kept.{Kept}
 use Rattle.filter_table.specs.declared.operation.Made.{Made}
 use Rattle.filter_table.specs.declared.operation.Made.TheVariants as made
 use Rattle.filter_table.specs.declared.operation.OpFault.{OpFault}
-use Rattle.filter_table.specs.declared.operation.OpFault.TheVariants.{BadProgram, NoCap, NotHolder, NoRight, RightsExceed, EndpointTaken, CapsFull, IdsSpent, NoFilter, NotOwner, TableFull, FilterIdsSpent, VersionsSpent}
+use Rattle.filter_table.specs.declared.operation.OpFault.TheVariants.{BadProgram, NoCap, NotHolder, NoRight, RightsExceed, EndpointTaken, CapsFull, IdsSpent, NoFilter, NotOwner, TableFull, FilterIdsSpent, VersionsSpent, DomainFull}
 use Rattle.filter_table.specs.declared.decision.Vote.{Vote}
 use Rattle.filter_table.specs.declared.decision.Vote.TheVariants as vote
 use Rattle.filter_table.specs.declared.decision.Veto.{Veto}
@@ -47,6 +47,7 @@ rule_lf NotOwner = refl
 rule_lf TableFull = refl
 rule_lf FilterIdsSpent = refl
 rule_lf VersionsSpent = refl
+rule_lf DomainFull = refl
 
 veto_lf : (core : ℕ) (why : Veto) → Lacks is_lf (veto_words core why)
 veto_lf core (veto.Rule fault) = rule_lf fault

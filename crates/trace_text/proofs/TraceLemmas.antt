@@ -1,6 +1,6 @@
 -- A script, `trace` and what its run printed stand for the script's requests and the events of the run.
 use Rattle.std.proofs.Common.{◌≡◌, ℕ, ◌+◌, true, false, not, eqb, List, [], ◌∷◌, ◌++◌, length, filter, Result, Ok, Err, refl, sym, ap, ◌∙◌, subst, inl, inr, append_assoc, append-nil, None}
-use Rattle.std.specs.Prelude.{codes, map, if◌then◌else◌}
+use Rattle.std.specs.Prelude.{codes, map, if◌then◌else◌, slice_get, unwrap_or}
 use Rattle.std.specs.List.{All, AllByRecursion, flat_map, list_any}
 use Rattle.std.proofs.lemmas.Bool.{cases_Bool}
 use Rattle.std.proofs.Math.Bool.{or-true}
@@ -8,6 +8,7 @@ use Rattle.std.proofs.lemmas.List.Elements.{recursion_from_All, filter-append}
 use Rattle.std.proofs.lemmas.List.Folds.{list_any-append}
 use Rattle.bpf_insn.specs.Texts.{words_of}
 use Rattle.filter_asm.specs.Program.{text_lines}
+use Rattle.filter_table.specs.Limits.{TableLimits, default_limits}
 use Rattle.world_events.specs.declared.event.Event.{Event}
 use Rattle.world_events.specs.declared.event.Done.{Done}
 use Rattle.mk_script.specs.declared.fault.ScriptFault.{ScriptFault}
@@ -16,7 +17,7 @@ use Rattle.mk_script.specs.declared.script.Item.TheVariants as item
 use Rattle.mk_script.specs.declared.script.Script.{Script}
 use Rattle.mk_script.specs.Bodies.{DraftedMeans, Means}
 use Rattle.mk_script.specs.Drafts.{Settings, Draft, Whole, draft_of, draft_in, script_draft, has_cores}
-use Rattle.mk_script.specs.Meanings.{Meaning, Does, Receives, Trace, Nothing, Known, Counted, Named, known, is_request, is_act, is_trace, budgets_in, jobs_in, items_in, items_of, is_traced, jobs_behind}
+use Rattle.mk_script.specs.Meanings.{Meaning, Does, Receives, Trace, Nothing, Known, Counted, Named, known, is_request, is_act, is_trace, limits_in, limits_behind, budgets_in, jobs_in, items_in, items_of, is_traced, jobs_behind}
 use Rattle.mk_script.specs.Rows.{command_of}
 use Rattle.mk_script.specs.Scripts.{MeanBehind, Stands, script_of}
 use Rattle.mk_script.specs.Statements.{plain, statements, statements_from}
@@ -57,6 +58,7 @@ trace_lines events left =
 
 -- these lines have done the requests of those before `trace`, and then these items
 record Traced (before given : List Meaning) (items : List Item) : Type 0 where
+  pub same_limits : flat_map limits_in given ≡ flat_map limits_in before
   pub same_budgets : flat_map budgets_in given ≡ flat_map budgets_in before
   pub same_jobs : jobs_behind given ≡ Named (flat_map jobs_in before)
   pub is_traced_now : is_traced given ≡ true
@@ -66,14 +68,16 @@ begins : (before : List Meaning) → Traced before (before ++ Trace ∷ []) []
 begins before =
     let now : is_traced (before ++ Trace ∷ []) ≡ true = list_any-append is_trace before (Trace ∷ []) ∙ or-true (list_any is_trace before) in
     record {
+      same_limits = same_flat limits_in before Trace refl;
       same_budgets = same_flat budgets_in before Trace refl;
       same_jobs = ap (λ t. if t then Named (flat_map jobs_in (before ++ Trace ∷ [])) else Counted (length (flat_map jobs_in (before ++ Trace ∷ [])))) now ∙ ap Named (same_flat jobs_in before Trace refl);
       is_traced_now = now;
       same_items = ap (λ t. flat_map (items_in t) (before ++ Trace ∷ [])) now ∙ same_flat (items_in true) before Trace refl ∙ sym (append-nil (flat_map (items_in true) before));
     }
 
-pushes : (before given : List Meaning) (items : List Item) (m : Meaning) → budgets_in m ≡ [] → jobs_in m ≡ [] → is_trace m ≡ false → Traced before given items → Traced before (given ++ m ∷ []) (items ++ items_in true m)
-pushes before given items m no_budgets no_jobs no_trace t = record {
+pushes : (before given : List Meaning) (items : List Item) (m : Meaning) → limits_in m ≡ [] → budgets_in m ≡ [] → jobs_in m ≡ [] → is_trace m ≡ false → Traced before given items → Traced before (given ++ m ∷ []) (items ++ items_in true m)
+pushes before given items m no_limits no_budgets no_jobs no_trace t = record {
+  same_limits = same_flat limits_in given m no_limits ∙ t.same_limits;
   same_budgets = same_flat budgets_in given m no_budgets ∙ t.same_budgets;
   same_jobs = same_jobs_behind given m no_jobs no_trace ∙ t.same_jobs;
   is_traced_now = same_any is_trace given m no_trace ∙ t.is_traced_now;
@@ -97,7 +101,7 @@ one_more s before given n line lines items m alone means rest =
 left_read : (s : Settings) (before given : List Meaning) (items : List Item) (n : ℕ) (left : List (ℕ × ℕ)) → Traced before given items → ReadBack s before given n (map (λ l. left_text l.0 l.1) left) items
 left_read s before given items n [] t = record { meanings = given; means = refl; now = t }
 left_read s before given items n (l ∷ left) t =
-    let next : Traced before (given ++ Nothing ∷ []) items = subst (Traced before (given ++ Nothing ∷ [])) (append-nil items) (pushes before given items Nothing refl refl refl t) in
+    let next : Traced before (given ++ Nothing ∷ []) items = subst (Traced before (given ++ Nothing ∷ [])) (append-nil items) (pushes before given items Nothing refl refl refl refl t) in
     one_more s before given n (left_text l.0 l.1) (map (λ l. left_text l.0 l.1) left) items Nothing (left_alone l.0 l.1) (left_means s (known given) (flat_map jobs_in before) n l.0 l.1 t.same_jobs)
     (left_read s before (given ++ Nothing ∷ []) items (n + 1) left next)
 
@@ -106,7 +110,7 @@ events_read : (s : Settings) (before given : List Meaning) (items : List Item) (
 events_read s before given items n [] left all t = subst (ReadBack s before given n (lines_of [] left)) (sym (append-nil items)) (left_read s before given items n left t)
 events_read s before given items n (d ∷ events) left all t =
     let m = Does (trace_item d) in
-    let next = pushes before given items m refl refl refl t in
+    let next = pushes before given items m refl refl refl refl t in
     one_more s before given n (event_text d) (lines_of events left) (items ++ map trace_item (d ∷ events)) m (event_alone d) (event_means s (known given) (flat_map jobs_in before) n d t.same_jobs all.0)
     (subst (ReadBack s before (given ++ m ∷ []) (n + 1) (lines_of events left)) (append_assoc items (trace_item d ∷ []) (map trace_item events))
     (events_read s before (given ++ m ∷ []) (items ++ trace_item d ∷ []) (n + 1) events left all.1 next))
@@ -152,7 +156,7 @@ trace_alone : IsAlone (words_of (codes "trace"))
 trace_alone = record { stays = refl; alone = refl }
 
 abbrev made_of : List Meaning → Script
-made_of given = record { budgets = flat_map budgets_in given; items = items_of given }
+made_of given = record { limits = unwrap_or (limits_behind given) default_limits; budgets = flat_map budgets_in given; items = items_of given }
 
 -- what has a script has cores
 record Made (given : List Meaning) (script : Script) : Type 0 where
@@ -186,9 +190,10 @@ module _ (files : List (List ℕ)) (text : List ℕ) (script : Script) where
       (λ k e. subst (λ (k : ℕ). MeanBehind s given (statements_from k None (codes "trace" ∷ lines)) (Ok r.meanings)) (sym e) r.means) in
       let whole : text_lines (text ++ trace_of events left) ≡ text_lines text ++ codes "trace" ∷ lines = lines_join text lf.0 (trace_of events left) lf.1 ∙ ap (λ ls. text_lines text ++ ls) (trace_lines events left) in
       let has : has_cores (known r.meanings) ≡ true = ap (λ (b : List ℕ). not (eqb (length b) 0)) r.now.same_budgets ∙ m.some in
+      let limits : script.limits ≡ unwrap_or (limits_behind r.meanings) default_limits = ap (λ (x : Script). x.limits) m.is ∙ ap (λ (l : List TableLimits). unwrap_or (slice_get l 0) default_limits) (sym r.now.same_limits) in
       let budgets : script.budgets ≡ flat_map budgets_in r.meanings = ap (λ (x : Script). x.budgets) m.is ∙ sym r.now.same_budgets in
       let done : asks_of script.items ++ map trace_item events ≡ items_of r.meanings = ap (λ l. l ++ map trace_item events) asks ∙ sym r.now.same_items in
-      let same : traced_script script events ≡ made_of r.meanings = λ i. record { budgets = budgets i; items = done i } in
+      let same : traced_script script events ≡ made_of r.meanings = λ i. record { limits = limits i; budgets = budgets i; items = done i } in
       (Ok r.meanings, subst (λ (ls : List (List ℕ)). MeanBehind s [] (statements_from 1 None ls) (Ok r.meanings)) (sym whole) goes_on, rw has (ap Ok same))
 
   pub read_back : (events : List Done) (left : List (ℕ × ℕ)) → Stands (for_threads files) text (Ok script) → EndsInLf text → All (IsNamed script.items) events

@@ -49,6 +49,6 @@ IsNamed items d = IsNamedIn (received items) d.event
 abbrev pub EndsInLf : List ℕ → Type 0
 EndsInLf text = (front : List ℕ) × (text ≡ front ++ 10 ∷ [])
 
--- the requests of a script, and then the events of a run
+-- the requests of a script, and then the events of a run, on the script's machine
 abbrev pub traced_script : Script → List Done → Script
-traced_script script events = record { budgets = script.budgets; items = asks_of script.items ++ map trace_item events }
+traced_script script events = record { limits = script.limits; budgets = script.budgets; items = asks_of script.items ++ map trace_item events }

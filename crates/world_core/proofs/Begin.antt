@@ -35,12 +35,13 @@ readied_kept messages core0 peers peers' m k = record {
   others = k.others ∙ sym m.0;
   peers_kept = λ i p at.
       let old = get_at peers i (omega (arith, m.0, slice_get_within peers' i p at)) in
-      subst (λ (c : OtherCore). CoreIsKept core0.log.items c) (sym (m.1 i old.0 p old.1 at).core) (k.peers_kept i old.0 old.1);
+      subst (λ (c : OtherCore). CoreIsKept core0.core.replica.shown.limits core0.log.items c) (sym (m.1 i old.0 p old.1 at).core) (k.peers_kept i old.0 old.1);
   few = rw m.0 k.few;
+  limits = k.limits;
   budget = k.budget;
   budgets = k.budgets;
   events = k.events;
-  run = subst (λ (w : worlds.World). worlds.Run k.budget k.budgets k.events w) (sym (readied_same messages core0 peers peers' m)) k.run;
+  run = subst (λ (w : worlds.World). worlds.Run k.limits k.budget k.budgets k.events w) (sym (readied_same messages core0 peers peers' m)) k.run;
 }
 
 pub on_err : {T E : Type 0} (r : Result T E) (P : Type 0) → P → OnErr r P
@@ -81,6 +82,10 @@ none_staged core0 k can = idle_phase core0.core.coordinator.phase core0.core.rep
 -- it is taken back
 pub withdrawn : (core0 : LoggedCore0) (core : Core0) (staged : Option Op) → core0.core.replica.staged ≡ None → core ≡ staging core0.core staged → staging core None ≡ core0.core
 withdrawn core0 core staged none is = rw (is, ← none) refl
+
+-- nothing was staged, so core 0 is as it was
+pub unstaged : (core0 : LoggedCore0) (core : Core0) → core0.core.replica.staged ≡ None → core.replica.staged ≡ None → core ≡ staging core0.core core.replica.staged → core ≡ core0.core
+unstaged core0 core none still is = is ∙ ap (staging core0.core) (still ∙ sym none)
 
 -- the start is one of core 0 before that
 moves_before : (core core' : Core0) (staged committed : Option Op) → Moves (staging core staged) committed core' → Moves core committed core'

@@ -3,6 +3,7 @@ use Rattle.std.proofs.Common.{◌≡◌, ◌∙◌, ◌++◌, ◌∷◌, ◌+◌
 use Rattle.std.proofs.lemmas.List.{length-map, map-append, take_more}
 use Rattle.std.proofs.lemmas.List.Elements.{All-push}
 use Rattle.std.proofs.lemmas.Option.{get_or_from_slice_get, slice_get_within}
+use Rattle.filter_table.specs.Limits.{TableLimits}
 use Rattle.filter_table.specs.Tables.{empty_table, table}
 use Rattle.table_replica.specs.Shown.{ReplicaState}
 use Rattle.monitor_messages.specs.declared.message.Message.{Message}
@@ -18,32 +19,34 @@ all_at : {A : Type 0} (P : A → Type 0) (xs : List A) (i : ℕ) (x : A) → All
 all_at P xs i x all at = subst P (get_or_from_slice_get xs i x x at) (all i x (slice_get_within xs i x at))
 
 -- core 0 and the others, as they begin
-pub record Begins {C Piece : Type 0} (messages : C → List Message) (core0 : LoggedCore0) (peers : List (Peer C Piece)) (budget : ℕ) (budgets : List ℕ) : Type 0 where
+pub record Begins {C Piece : Type 0} (messages : C → List Message) (core0 : LoggedCore0) (peers : List (Peer C Piece)) (limits : TableLimits) (budget : ℕ) (budgets : List ℕ) : Type 0 where
   pub log : core0.log.items ≡ []
-  pub replica : core0.core.replica ≡ record { budget = budget; shown = empty_table; staged = None }
+  pub replica : core0.core.replica ≡ record { budget = budget; shown = empty_table limits; staged = None }
   pub coordinator : core0.core.coordinator ≡ record { others = length budgets; last = 0; phase = Idle; requests = no_requests (length budgets) }
   pub begun : core0.begun ≡ None
   pub seen : map (seen_peer messages) peers ≡ map worlds.new_peer budgets
-  pub kept : All (PeerIsKept []) peers
+  pub kept : All (PeerIsKept limits []) peers
   pub few : length budgets < MOST_CORES
 
-pub boot_seen : {C Piece : Type 0} (messages : C → List Message) (core0 : LoggedCore0) (peers : List (Peer C Piece)) (budget : ℕ) (budgets : List ℕ) → Begins messages core0 peers budget budgets → seen_world messages core0 peers ≡ worlds.boot budget budgets
-boot_seen messages core0 peers budget budgets b = rw (b.log, b.replica, b.coordinator, b.seen) refl
+pub boot_seen : {C Piece : Type 0} (messages : C → List Message) (core0 : LoggedCore0) (peers : List (Peer C Piece)) (limits : TableLimits) (budget : ℕ) (budgets : List ℕ) → Begins messages core0 peers limits budget budgets → seen_world messages core0 peers ≡ worlds.boot limits budget budgets
+boot_seen messages core0 peers limits budget budgets b = rw (b.log, b.replica, b.coordinator, b.seen) refl
 
-pub boot_kept : {C Piece : Type 0} (messages : C → List Message) (core0 : LoggedCore0) (peers : List (Peer C Piece)) (budget : ℕ) (budgets : List ℕ) → Begins messages core0 peers budget budgets → WorldIsKept messages core0 peers
-boot_kept messages core0 peers budget budgets b = record {
+pub boot_kept : {C Piece : Type 0} (messages : C → List Message) (core0 : LoggedCore0) (peers : List (Peer C Piece)) (limits : TableLimits) (budget : ℕ) (budgets : List ℕ) → Begins messages core0 peers limits budget budgets → WorldIsKept messages core0 peers
+boot_kept messages core0 peers limits budget budgets b = record {
   core0_kept = record {
-    shown = ap (λ (r : ReplicaState). r.shown) b.replica ∙ (sym table_opening ∙ ap (λ log. table log (length log)) (sym b.log));
+    shown = ap (λ (r : ReplicaState). r.shown) b.replica ∙ (sym (table_opening limits) ∙ (ap (λ log. table limits log (length log)) (sym b.log)
+        ∙ ap (λ (m : TableLimits). table m core0.log.items (length core0.log.items)) (sym (ap (λ (r : ReplicaState). r.shown.limits) b.replica))));
     between = record { staged = rw (b.coordinator, b.replica) refl; sendable = rw b.coordinator tt };
     begun = rw (b.begun, b.replica) refl;
   };
   others = ap (λ (x : CoordinatorState). x.others) b.coordinator ∙ sym long;
-  peers_kept = λ i p at. rw b.log (all_at (PeerIsKept []) peers i p b.kept at);
+  peers_kept = λ i p at. rw (b.log, b.replica) (all_at (PeerIsKept limits []) peers i p b.kept at);
   few = omega (arith, long, b.few);
+  limits = limits;
   budget = budget;
   budgets = budgets;
   events = [];
-  run = boot_seen messages core0 peers budget budgets b;
+  run = boot_seen messages core0 peers limits budget budgets b;
 }
   where
     long : length peers ≡ length budgets

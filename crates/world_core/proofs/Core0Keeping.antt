@@ -44,7 +44,7 @@ oldest_up messages core0 peers w (suc entry) m view e =
 -- core 0 waits for it
 pub expects_up : {C Piece : Type 0} (messages : C → List Message) (core0 : LoggedCore0) (peers : List (Peer C Piece)) (core : ℕ) (m : Message) → WorldIsKept messages core0 peers → (o : Oldest messages peers core m) → Expects (core0_place core0.core) core0.core.coordinator.requests o.entry m
 expects_up messages core0 peers core m k o =
-    (run_no_stranger k.budget k.budgets k.events (seen_world messages core0 peers) k.run).up o.entry (seen_peer messages o.peer) m o.rest (map-get (seen_peer messages) peers o.entry o.peer o.there) o.oldest
+    (run_no_stranger k.limits k.budget k.budgets k.events (seen_world messages core0 peers) k.run).up o.entry (seen_peer messages o.peer) m o.rest (map-get (seen_peer messages) peers o.entry o.peer o.there) o.oldest
 
 pub seen_gives_up : {C Piece : Type 0} (messages : C → List Message) (p p' : Peer C Piece) (rest : List Message) → GivesUp messages p p' → drop 1 (messages p.up) ≡ rest → seen_peer messages p' ≡ record (seen_peer messages p) { up = rest }
 seen_gives_up messages p p' rest g d = rw (g.core, g.down, g.up, d) refl

@@ -1,6 +1,7 @@
 -- What core 0 keeps with its steps.
 use Rattle.std.proofs.Common.{◌≡◌, ◌∙◌, ℕ, Option, None, Some, List, length, slice_get, slice_set, refl, ap, sym}
 use Rattle.filter_table.specs.declared.operation.Op.{Op}
+use Rattle.filter_table.specs.Limits.{TableLimits}
 use Rattle.filter_table.specs.Tables.{TableState, table}
 use Rattle.filter_table.specs.declared.decision.Vote.{Vote}
 use Rattle.monitor_messages.specs.declared.message.Message.{Message}
@@ -14,12 +15,15 @@ use Rattle.world_model.specs.Cases.{joined, TakesUpAt}
 use Rattle.core_steps.specs.declared.core0.Told.{Told}
 use Rattle.core_steps.specs.Core0Steps.{Moves, Starts, StartsForCore, TakesUp, core0_place}
 use Rattle.core_steps.proofs.Tables.{table_joined}
+use Rattle.world_core.proofs.Keeping.{limits_commit}
 use Rattle.world_core.specs.declared.core0.LoggedCore0.{LoggedCore0}
 use Rattle.world_core.specs.LoggedCore0s.{Core0IsKept, Core0IsIdle, Core0Starts, Core0StartsFor, Core0Takes, begun_op, logged, begun_by, entered, still_begun}
 
-core0_kept : (core0 core0' : LoggedCore0) (committed : Option Op) → core0.core.replica.shown ≡ table core0.log.items (length core0.log.items) → Moves core0.core committed core0'.core → core0'.log.items ≡ joined core0.log.items committed → begun_op core0'.begun ≡ core0'.core.replica.staged → Core0IsKept core0'
+core0_kept : (core0 core0' : LoggedCore0) (committed : Option Op) → core0.core.replica.shown ≡ table core0.core.replica.shown.limits core0.log.items (length core0.log.items) → Moves core0.core committed core0'.core → core0'.log.items ≡ joined core0.log.items committed → begun_op core0'.begun ≡ core0'.core.replica.staged → Core0IsKept core0'
 core0_kept core0 core0' committed shown m log begun = record {
-  shown = m.shown_next ∙ (ap (λ (s : TableState). after_commit s committed) shown ∙ (table_joined core0.log.items committed ∙ ap (λ (l : List Op). table l (length l)) (sym log)));
+  shown = m.shown_next ∙ (ap (λ (s : TableState). after_commit s committed) shown ∙ (table_joined core0.core.replica.shown.limits core0.log.items committed
+      ∙ (ap (λ (l : List Op). table core0.core.replica.shown.limits l (length l)) (sym log)
+      ∙ ap (λ (m : TableLimits). table m core0'.log.items (length core0'.log.items)) (sym (limits_commit core0.core.replica.shown core0'.core.replica.shown committed m.shown_next)))));
   between = m.between;
   begun = begun;
 }

@@ -1,7 +1,11 @@
 -- What keeps the cores as the world has them.
-use Rattle.std.proofs.Common.{◌≡◌, ◌∙◌, ◌++◌, ◌∷◌, Bool, Option, Some, List, [], drop, refl, ap, sym}
+use Rattle.std.proofs.Common.{◌≡◌, ◌∙◌, ◌++◌, ◌∷◌, Bool, Option, Some, None, List, [], drop, refl, ap, sym}
 use Rattle.std.specs.Prelude.{option_to_list}
+use Rattle.filter_table.specs.declared.operation.Op.{Op}
+use Rattle.filter_table.specs.Limits.{TableLimits}
 use Rattle.filter_table.specs.Tables.{TableState, empty_table, table}
+use Rattle.filter_table.proofs.Tables.{limits-after}
+use Rattle.monitor_2pc.specs.Places.{after_commit}
 use Rattle.monitor_messages.specs.declared.message.Message.{Message}
 use Rattle.world_channels.specs.Channels.{first_of}
 use Rattle.world_events.specs.declared.event.Event.TheVariants.{Take}
@@ -13,13 +17,18 @@ use Rattle.core_steps.proofs.Taking.{version_commit}
 use Rattle.world_core.specs.declared.peer.Peer.{Peer}
 use Rattle.world_core.specs.Keeping.{seen_peer, CoreIsKept, PeerTakes}
 
-pub table_opening : table [] 0 ≡ empty_table
+pub table_opening : (limits : TableLimits) → table limits [] 0 ≡ empty_table limits
 unfolding table
-table_opening = refl
+table_opening limits = refl
+
+-- a commit keeps the limits
+pub limits_commit : (s s' : TableState) (committed : Option Op) → s' ≡ after_commit s committed → s'.limits ≡ s.limits
+limits_commit s s' None same = ap (λ (t : TableState). t.limits) same
+limits_commit s s' (Some op) same = ap (λ (t : TableState). t.limits) same ∙ limits-after s op
 
 -- a core that has done nothing yet
-pub new_kept : (core : OtherCore) → core.replica.shown ≡ empty_table → IsBetweenSteps core → CoreIsKept [] core
-new_kept core shown between = record { shown = shown ∙ (rw shown (sym table_opening)); between = between }
+pub new_kept : (limits : TableLimits) (core : OtherCore) → core.replica.shown ≡ empty_table limits → IsBetweenSteps core → CoreIsKept limits [] core
+new_kept limits core shown between = record { shown = shown ∙ (rw shown (sym (table_opening limits))); between = between }
 
 -- The oldest message
 

@@ -2,6 +2,7 @@
 use Rattle.std.specs.declared.alloc.Global.{Global}
 use Rattle.std.specs.declared.vec.Vec.{Vec}
 use Rattle.std.proofs.Common.{◌≡◌, ◌∙◌, ◌++◌, ◌∷◌, ◌<◌, ◌≤◌, ◌⊎◌, inl, inr, All, ℕ, suc, Bool, Option, None, Some, List, [], length, map, slice_get, refl, ap, sym, subst, arith, false}
+use Rattle.filter_table.specs.Limits.{TableLimits}
 use Rattle.filter_table.specs.declared.operation.Op.{Op}
 use Rattle.filter_table.specs.Tables.{TableState, table}
 use Rattle.filter_table.proofs.Tables.{table_front}
@@ -25,6 +26,7 @@ use Rattle.world_core.specs.declared.sending.Ready.TheVariants.{Nothing, ToAll, 
 use Rattle.core_steps.specs.declared.other_core.OtherCore.{OtherCore}
 use Rattle.core_steps.specs.Core0Steps.{core0_place}
 use Rattle.core_steps.proofs.Taking.{version_commit}
+use Rattle.world_core.proofs.Keeping.{limits_commit}
 use Rattle.world_core.proofs.PeerKeeping.{map-slice_set}
 use Rattle.world_core.proofs.Core0Keeping.{Oldest, seen_gives_up}
 use Rattle.world_core.proofs.Carried.{set_at, sent_seen}
@@ -101,16 +103,16 @@ pub moved_seen : {C Piece : Type 0} (messages : C → List Message) (core0 core0
     → seen_world messages core0' peers' ≡ worlds.core0_moves (seen_world messages core0 peers) (core0_place core0'.core) core0'.core.coordinator.requests committed out
 moved_seen messages core0 core0' peers peers' committed out h sent =
     let version : core0'.core.replica.shown.version ≡ raised core0.core.replica.shown.version committed = ap (λ (s : TableState). s.version) h.moves.shown_next ∙ version_commit core0.core.replica.shown committed in
-    rw (h.log_next, h.moves.same_budget, version, sent_out_seen messages peers peers' out sent) refl
+    rw (limits_commit core0.core.replica.shown core0'.core.replica.shown committed h.moves.shown_next, h.log_next, h.moves.same_budget, version, sent_out_seen messages peers peers' out sent) refl
 
 -- The world is kept
 
-core_moved : (log : List Op) (committed : Option Op) (core core' : OtherCore) → core.replica.shown.version ≤ length log → core' ≡ core → CoreIsKept log core → CoreIsKept (joined log committed) core'
-core_moved log committed core core' le same k = subst (λ (c : OtherCore). CoreIsKept (joined log committed) c) (sym same) (record { shown = k.shown ∙ sym (front committed); between = k.between })
+core_moved : (limits : TableLimits) (log : List Op) (committed : Option Op) (core core' : OtherCore) → core.replica.shown.version ≤ length log → core' ≡ core → CoreIsKept limits log core → CoreIsKept limits (joined log committed) core'
+core_moved limits log committed core core' le same k = subst (λ (c : OtherCore). CoreIsKept limits (joined log committed) c) (sym same) (record { shown = k.shown ∙ sym (front committed); between = k.between })
   where
-    front : (o : Option Op) → table (joined log o) core.replica.shown.version ≡ table log core.replica.shown.version
+    front : (o : Option Op) → table limits (joined log o) core.replica.shown.version ≡ table limits log core.replica.shown.version
     front None = refl
-    front (Some op) = table_front log (op ∷ []) core.replica.shown.version le
+    front (Some op) = table_front limits log (op ∷ []) core.replica.shown.version le
 
 pub moved_kept : {C Piece : Type 0} (messages : C → List Message) (core0 core0' : LoggedCore0) (peers peers' : List (Peer C Piece)) (committed : Option Op) (event : Event) (answer : Answer) → WorldIsKept messages core0 peers → Core0Moves core0 committed core0' → EachMatches Alike peers peers'
     → worlds.Happens (seen_world messages core0 peers) event (seen_world messages core0' peers') answer → WorldIsKept messages core0' peers'
@@ -119,9 +121,10 @@ moved_kept messages core0 core0' peers peers' committed event answer k h m happe
   others = h.moves.same_others ∙ (k.others ∙ sym (m.0));
   peers_kept = λ i p at.
       let old = get_at peers i (omega (arith, m.0, slice_get_within peers' i p at)) in
-      let within = (run_inv k.budget k.budgets k.events (seen_world messages core0 peers) k.run).within i (seen_peer messages old.0) (map-get (seen_peer messages) peers i old.0 old.1) in
-      rw h.log_next (core_moved core0.log.items committed old.0.core p.core within.not_ahead (m.1 i old.0 p old.1 at).core (k.peers_kept i old.0 old.1));
+      let within = (run_inv k.limits k.budget k.budgets k.events (seen_world messages core0 peers) k.run).within i (seen_peer messages old.0) (map-get (seen_peer messages) peers i old.0 old.1) in
+      rw (limits_commit core0.core.replica.shown core0'.core.replica.shown committed h.moves.shown_next, h.log_next) (core_moved core0.core.replica.shown.limits core0.log.items committed old.0.core p.core within.not_ahead (m.1 i old.0 p old.1 at).core (k.peers_kept i old.0 old.1));
   few = rw (m.0) k.few;
+  limits = k.limits;
   budget = k.budget;
   budgets = k.budgets;
   events = k.events ++ record { event = event; answer = answer } ∷ [];

@@ -13,6 +13,7 @@ use Rattle.world_events.specs.declared.fault.WorldFault.{WorldFault}
 use Rattle.world_events.specs.declared.fault.WorldFault.TheVariants.{NoSuchCore, Nothing, NotReady, NotIdle, Spent, Outstanding, NoneWaiting, NoMemory}
 use Rattle.world_core.specs.Refusals.{WorldRefuses, Reached, Extends, AllQuiet, IsNext, Settles}
 use Rattle.world_core.specs.Settling.{takes_left, NoneDown, IsTaken, TakenDown, TakenUp, TakenNext}
+use Rattle.filter_table.specs.Limits.{TableLimits}
 use Rattle.world_core.proofs.Loads.{next_leaves}
 
 -- one take more
@@ -22,18 +23,18 @@ settles_more w mid w' (first ∷ events) done s t = (s.0, s.1, s.2, settles_more
 
 -- each run goes on by what settles
 pub settles_extends : (w w' : World) (events : List Done) → Settles w events w' → Extends w events w'
-settles_extends w w' events settles = λ budget budgets before run. runs_append (boot budget budgets) w w' before events run (as_run w w' events settles)
+settles_extends w w' events settles = λ limits budget budgets before run. runs_append (boot limits budget budgets) w w' before events run (as_run w w' events settles)
   where
     as_run : (w w' : World) (events : List Done) → Settles w events w' → Runs w events w'
     as_run w w' [] s = s
     as_run w w' (done ∷ later) s = (s.0, s.2, as_run s.0 w' later s.3)
 
 -- with nothing under way core 0 is idle
-pub quiet_idle : (budget : ℕ) (budgets : List ℕ) (w : World) → Reached budget budgets w → AllQuiet w → w.place.phase ≡ Idle
-quiet_idle budget budgets w r quiet = (run_agrees budget budgets (r.0) w (r.1)).idle (λ i p at. let q = quiet i p at in (rw q.none_down refl, rw q.none_up refl))
+pub quiet_idle : (limits : TableLimits) (budget : ℕ) (budgets : List ℕ) (w : World) → Reached limits budget budgets w → AllQuiet w → w.place.phase ≡ Idle
+quiet_idle limits budget budgets w r quiet = (run_agrees limits budget budgets (r.0) w (r.1)).idle (λ i p at. let q = quiet i p at in (rw q.none_down refl, rw q.none_up refl))
 
-pub taken_leaves : (budget : ℕ) (budgets : List ℕ) (w w' : World) (done : Done) → Reached budget budgets w → IsTaken w done w' → takes_left w' < takes_left w
-taken_leaves budget budgets w w' done r t = next_leaves w w' done (run_inv budget budgets (r.0) w (r.1)) t.next t.happens
+pub taken_leaves : (limits : TableLimits) (budget : ℕ) (budgets : List ℕ) (w w' : World) (done : Done) → Reached limits budget budgets w → IsTaken w done w' → takes_left w' < takes_left w
+taken_leaves limits budget budgets w w' done r t = next_leaves w w' done (run_inv limits budget budgets (r.0) w (r.1)) t.next t.happens
 
 pub refused_up : (w : World) (entry : ℕ) (p : Peer) (fault : WorldFault) → slice_get w.peers entry ≡ Some p → fault ≢ NoMemory → WorldRefuses w (Take 0 (suc entry) false) fault → p.up ≡ []
 refused_up w entry p NoMemory at other h = absurd (other refl)
@@ -54,13 +55,13 @@ next_up w w' core entry answer e none_down before h =
     }
 
 -- where there is no message from core 0, the take to core 0 is the next
-up_taken : (budget : ℕ) (budgets : List ℕ) (w w' : World) (taken : Option Done) → Reached budget budgets w → TakenUp w w' taken → TakenNext w w' taken
-up_taken budget budgets w w' (Some done) r t = (t, taken_leaves budget budgets w w' done r t)
-up_taken budget budgets w w' None r t = (t.0, t.1, quiet_idle budget budgets w r (t.1))
+up_taken : (limits : TableLimits) (budget : ℕ) (budgets : List ℕ) (w w' : World) (taken : Option Done) → Reached limits budget budgets w → TakenUp w w' taken → TakenNext w w' taken
+up_taken limits budget budgets w w' (Some done) r t = (t, taken_leaves limits budget budgets w w' done r t)
+up_taken limits budget budgets w w' None r t = (t.0, t.1, quiet_idle limits budget budgets w r (t.1))
 
-pub next_after : {E : Type 0} (budget : ℕ) (budgets : List ℕ) (w mid w' : World) (answer : Result (Option Done) E) → Reached budget budgets w → mid ≡ w → IfOk answer (TakenUp mid w') → IfOk answer (TakenNext w w')
-next_after budget budgets w mid w' (Ok taken) r same t = up_taken budget budgets w w' taken r (subst (λ (x : World). TakenUp x w' taken) same t)
-next_after budget budgets w mid w' (Err fault) r same t = tt
+pub next_after : {E : Type 0} (limits : TableLimits) (budget : ℕ) (budgets : List ℕ) (w mid w' : World) (answer : Result (Option Done) E) → Reached limits budget budgets w → mid ≡ w → IfOk answer (TakenUp mid w') → IfOk answer (TakenNext w w')
+next_after limits budget budgets w mid w' (Ok taken) r same t = up_taken limits budget budgets w w' taken r (subst (λ (x : World). TakenUp x w' taken) same t)
+next_after limits budget budgets w mid w' (Err fault) r same t = tt
 
 pub down_none : (w mid : World) (taken : Option Done) → ((done : Done) → taken ≡ Some done → ⊥) → TakenDown w mid taken → mid ≡ w
 down_none w mid (Some done) none t = absurd (none done refl)

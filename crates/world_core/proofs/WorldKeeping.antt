@@ -12,15 +12,15 @@ use Rattle.world_core.specs.Shown.{ShowsReplica}
 use Rattle.world_model.proofs.RunLaws.{run_agrees}
 use Rattle.filter_table.proofs.Lists.{map-get}
 
-agreed : {C Piece : Type 0} (messages : C → List Message) (core0 : LoggedCore0) (peers : List (Peer C Piece)) → (k : WorldIsKept messages core0 peers) → Agrees k.budget k.budgets (seen_world messages core0 peers)
-agreed messages core0 peers k = run_agrees k.budget k.budgets k.events (seen_world messages core0 peers) k.run
+agreed : {C Piece : Type 0} (messages : C → List Message) (core0 : LoggedCore0) (peers : List (Peer C Piece)) → (k : WorldIsKept messages core0 peers) → Agrees k.limits k.budget k.budgets (seen_world messages core0 peers)
+agreed messages core0 peers k = run_agrees k.limits k.budget k.budgets k.events (seen_world messages core0 peers) k.run
 
 pub core0_shows : {C Piece : Type 0} (messages : C → List Message) (core0 : LoggedCore0) (peers : List (Peer C Piece)) → WorldIsKept messages core0 peers → ShowsReplica (seen_world messages core0 peers) 0 core0.core.replica
 core0_shows messages core0 peers k = record {
   version = core0.core.replica.shown.version;
   is_version = refl;
   numbered = refl;
-  shown = k.core0_kept.shown ∙ ap (table core0.log.items) (sym (agreed messages core0 peers k).core0);
+  shown = k.core0_kept.shown ∙ ap (table core0.core.replica.shown.limits core0.log.items) (sym (agreed messages core0 peers k).core0);
   is_budget = refl;
   is_staged = refl;
 }

@@ -1,6 +1,7 @@
 -- The cores as the world keeps them, with their replicas.
 -- No public clause cites these.
 use Rattle.std.specs.Prelude.{◌≡◌, ◌≢◌, ◌<◌, ◌≤◌, ◌++◌, ◌∷◌, [], drop, ℕ, Bool, true, false, Option, None, Some, List, length, map, slice_get, slice_set, option_to_list, Result, IfOk, IfErr, OnErr}
+use Rattle.filter_table.specs.Limits.{TableLimits}
 use Rattle.filter_table.specs.declared.operation.Op.{Op}
 use Rattle.filter_table.specs.Tables.{TableState, table}
 use Rattle.monitor_messages.specs.declared.message.Message.{Message}
@@ -34,12 +35,12 @@ seen_peer messages p = record {
 }
 
 -- its replica is the table of its version, and it is between steps
-pub record CoreIsKept (log : List Op) (core : OtherCore) : Type 0 where
-  pub shown : core.replica.shown ≡ table log core.replica.shown.version
+pub record CoreIsKept (limits : TableLimits) (log : List Op) (core : OtherCore) : Type 0 where
+  pub shown : core.replica.shown ≡ table limits log core.replica.shown.version
   pub between : IsBetweenSteps core
 
-abbrev pub PeerIsKept : {C Piece : Type 0} → List Op → Peer C Piece → Type 0
-PeerIsKept log p = CoreIsKept log p.core
+abbrev pub PeerIsKept : {C Piece : Type 0} → TableLimits → List Op → Peer C Piece → Type 0
+PeerIsKept limits log p = CoreIsKept limits log p.core
 
 -- a core submits a request
 pub record PeerSubmits (p : worlds.Peer) (op : Op) (p' : worlds.Peer) (answer : Answer) : Type 0 where
@@ -79,6 +80,7 @@ PeerCannotTake p fault = ⊥
 -- what the world shows of its cores
 abbrev pub seen_world : {C Piece : Type 0} → (C → List Message) → LoggedCore0 → List (Peer C Piece) → worlds.World
 seen_world messages core0 peers = record {
+  limits = core0.core.replica.shown.limits;
   log = core0.log.items;
   budget = core0.core.replica.budget;
   version = core0.core.replica.shown.version;
@@ -91,12 +93,13 @@ seen_world messages core0 peers = record {
 pub record WorldIsKept {C Piece : Type 0} (messages : C → List Message) (core0 : LoggedCore0) (peers : List (Peer C Piece)) : Type 0 where
   pub core0_kept : Core0IsKept core0
   pub others : core0.core.coordinator.others ≡ length peers
-  pub peers_kept : (i : ℕ) (p : Peer C Piece) → slice_get peers i ≡ Some p → PeerIsKept core0.log.items p
+  pub peers_kept : (i : ℕ) (p : Peer C Piece) → slice_get peers i ≡ Some p → PeerIsKept core0.core.replica.shown.limits core0.log.items p
   pub few : length peers < MOST_CORES
+  pub limits : TableLimits
   pub budget : ℕ
   pub budgets : List ℕ
   pub events : List Done
-  pub run : worlds.Run budget budgets events (seen_world messages core0 peers)
+  pub run : worlds.Run limits budget budgets events (seen_world messages core0 peers)
 
 -- One core of several is changed
 pub record ChangesOne {P : Type 0} (old : List P) (i : ℕ) (new : List P) (R : P → P → Type 0) : Type 0 where

@@ -23,13 +23,13 @@ begun_op (Some op) = Some op.value
 
 -- Core 0 is between steps, its replica is the newest table, and the operation under vote is the one that is staged.
 pub record Core0IsKept (core0 : LoggedCore0) : Type 0 where
-  pub shown : core0.core.replica.shown ≡ table core0.log.items (length core0.log.items)
+  pub shown : core0.core.replica.shown ≡ table core0.core.replica.shown.limits core0.log.items (length core0.log.items)
   pub between : BetweenSteps core0.core
   pub begun : begun_op core0.begun ≡ core0.core.replica.staged
 
 -- it can begin a request, which its replica may have been asked to stage
 pub record Core0IsIdle (core0 : LoggedCore0) : Type 0 where
-  pub shown : core0.core.replica.shown ≡ table core0.log.items (length core0.log.items)
+  pub shown : core0.core.replica.shown ≡ table core0.core.replica.shown.limits core0.log.items (length core0.log.items)
   pub can : CanBegin core0.core
   pub none_begun : begun_op core0.begun ≡ None
 

@@ -1,9 +1,9 @@
 -- When the world refuses an event, when it does not begin, and in which order it settles.
 use Rattle.std.specs.Prelude.{◌≡◌, ◌≢◌, ◌<◌, ◌≤◌, ◌⊎◌, ℕ, zero, suc, Bool, Option, Some, None, List, [], ◌∷◌, ◌++◌, length, slice_get, option_map, option_and_then}
+use Rattle.filter_table.specs.Limits.{TableLimits}
 use Rattle.filter_table.specs.declared.operation.Op.{Op}
 use Rattle.monitor_messages.specs.declared.message.Message.{Message}
 use Rattle.filter_table.specs.Tables.{HasShortProgram}
-use Rattle.monitor_2pc.specs.declared.most.TheConstants.{MOST_CORES}
 use Rattle.monitor_2pc.specs.Coordinators.{Idle}
 use Rattle.world_events.specs.declared.event.Event.{Event}
 use Rattle.world_events.specs.declared.event.Event.TheVariants.{Start, Submit, StartFor, Take, Rx}
@@ -50,21 +50,21 @@ abbrev pub WorldRefuses : World → Event → WorldFault → Type 0
 WorldRefuses w event NoMemory = NoneStands w event
 WorldRefuses w event fault = StandsFirst w event fault
 
--- a machine has 1 to MOST_CORES cores
-abbrev pub HasCores : List ℕ → Type 0
-HasCores budgets = (1 ≤ length budgets) × (length budgets ≤ MOST_CORES)
+-- a machine has a core at least, and so many at most
+abbrev pub HasCores : ℕ → List ℕ → Type 0
+HasCores most budgets = (1 ≤ length budgets) × (length budgets ≤ most)
 
-abbrev pub BootRefuses : List ℕ → BootFault → Type 0
-BootRefuses budgets boot_fault.CoreCount = HasCores budgets → ⊥
-BootRefuses budgets boot_fault.NoMemory = HasCores budgets
+abbrev pub BootRefuses : ℕ → List ℕ → BootFault → Type 0
+BootRefuses most budgets boot_fault.CoreCount = HasCores most budgets → ⊥
+BootRefuses most budgets boot_fault.NoMemory = HasCores most budgets
 
--- some run of a machine with these budgets leads there
-abbrev pub Reached : ℕ → List ℕ → World → Type 0
-Reached budget budgets w = (events : List Done) × Run budget budgets events w
+-- some run of a machine with these limits and budgets leads there
+abbrev pub Reached : TableLimits → ℕ → List ℕ → World → Type 0
+Reached limits budget budgets w = (events : List Done) × Run limits budget budgets events w
 
 -- each run that leads to the one world leads by these events on to the other
 abbrev pub Extends : World → List Done → World → Type 0
-Extends w events w' = (budget : ℕ) (budgets : List ℕ) (before : List Done) → Run budget budgets before w → Run budget budgets (before ++ events) w'
+Extends w events w' = (limits : TableLimits) (budget : ℕ) (budgets : List ℕ) (before : List Done) → Run limits budget budgets before w → Run limits budget budgets (before ++ events) w'
 
 pub record IsQuiet (p : Peer) : Type 0 where
   pub none_down : p.down ≡ []

@@ -15,6 +15,6 @@ pub record ShowsReplica (w : World) (core : ℕ) (r : ReplicaState) : Type 0 whe
   pub version : ℕ
   pub is_version : version_at w core ≡ Some version
   pub numbered : r.shown.version ≡ version
-  pub shown : r.shown ≡ table w.log version
+  pub shown : r.shown ≡ table w.limits w.log version
   pub is_budget : budget_at w core ≡ Some r.budget
   pub is_staged : staged_at w core ≡ Some r.staged

@@ -11,7 +11,7 @@ ghost use Rattle.core_steps.specs.Core0Steps.{core0_place, HasWaiting, start_sen
 ghost use Rattle.world_core.specs.LoggedCore0s.{Core0IsKept, Core0IsIdle, Core0Starts, Core0StartsFor, Core0Takes, begun_op, logged, begun_by, entered, still_begun};
 
 use core_steps::{Core0, Told};
-use filter_table::{Op, StageFault};
+use filter_table::{Limits, Op, StageFault};
 use ghost_log::Log;
 use monitor_2pc::{Decision, MOST_CORES, Message};
 use std::alloc::{AllocError, Global};
@@ -39,15 +39,20 @@ impl Drop for LoggedCore0 {
 
 impl LoggedCore0 {
     /// Core 0 that has done nothing yet, beside so many others.
-    pub(crate) fn new(alloc: Global, budget: u32, others: u16) -> Result<LoggedCore0, AllocError>
+    pub(crate) fn new(
+        alloc: Global,
+        limits: Limits,
+        budget: u32,
+        others: u16,
+    ) -> Result<LoggedCore0, AllocError>
         requires { others < MOST_CORES }
         ensures log { IfOk result (λ core0. core0.log.items ≡ []) }
-        ensures replica { IfOk result (λ core0. core0.core.replica ≡ record { budget = budget; shown = empty_table; staged = None }) }
+        ensures replica { IfOk result (λ core0. core0.core.replica ≡ record { budget = budget; shown = empty_table limits; staged = None }) }
         ensures coordinator { IfOk result (λ core0. core0.core.coordinator ≡ record { others = others; last = 0; phase = Idle; requests = no_requests others }) }
         ensures begun { IfOk result (λ core0. core0.begun ≡ None) }
     {
         Ok(LoggedCore0 {
-            core: Core0::new(alloc, budget, others + 1)?,
+            core: Core0::new(alloc, limits, budget, others + 1)?,
             log: Log::new(),
             begun: None,
         })

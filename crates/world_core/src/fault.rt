@@ -9,8 +9,8 @@ use thiserror::Error;
 /// Why there is no machine.
 #[derive(Clone, Copy, PartialEq, Eq, Debug, Drop, Error)]
 pub enum BootFault {
-    /// A machine has 1 to 8 cores.
-    #[error("a machine has 1 to 8 cores")]
+    /// A machine has 1 to 8 cores, or 1 to 64 where it is given its limits.
+    #[error("a machine has 1 to 8 cores, or 1 to 64 where it is given its limits")]
     CoreCount,
     /// There was no memory.
     #[error("out of memory")]

@@ -7,7 +7,7 @@ ghost use Rattle.monitor_messages.specs.Coding.{IsNumbered, IsShort};
 ghost use Rattle.world_core.specs.Keeping.{ChangesOne, Submits, Takes, IsReadyAt, GivesUp, EachMatches, Readied, IsSent, RoomAt, RoomFrom};
 
 use core_steps::OtherCore;
-use filter_table::Op;
+use filter_table::{Limits, Op};
 use monitor_2pc::Message;
 use std::alloc::{AllocError, Global};
 use world_channels::Channel;
@@ -44,13 +44,13 @@ impl<C: Channel> Peer<C> {
     ghost use Rattle.world_core.specs.Keeping.{seen_peer, PeerIsKept, PeerSubmits, PeerCannotSubmit, AwaitsOldest, PeerTakes, PeerCannotTake, Readied, IsSent, HasRoom, IsReadyUp};
 
     /// A core that has done nothing yet.
-    pub(crate) fn new(alloc: Global, budget: u32) -> Result<Peer<C>, AllocError>
+    pub(crate) fn new(alloc: Global, limits: Limits, budget: u32) -> Result<Peer<C>, AllocError>
         ensures seen { IfOk result (λ peer. seen_peer C.messages peer ≡ new_peer budget) }
-        ensures kept { IfOk result (λ peer. PeerIsKept [] peer) }
+        ensures kept { IfOk result (λ peer. PeerIsKept limits [] peer) }
     {
         let down = C::new(alloc)?;
         let up = C::new(alloc)?;
-        let core = OtherCore::new(alloc, budget)?;
+        let core = OtherCore::new(alloc, limits, budget)?;
         Ok(Peer { core, down, up })
     }
 

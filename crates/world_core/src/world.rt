@@ -12,8 +12,8 @@ use crate::hearing::hear;
 use crate::peer::{Peer, submit_at, take_at};
 use crate::starting::{begin, begin_for};
 use core_steps::receive;
-use filter_table::Op;
-use monitor_2pc::{MOST_CORES, Message};
+use filter_table::{Limits, Op};
+use monitor_2pc::{DEFAULT_MOST_CORES, MOST_CORES, Message};
 use pcap_reader::SharedPacket;
 use std::alloc::{AllocError, Global};
 use std::marker::Model;
@@ -56,6 +56,7 @@ impl<C: Channel> Model for WorldOver<C> {
 
 impl<C: Channel> WorldOver<C> {
     ghost use Rattle.world_model.specs.Worlds as worlds;
+    ghost use Rattle.filter_table.specs.Limits.{TableLimits, default_limits};
     ghost use Rattle.filter_table.specs.Tables.{HasShortProgram};
     ghost use Rattle.world_events.specs.declared.event.Event.TheVariants.{Start, Submit, StartFor, Take, Rx};
     ghost use Rattle.world_core.specs.Refusals.{channel, NoneStands, WorldRefuses, BootRefuses, Extends, HasCores, Reached, IsShortEvent, waiting_at};
@@ -64,11 +65,27 @@ impl<C: Channel> WorldOver<C> {
     ghost use Rattle.world_events.specs.declared.event.Done.{Done as GhostDone};
     ghost use Rattle.world_core.specs.Shown.{ShowsReplica};
 
-    /// The cores of a machine, with these budgets, core 0's first. Nothing has happened yet.
+    /// The 1 to 8 cores of a machine with the default limits and these budgets, core 0's first. Nothing has happened yet.
     pub fn boot(alloc: Global, budgets: &[u32]) -> Result<WorldOver<C>, BootFault>
-        ensures boots { IfOk result (λ world. (budget : ℕ) × (others : List ℕ) × (budgets.now ≡ budget ∷ others) × (world ≡ worlds.boot budget others)) }
-        ensures count { OnOk result (HasCores budgets.now) }
-        ensures fault { IfErr result (BootRefuses budgets.now) }
+        ensures boots { IfOk result (λ world. (budget : ℕ) × (others : List ℕ) × (budgets.now ≡ budget ∷ others) × (world ≡ worlds.boot default_limits budget others)) }
+        ensures count { OnOk result (HasCores 8 budgets.now) }
+        ensures fault { IfErr result (BootRefuses 8 budgets.now) }
+    {
+        if budgets.len() > usize::from(DEFAULT_MOST_CORES) {
+            return Err(BootFault::CoreCount);
+        }
+        WorldOver::boot_with_limits(alloc, Limits::DEFAULT, budgets)
+    }
+
+    /// The 1 to 64 cores of a machine with these limits and budgets, core 0's first. Nothing has happened yet.
+    pub fn boot_with_limits(
+        alloc: Global,
+        limits: Limits,
+        budgets: &[u32],
+    ) -> Result<WorldOver<C>, BootFault>
+        ensures boots { IfOk result (λ world. (budget : ℕ) × (others : List ℕ) × (budgets.now ≡ budget ∷ others) × (world ≡ worlds.boot limits budget others)) }
+        ensures count { OnOk result (HasCores 64 budgets.now) }
+        ensures fault { IfErr result (BootRefuses 64 budgets.now) }
     {
         let [budget, others @ ..] = budgets else {
             return Err(BootFault::CoreCount);
@@ -76,17 +93,22 @@ impl<C: Channel> WorldOver<C> {
         if others.len() >= usize::from(MOST_CORES) {
             return Err(BootFault::CoreCount);
         }
-        Ok(WorldOver::assemble(alloc, *budget, others)?)
+        Ok(WorldOver::assemble(alloc, limits, *budget, others)?)
     }
 
     // Core 0 with this budget, and the others with theirs.
-    fn assemble(alloc: Global, budget: u32, others: &[u32]) -> Result<WorldOver<C>, AllocError>
+    fn assemble(
+        alloc: Global,
+        limits: Limits,
+        budget: u32,
+        others: &[u32],
+    ) -> Result<WorldOver<C>, AllocError>
         requires { length others.now < MOST_CORES }
-        ensures { IfOk result (λ world. world ≡ worlds.boot budget others.now) }
+        ensures { IfOk result (λ world. world ≡ worlds.boot limits budget others.now) }
     {
         // Core 0 is dropped by a call: left to a way out, each of its parts is dropped there, which takes long to prove.
-        let core0 = LoggedCore0::new(alloc, budget, others.len() as u16)?;
-        match new_peers(alloc, others) {
+        let core0 = LoggedCore0::new(alloc, limits, budget, others.len() as u16)?;
+        match new_peers(alloc, limits, others) {
             Ok(peers) => Ok(WorldOver {
                 alloc,
                 core0,
@@ -102,7 +124,7 @@ impl<C: Channel> WorldOver<C> {
     /// How many cores there are. Some run of a machine led here.
     pub(crate) fn cores(&self) -> u16
         ensures count { result ≡ length self.now.peers + 1 }
-        ensures reached { (budget : ℕ) × (budgets : List ℕ) × Reached budget budgets self.now }
+        ensures reached { (limits : TableLimits) × (budget : ℕ) × (budgets : List ℕ) × Reached limits budget budgets self.now }
     {
         self.peers.len() as u16 + 1
     }
@@ -111,7 +133,7 @@ impl<C: Channel> WorldOver<C> {
     pub fn replica(&self, core: u16) -> Option<&Replica>
         ensures some { IfSome result (λ replica. ShowsReplica self.now core replica.now) }
         ensures none { IfNone result (worlds.version_at self.now core ≡ None) }
-        ensures reached { (budget : ℕ) × (budgets : List ℕ) × Reached budget budgets self.now }
+        ensures reached { (limits : TableLimits) × (budget : ℕ) × (budgets : List ℕ) × Reached limits budget budgets self.now }
     {
         if core == 0 {
             return Some(&self.core0.core.replica);
@@ -149,14 +171,14 @@ impl<C: Channel> WorldOver<C> {
         ensures fault { IfErr result (WorldRefuses self.old event.now) }
         ensures same { OnErr result (self.new ≡ self.old) }
         ensures extends { IfOk result (λ answer. Extends self.old (record { event = event.now; answer = answer } ∷ []) self.new) }
-        ensures grows { IfOk result (λ _. (budget : ℕ) (budgets : List ℕ) (events : List GhostDone) → worlds.Run budget budgets events self.old → Grows self.old self.new) }
-        ensures one_log { (budget : ℕ) (budgets : List ℕ) (events : List GhostDone) → worlds.Run budget budgets events self.new → Agrees budget budgets self.new }
-        ensures versions_counted { (budget : ℕ) (budgets : List ℕ) (events : List GhostDone) → worlds.Run budget budgets events self.new → TellsVersions events self.new }
-        ensures sound { (budget : ℕ) (budgets : List ℕ) (events : List GhostDone) → worlds.Run budget budgets events self.new → IsSoundLog self.new.log }
-        ensures all_expected { (budget : ℕ) (budgets : List ℕ) (events : List GhostDone) → worlds.Run budget budgets events self.new → NoStranger self.new }
-        ensures delivers { (budget : ℕ) (budgets : List ℕ) (events : List GhostDone) → worlds.Run budget budgets events self.new → Delivers self.new.log events }
-        ensures decides { IfOk result (λ answer. (budget : ℕ) (budgets : List ℕ) (events : List GhostDone) → worlds.Run budget budgets events self.old → DecidesRightly events self.old event.now self.new answer) }
-        ensures replies { IfOk result (λ answer. (budget : ℕ) (budgets : List ℕ) (events : List GhostDone) → worlds.Run budget budgets events self.old → RepliesRightly events self.old event.now answer) }
+        ensures grows { IfOk result (λ _. (limits : TableLimits) (budget : ℕ) (budgets : List ℕ) (events : List GhostDone) → worlds.Run limits budget budgets events self.old → Grows self.old self.new) }
+        ensures one_log { (limits : TableLimits) (budget : ℕ) (budgets : List ℕ) (events : List GhostDone) → worlds.Run limits budget budgets events self.new → Agrees limits budget budgets self.new }
+        ensures versions_counted { (limits : TableLimits) (budget : ℕ) (budgets : List ℕ) (events : List GhostDone) → worlds.Run limits budget budgets events self.new → TellsVersions events self.new }
+        ensures sound { (limits : TableLimits) (budget : ℕ) (budgets : List ℕ) (events : List GhostDone) → worlds.Run limits budget budgets events self.new → IsSoundLog self.new.limits self.new.log }
+        ensures all_expected { (limits : TableLimits) (budget : ℕ) (budgets : List ℕ) (events : List GhostDone) → worlds.Run limits budget budgets events self.new → NoStranger self.new }
+        ensures delivers { (limits : TableLimits) (budget : ℕ) (budgets : List ℕ) (events : List GhostDone) → worlds.Run limits budget budgets events self.new → Delivers self.new.limits self.new.log events }
+        ensures decides { IfOk result (λ answer. (limits : TableLimits) (budget : ℕ) (budgets : List ℕ) (events : List GhostDone) → worlds.Run limits budget budgets events self.old → DecidesRightly events self.old event.now self.new answer) }
+        ensures replies { IfOk result (λ answer. (limits : TableLimits) (budget : ℕ) (budgets : List ℕ) (events : List GhostDone) → worlds.Run limits budget budgets events self.old → RepliesRightly events self.old event.now answer) }
     {
         self.perform(event)
     }
@@ -291,13 +313,17 @@ impl<C: Channel> WorldOver<C> {
 }
 
 // Cores other than core 0 that have done nothing yet.
-fn new_peers<C: Channel>(alloc: Global, budgets: &[u32]) -> Result<Vec<Peer<C>>, AllocError>
+fn new_peers<C: Channel>(
+    alloc: Global,
+    limits: Limits,
+    budgets: &[u32],
+) -> Result<Vec<Peer<C>>, AllocError>
     ensures seen { IfOk result (λ peers. map (seen_peer C.messages) peers.items ≡ map new_peer budgets.now) }
-    ensures kept { IfOk result (λ peers. All (PeerIsKept []) peers.items) }
+    ensures kept { IfOk result (λ peers. All (PeerIsKept limits []) peers.items) }
 {
     let mut peers = Vec::with_capacity(alloc, budgets.len())?;
     for budget in budgets {
-        peers.push(Peer::new(alloc, *budget)?)?;
+        peers.push(Peer::new(alloc, limits, *budget)?)?;
     }
     Ok(peers)
 }

@@ -31,6 +31,17 @@ step0_clock others budget c c' stamp event m answer sent h =
     let d = does0_clock others budget c c' stamp event m answer sent h.does in
     (omega (arith, h.ticks, tick_more c.clock m), d.0, d.1)
 
+-- no event changes the limits
+does0_limits : (others budget : ℕ) (c c' : Core0State) (stamp : ℕ) (event : Event) (m : Option Stamping) (answer : Answer) (sent : Outgoing) → Does0 others budget c stamp event m c' answer sent → c'.limits ≡ c.limits
+does0_limits others budget c c' stamp (Start op) None answer sent h = ap (λ (x : Core0State). x.limits) h.next
+does0_limits others budget c c' stamp (StartFor (suc i)) None answer sent h = ap (λ (x : Core0State). x.limits) h.next
+does0_limits others budget c c' stamp (Take zero (suc i) short) (Some m) answer sent h = ap (λ (x : Core0State). x.limits) h.next
+does0_limits others budget c c' stamp (Rx zero number packet floor) None answer sent h = ap (λ (x : Core0State). x.limits) h.next
+does0_limits others budget c c' stamp event m answer sent h = absurd h
+
+pub step0_limits : (others budget : ℕ) (c c' : Core0State) (stamp : ℕ) (event : Event) (m : Option Stamping) (answer : Answer) (sent : Outgoing) → Step0 others budget c stamp event m c' answer sent → c'.limits ≡ c.limits
+step0_limits others budget c c' stamp event m answer sent h = does0_limits others budget c c' stamp event m answer sent h.does
+
 pub later0 : (others budget : ℕ) (c c' : Core0State) (s : Stamped) (rest : List Stamped) (sent : List Sending) (taken : List (ℕ × Stamping)) → History0 others budget c (s ∷ rest) c' sent taken → c.clock < s.stamp
 later0 others budget c c' s rest sent taken h = (step0_clock others budget c h.0 s.stamp s.done.event h.1 s.done.answer h.2 h.5).0
 
@@ -77,6 +88,15 @@ pub step_clock : (i budget : ℕ) (c c' : OtherState) (stamp : ℕ) (event : Eve
 step_clock i budget c c' stamp event m answer h =
     let d = does_clock i budget c c' stamp event m answer h.does in
     (omega (arith, h.ticks, tick_more c.clock m), d.0, d.1)
+
+does_limits : (i budget : ℕ) (c c' : OtherState) (stamp : ℕ) (event : Event) (m : Option Stamping) (answer : Answer) → DoesOther i budget c stamp event m c' answer → c'.limits ≡ c.limits
+does_limits i budget c c' stamp (Submit (suc core) op) None answer h = ap (λ (x : OtherState). x.limits) h.1.next
+does_limits i budget c c' stamp (Take (suc to) zero short) (Some m) answer h = ap (λ (x : OtherState). x.limits) h.1.next
+does_limits i budget c c' stamp (Rx (suc core) number packet floor) None answer h = ap (λ (x : OtherState). x.limits) h.1.next
+does_limits i budget c c' stamp event m answer h = absurd h
+
+pub step_limits : (i budget : ℕ) (c c' : OtherState) (stamp : ℕ) (event : Event) (m : Option Stamping) (answer : Answer) → StepOther i budget c stamp event m c' answer → c'.limits ≡ c.limits
+step_limits i budget c c' stamp event m answer h = does_limits i budget c c' stamp event m answer h.does
 
 pub later_other : (i budget : ℕ) (c c' : OtherState) (s : Stamped) (rest : List Stamped) (taken : List Stamping) → HistoryOther i budget c (s ∷ rest) c' taken → c.clock < s.stamp
 later_other i budget c c' s rest taken h = (step_clock i budget c h.0 s.stamp s.done.event h.1 s.done.answer h.3).0

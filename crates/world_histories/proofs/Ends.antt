@@ -1,6 +1,7 @@
 -- The histories of a computation say where its cores end, and so its log.
 use Rattle.std.proofs.Common.{◌≡◌, ℕ, suc, Bool, Some, List, [], ◌∷◌, ◌++◌, length, slice_get, refl, ap, sym, ◌∙◌, subst, arith}
 use mathlib.Core.List.{IsPrefix}
+use Rattle.filter_table.specs.Limits.{TableLimits}
 use Rattle.filter_table.specs.declared.operation.Op.{Op}
 use Rattle.monitor_2pc.specs.Participants.{ParticipantPlace}
 use Rattle.monitor_2pc.specs.Coordinators.{CoordinatorPlace, Requests}
@@ -32,19 +33,19 @@ clock_other i budget c c' [] taken h = ap (λ (x : OtherState). x.clock) h.0
 clock_other i budget c c' (s ∷ later) taken h =
     clock_other i budget h.0 c' later h.2 h.4 ∙ ap (λ (n : ℕ). clock_of n later) (step_clock i budget c h.0 s.stamp s.done.event h.1 s.done.answer h.3).1
 
-same_core0 : (a b : Core0State) → a.clock ≡ b.clock → a.place ≡ b.place → a.requests ≡ b.requests → a.log ≡ b.log → a ≡ b
-same_core0 a b ec ep er el = made a.clock b.clock ec a.place b.place ep a.requests b.requests er a.log b.log el
+same_core0 : (a b : Core0State) → a.limits ≡ b.limits → a.clock ≡ b.clock → a.place ≡ b.place → a.requests ≡ b.requests → a.log ≡ b.log → a ≡ b
+same_core0 a b em ec ep er el = made a.limits b.limits em a.clock b.clock ec a.place b.place ep a.requests b.requests er a.log b.log el
   where
-    made : (c c' : ℕ) → c ≡ c' → (p p' : CoordinatorPlace) → p ≡ p' → (r r' : Requests) → r ≡ r' → (l l' : List Op) → l ≡ l'
-        → ◌≡◌ {A = Core0State} (record { clock = c; place = p; requests = r; log = l }) (record { clock = c'; place = p'; requests = r'; log = l' })
-    made c c' ec p p' ep r r' er l l' el = rw (ec, ep, er, el) refl
+    made : (m m' : TableLimits) → m ≡ m' → (c c' : ℕ) → c ≡ c' → (p p' : CoordinatorPlace) → p ≡ p' → (r r' : Requests) → r ≡ r' → (l l' : List Op) → l ≡ l'
+        → ◌≡◌ {A = Core0State} (record { limits = m; clock = c; place = p; requests = r; log = l }) (record { limits = m'; clock = c'; place = p'; requests = r'; log = l' })
+    made m m' em c c' ec p p' ep r r' er l l' el = rw (em, ec, ep, er, el) refl
 
-same_other : (a b : OtherState) → a.clock ≡ b.clock → a.place ≡ b.place → a.outstanding ≡ b.outstanding → a.log ≡ b.log → a ≡ b
-same_other a b ec ep eo el = made a.clock b.clock ec a.place b.place ep a.outstanding b.outstanding eo a.log b.log el
+same_other : (a b : OtherState) → a.limits ≡ b.limits → a.clock ≡ b.clock → a.place ≡ b.place → a.outstanding ≡ b.outstanding → a.log ≡ b.log → a ≡ b
+same_other a b em ec ep eo el = made a.limits b.limits em a.clock b.clock ec a.place b.place ep a.outstanding b.outstanding eo a.log b.log el
   where
-    made : (c c' : ℕ) → c ≡ c' → (p p' : ParticipantPlace) → p ≡ p' → (o o' : Bool) → o ≡ o' → (l l' : List Op) → l ≡ l'
-        → ◌≡◌ {A = OtherState} (record { clock = c; place = p; outstanding = o; log = l }) (record { clock = c'; place = p'; outstanding = o'; log = l' })
-    made c c' ec p p' ep o o' eo l l' el = rw (ec, ep, eo, el) refl
+    made : (m m' : TableLimits) → m ≡ m' → (c c' : ℕ) → c ≡ c' → (p p' : ParticipantPlace) → p ≡ p' → (o o' : Bool) → o ≡ o' → (l l' : List Op) → l ≡ l'
+        → ◌≡◌ {A = OtherState} (record { limits = m; clock = c; place = p; outstanding = o; log = l }) (record { limits = m'; clock = c'; place = p'; outstanding = o'; log = l' })
+    made m m' em c c' ec p p' ep o o' eo l l' el = rw (em, ec, ep, eo, el) refl
 
 -- two fronts of one length are one
 same_front : (xs ys log : List Op) → IsPrefix xs log → IsPrefix ys log → length xs ≡ length ys → xs ≡ ys
@@ -69,12 +70,12 @@ same_items (x ∷ xs) (y ∷ ys) e same =
 
 -- in one world the core stands in one state, but its clock
 same_end : (w : World) (p : Peer) (a b : OtherState) → EndsAs w p a → EndsAs w p b → a.clock ≡ b.clock → a ≡ b
-same_end w p a b x y clock = same_other a b clock (sym x.place_is ∙ y.place_is) (sym x.outstanding_is ∙ y.outstanding_is) (same_front a.log b.log w.log x.is_front y.is_front (sym x.version_is ∙ y.version_is))
+same_end w p a b x y clock = same_other a b (sym x.limits_are ∙ y.limits_are) clock (sym x.place_is ∙ y.place_is) (sym x.outstanding_is ∙ y.outstanding_is) (same_front a.log b.log w.log x.is_front y.is_front (sym x.version_is ∙ y.version_is))
 
-pub ends_once : (budget : ℕ) (budgets : List ℕ) (core0 : List Stamped) (others : List (List Stamped)) (end end' : Core0State) (ends ends' : List OtherState)
-    → Computation budget budgets core0 others end ends → Computation budget budgets core0 others end' ends' → (end ≡ end') × (ends ≡ ends')
-ends_once budget budgets core0 others end end' ends ends' a b = (
-  same_core0 end end' (clock0 n budget first end core0 a.sent a.taken a.of_core0 ∙ sym (clock0 n budget first end' core0 b.sent b.taken b.of_core0))
+pub ends_once : (limits : TableLimits) (budget : ℕ) (budgets : List ℕ) (core0 : List Stamped) (others : List (List Stamped)) (end end' : Core0State) (ends ends' : List OtherState)
+    → Computation limits budget budgets core0 others end ends → Computation limits budget budgets core0 others end' ends' → (end ≡ end') × (ends ≡ ends')
+ends_once limits budget budgets core0 others end end' ends ends' a b = (
+  same_core0 end end' (sym x.all_end.limits_are ∙ (ap (λ (w : World). w.limits) same ∙ y.all_end.limits_are)) (clock0 n budget first end core0 a.sent a.taken a.of_core0 ∙ sym (clock0 n budget first end' core0 b.sent b.taken b.of_core0))
       (sym x.all_end.place_is ∙ (ap (λ (w : World). w.place) same ∙ y.all_end.place_is))
       (sym x.all_end.requests_are ∙ (ap (λ (w : World). w.requests) same ∙ y.all_end.requests_are))
       (sym x.all_end.log_is ∙ (ap (λ (w : World). w.log) same ∙ y.all_end.log_is)),
@@ -85,16 +86,16 @@ ends_once budget budgets core0 others end end' ends ends' a b = (
     n = length budgets
 
     first : Core0State
-    first = core0_first (length budgets)
+    first = core0_first limits (length budgets)
 
-    x : OneRun budget budgets core0 others end ends
-    x = one_run budget budgets core0 others end ends a
+    x : OneRun limits budget budgets core0 others end ends
+    x = one_run limits budget budgets core0 others end ends a
 
-    y : IsRun budget budgets x.merged end' ends'
-    y = run_of budget budgets core0 others end' ends' x.merged b x.is_merged
+    y : IsRun limits budget budgets x.merged end' ends'
+    y = run_of limits budget budgets core0 others end' ends' x.merged b x.is_merged
 
     same : x.world ≡ y.world
-    same = runs_once (boot budget budgets) x.world y.world (as_listed x.merged) x.run y.run
+    same = runs_once (boot limits budget budgets) x.world y.world (as_listed x.merged) x.run y.run
 
     each : (i : ℕ) (d d' : OtherState) → slice_get ends i ≡ Some d → slice_get ends' i ≡ Some d' → d ≡ d'
     each i d d' at at' =
@@ -103,7 +104,7 @@ ends_once budget budgets core0 others end end' ends ends' a b = (
         let h = get_at others i (omega (arith, a.all_end, a.cores, lt)) in
         let t = a.of_other i g.0 h.0 d g.1 h.1 at in
         let t' = b.of_other i g.0 h.0 d' g.1 h.1 at' in
-        let p = get_at x.world.peers i (omega (arith, a.all_end, (run_known budget budgets (as_listed x.merged) x.world x.run).cores, lt)) in
+        let p = get_at x.world.peers i (omega (arith, a.all_end, (run_known limits budget budgets (as_listed x.merged) x.world x.run).cores, lt)) in
         let p' : slice_get y.world.peers i ≡ Some p.0 = subst (λ (w : World). slice_get w.peers i ≡ Some p.0) same p.1 in
         let there : EndsAs x.world p.0 d' = subst (λ (w : World). EndsAs w p.0 d') (sym same) (y.all_end.others i p.0 d' p' at') in
-        same_end x.world p.0 d d' (x.all_end.others i p.0 d p.1 at) there (clock_other i g.0 other_first d h.0 t.taken t.is_history ∙ sym (clock_other i g.0 other_first d' h.0 t'.taken t'.is_history))
+        same_end x.world p.0 d d' (x.all_end.others i p.0 d p.1 at) there (clock_other i g.0 (other_first limits) d h.0 t.taken t.is_history ∙ sym (clock_other i g.0 (other_first limits) d' h.0 t'.taken t'.is_history))

@@ -15,33 +15,35 @@ use Rattle.world_histories.proofs.Seats.{messages, SeatOf, Joint}
 use Rattle.world_histories.proofs.Rests.{rest_down, rest_up, rests_of}
 use Rattle.world_histories.proofs.Joining.{Next, joint0, joint_own, joint_first}
 use Rattle.std.proofs.lemmas.Option.{slice_get_within}
+use Rattle.filter_table.specs.Limits.{TableLimits}
 use Rattle.table_replica.proofs.Shared.{get_at}
 
 -- the rests of the histories, in one list that goes on with the run
-record Goes (rd ru : ℕ → List Stamping) (budget : ℕ) (budgets : List ℕ) (before : List Stamped) (all : List (List Stamped)) (end : Core0State) (ends : List OtherState) : Type 0 where
+record Goes (rd ru : ℕ → List Stamping) (limits : TableLimits) (budget : ℕ) (budgets : List ℕ) (before : List Stamped) (all : List (List Stamped)) (end : Core0State) (ends : List OtherState) : Type 0 where
   later : List Stamped
   in_order : IsInOrder later
   heads : (t : Stamped) (rest : List Stamped) → later ≡ t ∷ rest → (k : ℕ) × (r : List Stamped) × (slice_get all k ≡ Some (t ∷ r)) × (core_of t.done.event ≡ k)
   of_each : (core : ℕ) (h : List Stamped) → slice_get all core ≡ Some h → part core later ≡ h
   of_cores : (k : ℕ) (s : Stamped) → slice_get later k ≡ Some s → core_of s.done.event < length all
   world : World
-  run : Run budget budgets (as_listed (before ++ later)) world
+  run : Run limits budget budgets (as_listed (before ++ later)) world
   all_end : AllEnd world end ends
   under_way : (i : ℕ) (p : Peer) → slice_get world.peers i ≡ Some p → (p.down ≡ messages (rd i)) × (p.up ≡ messages (ru i))
 
 -- Nothing is left
 
-finished : (rd ru : ℕ → List Stamping) (budget : ℕ) (budgets : List ℕ) (before : List Stamped) (w : World) (c : Core0State) (h0 : List Stamped) (hs : List (List Stamped)) (end : Core0State) (ends : List OtherState) → NoneLeft (h0 ∷ hs) → Joint rd ru budget budgets before w c h0 hs end ends
-    → Goes rd ru budget budgets before (h0 ∷ hs) end ends
-finished rd ru budget budgets before w c h0 hs end ends none j = record {
+finished : (rd ru : ℕ → List Stamping) (limits : TableLimits) (budget : ℕ) (budgets : List ℕ) (before : List Stamped) (w : World) (c : Core0State) (h0 : List Stamped) (hs : List (List Stamped)) (end : Core0State) (ends : List OtherState) → NoneLeft (h0 ∷ hs) → Joint rd ru limits budget budgets before w c h0 hs end ends
+    → Goes rd ru limits budget budgets before (h0 ∷ hs) end ends
+finished rd ru limits budget budgets before w c h0 hs end ends none j = record {
   later = [];
   in_order = tt;
   heads = λ t rest e. absurd (cc);
   of_each = λ core h at. sym (none core h at);
   of_cores = λ k s at. absurd (cc);
   world = w;
-  run = subst (λ (xs : List Stamped). Run budget budgets (as_listed xs) w) (sym (append-nil before)) j.run;
+  run = subst (λ (xs : List Stamped). Run limits budget budgets (as_listed xs) w) (sym (append-nil before)) j.run;
   all_end = record {
+    limits_are = j.limits_are ∙ sym (ap (λ (x : Core0State). x.limits) ended);
     log_is = j.log_is ∙ sym (ap (λ (x : Core0State). x.log) ended);
     place_is = j.place_is ∙ sym (ap (λ (x : Core0State). x.place) ended);
     requests_are = j.requests_are ∙ sym (ap (λ (x : Core0State). x.requests) ended);
@@ -56,7 +58,7 @@ finished rd ru budget budgets before w c h0 hs end ends none j = record {
     none_sent : (j.sent ≡ []) × (j.taken ≡ [])
     none_sent = let x = subst (λ (x : List Stamped). History0 (length budgets) budget c x end j.sent j.taken) (none 0 h0 refl) j.ahead in (x.1, x.2)
 
-    left : (i : ℕ) (p : Peer) → SeatOf rd ru i w.log p hs ends j.sent j.taken → (p.down ≡ messages (rd i)) × (p.up ≡ messages (ru i))
+    left : (i : ℕ) (p : Peer) → SeatOf rd ru i w.limits w.log p hs ends j.sent j.taken → (p.down ≡ messages (rd i)) × (p.up ≡ messages (ru i))
     left i p o =
         let s = o.seat in
         let is : o.history ≡ [] = none (suc i) o.history o.is_history in
@@ -69,26 +71,26 @@ finished rd ru budget budgets before w c h0 hs end ends none j = record {
           sym s.up_is ∙ ap messages (sym (append-nil s.up) ∙ sym gives),
         )
 
-    other : (i : ℕ) (p : Peer) (d : OtherState) → SeatOf rd ru i w.log p hs ends j.sent j.taken → slice_get ends i ≡ Some d → EndsAs w p d
+    other : (i : ℕ) (p : Peer) (d : OtherState) → SeatOf rd ru i w.limits w.log p hs ends j.sent j.taken → slice_get ends i ≡ Some d → EndsAs w p d
     other i p d o at_d =
         let same : o.end ≡ d = (let x = o.is_end in cc) in
         let last : o.end ≡ o.seat.core = (subst (λ (x : List Stamped). HistoryOther i p.budget o.seat.core x o.end o.seat.taken) (none (suc i) o.history o.is_history) o.seat.ahead).0 in
         let is : o.seat.core ≡ d = sym last ∙ same in
-        subst (λ (x : OtherState). EndsAs w p x) is (record { version_is = o.seat.version_is; is_front = o.seat.is_front; place_is = o.seat.place_is; outstanding_is = o.seat.outstanding_is })
+        subst (λ (x : OtherState). EndsAs w p x) is (record { limits_are = o.seat.limits_are; version_is = o.seat.version_is; is_front = o.seat.is_front; place_is = o.seat.place_is; outstanding_is = o.seat.outstanding_is })
 
 -- One event, and the rest
 
-goes_on : (rd ru : ℕ → List Stamping) (budget : ℕ) (budgets : List ℕ) (before : List Stamped) (all : List (List Stamped)) (k : ℕ) (s : Stamped) (r : List Stamped) (end : Core0State) (ends : List OtherState) → slice_get all k ≡ Some (s ∷ r) → core_of s.done.event ≡ k
+goes_on : (rd ru : ℕ → List Stamping) (limits : TableLimits) (budget : ℕ) (budgets : List ℕ) (before : List Stamped) (all : List (List Stamped)) (k : ℕ) (s : Stamped) (r : List Stamped) (end : Core0State) (ends : List OtherState) → slice_get all k ≡ Some (s ∷ r) → core_of s.done.event ≡ k
     → ((j : ℕ) (t : Stamped) (rest : List Stamped) → slice_get all j ≡ Some (t ∷ rest) → (s.stamp < t.stamp) ⊎ ((s.stamp ≡ t.stamp) × (k ≤ j)))
-    → ((t : Stamped) (rest : List Stamped) → r ≡ t ∷ rest → s.stamp < t.stamp) → Goes rd ru budget budgets (before ++ s ∷ []) (slice_set all k r) end ends → Goes rd ru budget budgets before all end ends
-goes_on rd ru budget budgets before all k s r end ends here is least next g = record {
+    → ((t : Stamped) (rest : List Stamped) → r ≡ t ∷ rest → s.stamp < t.stamp) → Goes rd ru limits budget budgets (before ++ s ∷ []) (slice_set all k r) end ends → Goes rd ru limits budget budgets before all end ends
+goes_on rd ru limits budget budgets before all k s r end ends here is least next g = record {
   later = s ∷ g.later;
   in_order = ordered g.later g.in_order g.heads;
   heads = λ t rest e. let same : s ≡ t = cc in (k, r, here ∙ ap (λ (x : Stamped). Some (x ∷ r)) same, ap (λ (x : Stamped). core_of x.done.event) (sym same) ∙ is);
   of_each = λ core h at. part_of core h at (same_or_not k core);
   of_cores = within;
   world = g.world;
-  run = subst (λ (xs : List Stamped). Run budget budgets (as_listed xs) g.world) (append_assoc before (s ∷ []) g.later) g.run;
+  run = subst (λ (xs : List Stamped). Run limits budget budgets (as_listed xs) g.world) (append_assoc before (s ∷ []) g.later) g.run;
   all_end = g.all_end;
   under_way = g.under_way;
 }
@@ -124,31 +126,31 @@ goes_on rd ru budget budgets before all k s r end ends here is least next g = re
     within (suc n) x at = omega (arith, g.of_cores n x at, length-slice_set all k r)
 
 -- the rest of a core's history
-own_ahead : (rd ru : ℕ → List Stamping) (budget : ℕ) (budgets : List ℕ) (before : List Stamped) (w : World) (c : Core0State) (h0 : List Stamped) (hs : List (List Stamped)) (end : Core0State) (ends : List OtherState) (i : ℕ) (s : Stamped) (r : List Stamped) → Joint rd ru budget budgets before w c h0 hs end ends
+own_ahead : (rd ru : ℕ → List Stamping) (limits : TableLimits) (budget : ℕ) (budgets : List ℕ) (before : List Stamped) (w : World) (c : Core0State) (h0 : List Stamped) (hs : List (List Stamped)) (end : Core0State) (ends : List OtherState) (i : ℕ) (s : Stamped) (r : List Stamped) → Joint rd ru limits budget budgets before w c h0 hs end ends
     → slice_get hs i ≡ Some (s ∷ r) → (b : ℕ) × (d : OtherState) × (e : OtherState) × (taken : List Stamping) × HistoryOther i b d (s ∷ r) e taken
-own_ahead rd ru budget budgets before w c h0 hs end ends i s r j at =
-    let k = run_known budget budgets (as_listed before) w j.run in
+own_ahead rd ru limits budget budgets before w c h0 hs end ends i s r j at =
+    let k = run_known limits budget budgets (as_listed before) w j.run in
     let p = get_at w.peers i (omega (arith, k.cores, j.cores, slice_get_within hs i (s ∷ r) at)) in
     let o = j.seats i p.0 p.1 in
     let same : o.history ≡ s ∷ r = (let x = o.is_history in cc) in
     (p.0.budget, o.seat.core, o.end, o.seat.taken, subst (λ (x : List Stamped). HistoryOther i p.0.budget o.seat.core x o.end o.seat.taken) same o.seat.ahead)
 
-abbrev Merges : (ℕ → List Stamping) → (ℕ → List Stamping) → ℕ → ℕ → List ℕ → Core0State → List OtherState → Type 0
-Merges rd ru fuel budget budgets end ends = (before : List Stamped) (w : World) (c : Core0State) (h0 : List Stamped) (hs : List (List Stamped)) → size (h0 ∷ hs) ≤ fuel → Joint rd ru budget budgets before w c h0 hs end ends → Goes rd ru budget budgets before (h0 ∷ hs) end ends
+abbrev Merges : (ℕ → List Stamping) → (ℕ → List Stamping) → TableLimits → ℕ → ℕ → List ℕ → Core0State → List OtherState → Type 0
+Merges rd ru limits fuel budget budgets end ends = (before : List Stamped) (w : World) (c : Core0State) (h0 : List Stamped) (hs : List (List Stamped)) → size (h0 ∷ hs) ≤ fuel → Joint rd ru limits budget budgets before w c h0 hs end ends → Goes rd ru limits budget budgets before (h0 ∷ hs) end ends
 
-merge_step : (rd ru : ℕ → List Stamping) (fuel budget : ℕ) (budgets : List ℕ) (before : List Stamped) (w : World) (c : Core0State) (h0 : List Stamped) (hs : List (List Stamped)) (end : Core0State) (ends : List OtherState) → Merges rd ru fuel budget budgets end ends
-    → size (h0 ∷ hs) ≤ suc fuel → Joint rd ru budget budgets before w c h0 hs end ends → Least (h0 ∷ hs) → Goes rd ru budget budgets before (h0 ∷ hs) end ends
-merge_step rd ru fuel budget budgets before w c h0 hs end ends rest le joint least = by_core least.core least.first least.later least.here least.before_all
+merge_step : (rd ru : ℕ → List Stamping) (limits : TableLimits) (fuel budget : ℕ) (budgets : List ℕ) (before : List Stamped) (w : World) (c : Core0State) (h0 : List Stamped) (hs : List (List Stamped)) (end : Core0State) (ends : List OtherState) → Merges rd ru limits fuel budget budgets end ends
+    → size (h0 ∷ hs) ≤ suc fuel → Joint rd ru limits budget budgets before w c h0 hs end ends → Least (h0 ∷ hs) → Goes rd ru limits budget budgets before (h0 ∷ hs) end ends
+merge_step rd ru limits fuel budget budgets before w c h0 hs end ends rest le joint least = by_core least.core least.first least.later least.here least.before_all
   where
     by_core : (k : ℕ) (s : Stamped) (r : List Stamped) → slice_get (h0 ∷ hs) k ≡ Some (s ∷ r) → ((j : ℕ) (t : Stamped) (later : List Stamped) → slice_get (h0 ∷ hs) j ≡ Some (t ∷ later) → (s.stamp < t.stamp) ⊎ ((s.stamp ≡ t.stamp) × (k ≤ j)))
-        → Goes rd ru budget budgets before (h0 ∷ hs) end ends
-    by_core zero s r here all = goes_on rd ru budget budgets before (h0 ∷ hs) 0 s r end ends here core_is all after (rest (before ++ s ∷ []) n.world n.core0 r hs (omega (arith, le, size_set (h0 ∷ hs) 0 s r here)) n.joint)
+        → Goes rd ru limits budget budgets before (h0 ∷ hs) end ends
+    by_core zero s r here all = goes_on rd ru limits budget budgets before (h0 ∷ hs) 0 s r end ends here core_is all after (rest (before ++ s ∷ []) n.world n.core0 r hs (omega (arith, le, size_set (h0 ∷ hs) 0 s r here)) n.joint)
       where
         whole : h0 ≡ s ∷ r
         whole = cc
 
-        j : Joint rd ru budget budgets before w c (s ∷ r) hs end ends
-        j = subst (λ (x : List Stamped). Joint rd ru budget budgets before w c x hs end ends) whole joint
+        j : Joint rd ru limits budget budgets before w c (s ∷ r) hs end ends
+        j = subst (λ (x : List Stamped). Joint rd ru limits budget budgets before w c x hs end ends) whole joint
 
         core_is : core_of s.done.event ≡ 0
         core_is = (step0_clock (length budgets) budget c j.ahead.0 s.stamp s.done.event j.ahead.1 s.done.answer j.ahead.2 j.ahead.5).2
@@ -163,9 +165,9 @@ merge_step rd ru fuel budget budgets before w c h0 hs end ends rest le joint lea
             by_stamp (inl lt) = omega (arith, lt)
             by_stamp (inr e) = omega (arith, e.0)
 
-        n : Next rd ru budget budgets (before ++ s ∷ []) r hs end ends
-        n = joint0 rd ru budget budgets before w c s r hs end ends j not_before
-    by_core (suc i) s r here all = goes_on rd ru budget budgets before (h0 ∷ hs) (suc i) s r end ends here core_is all after (rest (before ++ s ∷ []) n.world n.core0 h0 (slice_set hs i r) (omega (arith, le, size_set (h0 ∷ hs) (suc i) s r here)) n.joint)
+        n : Next rd ru limits budget budgets (before ++ s ∷ []) r hs end ends
+        n = joint0 rd ru limits budget budgets before w c s r hs end ends j not_before
+    by_core (suc i) s r here all = goes_on rd ru limits budget budgets before (h0 ∷ hs) (suc i) s r end ends here core_is all after (rest (before ++ s ∷ []) n.world n.core0 h0 (slice_set hs i r) (omega (arith, le, size_set (h0 ∷ hs) (suc i) s r here)) n.joint)
       where
         not_before : (t : Stamped) (later : List Stamped) → h0 ≡ t ∷ later → s.stamp ≤ t.stamp
         not_before t later e = by_stamp (all 0 t later (ap (λ (x : List Stamped). Some x) e))
@@ -174,11 +176,11 @@ merge_step rd ru fuel budget budgets before w c h0 hs end ends rest le joint lea
             by_stamp (inl lt) = omega (arith, lt)
             by_stamp (inr e') = omega (arith, e'.0)
 
-        n : Next rd ru budget budgets (before ++ s ∷ []) h0 (slice_set hs i r) end ends
-        n = joint_own rd ru budget budgets before w c h0 i s r hs end ends joint here not_before
+        n : Next rd ru limits budget budgets (before ++ s ∷ []) h0 (slice_set hs i r) end ends
+        n = joint_own rd ru limits budget budgets before w c h0 i s r hs end ends joint here not_before
 
         mine : (b : ℕ) × (d : OtherState) × (e : OtherState) × (taken : List Stamping) × HistoryOther i b d (s ∷ r) e taken
-        mine = own_ahead rd ru budget budgets before w c h0 hs end ends i s r joint here
+        mine = own_ahead rd ru limits budget budgets before w c h0 hs end ends i s r joint here
 
         core_is : core_of s.done.event ≡ suc i
         core_is = let a = mine.4 in (step_clock i mine.0 mine.1 a.0 s.stamp s.done.event a.1 s.done.answer a.3).2
@@ -186,29 +188,29 @@ merge_step rd ru fuel budget budgets before w c h0 hs end ends rest le joint lea
         after : (t : Stamped) (later : List Stamped) → r ≡ t ∷ later → s.stamp < t.stamp
         after t later e = next_other i mine.0 mine.1 mine.2 s t later mine.3 (subst (λ (x : List Stamped). HistoryOther i mine.0 mine.1 (s ∷ x) mine.2 mine.3) e mine.4)
 
-merge_from : (rd ru : ℕ → List Stamping) (fuel budget : ℕ) (budgets : List ℕ) (end : Core0State) (ends : List OtherState) → Merges rd ru fuel budget budgets end ends
-merge_from rd ru zero budget budgets end ends before w c h0 hs le j = by_left (least_of (h0 ∷ hs))
+merge_from : (rd ru : ℕ → List Stamping) (limits : TableLimits) (fuel budget : ℕ) (budgets : List ℕ) (end : Core0State) (ends : List OtherState) → Merges rd ru limits fuel budget budgets end ends
+merge_from rd ru limits zero budget budgets end ends before w c h0 hs le j = by_left (least_of (h0 ∷ hs))
   where
-    by_left : (NoneLeft (h0 ∷ hs) ⊎ Least (h0 ∷ hs)) → Goes rd ru budget budgets before (h0 ∷ hs) end ends
-    by_left (inl none) = finished rd ru budget budgets before w c h0 hs end ends none j
+    by_left : (NoneLeft (h0 ∷ hs) ⊎ Least (h0 ∷ hs)) → Goes rd ru limits budget budgets before (h0 ∷ hs) end ends
+    by_left (inl none) = finished rd ru limits budget budgets before w c h0 hs end ends none j
     by_left (inr l) = absurd (omega (arith, le, size_set (h0 ∷ hs) l.core l.first l.later l.here))
-merge_from rd ru (suc fuel) budget budgets end ends before w c h0 hs le j = by_left (least_of (h0 ∷ hs)) (merge_from rd ru fuel budget budgets end ends)
+merge_from rd ru limits (suc fuel) budget budgets end ends before w c h0 hs le j = by_left (least_of (h0 ∷ hs)) (merge_from rd ru limits fuel budget budgets end ends)
   where
-    by_left : (NoneLeft (h0 ∷ hs) ⊎ Least (h0 ∷ hs)) → Merges rd ru fuel budget budgets end ends → Goes rd ru budget budgets before (h0 ∷ hs) end ends
-    by_left (inl none) rest = finished rd ru budget budgets before w c h0 hs end ends none j
-    by_left (inr l) rest = merge_step rd ru fuel budget budgets before w c h0 hs end ends rest le j l
+    by_left : (NoneLeft (h0 ∷ hs) ⊎ Least (h0 ∷ hs)) → Merges rd ru limits fuel budget budgets end ends → Goes rd ru limits budget budgets before (h0 ∷ hs) end ends
+    by_left (inl none) rest = finished rd ru limits budget budgets before w c h0 hs end ends none j
+    by_left (inr l) rest = merge_step rd ru limits fuel budget budgets before w c h0 hs end ends rest le j l
 
 -- a list of all events, and the run that it is
-pub record OneRun (budget : ℕ) (budgets : List ℕ) (core0 : List Stamped) (others : List (List Stamped)) (end : Core0State) (ends : List OtherState) : Type 0 where
+pub record OneRun (limits : TableLimits) (budget : ℕ) (budgets : List ℕ) (core0 : List Stamped) (others : List (List Stamped)) (end : Core0State) (ends : List OtherState) : Type 0 where
   pub merged : List Stamped
   pub is_merged : Merged core0 others merged
   pub world : World
-  pub run : Run budget budgets (as_listed merged) world
+  pub run : Run limits budget budgets (as_listed merged) world
   pub all_end : AllEnd world end ends
 
-pub one_run : (budget : ℕ) (budgets : List ℕ) (core0 : List Stamped) (others : List (List Stamped)) (end : Core0State) (ends : List OtherState) → Computation budget budgets core0 others end ends → OneRun budget budgets core0 others end ends
-one_run budget budgets core0 others end ends h =
-    let g = merge_from (rest_down others h.sent) (rest_up others h.taken) (size (core0 ∷ others)) budget budgets end ends [] (boot budget budgets) (core0_first (length budgets)) core0 others (omega arith) (joint_first (rest_down others h.sent) (rest_up others h.taken) budget budgets core0 others end ends h (rests_of budgets others ends h.sent h.taken)) in
+pub one_run : (limits : TableLimits) (budget : ℕ) (budgets : List ℕ) (core0 : List Stamped) (others : List (List Stamped)) (end : Core0State) (ends : List OtherState) → Computation limits budget budgets core0 others end ends → OneRun limits budget budgets core0 others end ends
+one_run limits budget budgets core0 others end ends h =
+    let g = merge_from (rest_down others h.sent) (rest_up others h.taken) limits (size (core0 ∷ others)) budget budgets end ends [] (boot limits budget budgets) (core0_first limits (length budgets)) core0 others (omega arith) (joint_first (rest_down others h.sent) (rest_up others h.taken) limits budget budgets core0 others end ends h (rests_of limits budgets others ends h.sent h.taken)) in
     record {
       merged = g.later;
       is_merged = record { in_order = g.in_order; of_each = g.of_each; of_cores = λ k s at. omega (arith, g.of_cores k s at) };
@@ -218,16 +220,16 @@ one_run budget budgets core0 others end ends h =
     }
 
 -- and what is under way at its end is what was sent and not taken
-pub record RunLeft (budget : ℕ) (budgets : List ℕ) (end : Core0State) (ends : List OtherState) (others : List (List Stamped)) (sent : List Sending) (taken0 : List (ℕ × Stamping)) : Type 0 where
+pub record RunLeft (limits : TableLimits) (budget : ℕ) (budgets : List ℕ) (end : Core0State) (ends : List OtherState) (others : List (List Stamped)) (sent : List Sending) (taken0 : List (ℕ × Stamping)) : Type 0 where
   pub merged : List Stamped
   pub world : World
-  pub run : Run budget budgets (as_listed merged) world
+  pub run : Run limits budget budgets (as_listed merged) world
   pub all_end : AllEnd world end ends
   pub under_way : (i : ℕ) (p : Peer) → slice_get world.peers i ≡ Some p → (p.down ≡ messages (rest_down others sent i)) × (p.up ≡ messages (rest_up others taken0 i))
 
-pub run_left : (budget : ℕ) (budgets : List ℕ) (core0 : List Stamped) (others : List (List Stamped)) (end : Core0State) (ends : List OtherState) → (h : Computation budget budgets core0 others end ends) → RunLeft budget budgets end ends others h.sent h.taken
-run_left budget budgets core0 others end ends h =
-    let g = merge_from (rest_down others h.sent) (rest_up others h.taken) (size (core0 ∷ others)) budget budgets end ends [] (boot budget budgets) (core0_first (length budgets)) core0 others (omega arith) (joint_first (rest_down others h.sent) (rest_up others h.taken) budget budgets core0 others end ends h (rests_of budgets others ends h.sent h.taken)) in
+pub run_left : (limits : TableLimits) (budget : ℕ) (budgets : List ℕ) (core0 : List Stamped) (others : List (List Stamped)) (end : Core0State) (ends : List OtherState) → (h : Computation limits budget budgets core0 others end ends) → RunLeft limits budget budgets end ends others h.sent h.taken
+run_left limits budget budgets core0 others end ends h =
+    let g = merge_from (rest_down others h.sent) (rest_up others h.taken) limits (size (core0 ∷ others)) budget budgets end ends [] (boot limits budget budgets) (core0_first limits (length budgets)) core0 others (omega arith) (joint_first (rest_down others h.sent) (rest_up others h.taken) limits budget budgets core0 others end ends h (rests_of limits budgets others ends h.sent h.taken)) in
     record { merged = g.later; world = g.world; run = g.run; all_end = g.all_end; under_way = g.under_way }
 
 -- There is one such list
@@ -307,7 +309,7 @@ merged_once core0 others m n a b = same_list m n a.in_order b.in_order by_core
         by_place (inr lt) = none_beyond core0 others m core a lt (part core m) refl ∙ sym (none_beyond core0 others n core b lt (part core n) refl)
 
 -- each list of all events by stamp and core is that run
-pub run_of : (budget : ℕ) (budgets : List ℕ) (core0 : List Stamped) (others : List (List Stamped)) (end : Core0State) (ends : List OtherState) (merged : List Stamped) → Computation budget budgets core0 others end ends → Merged core0 others merged → IsRun budget budgets merged end ends
-run_of budget budgets core0 others end ends merged h m =
-    let o = one_run budget budgets core0 others end ends h in
-    record { world = o.world; run = subst (λ (xs : List Stamped). Run budget budgets (as_listed xs) o.world) (merged_once core0 others o.merged merged o.is_merged m) o.run; all_end = o.all_end }
+pub run_of : (limits : TableLimits) (budget : ℕ) (budgets : List ℕ) (core0 : List Stamped) (others : List (List Stamped)) (end : Core0State) (ends : List OtherState) (merged : List Stamped) → Computation limits budget budgets core0 others end ends → Merged core0 others merged → IsRun limits budget budgets merged end ends
+run_of limits budget budgets core0 others end ends merged h m =
+    let o = one_run limits budget budgets core0 others end ends h in
+    record { world = o.world; run = subst (λ (xs : List Stamped). Run limits budget budgets (as_listed xs) o.world) (merged_once core0 others o.merged merged o.is_merged m) o.run; all_end = o.all_end }

@@ -3,6 +3,7 @@ use Rattle.std.proofs.Common.{◌≡◌, ◌+◌, ◌≤◌, ◌⊎◌, ◌==◌
 use Rattle.std.specs.Prelude.{count_by}
 use Rattle.std.proofs.lemmas.List.Sums.{sum_by-append}
 use mathlib.Core.List.{IsPrefix}
+use Rattle.filter_table.specs.Limits.{TableLimits}
 use Rattle.filter_table.specs.declared.operation.Op.{Op}
 use Rattle.filter_table.specs.Tables.{TableState, made, table}
 use Rattle.filter_table.proofs.Tables.{table_front}
@@ -178,22 +179,22 @@ one_request core0 events i submitted decision front e (by_votes txn b v) =
 
 -- Replies
 
-entered_front : (log front : List Op) (op : Op) (d : Decision) → IsPrefix front log → IsEntered front op d → IsEntered log op d
-entered_front log front op (Committed version id) f x =
+entered_front : (limits : TableLimits) (log front : List Op) (op : Op) (d : Decision) → IsPrefix front log → IsEntered limits front op d → IsEntered limits log op d
+entered_front limits log front op (Committed version id) f x =
     let le : x.0 ≤ length front = omega (arith, slice_get_within front x.0 op x.1.entry) in (
       x.0,
       record {
         entry = subst (λ (l : List Op). slice_get l x.0 ≡ Some op) f.1 (get_front front f.0 x.0 op x.1.entry);
         is_version = x.1.is_version;
-        is_made = x.1.is_made ∙ ap (λ (s : TableState). made s op) (sym (ap (λ (l : List Op). table l x.0) (sym f.1) ∙ table_front front f.0 x.0 le));
+        is_made = x.1.is_made ∙ ap (λ (s : TableState). made s op) (sym (ap (λ (l : List Op). table limits l x.0) (sym f.1) ∙ table_front limits front f.0 x.0 le));
       },
     )
-entered_front log front op (Refused core why) f x = tt
+entered_front limits log front op (Refused core why) f x = tt
 
 replied_by : (i : ℕ) (events : List Done) (w w' : World) (event : Event) (d : Decision) (version : ℕ) → core_of event ≡ suc i → version_at w (suc i) ≡ Some version → Happens w event w' (TookReply d) → RepliesRightly events w event (TookReply d)
-    → (op : Op) × (request_of (suc i) events ≡ settled op d) × IsEntered w.log op d × StandsAt version d
+    → (op : Op) × (request_of (suc i) events ≡ settled op d) × IsEntered w.limits w.log op d × StandsAt version d
 replied_by i events w w' (Take (suc j) zero short) d version is at h r =
-    let r' = subst (λ (k : ℕ). (op : Op) × (request_of k events ≡ settled op d) × IsEntered w.log op d × ((v : ℕ) → version_at w k ≡ Some v → StandsAt v d)) is r in
+    let r' = subst (λ (k : ℕ). (op : Op) × (request_of k events ≡ settled op d) × IsEntered w.limits w.log op d × ((v : ℕ) → version_at w k ≡ Some v → StandsAt v d)) is r in
     (r'.0, r'.1, r'.2, r'.3 version at)
 replied_by i events w w' (Submit (suc j) op) d version is at h r = absurd (let e = h.here.is_answer in cc)
 replied_by i events w w' (Rx j number packet floor) d version is at h r = absurd (let e = h.here.is_answer in cc)
@@ -202,16 +203,16 @@ replied_by i events w w' (StartFor core) d version is at h r = absurd (omega (ar
 replied_by i events w w' (Take zero from short) d version is at h r = absurd (omega (arith, is))
 replied_by i events w w' event d version is at h r = absurd h
 
-pub replied : (budget : ℕ) (budgets : List ℕ) (core0 : List Stamped) (others : List (List Stamped)) (end : Core0State) (ends : List OtherState) → Computation budget budgets core0 others end ends
-    → (i : ℕ) (h before after : List Stamped) (s : Stamped) (d : Decision) → slice_get others i ≡ Some h → h ≡ before ++ s ∷ after → s.done.answer ≡ TookReply d → Replied core0 end.log i before d
-replied budget budgets core0 others end ends c i h before after s d at e is_reply =
-    let o = one_run budget budgets core0 others end ends c in
-    let r = in_the_run budget budgets core0 others end ends o (suc i) h before after s c.cores at e in
+pub replied : (limits : TableLimits) (budget : ℕ) (budgets : List ℕ) (core0 : List Stamped) (others : List (List Stamped)) (end : Core0State) (ends : List OtherState) → Computation limits budget budgets core0 others end ends
+    → (i : ℕ) (h before after : List Stamped) (s : Stamped) (d : Decision) → slice_get others i ≡ Some h → h ≡ before ++ s ∷ after → s.done.answer ≡ TookReply d → Replied core0 limits end.log i before d
+replied limits budget budgets core0 others end ends c i h before after s d at e is_reply =
+    let o = one_run limits budget budgets core0 others end ends c in
+    let r = in_the_run limits budget budgets core0 others end ends o (suc i) h before after s c.cores at e in
     let x = replied_by i (as_listed r.earlier) r.world r.world' (listed s).event d (version_of (suc i) (unstamped before)) (short_core s.done.event s.done.answer ∙ r.is_core) r.version
-    (subst (λ (a : Answer). Happens r.world (listed s).event r.world' a) is_reply r.happens) (subst (λ (a : Answer). RepliesRightly (as_listed r.earlier) r.world (listed s).event a) is_reply (run_replies budget budgets (as_listed r.earlier) r.world r.world' (listed s).event s.done.answer r.run r.happens)) in
-    let known = run_known budget budgets (as_listed r.earlier) r.world r.run in
+    (subst (λ (a : Answer). Happens r.world (listed s).event r.world' a) is_reply r.happens) (subst (λ (a : Answer). RepliesRightly (as_listed r.earlier) r.world (listed s).event a) is_reply (run_replies limits budget budgets (as_listed r.earlier) r.world r.world' (listed s).event s.done.answer r.run r.happens)) in
+    let known = run_known limits budget budgets (as_listed r.earlier) r.world r.run in
     let p = get_at r.world.peers i (omega (arith, known.cores, c.cores, slice_get_within others i h at)) in
-    let t : Tracks (suc i) (as_listed r.earlier) (settled x.0 d) = subst (λ (q : Request). Tracks (suc i) (as_listed r.earlier) q) x.1 (run_tracks budget budgets (as_listed r.earlier) r.world r.run i p.0 p.1) in
+    let t : Tracks (suc i) (as_listed r.earlier) (settled x.0 d) = subst (λ (q : Request). Tracks (suc i) (as_listed r.earlier) q) x.1 (run_tracks limits budget budgets (as_listed r.earlier) r.world r.run i p.0 p.1) in
     let q = one_request core0 r.earlier i (submissions before) d (r.fronts 0 core0 refl) (omega (arith, t.counted, submits_in i r.earlier, ap submissions r.own)) t.places in
     record {
       op = x.0;
@@ -219,6 +220,6 @@ replied budget budgets core0 others end ends c i h before after s d at e is_repl
       others = q.others;
       nth = q.nth;
       decided = q.decided;
-      entered = entered_front end.log r.world.log x.0 d r.log_front x.2;
+      entered = entered_front limits end.log r.world.log x.0 d r.log_front (subst (λ (m : TableLimits). IsEntered m r.world.log x.0 d) known.limits_is x.2);
       stands = x.3;
     }

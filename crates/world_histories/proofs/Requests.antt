@@ -2,6 +2,7 @@
 use Rattle.std.proofs.Common.{◌≡◌, ◌+◌, ◌⊎◌, ◌==◌, inl, inr, ℕ, zero, suc, Bool, true, false, cond, Option, Some, None, List, [], ◌∷◌, ◌++◌, slice_get, slice_set, refl, ap, sym, ◌∙◌, subst, arith, append_assoc}
 use Rattle.std.specs.Prelude.{count_by, option_to_list}
 use Rattle.std.proofs.lemmas.List.Sums.{sum_by-append}
+use Rattle.filter_table.specs.Limits.{TableLimits}
 use Rattle.filter_table.specs.declared.operation.Op.{Op}
 use Rattle.monitor_messages.specs.declared.message.Message.{Message}
 use Rattle.monitor_messages.specs.declared.message.Message.TheVariants as message
@@ -227,22 +228,22 @@ down_follows i j r short w w' answer h = by_message h.m h.here
     by_message (message.Submit op) here = absurd here.answers
 
 -- after these events of a run
-record After (budget : ℕ) (budgets : List ℕ) (events : List Done) (w : World) : Type 0 where
-  run : Run budget budgets events w
+record After (limits : TableLimits) (budget : ℕ) (budgets : List ℕ) (events : List Done) (w : World) : Type 0 where
+  run : Run limits budget budgets events w
   -- a core whose last request has no decision yet has it outstanding
   outstanding : (i : ℕ) (p : Peer) → slice_get w.peers i ≡ Some p → Pending (request_of (suc i) events) → p.outstanding ≡ true
 
-event_follows : (budget : ℕ) (budgets : List ℕ) (events : List Done) (w w' : World) (i : ℕ) (p : Peer) (event : Event) (answer : Answer) → After budget budgets events w → slice_get w.peers i ≡ Some p → Happens w event w' answer
+event_follows : (limits : TableLimits) (budget : ℕ) (budgets : List ℕ) (events : List Done) (w w' : World) (i : ℕ) (p : Peer) (event : Event) (answer : Answer) → After limits budget budgets events w → slice_get w.peers i ≡ Some p → Happens w event w' answer
     → Follows (suc i) (request_of (suc i) events) event answer (followed (suc i) (request_of (suc i) events) event answer)
-event_follows budget budgets events w w' i p (Start op) answer k at h =
+event_follows limits budget budgets events w w' i p (Start op) answer k at h =
     keeps refl refl (ap (followed (suc i) (request_of (suc i) events) (Start op)) h.here.is_answer ∙ follows_start (suc i) (request_of (suc i) events) op h.told.txn h.told.decided)
-event_follows budget budgets events w w' i p (StartFor (suc j)) answer k at h = by_core (same_or_not j i)
+event_follows limits budget budgets events w w' i p (StartFor (suc j)) answer k at h = by_core (same_or_not j i)
   where
-    known : Known budget budgets events w
-    known = run_known budget budgets events w k.run
+    known : Known limits budget budgets events w
+    known = run_known limits budget budgets events w k.run
 
     is_sent : request_of (suc j) events ≡ sent h.here.starts.op
-    is_sent = waits_sent w (λ n. request_of (suc n) events) j h.here.starts.op (run_stages budget budgets events w k.run) (known.waiting_long ∙ sym known.cores) h.here.starts.is_waiting
+    is_sent = waits_sent w (λ n. request_of (suc n) events) j h.here.starts.op (run_stages limits budget budgets events w k.run) (known.waiting_long ∙ sym known.cores) h.here.starts.is_waiting
 
     by_core : ((j ≡ i) ⊎ (j ≡ i → ⊥)) → Follows (suc i) (request_of (suc i) events) (StartFor (suc j)) answer (followed (suc i) (request_of (suc i) events) (StartFor (suc j)) answer)
     by_core (inl e) =
@@ -251,7 +252,7 @@ event_follows budget budgets events w w' i p (StartFor (suc j)) answer k at h = 
         = ap (λ (b : Bool). cond b (begun (request_of (suc i) events) answer) (request_of (suc i) events)) (ap (λ (n : ℕ). suc n == suc i) e ∙ eq_self (suc i)) in
         told_follows (suc i) (StartFor (suc j)) answer h.here.starts.op (request_of (suc i) events) _ h.told.txn h.told.decided (ap (λ (n : ℕ). StartFor (suc n)) e) mine h.here.is_answer f
     by_core (inr ne) = keeps refl (eq_other (suc j) (suc i) (λ e. ne (omega (arith, e)))) (follows_other j i (request_of (suc i) events) answer ne)
-event_follows budget budgets events w w' i p (Submit (suc j) op) answer k at h = by_core (same_or_not j i)
+event_follows limits budget budgets events w w' i p (Submit (suc j) op) answer k at h = by_core (same_or_not j i)
   where
     by_core : ((j ≡ i) ⊎ (j ≡ i → ⊥)) → Follows (suc i) (request_of (suc i) events) (Submit (suc j) op) answer (followed (suc i) (request_of (suc i) events) (Submit (suc j) op) answer)
     by_core (inl e) =
@@ -264,10 +265,10 @@ event_follows budget budgets events w w' i p (Submit (suc j) op) answer k at h =
         let f : p.outstanding ≡ false = ap (λ (q : Peer). q.outstanding) (sym same) ∙ h.here.none_outstanding in
         (let x : true ≡ false = sym o ∙ f in cc))
     by_core (inr ne) = keeps (eq_other (suc j) (suc i) (λ e. ne (omega (arith, e)))) refl (follows_no_submit j i (request_of (suc i) events) op answer h.here.is_answer ne)
-event_follows budget budgets events w w' i p (Take zero (suc j) short) answer k at h = up_follows i j (request_of (suc i) events) short w (w', answer, h)
-event_follows budget budgets events w w' i p (Take (suc j) zero short) answer k at h = down_follows i j (request_of (suc i) events) short w w' answer h
-event_follows budget budgets events w w' i p (Rx core number packet floor) answer k at h = keeps refl refl (ap (followed (suc i) (request_of (suc i) events) (Rx core number packet floor)) h.here.is_answer)
-event_follows budget budgets events w w' i p event answer k at h = absurd h
+event_follows limits budget budgets events w w' i p (Take zero (suc j) short) answer k at h = up_follows i j (request_of (suc i) events) short w (w', answer, h)
+event_follows limits budget budgets events w w' i p (Take (suc j) zero short) answer k at h = down_follows i j (request_of (suc i) events) short w w' answer h
+event_follows limits budget budgets events w w' i p (Rx core number packet floor) answer k at h = keeps refl refl (ap (followed (suc i) (request_of (suc i) events) (Rx core number packet floor)) h.here.is_answer)
+event_follows limits budget budgets events w w' i p event answer k at h = absurd h
 
 -- What an event does to whether a request is outstanding
 data Outstood (i : ℕ) (event : Event) (answer : Answer) (p p' : Peer) : Type 0 where
@@ -354,10 +355,10 @@ record Kept (budget : ℕ) (budgets : List ℕ) (events : List Done) (w : World)
   outstanding : (i : ℕ) (p : Peer) → slice_get w.peers i ≡ Some p → Pending (request_of (suc i) events) → p.outstanding ≡ true
   tracks : (i : ℕ) (p : Peer) → slice_get w.peers i ≡ Some p → Tracks (suc i) events (request_of (suc i) events)
 
-kept_more : (budget : ℕ) (budgets : List ℕ) (events : List Done) (w w' : World) (done : Done) → Run budget budgets events w → Kept budget budgets events w → Happens w done.event w' done.answer → Kept budget budgets (events ++ done ∷ []) w'
-kept_more budget budgets events w w' done run k h = record { outstanding = outstanding'; tracks = tracks' }
+kept_more : (limits : TableLimits) (budget : ℕ) (budgets : List ℕ) (events : List Done) (w w' : World) (done : Done) → Run limits budget budgets events w → Kept budget budgets events w → Happens w done.event w' done.answer → Kept budget budgets (events ++ done ∷ []) w'
+kept_more limits budget budgets events w w' done run k h = record { outstanding = outstanding'; tracks = tracks' }
   where
-    after : After budget budgets events w
+    after : After limits budget budgets events w
     after = record { run = run; outstanding = k.outstanding }
 
     last : (i : ℕ) → request_of (suc i) (events ++ done ∷ []) ≡ followed (suc i) (request_of (suc i) events) done.event done.answer
@@ -367,17 +368,17 @@ kept_more budget budgets events w w' done run k h = record { outstanding = outst
     tracks' i p' at =
         let o = outstood w w' i done.event done.answer p' h at in
         subst (λ (r : Request). Tracks (suc i) (events ++ done ∷ []) r) (sym (last i))
-        (tracks_more (suc i) events done (request_of (suc i) events) _ (k.tracks i o.0 o.1) (event_follows budget budgets events w w' i o.0 done.event done.answer after o.1 h))
+        (tracks_more (suc i) events done (request_of (suc i) events) _ (k.tracks i o.0 o.1) (event_follows limits budget budgets events w w' i o.0 done.event done.answer after o.1 h))
 
     outstanding' : (i : ℕ) (p' : Peer) → slice_get w'.peers i ≡ Some p' → Pending (request_of (suc i) (events ++ done ∷ [])) → p'.outstanding ≡ true
     outstanding' i p' at pending =
         let o = outstood w w' i done.event done.answer p' h at in
-        by_case o.0 o.1 o.2 (event_follows budget budgets events w w' i o.0 done.event done.answer after o.1 h) (subst Pending (last i) pending)
+        by_case o.0 o.1 o.2 (event_follows limits budget budgets events w w' i o.0 done.event done.answer after o.1 h) (subst Pending (last i) pending)
       where
         none_left : (short : Bool) (d : Decision) → done.event ≡ Take (suc i) 0 short → done.answer ≡ TookReply d → Pending (followed (suc i) (request_of (suc i) events) done.event done.answer) → ⊥
         none_left short d e a p =
             let happens : Happens w (Take (suc i) 0 short) w' (TookReply d) = subst (λ (x : Answer). Happens w (Take (suc i) 0 short) w' x) a (subst (λ (x : Event). Happens w x w' done.answer) e h) in
-            let r = run_replies budget budgets events w w' (Take (suc i) 0 short) (TookReply d) run happens in
+            let r = run_replies limits budget budgets events w w' (Take (suc i) 0 short) (TookReply d) run happens in
             let p' : Pending (followed (suc i) (request_of (suc i) events) (Take (suc i) 0 short) (TookReply d)) = subst (λ (x : Answer). Pending (followed (suc i) (request_of (suc i) events) (Take (suc i) 0 short) x)) a (subst (λ (x : Event). Pending (followed (suc i) (request_of (suc i) events) x done.answer)) e p) in
             subst Pending r.1 p'
 
@@ -387,6 +388,6 @@ kept_more budget budgets events w w' done run k h = record { outstanding = outst
         by_case p is (now e) f x = e
         by_case p is (replied short d e a) f x = absurd (none_left short d e a x)
 
-pub run_tracks : (budget : ℕ) (budgets : List ℕ) (events : List Done) (w : World) → Run budget budgets events w → (i : ℕ) (p : Peer) → slice_get w.peers i ≡ Some p → Tracks (suc i) events (request_of (suc i) events)
-run_tracks budget budgets events w run =
-    (run_keeps budget budgets (Kept budget budgets) (record { outstanding = λ i p at pending. absurd pending; tracks = λ i p at. record { counted = omega arith; places = tt } }) (kept_more budget budgets) events w run).tracks
+pub run_tracks : (limits : TableLimits) (budget : ℕ) (budgets : List ℕ) (events : List Done) (w : World) → Run limits budget budgets events w → (i : ℕ) (p : Peer) → slice_get w.peers i ≡ Some p → Tracks (suc i) events (request_of (suc i) events)
+run_tracks limits budget budgets events w run =
+    (run_keeps limits budget budgets (Kept budget budgets) (record { outstanding = λ i p at pending. absurd pending; tracks = λ i p at. record { counted = omega arith; places = tt } }) (kept_more limits budget budgets) events w run).tracks

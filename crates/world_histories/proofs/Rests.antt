@@ -2,6 +2,7 @@
 use Rattle.std.proofs.Common.{◌≡◌, ◌+◌, ℕ, zero, suc, Option, None, Some, List, [], ◌∷◌, ◌++◌, length, slice_get, slice_index_or, refl, ap, sym, ◌∙◌, subst, arith, length-append}
 use Rattle.std.specs.Prelude.{drop, option_to_list}
 use mathlib.Core.List.{IsPrefix}
+use Rattle.filter_table.specs.Limits.{TableLimits}
 use Rattle.world_events.specs.declared.event.Event.{Event}
 use Rattle.world_events.specs.declared.event.Event.TheVariants.{Submit, Take, Rx}
 use Rattle.world_events.specs.declared.event.Answer.{Answer}
@@ -47,8 +48,8 @@ there_or [] i x d at = absurd cc
 there_or (y ∷ ys) zero x d at = cc
 there_or (y ∷ ys) (suc i) x d at = there_or ys i x d at
 
-pub rests_of : (budgets : List ℕ) (others : List (List Stamped)) (ends : List OtherState) (sent : List Sending) (taken0 : List (ℕ × Stamping)) → Rests (rest_down others sent) (rest_up others taken0) budgets others ends sent taken0
-rests_of budgets others ends sent taken0 i b g d at_b at_g at_d t = (
+pub rests_of : (limits : TableLimits) (budgets : List ℕ) (others : List (List Stamped)) (ends : List OtherState) (sent : List Sending) (taken0 : List (ℕ × Stamping)) → Rests (rest_down others sent) (rest_up others taken0) limits budgets others ends sent taken0
+rests_of limits budgets others ends sent taken0 i b g d at_b at_g at_d t = (
   subst (λ (n : ℕ). t.taken ++ drop n (sent_to i sent) ≡ sent_to i sent) (sym (ap takes_in is ∙ takes_are i b _ d g t.taken t.is_history)) (front_rest t.taken (sent_to i sent) t.down),
   subst (λ (h : List Stamped). taken_from i taken0 ++ drop (length (taken_from i taken0)) (sent_by h) ≡ sent_by g) (sym is) (front_rest (taken_from i taken0) (sent_by g) t.up),
 )

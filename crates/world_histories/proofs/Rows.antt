@@ -3,6 +3,7 @@ use Rattle.std.proofs.Common.{◌≡◌, ◌≤◌, ℕ, zero, suc, false, Optio
 use Rattle.filter_table.specs.declared.operation.Op.{Op}
 use Rattle.filter_table.specs.declared.operation.Op.TheVariants.{Create}
 use Rattle.filter_table.specs.declared.operation.Made.TheVariants.{Cap}
+use Rattle.filter_table.specs.Limits.{default_limits}
 use Rattle.filter_table.specs.Tables.{empty_table, table, after, made, instructions, Allowed}
 use Rattle.monitor_messages.specs.declared.message.Message.{Message}
 use Rattle.monitor_messages.specs.declared.message.Message.TheVariants as message
@@ -35,16 +36,16 @@ of_core1 : List Stamped
 unfolding at
 of_core1 = at 2 (Take 1 0 false) (TookPrepare 1 vote.Yes) ∷ at 4 (Take 1 0 false) (TookCommit 1 1) ∷ []
 
-allowed_first : Allowed empty_table 9 create_7 None
+allowed_first : Allowed (empty_table default_limits) 9 create_7 None
 unfolding Allowed create_7
 allowed_first = refl
 
 -- core 0 with this clock, after the operation's commit or before it
 core_0 : ℕ → ℕ → Phase → Option Op → Option Decision → List Op → Core0State
-core_0 clock last phase staged decided log = record { clock = clock; place = record { last = last; phase = phase; staged = staged }; requests = record { waiting = None ∷ []; asker = None; decided = decided }; log = log }
+core_0 clock last phase staged decided log = record { limits = default_limits; clock = clock; place = record { last = last; phase = phase; staged = staged }; requests = record { waiting = None ∷ []; asker = None; decided = decided }; log = log }
 
 core_1 : ℕ → ℕ → Option Vote → Option Op → List Op → OtherState
-core_1 clock last v staged log = record { clock = clock; place = record { last = last; voted = v; staged = staged }; outstanding = false; log = log }
+core_1 clock last v staged log = record { limits = default_limits; clock = clock; place = record { last = last; voted = v; staged = staged }; outstanding = false; log = log }
 
 message_at : ℕ → Message → Stamping
 message_at stamp m = record { stamp = stamp; message = m }
@@ -53,7 +54,7 @@ all_yes : (i : ℕ) (v : Option Vote) → slice_get (Some vote.Yes ∷ []) i ≡
 all_yes zero v e = cc
 all_yes (suc i) v e = cc
 
-step_1 : Step0 1 9 (core0_first 1) 1 (Start create_7) None (core_0 1 1 (Voting (None ∷ [])) (Some create_7) None []) (Prepared 1) (to_all (message.Prepare 1 create_7))
+step_1 : Step0 1 9 (core0_first default_limits 1) 1 (Start create_7) None (core_0 1 1 (Voting (None ∷ [])) (Some create_7) None []) (Prepared 1) (to_all (message.Prepare 1 create_7))
 unfolding create_7 core_0 table
 step_1 = record {
   ticks = refl;
@@ -115,11 +116,11 @@ step_3 = record {
   };
 }
 
-fits_first : instructions (after empty_table create_7) ≤ 9
+fits_first : instructions (after (empty_table default_limits) create_7) ≤ 9
 unfolding instructions after create_7
 fits_first = lit≤ tt
 
-own_1 : StepOther 0 9 other_first 2 (Take 1 0 false) (Some (message_at 1 (message.Prepare 1 create_7))) (core_1 2 1 (Some vote.Yes) (Some create_7) []) (TookPrepare 1 vote.Yes)
+own_1 : StepOther 0 9 (other_first default_limits) 2 (Take 1 0 false) (Some (message_at 1 (message.Prepare 1 create_7))) (core_1 2 1 (Some vote.Yes) (Some create_7) []) (TookPrepare 1 vote.Yes)
 unfolding core_1 message_at table
 own_1 = record {
   ticks = refl;
@@ -159,7 +160,7 @@ takings : List (ℕ × Stamping)
 unfolding message_at
 takings = (0, message_at 2 (message.Vote 1 vote.Yes)) ∷ (0, message_at 4 (message.Ack 1)) ∷ []
 
-history_0 : History0 1 9 (core0_first 1) of_core0 (core_0 5 1 Idle None None (create_7 ∷ [])) sendings takings
+history_0 : History0 1 9 (core0_first default_limits 1) of_core0 (core_0 5 1 Idle None None (create_7 ∷ [])) sendings takings
 unfolding of_core0 sendings takings
 history_0 = (
   _,
@@ -183,11 +184,11 @@ history_0 = (
   refl,
 )
 
-history_1 : HistoryOther 0 9 other_first of_core1 (core_1 4 1 None None (create_7 ∷ [])) (message_at 1 (message.Prepare 1 create_7) ∷ message_at 3 (message.Commit 1) ∷ [])
+history_1 : HistoryOther 0 9 (other_first default_limits) of_core1 (core_1 4 1 None None (create_7 ∷ [])) (message_at 1 (message.Prepare 1 create_7) ∷ message_at 3 (message.Commit 1) ∷ [])
 unfolding of_core1
 history_1 = (_, _, message_at 3 (message.Commit 1) ∷ [], own_1, (_, _, [], own_2, (refl, refl), refl), refl)
 
-in_order : TakesInOrder 0 9 sendings takings of_core1 (core_1 4 1 None None (create_7 ∷ []))
+in_order : TakesInOrder 0 default_limits 9 sendings takings of_core1 (core_1 4 1 None None (create_7 ∷ []))
 unfolding sendings takings of_core1 at message_at create_7
 in_order = record {
   taken = message_at 1 (message.Prepare 1 create_7) ∷ message_at 3 (message.Commit 1) ∷ [];
@@ -196,7 +197,7 @@ in_order = record {
   up = ([], refl);
 }
 
-two_cores_create : Computation 9 (9 ∷ []) of_core0 (of_core1 ∷ []) (core_0 5 1 Idle None None (create_7 ∷ [])) (core_1 4 1 None None (create_7 ∷ []) ∷ [])
+two_cores_create : Computation default_limits 9 (9 ∷ []) of_core0 (of_core1 ∷ []) (core_0 5 1 Idle None None (create_7 ∷ [])) (core_1 4 1 None None (create_7 ∷ []) ∷ [])
 two_cores_create = record {
   cores = refl;
   all_end = refl;
@@ -206,10 +207,10 @@ two_cores_create = record {
   of_other = by_core;
 }
   where
-    by_core : (i b : ℕ) (h : List Stamped) (d : OtherState) → slice_get (9 ∷ []) i ≡ Some b → slice_get (of_core1 ∷ []) i ≡ Some h → slice_get (core_1 4 1 None None (create_7 ∷ []) ∷ []) i ≡ Some d → TakesInOrder i b sendings takings h d
+    by_core : (i b : ℕ) (h : List Stamped) (d : OtherState) → slice_get (9 ∷ []) i ≡ Some b → slice_get (of_core1 ∷ []) i ≡ Some h → slice_get (core_1 4 1 None None (create_7 ∷ []) ∷ []) i ≡ Some d → TakesInOrder i default_limits b sendings takings h d
     by_core zero b h d at_b at_h at_d =
         let e : 9 ≡ b = cc in
         let f : of_core1 ≡ h = cc in
         let g : core_1 4 1 None None (create_7 ∷ []) ≡ d = cc in
-        subst (λ (x : ℕ). TakesInOrder 0 x sendings takings h d) e (subst (λ (x : List Stamped). TakesInOrder 0 9 sendings takings x d) f (subst (λ (x : OtherState). TakesInOrder 0 9 sendings takings of_core1 x) g in_order))
+        subst (λ (x : ℕ). TakesInOrder 0 default_limits x sendings takings h d) e (subst (λ (x : List Stamped). TakesInOrder 0 default_limits 9 sendings takings x d) f (subst (λ (x : OtherState). TakesInOrder 0 default_limits 9 sendings takings of_core1 x) g in_order))
     by_core (suc i) b h d at_b at_h at_d = absurd (cc)

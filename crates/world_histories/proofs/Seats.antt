@@ -3,6 +3,7 @@ use Rattle.std.proofs.Common.{◌≡◌, ◌⊎◌, inl, inr, ℕ, Option, Some,
 use Rattle.std.specs.Prelude.{option_to_list}
 use Rattle.std.proofs.lemmas.List.{append-nil, map-append}
 use mathlib.Core.List.{IsPrefix}
+use Rattle.filter_table.specs.Limits.{TableLimits}
 use Rattle.filter_table.specs.declared.operation.Op.{Op}
 use Rattle.monitor_messages.specs.declared.message.Message.{Message}
 use Rattle.world_model.specs.Cases.{Outgoing, nothing, to_all, to_one, sent_up, joined, raised}
@@ -26,10 +27,11 @@ messages_more xs stamp ms known e = map-append (λ m. m.message) xs (with_stamp 
 
 -- A core of the world, the rest of its history, and the messages under way with their stamps. Core 0 will send and take these, and the rest
 -- of what is sent is taken by none.
-pub record Seat (rd ru : ℕ → List Stamping) (i : ℕ) (log : List Op) (p : Peer) (h : List Stamped) (e : OtherState) (sent : List Sending) (taken0 : List (ℕ × Stamping)) : Type 0 where
+pub record Seat (rd ru : ℕ → List Stamping) (i : ℕ) (limits : TableLimits) (log : List Op) (p : Peer) (h : List Stamped) (e : OtherState) (sent : List Sending) (taken0 : List (ℕ × Stamping)) : Type 0 where
   pub core : OtherState
   pub taken : List Stamping
   pub ahead : HistoryOther i p.budget core h e taken
+  pub limits_are : limits ≡ core.limits
   pub version_is : p.version ≡ length core.log
   pub is_front : IsPrefix core.log log
   pub place_is : p.place ≡ core.place
@@ -42,16 +44,17 @@ pub record Seat (rd ru : ℕ → List Stamping) (i : ℕ) (log : List Op) (p : P
   pub gives : taken_from i taken0 ++ ru i ≡ up ++ sent_by h
 
 -- with its history and its end
-pub record SeatOf (rd ru : ℕ → List Stamping) (i : ℕ) (log : List Op) (p : Peer) (hs : List (List Stamped)) (ends : List OtherState) (sent : List Sending) (taken0 : List (ℕ × Stamping)) : Type 0 where
+pub record SeatOf (rd ru : ℕ → List Stamping) (i : ℕ) (limits : TableLimits) (log : List Op) (p : Peer) (hs : List (List Stamped)) (ends : List OtherState) (sent : List Sending) (taken0 : List (ℕ × Stamping)) : Type 0 where
   pub history : List Stamped
   pub is_history : slice_get hs i ≡ Some history
   pub end : OtherState
   pub is_end : slice_get ends i ≡ Some end
-  pub seat : Seat rd ru i log p history end sent taken0
+  pub seat : Seat rd ru i limits log p history end sent taken0
 
 -- a world that a run leads to, and the rests of all histories from there on
-pub record Joint (rd ru : ℕ → List Stamping) (budget : ℕ) (budgets : List ℕ) (before : List Stamped) (w : World) (c : Core0State) (h0 : List Stamped) (hs : List (List Stamped)) (end : Core0State) (ends : List OtherState) : Type 0 where
-  pub run : Run budget budgets (as_listed before) w
+pub record Joint (rd ru : ℕ → List Stamping) (limits : TableLimits) (budget : ℕ) (budgets : List ℕ) (before : List Stamped) (w : World) (c : Core0State) (h0 : List Stamped) (hs : List (List Stamped)) (end : Core0State) (ends : List OtherState) : Type 0 where
+  pub run : Run limits budget budgets (as_listed before) w
+  pub limits_are : w.limits ≡ c.limits
   pub log_is : w.log ≡ c.log
   pub place_is : w.place ≡ c.place
   pub requests_are : w.requests ≡ c.requests
@@ -59,7 +62,7 @@ pub record Joint (rd ru : ℕ → List Stamping) (budget : ℕ) (budgets : List 
   pub taken : List (ℕ × Stamping)
   pub ahead : History0 (length budgets) budget c h0 end sent taken
   pub cores : length hs ≡ length budgets
-  pub seats : (i : ℕ) (p : Peer) → slice_get w.peers i ≡ Some p → SeatOf rd ru i w.log p hs ends sent taken
+  pub seats : (i : ℕ) (p : Peer) → slice_get w.peers i ≡ Some p → SeatOf rd ru i w.limits w.log p hs ends sent taken
 
 -- What core 0 sends reaches the cores
 
@@ -111,12 +114,13 @@ raised_long log None = refl
 raised_long log (Some op) = omega (arith, length-append log (op ∷ []))
 
 -- after an event of core 0 that sent this
-pub seat_got : (rd ru : ℕ → List Stamping) (i stamp : ℕ) (log : List Op) (committed : Option Op) (out : Outgoing) (p q : Peer) (h : List Stamped) (e : OtherState) (sent : List Sending) (taken0 : List (ℕ × Stamping))
-    → Got p q (for_entry i out) → Seat rd ru i log p h e (record { stamp = stamp; sent = out } ∷ sent) taken0 → Seat rd ru i (joined log committed) q h e sent taken0
-seat_got rd ru i stamp log committed out p q h e sent taken0 g s = record {
+pub seat_got : (rd ru : ℕ → List Stamping) (i stamp : ℕ) (limits : TableLimits) (log : List Op) (committed : Option Op) (out : Outgoing) (p q : Peer) (h : List Stamped) (e : OtherState) (sent : List Sending) (taken0 : List (ℕ × Stamping))
+    → Got p q (for_entry i out) → Seat rd ru i limits log p h e (record { stamp = stamp; sent = out } ∷ sent) taken0 → Seat rd ru i limits (joined log committed) q h e sent taken0
+seat_got rd ru i stamp limits log committed out p q h e sent taken0 g s = record {
   core = s.core;
   taken = s.taken;
   ahead = rw g.budget_is s.ahead;
+  limits_are = s.limits_are;
   version_is = g.version_is ∙ s.version_is;
   is_front = rw (joined_front log committed) (prefix_more s.core.log log (option_to_list committed) s.is_front);
   place_is = g.place_is ∙ s.place_is;
@@ -132,13 +136,14 @@ seat_got rd ru i stamp log committed out p q h e sent taken0 g s = record {
 -- A core's own event
 
 -- the core has done the first event of its history
-pub seat_own : (rd ru : ℕ → List Stamping) (i : ℕ) (log : List Op) (p q : Peer) (s : Stamped) (r : List Stamped) (e : OtherState) (sent : List Sending) (taken0 : List (ℕ × Stamping)) (seat : Seat rd ru i log p (s ∷ r) e sent taken0)
-    (d : OtherState) (taken down : List Stamping) → HistoryOther i q.budget d r e taken → q.version ≡ length d.log → IsPrefix d.log log → q.place ≡ d.place → q.outstanding ≡ d.outstanding
-    → messages down ≡ q.down → q.up ≡ p.up ++ option_to_list (sent_up s.done.event s.done.answer) → taken ++ rd i ≡ down ++ sent_to i sent → Seat rd ru i log q r e sent taken0
-seat_own rd ru i log p q s r e sent taken0 seat d taken down ahead version front place outstanding down_is up takes = record {
+pub seat_own : (rd ru : ℕ → List Stamping) (i : ℕ) (limits : TableLimits) (log : List Op) (p q : Peer) (s : Stamped) (r : List Stamped) (e : OtherState) (sent : List Sending) (taken0 : List (ℕ × Stamping)) (seat : Seat rd ru i limits log p (s ∷ r) e sent taken0)
+    (d : OtherState) (taken down : List Stamping) → HistoryOther i q.budget d r e taken → limits ≡ d.limits → q.version ≡ length d.log → IsPrefix d.log log → q.place ≡ d.place → q.outstanding ≡ d.outstanding
+    → messages down ≡ q.down → q.up ≡ p.up ++ option_to_list (sent_up s.done.event s.done.answer) → taken ++ rd i ≡ down ++ sent_to i sent → Seat rd ru i limits log q r e sent taken0
+seat_own rd ru i limits log p q s r e sent taken0 seat d taken down ahead same version front place outstanding down_is up takes = record {
   core = d;
   taken = taken;
   ahead = ahead;
+  limits_are = same;
   version_is = version;
   is_front = front;
   place_is = place;

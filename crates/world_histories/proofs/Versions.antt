@@ -108,7 +108,7 @@ takes_grown i short s b version log place place' out out' (message.Submit op) co
 take_grown : (i budget : ℕ) (c c' : OtherState) (stamp to : ℕ) (short : Bool) (m : Option Stamping) (answer : Answer) → to ≡ i → Held c.place → DoesOther i budget c stamp (Take (suc to) 0 short) m c' answer → GrownOther i c (Take (suc to) 0 short) answer c'
 take_grown i budget c c' stamp to short None answer e held h = absurd h
 take_grown i budget c c' stamp to short (Some m) answer e held h =
-    let t = takes_grown i short (table c.log (length c.log)) budget (length c.log) c.log c.place h.1.place c.outstanding h.1.outstanding m.message h.1.committed answer held h.1.here in
+    let t = takes_grown i short (table c.limits c.log (length c.log)) budget (length c.log) c.log c.place h.1.place c.outstanding h.1.outstanding m.message h.1.committed answer held h.1.here in
     rw (h.1.next, e) (record { grown = t.0; held = t.1 })
 
 grown_other : (i budget : ℕ) (c c' : OtherState) (stamp : ℕ) (event : Event) (m : Option Stamping) (answer : Answer) → Held c.place → DoesOther i budget c stamp event m c' answer → GrownOther i c event answer c'

@@ -3,6 +3,7 @@ use Rattle.std.proofs.Common.{◌≡◌, ◌+◌, ◌≤◌, ◌⊎◌, ◌==◌
 use Rattle.std.specs.Prelude.{◌&&◌}
 use Rattle.std.proofs.lemmas.List.{map-append}
 use mathlib.Core.List.{IsPrefix}
+use Rattle.filter_table.specs.Limits.{TableLimits}
 use Rattle.filter_table.specs.declared.operation.Op.{Op}
 use Rattle.filter_table.specs.Tables.{TableState}
 use Rattle.monitor_messages.specs.declared.message.Message.{Message}
@@ -90,11 +91,11 @@ vote_after-parts : (core txn : ℕ) (known : Option Vote) (xs ys : List Done) �
 vote_after-parts core txn known [] ys = refl
 vote_after-parts core txn known (x ∷ xs) ys = vote_after-parts core txn (vote_with core txn known x.event x.answer) xs ys
 
-pub voted_in : (core txn i budget : ℕ) (end : OtherState) (h front : List Stamped) (taken : List Stamping) (v : Vote) → HistoryOther i budget other_first h end taken → IsPrefix front h → vote_of core txn (unstamped front) ≡ Some v → vote_of core txn (unstamped h) ≡ Some v
-voted_in core txn i budget end h front taken v hist f e =
-    let whole : HistoryOther i budget other_first (front ++ f.0) end taken = subst (λ (xs : List Stamped). HistoryOther i budget other_first xs end taken) (sym f.1) hist in
-    let s = split_other i budget other_first end front f.0 taken whole in
-    let behind = votes_behind core txn i budget other_first s.0 front s.1 None s.3 (λ x none. absurd (cc)) v e in
+pub voted_in : (limits : TableLimits) (core txn i budget : ℕ) (end : OtherState) (h front : List Stamped) (taken : List Stamping) (v : Vote) → HistoryOther i budget (other_first limits) h end taken → IsPrefix front h → vote_of core txn (unstamped front) ≡ Some v → vote_of core txn (unstamped h) ≡ Some v
+voted_in limits core txn i budget end h front taken v hist f e =
+    let whole : HistoryOther i budget (other_first limits) (front ++ f.0) end taken = subst (λ (xs : List Stamped). HistoryOther i budget (other_first limits) xs end taken) (sym f.1) hist in
+    let s = split_other i budget (other_first limits) end front f.0 taken whole in
+    let behind = votes_behind core txn i budget (other_first limits) s.0 front s.1 None s.3 (λ x none. absurd (cc)) v e in
     ap (λ (xs : List Stamped). vote_of core txn (unstamped xs)) (sym f.1)
     ∙ (ap (vote_of core txn) (map-append (λ (x : Stamped). x.done) front f.0)
     ∙ (vote_after-parts core txn None (unstamped front) (unstamped f.0) ∙ (votes_still core txn i budget s.0 end f.0 s.2 (vote_of core txn (unstamped front)) s.4 behind ∙ e)))

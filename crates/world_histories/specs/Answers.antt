@@ -3,6 +3,7 @@
 -- commit that it carries (Gray 1978, "Notes on data base operating systems", section 5.8.3).
 use Rattle.std.specs.Prelude.{◌≡◌, ◌+◌, ◌⊎◌, ◌==◌, ℕ, suc, Bool, true, false, Option, Some, None, List, [], ◌∷◌, ◌++◌, length, slice_get, count_by}
 use mathlib.Core.List.{IsPrefix}
+use Rattle.filter_table.specs.Limits.{TableLimits}
 use Rattle.filter_table.specs.declared.operation.Op.{Op}
 use Rattle.filter_table.specs.declared.decision.Vote.{Vote}
 use Rattle.filter_table.specs.declared.decision.Decision.{Decision}
@@ -60,7 +61,7 @@ pub record TellsOfCores (events : List Stamped) : Type 0 where
 
 -- An event of a core's history, after these events of its own, as an event of the one run. What the run has before it are fronts
 -- of all histories.
-pub record InRun (budget : ℕ) (budgets : List ℕ) (core0 : List Stamped) (others : List (List Stamped)) (log : List Op) (merged : List Stamped) (core : ℕ) (before : List Stamped) (s : Stamped) : Type 0 where
+pub record InRun (limits : TableLimits) (budget : ℕ) (budgets : List ℕ) (core0 : List Stamped) (others : List (List Stamped)) (log : List Op) (merged : List Stamped) (core : ℕ) (before : List Stamped) (s : Stamped) : Type 0 where
   pub earlier : List Stamped
   pub later : List Stamped
   pub is_split : merged ≡ earlier ++ s ∷ later
@@ -70,7 +71,7 @@ pub record InRun (budget : ℕ) (budgets : List ℕ) (core0 : List Stamped) (oth
   pub tells : TellsOfCores earlier
   pub world : World
   pub world' : World
-  pub run : Run budget budgets (as_listed earlier) world
+  pub run : Run limits budget budgets (as_listed earlier) world
   pub happens : Happens world (listed s).event world' s.done.answer
   -- the world has a front of core 0's log, and its cores have the versions that they committed
   pub log_front : IsPrefix world.log log
@@ -100,11 +101,11 @@ pub record DecidedFor (core0 : List Stamped) (entry n : ℕ) (decision : Decisio
 -- A core that takes this decision as a Reply after these events takes the decision of its one request, the last that it submitted:
 -- core 0 begins the requests of a core in the order in which the core submits them, and has decided this one so. Where that is
 -- committed, the request is that entry of the log, and the core stands exactly at its version.
-pub record Replied (core0 : List Stamped) (log : List Op) (entry : ℕ) (before : List Stamped) (decision : Decision) : Type 0 where
+pub record Replied (core0 : List Stamped) (limits : TableLimits) (log : List Op) (entry : ℕ) (before : List Stamped) (decision : Decision) : Type 0 where
   pub op : Op
   pub asked : last_submitted before ≡ Some op
   pub others : ℕ
   pub nth : submissions before ≡ others + 1
   pub decided : DecidedFor core0 entry others decision
-  pub entered : IsEntered log op decision
+  pub entered : IsEntered limits log op decision
   pub stands : StandsAt (version_of (suc entry) (unstamped before)) decision

@@ -2,6 +2,7 @@
 -- section 5.8.3), read off the histories alone.
 use Rattle.std.specs.Prelude.{◌≡◌, ◌+◌, ℕ, suc, Option, Some, None, List, ◌∷◌, ◌++◌, length, slice_get}
 use mathlib.Core.List.{IsPrefix}
+use Rattle.filter_table.specs.Limits.{TableLimits}
 use Rattle.filter_table.specs.declared.operation.Op.{Op}
 use Rattle.filter_table.specs.Tables.{table, Allowed}
 use Rattle.filter_table.specs.declared.decision.Vote.{Vote}
@@ -45,11 +46,11 @@ abbrev pub vote_in : List (List Stamped) → ℕ → ℕ → Option Vote
 vote_in others txn entry = voted (suc entry) txn (slice_get others entry)
 
 -- What core 0, which commits this log, answers to an event after these events of its own: v is the version that it has then.
-abbrev pub DecidesBy : ℕ → List ℕ → List (List Stamped) → List Op → List Stamped → ℕ → Event → Answer → Type 0
-DecidesBy budget budgets others log before v event (Prepared txn) = (op : Op) × Asked others before event op × Allowed (table log v) budget op None × IsNew before txn
-DecidesBy budget budgets others log before v event (Decided decision) = (op : Op) × Asked others before event op × DecidesAtOnce (length others) budget log v op decision
-DecidesBy budget budgets others log before v event (TookVote txn cast (Some decision)) = (op : Op) × BegunIn others before txn op × VotesDecide (length others) (vote_in others txn) (slice_get budgets) log v op decision
-DecidesBy budget budgets others log before v event answer = Unit {0}
+abbrev pub DecidesBy : TableLimits → ℕ → List ℕ → List (List Stamped) → List Op → List Stamped → ℕ → Event → Answer → Type 0
+DecidesBy limits budget budgets others log before v event (Prepared txn) = (op : Op) × Asked others before event op × Allowed (table limits log v) budget op None × IsNew before txn
+DecidesBy limits budget budgets others log before v event (Decided decision) = (op : Op) × Asked others before event op × DecidesAtOnce (length others) budget limits log v op decision
+DecidesBy limits budget budgets others log before v event (TookVote txn cast (Some decision)) = (op : Op) × BegunIn others before txn op × VotesDecide (length others) (vote_in others txn) (slice_get budgets) limits log v op decision
+DecidesBy limits budget budgets others log before v event answer = Unit {0}
 
-abbrev pub DecidesAs : ℕ → List ℕ → List (List Stamped) → List Op → List Stamped → Stamped → Type 0
-DecidesAs budget budgets others log before s = DecidesBy budget budgets others log before (version_of 0 (unstamped before)) s.done.event s.done.answer
+abbrev pub DecidesAs : TableLimits → ℕ → List ℕ → List (List Stamped) → List Op → List Stamped → Stamped → Type 0
+DecidesAs limits budget budgets others log before s = DecidesBy limits budget budgets others log before (version_of 0 (unstamped before)) s.done.event s.done.answer

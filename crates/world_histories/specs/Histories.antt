@@ -5,6 +5,7 @@
 -- after its send, and clocks tell so).
 use Rattle.std.specs.Prelude.{◌≡◌, ◌+◌, ◌==◌, ℕ, zero, suc, Bool, false, cond, max, Option, Some, None, List, [], ◌∷◌, ◌++◌, length, map, slice_get, option_to_list}
 use mathlib.Core.List.{IsPrefix}
+use Rattle.filter_table.specs.Limits.{TableLimits}
 use Rattle.filter_table.specs.declared.operation.Op.{Op}
 use Rattle.filter_table.specs.Tables.{table}
 use Rattle.pcap_reader.specs.declared.capture.CapturedPacket.{CapturedPacket}
@@ -61,22 +62,23 @@ sent_by (s ∷ later) = with_stamp s.stamp (option_to_list (sent_up s.done.event
 
 -- Core 0 along its history
 
--- its clock and place, what it keeps of requests, and what it has committed
+-- its machine's limits, its clock and place, what it keeps of requests, and what it has committed
 pub record Core0State : Type 0 where
+  pub limits : TableLimits
   pub clock : ℕ
   pub place : CoordinatorPlace
   pub requests : Requests
   pub log : List Op
 
-abbrev pub core0_first : ℕ → Core0State
-core0_first others = record { clock = 0; place = idle_at_first; requests = no_requests others; log = [] }
+abbrev pub core0_first : TableLimits → ℕ → Core0State
+core0_first limits others = record { limits = limits; clock = 0; place = idle_at_first; requests = no_requests others; log = [] }
 
 pub record Start0 (others budget : ℕ) (c : Core0State) (stamp : ℕ) (op : Op) (c' : Core0State) (answer : Answer) (sent : Outgoing) : Type 0 where
   pub place : CoordinatorPlace
   pub committed : Option Op
   pub told : Step
-  pub here : StartsAt others (table c.log (length c.log)) budget c.place op place committed told answer
-  pub next : c' ≡ record { clock = stamp; place = place; requests = c.requests; log = joined c.log committed }
+  pub here : StartsAt others (table c.limits c.log (length c.log)) budget c.place op place committed told answer
+  pub next : c' ≡ record { limits = c.limits; clock = stamp; place = place; requests = c.requests; log = joined c.log committed }
   pub sends : sent ≡ outgoing told place
 
 pub record StartFor0 (others budget : ℕ) (c : Core0State) (stamp : ℕ) (entry : ℕ) (c' : Core0State) (answer : Answer) (sent : Outgoing) : Type 0 where
@@ -84,8 +86,8 @@ pub record StartFor0 (others budget : ℕ) (c : Core0State) (stamp : ℕ) (entry
   pub requests : Requests
   pub committed : Option Op
   pub told : Step
-  pub here : StartsForAt others (table c.log (length c.log)) budget c.place c.requests entry place requests committed told answer
-  pub next : c' ≡ record { clock = stamp; place = place; requests = requests; log = joined c.log committed }
+  pub here : StartsForAt others (table c.limits c.log (length c.log)) budget c.place c.requests entry place requests committed told answer
+  pub next : c' ≡ record { limits = c.limits; clock = stamp; place = place; requests = requests; log = joined c.log committed }
   pub sends : sent ≡ outgoing told place
 
 pub record Take0 (c : Core0State) (stamp : ℕ) (entry : ℕ) (m : Message) (c' : Core0State) (answer : Answer) (sent : Outgoing) : Type 0 where
@@ -93,12 +95,12 @@ pub record Take0 (c : Core0State) (stamp : ℕ) (entry : ℕ) (m : Message) (c' 
   pub requests : Requests
   pub committed : Option Op
   pub told : Step
-  pub here : TakesUpAt (table c.log (length c.log)) c.place c.requests entry m place requests committed told answer
-  pub next : c' ≡ record { clock = stamp; place = place; requests = requests; log = joined c.log committed }
+  pub here : TakesUpAt (table c.limits c.log (length c.log)) c.place c.requests entry m place requests committed told answer
+  pub next : c' ≡ record { limits = c.limits; clock = stamp; place = place; requests = requests; log = joined c.log committed }
   pub sends : sent ≡ outgoing told place
 
 pub record Rx0 (c : Core0State) (stamp : ℕ) (packet : CapturedPacket) (floor : ℕ) (c' : Core0State) (answer : Answer) (sent : Outgoing) : Type 0 where
-  pub here : ReceivesAt (table c.log (length c.log)) (length c.log) packet floor answer
+  pub here : ReceivesAt (table c.limits c.log (length c.log)) (length c.log) packet floor answer
   pub next : c' ≡ record c { clock = stamp }
   pub sends : sent ≡ nothing
 
@@ -135,13 +137,14 @@ taken_from entry (t ∷ later) = cond (t.0 == entry) (t.1 ∷ []) [] ++ taken_fr
 -- Another core along its history
 
 pub record OtherState : Type 0 where
+  pub limits : TableLimits
   pub clock : ℕ
   pub place : ParticipantPlace
   pub outstanding : Bool
   pub log : List Op
 
-abbrev pub other_first : OtherState
-other_first = record { clock = 0; place = at_first; outstanding = false; log = [] }
+abbrev pub other_first : TableLimits → OtherState
+other_first limits = record { limits = limits; clock = 0; place = at_first; outstanding = false; log = [] }
 
 pub record SubmitOther (c : OtherState) (stamp : ℕ) (c' : OtherState) (answer : Answer) : Type 0 where
   pub outstanding : Bool
@@ -152,11 +155,11 @@ pub record TakeOther (budget : ℕ) (c : OtherState) (stamp : ℕ) (short : Bool
   pub place : ParticipantPlace
   pub outstanding : Bool
   pub committed : Option Op
-  pub here : TakesDownAt short (table c.log (length c.log)) budget (length c.log) c.place c.outstanding m place outstanding committed answer
-  pub next : c' ≡ record { clock = stamp; place = place; outstanding = outstanding; log = joined c.log committed }
+  pub here : TakesDownAt short (table c.limits c.log (length c.log)) budget (length c.log) c.place c.outstanding m place outstanding committed answer
+  pub next : c' ≡ record { limits = c.limits; clock = stamp; place = place; outstanding = outstanding; log = joined c.log committed }
 
 pub record RxOther (c : OtherState) (stamp : ℕ) (packet : CapturedPacket) (floor : ℕ) (c' : OtherState) (answer : Answer) : Type 0 where
-  pub here : ReceivesAt (table c.log (length c.log)) (length c.log) packet floor answer
+  pub here : ReceivesAt (table c.limits c.log (length c.log)) (length c.log) packet floor answer
   pub next : c' ≡ record c { clock = stamp }
 
 -- what the event does at the core with this entry, which is the core's number less one
@@ -180,18 +183,18 @@ HistoryOther entry budget c (s ∷ later) c' taken = (mid : OtherState) × (m : 
 -- All cores
 
 -- Core 0 sent and took these. The other core's history ends so; what the two took of each other is the front of what the other sent.
-pub record TakesInOrder (entry budget : ℕ) (sent : List Sending) (taken0 : List (ℕ × Stamping)) (history : List Stamped) (end : OtherState) : Type 0 where
+pub record TakesInOrder (entry : ℕ) (limits : TableLimits) (budget : ℕ) (sent : List Sending) (taken0 : List (ℕ × Stamping)) (history : List Stamped) (end : OtherState) : Type 0 where
   pub taken : List Stamping
-  pub is_history : HistoryOther entry budget other_first history end taken
+  pub is_history : HistoryOther entry budget (other_first limits) history end taken
   pub down : IsPrefix taken (sent_to entry sent)
   pub up : IsPrefix (taken_from entry taken0) (sent_by history)
 
--- Core 0's history and the others' are those of cores with these budgets, which end so, and each of which took the messages that
+-- Core 0's history and the others' are those of cores with these limits and budgets, which end so, and each of which took the messages that
 -- the others sent to it in their order. The log of the whole is what core 0 has committed at its end.
-pub record Computation (budget : ℕ) (budgets : List ℕ) (core0 : List Stamped) (others : List (List Stamped)) (end : Core0State) (ends : List OtherState) : Type 0 where
+pub record Computation (limits : TableLimits) (budget : ℕ) (budgets : List ℕ) (core0 : List Stamped) (others : List (List Stamped)) (end : Core0State) (ends : List OtherState) : Type 0 where
   pub cores : length others ≡ length budgets
   pub all_end : length ends ≡ length budgets
   pub sent : List Sending
   pub taken : List (ℕ × Stamping)
-  pub of_core0 : History0 (length budgets) budget (core0_first (length budgets)) core0 end sent taken
-  pub of_other : (i b : ℕ) (h : List Stamped) (d : OtherState) → slice_get budgets i ≡ Some b → slice_get others i ≡ Some h → slice_get ends i ≡ Some d → TakesInOrder i b sent taken h d
+  pub of_core0 : History0 (length budgets) budget (core0_first limits (length budgets)) core0 end sent taken
+  pub of_other : (i b : ℕ) (h : List Stamped) (d : OtherState) → slice_get budgets i ≡ Some b → slice_get others i ≡ Some h → slice_get ends i ≡ Some d → TakesInOrder i limits b sent taken h d

@@ -2,6 +2,7 @@
 -- ordering of events in a distributed system", section "Ordering the events totally").
 use Rattle.std.specs.Prelude.{◌≡◌, ◌<◌, ◌≤◌, ◌⊎◌, ◌==◌, ℕ, true, Some, List, [], ◌∷◌, length, map, filter, slice_get}
 use mathlib.Core.List.{IsPrefix}
+use Rattle.filter_table.specs.Limits.{TableLimits}
 use Rattle.filter_table.specs.declared.decision.Vote.TheVariants as vote
 use Rattle.world_events.specs.declared.event.Event.{Event}
 use Rattle.world_events.specs.declared.event.Event.TheVariants.{Start, Submit, StartFor, Take, Rx}
@@ -52,6 +53,7 @@ as_listed events = map listed events
 
 -- another core ends as it stands in the world
 pub record EndsAs (w : World) (p : Peer) (d : OtherState) : Type 0 where
+  pub limits_are : w.limits ≡ d.limits
   pub version_is : p.version ≡ length d.log
   pub is_front : IsPrefix d.log w.log
   pub place_is : p.place ≡ d.place
@@ -59,13 +61,14 @@ pub record EndsAs (w : World) (p : Peer) (d : OtherState) : Type 0 where
 
 -- the cores end as they stand in the world
 pub record AllEnd (w : World) (end : Core0State) (ends : List OtherState) : Type 0 where
+  pub limits_are : w.limits ≡ end.limits
   pub log_is : w.log ≡ end.log
   pub place_is : w.place ≡ end.place
   pub requests_are : w.requests ≡ end.requests
   pub others : (i : ℕ) (p : Peer) (d : OtherState) → slice_get w.peers i ≡ Some p → slice_get ends i ≡ Some d → EndsAs w p d
 
--- the list is a run of a machine with these budgets, which ends where the cores end
-pub record IsRun (budget : ℕ) (budgets : List ℕ) (merged : List Stamped) (end : Core0State) (ends : List OtherState) : Type 0 where
+-- the list is a run of a machine with these limits and budgets, which ends where the cores end
+pub record IsRun (limits : TableLimits) (budget : ℕ) (budgets : List ℕ) (merged : List Stamped) (end : Core0State) (ends : List OtherState) : Type 0 where
   pub world : World
-  pub run : Run budget budgets (as_listed merged) world
+  pub run : Run limits budget budgets (as_listed merged) world
   pub all_end : AllEnd world end ends

@@ -1,6 +1,7 @@
 -- The steps of a run are bounded by its requests.
 use Rattle.std.proofs.Common.{◌≡◌, ◌+◌, ◌*◌, ◌≤◌, ℕ, zero, suc, Option, None, Some, List, [], ◌∷◌, ◌++◌, length, map, replicate, refl, ap, sym, ◌∙◌, subst, arith, mul-add, mul-zero, append_assoc}
 use Rattle.std.proofs.lemmas.List.{append-nil}
+use Rattle.filter_table.specs.Limits.{TableLimits}
 use Rattle.filter_table.specs.declared.operation.Op.{Op}
 use Rattle.world_events.specs.declared.event.Done.{Done}
 use Rattle.world_model.specs.Worlds.{World, new_peer, boot, Happens, Runs, Run}
@@ -10,14 +11,14 @@ use Rattle.world_liveness.specs.Remaining.{is_step, is_request, per_request, ste
 use Rattle.world_liveness.proofs.Leaving.{step_of_run}
 
 -- from a world of a run on
-pub runs_bounded : (budget : ℕ) (budgets : List ℕ) (before later : List Done) (w w' : World) → Run budget budgets before w → Runs w later w'
+pub runs_bounded : (limits : TableLimits) (budget : ℕ) (budgets : List ℕ) (before later : List Done) (w w' : World) → Run limits budget budgets before w → Runs w later w'
     → steps later + steps_left w' ≤ steps_left w + per_request (length budgets) * requests later
-runs_bounded budget budgets before [] w w' run r = subst (λ (x : World). 0 + steps_left x ≤ steps_left w + per_request (length budgets) * 0) (sym r) (omega arith)
-runs_bounded budget budgets before (done ∷ later) w w' run r =
+runs_bounded limits budget budgets before [] w w' run r = subst (λ (x : World). 0 + steps_left x ≤ steps_left w + per_request (length budgets) * 0) (sym r) (omega arith)
+runs_bounded limits budget budgets before (done ∷ later) w w' run r =
     omega (
       arith,
-      step_of_run budget budgets before w r.0 done run r.1,
-      runs_bounded budget budgets (before ++ done ∷ []) later r.0 w' (runs_more (boot budget budgets) w r.0 before done run r.1) r.2,
+      step_of_run limits budget budgets before w r.0 done run r.1,
+      runs_bounded limits budget budgets (before ++ done ∷ []) later r.0 w' (runs_more (boot limits budget budgets) w r.0 before done run r.1) r.2,
       mul-add (per_request (length budgets)) (is_request done.event) (requests later),
     )
 
@@ -34,10 +35,10 @@ new_waiting : (k n : ℕ) → waiting_weight k (replicate n None) ≡ 0
 new_waiting k zero = refl
 new_waiting k (suc n) = omega (arith, new_waiting k n)
 
-boot_left : (budget : ℕ) (budgets : List ℕ) → steps_left (boot budget budgets) ≡ 0
-boot_left budget budgets = omega (arith, new_loads budgets, new_unbegun (4 * length (map new_peer budgets) + 2) budgets, new_waiting (4 * length (map new_peer budgets) + 2) (length budgets))
+boot_left : (limits : TableLimits) (budget : ℕ) (budgets : List ℕ) → steps_left (boot limits budget budgets) ≡ 0
+boot_left limits budget budgets = omega (arith, new_loads budgets, new_unbegun (4 * length (map new_peer budgets) + 2) budgets, new_waiting (4 * length (map new_peer budgets) + 2) (length budgets))
 
-pub run_bounded : (budget : ℕ) (budgets : List ℕ) (events : List Done) (w : World) → Run budget budgets events w
+pub run_bounded : (limits : TableLimits) (budget : ℕ) (budgets : List ℕ) (events : List Done) (w : World) → Run limits budget budgets events w
     → steps events + steps_left w ≤ per_request (length budgets) * requests events
-run_bounded budget budgets events w run =
-    omega (arith, boot_left budget budgets, runs_bounded budget budgets [] events (boot budget budgets) w refl run)
+run_bounded limits budget budgets events w run =
+    omega (arith, boot_left limits budget budgets, runs_bounded limits budget budgets [] events (boot limits budget budgets) w refl run)

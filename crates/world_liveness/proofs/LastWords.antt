@@ -4,6 +4,7 @@ use Rattle.std.specs.Prelude.{drop}
 use Rattle.std.specs.List.{list_all}
 use Rattle.std.proofs.lemmas.Option.{slice_get_within}
 use Rattle.table_replica.proofs.Shared.{get_at}
+use Rattle.filter_table.specs.Limits.{TableLimits}
 use Rattle.filter_table.specs.declared.decision.Vote.{Vote}
 use Rattle.monitor_messages.specs.declared.message.Message.{Message}
 use Rattle.monitor_messages.specs.declared.message.Message.TheVariants as message
@@ -36,7 +37,7 @@ last_vote w r i txn v p rest votes inv inv2 fits at oldest voting all j x at_x =
   where
     by_vote : (o : Option Vote) → slice_get votes j ≡ Some o → slice_get (slice_set votes i (Some v)) j ≡ Some o → commitments x.down ≡ []
     by_vote None a b = absurd (all j b)
-    by_vote (Some v') a b = counted_none w.log w.place j x votes v' voting a (inv.pairs j x at_x)
+    by_vote (Some v') a b = counted_none w.limits w.log w.place j x votes v' voting a (inv.pairs j x at_x)
 
     long : length votes ≡ length w.peers
     long = let a = subst (λ (y : Phase). Alone (length w.peers) (newest w) w.budget y w.place.staged) voting inv.alone_ok in a.4
@@ -45,7 +46,7 @@ last_vote w r i txn v p rest votes inv inv2 fits at oldest voting all j x at_x =
     by_place (inl e) =
         let at_i : slice_get w.peers i ≡ Some x = subst (λ (n : ℕ). slice_get w.peers n ≡ Some x) (sym e) at_x in
         let same : p ≡ x = cc (at, at_i) in
-        subst (λ (y : Peer). commitments y.down ≡ []) same (spoken w.log w.place i p (message.Vote txn v) (commitments rest) (ap commitments oldest) (inv.pairs i p at))
+        subst (λ (y : Peer). commitments y.down ≡ []) same (spoken w.limits w.log w.place i p (message.Vote txn v) (commitments rest) (ap commitments oldest) (inv.pairs i p at))
     by_place (inr ne) =
         let g = get_at votes j (omega (arith, long, slice_get_within w.peers j x at_x)) in
         by_vote g.0 g.1 (get-set_other votes i j (Some v) ne ∙ g.1)
@@ -62,11 +63,11 @@ last_ack w r i txn p rest acks asker inv inv2 at oldest acking all asks x at_x =
     by_place (inl e) =
         let at_i : slice_get w.peers i ≡ Some x = subst (λ (n : ℕ). slice_get w.peers n ≡ Some x) (sym e) at_x in
         let same : p ≡ x = cc (at, at_i) in
-        subst (λ (y : Peer). commitments y.down ≡ []) same (spoken w.log w.place i p (message.Ack txn) (commitments rest) (ap commitments oldest) (inv.pairs i p at))
+        subst (λ (y : Peer). commitments y.down ≡ []) same (spoken w.limits w.log w.place i p (message.Ack txn) (commitments rest) (ap commitments oldest) (inv.pairs i p at))
     by_place (inr ne) =
         let g = get_at acks asker (omega (arith, long, slice_get_within w.peers asker x at_x)) in
         let b : g.0 ≡ true = all_true (slice_set acks i true) all asker g.0 (get-set_other acks i asker true ne ∙ g.1) in
-        finished_none w.log w.place asker x acks acking (g.1 ∙ ap (λ (y : Bool). Some y) b) (inv.pairs asker x at_x)
+        finished_none w.limits w.log w.place asker x acks acking (g.1 ∙ ap (λ (y : Bool). Some y) b) (inv.pairs asker x at_x)
 
 last_word : (w : World) (r : ℕ → Request) (i : ℕ) (p : Peer) (m : Message) (rest : List Message) (out : Outgoing) → Inv w → Inv2 w r → AllFit w → slice_get w.peers i ≡ Some p → p.up ≡ m ∷ rest → IsLastWord w.place w.requests i m out → SendsToEmpty w out
 last_word w r i p m rest nothing inv inv2 fits at e last = λ j x at_x some. absurd (some refl)
@@ -78,17 +79,17 @@ last_word w r i p (message.Ack txn) rest (to_one asker said) inv inv2 fits at e 
     by_place j x at_x some (inr ne) = absurd (some (rw (eq_other asker j ne) refl))
 last_word w r i p m rest out inv inv2 fits at e last = absurd last
 
-pub last_words : (budget : ℕ) (budgets : List ℕ) (core0 : List Stamped) (others : List (List Stamped)) (end : Core0State) (ends : List OtherState) → (h : Computation budget budgets core0 others end ends) → LastWordsComeLast budgets others end ends h.sent h.taken
-last_words budget budgets core0 others end ends h i g later m out at_g sent last j b x d at_b at_x at_d some t = whole t.taken (sent_to j h.sent) t.down (sym rest ∙ none)
+pub last_words : (limits : TableLimits) (budget : ℕ) (budgets : List ℕ) (core0 : List Stamped) (others : List (List Stamped)) (end : Core0State) (ends : List OtherState) → (h : Computation limits budget budgets core0 others end ends) → LastWordsComeLast limits budgets others end ends h.sent h.taken
+last_words limits budget budgets core0 others end ends h i g later m out at_g sent last j b x d at_b at_x at_d some t = whole t.taken (sent_to j h.sent) t.down (sym rest ∙ none)
   where
-    left : RunLeft budget budgets end ends others h.sent h.taken
-    left = run_left budget budgets core0 others end ends h
+    left : RunLeft limits budget budgets end ends others h.sent h.taken
+    left = run_left limits budget budgets core0 others end ends h
 
     w : World
     w = left.world
 
-    known : Known budget budgets (as_listed left.merged) w
-    known = run_known budget budgets (as_listed left.merged) w left.run
+    known : Known limits budget budgets (as_listed left.merged) w
+    known = run_known limits budget budgets (as_listed left.merged) w left.run
 
     p : (p : Peer) × (slice_get w.peers i ≡ Some p)
     p = get_at w.peers i (omega (arith, known.cores, h.cores, slice_get_within others i g at_g))
@@ -105,8 +106,8 @@ last_words budget budgets core0 others end ends h i g later m out at_g sent last
 
     none : rest_down others h.sent j ≡ []
     none = no_stamped (rest_down others h.sent j) (sym (left.under_way j q.0 q.1).0
-        ∙ last_word w (λ k. request_of (suc k) (as_listed left.merged)) i p.0 m.message (messages later) out (run_inv budget budgets (as_listed left.merged) w left.run) (run_stages budget budgets (as_listed left.merged) w left.run)
-        (run_fits budget budgets (as_listed left.merged) w left.run) p.1 oldest is_last j q.0 q.1 some)
+        ∙ last_word w (λ k. request_of (suc k) (as_listed left.merged)) i p.0 m.message (messages later) out (run_inv limits budget budgets (as_listed left.merged) w left.run) (run_stages limits budget budgets (as_listed left.merged) w left.run)
+        (run_fits limits budget budgets (as_listed left.merged) w left.run) p.1 oldest is_last j q.0 q.1 some)
 
     rest : rest_down others h.sent j ≡ drop (length t.taken) (sent_to j h.sent)
-    rest = ap (λ (n : ℕ). drop n (sent_to j h.sent)) (ap takes_in (there_or others j x [] at_x) ∙ takes_are j b other_first d x t.taken t.is_history)
+    rest = ap (λ (n : ℕ). drop n (sent_to j h.sent)) (ap takes_in (there_or others j x [] at_x) ∙ takes_are j b (other_first limits) d x t.taken t.is_history)

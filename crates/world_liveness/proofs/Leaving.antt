@@ -2,6 +2,7 @@
 use Rattle.std.proofs.Common.{◌≡◌, ◌++◌, ◌∷◌, ◌+◌, ◌*◌, ◌≤◌, ◌<◌, ℕ, zero, suc, Bool, true, false, Option, None, Some, List, [], length, slice_get, slice_set, cond, refl, ap, sym, ◌∙◌, subst, arith}
 use Rattle.std.specs.Prelude.{option_to_list}
 use Rattle.std.specs.List.{list_all}
+use Rattle.filter_table.specs.Limits.{TableLimits}
 use Rattle.filter_table.specs.declared.operation.Op.{Op}
 use Rattle.filter_table.specs.Tables.{TableState, made}
 use Rattle.filter_table.specs.declared.decision.Veto.TheVariants as veto
@@ -160,18 +161,18 @@ brings_of n (StartFor core) = omega arith
 brings_of n (Take to from short) = omega arith
 brings_of n (Rx core number packet floor) = omega arith
 
-pub step_of_run : (budget : ℕ) (budgets : List ℕ) (before : List Done) (w w' : World) (done : Done) → Run budget budgets before w → Happens w done.event w' done.answer
+pub step_of_run : (limits : TableLimits) (budget : ℕ) (budgets : List ℕ) (before : List Done) (w w' : World) (done : Done) → Run limits budget budgets before w → Happens w done.event w' done.answer
     → steps_left w' + is_step done.event ≤ steps_left w + per_request (length budgets) * is_request done.event
-step_of_run budget budgets before w w' done run h = by_length (length w'.peers) (length w.peers) long' long
+step_of_run limits budget budgets before w w' done run h = by_length (length w'.peers) (length w.peers) long' long
   where
     long : length w.peers ≡ length budgets
-    long = (run_known budget budgets before w run).cores
+    long = (run_known limits budget budgets before w run).cores
 
     long' : length w'.peers ≡ length budgets
-    long' = (run_known budget budgets (before ++ done ∷ []) w' (runs_more (boot budget budgets) w w' before done run h)).cores
+    long' = (run_known limits budget budgets (before ++ done ∷ []) w' (runs_more (boot limits budget budgets) w w' before done run h)).cores
 
     step : left_among (length budgets) w' + is_step done.event ≤ left_among (length budgets) w + brings (length budgets) done.event
-    step = step_leaves (length budgets) w w' done.event done.answer long (run_inv budget budgets before w run) h
+    step = step_leaves (length budgets) w w' done.event done.answer long (run_inv limits budget budgets before w run) h
 
     by_length : (a b : ℕ) → a ≡ length budgets → b ≡ length budgets → left_among a w' + is_step done.event ≤ left_among b w + per_request (length budgets) * is_request done.event
     by_length a b ea eb = rw (ea, eb) (omega (arith, step, brings_of (length budgets) done.event))

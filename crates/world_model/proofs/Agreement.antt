@@ -1,6 +1,7 @@
 -- The laws of runs follow from the invariant.
 use Rattle.std.proofs.Common.{◌≡◌, ◌≢◌, ◌+◌, ◌⊎◌, inl, inr, ℕ, zero, suc, Bool, true, false, Option, Some, None, List, [], ◌∷◌, length, slice_get, refl, ap, sym, ◌∙◌, subst, arith}
 use Rattle.std.specs.Prelude.{option_map}
+use Rattle.filter_table.specs.Limits.{TableLimits}
 use Rattle.filter_table.specs.declared.operation.Op.{Op}
 use Rattle.filter_table.proofs.Tables.{allowed_elsewhere}
 use Rattle.monitor_messages.specs.declared.message.Message.{Message}
@@ -36,20 +37,20 @@ pub runs_inv : (w w' : World) (events : List Done) → Inv w → Runs w events w
 runs_inv w w' [] inv r = rw r inv
 runs_inv w w' (d ∷ ds) inv r = runs_inv r.0 w' ds (event_inv w r.0 d.event d.answer inv r.1) r.2
 
-pub run_inv : (budget : ℕ) (budgets : List ℕ) (events : List Done) (w : World) → Run budget budgets events w → Inv w
-run_inv budget budgets events w r = runs_inv (boot budget budgets) w events (boot_inv budget budgets) r
+pub run_inv : (limits : TableLimits) (budget : ℕ) (budgets : List ℕ) (events : List Done) (w : World) → Run limits budget budgets events w → Inv w
+run_inv limits budget budgets events w r = runs_inv (boot limits budget budgets) w events (boot_inv limits budget budgets) r
 
 -- What the invariant says of versions, budgets and rest
 
-pub pair_version : (log : List Op) (place : CoordinatorPlace) (i : ℕ) (p : Peer) → Pair log place i p → (p.version ≡ length log) ⊎ (p.version + 1 ≡ length log)
-pair_version log place i p (at_rest ph is) = inl is.version_is
-pair_version log place i p (asked votes op last ph st at le is) = inl is.version_is
-pair_version log place i p (voted votes op v short ph st at c is) = inl is.version_is
-pair_version log place i p (counted votes op v short ph st at c is) = inl is.version_is
-pair_version log place i p (to_commit acks op version ph at le fits entry is) = inr (omega (arith, is.version_is, le))
-pair_version log place i p (to_abort acks v st ph at is) = inl is.version_is
-pair_version log place i p (acked acks ph at is) = inl is.version_is
-pair_version log place i p (finished acks ph at is) = inl is.version_is
+pub pair_version : (limits : TableLimits) (log : List Op) (place : CoordinatorPlace) (i : ℕ) (p : Peer) → Pair limits log place i p → (p.version ≡ length log) ⊎ (p.version + 1 ≡ length log)
+pair_version limits log place i p (at_rest ph is) = inl is.version_is
+pair_version limits log place i p (asked votes op last ph st at le is) = inl is.version_is
+pair_version limits log place i p (voted votes op v short ph st at c is) = inl is.version_is
+pair_version limits log place i p (counted votes op v short ph st at c is) = inl is.version_is
+pair_version limits log place i p (to_commit acks op version ph at le fits entry is) = inr (omega (arith, is.version_is, le))
+pair_version limits log place i p (to_abort acks v st ph at is) = inl is.version_is
+pair_version limits log place i p (acked acks ph at is) = inl is.version_is
+pair_version limits log place i p (finished acks ph at is) = inl is.version_is
 
 -- what is read of a core is read of the core
 pub of_core : {A : Type 0} (f : Peer → A) (peers : List Peer) (i : ℕ) (x : A) → (o : Option Peer) → slice_get peers i ≡ o → option_map f o ≡ Some x → (p : Peer) × (slice_get peers i ≡ Some p) × (f p ≡ x)
@@ -57,16 +58,16 @@ of_core f peers i x None at h = absurd cc
 of_core f peers i x (Some p) at h = (p, at, cc)
 
 -- a pair with nothing under way: core 0 is idle, or has the core's word
-quiet : (log : List Op) (place : CoordinatorPlace) (i : ℕ) (p : Peer) → Pair log place i p → commitments p.down ≡ [] → commitments p.up ≡ []
+quiet : (limits : TableLimits) (log : List Op) (place : CoordinatorPlace) (i : ℕ) (p : Peer) → Pair limits log place i p → commitments p.down ≡ [] → commitments p.up ≡ []
     → (place.phase ≡ Idle) ⊎ (((votes : List (Option Vote)) → place.phase ≡ Voting votes → slice_get votes i ≢ Some None) × ((acks : List Bool) → place.phase ≡ Acking acks → slice_get acks i ≢ Some false))
-quiet log place i p (at_rest ph is) d u = inl ph
-quiet log place i p (asked votes op last ph st at le is) d u = absurd (cc (is.down_is))
-quiet log place i p (voted votes op v short ph st at c is) d u = absurd (cc (is.up_is))
-quiet log place i p (counted votes op v short ph st at c is) d u = inr (λ vs e none. (let same : vs ≡ votes = cc in let x : slice_get votes i ≡ Some None = rw (← same) none in cc), λ as' e none. cc)
-quiet log place i p (to_commit acks op version ph at le fits entry is) d u = absurd (cc (is.down_is))
-quiet log place i p (to_abort acks v st ph at is) d u = absurd (cc (is.down_is))
-quiet log place i p (acked acks ph at is) d u = absurd (cc (is.up_is))
-quiet log place i p (finished acks ph at is) d u = inr (λ vs e none. cc, λ as' e none. (let same : as' ≡ acks = cc in let x : slice_get acks i ≡ Some false = rw (← same) none in cc))
+quiet limits log place i p (at_rest ph is) d u = inl ph
+quiet limits log place i p (asked votes op last ph st at le is) d u = absurd (cc (is.down_is))
+quiet limits log place i p (voted votes op v short ph st at c is) d u = absurd (cc (is.up_is))
+quiet limits log place i p (counted votes op v short ph st at c is) d u = inr (λ vs e none. (let same : vs ≡ votes = cc in let x : slice_get votes i ≡ Some None = rw (← same) none in cc), λ as' e none. cc)
+quiet limits log place i p (to_commit acks op version ph at le fits entry is) d u = absurd (cc (is.down_is))
+quiet limits log place i p (to_abort acks v st ph at is) d u = absurd (cc (is.down_is))
+quiet limits log place i p (acked acks ph at is) d u = absurd (cc (is.up_is))
+quiet limits log place i p (finished acks ph at is) d u = inr (λ vs e none. cc, λ as' e none. (let same : as' ≡ acks = cc in let x : slice_get acks i ≡ Some false = rw (← same) none in cc))
 
 pub idle_if_quiet : (w : World) → Inv w → ((i : ℕ) (p : Peer) → slice_get w.peers i ≡ Some p → (commitments p.down ≡ []) × (commitments p.up ≡ [])) → w.place.phase ≡ Idle
 idle_if_quiet w inv empty = by_phase w.place.phase refl
@@ -77,7 +78,7 @@ idle_if_quiet w inv empty = by_phase w.place.phase refl
         let a = subst (λ (x : Phase). Alone (length w.peers) (newest w) w.budget x w.place.staged) e inv.alone_ok in
         let q = get_at w.peers a.1 (omega (arith, a.4, slice_get_within votes a.1 None a.5)) in
         let both = empty a.1 q.0 q.1 in
-        from_quiet (quiet w.log w.place a.1 q.0 (inv.pairs a.1 q.0 q.1) both.0 both.1) (λ n. n.0 votes e a.5)
+        from_quiet (quiet w.limits w.log w.place a.1 q.0 (inv.pairs a.1 q.0 q.1) both.0 both.1) (λ n. n.0 votes e a.5)
       where
         from_quiet : {B : Type 0} → (w.place.phase ≡ Idle) ⊎ B → (B → ⊥) → w.place.phase ≡ Idle
         from_quiet (inl i) no' = i
@@ -86,7 +87,7 @@ idle_if_quiet w inv empty = by_phase w.place.phase refl
         let a = subst (λ (x : Phase). Alone (length w.peers) (newest w) w.budget x w.place.staged) e inv.alone_ok in
         let q = get_at w.peers a.0 (omega (arith, a.2, slice_get_within acks a.0 false a.3)) in
         let both = empty a.0 q.0 q.1 in
-        from_quiet (quiet w.log w.place a.0 q.0 (inv.pairs a.0 q.0 q.1) both.0 both.1) (λ n. n.1 acks e a.3)
+        from_quiet (quiet w.limits w.log w.place a.0 q.0 (inv.pairs a.0 q.0 q.1) both.0 both.1) (λ n. n.1 acks e a.3)
       where
         from_quiet : {B : Type 0} → (w.place.phase ≡ Idle) ⊎ B → (B → ⊥) → w.place.phase ≡ Idle
         from_quiet (inl i) no' = i
@@ -94,7 +95,7 @@ idle_if_quiet w inv empty = by_phase w.place.phase refl
 
 -- No message is strange
 
-fits_below : (w : World) (i : ℕ) (p : Peer) (m : Message) (rest : List Message) → Inv w → commitments p.down ≡ m ∷ rest → Pair w.log w.place i p → Fits (newest w) p.budget p.place m
+fits_below : (w : World) (i : ℕ) (p : Peer) (m : Message) (rest : List Message) → Inv w → commitments p.down ≡ m ∷ rest → Pair w.limits w.log w.place i p → Fits (newest w) p.budget p.place m
 fits_below w i p m rest inv d (asked votes op last ph st at le is) =
     let e : m ≡ message.Prepare w.place.last op = cc (d, is.down_is) in
     let a = subst (λ (o : Option Op). Alone (length w.peers) (newest w) w.budget (Voting votes) o) st (subst (λ (x : Phase). Alone (length w.peers) (newest w) w.budget x w.place.staged) ph inv.alone_ok) in
@@ -110,7 +111,7 @@ fits_below w i p m rest inv d (counted votes op v short ph st at c is) = absurd 
 fits_below w i p m rest inv d (acked acks ph at is) = absurd (cc (d, is.down_is))
 fits_below w i p m rest inv d (finished acks ph at is) = absurd (cc (d, is.down_is))
 
-expects_up : (w : World) (i : ℕ) (p : Peer) (m : Message) (rest : List Message) → commitments p.up ≡ m ∷ rest → Pair w.log w.place i p → Expects w.place w.requests i m
+expects_up : (w : World) (i : ℕ) (p : Peer) (m : Message) (rest : List Message) → commitments p.up ≡ m ∷ rest → Pair w.limits w.log w.place i p → Expects w.place w.requests i m
 expects_up w i p m rest u (voted votes op v short ph st at c is) =
     let e : m ≡ message.Vote w.place.last v = cc (u, is.up_is) in rw e (votes, ph, refl, at)
 expects_up w i p m rest u (acked acks ph at is) =
@@ -157,5 +158,5 @@ runs_stages w w' r [] inv inv2 h = rw h inv2
 runs_stages w w' r (d ∷ ds) inv inv2 h =
     runs_stages h.0 w' (λ j. followed (suc j) (r j) d.event d.answer) ds (event_inv w h.0 d.event d.answer inv h.1) (event_stages w h.0 r d.event d.answer inv inv2 h.1) h.2
 
-pub run_stages : (budget : ℕ) (budgets : List ℕ) (events : List Done) (w : World) → Run budget budgets events w → Inv2 w (λ j. request_of (suc j) events)
-run_stages budget budgets events w h = runs_stages (boot budget budgets) w (λ j. unsent) events (boot_inv budget budgets) (boot_stages budget budgets) h
+pub run_stages : (limits : TableLimits) (budget : ℕ) (budgets : List ℕ) (events : List Done) (w : World) → Run limits budget budgets events w → Inv2 w (λ j. request_of (suc j) events)
+run_stages limits budget budgets events w h = runs_stages (boot limits budget budgets) w (λ j. unsent) events (boot_inv limits budget budgets) (boot_stages limits budget budgets) h

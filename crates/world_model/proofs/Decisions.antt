@@ -1,6 +1,7 @@
 -- Each decision of a run is right.
 use Rattle.std.proofs.Common.{◌≡◌, ◌≢◌, ◌+◌, ◌<◌, ◌⊎◌, inl, inr, ℕ, zero, suc, Bool, Option, Some, None, List, [], ◌∷◌, length, map, slice_get, slice_set, refl, ap, sym, ◌∙◌, subst, arith, replicate}
 use Rattle.std.specs.Prelude.{option_map}
+use Rattle.filter_table.specs.Limits.{TableLimits}
 use Rattle.filter_table.specs.declared.operation.Op.{Op}
 use Rattle.filter_table.specs.Tables.{TableState, table, after, instructions, Allowed}
 use Rattle.monitor_messages.specs.declared.message.Message.{Message}
@@ -33,18 +34,18 @@ use Rattle.std.proofs.lemmas.Option.{slice_get_within}
 use Rattle.table_replica.proofs.Shared.{get_at}
 
 -- what is known after a run
-record After (budget : ℕ) (budgets : List ℕ) (events : List Done) (w : World) : Type 0 where
+record After (limits : TableLimits) (budget : ℕ) (budgets : List ℕ) (events : List Done) (w : World) : Type 0 where
   inv : Inv w
   inv2 : Inv2 w (λ j. request_of (suc j) events)
-  known : Known budget budgets events w
+  known : Known limits budget budgets events w
   numbers : Numbered events w
 
-after_run : (budget : ℕ) (budgets : List ℕ) (events : List Done) (w : World) → Run budget budgets events w → After budget budgets events w
-after_run budget budgets events w run = record {
-  inv = run_inv budget budgets events w run;
-  inv2 = run_stages budget budgets events w run;
-  known = run_known budget budgets events w run;
-  numbers = run_numbered budget budgets events w run;
+after_run : (limits : TableLimits) (budget : ℕ) (budgets : List ℕ) (events : List Done) (w : World) → Run limits budget budgets events w → After limits budget budgets events w
+after_run limits budget budgets events w run = record {
+  inv = run_inv limits budget budgets events w run;
+  inv2 = run_stages limits budget budgets events w run;
+  known = run_known limits budget budgets events w run;
+  numbers = run_numbered limits budget budgets events w run;
 }
 
 -- every other core is asked under a new number
@@ -70,7 +71,7 @@ decides_start events w w' op answer n h = by_case h.here.starts
     by_case : Starts (length w.peers) (newest w) w.budget w.place op h.place h.committed h.told → DecidesRightly events w (Start op) w' answer
     by_case (refused fault a p c t) = rw (is _ t) (moves w.place None _ p c t, (refl, inr (fault, a, refl)))
     by_case (unstaged f p c t) = rw (is _ t) (moves w.place None _ p c t, (refl, inl (refl, f)))
-    by_case (alone a m p c t) = rw (is _ t) (let next = ap (λ (x : World). x.log) (moves _ (Some op) _ p c t) in (next, (m, next_entry w.log w'.log op _ next refl)))
+    by_case (alone a m p c t) = rw (is _ t) (let next = ap (λ (x : World). x.log) (moves _ (Some op) _ p c t) in (next, (m, rw (ap (λ (x : World). x.limits) (moves _ (Some op) _ p c t)) (next_entry w.limits w.log w'.log op _ next refl))))
     by_case (prepared a m p c t) = rw (is _ t) (prepares events w op w.requests w' n a (moves _ None _ p c t))
 
 begins : (events : List Done) (w w' : World) (entry : ℕ) (op : Op) (place : CoordinatorPlace) (requests' : Requests) (committed : Option Op) (begun : Step) (answer : Answer) → Numbered events w
@@ -93,33 +94,33 @@ begins events w w' entry op place requests' committed begun answer n its is_sent
     by_case (alone al m p c t) = absurd (omega (arith, m, long, slice_get_within w.requests.waiting entry (Some op) its))
     by_case (prepared al m p c t) = rw (is _ t) (op, record { waits = its; is_sent = is_sent }, prepares events w op _ w' n al (moved _ None _ p c t))
 
-decides_start_for : (budget : ℕ) (budgets : List ℕ) (events : List Done) (w w' : World) (i : ℕ) (answer : Answer) → After budget budgets events w → HappensStartFor w i w' answer → DecidesRightly events w (StartFor (suc i)) w' answer
-decides_start_for budget budgets events w w' i answer k h =
+decides_start_for : (limits : TableLimits) (budget : ℕ) (budgets : List ℕ) (events : List Done) (w w' : World) (i : ℕ) (answer : Answer) → After limits budget budgets events w → HappensStartFor w i w' answer → DecidesRightly events w (StartFor (suc i)) w' answer
+decides_start_for limits budget budgets events w w' i answer k h =
     let long : length w.requests.waiting ≡ length w.peers = k.known.waiting_long ∙ sym k.known.cores in
     begins events w w' i h.here.starts.op h.place h.requests h.committed h.here.starts.begun answer k.numbers h.here.starts.is_waiting
     (waits_sent w (λ j. request_of (suc j) events) i h.here.starts.op k.inv2 long h.here.starts.is_waiting) long h.here.starts.next
     (h.next ∙ rw h.here.starts.tells refl) (h.here.is_answer ∙ ap (λ (s : Step). start_told s.txn s.decided) h.here.starts.tells) h.here.starts.starts
 
 -- the vote of a core that has voted was cast on the operation
-record CastAt (log : List Op) (last : ℕ) (op : Op) (q : Peer) (v : Vote) : Type 0 where
+record CastAt (limits : TableLimits) (log : List Op) (last : ℕ) (op : Op) (q : Peer) (v : Vote) : Type 0 where
   short : Bool
-  casts : Casts short (table log (length log)) q.budget op v
+  casts : Casts short (table limits log (length log)) q.budget op v
   voted_is : q.place.voted ≡ Some v
   last_is : q.place.last ≡ last
 
-cast_at : (log : List Op) (last : ℕ) (votes : List (Option Vote)) (op : Op) (i : ℕ) (q : Peer) (v : Vote) → slice_get votes i ≡ Some (Some v) → Pair log (voting_on last votes op) i q → CastAt log last op q v
+cast_at : (limits : TableLimits) (log : List Op) (last : ℕ) (votes : List (Option Vote)) (op : Op) (i : ℕ) (q : Peer) (v : Vote) → slice_get votes i ≡ Some (Some v) → Pair limits log (voting_on last votes op) i q → CastAt limits log last op q v
 unfolding voting_on
-cast_at log last votes op i q v at (counted vs o v' short ph st at' c is) =
+cast_at limits log last votes op i q v at (counted vs o v' short ph st at' c is) =
     let e : vs ≡ votes = cc in let eo : o ≡ op = cc in
     let ev : v' ≡ v = (let x : slice_get votes i ≡ Some (Some v') = rw (← e) at' in cc) in
-    record { short = short; casts = subst (λ (x : Vote). Casts short (table log (length log)) q.budget op x) ev (subst (λ (x : Op). Casts short (table log (length log)) q.budget x v') eo c); voted_is = is.voted_is ∙ ap (λ (x : Vote). Some x) ev; last_is = is.last_is }
-cast_at log last votes op i q v at (asked vs o l ph st at' le is) = absurd (let e : vs ≡ votes = cc in let x : slice_get votes i ≡ Some None = rw (← e) at' in cc)
-cast_at log last votes op i q v at (voted vs o v' short ph st at' c is) = absurd (let e : vs ≡ votes = cc in let x : slice_get votes i ≡ Some None = rw (← e) at' in cc)
-cast_at log last votes op i q v at (at_rest ph is) = absurd cc
-cast_at log last votes op i q v at (to_commit acks o version ph at' le fits entry is) = absurd cc
-cast_at log last votes op i q v at (to_abort acks v' st ph at' is) = absurd cc
-cast_at log last votes op i q v at (acked acks ph at' is) = absurd cc
-cast_at log last votes op i q v at (finished acks ph at' is) = absurd cc
+    record { short = short; casts = subst (λ (x : Vote). Casts short (table limits log (length log)) q.budget op x) ev (subst (λ (x : Op). Casts short (table limits log (length log)) q.budget x v') eo c); voted_is = is.voted_is ∙ ap (λ (x : Vote). Some x) ev; last_is = is.last_is }
+cast_at limits log last votes op i q v at (asked vs o l ph st at' le is) = absurd (let e : vs ≡ votes = cc in let x : slice_get votes i ≡ Some None = rw (← e) at' in cc)
+cast_at limits log last votes op i q v at (voted vs o v' short ph st at' c is) = absurd (let e : vs ≡ votes = cc in let x : slice_get votes i ≡ Some None = rw (← e) at' in cc)
+cast_at limits log last votes op i q v at (at_rest ph is) = absurd cc
+cast_at limits log last votes op i q v at (to_commit acks o version ph at' le fits entry is) = absurd cc
+cast_at limits log last votes op i q v at (to_abort acks v' st ph at' is) = absurd cc
+cast_at limits log last votes op i q v at (acked acks ph at' is) = absurd cc
+cast_at limits log last votes op i q v at (finished acks ph at' is) = absurd cc
 
 veto_holds : (short : Bool) (s : TableState) (b : ℕ) (op : Op) (v : Vote) → v ≢ vote.Yes → Casts short s b op v
     → ((v ≡ vote.NoMemory) × (veto_by v ≡ veto.NoMemory) × Allowed s b op None) ⊎ ((v ≡ vote.Budget) × (veto_by v ≡ veto.Budget) × (b < instructions (after s op)))
@@ -148,9 +149,9 @@ version-set ps i j p rest at = by_place (same_or_not i j)
         (ap (option_map (λ (x : Peer). x.version)) (get-set_same ps i (record p { up = rest }) p at) ∙ sym (ap (option_map (λ (x : Peer). x.version)) at))
     by_place (inr ne) = ap (option_map (λ (x : Peer). x.version)) (get-set_other ps i j (record p { up = rest }) ne)
 
-decides_vote : (budget : ℕ) (budgets : List ℕ) (events : List Done) (w w' : World) (i txn : ℕ) (v : Vote) (short : Bool) (answer : Answer) (h : HappensUp w i w' answer) → h.m ≡ message.Vote txn v
-    → VoteAt (newest w) w.place w.requests i txn v h.place h.requests h.committed h.told answer → After budget budgets events w → DecidesRightly events w (Take 0 (suc i) short) w' answer
-decides_vote budget budgets events w w' i txn v short answer h m here k = by_tally here.hears.tallies
+decides_vote : (limits : TableLimits) (budget : ℕ) (budgets : List ℕ) (events : List Done) (w w' : World) (i txn : ℕ) (v : Vote) (short : Bool) (answer : Answer) (h : HappensUp w i w' answer) → h.m ≡ message.Vote txn v
+    → VoteAt (newest w) w.place w.requests i txn v h.place h.requests h.committed h.told answer → After limits budget budgets events w → DecidesRightly events w (Take 0 (suc i) short) w' answer
+decides_vote limits budget budgets events w w' i txn v short answer h m here k = by_tally here.hears.tallies
   where
     g : List Peer
     g = slice_set w.peers i (record h.peer { up = h.rest })
@@ -175,7 +176,7 @@ decides_vote budget budgets events w w' i txn v short answer h m here k = by_tal
     heard : (j : ℕ) (x : Vote) → slice_get votes' j ≡ Some (Some x) → vote_of (suc j) txn events ≡ Some x
     heard j x at =
         let q = get_at g j (omega (arith, long, length-slice_set w.peers i (record h.peer { up = h.rest }), slice_get_within votes' j (Some x) at)) in
-        let c = cast_at w.log w.place.last votes' here.hears.op j q.0 x at (ps.pairs j q.0 q.1) in
+        let c = cast_at w.limits w.log w.place.last votes' here.hears.op j q.0 x at (ps.pairs j q.0 q.1) in
         let p = was Stands w.peers g j q.0 (stands_set w.peers i h.peer h.rest h.is_peer) q.1 in
         let last : p.0.place.last ≡ txn = sym (ap (λ (y : ParticipantPlace). y.last) p.2.0) ∙ (c.last_is ∙ sym here.hears.number) in
         subst (λ (n : ℕ). vote_of (suc j) n events ≡ Some x) last (k.known.votes j p.0 x p.1 (sym (ap (λ (y : ParticipantPlace). y.voted) p.2.0) ∙ c.voted_is))
@@ -192,7 +193,7 @@ decides_vote budget budgets events w w' i txn v short answer h m here k = by_tal
     veto_of_least : (core : ℕ) (against : Vote) → LeastNo votes' core against → VetoedBy (vote_by events txn) (λ entry. budget_at w (suc entry)) (newest w) here.hears.op core (veto_by against)
     veto_of_least core against least =
         let q = get_at g least.entry (omega (arith, long, length-slice_set w.peers i (record h.peer { up = h.rest }), slice_get_within votes' least.entry (Some against) least.said)) in
-        let c = cast_at w.log w.place.last votes' here.hears.op least.entry q.0 against least.said (ps.pairs least.entry q.0 q.1) in
+        let c = cast_at w.limits w.log w.place.last votes' here.hears.op least.entry q.0 against least.said (ps.pairs least.entry q.0 q.1) in
         let p = was Stands w.peers g least.entry q.0 (stands_set w.peers i h.peer h.rest h.is_peer) q.1 in
         record {
           entry = least.entry;
@@ -217,7 +218,7 @@ decides_vote budget budgets events w w' i txn v short answer h m here k = by_tal
       begun_here,
       ap (λ (x : World). x.log) (moves _ (Some here.hears.op) _ p c t),
       (
-        next_entry w.log w'.log here.hears.op _ (ap (λ (x : World). x.log) (moves _ (Some here.hears.op) _ p c t)) refl,
+        rw (ap (λ (x : World). x.limits) (moves _ (Some here.hears.op) _ p c t)) (next_entry w.limits w.log w'.log here.hears.op _ (ap (λ (x : World). x.log) (moves _ (Some here.hears.op) _ p c t)) refl),
         λ j lt. (let at = get_at votes' j (omega (arith, long, lt)) in heard j vote.Yes (at.1 ∙ ap (λ (x : Option Vote). Some x) (all j at.0 at.1))),
       ),
     )
@@ -226,14 +227,15 @@ decides_vote budget budgets events w w' i txn v short answer h m here k = by_tal
       here.hears.op,
       begun_here,
       (ap (λ (x : World). x.log) (moves _ None _ p c t), λ n. ap (λ (x : World). version_at x n) (moves _ None _ p c t) ∙ versions (record { last = txn; phase = Acking (replicate (length votes') Bool.false); staged = None }) (message.Abort txn) n),
-      subst (λ (l : List Op). VetoedBy (vote_by events txn) (λ entry. budget_at w (suc entry)) (table l (length w.log)) here.hears.op core (veto_by against)) (sym (ap (λ (x : World). x.log) (moves _ None _ p c t))) (veto_of_least core against least),
+      subst (λ (m : TableLimits). VetoedBy (vote_by events txn) (λ entry. budget_at w (suc entry)) (table m w'.log (length w.log)) here.hears.op core (veto_by against)) (sym (ap (λ (x : World). x.limits) (moves _ None _ p c t)))
+          (subst (λ (l : List Op). VetoedBy (vote_by events txn) (λ entry. budget_at w (suc entry)) (table w.limits l (length w.log)) here.hears.op core (veto_by against)) (sym (ap (λ (x : World). x.log) (moves _ None _ p c t))) (veto_of_least core against least)),
     )
 
-decides_up : (budget : ℕ) (budgets : List ℕ) (events : List Done) (w w' : World) (i : ℕ) (short : Bool) (answer : Answer) → After budget budgets events w → HappensUp w i w' answer → DecidesRightly events w (Take 0 (suc i) short) w' answer
-decides_up budget budgets events w w' i short answer k h = by_message h.m refl h.here
+decides_up : (limits : TableLimits) (budget : ℕ) (budgets : List ℕ) (events : List Done) (w w' : World) (i : ℕ) (short : Bool) (answer : Answer) → After limits budget budgets events w → HappensUp w i w' answer → DecidesRightly events w (Take 0 (suc i) short) w' answer
+decides_up limits budget budgets events w w' i short answer k h = by_message h.m refl h.here
   where
     by_message : (m : Message) → h.m ≡ m → TakesUpAt (newest w) w.place w.requests i m h.place h.requests h.committed h.told answer → DecidesRightly events w (Take 0 (suc i) short) w' answer
-    by_message (message.Vote txn v) e here = decides_vote budget budgets events w w' i txn v short answer h e here k
+    by_message (message.Vote txn v) e here = decides_vote limits budget budgets events w w' i txn v short answer h e here k
     by_message (message.Ack txn) e here = rw here.is_answer tt
     by_message (message.Submit op) e here = rw here.is_answer tt
     by_message m e here = absurd here
@@ -256,14 +258,14 @@ decides_down events w w' i short answer h = by_message h.m h.here
     by_message (message.Ack txn) here = absurd here.answers
     by_message (message.Submit op) here = absurd here.answers
 
-decides_rightly : (budget : ℕ) (budgets : List ℕ) (events : List Done) (w w' : World) (event : Event) (answer : Answer) → After budget budgets events w → Happens w event w' answer → DecidesRightly events w event w' answer
-decides_rightly budget budgets events w w' (Start op) answer k h = decides_start events w w' op answer k.numbers h
-decides_rightly budget budgets events w w' (StartFor (suc i)) answer k h = decides_start_for budget budgets events w w' i answer k h
-decides_rightly budget budgets events w w' (Submit (suc i) op) answer k h = rw h.here.is_answer tt
-decides_rightly budget budgets events w w' (Take zero (suc i) short) answer k h = decides_up budget budgets events w w' i short answer k h
-decides_rightly budget budgets events w w' (Take (suc i) zero short) answer k h = decides_down events w w' i short answer h
-decides_rightly budget budgets events w w' (Rx core number packet floor) answer k h = rw h.here.is_answer tt
-decides_rightly budget budgets events w w' event answer k h = absurd h
+decides_rightly : (limits : TableLimits) (budget : ℕ) (budgets : List ℕ) (events : List Done) (w w' : World) (event : Event) (answer : Answer) → After limits budget budgets events w → Happens w event w' answer → DecidesRightly events w event w' answer
+decides_rightly limits budget budgets events w w' (Start op) answer k h = decides_start events w w' op answer k.numbers h
+decides_rightly limits budget budgets events w w' (StartFor (suc i)) answer k h = decides_start_for limits budget budgets events w w' i answer k h
+decides_rightly limits budget budgets events w w' (Submit (suc i) op) answer k h = rw h.here.is_answer tt
+decides_rightly limits budget budgets events w w' (Take zero (suc i) short) answer k h = decides_up limits budget budgets events w w' i short answer k h
+decides_rightly limits budget budgets events w w' (Take (suc i) zero short) answer k h = decides_down events w w' i short answer h
+decides_rightly limits budget budgets events w w' (Rx core number packet floor) answer k h = rw h.here.is_answer tt
+decides_rightly limits budget budgets events w w' event answer k h = absurd h
 
-pub run_decides : (budget : ℕ) (budgets : List ℕ) (events : List Done) (w w' : World) (event : Event) (answer : Answer) → Run budget budgets events w → Happens w event w' answer → DecidesRightly events w event w' answer
-run_decides budget budgets events w w' event answer run h = decides_rightly budget budgets events w w' event answer (after_run budget budgets events w run) h
+pub run_decides : (limits : TableLimits) (budget : ℕ) (budgets : List ℕ) (events : List Done) (w w' : World) (event : Event) (answer : Answer) → Run limits budget budgets events w → Happens w event w' answer → DecidesRightly events w event w' answer
+run_decides limits budget budgets events w w' event answer run h = decides_rightly limits budget budgets events w w' event answer (after_run limits budget budgets events w run) h

@@ -1,5 +1,6 @@
 -- Requests followed to their decisions and to the log.
 use Rattle.std.proofs.Common.{◌≡◌, ◌≢◌, ◌+◌, ◌≤◌, ◌⊎◌, ◌==◌, inl, inr, ℕ, zero, suc, Bool, true, false, cond, Option, Some, List, [], ◌∷◌, ◌++◌, length, slice_get, slice_set, refl, ap, sym, ◌∙◌, subst, arith, append_assoc}
+use Rattle.filter_table.specs.Limits.{TableLimits}
 use Rattle.filter_table.specs.declared.operation.Op.{Op}
 use Rattle.filter_table.specs.Tables.{TableState, made, table}
 use Rattle.filter_table.proofs.Tables.{table_front, table_version}
@@ -197,8 +198,8 @@ pub record Numbered (events : List Done) (w : World) : Type 0 where
   pub given : (txn core : ℕ) (op : Op) → Begun events txn core op → txn ≤ w.place.last
   pub under_vote : (votes : List (Option Vote)) → w.place.phase ≡ Voting votes → (op : Op) × (core : ℕ) × (w.place.staged ≡ Some op) × Begun events w.place.last core op
 
-numbered_boot : (budget : ℕ) (budgets : List ℕ) → Numbered [] (boot budget budgets)
-numbered_boot budget budgets = record { given = λ txn core op b. absurd (none b.before b.after _ b.is_among); under_vote = λ votes ph. absurd cc }
+numbered_boot : (limits : TableLimits) (budget : ℕ) (budgets : List ℕ) → Numbered [] (boot limits budget budgets)
+numbered_boot limits budget budgets = record { given = λ txn core op b. absurd (none b.before b.after _ b.is_among); under_vote = λ votes ph. absurd cc }
   where
     none : (before after : List Done) (d : Done) → [] ≡ before ++ d ∷ after → ⊥
     none [] after d e = cc
@@ -220,9 +221,9 @@ numbered_more events w w' done n m = record {
         (u.0, u.1, x.2 ∙ u.2, begun_more events done w'.place.last u.1 u.0 (subst (λ (k : ℕ). Begun events k u.1 u.0) (sym x.3) u.3))
     votes_on (inr x) = (x.0, x.1, x.2, record { before = events; after = []; event = done.event; is_among = ap (λ (a : Answer). events ++ record { event = done.event; answer = a } ∷ []) x.3; begins = x.4 })
 
-pub run_numbered : (budget : ℕ) (budgets : List ℕ) (events : List Done) (w : World) → Run budget budgets events w → Numbered events w
-run_numbered budget budgets = run_keeps budget budgets Numbered (numbered_boot budget budgets)
-    (λ events w w' done run n h. (let k = run_known budget budgets events w run in numbered_more events w w' done n (event_numbers events w w' done.event done.answer (run_stages budget budgets events w run) (k.waiting_long ∙ sym k.cores) h)))
+pub run_numbered : (limits : TableLimits) (budget : ℕ) (budgets : List ℕ) (events : List Done) (w : World) → Run limits budget budgets events w → Numbered events w
+run_numbered limits budget budgets = run_keeps limits budget budgets Numbered (numbered_boot limits budget budgets)
+    (λ events w w' done run n h. (let k = run_known limits budget budgets events w run in numbered_more events w w' done n (event_numbers events w w' done.event done.answer (run_stages limits budget budgets events w run) (k.waiting_long ∙ sym k.cores) h)))
 
 -- Entries of the log
 
@@ -233,37 +234,37 @@ same_sent : (old new : List Peer) (out : Outgoing) → Matches Same old new → 
 same_sent old new out m = matches_sent Same old new out (λ i p q m e. e) m
 
 -- the entry that a commit adds
-pub next_entry : (log log' : List Op) (op : Op) (version : ℕ) → log' ≡ log ++ op ∷ [] → version ≡ (table log (length log)).version + 1 → IsEntryAt log' (length log) op version (made (table log (length log)) op)
-next_entry log log' op version next is = rw next (record {
+pub next_entry : (limits : TableLimits) (log log' : List Op) (op : Op) (version : ℕ) → log' ≡ log ++ op ∷ [] → version ≡ (table limits log (length log)).version + 1 → IsEntryAt limits log' (length log) op version (made (table limits log (length log)) op)
+next_entry limits log log' op version next is = rw next (record {
   entry = get_end log op;
-  is_version = omega (arith, is, table_version log);
-  is_made = rw (table_front log (op ∷ []) (length log) (omega arith)) refl;
+  is_version = omega (arith, is, table_version limits log);
+  is_made = rw (table_front limits log (op ∷ []) (length log) (omega arith)) refl;
 })
 
-entered_more : (log more : List Op) (op : Op) (d : Decision) → IsEntered log op d → IsEntered (log ++ more) op d
-entered_more log more op (Committed version id) e =
+entered_more : (limits : TableLimits) (log more : List Op) (op : Op) (d : Decision) → IsEntered limits log op d → IsEntered limits (log ++ more) op d
+entered_more limits log more op (Committed version id) e =
     let within = slice_get_within log e.0 op e.1.entry in
-    (e.0, record { entry = get_front log more e.0 op e.1.entry; is_version = e.1.is_version; is_made = rw (table_front log more e.0 (omega (arith, within))) e.1.is_made })
-entered_more log more op (Refused core why) e = tt
+    (e.0, record { entry = get_front log more e.0 op e.1.entry; is_version = e.1.is_version; is_made = rw (table_front limits log more e.0 (omega (arith, within))) e.1.is_made })
+entered_more limits log more op (Refused core why) e = tt
 
 -- what is settled of a core that has a request outstanding is an entry of the log
 pub record Entered (w : World) (r : ℕ → Request) : Type 0 where
-  pub each : (i : ℕ) (p : Peer) (op : Op) (d : Decision) → slice_get w.peers i ≡ Some p → p.outstanding ≡ true → r i ≡ settled op d → IsEntered w.log op d
+  pub each : (i : ℕ) (p : Peer) (op : Op) (d : Decision) → slice_get w.peers i ≡ Some p → p.outstanding ≡ true → r i ≡ settled op d → IsEntered w.limits w.log op d
 
 -- no request is settled
-entered_same : (w w' : World) (r r' : ℕ → Request) (more : List Op) → Entered w r → Matches Same w.peers w'.peers → w'.log ≡ w.log ++ more → ((i : ℕ) → r' i ≡ r i) → Entered w' r'
-entered_same w w' r r' more k m log same = record {
+entered_same : (w w' : World) (r r' : ℕ → Request) (more : List Op) → Entered w r → w'.limits ≡ w.limits → Matches Same w.peers w'.peers → w'.log ≡ w.log ++ more → ((i : ℕ) → r' i ≡ r i) → Entered w' r'
+entered_same w w' r r' more k limits m log same = record {
   each = λ i q op d at out is.
       let p = was Same w.peers w'.peers i q m at in
-      rw log (entered_more w.log more op d (k.each i p.0 op d p.1 (sym p.2 ∙ out) (sym (same i) ∙ is)));
+      rw (limits, log) (entered_more w.limits w.log more op d (k.each i p.0 op d p.1 (sym p.2 ∙ out) (sym (same i) ∙ is)));
 }
 
 -- one core is changed, and nothing else
-entered_one : (w : World) (r r' : ℕ → Request) (i : ℕ) (p q : Peer) → Entered w r → slice_get w.peers i ≡ Some p → ((op : Op) (d : Decision) → q.outstanding ≡ true → r' i ≡ settled op d → IsEntered w.log op d) → ((j : ℕ) → (i ≡ j → ⊥) → r' j ≡ r j)
+entered_one : (w : World) (r r' : ℕ → Request) (i : ℕ) (p q : Peer) → Entered w r → slice_get w.peers i ≡ Some p → ((op : Op) (d : Decision) → q.outstanding ≡ true → r' i ≡ settled op d → IsEntered w.limits w.log op d) → ((j : ℕ) → (i ≡ j → ⊥) → r' j ≡ r j)
     → Entered (record w { peers = slice_set w.peers i q }) r'
 entered_one w r r' i p q k at here same = record { each = λ j x op d at' out is. by_place j x op d at' out is (same_or_not i j) }
   where
-    by_place : (j : ℕ) (x : Peer) (op : Op) (d : Decision) → slice_get (slice_set w.peers i q) j ≡ Some x → x.outstanding ≡ true → r' j ≡ settled op d → ((i ≡ j) ⊎ (i ≡ j → ⊥)) → IsEntered w.log op d
+    by_place : (j : ℕ) (x : Peer) (op : Op) (d : Decision) → slice_get (slice_set w.peers i q) j ≡ Some x → x.outstanding ≡ true → r' j ≡ settled op d → ((i ≡ j) ⊎ (i ≡ j → ⊥)) → IsEntered w.limits w.log op d
     by_place j x op d at' out is (inl e) =
         let there : slice_get (slice_set w.peers i q) i ≡ Some x = subst (λ (n : ℕ). slice_get (slice_set w.peers i q) n ≡ Some x) (sym e) at' in
         let s = get-set_same w.peers i q p at in
@@ -273,7 +274,7 @@ entered_one w r r' i p q k at here same = record { each = λ j x op d at' out is
 
 start_entered : (w w' : World) (r : ℕ → Request) (op : Op) (answer : Answer) → Entered w r → HappensStart w op w' answer → Entered w' (λ j. followed (suc j) (r j) (Start op) answer)
 start_entered w w' r op answer k h = let l = log_joined w.log h.committed in
-    rw h.next (entered_same w _ r _ l.0 k (same_sent w.peers w.peers (outgoing h.told h.place) (matches_self Same w.peers (λ i p. refl))) l.1
+    rw h.next (entered_same w _ r _ l.0 k refl (same_sent w.peers w.peers (outgoing h.told h.place) (matches_self Same w.peers (λ i p. refl))) l.1
     (λ i. ap (followed (suc i) (r i) (Start op)) h.here.is_answer ∙ follows_start (suc i) (r i) op h.told.txn h.told.decided))
 
 begin_entered : (w : World) (r : ℕ → Request) (i : ℕ) (op : Op) (place : CoordinatorPlace) (requests' : Requests) (committed : Option Op) (begun' : Step) (out : Outgoing) (answer : Answer) → Entered w r → Inv2 w r
@@ -290,19 +291,19 @@ begin_entered w r i op place requests' committed begun' out answer k inv2 long t
     is : (t : Step) → begun' ≡ t → answer ≡ start_told t.txn t.decided
     is t e = a ∙ ap (λ (x : Step). start_told x.txn x.decided) e
 
-    settles : (o : Op) (d : Decision) → begun (r i) answer ≡ settled o d → Starts (length w.peers) (newest w) w.budget w.place op place committed begun' → IsEntered (joined w.log committed) o d
+    settles : (o : Op) (d : Decision) → begun (r i) answer ≡ settled o d → Starts (length w.peers) (newest w) w.budget w.place op place committed begun' → IsEntered w.limits (joined w.log committed) o d
     settles o d e (refused f al p c t) = let x = began (r i) answer op _ is_sent (is _ t) in let y : d ≡ Refused 0 (veto_of f) = cc in rw y tt
     settles o d e (unstaged f p c t) = let x = began (r i) answer op _ is_sent (is _ t) in let y : d ≡ Refused 0 veto.NoMemory = cc in rw y tt
     settles o d e (alone al n p c t) = absurd (omega (arith, n, long, slice_get_within w.requests.waiting i (Some op) there))
     settles o d e (prepared al n p c t) = absurd (let x = began (r i) answer op _ is_sent (is _ t) in cc)
 
-    by_place : (j : ℕ) (q : Peer) (o : Op) (d : Decision) → slice_get (sent_out w.peers out) j ≡ Some q → q.outstanding ≡ true → followed (suc j) (r j) (StartFor (suc i)) answer ≡ settled o d → ((i ≡ j) ⊎ (i ≡ j → ⊥)) → IsEntered (joined w.log committed) o d
+    by_place : (j : ℕ) (q : Peer) (o : Op) (d : Decision) → slice_get (sent_out w.peers out) j ≡ Some q → q.outstanding ≡ true → followed (suc j) (r j) (StartFor (suc i)) answer ≡ settled o d → ((i ≡ j) ⊎ (i ≡ j → ⊥)) → IsEntered w.limits (joined w.log committed) o d
     by_place j q o d at outs e (inl same) =
         settles o d (sym (follows_begun i (r i) answer) ∙ subst (λ (n : ℕ). followed (suc n) (r n) (StartFor (suc i)) answer ≡ settled o d) (sym same) e) starts
     by_place j q o d at outs e (inr ne) =
         let p = was Same w.peers (sent_out w.peers out) j q matched at in
         let l = log_joined w.log committed in
-        rw l.1 (entered_more w.log l.0 o d (k.each j p.0 o d p.1 (sym p.2 ∙ outs) (sym (follows_other i j (r j) answer ne) ∙ e)))
+        rw l.1 (entered_more w.limits w.log l.0 o d (k.each j p.0 o d p.1 (sym p.2 ∙ outs) (sym (follows_other i j (r j) answer ne) ∙ e)))
 
 -- a request that is numbered, of a core that has it outstanding, is the one under vote
 numbered_staged : (place : CoordinatorPlace) (requests : Requests) (i : ℕ) (p : Peer) (r : Request) (votes : List (Option Vote)) (op : Op) (n : ℕ) → place.phase ≡ Voting votes → p.outstanding ≡ true → r ≡ numbered op n → Stage place requests i p r
@@ -340,11 +341,11 @@ vote_entered w w' r i txn v short answer k inv2 h here = rw h.next (record { eac
     is : (t : Step) → h.told ≡ t → answer ≡ TookVote txn v t.decided
     is t e = here.is_answer ∙ ap (λ (x : Step). TookVote txn v x.decided) e
 
-    old : (j : ℕ) (q : Peer) (op : Op) (d : Decision) → slice_get (sent_out g (outgoing h.told h.place)) j ≡ Some q → q.outstanding ≡ true → r j ≡ settled op d → IsEntered (joined w.log h.committed) op d
+    old : (j : ℕ) (q : Peer) (op : Op) (d : Decision) → slice_get (sent_out g (outgoing h.told h.place)) j ≡ Some q → q.outstanding ≡ true → r j ≡ settled op d → IsEntered w.limits (joined w.log h.committed) op d
     old j q op d at out e =
         let p = was Same w.peers (sent_out g (outgoing h.told h.place)) j q matched at in
         let l = log_joined w.log h.committed in
-        rw l.1 (entered_more w.log l.0 op d (k.each j p.0 op d p.1 (sym p.2 ∙ out) e))
+        rw l.1 (entered_more w.limits w.log l.0 op d (k.each j p.0 op d p.1 (sym p.2 ∙ out) e))
 
     on_op : (j : ℕ) (q : Peer) (op : Op) (n : ℕ) → slice_get (sent_out g (outgoing h.told h.place)) j ≡ Some q → q.outstanding ≡ true → r j ≡ numbered op n → op ≡ here.hears.op
     on_op j q op n at out e =
@@ -353,18 +354,18 @@ vote_entered w w' r i txn v short answer k inv2 h here = rw h.next (record { eac
         cc (s, here.hears.on_op)
 
     by_tally : (j : ℕ) (q : Peer) (op : Op) (d : Decision) → slice_get (sent_out g (outgoing h.told h.place)) j ≡ Some q → q.outstanding ≡ true → followed (suc j) (r j) (Take 0 (suc i) short) answer ≡ settled op d
-        → Tallies (newest w) txn here.hears.op (slice_set here.hears.votes i (Some v)) h.place h.committed h.told → IsEntered (joined w.log h.committed) op d
+        → Tallies (newest w) txn here.hears.op (slice_set here.hears.votes i (Some v)) h.place h.committed h.told → IsEntered w.limits (joined w.log h.committed) op d
     by_tally j q op d at out e (waits n none p c t) = old j q op d at out (sym (ap (followed (suc j) (r j) (Take 0 (suc i) short)) (is _ t)) ∙ e)
     by_tally j q op d at out e (commits_all all p c t) = by_was (decided_was (r j) txn _ d op (sym (ap (followed (suc j) (r j) (Take 0 (suc i) short)) (is _ t)) ∙ e))
       where
-        by_was : ((r j ≡ settled op d) ⊎ ((n : ℕ) × (r j ≡ numbered op n) × (d ≡ Committed ((newest w).version + 1) (made (newest w) here.hears.op)))) → IsEntered (joined w.log h.committed) op d
+        by_was : ((r j ≡ settled op d) ⊎ ((n : ℕ) × (r j ≡ numbered op n) × (d ≡ Committed ((newest w).version + 1) (made (newest w) here.hears.op)))) → IsEntered w.limits (joined w.log h.committed) op d
         by_was (inl x) = old j q op d at out x
         by_was (inr x) =
             let same = on_op j q op x.0 at out x.1 in
-            rw (x.2, c, same) (length w.log, next_entry w.log (w.log ++ here.hears.op ∷ []) here.hears.op _ refl refl)
+            rw (x.2, c, same) (length w.log, next_entry w.limits w.log (w.log ++ here.hears.op ∷ []) here.hears.op _ refl refl)
     by_tally j q op d at out e (aborts_all core against least all p c t) = by_was (decided_was (r j) txn _ d op (sym (ap (followed (suc j) (r j) (Take 0 (suc i) short)) (is _ t)) ∙ e))
       where
-        by_was : ((r j ≡ settled op d) ⊎ ((n : ℕ) × (r j ≡ numbered op n) × (d ≡ Refused core (veto_by against)))) → IsEntered (joined w.log h.committed) op d
+        by_was : ((r j ≡ settled op d) ⊎ ((n : ℕ) × (r j ≡ numbered op n) × (d ≡ Refused core (veto_by against)))) → IsEntered w.limits (joined w.log h.committed) op d
         by_was (inl x) = old j q op d at out x
         by_was (inr x) = rw x.2 tt
 
@@ -373,7 +374,7 @@ up_entered : (w w' : World) (r : ℕ → Request) (i : ℕ) (short : Bool) (answ
 up_entered w w' r i short answer k inv2 h = by_message h.m h.here
   where
     silent : ((j : ℕ) → followed (suc j) (r j) (Take 0 (suc i) short) answer ≡ r j) → Entered w' (λ j. followed (suc j) (r j) (Take 0 (suc i) short) answer)
-    silent same = let l = log_joined w.log h.committed in rw h.next (entered_same w _ r _ l.0 k
+    silent same = let l = log_joined w.log h.committed in rw h.next (entered_same w _ r _ l.0 k refl
         (same_sent w.peers (slice_set w.peers i (record h.peer { up = h.rest })) (outgoing h.told h.place) (matches_set Same w.peers i h.peer (record h.peer { up = h.rest }) h.is_peer refl (λ j p ne. refl))) l.1 same)
 
     by_message : (m : Message) → TakesUpAt (newest w) w.place w.requests i m h.place h.requests h.committed h.told answer → Entered w' (λ j. followed (suc j) (r j) (Take 0 (suc i) short) answer)
@@ -417,10 +418,10 @@ event_entered w w' r event answer k inv2 long h = absurd h
 entered_like : (w : World) (r r' : ℕ → Request) → ((j : ℕ) → r' j ≡ r j) → Entered w r → Entered w r'
 entered_like w r r' same k = record { each = λ i p op d at out e. k.each i p op d at out (sym (same i) ∙ e) }
 
-pub run_entered : (budget : ℕ) (budgets : List ℕ) (events : List Done) (w : World) → Run budget budgets events w → Entered w (λ j. request_of (suc j) events)
-run_entered budget budgets = run_keeps budget budgets (λ events w. Entered w (λ j. request_of (suc j) events))
+pub run_entered : (limits : TableLimits) (budget : ℕ) (budgets : List ℕ) (events : List Done) (w : World) → Run limits budget budgets events w → Entered w (λ j. request_of (suc j) events)
+run_entered limits budget budgets = run_keeps limits budget budgets (λ events w. Entered w (λ j. request_of (suc j) events))
     (record { each = λ i p op d at out e. absurd cc })
     (λ events w w' done run k h.
-    let known = run_known budget budgets events w run in
+    let known = run_known limits budget budgets events w run in
     entered_like w' (λ j. followed (suc j) (request_of (suc j) events) done.event done.answer) (λ j. request_of (suc j) (events ++ done ∷ [])) (λ j. request_after-append (suc j) unsent events done)
-    (event_entered w w' (λ j. request_of (suc j) events) done.event done.answer k (run_stages budget budgets events w run) (known.waiting_long ∙ sym known.cores) h))
+    (event_entered w w' (λ j. request_of (suc j) events) done.event done.answer k (run_stages limits budget budgets events w run) (known.waiting_long ∙ sym known.cores) h))

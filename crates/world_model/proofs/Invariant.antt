@@ -1,6 +1,7 @@
 -- The invariant of the world: what core 0 and each other core know of each other, over all channels.
 use Rattle.std.proofs.Common.{◌≡◌, ◌+◌, ◌<◌, ◌≤◌, ◌⊎◌, inl, inr, ℕ, Bool, true, false, Option, Some, None, List, [], ◌∷◌, ◌++◌, length, slice_get, refl, ◌∙◌, ap, sym, subst, arith, length-append}
 use Rattle.std.proofs.lemmas.List.{append-nil}
+use Rattle.filter_table.specs.Limits.{TableLimits}
 use Rattle.filter_table.specs.declared.operation.Op.{Op}
 use Rattle.filter_table.specs.Tables.{TableState, table, instructions, Allowed}
 use Rattle.filter_table.proofs.Tables.{table_whole, table_next, table_front, allowed_fits, instructions_opening}
@@ -41,38 +42,38 @@ pub record PeerIs (p : Peer) (version last : ℕ) (voted : Option Vote) (staged 
   pub up_is : commitments p.up ≡ up
 
 -- where core 0 and another core stand towards each other
-pub data Pair (log : List Op) (place : CoordinatorPlace) (i : ℕ) (p : Peer) : Type 0 where
+pub data Pair (limits : TableLimits) (log : List Op) (place : CoordinatorPlace) (i : ℕ) (p : Peer) : Type 0 where
   -- nothing is under way
-  at_rest : place.phase ≡ Idle → PeerIs p (length log) place.last None None [] [] → Pair log place i p
+  at_rest : place.phase ≡ Idle → PeerIs p (length log) place.last None None [] [] → Pair limits log place i p
   -- Prepare is under way
   asked : (votes : List (Option Vote)) (op : Op) (last : ℕ) → place.phase ≡ Voting votes → place.staged ≡ Some op → slice_get votes i ≡ Some None → place.last ≡ last + 1
-      → PeerIs p (length log) last None None (message.Prepare place.last op ∷ []) [] → Pair log place i p
+      → PeerIs p (length log) last None None (message.Prepare place.last op ∷ []) [] → Pair limits log place i p
   -- its vote is under way
   voted : (votes : List (Option Vote)) (op : Op) (v : Vote) (short : Bool) → place.phase ≡ Voting votes → place.staged ≡ Some op → slice_get votes i ≡ Some None
-      → Casts short (table log (length log)) p.budget op v
-      → PeerIs p (length log) place.last (Some v) (staged_by v op) [] (message.Vote place.last v ∷ []) → Pair log place i p
+      → Casts short (table limits log (length log)) p.budget op v
+      → PeerIs p (length log) place.last (Some v) (staged_by v op) [] (message.Vote place.last v ∷ []) → Pair limits log place i p
   -- its vote was taken
   counted : (votes : List (Option Vote)) (op : Op) (v : Vote) (short : Bool) → place.phase ≡ Voting votes → place.staged ≡ Some op → slice_get votes i ≡ Some (Some v)
-      → Casts short (table log (length log)) p.budget op v
-      → PeerIs p (length log) place.last (Some v) (staged_by v op) [] [] → Pair log place i p
+      → Casts short (table limits log (length log)) p.budget op v
+      → PeerIs p (length log) place.last (Some v) (staged_by v op) [] [] → Pair limits log place i p
   -- Commit is under way
   to_commit : (acks : List Bool) (op : Op) (version : ℕ) → place.phase ≡ Acking acks → slice_get acks i ≡ Some false → length log ≡ version + 1
-      → instructions (table log (length log)) ≤ p.budget → slice_get log version ≡ Some op
-      → PeerIs p version place.last (Some vote.Yes) (Some op) (message.Commit place.last ∷ []) [] → Pair log place i p
+      → instructions (table limits log (length log)) ≤ p.budget → slice_get log version ≡ Some op
+      → PeerIs p version place.last (Some vote.Yes) (Some op) (message.Commit place.last ∷ []) [] → Pair limits log place i p
   -- Abort is under way
   to_abort : (acks : List Bool) (v : Vote) (staged : Option Op) → place.phase ≡ Acking acks → slice_get acks i ≡ Some false
-      → PeerIs p (length log) place.last (Some v) staged (message.Abort place.last ∷ []) [] → Pair log place i p
+      → PeerIs p (length log) place.last (Some v) staged (message.Abort place.last ∷ []) [] → Pair limits log place i p
   -- its acknowledgement is under way
   acked : (acks : List Bool) → place.phase ≡ Acking acks → slice_get acks i ≡ Some false
-      → PeerIs p (length log) place.last None None [] (message.Ack place.last ∷ []) → Pair log place i p
+      → PeerIs p (length log) place.last None None [] (message.Ack place.last ∷ []) → Pair limits log place i p
   -- its acknowledgement was taken
   finished : (acks : List Bool) → place.phase ≡ Acking acks → slice_get acks i ≡ Some true
-      → PeerIs p (length log) place.last None None [] [] → Pair log place i p
+      → PeerIs p (length log) place.last None None [] [] → Pair limits log place i p
 
 -- where core 0 and a core stand is read off the core's version, place and budget and those messages
-pub pair_like : (log : List Op) (place : CoordinatorPlace) (i : ℕ) (p q : Peer) → q.version ≡ p.version → q.place ≡ p.place → q.budget ≡ p.budget → commitments q.down ≡ commitments p.down → commitments q.up ≡ commitments p.up
-    → Pair log place i p → Pair log place i q
-pair_like log place i p q ev ep eb ed eu pair = by_pair pair
+pub pair_like : (limits : TableLimits) (log : List Op) (place : CoordinatorPlace) (i : ℕ) (p q : Peer) → q.version ≡ p.version → q.place ≡ p.place → q.budget ≡ p.budget → commitments q.down ≡ commitments p.down → commitments q.up ≡ commitments p.up
+    → Pair limits log place i p → Pair limits log place i q
+pair_like limits log place i p q ev ep eb ed eu pair = by_pair pair
   where
     like : (version last : ℕ) (v : Option Vote) (staged : Option Op) (down up : List Message) → PeerIs p version last v staged down up → PeerIs q version last v staged down up
     like version last v staged down up is = record {
@@ -84,11 +85,11 @@ pair_like log place i p q ev ep eb ed eu pair = by_pair pair
       up_is = eu ∙ is.up_is;
     }
 
-    by_pair : Pair log place i p → Pair log place i q
+    by_pair : Pair limits log place i p → Pair limits log place i q
     by_pair (at_rest ph is) = at_rest ph (like _ _ _ _ _ _ is)
     by_pair (asked votes op last ph st at le is) = asked votes op last ph st at le (like _ _ _ _ _ _ is)
-    by_pair (voted votes op v short ph st at c is) = voted votes op v short ph st at (subst (λ (b : ℕ). Casts short (table log (length log)) b op v) (sym eb) c) (like _ _ _ _ _ _ is)
-    by_pair (counted votes op v short ph st at c is) = counted votes op v short ph st at (subst (λ (b : ℕ). Casts short (table log (length log)) b op v) (sym eb) c) (like _ _ _ _ _ _ is)
+    by_pair (voted votes op v short ph st at c is) = voted votes op v short ph st at (subst (λ (b : ℕ). Casts short (table limits log (length log)) b op v) (sym eb) c) (like _ _ _ _ _ _ is)
+    by_pair (counted votes op v short ph st at c is) = counted votes op v short ph st at (subst (λ (b : ℕ). Casts short (table limits log (length log)) b op v) (sym eb) c) (like _ _ _ _ _ _ is)
     by_pair (to_commit acks op version ph at le fits entry is) = to_commit acks op version ph at le (rw eb fits) entry (like _ _ _ _ _ _ is)
     by_pair (to_abort acks v staged ph at is) = to_abort acks v staged ph at (like _ _ _ _ _ _ is)
     by_pair (acked acks ph at is) = acked acks ph at (like _ _ _ _ _ _ is)
@@ -102,56 +103,56 @@ Alone others s budget (Voting votes) staged =
 Alone others s budget (Acking acks) staged = (i : ℕ) × (staged ≡ None) × (length acks ≡ others) × (slice_get acks i ≡ Some false)
 
 -- a core's version is one of the log's, and its table keeps within its budget
-pub record Within (log : List Op) (p : Peer) : Type 0 where
+pub record Within (limits : TableLimits) (log : List Op) (p : Peer) : Type 0 where
   pub not_ahead : p.version ≤ length log
-  pub fits : instructions (table log p.version) ≤ p.budget
+  pub fits : instructions (table limits log p.version) ≤ p.budget
 
 pub record Inv (w : World) : Type 0 where
   pub version : w.version ≡ length w.log
   pub fits : instructions (newest w) ≤ w.budget
-  pub allowed : (k : ℕ) (op : Op) → slice_get w.log k ≡ Some op → Allowed (table w.log k) w.budget op None
+  pub allowed : (k : ℕ) (op : Op) → slice_get w.log k ≡ Some op → Allowed (table w.limits w.log k) w.budget op None
   pub alone_ok : Alone (length w.peers) (newest w) w.budget w.place.phase w.place.staged
-  pub pairs : (i : ℕ) (p : Peer) → slice_get w.peers i ≡ Some p → Pair w.log w.place i p
-  pub within : (i : ℕ) (p : Peer) → slice_get w.peers i ≡ Some p → Within w.log p
+  pub pairs : (i : ℕ) (p : Peer) → slice_get w.peers i ≡ Some p → Pair w.limits w.log w.place i p
+  pub within : (i : ℕ) (p : Peer) → slice_get w.peers i ≡ Some p → Within w.limits w.log p
 
 -- The first world
 
-new_pair : (i b : ℕ) → Pair [] idle_at_first i (new_peer b)
-new_pair i b = at_rest refl (record { version_is = refl; last_is = refl; voted_is = refl; staged_is = refl; down_is = refl; up_is = refl })
+new_pair : (limits : TableLimits) (i b : ℕ) → Pair limits [] idle_at_first i (new_peer b)
+new_pair limits i b = at_rest refl (record { version_is = refl; last_is = refl; voted_is = refl; staged_is = refl; down_is = refl; up_is = refl })
 
-pub boot_inv : (budget : ℕ) (budgets : List ℕ) → Inv (boot budget budgets)
-boot_inv budget budgets = record {
+pub boot_inv : (limits : TableLimits) (budget : ℕ) (budgets : List ℕ) → Inv (boot limits budget budgets)
+boot_inv limits budget budgets = record {
   version = refl;
   fits = empty budget;
   allowed = λ k op h. absurd cc;
   alone_ok = refl;
-  pairs = λ i p h. let r = get_map new_peer budgets i p h in subst (λ (q : Peer). Pair [] idle_at_first i q) (sym r.2) (new_pair i r.0);
-  within = λ i p h. let r = get_map new_peer budgets i p h in subst (λ (q : Peer). Within [] q) (sym r.2) (record { not_ahead = omega arith; fits = empty r.0 });
+  pairs = λ i p h. let r = get_map new_peer budgets i p h in subst (λ (q : Peer). Pair limits [] idle_at_first i q) (sym r.2) (new_pair limits i r.0);
+  within = λ i p h. let r = get_map new_peer budgets i p h in subst (λ (q : Peer). Within limits [] q) (sym r.2) (record { not_ahead = omega arith; fits = empty r.0 });
 }
   where
-    empty : (b : ℕ) → instructions (table [] 0) ≤ b
-    empty b = omega (arith, instructions_opening, ap instructions (table_whole []))
+    empty : (b : ℕ) → instructions (table limits [] 0) ≤ b
+    empty b = omega (arith, instructions_opening limits, ap instructions (table_whole limits []))
 
 -- The log with one operation more
 
-pub allowed_more : (log : List Op) (op : Op) (b : ℕ) → Allowed (table log (length log)) b op None
-    → ((k : ℕ) (o : Op) → slice_get log k ≡ Some o → Allowed (table log k) b o None)
-    → (k : ℕ) (o : Op) → slice_get (log ++ op ∷ []) k ≡ Some o → Allowed (table (log ++ op ∷ []) k) b o None
-allowed_more log op b new old k o at = by_place (get_more log op o k at)
+pub allowed_more : (limits : TableLimits) (log : List Op) (op : Op) (b : ℕ) → Allowed (table limits log (length log)) b op None
+    → ((k : ℕ) (o : Op) → slice_get log k ≡ Some o → Allowed (table limits log k) b o None)
+    → (k : ℕ) (o : Op) → slice_get (log ++ op ∷ []) k ≡ Some o → Allowed (table limits (log ++ op ∷ []) k) b o None
+allowed_more limits log op b new old k o at = by_place (get_more log op o k at)
   where
-    by_place : ((k ≡ length log) × (o ≡ op)) ⊎ ((k < length log) × (slice_get log k ≡ Some o)) → Allowed (table (log ++ op ∷ []) k) b o None
-    by_place (inl e) = rw (e.0, e.1, table_front log (op ∷ []) (length log) (omega arith)) new
-    by_place (inr e) = let le : k ≤ length log = omega (arith, e.0) in rw (table_front log (op ∷ []) k le) (old k o e.1)
+    by_place : ((k ≡ length log) × (o ≡ op)) ⊎ ((k < length log) × (slice_get log k ≡ Some o)) → Allowed (table limits (log ++ op ∷ []) k) b o None
+    by_place (inl e) = rw (e.0, e.1, table_front limits log (op ∷ []) (length log) (omega arith)) new
+    by_place (inr e) = let le : k ≤ length log = omega (arith, e.0) in rw (table_front limits log (op ∷ []) k le) (old k o e.1)
 
-pub within_more : (log : List Op) (op : Op) (p : Peer) → Within log p → Within (log ++ op ∷ []) p
-within_more log op p h = record {
+pub within_more : (limits : TableLimits) (log : List Op) (op : Op) (p : Peer) → Within limits log p → Within limits (log ++ op ∷ []) p
+within_more limits log op p h = record {
   not_ahead = omega (arith, length-append log (op ∷ []), h.not_ahead);
-  fits = rw (table_front log (op ∷ []) p.version h.not_ahead) h.fits;
+  fits = rw (table_front limits log (op ∷ []) p.version h.not_ahead) h.fits;
 }
 
-pub fits_more : (log : List Op) (op : Op) (b : ℕ) → Allowed (table log (length log)) b op None → instructions (table log (length log)) ≤ b → instructions (table (log ++ op ∷ []) (length (log ++ op ∷ []))) ≤ b
-fits_more log op b allowed fits = rw (table_next log op) (allowed_fits (table log (length log)) b op allowed fits)
+pub fits_more : (limits : TableLimits) (log : List Op) (op : Op) (b : ℕ) → Allowed (table limits log (length log)) b op None → instructions (table limits log (length log)) ≤ b → instructions (table limits (log ++ op ∷ []) (length (log ++ op ∷ []))) ≤ b
+fits_more limits log op b allowed fits = rw (table_next limits log op) (allowed_fits (table limits log (length log)) b op allowed fits)
 
 -- a message to a core changes nothing else of it
-pub within_sent : (log : List Op) (m : Message) (p : Peer) → Within log p → Within log (send m p)
-within_sent log m p h = record { not_ahead = h.not_ahead; fits = h.fits }
+pub within_sent : (limits : TableLimits) (log : List Op) (m : Message) (p : Peer) → Within limits log p → Within limits log (send m p)
+within_sent limits log m p h = record { not_ahead = h.not_ahead; fits = h.fits }

@@ -2,6 +2,7 @@
 use Rattle.std.proofs.Common.{◌≡◌, ◌+◌, ◌≤◌, ◌⊎◌, inl, inr, ℕ, zero, suc, Bool, true, false, cond, Option, Some, None, List, [], ◌∷◌, ◌++◌, length, slice_get, slice_set, refl, ap, sym, ◌∙◌, subst, arith}
 use Rattle.std.specs.Prelude.{is_some, option_to_list}
 use Rattle.std.proofs.lemmas.List.{length-map, append-nil}
+use Rattle.filter_table.specs.Limits.{TableLimits}
 use Rattle.filter_table.specs.declared.operation.Op.{Op}
 use Rattle.monitor_messages.specs.declared.message.Message.{Message}
 use Rattle.monitor_messages.specs.declared.message.Message.TheVariants as message
@@ -82,6 +83,7 @@ pub record PeerMoves (event : Event) (answer : Answer) (i : ℕ) (p q : Peer) : 
   pub keeps_vote : KeepsVote event answer (suc i) p.place q.place
 
 pub record EventMoves (w : World) (event : Event) (w' : World) (answer : Answer) : Type 0 where
+  pub same_limits : w'.limits ≡ w.limits
   pub same_budget : w'.budget ≡ w.budget
   pub version_is : w'.version ≡ w.version + cond (commits_at 0 event answer) 1 0
   pub log_is : (more : List Op) × (w'.log ≡ w.log ++ more) × (length more ≤ 1)
@@ -135,6 +137,7 @@ core0_event : (w : World) (peers : List Peer) (place : CoordinatorPlace) (reques
     → is_some committed ≡ commits_at 0 event answer → length requests.waiting ≡ length w.requests.waiting → Matches (PeerMoves event answer) w.peers peers
     → EventMoves w event (core0_moves (record w { peers = peers }) place requests committed out) answer
 core0_event w peers place requests committed out event answer counts long h = record {
+  same_limits = refl;
   same_budget = refl;
   version_is = raised_is w.version committed ∙ ap (λ (b : Bool). w.version + cond b 1 0) counts;
   log_is = log_joined w.log committed;
@@ -201,6 +204,7 @@ up_moves w w' i short answer h =
 
 submit_moves : (w w' : World) (i : ℕ) (op : Op) (answer : Answer) → HappensSubmit w i op w' answer → EventMoves w (Submit (suc i) op) w' answer
 submit_moves w w' i op answer h = rw (h.next, h.here.is_answer) (record {
+  same_limits = refl;
   same_budget = refl;
   version_is = omega arith;
   log_is = log_joined w.log None;
@@ -240,15 +244,15 @@ took_moves i short s p q (message.Abort txn) (message.Ack txn') committed answer
 took_moves i short s p q m reply committed answer a c has t b ver = absurd a
 
 -- a core that Commit comes to has the operation staged
-commit_staged : (log : List Op) (place : CoordinatorPlace) (i : ℕ) (p : Peer) (txn : ℕ) (rest : List Message) → commitments p.down ≡ message.Commit txn ∷ rest → Pair log place i p → is_some p.place.staged ≡ true
-commit_staged log place i p txn rest d (to_commit acks op version ph at le fits entry is) = rw is.staged_is refl
-commit_staged log place i p txn rest d (to_abort acks v st ph at is) = absurd (cc (d, is.down_is))
-commit_staged log place i p txn rest d (at_rest ph is) = absurd (cc (d, is.down_is))
-commit_staged log place i p txn rest d (asked votes op last ph st at le is) = absurd (cc (d, is.down_is))
-commit_staged log place i p txn rest d (voted votes op v short ph st at c is) = absurd (cc (d, is.down_is))
-commit_staged log place i p txn rest d (counted votes op v short ph st at c is) = absurd (cc (d, is.down_is))
-commit_staged log place i p txn rest d (acked acks ph at is) = absurd (cc (d, is.down_is))
-commit_staged log place i p txn rest d (finished acks ph at is) = absurd (cc (d, is.down_is))
+commit_staged : (limits : TableLimits) (log : List Op) (place : CoordinatorPlace) (i : ℕ) (p : Peer) (txn : ℕ) (rest : List Message) → commitments p.down ≡ message.Commit txn ∷ rest → Pair limits log place i p → is_some p.place.staged ≡ true
+commit_staged limits log place i p txn rest d (to_commit acks op version ph at le fits entry is) = rw is.staged_is refl
+commit_staged limits log place i p txn rest d (to_abort acks v st ph at is) = absurd (cc (d, is.down_is))
+commit_staged limits log place i p txn rest d (at_rest ph is) = absurd (cc (d, is.down_is))
+commit_staged limits log place i p txn rest d (asked votes op last ph st at le is) = absurd (cc (d, is.down_is))
+commit_staged limits log place i p txn rest d (voted votes op v short ph st at c is) = absurd (cc (d, is.down_is))
+commit_staged limits log place i p txn rest d (counted votes op v short ph st at c is) = absurd (cc (d, is.down_is))
+commit_staged limits log place i p txn rest d (acked acks ph at is) = absurd (cc (d, is.down_is))
+commit_staged limits log place i p txn rest d (finished acks ph at is) = absurd (cc (d, is.down_is))
 
 down_moves : (w w' : World) (i : ℕ) (short : Bool) (answer : Answer) → Inv w → HappensDown w i short w' answer → EventMoves w (Take (suc i) 0 short) w' answer
 down_moves w w' i short answer inv h = by_message h.m refl h.here
@@ -258,6 +262,7 @@ down_moves w w' i short answer inv h = by_message h.m refl h.here
 
     moved : PeerMoves (Take (suc i) 0 short) answer i h.peer q → ((j : ℕ) → (i ≡ j → ⊥) → IsSilent (Take (suc i) 0 short) answer (suc j)) → commits_at 0 (Take (suc i) 0 short) answer ≡ false → EventMoves w (Take (suc i) 0 short) w' answer
     moved here silent none = rw h.next (record {
+      same_limits = refl;
       same_budget = refl;
       version_is = rw none (omega arith);
       log_is = log_joined w.log None;
@@ -274,7 +279,7 @@ down_moves w w' i short answer inv h = by_message h.m refl h.here
     answered : AnswersAt short (newest w) h.peer.budget h.peer.version h.peer.place h.peer.outstanding h.m h.place h.outstanding h.committed answer → EventMoves w (Take (suc i) 0 short) w' answer
     answered here = moved
         (took_moves i short (newest w) h.peer _ h.m here.reply h.committed answer here.answers here.is_committed
-        (λ txn e. commit_staged w.log w.place i h.peer txn (commitments h.rest) (ap commitments h.oldest ∙ rw e refl) (inv.pairs i h.peer h.is_peer))
+        (λ txn e. commit_staged w.limits w.log w.place i h.peer txn (commitments h.rest) (ap commitments h.oldest ∙ rw e refl) (inv.pairs i h.peer h.is_peer))
         here.is_answer refl refl)
         (λ j ne. silent_down i j short h.m here.reply _ answer ne here.is_answer) (none_by h.m here.reply _ here.is_answer)
 
@@ -299,6 +304,7 @@ event_moves w w' (StartFor (suc i)) answer inv h = start_for_moves w w' i answer
 event_moves w w' (Take zero (suc i) short) answer inv h = up_moves w w' i short answer h
 event_moves w w' (Take (suc i) zero short) answer inv h = down_moves w w' i short answer inv h
 event_moves w w' (Rx core number packet floor) answer inv h = rw (h.next, h.here.is_answer) (record {
+  same_limits = refl;
   same_budget = refl;
   version_is = omega arith;
   log_is = log_joined w.log None;

@@ -1,6 +1,7 @@
 -- The tables of a log whose entries were allowed are sound.
 use Rattle.std.proofs.Common.{◌≡◌, ◌≤◌, ◌⊎◌, inl, inr, ℕ, zero, suc, None, Some, List, [], ◌∷◌, length, slice_get, take, refl, ap, sym, subst, arith}
 use Rattle.std.proofs.Math.Nat.{le-suc_iff}
+use Rattle.filter_table.specs.Limits.{TableLimits}
 use Rattle.filter_table.specs.declared.operation.Op.{Op}
 use Rattle.filter_table.specs.Tables.{TableState, table, after, after_all, empty_table, Allowed}
 use Rattle.filter_table.specs.Soundness.{IsSoundTable, IdsGrow}
@@ -17,38 +18,38 @@ after_next s [] v op at = absurd cc
 after_next s (x ∷ log) zero op at = let e : x ≡ op = cc in ap (after s) e
 after_next s (x ∷ log) (suc v) op at = after_next (after s x) log v op at
 
-pub table_of_next : (log : List Op) (v : ℕ) (op : Op) → slice_get log v ≡ Some op → table log (suc v) ≡ after (table log v) op
+pub table_of_next : (limits : TableLimits) (log : List Op) (v : ℕ) (op : Op) → slice_get log v ≡ Some op → table limits log (suc v) ≡ after (table limits log v) op
 unfolding table
-table_of_next log v op at = after_next empty_table log v op at
+table_of_next limits log v op at = after_next (empty_table limits) log v op at
 
-first_sound : (log : List Op) → IsSoundTable (table log 0)
+first_sound : (limits : TableLimits) (log : List Op) → IsSoundTable (table limits log 0)
 unfolding table
-first_sound log = sound_empty 0 1 1
+first_sound limits log = sound_empty limits 0 1 1
 
-abbrev AllAllowed : ℕ → List Op → Type 0
-AllAllowed budget log = (k : ℕ) (op : Op) → slice_get log k ≡ Some op → Allowed (table log k) budget op None
+abbrev AllAllowed : TableLimits → ℕ → List Op → Type 0
+AllAllowed limits budget log = (k : ℕ) (op : Op) → slice_get log k ≡ Some op → Allowed (table limits log k) budget op None
 
-sound_at : (budget : ℕ) (log : List Op) → AllAllowed budget log → (v : ℕ) → v ≤ length log → IsSoundTable (table log v)
-sound_at budget log a zero le = first_sound log
-sound_at budget log a (suc v) le =
+sound_at : (limits : TableLimits) (budget : ℕ) (log : List Op) → AllAllowed limits budget log → (v : ℕ) → v ≤ length log → IsSoundTable (table limits log v)
+sound_at limits budget log a zero le = first_sound limits log
+sound_at limits budget log a (suc v) le =
     let e = get_at log v (omega (arith, le)) in
-    subst IsSoundTable (sym (table_of_next log v e.0 e.1)) (sound_next (table log v) budget e.0 (a v e.0 e.1) (sound_at budget log a v (omega (arith, le))))
+    subst IsSoundTable (sym (table_of_next limits log v e.0 e.1)) (sound_next (table limits log v) budget e.0 (a v e.0 e.1) (sound_at limits budget log a v (omega (arith, le))))
 
 ids_join : (a b c : TableState) → IdsGrow a b → IdsGrow b c → IdsGrow a c
 ids_join a b c g h = record { caps = omega (arith, g.caps, h.caps); filters = omega (arith, g.filters, h.filters) }
 
-ids_at : (log : List Op) (u v : ℕ) → u ≤ v → v ≤ length log → IdsGrow (table log u) (table log v)
-ids_at log zero zero h le = ids_stay (table log 0) (table log 0) refl
-ids_at log (suc u) zero h le = absurd (omega (arith, h))
-ids_at log u (suc v) h le = by_case (λ earlier. ids_at log u v earlier (omega (arith, le))) (le-suc_iff.0 h)
+ids_at : (limits : TableLimits) (log : List Op) (u v : ℕ) → u ≤ v → v ≤ length log → IdsGrow (table limits log u) (table limits log v)
+ids_at limits log zero zero h le = ids_stay (table limits log 0) (table limits log 0) refl
+ids_at limits log (suc u) zero h le = absurd (omega (arith, h))
+ids_at limits log u (suc v) h le = by_case (λ earlier. ids_at limits log u v earlier (omega (arith, le))) (le-suc_iff.0 h)
   where
-    by_case : (u ≤ v → IdsGrow (table log u) (table log v)) → (u ≤ v) ⊎ (u ≡ suc v) → IdsGrow (table log u) (table log (suc v))
+    by_case : (u ≤ v → IdsGrow (table limits log u) (table limits log v)) → (u ≤ v) ⊎ (u ≡ suc v) → IdsGrow (table limits log u) (table limits log (suc v))
     by_case before (inl earlier) =
         let e = get_at log v (omega (arith, le)) in
-        ids_join (table log u) (table log v) (table log (suc v)) (before earlier)
-        (ids_after (table log v) (table log (suc v)) e.0 (table_of_next log v e.0 e.1))
-    by_case before (inr same) = ids_stay (table log u) (table log (suc v)) (ap (table log) (sym same))
+        ids_join (table limits log u) (table limits log v) (table limits log (suc v)) (before earlier)
+        (ids_after (table limits log v) (table limits log (suc v)) e.0 (table_of_next limits log v e.0 e.1))
+    by_case before (inr same) = ids_stay (table limits log u) (table limits log (suc v)) (ap (table limits log) (sym same))
 
-pub run_sound : (budget : ℕ) (budgets : List ℕ) (events : List Done) (w : World) → Run budget budgets events w → IsSoundLog w.log
-run_sound budget budgets events w r = let a = run_agrees budget budgets events w r in
-    record { sound = sound_at budget w.log a.allowed; ids = ids_at w.log }
+pub run_sound : (limits : TableLimits) (budget : ℕ) (budgets : List ℕ) (events : List Done) (w : World) → Run limits budget budgets events w → IsSoundLog w.limits w.log
+run_sound limits budget budgets events w r = let a = run_agrees limits budget budgets events w r in
+    record { sound = sound_at w.limits budget w.log a.allowed; ids = ids_at w.limits w.log }

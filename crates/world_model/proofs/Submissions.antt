@@ -4,6 +4,7 @@ use Rattle.std.specs.Prelude.{option_to_list}
 use Rattle.std.proofs.lemmas.List.{append-nil}
 use Rattle.std.proofs.lemmas.Bool.Decides.{nat_tests}
 use Rattle.std.specs.List.{list_all}
+use Rattle.filter_table.specs.Limits.{TableLimits}
 use Rattle.filter_table.specs.declared.operation.Op.{Op}
 use Rattle.filter_table.proofs.Tables.{table_version}
 use Rattle.monitor_messages.specs.declared.message.Message.{Message}
@@ -341,7 +342,7 @@ begin_for_stages w r i op place requests' committed begun' answer inv inv2 can i
         at_place j q (inl x) =
             let a = asks w.place w.requests j x.1 (r j) op (subst (λ (k : ℕ). slice_get w.requests.waiting k ≡ Some (Some op)) x.0 is_waiting) (inv2.stages j x.1 x.2) in
             let f : followed (suc j) (r j) (StartFor (suc i)) answer ≡ settled op d = subst (λ (k : ℕ). followed (suc j) (r j) (StartFor (suc k)) answer ≡ settled op d) (sym x.0) (follows_begun j (r j) answer ∙ began (r j) answer op _ a.is_sent is_answer) in
-            let rest = rests w.log w.place j x.1 idle (inv.pairs j x.1 x.2) in
+            let rest = rests w.limits w.log w.place j x.1 idle (inv.pairs j x.1 x.2) in
             rw x.3 (reply_sent w.place _ j x.1 _ op d a.outstanding a.none_up (subst (λ (k : ℕ). slice_get (slice_set w.requests.waiting i None) k ≡ Some None) x.0 now_none) (λ e. cc) a.none_down rest.down_is f (stands x.1.version))
 
     by_case : Starts (length w.peers) (newest w) w.budget w.place op place committed begun'
@@ -441,7 +442,7 @@ vote_stages w w' r i txn v short answer inv2 h m here = rw (h.next, here.request
         → Inv2 (core0_moves (gave w i h.peer h.rest) h.place (with_decided w.requests h.told.decided) h.committed (outgoing h.told h.place)) (λ j. followed (suc j) (r j) (Take 0 (suc i) short) answer)
     by_tally (waits k none p c t) = let a = is _ t in rw (p, c, t) (made _ None nothing None a kept refl (λ j op e st. (op, e ∙ ap (numbered op) number, sym here.hears.on_op ∙ st)))
     by_tally (commits_all all p c t) = let a = is _ t in rw (p, c, t) (made _ (Some here.hears.op) (to_all (message.Commit txn)) _ a (kept_all w.peers g (message.Commit txn) refl kept)
-        (_, refl, omega (arith, table_version w.log, length-append w.log (here.hears.op ∷ []))) (λ j op e st. (op, _, on_decided op j _ e, refl)))
+        (_, refl, omega (arith, table_version w.limits w.log, length-append w.log (here.hears.op ∷ []))) (λ j op e st. (op, _, on_decided op j _ e, refl)))
     by_tally (aborts_all core against least all p c t) = let a = is _ t in rw (p, c, t) (made _ None (to_all (message.Abort txn)) _ a (kept_all w.peers g (message.Abort txn) refl kept)
         (_, refl, tt) (λ j op e st. (op, _, on_decided op j _ e, refl)))
 
@@ -502,7 +503,7 @@ ack_stages w w' r i txn short answer inv inv2 h m here =
         by_core (inl x) =
             let k = kept j x.1 x.2 in
             let is : w.requests.asker ≡ Some (suc j) = asked ∙ ap (λ (n : ℕ). Some (suc n)) x.0 in
-            let there = rests w.log h.place j x.1 idle (acked.pairs j x.1 x.2) in
+            let there = rests w.limits w.log h.place j x.1 idle (acked.pairs j x.1 x.2) in
             subst (λ (z : Peer). Stage h.place (record { waiting = w.requests.waiting; asker = None; decided = None }) j z (followed (suc j) (r j) (Take 0 (suc i) short) answer)) (sym x.3)
             (of_served is k.0 k.2 there.down_is there.version_is (inv2.stages j k.0 k.1))
           where
@@ -684,8 +685,8 @@ event_stages w w' r (Take (suc i) zero short) answer inv inv2 h = down_stages w 
 event_stages w w' r (Rx core number packet floor) answer inv inv2 h = rw (h.next, h.here.is_answer) (record { desk = inv2.desk; stages = inv2.stages })
 event_stages w w' r event answer inv inv2 h = absurd h
 
-pub boot_stages : (budget : ℕ) (budgets : List ℕ) → Inv2 (boot budget budgets) (λ j. unsent)
-boot_stages budget budgets = record { desk = (refl, refl); stages = λ i p at. at_boot i p at (get_map new_peer budgets i p at) }
+pub boot_stages : (limits : TableLimits) (budget : ℕ) (budgets : List ℕ) → Inv2 (boot limits budget budgets) (λ j. unsent)
+boot_stages limits budget budgets = record { desk = (refl, refl); stages = λ i p at. at_boot i p at (get_map new_peer budgets i p at) }
   where
     at_boot : (i : ℕ) (p : Peer) → slice_get (map new_peer budgets) i ≡ Some p → ((b : ℕ) × (slice_get budgets i ≡ Some b) × (p ≡ new_peer b)) → Stage idle_at_first (no_requests (length budgets)) i p unsent
     at_boot i p at r = rw r.2 (free (record { outstanding_is = refl; up_is = refl; waiting_is = get_replicate (length budgets) i None (slice_get_within budgets i r.0 r.1) }) (λ e. cc) refl)

@@ -3,6 +3,7 @@
 -- systems", section 5.8.3).
 use Rattle.std.specs.Prelude.{◌≡◌, ◌+◌, ◌<◌, ◌≤◌, ◌⊎◌, ℕ, suc, Option, Some, None, List, [], ◌∷◌, ◌++◌, length, map, slice_get, slice_set}
 use Rattle.std.proofs.Common.{replicate}
+use Rattle.filter_table.specs.Limits.{TableLimits}
 use Rattle.filter_table.specs.declared.operation.Op.{Op}
 use Rattle.filter_table.specs.declared.delivery.Kept.{Kept}
 use Rattle.filter_table.specs.declared.operation.Made.{Made}
@@ -29,22 +30,22 @@ use Rattle.world_model.specs.Readings.{version_of, vote_of, sent, settled, reque
 -- Packets
 
 -- a packet is handed to the endpoints that accept it at the version that its core had reached with the events before, by this log
-abbrev pub DeliversBy : List Op → List Done → Event → Answer → Type 0
-DeliversBy log before (Rx core number packet floor) answer =
+abbrev pub DeliversBy : TableLimits → List Op → List Done → Event → Answer → Type 0
+DeliversBy limits log before (Rx core number packet floor) answer =
     (kept : List Kept) × (answer ≡ Delivered (version_of core before) kept) × (floor ≤ version_of core before) × (version_of core before ≤ length log)
-    × Accepting (table log (version_of core before)) (captured packet) kept
-DeliversBy log before event answer = Unit {0}
+    × Accepting (table limits log (version_of core before)) (captured packet) kept
+DeliversBy limits log before event answer = Unit {0}
 
-abbrev pub Delivers : List Op → List Done → Type 0
-Delivers log events = (before after : List Done) (done : Done) → events ≡ before ++ done ∷ after → DeliversBy log before done.event done.answer
+abbrev pub Delivers : TableLimits → List Op → List Done → Type 0
+Delivers limits log events = (before after : List Done) (done : Done) → events ≡ before ++ done ∷ after → DeliversBy limits log before done.event done.answer
 
 -- Decisions
 
 -- the operation is the log's entry at this version, and the answer names the version after it and the id that it makes
-pub record IsEntryAt (log : List Op) (v : ℕ) (op : Op) (version : ℕ) (id : Made) : Type 0 where
+pub record IsEntryAt (limits : TableLimits) (log : List Op) (v : ℕ) (op : Op) (version : ℕ) (id : Made) : Type 0 where
   pub entry : slice_get log v ≡ Some op
   pub is_version : version ≡ v + 1
-  pub is_made : id ≡ made (table log v) op
+  pub is_made : id ≡ made (table limits log v) op
 
 -- Core 0, with this table and this budget, refuses at once: by the first refusal that stands, or since it is out of memory, where
 -- staging asks for it.
@@ -55,9 +56,9 @@ HasReason s budget op why =
 
 -- What core 0 decides at once, with so many other cores, by its budget and the table at this version of the log: it commits where
 -- there is no other core, or it refuses.
-abbrev pub DecidesAtOnce : ℕ → ℕ → List Op → ℕ → Op → Decision → Type 0
-DecidesAtOnce others budget log v op (Committed version id) = (others ≡ 0) × IsEntryAt log v op version id
-DecidesAtOnce others budget log v op (Refused core why) = (core ≡ 0) × HasReason (table log v) budget op why
+abbrev pub DecidesAtOnce : ℕ → ℕ → TableLimits → List Op → ℕ → Op → Decision → Type 0
+DecidesAtOnce others budget limits log v op (Committed version id) = (others ≡ 0) × IsEntryAt limits log v op version id
+DecidesAtOnce others budget limits log v op (Refused core why) = (core ≡ 0) × HasReason (table limits log v) budget op why
 
 -- every other core is asked, under a number that no operation had before
 pub record Prepares (events : List Done) (w : World) (op : Op) (requests : Requests) (w' : World) (txn : ℕ) : Type 0 where
@@ -81,7 +82,7 @@ requests_without w entry asker = record { waiting = slice_set w.requests.waiting
 -- a waiting request is refused at once, and its core is told so
 abbrev pub RepliesAtOnce : World → ℕ → Op → World → Decision → Type 0
 RepliesAtOnce w entry op w' (Committed version id) = ⊥
-RepliesAtOnce w entry op w' (Refused core why) = DecidesAtOnce (length w.peers) w.budget w.log (length w.log) op (Refused core why)
+RepliesAtOnce w entry op w' (Refused core why) = DecidesAtOnce (length w.peers) w.budget w.limits w.log (length w.log) op (Refused core why)
     × (w' ≡ record w { requests = requests_without w entry None; peers = sent_out w.peers (to_one entry (message.Reply (Refused core why))) })
 
 -- all of so many other cores voted Yes
@@ -101,9 +102,9 @@ pub record VetoedBy (votes : ℕ → Option Vote) (budgets : ℕ → Option ℕ)
   pub reason : ((against ≡ vote.NoMemory) × (why ≡ veto.NoMemory) × Allowed s budget op None) ⊎ ((against ≡ vote.Budget) × (why ≡ veto.Budget) × (budget < instructions (after s op)))
 
 -- What so many other cores' votes decide, by their budgets and the table at this version of the log: all are Yes, or one is a veto.
-abbrev pub VotesDecide : ℕ → (ℕ → Option Vote) → (ℕ → Option ℕ) → List Op → ℕ → Op → Decision → Type 0
-VotesDecide others votes budgets log v op (Committed version id) = IsEntryAt log v op version id × AllVoteYes others votes
-VotesDecide others votes budgets log v op (Refused core why) = VetoedBy votes budgets (table log v) op core why
+abbrev pub VotesDecide : ℕ → (ℕ → Option Vote) → (ℕ → Option ℕ) → TableLimits → List Op → ℕ → Op → Decision → Type 0
+VotesDecide others votes budgets limits log v op (Committed version id) = IsEntryAt limits log v op version id × AllVoteYes others votes
+VotesDecide others votes budgets limits log v op (Refused core why) = VetoedBy votes budgets (table limits log v) op core why
 
 -- the vote of the other core with this entry
 abbrev pub vote_by : List Done → ℕ → ℕ → Option Vote
@@ -124,13 +125,13 @@ pub record AwaitsVotes (w : World) : Type 0 where
 -- What is decided of a request after these events holds. Core 0 commits at once only where there is no other core.
 abbrev pub DecidesRightly : List Done → World → Event → World → Answer → Type 0
 DecidesRightly events w (Start op) w' (Prepared txn) = Prepares events w op w.requests w' txn
-DecidesRightly events w (Start op) w' (Decided (Committed version id)) = (w'.log ≡ w.log ++ op ∷ []) × DecidesAtOnce (length w.peers) w.budget w'.log (length w.log) op (Committed version id)
-DecidesRightly events w (Start op) w' (Decided (Refused core why)) = (w' ≡ w) × DecidesAtOnce (length w.peers) w.budget w.log (length w.log) op (Refused core why)
+DecidesRightly events w (Start op) w' (Decided (Committed version id)) = (w'.log ≡ w.log ++ op ∷ []) × DecidesAtOnce (length w.peers) w.budget w'.limits w'.log (length w.log) op (Committed version id)
+DecidesRightly events w (Start op) w' (Decided (Refused core why)) = (w' ≡ w) × DecidesAtOnce (length w.peers) w.budget w.limits w.log (length w.log) op (Refused core why)
 DecidesRightly events w (StartFor (suc entry)) w' (Prepared txn) = (op : Op) × IsWaiting events w entry op × Prepares events w op (requests_without w entry (Some (suc entry))) w' txn
 DecidesRightly events w (StartFor (suc entry)) w' (Decided decision) = (op : Op) × IsWaiting events w entry op × RepliesAtOnce w entry op w' decision
 DecidesRightly events w event w' (TookVote txn v None) = AwaitsVotes w' × (w'.log ≡ w.log)
 DecidesRightly events w event w' (TookVote txn v (Some decision)) = (core : ℕ) × (op : Op) × Begun events txn core op × MakesChange w op w' decision
-    × VotesDecide (length w.peers) (vote_by events txn) (λ entry. budget_at w (suc entry)) w'.log (length w.log) op decision
+    × VotesDecide (length w.peers) (vote_by events txn) (λ entry. budget_at w (suc entry)) w'.limits w'.log (length w.log) op decision
 DecidesRightly events w event w' answer = Unit {0}
 
 -- Replies
@@ -141,14 +142,14 @@ StandsAt version (Committed named id) = version ≡ named
 StandsAt version (Refused core why) = Unit {0}
 
 -- a committed operation is the entry of the log that the decision names, with its id
-abbrev pub IsEntered : List Op → Op → Decision → Type 0
-IsEntered log op (Committed version id) = (v : ℕ) × IsEntryAt log v op version id
-IsEntered log op (Refused core why) = Unit {0}
+abbrev pub IsEntered : TableLimits → List Op → Op → Decision → Type 0
+IsEntered limits log op (Committed version id) = (v : ℕ) × IsEntryAt limits log v op version id
+IsEntered limits log op (Refused core why) = Unit {0}
 
 -- A core that takes a Reply after these events takes the decision of its one request; where that is committed, the request is
 -- that entry of the log, and the core stands exactly at its version.
 abbrev pub RepliesRightly : List Done → World → Event → Answer → Type 0
-RepliesRightly events w (Take (suc entry) from short) (TookReply decision) = (op : Op) × (request_of (suc entry) events ≡ settled op decision) × IsEntered w.log op decision
+RepliesRightly events w (Take (suc entry) from short) (TookReply decision) = (op : Op) × (request_of (suc entry) events ≡ settled op decision) × IsEntered w.limits w.log op decision
     × ((version : ℕ) → version_at w (suc entry) ≡ Some version → StandsAt version decision)
 RepliesRightly events w event answer = Unit {0}
 

@@ -1,6 +1,7 @@
 -- The world of the cores: one log, a place and a version for each core, and the messages under way (Baumann et al. 2009,
 -- "The Multikernel", sections 3.3 and 4.4).
 use Rattle.std.specs.Prelude.{◌≡◌, ℕ, zero, suc, Bool, false, Option, Some, None, List, [], ◌∷◌, ◌++◌, length, map, slice_get, slice_set, option_map, option_to_list}
+use Rattle.filter_table.specs.Limits.{TableLimits}
 use Rattle.filter_table.specs.declared.operation.Op.{Op}
 use Rattle.filter_table.specs.Tables.{TableState, table}
 use Rattle.pcap_reader.specs.declared.capture.CapturedPacket.{CapturedPacket}
@@ -25,6 +26,7 @@ pub record Peer : Type 0 where
 
 -- core c, for c above 0, has entry c - 1 in `peers`
 pub record World : Type 0 where
+  pub limits : TableLimits
   pub log : List Op
   pub budget : ℕ
   pub version : ℕ
@@ -38,13 +40,13 @@ new_peer budget = record { budget = budget; version = 0; place = at_first; outst
 abbrev pub idle_at_first : CoordinatorPlace
 idle_at_first = record { last = 0; phase = Idle; staged = None }
 
--- core 0 with this budget, and the others with theirs
-abbrev pub boot : ℕ → List ℕ → World
-boot budget budgets = record { log = []; budget = budget; version = 0; place = idle_at_first; requests = no_requests (length budgets); peers = map new_peer budgets }
+-- a machine with these limits: core 0 with this budget, and the others with theirs
+abbrev pub boot : TableLimits → ℕ → List ℕ → World
+boot limits budget budgets = record { limits = limits; log = []; budget = budget; version = 0; place = idle_at_first; requests = no_requests (length budgets); peers = map new_peer budgets }
 
 -- the newest table
 abbrev pub newest : World → TableState
-newest w = table w.log (length w.log)
+newest w = table w.limits w.log (length w.log)
 
 abbrev pub version_at : World → ℕ → Option ℕ
 version_at w zero = Some w.version
@@ -71,6 +73,7 @@ sent_out peers (to_one entry m) = sent_to_one peers entry m (slice_get peers ent
 -- core 0 is at a new place, where it has committed an operation or nothing, and has sent what the step says
 abbrev pub core0_moves : World → CoordinatorPlace → Requests → Option Op → Outgoing → World
 core0_moves w place requests committed sent = record {
+  limits = w.limits;
   log = joined w.log committed;
   budget = w.budget;
   version = raised w.version committed;
@@ -146,7 +149,7 @@ pub record HappensDown (w : World) (entry : ℕ) (short : Bool) (w' : World) (an
 pub record HappensRx (w : World) (core : ℕ) (packet : CapturedPacket) (floor : ℕ) (w' : World) (answer : Answer) : Type 0 where
   pub version : ℕ
   pub is_version : version_at w core ≡ Some version
-  pub here : ReceivesAt (table w.log version) version packet floor answer
+  pub here : ReceivesAt (table w.limits w.log version) version packet floor answer
   pub next : w' ≡ w
 
 -- from this world the event may lead to that one with this answer
@@ -166,6 +169,6 @@ abbrev pub Runs : World → List Done → World → Type 0
 Runs w [] w' = w' ≡ w
 Runs w (done ∷ later) w' = (mid : World) × Happens w done.event mid done.answer × Runs mid later w'
 
--- a run of a machine with these budgets
-abbrev pub Run : ℕ → List ℕ → List Done → World → Type 0
-Run budget budgets events w = Runs (boot budget budgets) events w
+-- a run of a machine with these limits and budgets
+abbrev pub Run : TableLimits → ℕ → List ℕ → List Done → World → Type 0
+Run limits budget budgets events w = Runs (boot limits budget budgets) events w

@@ -20,6 +20,7 @@ use Rattle.world_core.proofs.Loads.{next_leaves}
 use Rattle.world_progress.specs.Progress.{DoneOrRefused, SettlesAmply}
 use Rattle.world_progress.proofs.SameRuns.{happens_once}
 use Rattle.world_progress.proofs.Once.{next_once, quiet_no_next}
+use Rattle.filter_table.specs.Limits.{TableLimits}
 use Rattle.world_progress.proofs.Told.{event_told}
 
 -- A take comes next, or all is quiet
@@ -81,17 +82,17 @@ next_stands w event fault n s = elim n.choice [
 
 -- Fewer takes are left each time
 
-module _ (budget : ℕ) (budgets : List ℕ) where
-  settles_within : (most : ℕ) (before : List Done) (w : World) → Run budget budgets before w → takes_left w < most → SettlesAmply w
+module _ (limits : TableLimits) (budget : ℕ) (budgets : List ℕ) where
+  settles_within : (most : ℕ) (before : List Done) (w : World) → Run limits budget budgets before w → takes_left w < most → SettlesAmply w
   settles_within zero before w run few = absurd (omega arith)
   settles_within (suc most) before w run few = by_next (next_or_quiet w) (settles_within most)
     where
-      by_told : (event : Event) → IsNext w event → DoneOrRefused w event → ((later : List Done) (w' : World) → Run budget budgets later w' → takes_left w' < most → SettlesAmply w') → SettlesAmply w
+      by_told : (event : Event) → IsNext w event → DoneOrRefused w event → ((later : List Done) (w' : World) → Run limits budget budgets later w' → takes_left w' < most → SettlesAmply w') → SettlesAmply w
       by_told event next (inr refused) more = absurd (next_stands w event refused.0 next refused.1)
       by_told event next (inl d) more =
           let done : Done = record { event = event; answer = d.answer } in
-          let fewer : takes_left d.next < takes_left w = next_leaves w d.next done (run_inv budget budgets before w run) next d.happens in
-          let rest : SettlesAmply d.next = more (before ++ done ∷ []) d.next (runs_more (boot budget budgets) w d.next before done run d.happens) (omega arith) in
+          let fewer : takes_left d.next < takes_left w = next_leaves w d.next done (run_inv limits budget budgets before w run) next d.happens in
+          let rest : SettlesAmply d.next = more (before ++ done ∷ []) d.next (runs_more (boot limits budget budgets) w d.next before done run d.happens) (omega arith) in
           record {
             taken = done ∷ rest.taken;
             end = rest.end;
@@ -100,12 +101,12 @@ module _ (budget : ℕ) (budgets : List ℕ) where
             had_memory = All-cons HadMemory done rest.taken d.had_memory rest.had_memory;
           }
 
-      by_next : ((event : Event) × IsNext w event) ⊎ AllQuiet w → ((later : List Done) (w' : World) → Run budget budgets later w' → takes_left w' < most → SettlesAmply w') → SettlesAmply w
-      by_next (inl next) more = by_told next.0 next.1 (event_told budget budgets before w next.0 run) more
+      by_next : ((event : Event) × IsNext w event) ⊎ AllQuiet w → ((later : List Done) (w' : World) → Run limits budget budgets later w' → takes_left w' < most → SettlesAmply w') → SettlesAmply w
+      by_next (inl next) more = by_told next.0 next.1 (event_told limits budget budgets before w next.0 run) more
       by_next (inr quiet) more = record { taken = []; end = w; settles = refl; quiet = quiet; had_memory = All-nil HadMemory }
 
-pub run_settles : (budget : ℕ) (budgets : List ℕ) (events : List Done) (w : World) → Run budget budgets events w → SettlesAmply w
-run_settles budget budgets events w run = settles_within budget budgets (suc (takes_left w)) events w run (omega arith)
+pub run_settles : (limits : TableLimits) (budget : ℕ) (budgets : List ℕ) (events : List Done) (w : World) → Run limits budget budgets events w → SettlesAmply w
+run_settles limits budget budgets events w run = settles_within limits budget budgets (suc (takes_left w)) events w run (omega arith)
 
 -- One way
 

@@ -12,25 +12,26 @@ use Rattle.world_model.specs.Worlds.{Peer, World, Happens, Run}
 use Rattle.world_model.proofs.RunLaws.{run_agrees}
 use Rattle.world_core.specs.Refusals.{channel, StandsFirst}
 use Rattle.world_core.proofs.Standing.{start_none, submit_none, start_for_none, take_none, rx_none}
+use Rattle.filter_table.specs.Limits.{TableLimits}
 use Rattle.table_replica.proofs.Shared.{get_at}
 
 -- each other core has an entry among the requests and among the cores
-peers_wait : (budget : ℕ) (budgets : List ℕ) (before : List Done) (w : World) → Run budget budgets before w → length w.requests.waiting ≡ length w.peers
-peers_wait budget budgets before w r =
-    let a = run_agrees budget budgets before w r in
+peers_wait : (limits : TableLimits) (budget : ℕ) (budgets : List ℕ) (before : List Done) (w : World) → Run limits budget budgets before w → length w.requests.waiting ≡ length w.peers
+peers_wait limits budget budgets before w r =
+    let a = run_agrees limits budget budgets before w r in
     a.waiting_kept ∙ (sym (ap length a.budgets_kept) ∙ length-map w.peers (λ p. p.budget))
 
 -- the core whose request is started is joined to core 0
-joined_for : (budget : ℕ) (budgets : List ℕ) (before : List Done) (w w' : World) (core : ℕ) (answer : Answer) → Run budget budgets before w → Happens w (StartFor core) w' answer → channel w zero core ≢ None
-joined_for budget budgets before w w' zero answer r h = absurd h
-joined_for budget budgets before w w' (suc i) answer r h =
-    let p = get_at w.peers i (omega (arith, peers_wait budget budgets before w r, slice_get_within w.requests.waiting i (Some h.here.starts.op) h.here.starts.is_waiting)) in
+joined_for : (limits : TableLimits) (budget : ℕ) (budgets : List ℕ) (before : List Done) (w w' : World) (core : ℕ) (answer : Answer) → Run limits budget budgets before w → Happens w (StartFor core) w' answer → channel w zero core ≢ None
+joined_for limits budget budgets before w w' zero answer r h = absurd h
+joined_for limits budget budgets before w w' (suc i) answer r h =
+    let p = get_at w.peers i (omega (arith, peers_wait limits budget budgets before w r, slice_get_within w.requests.waiting i (Some h.here.starts.op) h.here.starts.is_waiting)) in
     λ none. (let x : channel w zero (suc i) ≡ Some p.0.up = ap (option_map (λ (q : Peer). q.up)) p.1 in cc)
 
 -- no fault stands
-pub none_stands : (budget : ℕ) (budgets : List ℕ) (before : List Done) (w w' : World) (event : Event) (answer : Answer) (fault : WorldFault) → Run budget budgets before w → Happens w event w' answer → StandsFirst w event fault → ⊥
-none_stands budget budgets before w w' (Start op) answer fault r h f = start_none w w' op answer h fault f
-none_stands budget budgets before w w' (Submit core op) answer fault r h f = submit_none w w' core op answer h fault f
-none_stands budget budgets before w w' (StartFor core) answer fault r h f = start_for_none w w' core answer (joined_for budget budgets before w w' core answer r h) h fault f
-none_stands budget budgets before w w' (Take to from short) answer fault r h f = take_none w w' to from short answer h fault f
-none_stands budget budgets before w w' (Rx core number packet floor) answer fault r h f = rx_none w w' core number packet floor answer h fault f
+pub none_stands : (limits : TableLimits) (budget : ℕ) (budgets : List ℕ) (before : List Done) (w w' : World) (event : Event) (answer : Answer) (fault : WorldFault) → Run limits budget budgets before w → Happens w event w' answer → StandsFirst w event fault → ⊥
+none_stands limits budget budgets before w w' (Start op) answer fault r h f = start_none w w' op answer h fault f
+none_stands limits budget budgets before w w' (Submit core op) answer fault r h f = submit_none w w' core op answer h fault f
+none_stands limits budget budgets before w w' (StartFor core) answer fault r h f = start_for_none w w' core answer (joined_for limits budget budgets before w w' core answer r h) h fault f
+none_stands limits budget budgets before w w' (Take to from short) answer fault r h f = take_none w w' to from short answer h fault f
+none_stands limits budget budgets before w w' (Rx core number packet floor) answer fault r h f = rx_none w w' core number packet floor answer h fault f

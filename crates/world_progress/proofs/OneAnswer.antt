@@ -226,7 +226,7 @@ receipt_once s version packet floor a1 a2 a b = a.is_answer ∙ (ap (Delivered v
 rx_answer : (w w1 w2 : World) (core : ℕ) (packet : CapturedPacket) (floor : ℕ) (a1 a2 : Answer) → HappensRx w core packet floor w1 a1 → HappensRx w core packet floor w2 a2 → a1 ≡ a2
 rx_answer w w1 w2 core packet floor a1 a2 a b =
     let version : a.version ≡ b.version = (let x = a.is_version in let y = b.is_version in cc) in
-    receipt_once (table w.log b.version) b.version packet floor a1 a2 (subst (λ (v : ℕ). ReceivesAt (table w.log v) v packet floor a1) version a.here) b.here
+    receipt_once (table w.limits w.log b.version) b.version packet floor a1 a2 (subst (λ (v : ℕ). ReceivesAt (table w.limits w.log v) v packet floor a1) version a.here) b.here
 
 -- All events
 

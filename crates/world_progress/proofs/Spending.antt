@@ -1,5 +1,6 @@
 -- Core 0 gives out no number past the last one.
 use Rattle.std.proofs.Common.{◌≡◌, ◌≤◌, ℕ, zero, suc, Option, List, ap, ◌∙◌, arith}
+use Rattle.filter_table.specs.Limits.{TableLimits}
 use Rattle.filter_table.specs.declared.operation.Op.{Op}
 use Rattle.filter_table.specs.declared.decision.Vote.{Vote}
 use Rattle.filter_table.specs.Tables.{TableState}
@@ -41,6 +42,6 @@ next_last w w' (Take (suc i) zero short) answer le h = rw h.next le
 next_last w w' (Rx core number packet floor) answer le h = rw h.next le
 next_last w w' event answer le h = absurd h
 
-pub last_within : (budget : ℕ) (budgets : List ℕ) (events : List Done) (w : World) → Run budget budgets events w → w.place.last ≤ 18446744073709551615
-last_within budget budgets events w run = run_keeps budget budgets (λ before x. x.place.last ≤ 18446744073709551615) (omega arith)
+pub last_within : (limits : TableLimits) (budget : ℕ) (budgets : List ℕ) (events : List Done) (w : World) → Run limits budget budgets events w → w.place.last ≤ 18446744073709551615
+last_within limits budget budgets events w run = run_keeps limits budget budgets (λ before x. x.place.last ≤ 18446744073709551615) (omega arith)
     (λ before x x' done run' le h. next_last x x' done.event done.answer le h) events w run

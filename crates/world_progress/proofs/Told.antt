@@ -3,6 +3,7 @@ use Rattle.std.proofs.Common.{◌≡◌, ◌≢◌, ◌+◌, ◌<◌, ◌≤◌,
 use Rattle.std.specs.Prelude.{option_map, option_and_then, option_to_list}
 use Rattle.std.proofs.lemmas.Bool.{cases_eq, cases_lt}
 use Rattle.pcap_reader.specs.declared.capture.CapturedPacket.{CapturedPacket}
+use Rattle.filter_table.specs.Limits.{TableLimits}
 use Rattle.filter_table.specs.declared.operation.Op.{Op}
 use Rattle.filter_table.specs.declared.operation.OpFault.{OpFault}
 use Rattle.filter_table.specs.declared.operation.StageFault.TheVariants.{Rule, Budget}
@@ -253,7 +254,7 @@ ballot true s budget op fits none (allows a) = record { cast = vote.NoMemory; ca
 ballot false s budget op fits none (allows a) = record { cast = vote.Yes; casts = (a, allowed_fits s budget op a fits, refl); had_memory = λ e. absurd cc }
 
 -- a core that is asked is at the newest version
-asked_newest : (w : World) (i txn : ℕ) (p : Peer) (op : Op) (rest : List Message) → p.down ≡ message.Prepare txn op ∷ rest → Pair w.log w.place i p → p.version ≡ length w.log
+asked_newest : (w : World) (i txn : ℕ) (p : Peer) (op : Op) (rest : List Message) → p.down ≡ message.Prepare txn op ∷ rest → Pair w.limits w.log w.place i p → p.version ≡ length w.log
 asked_newest w i txn p op rest e (at_rest ph is) = is.version_is
 asked_newest w i txn p op rest e (asked votes o last ph st at le is) = is.version_is
 asked_newest w i txn p op rest e (voted votes o v short ph st at c is) = is.version_is
@@ -270,7 +271,7 @@ lacked_vote txn vote.NoMemory h = refl
 
 prepare_done : (w : World) (i : ℕ) (short : Bool) (p : Peer) (txn : ℕ) (op : Op) (rest : List Message) → Inv w → slice_get w.peers i ≡ Some p → p.down ≡ message.Prepare txn op ∷ rest → Awaits w p (message.Prepare txn op) → IsDoneAmply w (Take (suc i) 0 short)
 prepare_done w i short p txn op rest inv at oldest fits =
-    let within : instructions (newest w) ≤ p.budget = subst (λ (v : ℕ). instructions (table w.log v) ≤ p.budget) (asked_newest w i txn p op rest oldest (inv.pairs i p at)) (inv.within i p at).fits in
+    let within : instructions (newest w) ≤ p.budget = subst (λ (v : ℕ). instructions (table w.limits w.log v) ≤ p.budget) (asked_newest w i txn p op rest oldest (inv.pairs i p at)) (inv.within i p at).fits in
     let b = ballot short (newest w) p.budget op within fits.2 (outcome (newest w) p.budget op) in
     down_done w i short p (message.Prepare txn op) rest (record { last = txn; voted = Some b.cast; staged = staged_by b.cast op }) p.outstanding None (TookPrepare txn b.cast) at oldest
     (record { reply = message.Vote txn b.cast; answers = (fits.0, fits.1, b.casts, refl, refl); same_outstanding = refl; is_committed = refl; is_answer = refl })
@@ -302,14 +303,14 @@ down_tells w i short inv known = by_peer (slice_get w.peers i) refl
 
 -- A core receives a packet
 
-rx_tells : (budget : ℕ) (budgets : List ℕ) (events : List Done) (w : World) (core number : ℕ) (packet : CapturedPacket) (floor : ℕ) → Run budget budgets events w → DoneOrRefused w (Rx core number packet floor)
-rx_tells budget budgets events w core number packet floor run = by_version (version_at w core) refl
+rx_tells : (limits : TableLimits) (budget : ℕ) (budgets : List ℕ) (events : List Done) (w : World) (core number : ℕ) (packet : CapturedPacket) (floor : ℕ) → Run limits budget budgets events w → DoneOrRefused w (Rx core number packet floor)
+rx_tells limits budget budgets events w core number packet floor run = by_version (version_at w core) refl
   where
     by_floor : (version : ℕ) → version_at w core ≡ Some version → (version < floor) ⊎ (floor ≤ version) → DoneOrRefused w (Rx core number packet floor)
     by_floor version at (inl lt) = inr (NotReady, (version, at, lt))
     by_floor version at (inr le) =
-        let inside = version_within budget budgets w core version (run_agrees budget budgets events w run) at in
-        let found = some_accepting (table w.log version) (captured packet) ((run_sound budget budgets events w run).sound version inside) in
+        let inside = version_within limits budget budgets w core version (run_agrees limits budget budgets events w run) at in
+        let found = some_accepting (table w.limits w.log version) (captured packet) ((run_sound limits budget budgets events w run).sound version inside) in
         inl (record {
           next = w;
           answer = Delivered version found.0;
@@ -323,14 +324,14 @@ rx_tells budget budgets events w core number packet floor run = by_version (vers
 
 -- All events
 
-pub event_told : (budget : ℕ) (budgets : List ℕ) (events : List Done) (w : World) (event : Event) → Run budget budgets events w → DoneOrRefused w event
-event_told budget budgets events w (Start op) run = start_tells w op (ready_or_not w.place (last_within budget budgets events w run))
-event_told budget budgets events w (Submit zero op) run = inr (NoSuchCore, refl)
-event_told budget budgets events w (Submit (suc i) op) run = submit_tells w i op
-event_told budget budgets events w (StartFor zero) run = inr (NoSuchCore, refl)
-event_told budget budgets events w (StartFor (suc i)) run = start_for_tells w i (ready_or_not w.place (last_within budget budgets events w run))
-event_told budget budgets events w (Take zero zero short) run = inr (NoSuchCore, refl)
-event_told budget budgets events w (Take zero (suc i) short) run = up_tells w i short (run_inv budget budgets events w run) (run_no_stranger budget budgets events w run)
-event_told budget budgets events w (Take (suc i) zero short) run = down_tells w i short (run_inv budget budgets events w run) (run_no_stranger budget budgets events w run)
-event_told budget budgets events w (Take (suc i) (suc j) short) run = inr (NoSuchCore, refl)
-event_told budget budgets events w (Rx core number packet floor) run = rx_tells budget budgets events w core number packet floor run
+pub event_told : (limits : TableLimits) (budget : ℕ) (budgets : List ℕ) (events : List Done) (w : World) (event : Event) → Run limits budget budgets events w → DoneOrRefused w event
+event_told limits budget budgets events w (Start op) run = start_tells w op (ready_or_not w.place (last_within limits budget budgets events w run))
+event_told limits budget budgets events w (Submit zero op) run = inr (NoSuchCore, refl)
+event_told limits budget budgets events w (Submit (suc i) op) run = submit_tells w i op
+event_told limits budget budgets events w (StartFor zero) run = inr (NoSuchCore, refl)
+event_told limits budget budgets events w (StartFor (suc i)) run = start_for_tells w i (ready_or_not w.place (last_within limits budget budgets events w run))
+event_told limits budget budgets events w (Take zero zero short) run = inr (NoSuchCore, refl)
+event_told limits budget budgets events w (Take zero (suc i) short) run = up_tells w i short (run_inv limits budget budgets events w run) (run_no_stranger limits budget budgets events w run)
+event_told limits budget budgets events w (Take (suc i) zero short) run = down_tells w i short (run_inv limits budget budgets events w run) (run_no_stranger limits budget budgets events w run)
+event_told limits budget budgets events w (Take (suc i) (suc j) short) run = inr (NoSuchCore, refl)
+event_told limits budget budgets events w (Rx core number packet floor) run = rx_tells limits budget budgets events w core number packet floor run

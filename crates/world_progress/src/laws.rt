@@ -1,6 +1,7 @@
 //! Laws, each the contract of a function that does nothing.
 
 ghost use Rattle.std.specs.Prelude.{◌≡◌, ℕ, All, List, map};
+ghost use Rattle.filter_table.specs.Limits.{TableLimits};
 ghost use Rattle.world_events.specs.declared.event.Answer.{Answer};
 ghost use Rattle.world_events.specs.declared.event.Done.{Done};
 ghost use Rattle.world_events.specs.declared.event.Event.{Event};
@@ -12,9 +13,9 @@ ghost use Rattle.world_progress.specs.Progress.{DoneOrRefused, SettlesAmply};
 
 /// In every run each event can be done with no core out of memory, or a fault stands, and not both. The fault is the only one.
 pub fn events_are_done_or_refused()
-    ensures some { (budget : ℕ) (budgets : List ℕ) (events : List Done) (w : World) (event : Event) → Run budget budgets events w → DoneOrRefused w event }
-    ensures one { (budget : ℕ) (budgets : List ℕ) (events : List Done) (w w' : World) (event : Event) (answer : Answer) (fault : WorldFault) →
-        Run budget budgets events w → Happens w event w' answer → StandsFirst w event fault → ⊥ }
+    ensures some { (limits : TableLimits) (budget : ℕ) (budgets : List ℕ) (events : List Done) (w : World) (event : Event) → Run limits budget budgets events w → DoneOrRefused w event }
+    ensures one { (limits : TableLimits) (budget : ℕ) (budgets : List ℕ) (events : List Done) (w w' : World) (event : Event) (answer : Answer) (fault : WorldFault) →
+        Run limits budget budgets events w → Happens w event w' answer → StandsFirst w event fault → ⊥ }
     ensures fault { (w : World) (event : Event) (fault other : WorldFault) → StandsFirst w event fault → StandsFirst w event other → fault ≡ other }
 {}
 
@@ -31,7 +32,7 @@ pub fn answers_follow_from_events()
 /// From the world of every run all messages can be taken in order, with no core out of memory, until none is left. Where no core is
 /// out of memory, those takes with their answers are the only ones, and so is the world in which they end.
 pub fn settling_ends()
-    ensures some { (budget : ℕ) (budgets : List ℕ) (events : List Done) (w : World) → Run budget budgets events w → SettlesAmply w }
+    ensures some { (limits : TableLimits) (budget : ℕ) (budgets : List ℕ) (events : List Done) (w : World) → Run limits budget budgets events w → SettlesAmply w }
     ensures one { (w w1 w2 : World) (taken1 taken2 : List Done) → Settles w taken1 w1 → AllQuiet w1 → All HadMemory taken1 →
         Settles w taken2 w2 → AllQuiet w2 → All HadMemory taken2 → (taken1 ≡ taken2) × (w1 ≡ w2) }
 {}

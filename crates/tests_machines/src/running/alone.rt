@@ -11,6 +11,7 @@ use monitor_messages::{Message, encode};
 use rx_queue::{Port, queue};
 use std::alloc::Global;
 use std::process::Abort;
+use table_replica::Limits;
 
 /// A core of this many cores that is to create an endpoint, over links of capacity 1.
 fn creator(rt: &impl Abort, alloc: Global, cores: u16) -> (Recorded<ListLinks>, Port)
@@ -19,7 +20,16 @@ fn creator(rt: &impl Abort, alloc: Global, cores: u16) -> (Recorded<ListLinks>, 
     let (port, intake) = queue(alloc, 4).expect(rt, "there is memory");
     let links = ListLinks::new(alloc, 0, cores, 1).expect(rt, "there is memory");
     let requests = creation(rt, alloc);
-    let core = Core::new(alloc, links, 100, 0, cores, requests, intake);
+    let core = Core::new(
+        alloc,
+        links,
+        Limits::DEFAULT,
+        100,
+        0,
+        cores,
+        requests,
+        intake,
+    );
     let core = core.expect(rt, "there is memory");
     (Recorded::new(alloc, core), port)
 }

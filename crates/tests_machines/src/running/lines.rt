@@ -12,6 +12,7 @@ use rx_queue::{Port, queue};
 use std::alloc::{AllocError, Global};
 use std::collections::VecDeque;
 use std::process::Abort;
+use table_replica::Limits;
 use ump_ring::{Joiner, Line, Receiver, ring};
 
 // The links of core 1 of two, over which these lines have come: their first two words, where all others are 0.
@@ -33,7 +34,16 @@ fn given_links(alloc: Global, heads: &[(u64, u64)]) -> Result<RingLinks, AllocEr
 fn given_core(rt: &impl Abort, alloc: Global, heads: &[(u64, u64)]) -> (Recorded<RingLinks>, Port) {
     let (port, intake) = queue(alloc, 1).expect(rt, "there is memory");
     let links = given_links(alloc, heads).expect(rt, "there is memory");
-    let core = Core::new(alloc, links, 100, 1, 2, VecDeque::new(alloc), intake);
+    let core = Core::new(
+        alloc,
+        links,
+        Limits::DEFAULT,
+        100,
+        1,
+        2,
+        VecDeque::new(alloc),
+        intake,
+    );
     let core = core.expect(rt, "there is memory");
     (Recorded::new(alloc, core), port)
 }

@@ -12,7 +12,7 @@ use rx_queue::{Port, queue};
 use std::alloc::{AllocError, Global};
 use std::collections::VecDeque;
 use std::process::Abort;
-use table_replica::Op;
+use table_replica::{Limits, Op};
 use test_words::{ALL, CAP, EventWords, FILTER, is_for_memory, program, tells};
 
 // Requests to create endpoint 7 and to install a filter that accepts every packet.
@@ -31,7 +31,16 @@ fn installation(rt: &impl Abort, alloc: Global) -> VecDeque<Op> {
 fn core_0(rt: &impl Abort, alloc: Global, capacity: usize) -> (Recorded<ListLinks>, Port) {
     let (port, intake) = queue(alloc, 4).expect(rt, "there is memory");
     let links = ListLinks::new(alloc, 0, 2, capacity).expect(rt, "there is memory");
-    let core = Core::new(alloc, links, 100, 0, 2, installation(rt, alloc), intake);
+    let core = Core::new(
+        alloc,
+        links,
+        Limits::DEFAULT,
+        100,
+        0,
+        2,
+        installation(rt, alloc),
+        intake,
+    );
     let core = core.expect(rt, "there is memory");
     (Recorded::new(alloc, core), port)
 }

@@ -9,7 +9,7 @@ returns c =
     record {
       core = core;
       port = port;
-      comes_up = subst (λ (n : ℕ). ComesUp n c.args.count c.args.budget c.args.links c.args.requests.items core port) (c.len-number.ensures ∙ c.args.cores.now.ok.0) c.in_ok-core.ensures;
+      comes_up = subst (λ (n : ℕ). ComesUp n c.args.count c.args.limits c.args.budget c.args.links c.args.requests.items core port) (c.len-number.ensures ∙ c.args.cores.now.ok.0) c.in_ok-core.ensures;
       pushed = c.in_ok-push.ensures.items;
       pushed_port = c.in_ok-push-2.ensures.items;
     }

@@ -10,13 +10,13 @@ start_cores-requires c = record {
 }
 
 pub returns-clause-machine : goal.returns-clause-machine
-returns-clause-machine c = is_machine _ _ _ _ _ c.requires.count.0 c.in_ok-links.ensures c.in_ok-lanes.ensures.count c.in_ok-cores.ensures
+returns-clause-machine c = is_machine _ _ _ _ _ _ c.requires.count.0 c.in_ok-links.ensures c.in_ok-lanes.ensures.count c.in_ok-cores.ensures
 
 pub returns-clause-requests : goal.returns-clause-requests
-returns-clause-requests c = all_requests _ _ _ _ _ _ _ c.in_ok-cores.ensures (wiring_long _ _ c.in_ok-links.ensures) c.in_ok-lanes.ensures.count c.in_ok-lanes.ensures.lanes
+returns-clause-requests c = all_requests _ _ _ _ _ _ _ _ c.in_ok-cores.ensures (wiring_long _ _ c.in_ok-links.ensures) c.in_ok-lanes.ensures.count c.in_ok-lanes.ensures.lanes
 
 pub returns-clause-booted : goal.returns-clause-booted
-returns-clause-booted c = all_booted _ _ _ _ _ _ c.in_ok-cores.ensures (wiring_long _ _ c.in_ok-links.ensures) c.in_ok-lanes.ensures.count
+returns-clause-booted c = all_booted _ _ _ _ _ _ _ c.in_ok-cores.ensures (wiring_long _ _ c.in_ok-links.ensures) c.in_ok-lanes.ensures.count
 
 pub returns-clause-cores : goal.returns-clause-cores
 returns-clause-cores c = c.in_ok-cores.ensures.all ∙ wiring_long _ _ c.in_ok-links.ensures

@@ -4,4 +4,4 @@ use Rattle.core_boot.proofs.ComingUp.{ComingUp}
 use Rattle.core_boot.proofs.booting.start_cores.Given as goal
 
 abbrev pub invariant-loop-links : goal.invariant-loop-links
-invariant-loop-links l = ComingUp (length l.budgets) l.budgets l.fn.lanes.items l.lanes.items l.fn.links.items l.yielded (into_iter_items l.links-iterator) l.cores.items l.ports.items
+invariant-loop-links l = ComingUp (length l.budgets) l.limits l.budgets l.fn.lanes.items l.lanes.items l.fn.links.items l.yielded (into_iter_items l.links-iterator) l.cores.items l.ports.items

@@ -20,7 +20,7 @@ one_running o is = search rules
 pub do_step-requires-clause-place : goal.do_step-requires-clause-place
 do_step-requires-clause-place c =
     let m = c.requires.machine in
-    placed m.0 m.1 c.args.cores.now c.loop-step.cores m.2 (driven_same c.loop-step.yielded c.loop-step.outcomes.items c.args.cores.now c.loop-step.cores c.loop-step.invariant.0)
+    placed m.0 m.1 m.2 c.args.cores.now c.loop-step.cores m.3 (driven_same c.loop-step.yielded c.loop-step.outcomes.items c.args.cores.now c.loop-step.cores c.loop-step.invariant.0)
 
 pub loop-step-preserved : goal.loop-step-preserved
 loop-step-preserved c = (
@@ -36,7 +36,7 @@ loop-step-preserved c = (
 pub agree_all-requires : goal.agree_all-requires
 agree_all-requires c =
     let m = c.requires.machine in
-    (m.0, m.1, machine_ran m.0 m.1 c.args.cores.now c.loop-step.cores m.2 (driven_same c.loop-step.yielded c.loop-step.outcomes.items c.args.cores.now c.loop-step.cores c.loop-step.invariant.0))
+    (m.0, m.1, m.2, machine_ran m.0 m.1 m.2 c.args.cores.now c.loop-step.cores m.3 (driven_same c.loop-step.yielded c.loop-step.outcomes.items c.args.cores.now c.loop-step.cores c.loop-step.invariant.0))
 
 pub returns-clause-driven : goal.returns-clause-driven
 returns-clause-driven c =
@@ -56,12 +56,12 @@ returns-clause-machine c =
     (driven_looked c.loop-step.yielded c.loop-step.outcomes.items c.args.cores.now c.loop-step.cores c.agree_all.new.cores c.loop-step.invariant.0 c.agree_all.ensures.looked)
 
 pub returns-clause-concludes : goal.returns-clause-concludes
-returns-clause-concludes c = λ budget budgets machine.
-    c.agree_all.ensures.concludes budget budgets
-    (machine_ran budget budgets c.args.cores.now c.loop-step.cores machine (driven_same c.loop-step.yielded c.loop-step.outcomes.items c.args.cores.now c.loop-step.cores c.loop-step.invariant.0))
+returns-clause-concludes c = λ limits budget budgets machine.
+    c.agree_all.ensures.concludes limits budget budgets
+    (machine_ran limits budget budgets c.args.cores.now c.loop-step.cores machine (driven_same c.loop-step.yielded c.loop-step.outcomes.items c.args.cores.now c.loop-step.cores c.loop-step.invariant.0))
 
 pub returns-clause-running : goal.returns-clause-running
 returns-clause-running c =
     let m = c.requires.machine in
-    let same = machine_ran m.0 m.1 c.args.cores.now c.loop-step.cores m.2 (driven_same c.loop-step.yielded c.loop-step.outcomes.items c.args.cores.now c.loop-step.cores c.loop-step.invariant.0) in
-    c.loop-step.invariant.4 (ran_before m.0 m.1 c.loop-step.cores c.agree_all.new.cores c.agree_all.ensures.looked (c.agree_all.ensures.concludes m.0 m.1 same))
+    let same = machine_ran m.0 m.1 m.2 c.args.cores.now c.loop-step.cores m.3 (driven_same c.loop-step.yielded c.loop-step.outcomes.items c.args.cores.now c.loop-step.cores c.loop-step.invariant.0) in
+    c.loop-step.invariant.4 (ran_before m.0 m.1 m.2 c.loop-step.cores c.agree_all.new.cores c.agree_all.ensures.looked (c.agree_all.ensures.concludes m.0 m.1 m.2 same))

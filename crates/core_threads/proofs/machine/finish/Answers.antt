@@ -38,7 +38,7 @@ returns-clause-finishes c =
     let machine = left_machine _ new _ c.requires left.same c.as_mut_slice.result.now (value ∙ cores) in
     finishes _ new _ c.requires left.same _ _ _ left why
     (looked_from c.in_ok-cores.cores.len c.in_ok-cores.cores.items c.as_mut_slice.result.now c.look_at_machine.new.cores value c.in_ok-cores.cores.ok.0 look.looked (map (λ (r : Ran). r.core) new) cores)
-    (running_back c.in_ok-cores.cores.len c.in_ok-cores.cores.items c.as_mut_slice.result.now c.look_at_machine.new.cores value c.in_ok-cores.cores.ok.0 look.looked machine.0 machine.1 (look.concludes machine.0 machine.1 machine.2))
+    (running_back c.in_ok-cores.cores.len c.in_ok-cores.cores.items c.as_mut_slice.result.now c.look_at_machine.new.cores value c.in_ok-cores.cores.ok.0 look.looked machine.0 machine.1 machine.2 (look.concludes machine.0 machine.1 machine.2 machine.3))
 
 pub returns-clause-halts : goal.returns-clause-halts
 returns-clause-halts c =

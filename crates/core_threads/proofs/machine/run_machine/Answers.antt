@@ -29,4 +29,4 @@ returns-clause-machine g c =
 pub returns-clause-one_machine : goal.returns-clause-one_machine
 returns-clause-one_machine g c =
     let up = c.in_ok-cores.ensures.booted in
-    (up.budget, up.budgets, returns-clause-machine g c up.budget up.budgets up.machine)
+    (up.limits, up.budget, up.budgets, returns-clause-machine g c up.limits up.budget up.budgets up.machine)

@@ -8,13 +8,13 @@ returns-clause-rests g c =
     c.as_mut_slice.ensures.value c.deref.ensures.value e.cores.ok.0 c.settle_where_halted-undone.ensures c.in_ok-ended.ensures.ended
 
 pub returns-clause-machine : goal.returns-clause-machine
-returns-clause-machine g c = λ budget budgets m.
+returns-clause-machine g c = λ limits budget budgets m.
     let e = c.in_ok-ended.ended in
     machine_after c.args.machine.cores e.cores.items c.as_mut_slice.result.now c.settle_where_halted-undone.new.cores c.args.jobs.items e.left.items c.deref.result.now e.cores.len e.halted c.settle_where_halted-undone.result
-    c.as_mut_slice.ensures.value c.deref.ensures.value e.cores.ok.0 c.settle_where_halted-undone.ensures budget budgets (c.in_ok-ended.ensures.machine budget budgets m)
+    c.as_mut_slice.ensures.value c.deref.ensures.value e.cores.ok.0 c.settle_where_halted-undone.ensures limits budget budgets (c.in_ok-ended.ensures.machine limits budget budgets m)
 
 pub returns-clause-named : goal.returns-clause-named
 returns-clause-named g c =
     let e = c.in_ok-ended.ended in let m = c.in_ok-ended.ensures.one_machine in
     named_after c.args.machine.cores e.cores.items c.as_mut_slice.result.now c.settle_where_halted-undone.new.cores c.args.jobs.items e.left.items c.deref.result.now e.cores.len e.halted c.settle_where_halted-undone.result
-    c.as_mut_slice.ensures.value c.deref.ensures.value e.cores.ok.0 c.settle_where_halted-undone.ensures m.0 m.1 m.2 c.in_ok-ended.ensures.ended.why
+    c.as_mut_slice.ensures.value c.deref.ensures.value e.cores.ok.0 c.settle_where_halted-undone.ensures m.0 m.1 m.2 m.3 c.in_ok-ended.ensures.ended.why

@@ -6,9 +6,13 @@ pub returns-clause-most_cores : goal.returns-clause-most_cores
 unfolding command_of event_of
 returns-clause-most_cores c = refl
 
-pub returns-clause-no_nine_cores : goal.returns-clause-no_nine_cores
+pub returns-clause-no_65_cores : goal.returns-clause-no_65_cores
 unfolding command_of event_of
-returns-clause-no_nine_cores c = refl
+returns-clause-no_65_cores c = refl
+
+pub returns-clause-of_limits : goal.returns-clause-of_limits
+unfolding command_of event_of
+returns-clause-of_limits c = refl
 
 pub returns-clause-of_a_mint : goal.returns-clause-of_a_mint
 unfolding command_of event_of

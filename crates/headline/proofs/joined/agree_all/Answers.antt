@@ -8,7 +8,7 @@ use Rattle.headline.proofs.joined.agree_all.Goals as goal
 pub agree-requires : goal.agree-requires
 agree-requires c =
     let whole : c.args.cores.now ≡ c.in-Some.first.now ∷ c.in-Some.others.now = search rules in
-    (c.requires.0, c.requires.1, subst (λ (l : List RingCore). IsMachine c.requires.0 c.requires.1 l) whole c.requires.2)
+    (c.requires.0, c.requires.1, c.requires.2, subst (λ (l : List RingCore). IsMachine c.requires.0 c.requires.1 c.requires.2 l) whole c.requires.3)
 
 pub returns-in-Some-clause-concludes : goal.returns-in-Some-clause-concludes
 returns-in-Some-clause-concludes c =

@@ -8,23 +8,23 @@ use Rattle.headline.proofs.machine.one_by_one.Goals as goal
 pub returns-in-Ok-apply_all-clause-cores : goal.returns-in-Ok-apply_all-clause-cores
 returns-in-Ok-apply_all-clause-cores c =
     let up = c.in-Ok.ensures.boots in
-    let run = extends_boot up.0 up.1 c.in-Ok.world c.apply_all.new.world c.in-Ok-apply_all.events.items up.3 c.in-Ok-apply_all.ensures.extends in
-    all_replicas up.0 up.1 c.in-Ok-apply_all.events.items c.apply_all.new.world run ∙ ap length (sym up.2)
+    let run = extends_boot c.args.limits up.0 up.1 c.in-Ok.world c.apply_all.new.world c.in-Ok-apply_all.events.items up.3 c.in-Ok-apply_all.ensures.extends in
+    all_replicas c.args.limits up.0 up.1 c.in-Ok-apply_all.events.items c.apply_all.new.world run ∙ ap length (sym up.2)
 
 pub returns-in-Ok-apply_all-clause-tables : goal.returns-in-Ok-apply_all-clause-tables
 returns-in-Ok-apply_all-clause-tables c =
     let up = c.in-Ok.ensures.boots in
-    let run = extends_boot up.0 up.1 c.in-Ok.world c.apply_all.new.world c.in-Ok-apply_all.events.items up.3 c.in-Ok-apply_all.ensures.extends in
-    tables_shown up.0 up.1 c.in-Ok-apply_all.events.items c.apply_all.new.world run
+    let run = extends_boot c.args.limits up.0 up.1 c.in-Ok.world c.apply_all.new.world c.in-Ok-apply_all.events.items up.3 c.in-Ok-apply_all.ensures.extends in
+    tables_shown c.args.limits up.0 up.1 c.in-Ok-apply_all.events.items c.apply_all.new.world run
 
 pub returns-in-Ok-apply_all-clause-equal : goal.returns-in-Ok-apply_all-clause-equal
 returns-in-Ok-apply_all-clause-equal c =
     let up = c.in-Ok.ensures.boots in
-    let run = extends_boot up.0 up.1 c.in-Ok.world c.apply_all.new.world c.in-Ok-apply_all.events.items up.3 c.in-Ok-apply_all.ensures.extends in
-    equal_shown c.in-Ok-apply_all.events.items (replicas_of c.apply_all.new.world) (tables_shown up.0 up.1 c.in-Ok-apply_all.events.items c.apply_all.new.world run)
+    let run = extends_boot c.args.limits up.0 up.1 c.in-Ok.world c.apply_all.new.world c.in-Ok-apply_all.events.items up.3 c.in-Ok-apply_all.ensures.extends in
+    equal_shown c.args.limits c.in-Ok-apply_all.events.items (replicas_of c.apply_all.new.world) (tables_shown c.args.limits up.0 up.1 c.in-Ok-apply_all.events.items c.apply_all.new.world run)
 
 pub returns-in-Ok-apply_all-clause-delivers : goal.returns-in-Ok-apply_all-clause-delivers
 returns-in-Ok-apply_all-clause-delivers c =
     let up = c.in-Ok.ensures.boots in
-    let run = extends_boot up.0 up.1 c.in-Ok.world c.apply_all.new.world c.in-Ok-apply_all.events.items up.3 c.in-Ok-apply_all.ensures.extends in
-    delivers_shown up.0 up.1 c.in-Ok-apply_all.events.items c.apply_all.new.world run
+    let run = extends_boot c.args.limits up.0 up.1 c.in-Ok.world c.apply_all.new.world c.in-Ok-apply_all.events.items up.3 c.in-Ok-apply_all.ensures.extends in
+    delivers_shown c.args.limits up.0 up.1 c.in-Ok-apply_all.events.items c.apply_all.new.world run

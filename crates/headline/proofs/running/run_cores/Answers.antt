@@ -3,8 +3,8 @@ use Rattle.rx_queue.specs.declared.job.Job.{Job}
 use Rattle.headline.proofs.Ending.{givable, have_ended}
 use Rattle.headline.proofs.running.run_cores.Goals as goal
 
-pub boot-requires-clause-short : goal.boot-requires-clause-short
-boot-requires-clause-short g c = givable c.args.requests.items c.requires.short
+pub boot_with_limits-requires-clause-short : goal.boot_with_limits-requires-clause-short
+boot_with_limits-requires-clause-short g c = givable c.args.requests.items c.requires.short
 
 pub run_to_rest-requires-after_bounds : goal.run_to_rest-requires-after_bounds
 run_to_rest-requires-after_bounds g c =
@@ -13,5 +13,5 @@ run_to_rest-requires-after_bounds g c =
 
 pub returns-in-None-clause-ended : goal.returns-in-None-clause-ended
 returns-in-None-clause-ended g c =
-    have_ended c.args.budgets.now c.args.requests.items c.args.jobs.items c.in-Ok.machine.cores c.in_ok-rested.rested.cores.items c.in_ok-rested.rested.left.items c.in_ok-rested.rested.undone
-    c.in-None.is c.in-Ok.ensures.machine c.in-Ok.ensures.cores c.in-Ok.ensures.requests c.in_ok-rested.ensures.rests c.in_ok-rested.ensures.machine
+    have_ended c.args.limits c.args.budgets.now c.args.requests.items c.args.jobs.items c.in-Ok.machine.cores c.in_ok-rested.rested.cores.items c.in_ok-rested.rested.left.items c.in_ok-rested.rested.undone
+    c.in-None.is c.in-Ok.ensures.machine c.in-Ok.ensures.cores c.in-Ok.ensures.requests c.in_ok-rested.ensures.rests (c.in_ok-rested.ensures.machine c.args.limits)

@@ -2,7 +2,10 @@ use Rattle.std.proofs.Common.{◌≡◌, ◌∙◌, ◌<◌, ◌≤◌, ◌⊎�
 use Rattle.std.specs.Prelude.{IfSome}
 use Rattle.std.proofs.lemmas.Bool.{cases_lt}
 use Rattle.std.proofs.lemmas.List.Elements.{All-append}
-use Rattle.core_join.specs.Machines.{RingCore}
+use Rattle.filter_table.specs.Limits.{TableLimits}
+use Rattle.core_join.specs.Machines.{RingCore, IsMachine}
+use Rattle.core_boot.specs.Booting.{IsMachineOf}
+use Rattle.core_boot.proofs.Machines.{machine_of}
 use Rattle.core_drive.specs.declared.step.CoreStep.{CoreStep}
 use Rattle.headline.specs.Served.{events_of}
 use Rattle.headline.specs.Waking.{IsTurnOf}
@@ -18,13 +21,22 @@ inside steps turns cores slice budgets long is within after =
     let after' : All (IsTurnOf (length cores)) turns = subst (λ (l : List RingCore). All (IsTurnOf (length l)) turns) is after in
     All-append Inside steps turns (subst (λ (n : ℕ). All (λ (s : CoreStep). s.core < n) steps) (sym long) within) (λ k d lt. (after' k d lt).inside)
 
--- and there are at most 8
-few : (cores slice : List RingCore) (budgets : List ℕ) → length cores ≡ length budgets → slice ≡ cores → (8 < length budgets → ⊥) → length slice ≤ 8
-few cores slice budgets long is most = by_place (cases_lt 8 (length budgets))
+-- and there are at most 64
+few : (cores slice : List RingCore) (budgets : List ℕ) → length cores ≡ length budgets → slice ≡ cores → (64 < length budgets → ⊥) → length slice ≤ 64
+few cores slice budgets long is most = by_place (cases_lt 64 (length budgets))
   where
-    by_place : ((8 < length budgets) ⊎ (length budgets ≤ 8)) → length slice ≤ 8
+    by_place : ((64 < length budgets) ⊎ (length budgets ≤ 64)) → length slice ≤ 64
     by_place (inl lt) = absurd (most lt)
     by_place (inr le) = omega (arith, le, long, ap length is)
+
+-- they are a machine
+its_machine : (limits : TableLimits) (cores slice : List RingCore) (budgets : List ℕ) → slice ≡ cores → IsMachineOf limits budgets cores → (budget : ℕ) × (others : List ℕ) × IsMachine limits budget others slice
+its_machine limits cores slice budgets is machine = machine_of limits budgets slice (subst (λ (l : List RingCore). IsMachineOf limits budgets l) (sym is) machine)
+
+pub serve_all-requires-clause-machine : goal.serve_all-requires-clause-machine
+serve_all-requires-clause-machine c =
+    let m = its_machine c.args.limits c.in-Ok.cores.items c.as_mut_slice.result.now c.args.budgets.now c.as_mut_slice.ensures.value c.in-Ok.ensures.machine in
+    (c.args.limits, m.0, m.1, m.2)
 
 pub serve_all-requires-clause-few : goal.serve_all-requires-clause-few
 serve_all-requires-clause-few c = few c.in-Ok.cores.items c.as_mut_slice.result.now c.args.budgets.now c.in-Ok.ensures.cores c.as_mut_slice.ensures.value (λ lt. (let no = c.in-Ok.ensures.count.1 (inr lt) in let ok = c.in-Ok.is in cc))
@@ -32,36 +44,49 @@ serve_all-requires-clause-few c = few c.in-Ok.cores.items c.as_mut_slice.result.
 pub returns-in-Ok-serve_all-clause-tables : goal.returns-in-Ok-serve_all-clause-tables
 returns-in-Ok-serve_all-clause-tables c =
     let e = c.in-Ok-serve_all.ensures in
+    let m = its_machine c.args.limits c.in-Ok.cores.items c.as_mut_slice.result.now c.args.budgets.now c.as_mut_slice.ensures.value c.in-Ok.ensures.machine in
+    let done = e.done c.args.limits m.0 m.1 m.2 in
     let turns = c.in-Ok-serve_all.work.turns.items in
     let within = inside c.args.steps.items turns c.in-Ok.cores.items c.as_mut_slice.result.now c.args.budgets.now c.in-Ok.ensures.cores c.as_mut_slice.ensures.value c.requires.steps e.turns in
-    (says_after c.in-Ok.cores.len (c.args.steps.items ++ turns) c.in-Ok-serve_all.work.outcomes.items c.in-Ok.cores.items c.as_mut_slice.result.now c.serve_all.new.cores c.as_mut_slice.ensures.value c.in-Ok.cores.ok.0 within c.in-Ok.ensures.nothing
-    e.done.driven (e.done.budget, e.done.budgets, e.done.con) e.done.order).tables
+    (says_after c.args.limits c.in-Ok.cores.len (c.args.steps.items ++ turns) c.in-Ok-serve_all.work.outcomes.items c.in-Ok.cores.items c.as_mut_slice.result.now c.serve_all.new.cores c.as_mut_slice.ensures.value c.in-Ok.cores.ok.0 within c.in-Ok.ensures.nothing
+    done.driven (done.budget, done.budgets, done.con) done.order).tables
 
 pub returns-in-Ok-serve_all-clause-equal : goal.returns-in-Ok-serve_all-clause-equal
 returns-in-Ok-serve_all-clause-equal c =
-    equal_shown (events_of (c.args.steps.items ++ c.in-Ok-serve_all.work.turns.items) c.in-Ok-serve_all.work.outcomes.items) _ (returns-in-Ok-serve_all-clause-tables c)
+    equal_shown c.args.limits (events_of (c.args.steps.items ++ c.in-Ok-serve_all.work.turns.items) c.in-Ok-serve_all.work.outcomes.items) _ (returns-in-Ok-serve_all-clause-tables c)
 
 pub returns-in-Ok-serve_all-clause-delivers : goal.returns-in-Ok-serve_all-clause-delivers
 returns-in-Ok-serve_all-clause-delivers c =
     let e = c.in-Ok-serve_all.ensures in
+    let m = its_machine c.args.limits c.in-Ok.cores.items c.as_mut_slice.result.now c.args.budgets.now c.as_mut_slice.ensures.value c.in-Ok.ensures.machine in
+    let done = e.done c.args.limits m.0 m.1 m.2 in
     let turns = c.in-Ok-serve_all.work.turns.items in
     let within = inside c.args.steps.items turns c.in-Ok.cores.items c.as_mut_slice.result.now c.args.budgets.now c.in-Ok.ensures.cores c.as_mut_slice.ensures.value c.requires.steps e.turns in
-    (says_after c.in-Ok.cores.len (c.args.steps.items ++ turns) c.in-Ok-serve_all.work.outcomes.items c.in-Ok.cores.items c.as_mut_slice.result.now c.serve_all.new.cores c.as_mut_slice.ensures.value c.in-Ok.cores.ok.0 within c.in-Ok.ensures.nothing
-    e.done.driven (e.done.budget, e.done.budgets, e.done.con) e.done.order).delivers
+    (says_after c.args.limits c.in-Ok.cores.len (c.args.steps.items ++ turns) c.in-Ok-serve_all.work.outcomes.items c.in-Ok.cores.items c.as_mut_slice.result.now c.serve_all.new.cores c.as_mut_slice.ensures.value c.in-Ok.cores.ok.0 within c.in-Ok.ensures.nothing
+    done.driven (done.budget, done.budgets, done.con) done.order).delivers
+
+pub returns-in-Ok-serve_all-clause-answered : goal.returns-in-Ok-serve_all-clause-answered
+returns-in-Ok-serve_all-clause-answered c =
+    let m = its_machine c.args.limits c.in-Ok.cores.items c.as_mut_slice.result.now c.args.budgets.now c.as_mut_slice.ensures.value c.in-Ok.ensures.machine in
+    (c.in-Ok-serve_all.ensures.done c.args.limits m.0 m.1 m.2).driven.answered
 
 pub returns-in-Ok-serve_all-clause-begun : goal.returns-in-Ok-serve_all-clause-begun
 returns-in-Ok-serve_all-clause-begun c =
     let e = c.in-Ok-serve_all.ensures in
+    let m = its_machine c.args.limits c.in-Ok.cores.items c.as_mut_slice.result.now c.args.budgets.now c.as_mut_slice.ensures.value c.in-Ok.ensures.machine in
+    let done = e.done c.args.limits m.0 m.1 m.2 in
     let turns = c.in-Ok-serve_all.work.turns.items in
     let within = inside c.args.steps.items turns c.in-Ok.cores.items c.as_mut_slice.result.now c.args.budgets.now c.in-Ok.ensures.cores c.as_mut_slice.ensures.value c.requires.steps e.turns in
-    begun_after (c.args.steps.items ++ turns) c.in-Ok-serve_all.work.outcomes.items c.in-Ok.cores.items c.as_mut_slice.result.now c.serve_all.new.cores c.as_mut_slice.ensures.value within c.in-Ok.ensures.nothing e.done.driven (e.done.budget, e.done.budgets, e.done.con)
+    begun_after c.args.limits (c.args.steps.items ++ turns) c.in-Ok-serve_all.work.outcomes.items c.in-Ok.cores.items c.as_mut_slice.result.now c.serve_all.new.cores c.as_mut_slice.ensures.value within c.in-Ok.ensures.nothing done.driven (done.budget, done.budgets, done.con)
 
 pub returns-in-Ok-serve_all-clause-own : goal.returns-in-Ok-serve_all-clause-own
 returns-in-Ok-serve_all-clause-own c =
     let e = c.in-Ok-serve_all.ensures in
+    let m = its_machine c.args.limits c.in-Ok.cores.items c.as_mut_slice.result.now c.args.budgets.now c.as_mut_slice.ensures.value c.in-Ok.ensures.machine in
+    let done = e.done c.args.limits m.0 m.1 m.2 in
     let turns = c.in-Ok-serve_all.work.turns.items in
     let within = inside c.args.steps.items turns c.in-Ok.cores.items c.as_mut_slice.result.now c.args.budgets.now c.in-Ok.ensures.cores c.as_mut_slice.ensures.value c.requires.steps e.turns in
-    own_after (c.args.steps.items ++ turns) c.in-Ok-serve_all.work.outcomes.items c.in-Ok.cores.items c.as_mut_slice.result.now c.serve_all.new.cores c.as_mut_slice.ensures.value within c.in-Ok.ensures.nothing e.done.driven (e.done.budget, e.done.budgets, e.done.con)
+    own_after c.args.limits (c.args.steps.items ++ turns) c.in-Ok-serve_all.work.outcomes.items c.in-Ok.cores.items c.as_mut_slice.result.now c.serve_all.new.cores c.as_mut_slice.ensures.value within c.in-Ok.ensures.nothing done.driven (done.budget, done.budgets, done.con)
 
 pub returns-in-Ok-serve_all-clause-turns : goal.returns-in-Ok-serve_all-clause-turns
 returns-in-Ok-serve_all-clause-turns c = λ k d lt. (c.in-Ok-serve_all.ensures.turns k d lt).is_turn
@@ -69,18 +94,22 @@ returns-in-Ok-serve_all-clause-turns c = λ k d lt. (c.in-Ok-serve_all.ensures.t
 pub returns-in-Ok-serve_all-clause-decided : goal.returns-in-Ok-serve_all-clause-decided
 returns-in-Ok-serve_all-clause-decided c = λ none.
     let e = c.in-Ok-serve_all.ensures in
+    let m = its_machine c.args.limits c.in-Ok.cores.items c.as_mut_slice.result.now c.args.budgets.now c.as_mut_slice.ensures.value c.in-Ok.ensures.machine in
+    let done = e.done c.args.limits m.0 m.1 m.2 in
     let turns = c.in-Ok-serve_all.work.turns.items in
     let within = inside c.args.steps.items turns c.in-Ok.cores.items c.as_mut_slice.result.now c.args.budgets.now c.in-Ok.ensures.cores c.as_mut_slice.ensures.value c.requires.steps e.turns in
-    decided_after (c.args.steps.items ++ turns) c.in-Ok-serve_all.work.outcomes.items c.in-Ok.cores.items c.as_mut_slice.result.now c.serve_all.new.cores c.as_mut_slice.ensures.value within c.in-Ok.ensures.nothing
-    e.done.driven (e.done.budget, e.done.budgets, e.done.con) (e.rests none).1
+    decided_after c.args.limits (c.args.steps.items ++ turns) c.in-Ok-serve_all.work.outcomes.items c.in-Ok.cores.items c.as_mut_slice.result.now c.serve_all.new.cores c.as_mut_slice.ensures.value within c.in-Ok.ensures.nothing
+    done.driven (done.budget, done.budgets, done.con) (e.rests none).1
 
 pub returns-in-Ok-serve_all-clause-newest : goal.returns-in-Ok-serve_all-clause-newest
 returns-in-Ok-serve_all-clause-newest c = λ none.
     let e = c.in-Ok-serve_all.ensures in
+    let m = its_machine c.args.limits c.in-Ok.cores.items c.as_mut_slice.result.now c.args.budgets.now c.as_mut_slice.ensures.value c.in-Ok.ensures.machine in
+    let done = e.done c.args.limits m.0 m.1 m.2 in
     let turns = c.in-Ok-serve_all.work.turns.items in
     let within = inside c.args.steps.items turns c.in-Ok.cores.items c.as_mut_slice.result.now c.args.budgets.now c.in-Ok.ensures.cores c.as_mut_slice.ensures.value c.requires.steps e.turns in
-    newest_after c.in-Ok.cores.len (c.args.steps.items ++ turns) c.in-Ok-serve_all.work.outcomes.items c.in-Ok.cores.items c.as_mut_slice.result.now c.serve_all.new.cores c.as_mut_slice.ensures.value c.in-Ok.cores.ok.0 within c.in-Ok.ensures.nothing
-    e.done.driven (e.done.budget, e.done.budgets, e.done.con) e.done.order (e.rests none).0
+    newest_after c.args.limits c.in-Ok.cores.len (c.args.steps.items ++ turns) c.in-Ok-serve_all.work.outcomes.items c.in-Ok.cores.items c.as_mut_slice.result.now c.serve_all.new.cores c.as_mut_slice.ensures.value c.in-Ok.cores.ok.0 within c.in-Ok.ensures.nothing
+    done.driven (done.budget, done.budgets, done.con) done.order (e.rests none).0
 
 pub returns-in-Ok-serve_all-clause-halted : goal.returns-in-Ok-serve_all-clause-halted
 returns-in-Ok-serve_all-clause-halted c =

@@ -22,11 +22,11 @@ loop-awake-init c =
     let none : c.new-turns.result.items ≡ [] = c.new-turns.ensures.items in
     let set = c.in_ok-awake.ensures.items_if_clones_equal (λ _ same. same) in
     record {
-      done = λ steps first can nothing done. subst (λ (l : List CoreStep). AreDone l c.args.given.items first c.agree_all.new.cores) (sym (ap (λ (l : List CoreStep). steps ++ l) none ∙ append-nil steps)) (done_looked steps c.args.given.items first c.args.cores.now c.agree_all.new.cores done seen);
+      done = λ limits steps first can nothing done. subst (λ (l : List CoreStep). AreDone limits l c.args.given.items first c.agree_all.new.cores) (sym (ap (λ (l : List CoreStep). steps ++ l) none ∙ append-nil steps)) (done_looked limits steps c.args.given.items first c.args.cores.now c.agree_all.new.cores done seen);
       turns = subst (λ (l : List CoreStep). All (IsTurnOf (length c.args.cores.now)) l) (sym none) (All-nil (IsTurnOf (length c.args.cores.now)));
       running = c.requires.running;
-      machine = (m.0, m.1, machine_ran m.0 m.1 c.args.cores.now c.agree_all.new.cores m.2 (seen_same c.args.cores.now c.agree_all.new.cores seen));
-      named = (m.0, m.1, subst (λ (l : List Bool). Named m.0 m.1 (awake_of l) c.agree_all.new.cores) (sym set) (named_start m.0 m.1 _ c.args.cores.now c.agree_all.new.cores m.2 seen (all_set _)));
+      machine = (m.0, m.1, m.2, machine_ran m.0 m.1 m.2 c.args.cores.now c.agree_all.new.cores m.3 (seen_same c.args.cores.now c.agree_all.new.cores seen));
+      named = (m.0, m.1, m.2, subst (λ (l : List Bool). Named m.0 m.1 m.2 (awake_of l) c.agree_all.new.cores) (sym set) (named_start m.0 m.1 m.2 _ c.args.cores.now c.agree_all.new.cores m.3 seen (all_set _)));
       each = ap (λ (l : List Bool). length l) set ∙ length-replicate _ true;
       long = e.looked.all;
     }
@@ -38,7 +38,7 @@ unreachable-requires c =
     let items = c.loop-awake.awake.items in
     let mid = c.loop-awake.cores in
     let none : NoneAwake (length mid) (awake_of items) = subst (λ (n : ℕ). NoneAwake n (awake_of items)) i.each (subst (λ (l : List Bool). NoneAwake (length l) (awake_of l)) c.deref.ensures.value c.in_default.ensures.none) in
-    let rest = named_rests i.named.0 i.named.1 (awake_of items) mid i.named.2 none in
+    let rest = named_rests i.named.0 i.named.1 i.named.2 (awake_of items) mid i.named.3 none in
     let yes : c.at_rest.result ≡ true = c.at_rest.ensures.rests.1 (subst AreAtRest (sym (map_itself mid)) rest) in
     let no : c.at_rest.result ≡ false = c.loop-awake-test.true in
     let both : true ≡ false = sym yes ∙ no in
@@ -71,13 +71,13 @@ loop-awake-preserved c =
     let long : length c.turn_named-answer.new.awake ≡ length items = e.each ∙ ap (λ (l : List Bool). length l) value in
     let back = written_back c.loop-awake.awake.len c.turn_named-answer.new.awake items long c.loop-awake.awake.ok.0 in
     record {
-      done = λ steps first can nothing done.
-          subst (λ (os : List StepOutcome). AreDone (steps ++ c.push.new.self.items) os first new) (sym told) (subst (λ (l : List CoreStep). AreDone (steps ++ l) (outcomes ++ Turned t ∷ []) first new) (sym pushed)
-          (turned_more steps turns outcomes core (Turned t) first mid new can (subst (λ (n : ℕ). All (IsTurnOf n) turns) (sym i.long) i.turns) inside nothing (i.done steps first can nothing done) e.driven e.machine e.concludes));
+      done = λ limits steps first can nothing done.
+          subst (λ (os : List StepOutcome). AreDone limits (steps ++ c.push.new.self.items) os first new) (sym told) (subst (λ (l : List CoreStep). AreDone limits (steps ++ l) (outcomes ++ Turned t ∷ []) first new) (sym pushed)
+          (turned_more limits steps turns outcomes core (Turned t) first mid new can (subst (λ (n : ℕ). All (IsTurnOf n) turns) (sym i.long) i.turns) inside nothing (i.done limits steps first can nothing done) e.driven e.machine (e.concludes limits)));
       turns = subst (λ (l : List CoreStep). All (IsTurnOf (length c.args.cores.now)) l) (sym pushed) (turns_more (length c.args.cores.now) turns core i.turns (subst (λ (n : ℕ). core < n) i.long inside));
       running = subst (λ (os : List StepOutcome). All IsRunning os) (sym told) (All-append IsRunning outcomes (Turned t ∷ []) i.running (All-cons IsRunning (Turned t) [] e.running (All-nil IsRunning)));
-      machine = (i.machine.0, i.machine.1, machine_ran i.machine.0 i.machine.1 mid new i.machine.2 e.machine);
-      named = (i.named.0, i.named.1, subst (λ (l : List Bool). Named i.named.0 i.named.1 (awake_of l) new) (sym back) (named_more i.named.0 i.named.1 (awake_of items) (awake_of c.turn_named-answer.new.awake) mid new i.named.2 turn));
+      machine = (i.machine.0, i.machine.1, i.machine.2, machine_ran i.machine.0 i.machine.1 i.machine.2 mid new i.machine.3 e.machine);
+      named = (i.named.0, i.named.1, i.named.2, subst (λ (l : List Bool). Named i.named.0 i.named.1 i.named.2 (awake_of l) new) (sym back) (named_more i.named.0 i.named.1 i.named.2 (awake_of items) (awake_of c.turn_named-answer.new.awake) mid new i.named.3 turn));
       each = ap (λ (l : List Bool). length l) back ∙ (long ∙ (i.each ∙ sym e.driven.all));
       long = e.driven.all ∙ i.long;
     }
@@ -94,10 +94,10 @@ loop-awake-smaller c =
     subst (λ (l : List Bool). NamedTurn (awake_of l) (awake_of c.turn_named-answer.new.awake) mid new) value (e.named (c.is_halt-halts.ensures.goes_on c.if-halts.false)) in
     let long : length c.turn_named-answer.new.awake ≡ length items = e.each ∙ ap (λ (l : List Bool). length l) value in
     let back = written_back c.loop-awake.awake.len c.turn_named-answer.new.awake items long c.loop-awake.awake.ok.0 in
-    subst (λ (l : List Bool). turns_ahead (awake_of l) new < turns_ahead (awake_of items) mid) (sym back) (named_less i.named.0 i.named.1 (awake_of items) (awake_of c.turn_named-answer.new.awake) mid new i.named.2 turn)
+    subst (λ (l : List Bool). turns_ahead (awake_of l) new < turns_ahead (awake_of items) mid) (sym back) (named_less i.named.0 i.named.1 i.named.2 (awake_of items) (awake_of c.turn_named-answer.new.awake) mid new i.named.3 turn)
 
 pub returns-then-halts-clause-done : goal.returns-then-halts-clause-done
-returns-then-halts-clause-done c = λ steps first can nothing done.
+returns-then-halts-clause-done c = λ limits steps first can nothing done.
     let i = c.loop-awake.invariant in
     let e = c.turn_named-answer.ensures in
     let core = c.in-Some.core in
@@ -109,8 +109,8 @@ returns-then-halts-clause-done c = λ steps first can nothing done.
     let inside : core < length mid = subst (λ (n : ℕ). core < n) (ap (λ (l : List Bool). length l) c.deref.ensures.value ∙ i.each) c.in-Some.ensures.some.0 in
     let pushed : c.push.new.self.items ≡ turns ++ turn_of_core core ∷ [] = c.in_ok-push.ensures.items ∙ ap (λ (s : CoreStep). turns ++ s ∷ []) c.turn_of.ensures in
     let told : c.push-in-loop-awake.new.self.items ≡ outcomes ++ Turned t ∷ [] = c.in_ok-push-2.ensures.items in
-    subst (λ (os : List StepOutcome). AreDone (steps ++ c.push.new.self.items) os first new) (sym told) (subst (λ (l : List CoreStep). AreDone (steps ++ l) (outcomes ++ Turned t ∷ []) first new) (sym pushed)
-    (turned_more steps turns outcomes core (Turned t) first mid new can (subst (λ (n : ℕ). All (IsTurnOf n) turns) (sym i.long) i.turns) inside nothing (i.done steps first can nothing done) e.driven e.machine e.concludes))
+    subst (λ (os : List StepOutcome). AreDone limits (steps ++ c.push.new.self.items) os first new) (sym told) (subst (λ (l : List CoreStep). AreDone limits (steps ++ l) (outcomes ++ Turned t ∷ []) first new) (sym pushed)
+    (turned_more limits steps turns outcomes core (Turned t) first mid new can (subst (λ (n : ℕ). All (IsTurnOf n) turns) (sym i.long) i.turns) inside nothing (i.done limits steps first can nothing done) e.driven e.machine (e.concludes limits)))
 
 pub returns-then-halts-clause-turns : goal.returns-then-halts-clause-turns
 returns-then-halts-clause-turns c =

@@ -21,8 +21,8 @@ agree_all-requires c =
     let t = c.turn-answer.result in
     let e = c.turn-answer.ensures in
     let m = c.requires.machine in
-    let driven = turn_driven m.0 m.1 c.args.core place t cores read (slice_index_or cores place read) new m.2 c.requires.core c.from-place.ensures c.index-cores-place.is refl e.core e.requests e.did e.decision e.other in
-    (m.0, m.1, machine_ran m.0 m.1 cores (slice_set cores place new) m.2 (driven_same (turn_of_core c.args.core ∷ []) (Turned t ∷ []) cores (slice_set cores place new) driven))
+    let driven = turn_driven m.0 m.1 m.2 c.args.core place t cores read (slice_index_or cores place read) new m.3 c.requires.core c.from-place.ensures c.index-cores-place.is refl e.core e.requests e.did e.decision e.other in
+    (m.0, m.1, m.2, machine_ran m.0 m.1 m.2 cores (slice_set cores place new) m.3 (driven_same (turn_of_core c.args.core ∷ []) (Turned t ∷ []) cores (slice_set cores place new) driven))
 
 pub returns-clause-driven : goal.returns-clause-driven
 returns-clause-driven c =
@@ -33,22 +33,22 @@ returns-clause-driven c =
     let t = c.turn-answer.result in
     let e = c.turn-answer.ensures in
     let m = c.requires.machine in
-    let driven = turn_driven m.0 m.1 c.args.core place t cores read (slice_index_or cores place read) new m.2 c.requires.core c.from-place.ensures c.index-cores-place.is refl e.core e.requests e.did e.decision e.other in
+    let driven = turn_driven m.0 m.1 m.2 c.args.core place t cores read (slice_index_or cores place read) new m.3 c.requires.core c.from-place.ensures c.index-cores-place.is refl e.core e.requests e.did e.decision e.other in
     driven_looked (turn_of_core c.args.core ∷ []) (Turned t ∷ []) cores (slice_set cores place new) c.agree_all.new.cores driven c.agree_all.ensures.looked
 
 pub returns-clause-machine : goal.returns-clause-machine
 returns-clause-machine c = driven_same (turn_of_core c.args.core ∷ []) (Turned c.turn-answer.result ∷ []) c.args.cores.now c.agree_all.new.cores (returns-clause-driven c)
 
 pub returns-clause-concludes : goal.returns-clause-concludes
-returns-clause-concludes c = λ budget budgets machine.
+returns-clause-concludes c = λ limits budget budgets machine.
     let cores = c.args.cores.now in
     let place = c.from-place.result in
     let read = c.index-cores-place.result in
     let new = c.turn-answer.new.self in
     let t = c.turn-answer.result in
     let e = c.turn-answer.ensures in
-    let driven = turn_driven budget budgets c.args.core place t cores read (slice_index_or cores place read) new machine c.requires.core c.from-place.ensures c.index-cores-place.is refl e.core e.requests e.did e.decision e.other in
-    c.agree_all.ensures.concludes budget budgets (machine_ran budget budgets cores (slice_set cores place new) machine (driven_same (turn_of_core c.args.core ∷ []) (Turned t ∷ []) cores (slice_set cores place new) driven))
+    let driven = turn_driven limits budget budgets c.args.core place t cores read (slice_index_or cores place read) new machine c.requires.core c.from-place.ensures c.index-cores-place.is refl e.core e.requests e.did e.decision e.other in
+    c.agree_all.ensures.concludes limits budget budgets (machine_ran limits budget budgets cores (slice_set cores place new) machine (driven_same (turn_of_core c.args.core ∷ []) (Turned t ∷ []) cores (slice_set cores place new) driven))
 
 pub returns-clause-running : goal.returns-clause-running
 returns-clause-running c =
@@ -62,7 +62,7 @@ returns-clause-running c =
     let m = c.requires.machine in
     let there = indexed_at cores c.args.core place read c.from-place.ensures c.index-cores-place.is c.requires.core in
     (step_running cores place old new (Turned t) there (turned_running t old new e.stopped e.running)
-    (ran_before m.0 m.1 (slice_set cores place new) c.agree_all.new.cores c.agree_all.ensures.looked (returns-clause-concludes c m.0 m.1 m.2))).1
+    (ran_before m.0 m.1 m.2 (slice_set cores place new) c.agree_all.new.cores c.agree_all.ensures.looked (returns-clause-concludes c m.0 m.1 m.2 m.3))).1
 
 pub returns-clause-named : goal.returns-clause-named
 returns-clause-named c = λ goes.

@@ -7,4 +7,4 @@ pub returns : goal.returns
 returns c =
     let r = c.args.reading.now in
     let counted = ap (jobs_of r.received) c.requires in
-    λ given knows. rw c.requires (knows_receives _ _ _ _ _ _ _ _ given knows (c.args.event ∷ []) r.received (r.received + 1) c.push.new.self.items counted refl c.in_ok-push.ensures.items)
+    λ given knows. rw c.requires (knows_receives _ _ _ _ _ _ _ _ _ given knows (c.args.event ∷ []) r.received (r.received + 1) c.push.new.self.items counted refl c.in_ok-push.ensures.items)

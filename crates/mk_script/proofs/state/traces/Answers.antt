@@ -11,4 +11,4 @@ returns c =
     let counted = ap (jobs_of r.received) c.requires.0 in
     let asks = c.in_ok-asks.ensures.0 ∙ ap (λ v. flat_map asks_in v.items) c.replace-items.ensures.value in
     let events = c.in_ok-asks.ensures.1 ∙ ap (λ v. flat_map events_in v.items) c.replace-items.ensures.value in
-    λ given knows. knows_trace _ _ _ _ _ _ _ _ given knows r.received _ _ counted c.requires.1 asks events
+    λ given knows. knows_trace _ _ _ _ _ _ _ _ _ given knows r.received _ _ counted c.requires.1 asks events

@@ -1,5 +1,6 @@
 use Rattle.core_join.proofs.Machines.{machine_ran, same_more, same_none}
 use Rattle.tests_machines.proofs.joined.take_turns_alone.Goals as goal
+use Rattle.filter_table.specs.Limits.{default_limits}
 
 pub loop-preserved : goal.loop-preserved
-loop-preserved c = λ budget budgets machine. machine_ran budget budgets _ _ (c.loop.invariant budget budgets machine) (same_more _ _ _ _ c.turn.ensures.core same_none)
+loop-preserved c = λ budget budgets machine. machine_ran default_limits budget budgets _ _ (c.loop.invariant budget budgets machine) (same_more _ _ _ _ c.turn.ensures.core same_none)

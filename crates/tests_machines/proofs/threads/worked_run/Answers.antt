@@ -3,15 +3,16 @@ use Rattle.std.proofs.lemmas.Result.{IfOk-at_ok}
 use Rattle.core_join.specs.Machines.{RingCore, IsMachine}
 use Rattle.core_boot.specs.Booting.{IsMachineOf}
 use Rattle.tests_machines.proofs.threads.worked_run.Goals as goal
+use Rattle.filter_table.specs.Limits.{TableLimits, default_limits}
 
 -- cores that came up as a machine are one still, whatever keeps them so
-still_machine : (budgets : List ℕ) (old new : List RingCore) → IsMachineOf budgets old → ((budget : ℕ) (rest : List ℕ) → IsMachine budget rest old → IsMachine budget rest new) → (budget : ℕ) × (rest : List ℕ) × IsMachine budget rest new
+still_machine : (budgets : List ℕ) (old new : List RingCore) → IsMachineOf default_limits budgets old → ((budget : ℕ) (rest : List ℕ) → IsMachine default_limits budget rest old → IsMachine default_limits budget rest new) → (budget : ℕ) × (rest : List ℕ) × IsMachine default_limits budget rest new
 still_machine [] old new m keeps = absurd m
 still_machine (budget ∷ rest) old new m keeps = (budget, rest, keeps budget rest m)
 
 pub returns : goal.returns
 returns g c =
     let cores = c.expect-machine.result.cores in
-    let up = IfOk-at_ok (λ machine. IsMachineOf c.args.budgets.now machine.cores) c.expect-machine.ensures c.boot.ensures.machine in
+    let up = IfOk-at_ok (λ machine. IsMachineOf default_limits c.args.budgets.now machine.cores) c.expect-machine.ensures c.boot.ensures.machine in
     still_machine c.args.budgets.now cores c.expect.result.cores.items up
-    (IfOk-at_ok (λ ended. (budget : ℕ) (rest : List ℕ) → IsMachine budget rest cores → IsMachine budget rest ended.cores.items) c.expect.ensures c.run_machine.ensures.machine)
+    (IfOk-at_ok (λ ended. (limits : TableLimits) (budget : ℕ) (rest : List ℕ) → IsMachine limits budget rest cores → IsMachine limits budget rest ended.cores.items) c.expect.ensures c.run_machine.ensures.machine default_limits)

@@ -4,7 +4,7 @@ use Rattle.core_steps.specs.Core0Steps.{core0_place, HasWaiting}
 use Rattle.world_model.specs.Cases.{outgoing}
 use Rattle.world_core.specs.LoggedCore0s.{Core0StartsFor}
 use Rattle.world_core.specs.Sending.{SentOut}
-use Rattle.world_core.proofs.Begin.{readied_same, readied_kept, none_staged, withdrawn, none_waiting, start_for_done}
+use Rattle.world_core.proofs.Begin.{readied_same, readied_kept, none_staged, withdrawn, none_waiting, unstaged, start_for_done}
 use Rattle.world_core.proofs.starting.begin_for.Goals as goal
 
 pub returns-in_default-ready_start_for-clause-same : goal.returns-in_default-ready_start_for-clause-same
@@ -52,6 +52,13 @@ returns-clause-kept g c =
     let done = start_for_done g.C.Channel.messages core0 c.begin_for-told.new.self c.args.peers.now c.ready_start_for.new.peers c.send.new.peers c.args.core tried.0 c.stage_for.new.self.replica.staged c.begin_for-told.result
     c.requires.kept c.requires.can tried.2.is_core c.ready_start_for.ensures.peers starts sent in
     done.kept
+
+pub returns-in_default-clause-kept : goal.returns-in_default-clause-kept
+returns-in_default-clause-kept g c =
+    let core0 = c.args.core0.now in
+    let e = c.in_default.ensures in
+    let back : c.stage_for.new.self ≡ core0.core = unstaged core0 c.stage_for.new.self (none_staged core0 c.requires.kept.core0_kept c.requires.can) e.unstaged e.same in
+    rw back c.requires.kept
 
 pub returns-in_default-clause-fault : goal.returns-in_default-clause-fault
 returns-in_default-clause-fault g c = none_waiting g.C.Channel.messages c.args.core0.now c.args.peers.now c.args.core c.in_default.ensures.none

@@ -11,7 +11,7 @@ use Rattle.std.specs.Prelude.{option_to_list}
 use Rattle.filter_table.specs.declared.decision.Decision.{Decision}
 use Rattle.core_loop.specs.Answering.{decisions}
 use Rattle.core_loop.specs.Turning.{ActsFirst, HasWork, IsSpent, LacksMemory}
-use Rattle.core_loop.proofs.Acting.{acts_stand, acts_budget}
+use Rattle.core_loop.proofs.Acting.{acts_stand, acts_limits, acts_budget}
 use Rattle.core_loop.proofs.Answering.{decides_next}
 use Rattle.core_loop.proofs.InTurn.{begun_more as last_more}
 use Rattle.core_loop.proofs.Stopped.{not_stopped, stopped_now}
@@ -93,7 +93,8 @@ returns-in-Ok-Some-clause-core g c =
     let i = c.self.inside in
     let acts = rw c.in-Ok-Some.field-0-is at c.in-Ok-Some.ensures.acts in
     let budget = acts_budget i.number i.cores i.clock acts.seen (g.L.Links.view c.next_event.new.links) i.part c.next_event.new.part c.in-Ok-Some.stamped acts.acts in
-    seen_same g.L.Links.same _ _ _ c.self.view_is (record { number = refl; cores = refl; budget = budget; links = c.next_event.ensures.links; intake = c.next_event.ensures.queue })
+    let limits = acts_limits i.part c.next_event.new.part i.number i.cores i.clock i.history.items c.in-Ok-Some.stamped (g.L.Links.view i.links) acts.seen (g.L.Links.view c.next_event.new.links) c.self.invariant.2 acts.acts in
+    seen_same g.L.Links.same _ _ _ c.self.view_is (record { number = refl; cores = refl; limits = limits; budget = budget; links = c.next_event.ensures.links; intake = c.next_event.ensures.queue })
 
 pub returns-in-Ok-Some-clause-did : goal.returns-in-Ok-Some-clause-did
 returns-in-Ok-Some-clause-did g c = λ t d is.
@@ -108,7 +109,7 @@ returns-in-Ok-Some-clause-did g c = λ t d is.
 pub returns-in-Ok-None-clause-core : goal.returns-in-Ok-None-clause-core
 returns-in-Ok-None-clause-core g c =
     let same = rw c.in-Ok-None.field-0-is at c.in-Ok-None.ensures.same in
-    seen_same g.L.Links.same _ _ _ c.self.view_is (record { number = refl; cores = refl; budget = rw same refl; links = c.next_event.ensures.links; intake = c.next_event.ensures.queue })
+    seen_same g.L.Links.same _ _ _ c.self.view_is (record { number = refl; cores = refl; limits = rw same refl; budget = rw same refl; links = c.next_event.ensures.links; intake = c.next_event.ensures.queue })
 
 pub returns-in-Ok-None-clause-other : goal.returns-in-Ok-None-clause-other
 returns-in-Ok-None-clause-other g c = λ _.
@@ -133,7 +134,7 @@ returns-in-Ok-None-clause-idle_job g c = λ _ rx job can.
 pub returns-in-Err-Spent-clause-core : goal.returns-in-Err-Spent-clause-core
 returns-in-Err-Spent-clause-core g c =
     let same = c.in-Err-Spent.ensures.same in
-    seen_same g.L.Links.same _ _ _ c.self.view_is (record { number = refl; cores = refl; budget = rw same refl; links = c.next_event.ensures.links; intake = c.next_event.ensures.queue })
+    seen_same g.L.Links.same _ _ _ c.self.view_is (record { number = refl; cores = refl; limits = rw same refl; budget = rw same refl; links = c.next_event.ensures.links; intake = c.next_event.ensures.queue })
 
 pub returns-in-Err-Spent-clause-other : goal.returns-in-Err-Spent-clause-other
 returns-in-Err-Spent-clause-other g c = λ _.
@@ -143,7 +144,7 @@ returns-in-Err-Spent-clause-other g c = λ _.
 pub returns-in-Err-NoMemory-clause-core : goal.returns-in-Err-NoMemory-clause-core
 returns-in-Err-NoMemory-clause-core g c =
     let same = c.in-Err-NoMemory.ensures.same in
-    seen_same g.L.Links.same _ _ _ c.self.view_is (record { number = refl; cores = refl; budget = rw same refl; links = c.next_event.ensures.links; intake = c.next_event.ensures.queue })
+    seen_same g.L.Links.same _ _ _ c.self.view_is (record { number = refl; cores = refl; limits = rw same refl; budget = rw same refl; links = c.next_event.ensures.links; intake = c.next_event.ensures.queue })
 
 pub returns-in-Err-NoMemory-clause-other : goal.returns-in-Err-NoMemory-clause-other
 returns-in-Err-NoMemory-clause-other g c = λ _.
@@ -153,7 +154,7 @@ returns-in-Err-NoMemory-clause-other g c = λ _.
 pub returns-in-Err-Stopped-clause-core : goal.returns-in-Err-Stopped-clause-core
 returns-in-Err-Stopped-clause-core g c =
     let same = c.in-Err-Stopped.ensures.same in
-    seen_same g.L.Links.same _ _ _ c.self.view_is (record { number = refl; cores = refl; budget = rw same refl; links = c.next_event.ensures.links; intake = c.next_event.ensures.queue })
+    seen_same g.L.Links.same _ _ _ c.self.view_is (record { number = refl; cores = refl; limits = rw same refl; budget = rw same refl; links = c.next_event.ensures.links; intake = c.next_event.ensures.queue })
 
 pub returns-in-Err-Stopped-clause-other : goal.returns-in-Err-Stopped-clause-other
 returns-in-Err-Stopped-clause-other g c = λ _.

@@ -19,7 +19,7 @@ pub invariant_of-self : goal.invariant_of-self
 invariant_of-self c =
     let cap : Cap = record { id = c.self.inside.next; endpoint = c.args.endpoint; holder = c.args.domain; rights = Rm; parent = None } in
     let was : ◌≡◌ {A = CapTable} (record { held = caps_of c.self.inside.by_id.entries; next = c.self.inside.next }) c.args.self.now.table = ap (λ (v : Holding). v.table) c.self.view_is in
-    let may = may_create _ c.args.endpoint (subst (λ (t : CapTable). first (create_tests t c.args.endpoint) ≡ None) (sym was) c.requires.allowed) in
+    let may = may_create c.requires.allowed.0 _ c.args.domain c.args.endpoint (subst (λ (t : CapTable). first (create_tests c.requires.allowed.0 t c.args.domain c.args.endpoint) ≡ None) (sym was) c.requires.allowed.1) in
     let in_use : c.from-2.result ≡ c.args.endpoint = c.from-2.ensures in
     held-created c.self.inside.by_id.entries c.insert_reserved.new.self.entries c.self.inside.children.entries c.self.inside.taken.entries c.insert_reserved-2.new.self.entries c.self.inside.next cap tt
     c.self.invariant refl refl (more_ids c.self.inside.next c.self.invariant.below may.more) may.free

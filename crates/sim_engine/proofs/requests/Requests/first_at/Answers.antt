@@ -12,5 +12,5 @@ pub invariant_of-self : goal.invariant_of-self
 invariant_of-self c = kept_note c.self.inside.places.items c.self.inside.first c.self.inside.firsts.items c.note.new.firsts.items c.args.home c.next_at-place.result c.self.invariant
     (subst (λ (ps : List (Option PendingRequest)). NoneBefore ps c.args.home c.next_at-place.result) c.deref-2.ensures.value c.next_at-place.ensures.none) c.note.ensures
 
-pub returns-then-home-ge-CORES-clause-found : goal.returns-then-home-ge-CORES-clause-found
-returns-then-home-ge-CORES-clause-found c = rw (← c.self.view_is) (none_above c.self.inside.places.items c.self.inside.first c.self.inside.firsts.items c.args.home c.self.invariant c.if-home-ge-CORES.true)
+pub returns-then-home-ge-MOST_CORES-clause-found : goal.returns-then-home-ge-MOST_CORES-clause-found
+returns-then-home-ge-MOST_CORES-clause-found c = rw (← c.self.view_is) (none_above c.self.inside.places.items c.self.inside.first c.self.inside.firsts.items c.args.home c.self.invariant c.if-home-ge-MOST_CORES.true)

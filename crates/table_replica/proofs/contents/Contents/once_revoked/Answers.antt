@@ -14,7 +14,7 @@ use Rattle.table_replica.proofs.contents.Contents.once_revoked.Goals as goal
 pub returns : goal.returns
 returns c =
     let i = c.self.inside in
-    let s : TableState = record { version = i.version; caps = i.caps.table; filters = i.filters.listed; next_filter = i.next_filter } in
+    let s : TableState = record { limits = i.limits; version = i.version; caps = i.caps.table; filters = i.filters.listed; next_filter = i.next_filter } in
     let left = remaining s.caps (Some c.in_ok-gone.gone.entries) in
     subst (λ (v : Staging). IfOk c.once_gone.result (λ next. AreNextFilters v.table v.table.filters (revoked v.table.caps c.args.cap) next)) c.self.view_is
     (IfOk-weaker c.once_gone.result (λ next. MatchOption next (AreHeldAlike s.caps left s.filters) (λ filters. filters ≡ record { listed = s.filters; under = left })) _

@@ -3,7 +3,7 @@ use Rattle.std.proofs.lemmas.List.{length-map}
 use Rattle.std.proofs.lemmas.Simd.{map-map}
 use Rattle.core_join.specs.Machines.{RingCore}
 use Rattle.mkdemux_cores.proofs.Opening.{same_at}
-use Rattle.mkdemux_cores.proofs.booting.mkdemux_boot_cores.Goals as goal
+use Rattle.mkdemux_cores.proofs.booting.open_all.Goals as goal
 
 pub put_all-requires-clause-closed : goal.put_all-requires-clause-closed
 put_all-requires-clause-closed c = λ k d below.

@@ -2,7 +2,7 @@
 
 ghost use Rattle.std.specs.Prelude.{◌<◌};
 
-use crate::{Chunked, Sorted};
+use chunked::{Chunked, Sorted};
 use std::collections::BTreeMap;
 use std::test::Fail;
 
