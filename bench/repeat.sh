@@ -18,8 +18,16 @@ rx 1 q 9
 END
 sed 's/^create 1 7/home 1 1\n&/' "$work/two.script" > "$work/home.script"
 cp examples/run.script "$work/four.script"
+{
+    echo "limits 40 40"
+    echo "cores$(printf ' 100%.0s' $(seq 64))"
+    printf '%s\n' "ddd all 1,6 0 0 65535" "packet q 0102030405" "home 1 63" "home 2 31"
+    for i in 1 2 3 4 5; do
+        printf '%s\n' "create $i $i" "create 1 $((i + 10))" "install 1 $i all" "rx $((i * 12)) q $i"
+    done
+} > "$work/many.script"
 status=0
-for name in two home four; do
+for name in two home four many; do
     script=$work/$name.script
     : > "$work/sums"
     wrong=0
