@@ -1,5 +1,5 @@
 #!/bin/sh
-# Runs machines of 1 to 8 cores as threads on random requests and packets, joins their histories into one list, and does that list again as
+# Runs machines of 1 to 8 cores, or to 64, as threads on random requests and packets, joins their histories into one list, and does that list again as
 # one list of events, where each answer must be the same. Each job must be received or left, once. As many machines are asked, turned and given
 # packets in a random order by one thread, and what they did is done again in the same way. A machine of threads is settled in the end, and must
 # be at rest; a quarter of them halt early. Any other outcome of a run is printed, and the status is then 1. Where the program is built,
