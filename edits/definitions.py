@@ -63,13 +63,26 @@ def closed(modules, more_of):
     return found
 
 
+def shown_by(crate):
+    """The types that other crates can name."""
+    text = (CRATES / crate / "src/lib.rt").read_text(encoding="utf-8")
+    exports = re.findall(r"^pub use ([^;]+);", text, re.MULTILINE)
+    return set(re.findall(r"\w+", " ".join(exports))) | set(re.findall(r"^pub (?:struct|enum|trait|type) (\w+)", text, re.MULTILINE))
+
+
+def can_be_copied(text):
+    """Whether a file of definitions with this text names nothing that only its own crate can name."""
+    declared = re.findall(r"\buse Rattle\.(\w+)\.specs\.declared\.(?:[a-z]\w*\.)*([A-Z]\w*)", text)
+    return all(name == "TheConstants" or name in shown_by(crate) for crate, name in declared if (CRATES / crate).is_dir())
+
+
 def to_copy(specs, module):
-    """This module, and those that the examples use and that cite it through others."""
+    """This module, and those that the examples use and that cite it through others, but for those that can't be copied."""
     uses = {name: used(text) for name, text in specs.items()}
     files = (file for part in ("src", "specs", "proofs") for file in (CRATES / EXAMPLES / part).rglob("*.*"))
     examples = set().union(*(used(file.read_text(encoding="utf-8")) for file in files))
     citing = closed({module}, lambda cited: {name for name, others in uses.items() if cited in others})
-    return citing & (closed(examples, lambda name: uses.get(name, set())) | {module})
+    return {name for name in citing & (closed(examples, lambda name: uses.get(name, set())) | {module}) if name == module or can_be_copied(specs[name])}
 
 
 def copy_with(specs, module, text, folder):
