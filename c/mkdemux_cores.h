@@ -19,8 +19,8 @@
  * a short program, and c/live.c a complete one.
  *
  * WHAT THE CALLER OWES all calls. Nothing checks it.
- * - A mkdemux_core is {NULL}, which is a closed core, or was filled by mkdemux_boot. Nothing else writes to
- *   it. While it is open it isn't copied, but passed by its address, as a FILE is. (It may be moved: the
+ * - A mkdemux_core is {NULL}, which is a closed core, or was filled by mkdemux_boot or mkdemux_boot_limits.
+ *   Nothing else writes to it. While it is open it isn't copied, but passed by its address, as a FILE is. (It may be moved: the
  *   old copy is never used again.)
  * - There is one call at a time on a core. A core may go from thread to thread, if the first thread's calls
  *   on it happen before the second's: by a lock, by the start or the join of a thread, or by an atomic.
@@ -48,8 +48,8 @@
  * thread sees what another wrote, and time. A core that nobody turns holds up every change of the machine;
  * packets are still received.
  *
- * MEMORY is taken by malloc and realloc and given back by free. mkdemux_boot, mkdemux_turn, mkdemux_settle and
- * mkdemux_ask_.. take memory, and so does mkdemux_receive for the first packet after a change of the table.
+ * MEMORY is taken by malloc and realloc and given back by free. mkdemux_boot, mkdemux_boot_limits, mkdemux_turn,
+ * mkdemux_settle and mkdemux_ask_.. take memory, and so does mkdemux_receive for the first packet after a change of the table.
  * mkdemux_version, mkdemux_unanswered and mkdemux_close take none. How much a core holds depends on its
  * table and on the requests that it hasn't begun, and not on the number of packets or changes so far. */
 #ifndef MKDEMUX_CORES_H
@@ -244,7 +244,7 @@ uint32_t mkdemux_turn(mkdemux_core *core, mkdemux_turned *turned);
 
 /* Turns all cores of one machine, round by round, until nothing is left to do. It waits for nobody, so it ends.
  * For a machine whose cores are all in one thread, and for the end of a run whose threads have stopped. No packet
- * is received. `cores` has all `count` cores of the machine, in the order of mkdemux_boot.
+ * is received. `cores` has all `count` cores of the machine, in the order in which they were opened.
  * OK: each request has its decision, all cores are at one version, and no message is under way.
  * NO_MEMORY, SPENT: a core has no memory, or no number left, for what it would do next, or there is no memory for
  * the call's own list of the cores. All that was done is kept, and another call goes on from there.
