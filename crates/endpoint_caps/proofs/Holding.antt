@@ -330,8 +330,8 @@ pub below_ids : (next : ℕ) → next < 4294967295 → next + 1 < ids
 unfolding ids
 below_ids next lt = omega arith
 
-pub same_view : (t u : CapTable) (a b d : Bool) → t ≡ u → a ≡ false → ◌≡◌ {A = Holding} (record { table = t; ready = a && b && d }) (record { table = u; ready = false })
-same_view t u a b d same spent = ap (λ (x : CapTable). record { table = x; ready = a && b && d }) same ∙ ap (λ (r : Bool). record { table = u; ready = r && b && d }) spent
+pub same_view : (t u : CapTable) (a b d e : Bool) → t ≡ u → a ≡ false → ◌≡◌ {A = Holding} (record { table = t; ready = a && b && d && e }) (record { table = u; ready = false })
+same_view t u a b d e same spent = ap (λ (x : CapTable). record { table = x; ready = a && b && d && e }) same ∙ ap (λ (r : Bool). record { table = u; ready = r && b && d && e }) spent
 
 pub put_last : (entries after : List (ℕ × Cap)) (next key : ℕ) (c : Cap) → IsKept entries next → key ≡ next → after ≡ insert_entry nat_cmp entries key c → after ≡ entries ++ (next, c) ∷ []
 put_last entries after next key c kept same e = e ∙ (ap (λ (k : ℕ). insert_entry nat_cmp entries k c) same ∙ push_entry entries next c kept)

@@ -1,11 +1,11 @@
 //! The table of capabilities, changed in place: room is made before, and then a change can't fail.
-ghost use Rattle.std.specs.Prelude.{◌≡◌, ◌+◌, ◌++◌, ◌∷◌, ◌≤◌, [], ◌<◌, ◌⊎◌, ◌==◌, ◌||◌, ℕ, Some, None, is_none, is_some, false, true, length, filter, nat_le, IsTrue, IsErr, IfSome, IfNone, IfOk, IfErr, OnOk, OnErr, leb};
+ghost use Rattle.std.specs.Prelude.{◌≡◌, if◌then◌else◌, ◌+◌, ◌-◌, ◌++◌, ◌∷◌, ◌≤◌, [], ◌<◌, ◌⊎◌, ◌==◌, ◌||◌, ℕ, Some, None, is_none, is_some, false, true, length, filter, nat_le, IsTrue, IsErr, IfSome, IfNone, IfOk, IfErr, OnOk, OnErr, leb};
 ghost use Rattle.std.specs.List.{list_any};
 ghost use Rattle.std.specs.Option.{option_copied};
 ghost use Rattle.std.specs.Result.{result_err};
-ghost use Rattle.endpoint_caps.specs.Capabilities.{CapBounds, default_caps, no_caps, cap_at, parent_at, created, minted_from, revoked, dropped, first, holder_tests, right_tests, counts_for, count_for, room_tests, create_tests, mint_tests, is_some_and, is_under, Refused};
+ghost use Rattle.endpoint_caps.specs.Capabilities.{CapBounds, default_caps, no_caps, cap_at, parent_at, created, minted_from, revoked, dropped, first, holder_tests, right_tests, count_for, room_tests, create_tests, mint_tests, is_under, Refused};
 ghost use Rattle.endpoint_caps.specs.Capabilities.{IdsBetween, ParentsHeld, IsRevoked, IsDropped, Under};
-ghost use Rattle.endpoint_caps.specs.Holding.{child_key, without, IsChild, IsFirstKey, IsLeaf};
+ghost use Rattle.endpoint_caps.specs.Holding.{child_key, counted, maker_of, number_of, without, AddsChildren, IsChild, IsFirstKey, IsLeaf, LacksChildren};
 ghost use Rattle.endpoint_caps.specs.Keeping.{entries_of};
 ghost use Rattle.chunked.specs.Maps.{value_at};
 
@@ -25,6 +25,8 @@ pub struct Caps {
     children: Sorted<()>,
     /// The endpoints that have a capability.
     taken: Sorted<()>,
+    /// Of each domain that made one of them, how many it made.
+    counts: Sorted<u32>,
     next: u32,
 }
 
@@ -35,6 +37,7 @@ impl Drop for Caps {
             by_id: _,
             children: _,
             taken: _,
+            counts: _,
             next: _,
         } = self;
     }
@@ -43,14 +46,14 @@ impl Drop for Caps {
 impl Model for Caps {
     ghost use Rattle.std.specs.Prelude.{◌&&◌};
     ghost use Rattle.endpoint_caps.specs.Capabilities.{CapTable};
-    ghost use Rattle.endpoint_caps.specs.Holding.{Holding, IsHeld};
+    ghost use Rattle.endpoint_caps.specs.Holding.{Holding, IsCounted};
     ghost use Rattle.endpoint_caps.specs.Keeping.{caps_of};
 
     ghost Value = { Holding };
 
-    ghost view = { λ a. record { table = record { held = caps_of a.by_id.entries; next = a.next }; ready = a.by_id.ready && a.children.ready && a.taken.ready } };
+    ghost view = { λ a. record { table = record { held = caps_of a.by_id.entries; next = a.next }; ready = a.by_id.ready && a.children.ready && a.taken.ready && a.counts.ready } };
 
-    ghost invariant = { λ a. IsHeld a.by_id.entries a.children.entries a.taken.entries a.next };
+    ghost invariant = { λ a. IsCounted a.by_id.entries a.children.entries a.taken.entries a.counts.entries a.next };
 }
 
 impl Caps {
@@ -69,6 +72,7 @@ impl Caps {
             by_id: Sorted::new(alloc),
             children: Sorted::new(alloc),
             taken: Sorted::new(alloc),
+            counts: Sorted::new(alloc),
             next,
         }
     }
@@ -82,6 +86,7 @@ impl Caps {
             by_id: self.by_id.copy(alloc)?,
             children: self.children.copy(alloc)?,
             taken: self.taken.copy(alloc)?,
+            counts: self.counts.copy(alloc)?,
             next,
         })
     }
@@ -225,37 +230,11 @@ impl Caps {
         Ok(())
     }
 
-    /// Whether so many capabilities count for the domain. None is looked at where fewer are held.
-    #[tactic(auto, using(crate::proofs::Shares::few_count))]
+    /// Whether so many capabilities count for the domain.
     fn is_full_for(&self, domain: u16, share: u32) -> bool
         ensures { result ≡ leb share (count_for self.now.table.held domain) }
     {
-        if self.len() < share as usize {
-            return false;
-        }
-        let mut left = share;
-        for entry in self.list() {
-            if left == 0 {
-                return true;
-            }
-            if self.counts_for(domain, &entry.1) {
-                left -= 1;
-            }
-        }
-        left == 0
-    }
-
-    /// Whether the capability counts for the domain, which made it: it holds its parent, or the capability where it has none.
-    fn counts_for(&self, domain: u16, cap: &Cap) -> bool
-        ensures { result ≡ counts_for self.now.table.held domain cap.now }
-    {
-        match cap.parent {
-            None => cap.holder == domain,
-            Some(parent) => match self.get(parent) {
-                None => false,
-                Some(parent) => parent.holder == domain,
-            },
-        }
+        share <= count_of(&self.counts, domain)
     }
 
     /// Makes a capability of the endpoint with all rights and no parent, held by the domain, and answers its id. The limits are the
@@ -342,20 +321,35 @@ impl Caps {
         Ok(())
     }
 
-    /// The ids of the capabilities that `perform_revoke` removes.
+    /// The ids of the capabilities that `perform_revoke` removes. It goes down the children, and looks at what goes alone.
     pub fn revoked_ids(&self, alloc: Global, cap: u32) -> Result<Sorted<()>, AllocError>
         ensures { IfOk result (λ ids. (id : ℕ) → is_some (value_at ids.entries id) ≡ is_under self.now.table.held cap id) }
     {
         let _next = self.next;
         let mut ids = Sorted::new(alloc);
-        for entry in self.list() {
-            let held = entry.1;
-            if is_minted(&ids, held.parent, cap) {
-                ids.reserve()?;
-                ids.insert_reserved(u64::from(held.id), ());
-            }
+        self.add_children(&mut ids, cap)?;
+        // A child has a greater id than its parent, so the ids are their own queue.
+        let mut from = 0;
+        while let Some(id) = first_key(&ids, from) {
+            self.add_children(&mut ids, id as u32)?;
+            from = id + 1;
         }
         Ok(ids)
+    }
+
+    /// Adds the ids of the capabilities that were minted from one by one mint.
+    fn add_children(&self, ids: &mut Sorted<()>, parent: u32) -> Result<(), AllocError>
+        requires absent { LacksChildren self.now.table.held parent ids.old.entries }
+        ensures { OnOk result (AddsChildren self.now.table.held parent ids.old.entries ids.new.entries) }
+    {
+        for entry in self.children.iter_from(key_of_child(parent, 0)) {
+            if entry.0 / IDS != u64::from(parent) {
+                return Ok(());
+            }
+            ids.reserve()?;
+            ids.insert_reserved(entry.0 % IDS, ());
+        }
+        Ok(())
     }
 
     /// The ids of the capabilities that `perform_drop` removes.
@@ -409,6 +403,7 @@ impl Caps {
         self.by_id.forget();
         self.children.forget();
         self.taken.forget();
+        self.counts.forget();
     }
 
     /// Makes room for one more capability.
@@ -430,7 +425,8 @@ impl Caps {
     {
         self.by_id.reserve()?;
         self.children.reserve()?;
-        self.taken.reserve()
+        self.taken.reserve()?;
+        self.counts.reserve()
     }
 
     /// Makes a capability of the endpoint with all rights and no parent, held by the domain, and answers its id. Takes no memory.
@@ -450,6 +446,7 @@ impl Caps {
         };
         self.by_id.insert_reserved(u64::from(id), cap);
         self.taken.insert_reserved(u64::from(endpoint), ());
+        count_up(&mut self.counts, domain);
         self.next = id + 1;
         id
     }
@@ -488,6 +485,7 @@ impl Caps {
         };
         self.by_id.insert_reserved(u64::from(id), cap);
         self.children.insert_reserved(key_of_child(from.id, id), ());
+        count_up(&mut self.counts, from.holder);
         self.next = id + 1;
         id
     }
@@ -559,6 +557,7 @@ impl Caps {
         ensures table { self.new.table ≡ without self.old.table id }
     {
         let cap = self.by_id.remove(u64::from(id))?;
+        count_down(&mut self.counts, maker_of(&self.by_id, &cap));
         match cap.parent {
             Some(parent) => {
                 self.children.remove(key_of_child(parent, id));
@@ -568,16 +567,6 @@ impl Caps {
             }
         }
         cap.parent
-    }
-}
-
-/// Whether a parent is a capability, or one of the ids.
-fn is_minted(ids: &Sorted<()>, parent: Option<u32>, cap: u32) -> bool
-    ensures { result ≡ is_some_and (λ p. (p == cap) || is_some (value_at ids.now.entries p)) parent }
-{
-    match parent {
-        None => false,
-        Some(parent) => parent == cap || ids.contains(u64::from(parent)),
     }
 }
 
@@ -597,4 +586,54 @@ fn first_key(keys: &Sorted<()>, from: u64) -> Option<u64>
     }
     let entry = keys.first_from(from)?;
     Some(entry.0)
+}
+
+/// The domain that made a capability, among the others under their ids.
+fn maker_of(by_id: &Sorted<Cap>, cap: &Cap) -> u16
+    ensures { result ≡ maker_of by_id.now.entries cap.now }
+{
+    match cap.parent {
+        None => cap.holder,
+        Some(parent) => match by_id.get(u64::from(parent)) {
+            Some(parent) => parent.holder,
+            None => cap.holder,
+        },
+    }
+}
+
+/// How many capabilities count for a domain.
+fn count_of(counts: &Sorted<u32>, domain: u16) -> u32
+    ensures { result ≡ number_of (value_at counts.now.entries domain) }
+{
+    match counts.get(u64::from(domain)) {
+        Some(count) => *count,
+        None => 0,
+    }
+}
+
+/// One more counts for the domain. Takes no memory.
+fn count_up(counts: &mut Sorted<u32>, domain: u16)
+    requires ready { IsTrue counts.old.ready }
+    requires fits { number_of (value_at counts.old.entries domain) < 4294967295 }
+    ensures { (q : ℕ) → value_at counts.new.entries q ≡ (if q == domain then counted (number_of (value_at counts.old.entries domain) + 1) else value_at counts.old.entries q) }
+{
+    match counts.get(u64::from(domain)) {
+        Some(count) => {
+            let more = *count + 1;
+            counts.set(u64::from(domain), more);
+        }
+        None => counts.insert_reserved(u64::from(domain), 1),
+    }
+}
+
+/// One less counts for the domain. A count of 0 has no entry.
+fn count_down(counts: &mut Sorted<u32>, domain: u16)
+    ensures { (q : ℕ) → value_at counts.new.entries q ≡ (if q == domain then counted (number_of (value_at counts.old.entries domain) - 1) else value_at counts.old.entries q) }
+{
+    let count = count_of(counts, domain);
+    if count > 1 {
+        counts.set(u64::from(domain), count - 1);
+    } else {
+        counts.remove(u64::from(domain));
+    }
 }

@@ -320,12 +320,17 @@ fn refused_growth_changes_nothing(rt: HostRuntime) {
     fills_again(&rt, &mut caps);
 }
 
-/// A capability with its children, another one, and a grandchild.
-static FAMILY: [(Call, Answer); 4] = [
+/// Two capabilities and what was minted from them, through one mint to three. Some children are younger than grandchildren.
+static FAMILY: [(Call, Answer); 9] = [
     (Call::Create(1, 7), Ok(1)),
     (Call::Mint(1, 1, 1, Rights::Rm), Ok(2)),
     (Call::Create(1, 8), Ok(3)),
-    (Call::Mint(1, 2, 1, Rights::R), Ok(4)),
+    (Call::Mint(1, 2, 1, Rights::Rm), Ok(4)),
+    (Call::Mint(1, 4, 1, Rights::R), Ok(5)),
+    (Call::Mint(1, 1, 1, Rights::Rm), Ok(6)),
+    (Call::Mint(1, 3, 1, Rights::R), Ok(7)),
+    (Call::Mint(1, 6, 1, Rights::R), Ok(8)),
+    (Call::Mint(1, 2, 1, Rights::R), Ok(9)),
 ];
 
 /// The ids that a revocation and a drop would remove.
@@ -344,6 +349,11 @@ fn tells_what_goes(rt: HostRuntime) {
         (2, true, true),
         (3, false, false),
         (4, true, true),
+        (5, true, true),
+        (6, true, false),
+        (7, false, false),
+        (8, true, false),
+        (9, true, true),
     ] {
         equal_at(&rt, revoked.contains(id), by_revoke, &id);
         equal_at(&rt, dropped.contains(id), by_drop, &id);

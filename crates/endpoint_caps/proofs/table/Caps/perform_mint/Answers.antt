@@ -12,7 +12,7 @@ pub add_child-requires-clause-below : goal.add_child-requires-clause-below
 add_child-requires-clause-below c =
     let may = may_mint c.requires.allowed.0 c.args.self.now.table c.args.domain c.args.cap c.args.rights c.requires.allowed.1 in
     let next : c.self.inside.next ≡ c.args.self.now.table.next = ap (λ (v : Holding). v.table.next) c.self.view_is in
-    subst (λ (n : ℕ). n < 4294967295) next (more_below c.self.inside.next c.self.invariant.below (subst (λ (n : ℕ). (n == 4294967295) ≡ false) (sym next) may.more))
+    subst (λ (n : ℕ). n < 4294967295) next (more_below c.self.inside.next c.self.invariant.held.below (subst (λ (n : ℕ). (n == 4294967295) ≡ false) (sym next) may.more))
 
 pub returns-clause-made : goal.returns-clause-made
 returns-clause-made c =
