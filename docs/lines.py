@@ -2,6 +2,9 @@
 """Compares the lines of crates.txt with the crates that the files of each crate cite. A line names these and no others, since each name
 more makes the crate wait for another one's proof.
 
+And counts the ways through crates.txt, from each library down to each crate below it: `rt` reads a crate once for each way that leads to it,
+so a crate put between two others can double the time of the gate. Programs and static libraries begin no way.
+
   docs/lines.py          says which names a line lacks or needn't have; the last line is `N passed, M failed`
   docs/lines.py --write  writes crates.txt anew
 """
@@ -12,6 +15,7 @@ import sys
 top = pathlib.Path(__file__).resolve().parent.parent
 RUST = re.compile(r"\b([a-z][a-z0-9_]*)::")
 MODULE = re.compile(r"^\s*(?:pub )?mod ([a-z][a-z0-9_]*)", re.MULTILINE)
+MOST_WAYS = 200_000
 GHOST = re.compile(r"\bRattle\.([a-z][a-z0-9_]*)\.")
 
 
@@ -35,10 +39,23 @@ def lines():
         yield line, head if colon and not line.startswith("#") else None, names.split()
 
 
+def ways(below):
+    """How many ways begin at libraries, where these are the crates that each crate names."""
+    known = {}
+
+    def from_here(crate):
+        if crate not in known:
+            known[crate] = 1 + sum(from_here(name) for name in below[crate])
+        return known[crate]
+
+    return sum(from_here(crate) for crate in below if (top / "crates" / crate / "src/lib.rt").exists())
+
+
 def main():
     repository = {head.split()[0] for _, head, _ in lines() if head}
     passed = failed = 0
     written = []
+    below = {head.split()[0]: [name for name in names if name in repository] for _, head, names in lines() if head and "staticlib" not in head}
     for line, head, names in lines():
         if head is None:
             written.append(line)
@@ -58,6 +75,10 @@ def main():
     elif sys.argv[1:]:
         sys.exit(__doc__)
     else:
+        count = ways(below)
+        print(f"crates.txt has {count:,} ways, and may have {MOST_WAYS:,}")
+        passed += count <= MOST_WAYS
+        failed += count > MOST_WAYS
         print(f"{passed} passed, {failed} failed")
         sys.exit(failed > 0)
 

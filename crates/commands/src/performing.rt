@@ -10,12 +10,11 @@ use command_line::{MatchView, Request};
 use console::{
     LinkTypes, PacketForm, STREAM_READS, run_check, run_dump, run_match, run_stream, run_view,
 };
-use core_threads::Gate;
 use draw_engine::run_draw;
 use engine_io::{EngineFault, INPUT_READS, Sink, Source};
 use graph_engine::{run_explain, run_graph};
 use keep_engine::{Wanted, run_keep};
-use run_engine::{RunFailure, run_run};
+use run_engine::{Gate, RunFailure, run_run};
 use sim_engine::run_sim;
 use std::alloc::Global;
 use std::io::{Read, Write};

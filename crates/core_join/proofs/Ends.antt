@@ -26,7 +26,7 @@ use Rattle.core_loop.specs.Cores.{Stands}
 use Rattle.core_loop.specs.Turning.{HasStopped}
 use Rattle.core_loop.proofs.Conclusions.{concluded}
 use Rattle.core_join.specs.Machines.{RingCore, AreMachine}
-use Rattle.core_sound.specs.Beside.{StandBeside}
+use Rattle.core_join.specs.Beside.{StandBeside}
 use Rattle.core_join.specs.Conclusions.{histories_of, views_of, StandsAt0, StandsAtOther, IsIdle0, version_of_core, ShowsTable, IsRight, Concludes}
 use Rattle.core_join.proofs.Lists.{choose, same_some}
 use Rattle.core_join.proofs.Unstopped.{IsExactCore, stand_beside, all_run}

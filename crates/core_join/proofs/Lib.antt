@@ -10,3 +10,6 @@ pub mod Crossing
 pub mod Along
 pub mod Logs
 pub mod Told
+pub mod Stopping
+pub mod Still
+pub mod TakenUp

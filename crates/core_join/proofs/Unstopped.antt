@@ -18,8 +18,8 @@ use Rattle.core_loop.specs.Standing.{Stands0, StandsOther, AreBeside}
 use Rattle.core_loop.specs.Keeping.{replica_of}
 use Rattle.core_loop.specs.Taking.{StopsAt}
 use Rattle.core_loop.specs.Turning.{HasStopped}
-use Rattle.core_sound.specs.Beside.{StandBeside}
-use Rattle.core_sound.proofs.Stopping.{other_goes_on, first_goes_on}
+use Rattle.core_join.specs.Beside.{StandBeside}
+use Rattle.core_join.proofs.Stopping.{other_goes_on, first_goes_on}
 use Rattle.core_join.specs.Machines.{RingCore, AreMachine}
 use Rattle.core_join.specs.Looking.{IsExactRing}
 use Rattle.core_join.specs.Conclusions.{histories_of, StandsAt0, StandsAtOther}

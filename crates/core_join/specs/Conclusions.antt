@@ -18,7 +18,7 @@ use Rattle.core_loop.specs.declared.part.Part.TheVariants as part
 use Rattle.core_loop.specs.Keeping.{IsCore0, IsOtherCore, replica_of}
 use Rattle.core_links.specs.Views.{LinkView}
 use Rattle.core_links.specs.RingSlots.{ring_view}
-use Rattle.core_sound.specs.Beside.{StandBeside}
+use Rattle.core_join.specs.Beside.{StandBeside}
 use Rattle.core_join.specs.Machines.{RingCore, AreMachine}
 
 -- the histories of cores

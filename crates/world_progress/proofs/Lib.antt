@@ -9,3 +9,13 @@ pub mod Tallied
 pub mod Spending
 pub mod Told
 pub mod Ends
+pub mod Weights
+pub mod Leaving
+pub mod Bounds
+pub mod Rest
+pub mod Histories
+pub mod Emptied
+pub mod Fitting
+pub mod Awaited
+pub mod LeftOver
+pub mod LastWords
