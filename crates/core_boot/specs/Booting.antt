@@ -25,6 +25,12 @@ pub record ComesUp (place cores : ℕ) (limits : TableLimits) (budget : ℕ) (li
   pub links_are : core.links ≡ links
   pub pending : core.pending ≡ requests
 
+-- so has a core, and the port of its queue is the last of these
+pub record ComesUpLast (place cores : ℕ) (limits : TableLimits) (budget : ℕ) (links : RingLinks) (requests : List Op) (core : RingCore) (old_ports new_ports : List Port) : Type 0 where
+  pub port : Port
+  pub comes_up : ComesUp place cores limits budget links requests core port
+  pub pushed : new_ports ≡ old_ports ++ port ∷ []
+
 -- one more core has come up
 pub record AddsCore (cores : ℕ) (limits : TableLimits) (budget : ℕ) (links : RingLinks) (requests : List Op) (old new : List RingCore) (old_ports new_ports : List Port) : Type 0 where
   pub core : RingCore

@@ -7,7 +7,7 @@ ghost use Rattle.core_loop.specs.Cores.{AreShort};
 ghost use Rattle.core_join.specs.Machines.{IsMachine};
 ghost use Rattle.world_core.specs.declared.fault.BootFault.TheVariants.{CoreCount};
 ghost use Rattle.core_boot.specs.Booted.{AreBooted, HasDoneNothing};
-ghost use Rattle.core_boot.specs.Booting.{ComesUp, AddsCore, HaveComeUp, HaveRequests, AreGivable, AreShortLanes, IsMachineOf};
+ghost use Rattle.core_boot.specs.Booting.{ComesUpLast, AddsCore, HaveComeUp, HaveRequests, AreGivable, AreShortLanes, IsMachineOf};
 ghost use Rattle.core_boot.specs.Wiring.{AreSilent};
 
 use crate::lanes::by_core;
@@ -24,7 +24,7 @@ use world_core::BootFault;
 // The jobs that a core's queue holds.
 const QUEUE_JOBS: usize = 16;
 
-// A core that has done nothing, and the port of its queue.
+// A core that has done nothing. The port of its queue is put with the others, so that a core isn't moved with one.
 #[inline(never)]
 fn start_core(
     alloc: Global,
@@ -34,18 +34,19 @@ fn start_core(
     number: u16,
     cores: u16,
     requests: VecDeque<Op>,
-) -> Result<(Core<RingLinks>, Port), AllocError>
+    ports: &mut Vec<Port>,
+) -> Result<Core<RingLinks>, AllocError>
     requires number { number < cores }
     requires cores { cores ≤ MOST_CORES }
     requires short { AreShort number requests.items }
     requires silent { AreSilent links }
-    ensures { IfOk result (λ r. ComesUp number cores limits budget links requests.items r.0 r.1) }
+    ensures { IfOk result (λ core. ComesUpLast number cores limits budget links requests.items core ports.old.items ports.new.items) }
 {
     let (port, intake) = queue(alloc, QUEUE_JOBS)?;
-    let core = Core::new(
+    ports.push(port)?;
+    Core::new(
         alloc, links, limits, budget, number, cores, requests, intake,
-    )?;
-    Ok((core, port))
+    )
 }
 
 // One more core comes up.
@@ -67,9 +68,8 @@ fn add_core(
     ensures { OnOk result (AddsCore count limits budget links requests.items cores.old.items cores.new.items ports.old.items ports.new.items) }
 {
     let number = cores.len() as u16;
-    let (core, port) = start_core(alloc, links, limits, budget, number, count, requests)?;
+    let core = start_core(alloc, links, limits, budget, number, count, requests, ports)?;
     cores.push(core)?;
-    ports.push(port)?;
     Ok(())
 }
 

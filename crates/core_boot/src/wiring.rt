@@ -33,8 +33,9 @@ fn join_peer(
     let (to_peer, from_first) = ring(alloc, RING_LINES)?;
     let (to_first, from_peer) = ring(alloc, RING_LINES)?;
     let mut links = RingLinks::new(alloc, peer, cores)?;
-    first.join(peer, to_peer, from_peer);
-    links.join(0, to_first, from_first);
+    let (bell, its_bell) = (first.bell()?, links.bell()?);
+    first.join(peer, to_peer, from_peer, its_bell);
+    links.join(0, to_first, from_first, bell);
     Ok(links)
 }
 

@@ -1,6 +1,10 @@
 pub mod Places
+pub mod Bits
+pub mod Marking
+pub mod Pumping
 pub mod Steps
 pub mod RingPlaces
 pub mod Reading
 pub mod NewLists
 pub mod Flowing
+pub mod Calming

@@ -1,60 +1,38 @@
 -- One ring link of several is changed.
 use Rattle.std.proofs.Common.{◌≡◌, ◌≢◌, ◌<◌, ◌++◌, ℕ, zero, suc, List, [], ◌∷◌, arith, Option, Some, None, length, slice_index_or, slice_set, refl, sym, ap, subst, ◌∙◌, ◌⊎◌, inl, inr}
-use Rattle.std.proofs.lemmas.List.{get_or-set_same, get_or-set_other}
-use Rattle.std.specs.Vec.{with_item}
+use Rattle.std.proofs.lemmas.List.{get_or-set_same}
 use mathlib.Core.List.{IsPrefix}
 use Rattle.core_links.specs.declared.ring_links.Link.{Link}
 use Rattle.core_links.specs.declared.ring_links.RingLinks.{RingLinks}
-use Rattle.core_links.specs.Views.{LinkView, AtPeer, IsSameView, Pumped}
+use Rattle.core_links.specs.Views.{LinkView, IsSameView}
 use Rattle.core_links.specs.Slots.{place_view}
-use Rattle.core_links.specs.RingSlots.{link_to, link_view, ring_view, SameLink, SameSlot, SameLinks, AreJoined, AreJoinedSlots}
-use Rattle.core_links.specs.RingLaws.{SameLink-itself, SameSlot-itself, SameSlot-along}
+use Rattle.core_links.specs.RingSlots.{link_to, link_view, SameLink, SameSlot, AreJoined, AreJoinedSlots}
+use Rattle.core_links.specs.RingLaws.{SameLink-itself}
 use Rattle.core_links.proofs.Places.{same_or_not, any_default, changed, Changes}
-use Rattle.core_links.proofs.Steps.{same_view, pumped_itself, pumped_along}
+use Rattle.core_links.proofs.Steps.{same_view}
 
-pub at_slot : (old : RingLinks) (i peer : ℕ) (d : Option Link) (a b : Link) (R : LinkView → LinkView → Type 0) → i ≡ peer → slice_index_or old.slots.items i d ≡ Some a → i < length old.slots.items
-    → SameLink a b → R (link_view a) (link_view b) → AtPeer SameLinks ring_view peer R old (record { own = old.own; slots = with_item old.slots i (Some b) })
-at_slot old i peer d a b R here is lt same r =
-    let c : Changes SameLink link_view i R old.slots.items (slice_set old.slots.items i (Some b)) = changed SameLink link_view SameLink-itself old.slots.items i d a b R is lt same r in
-    subst (λ (n : ℕ). AtPeer SameLinks ring_view n R old (record { own = old.own; slots = with_item old.slots i (Some b) })) here
-    (record { own = refl; count = refl; each = c.each }, c.here, c.others)
+-- the view of a place
+abbrev pub view_in : List (Option Link) → ℕ → LinkView
+view_in xs p = place_view link_view (slice_index_or xs p None)
+
+pub at_slot : (xs : List (Option Link)) (i peer : ℕ) (d : Option Link) (a b : Link) (R : LinkView → LinkView → Type 0) → i ≡ peer → slice_index_or xs i d ≡ Some a → i < length xs
+    → SameLink a b → R (link_view a) (link_view b) → Changes SameLink link_view peer R xs (slice_set xs i (Some b))
+at_slot xs i peer d a b R here is lt same r =
+    subst (λ (n : ℕ). Changes SameLink link_view n R xs (slice_set xs i (Some b))) here (changed SameLink link_view SameLink-itself xs i d a b R is lt same r)
 
 -- a change of one link that shows nothing shows nothing of any
-pub all_same : (old new : RingLinks) (peer : ℕ) → AtPeer SameLinks ring_view peer IsSameView old new → (p : ℕ) → IsSameView (ring_view old p) (ring_view new p)
-all_same old new peer h p = by_place (same_or_not p peer)
+pub all_same : (xs ys : List (Option Link)) (peer : ℕ) → Changes SameLink link_view peer IsSameView xs ys → (p : ℕ) → IsSameView (view_in xs p) (view_in ys p)
+all_same xs ys peer h p = by_place (same_or_not p peer)
   where
-    by_place : ((p ≡ peer) ⊎ (p ≢ peer)) → IsSameView (ring_view old p) (ring_view new p)
-    by_place (inl e) = subst (λ (n : ℕ). IsSameView (ring_view old n) (ring_view new n)) (sym e) h.1
-    by_place (inr n) = subst (λ (w : LinkView). IsSameView (ring_view old p) w) (sym (h.2 p n)) (same_view (ring_view old p))
+    by_place : ((p ≡ peer) ⊎ (p ≢ peer)) → IsSameView (view_in xs p) (view_in ys p)
+    by_place (inl e) = subst (λ (n : ℕ). IsSameView (view_in xs n) (view_in ys n)) (sym e) h.here
+    by_place (inr n) = subst (λ (w : LinkView). IsSameView (view_in xs p) w) (sym (h.others p n)) (same_view (view_in xs p))
 
-pub view_at : (old : RingLinks) (i peer : ℕ) (b : Link) → i ≡ peer → i < length old.slots.items → ring_view (record { own = old.own; slots = with_item old.slots i (Some b) }) peer ≡ link_view b
-view_at old i peer b here lt = subst (λ (n : ℕ). place_view link_view (slice_index_or (slice_set old.slots.items i (Some b)) n None) ≡ link_view b) here (ap (place_view link_view) (get_or-set_same old.slots.items i (Some b) None lt))
+pub view_at : (xs : List (Option Link)) (i peer : ℕ) (b : Link) → i ≡ peer → i < length xs → view_in (slice_set xs i (Some b)) peer ≡ link_view b
+view_at xs i peer b here lt = subst (λ (n : ℕ). view_in (slice_set xs i (Some b)) n ≡ link_view b) here (ap (place_view link_view) (get_or-set_same xs i (Some b) None lt))
 
 pub prefix_at : {a b x y : LinkView} → x ≡ a → y ≡ b → IsPrefix x.taken y.sent → IsPrefix a.taken b.sent
 prefix_at {a} {b} {x} {y} e f h = subst (λ (v : LinkView). IsPrefix v.taken b.sent) e (subst (λ (v : LinkView). IsPrefix x.taken v.sent) f h)
-
--- a slot is the same, with nothing sent or taken anew
-abbrev pub Both : Option Link → Option Link → Type 0
-Both x y = SameSlot x y × Pumped (place_view link_view x) (place_view link_view y)
-
-both_along : (x y z : Option Link) → Both x y → Both y z → Both x z
-both_along x y z a b = (SameSlot-along x y z a.0 b.0, pumped_along (place_view link_view x) (place_view link_view y) (place_view link_view z) a.1 b.1)
-
--- a link is moved on, and no other
-pub pumped_more : (start xs : List (Option Link)) (i : ℕ) (d b : Option Link) → ((p : ℕ) → Both (slice_index_or start p None) (slice_index_or xs p None))
-    → i < length xs → Both (slice_index_or xs i d) b → (p : ℕ) → Both (slice_index_or start p None) (slice_index_or (slice_set xs i b) p None)
-pumped_more start xs i d b was lt moved p = by_place (same_or_not p i)
-  where
-    here : Both (slice_index_or start i None) (slice_index_or (slice_set xs i b) i None)
-    here = subst (λ (x : Option Link). Both (slice_index_or start i None) x) (sym (get_or-set_same xs i b None lt))
-        (both_along (slice_index_or start i None) (slice_index_or xs i None) b (was i) (subst (λ (x : Option Link). Both x b) (any_default xs i d None lt) moved))
-
-    by_place : ((p ≡ i) ⊎ (p ≢ i)) → Both (slice_index_or start p None) (slice_index_or (slice_set xs i b) p None)
-    by_place (inl e) = subst (λ (n : ℕ). Both (slice_index_or start n None) (slice_index_or (slice_set xs i b) n None)) (sym e) here
-    by_place (inr n) = subst (λ (x : Option Link). Both (slice_index_or start p None) x) (sym (get_or-set_other xs i p b None n)) (was p)
-
-pub still : (x : Option Link) → Both x x
-still x = (SameSlot-itself x, pumped_itself (place_view link_view x))
 
 -- joined links have places in both lists
 pub within_here : (xs : List (Option Link)) (i : ℕ) (y : Option Link) → AreJoinedSlots (slice_index_or xs i None) y → i < length xs
@@ -78,22 +56,18 @@ joined_there r s i j own other d e a b joined i_is j_is at_i at_j =
     let there : link_to s own ≡ Some b = ap (λ (n : ℕ). link_to s n) (sym j_is) ∙ any_default s.slots.items j None e lt_j ∙ at_j in
     subst (λ (y : Option Link). AreJoinedSlots (Some a) y) there (subst (λ (x : Option Link). AreJoinedSlots x (link_to s own)) here joined)
 
--- one link stands at a place now
-abbrev pub with_link : RingLinks → ℕ → Link → RingLinks
-with_link old i b = record { own = old.own; slots = with_item old.slots i (Some b) }
+-- a link that stands at a place now was shown beside another: nothing has changed, and its view is the one of its place
+pub record StandsBeside (xs : List (Option Link)) (i peer : ℕ) (b : Link) : Type 0 where
+  pub each : (p : ℕ) → SameSlot (slice_index_or xs p None) (slice_index_or (slice_set xs i (Some b)) p None)
+  pub views : (p : ℕ) → IsSameView (view_in xs p) (view_in (slice_set xs i (Some b)) p)
+  pub view : view_in (slice_set xs i (Some b)) peer ≡ link_view b
 
--- it was shown beside another: nothing has changed, and its view is the one of its place
-pub record StandsBeside (old : RingLinks) (i peer : ℕ) (b : Link) : Type 0 where
-  pub links : SameLinks old (with_link old i b)
-  pub views : (p : ℕ) → IsSameView (ring_view old p) (ring_view (with_link old i b) p)
-  pub view : ring_view (with_link old i b) peer ≡ link_view b
-
-pub stands_beside : (old : RingLinks) (i peer : ℕ) (d : Option Link) (a b : Link) → i ≡ peer → peer < length old.slots.items → slice_index_or old.slots.items i d ≡ Some a → SameLink a b
-    → IsSameView (link_view a) (link_view b) → StandsBeside old i peer b
-stands_beside old i peer d a b here below is same view =
-    let lt : i < length old.slots.items = subst (λ (n : ℕ). n < length old.slots.items) (sym here) below in
-    let at : AtPeer SameLinks ring_view peer IsSameView old (with_link old i b) = at_slot old i peer d a b IsSameView here is lt same view in
-    record { links = at.0; views = all_same old (with_link old i b) peer at; view = view_at old i peer b here lt }
+pub stands_beside : (xs : List (Option Link)) (i peer : ℕ) (d : Option Link) (a b : Link) → i ≡ peer → peer < length xs → slice_index_or xs i d ≡ Some a → SameLink a b
+    → IsSameView (link_view a) (link_view b) → StandsBeside xs i peer b
+stands_beside xs i peer d a b here below is same view =
+    let lt : i < length xs = subst (λ (n : ℕ). n < length xs) (sym here) below in
+    let at : Changes SameLink link_view peer IsSameView xs (slice_set xs i (Some b)) = at_slot xs i peer d a b IsSameView here is lt same view in
+    record { each = at.each; views = all_same xs (slice_set xs i (Some b)) peer at; view = view_at xs i peer b here lt }
 
 -- one more place with no link
 pub none_more : (xs : List (Option Link)) → ((p : ℕ) → slice_index_or xs p None ≡ None) → (p : ℕ) → slice_index_or (xs ++ None ∷ []) p None ≡ None

@@ -18,8 +18,8 @@ none_first [] e = refl
 none_first (m ∷ ms) e = absurd (cc)
 
 -- a message that was taken in, and then given up, was taken
-pub taken_view : (v w z : LinkView) (lent : Option (Bor (List ℕ))) → Pulled v w (Ok tt) → GivenUp w z → shown_items lent ≡ first_of w.kept → Taken v z (Ok lent)
-taken_view v w z lent p g shows =
+pub taken_view : {A : Type 0} (shown : A) (v w z : LinkView) (lent : Option (Bor (List ℕ))) → Pulled v w (Ok shown) → GivenUp w z → shown_items lent ≡ first_of w.kept → Taken v z (Ok lent)
+taken_view shown v w z lent p g shows =
     let part : shown_list (shown_items lent) ≡ take 1 w.kept = ap shown_list shows ∙ first_part w.kept in
     let come : shown_list (shown_items lent) ++ z.kept ≡ w.kept =
     ap (λ (l : List (List ℕ)). l ++ z.kept) part ∙ ap (λ (l : List (List ℕ)). take 1 w.kept ++ l) g.kept ∙ first_and_rest w.kept in
@@ -36,11 +36,11 @@ taken_view v w z lent p g shows =
       answer = (g.stopped ∙ p.answer, λ e. g.kept ∙ none_first w.kept (sym shows ∙ e));
     }
 
-pub taken_at : {L : Type 0} (same : L → L → Type 0) (view : L → ℕ → LinkView) (peer : ℕ) (a b c : L) (lent : Option (Bor (List ℕ)))
-    → ((x y z : L) → same x y → same y z → same x z) → AtPeer same view peer (λ v w. Pulled v w (Ok tt)) a b → AtPeer same view peer GivenUp b c → shown_items lent ≡ first_of (view b peer).kept
+pub taken_at : {A L : Type 0} (shown : A) (same : L → L → Type 0) (view : L → ℕ → LinkView) (peer : ℕ) (a b c : L) (lent : Option (Bor (List ℕ)))
+    → ((x y z : L) → same x y → same y z → same x z) → AtPeer same view peer (λ v w. Pulled v w (Ok shown)) a b → AtPeer same view peer GivenUp b c → shown_items lent ≡ first_of (view b peer).kept
     → AtPeer same view peer (λ v w. Taken v w (Ok lent)) a c
-taken_at same view peer a b c lent along p g shows =
-    (along a b c p.0 g.0, taken_view (view a peer) (view b peer) (view c peer) lent p.1 g.1 shows, λ n ne. g.2 n ne ∙ p.2 n ne)
+taken_at shown same view peer a b c lent along p g shows =
+    (along a b c p.0 g.0, taken_view shown (view a peer) (view b peer) (view c peer) lent p.1 g.1 shows, λ n ne. g.2 n ne ∙ p.2 n ne)
 
 pub same_view : (v : LinkView) → IsSameView v v
 same_view v = record { sent = refl; taken = refl; kept = refl; stopped = refl; ready = refl; told = refl }

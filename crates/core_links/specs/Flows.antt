@@ -33,7 +33,7 @@ pub record FlowsOut (v w : Flow) (ready : Bool) : Type 0 where
   pub moved : w.moved ≡ true → v.out < w.out
 
 -- lines came in until a message was whole: where none is kept, no line is known that was not received. It says so where one did
-pub record FlowsIn (v w : Flow) (kept : List (List ℕ)) (r : Result (Unit {0}) LineFault) : Type 0 where
+pub record FlowsIn {A : Type 0} (v w : Flow) (kept : List (List ℕ)) (r : Result A LineFault) : Type 0 where
   pub out : w.out ≡ v.out
   pub room : w.room ≡ v.room
   pub come : v.come ≤ w.come

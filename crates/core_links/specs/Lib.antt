@@ -7,3 +7,9 @@ pub mod ListSlots
 pub mod ListLaws
 pub mod ListLending
 pub mod Flows
+pub mod Marks
+pub mod Waking
+pub mod Notes
+pub mod Pumping
+pub mod Calm
+pub mod Ends

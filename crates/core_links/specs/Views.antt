@@ -70,7 +70,7 @@ pub record Arrived (v w : LinkView) (come : List (List ℕ)) : Type 0 where
   pub all : v.told ≡ true → (come ≡ v.kept) × (w.stopped ≡ v.stopped)
 
 -- messages came until one is kept, or there are none. A fault is answered exactly where the link has stopped
-pub record Pulled (v w : LinkView) (r : Result (Unit {0}) LineFault) : Type 0 where
+pub record Pulled {A : Type 0} (v w : LinkView) (r : Result A LineFault) : Type 0 where
   pub arrived : Arrived v w w.kept
   pub taken : w.taken ≡ v.taken
   pub answer : MatchResult r (λ u. w.stopped ≡ None) (λ fault. w.stopped ≡ Some fault)

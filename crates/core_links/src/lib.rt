@@ -9,12 +9,15 @@
 //! them in lists that a caller fills and empties by hand, so a look shows all that was given.
 #![tactic(auto)]
 
+mod bell;
 mod laws;
 mod links;
 mod list_links;
+mod marks;
 mod message_list;
 mod ring_links;
 
+pub use bell::Bell;
 pub use laws::still_rings_are_empty;
 pub use links::Links;
 pub use list_links::{ListLink, ListLinks};

@@ -6,11 +6,13 @@ use ump_ring::{Busy, LineFault};
 /// The links of a core to its peers, which are named by their numbers. No call takes memory. `look`, `take`, `pump` and a
 /// `send` to another peer leave a ready link ready.
 pub trait Links: Drop {
-    ghost use Rattle.std.specs.Prelude.{◌≡◌, ◌≢◌, ◌≤◌, [], ℕ, IsTrue, IsFalse, length, vec_len};
+    ghost use Rattle.std.specs.Prelude.{◌≡◌, ◌≢◌, ◌≤◌, ◌↔◌, ◌<◌, [], ℕ, IfOk, IsTrue, IsFalse, length, vec_len};
     ghost use Rattle.std.specs.Borrow.{sem};
     ghost use Rattle.ump_ring.specs.Joiners.{shown_items};
-    ghost use Rattle.core_links.specs.Flows.{Flow, FlowsOut, FlowsIn, FlowsAt};
-    ghost use Rattle.core_links.specs.Views.{LinkView, first_of, AtPeer, Pulled, GivenUp, Looked, Taken, HandedOver, HandedBytes, Pumped, LeavesSo};
+    ghost use Rattle.core_links.specs.Flows.{Flow, no_flow, FlowsOut, FlowsIn, FlowsAt};
+    ghost use Rattle.core_links.specs.Views.{LinkView, no_link, first_of, AtPeer, Pulled, GivenUp, Looked, Taken, HandedOver, HandedBytes, Pumped, LeavesSo};
+    ghost use Rattle.core_links.specs.Waking.{bits_below};
+    ghost use Rattle.core_links.specs.Calm.{IsCalm};
 
     /// What was sent to a peer and taken from it.
     ghost view: { Self → ℕ → LinkView };
@@ -29,12 +31,47 @@ pub trait Links: Drop {
     fn moved(&self, peer: u16) -> bool
         ensures { result ≡ (flow self.now peer).moved };
 
+    /// A number above those of all peers that it has a link to.
+    fn span(&self) -> u16
+        ensures { (p : ℕ) → result ≤ p → (view self.now p ≡ no_link) × (flow self.now p ≡ no_flow) };
+
+    /// What `moved` says of each peer below `cores`: a bit for each, the least for core 0.
+    fn moved_below(&self, cores: u16) -> u64
+        requires { cores ≤ 64 }
+        ensures { result ≡ bits_below cores (λ p. (flow self.now p).moved) };
+
+    /// Whether nothing can be there: each link keeps no message, knows of no line and runs, as `calm_down` noted, and no peer has sent a
+    /// line since. So no link has to be looked at.
+    fn is_calm(&mut self) -> bool
+        ensures links { same self.old self.new }
+        ensures views { (p : ℕ) → view self.new p ≡ view self.old p }
+        ensures lines { (p : ℕ) → flow self.new p ≡ flow self.old p }
+        ensures calm { IsTrue result → (p : ℕ) → IsCalm (view self.new p) (flow self.new p) };
+
+    /// Notes that the links to all peers below `cores` were looked at since `is_calm` was asked, and are calm.
+    fn calm_down(&mut self, cores: u16)
+        requires calm { (p : ℕ) → p < cores → IsCalm (view self.old p) (flow self.old p) }
+        ensures links { same self.old self.new }
+        ensures views { (p : ℕ) → view self.new p ≡ view self.old p }
+        ensures lines { (p : ℕ) → flow self.new p ≡ flow self.old p };
+
+    /// Takes in what has come from a peer until a whole message is kept, and says whether one is. After a fault every call
+    /// answers the same.
+    fn shows(&mut self, peer: u16) -> Result<bool, LineFault>
+        ensures pulled { AtPeer same view peer (λ v w. Pulled v w result) self.old self.new }
+        ensures lines { FlowsAt flow peer (λ v w. FlowsIn v w (view self.new peer).kept result) self.old self.new }
+        ensures kept { IfOk result (λ shows. IsTrue shows ↔ ((view self.new peer).kept ≢ [])) };
+
     /// Takes in what has come from a peer until a whole message is kept. After a fault every call answers the same.
     /// `pull` and `shown` are `look` in two steps, for a type that holds the links and reads the message while it asks
     /// for more.
-    fn pull(&mut self, peer: u16) -> Result<(), LineFault>
+    final fn pull(&mut self, peer: u16) -> Result<(), LineFault>
         ensures pulled { AtPeer same view peer (λ v w. Pulled v w result) self.old self.new }
-        ensures lines { FlowsAt flow peer (λ v w. FlowsIn v w (view self.new peer).kept result) self.old self.new };
+        ensures lines { FlowsAt flow peer (λ v w. FlowsIn v w (view self.new peer).kept result) self.old self.new }
+    {
+        self.shows(peer)?;
+        Ok(())
+    }
 
     /// The first message of a peer that is kept.
     fn shown(&self, peer: u16) -> Option<&[u8]>

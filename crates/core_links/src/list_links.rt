@@ -27,6 +27,8 @@ impl Drop for ListLink {
 /// their life.
 pub struct ListLinks {
     slots: Vec<Option<ListLink>>,
+    // Peers have numbers of 16 bits.
+    ghost most: { vec_len slots ≤ 65535 },
 }
 
 // By hand, so that the proofs of its owners have one call and not a drop of each part.
@@ -176,8 +178,22 @@ impl Links for ListLinks {
         false
     }
 
-    fn pull(&mut self, _peer: u16) -> Result<(), LineFault> {
-        Ok(())
+    fn span(&self) -> u16 {
+        self.slots.len() as u16
+    }
+
+    fn moved_below(&self, _cores: u16) -> u64 {
+        0
+    }
+
+    fn is_calm(&mut self) -> bool {
+        false
+    }
+
+    fn calm_down(&mut self, _cores: u16) {}
+
+    fn shows(&mut self, peer: u16) -> Result<bool, LineFault> {
+        Ok(self.shown(peer).is_some())
     }
 
     fn shown(&self, peer: u16) -> Option<&[u8]> {

@@ -1,8 +1,13 @@
 //! Links over rings.
 
 ghost use Rattle.std.specs.Prelude.{◌≤◌, length, vec_len};
+ghost use Rattle.std.specs.Prelude.{IsTrue};
+ghost use Rattle.core_links.specs.Marks.{TellMoved, TellDue, LieBelow};
+ghost use Rattle.core_links.specs.Ends.{AreEmptyEnds};
 
+use crate::bell::Bell;
 use crate::links::Links;
+use crate::marks::{MARKED, Marks};
 use seq::Shared;
 use std::alloc::{AllocError, Global};
 use ump_ring::{Busy, LineFault, Receiver, Sender, beside};
@@ -13,6 +18,8 @@ pub struct Link {
     receiver: Receiver,
     // A line moved, either way, since the last `pump` began.
     moved: bool,
+    // The peer's.
+    bell: Bell,
 }
 
 // By hand, so that the proofs of its owners have one call and not a drop of each part.
@@ -22,6 +29,7 @@ impl Drop for Link {
             sender: _,
             receiver: _,
             moved: _,
+            bell: _,
         } = self;
     }
 }
@@ -30,12 +38,34 @@ impl Drop for Link {
 pub struct RingLinks {
     own: u16,
     slots: Vec<Option<Link>>,
+    // No link is to this peer or one above it.
+    span: u16,
+    marks: Marks,
+    bell: Bell,
+    // What the bell counted when it was asked last.
+    heard: u64,
+    // Since then all links were looked at, and nothing was there.
+    calm: bool,
+    // Peers have numbers of 16 bits.
+    ghost most: { vec_len slots ≤ 65535 },
+    ghost below: { LieBelow span slots.items },
+    ghost moves: { TellMoved marks.moved slots.items },
+    ghost dues: { TellDue marks.due slots.items },
+    ghost calms: { IsTrue calm → AreEmptyEnds slots.items },
 }
 
 // By hand, so that the proofs of its owners have one call and not a drop of each part.
 impl Drop for RingLinks {
     fn drop(self) {
-        let RingLinks { own: _, slots: _ } = self;
+        let RingLinks {
+            own: _,
+            slots: _,
+            span: _,
+            marks: _,
+            bell: _,
+            heard: _,
+            calm: _,
+        } = self;
     }
 }
 
@@ -57,22 +87,40 @@ impl RingLinks {
         for _ in 0..cores {
             slots.push(None)?;
         }
-        Ok(RingLinks { own, slots })
+        Ok(RingLinks {
+            own,
+            slots,
+            span: 0,
+            marks: Marks::none(),
+            bell: Bell::new(alloc)?,
+            heard: 0,
+            calm: false,
+        })
     }
 
-    /// Joins the link to a peer, once, by the sender of one ring and the receiver of another. Takes no memory.
-    pub fn join(&mut self, peer: u16, sender: Sender, receiver: Receiver)
+    /// The core's bell, for a peer: one more owner.
+    pub fn bell(&self) -> Result<Bell, AllocError> {
+        self.bell.share()
+    }
+
+    /// Joins the link to a peer, once, by the sender of one ring and the receiver of another, and with the peer's bell. Takes no memory.
+    pub fn join(&mut self, peer: u16, sender: Sender, receiver: Receiver, bell: Bell)
         requires peer { (peer < cores_of self.old) × (peer ≢ own_of self.old) }
         requires once { link_to self.old peer ≡ None }
         ensures place { (own_of self.new ≡ own_of self.old) × (cores_of self.new ≡ cores_of self.old) }
-        ensures joined { link_to self.new peer ≡ Some (record { sender = sender; receiver = receiver; moved = false }) }
+        ensures joined { link_to self.new peer ≡ Some (record { sender = sender; receiver = receiver; moved = false; bell = bell }) }
         ensures others { (p : ℕ) → p ≢ peer → link_to self.new p ≡ link_to self.old p }
     {
-        self.slots[usize::from(peer)] = Some(Link {
+        let place = usize::from(peer);
+        self.slots[place] = Some(Link {
             sender,
             receiver,
             moved: false,
+            bell,
         });
+        self.calm = false;
+        self.span = self.span.max(peer + 1);
+        self.marks.note(place, false, true);
     }
 
     /// Shows, in a thread with the links of two cores that rings join, that what each took from the other begins what
@@ -89,6 +137,8 @@ impl RingLinks {
         ensures still { LooksAt (own_of other.old) self.old self.new × LooksAt (own_of self.old) other.old other.new }
     {
         let (place, back) = (usize::from(other.own), usize::from(self.own));
+        self.calm = false;
+        other.calm = false;
         match (&mut self.slots[place], &mut other.slots[back]) {
             (Some(link), Some(its)) => link.beside(its),
             _ => unreachable!(),
@@ -118,7 +168,7 @@ impl RingLinks {
 
 // The messages of one link.
 impl Link {
-    ghost use Rattle.std.specs.Prelude.{◌≡◌, ◌≢◌, ◌↔◌, IsTrue, IsFalse, None, []};
+    ghost use Rattle.std.specs.Prelude.{◌≡◌, ◌≢◌, ◌↔◌, IfOk, IsTrue, IsFalse, None, []};
     ghost use Rattle.ump_ring.specs.Joiners.{shown_items};
     ghost use Rattle.ump_ring.specs.Receivers.{message_last};
     ghost use Rattle.ump_ring.specs.Senders.{sender_capacity};
@@ -139,14 +189,16 @@ impl Link {
         self.sender.idle() && self.receiver.shown().is_none() && self.receiver.known() == 0
     }
 
-    fn pull(&mut self) -> Result<(), LineFault>
+    fn shows(&mut self) -> Result<bool, LineFault>
         ensures link { SameLink self.old self.new }
         ensures pulled { Pulled (link_view self.old) (link_view self.new) result }
         ensures lines { FlowsIn (link_flow self.old) (link_flow self.new) (link_view self.new).kept result }
+        ensures kept { IfOk result (λ shows. IsTrue shows ↔ ((link_view self.new).kept ≢ [])) }
     {
         let pulled = self.receiver.pull();
         self.moved = self.moved || self.receiver.moved();
-        pulled
+        pulled?;
+        Ok(self.receiver.shown().is_some())
     }
 
     fn shown(&self) -> Option<&[u8]>
@@ -205,6 +257,9 @@ impl Link {
         ensures lines { FlowsOut (link_flow self.old) (link_flow self.new) (link_view self.new).ready }
     {
         self.moved = !self.sender.idle() && self.sender.push_some().lines != 0;
+        if self.moved {
+            self.bell.ring();
+        }
     }
 
     fn beside(&mut self, other: &mut Link)
@@ -218,9 +273,53 @@ impl Link {
         ensures exact_out { IsExact (sender_capacity self.new.sender) (link_view self.new) (link_view other.new) (link_flow self.new) (link_flow other.new) }
         ensures exact_in { IsExact (sender_capacity other.new.sender) (link_view other.new) (link_view self.new) (link_flow other.new) (link_flow self.new) }
         ensures still { IsLooked (link_flow self.old) (link_flow self.new) × IsLooked (link_flow other.old) (link_flow other.new) }
+        ensures same_moved { (self.new.moved ≡ self.old.moved) × (other.new.moved ≡ other.old.moved) }
     {
         beside(&mut self.sender, &mut other.receiver);
         beside(&mut other.sender, &mut self.receiver);
+    }
+}
+
+// What a pump does.
+impl RingLinks {
+    ghost use Rattle.std.specs.Prelude.{◌≡◌, ◌≢◌, ◌<◌, ℕ, None, slice_index_or};
+    ghost use Rattle.core_links.specs.Marks.{TellMoved, TellDue};
+    ghost use Rattle.core_links.specs.Pumping.{MovesOn, MovesOnAt};
+
+    // Moves on each link that is due, and marks what it then has to do. Links to peers with no bit are all due.
+    fn pump_due(slots: &mut [Option<Link>], due: u64) -> Marks
+        requires { TellDue due slots.old }
+        ensures each { (p : ℕ) → MovesOn (slice_index_or slots.old p None) (slice_index_or slots.new p None) }
+        ensures moves { TellMoved result.moved slots.new }
+        ensures dues { TellDue result.due slots.new }
+    {
+        let mut marks = Marks::none();
+        let mut left = due;
+        'bits: while left != 0 {
+            let bit = left.trailing_zeros();
+            left &= !(1u64 << bit);
+            RingLinks::pump_at(slots, bit as usize, &mut marks);
+        }
+        'others: for place in MARKED..slots.len() {
+            RingLinks::pump_at(slots, place, &mut marks);
+        }
+        marks
+    }
+
+    // Moves on the link to a peer, if there is one, and marks what it then has to do.
+    fn pump_at(slots: &mut [Option<Link>], peer: usize, marks: &mut Marks)
+        ensures { MovesOnAt peer slots.old slots.new marks.old marks.new }
+    {
+        if peer >= slots.len() {
+            return;
+        }
+        match &mut slots[peer] {
+            None => {}
+            Some(link) => {
+                link.pump();
+                marks.note(peer, link.moved, !link.ready());
+            }
+        }
     }
 }
 
@@ -251,14 +350,38 @@ impl Links for RingLinks {
         }
     }
 
-    fn pull(&mut self, peer: u16) -> Result<(), LineFault> {
+    fn span(&self) -> u16 {
+        self.span
+    }
+
+    fn moved_below(&self, cores: u16) -> u64 {
+        self.marks.moved_below(cores)
+    }
+
+    fn is_calm(&mut self) -> bool {
+        let count = self.bell.count();
+        self.calm = self.calm && count == self.heard;
+        self.heard = count;
+        self.calm
+    }
+
+    fn calm_down(&mut self, cores: u16) {
+        self.calm = self.calm || self.span <= cores;
+    }
+
+    fn shows(&mut self, peer: u16) -> Result<bool, LineFault> {
         let place = usize::from(peer);
         if place >= self.slots.len() {
-            return Ok(());
+            return Ok(false);
         }
         match &mut self.slots[place] {
-            None => Ok(()),
-            Some(link) => link.pull(),
+            None => Ok(false),
+            Some(link) => {
+                self.calm = false;
+                let shows = link.shows();
+                self.marks.note(place, link.moved, false);
+                shows
+            }
         }
     }
 
@@ -287,7 +410,7 @@ impl Links for RingLinks {
     }
 
     fn take(&mut self, peer: u16) -> Result<Option<&[u8]>, LineFault> {
-        self.pull(peer)?;
+        self.shows(peer)?;
         if !self.give_up(peer) {
             return Ok(None);
         }
@@ -301,7 +424,10 @@ impl Links for RingLinks {
         }
         match &mut self.slots[place] {
             None => Err(Busy(message)),
-            Some(link) => link.send(message),
+            Some(link) => {
+                self.marks.note(place, false, true);
+                link.send(message)
+            }
         }
     }
 
@@ -312,7 +438,10 @@ impl Links for RingLinks {
         }
         match &mut self.slots[place] {
             None => false,
-            Some(link) => link.send_short(message),
+            Some(link) => {
+                self.marks.note(place, false, true);
+                link.send_short(message)
+            }
         }
     }
 
@@ -323,17 +452,15 @@ impl Links for RingLinks {
         }
         match &mut self.slots[place] {
             None => false,
-            Some(link) => link.send_shared(message),
+            Some(link) => {
+                self.marks.note(place, false, true);
+                link.send_shared(message)
+            }
         }
     }
 
     fn pump(&mut self) {
-        for slot in self.slots.iter_mut() {
-            match slot {
-                None => {}
-                Some(link) => link.pump(),
-            }
-        }
+        self.marks = RingLinks::pump_due(&mut self.slots, self.marks.due);
     }
 
     ghost same_itself = { SameLinks-itself };

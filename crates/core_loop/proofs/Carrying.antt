@@ -133,7 +133,7 @@ quiet_along u v w p q = record {
       (b.0 ∙ a.0, b.1 ∙ a.1);
 }
 
-pub pulled_quiet : (peer : ℕ) (old new : ℕ → LinkView) (r : Result (Unit {0}) LineFault) → Pulled (old peer) (new peer) r → ((p : ℕ) → p ≢ peer → new p ≡ old p) → (p : ℕ) → Quiet (old p) (new p)
+pub pulled_quiet : {A : Type 0} (peer : ℕ) (old new : ℕ → LinkView) (r : Result A LineFault) → Pulled (old peer) (new peer) r → ((p : ℕ) → p ≢ peer → new p ≡ old p) → (p : ℕ) → Quiet (old p) (new p)
 pulled_quiet peer old new r here same p = by_place (same_or_not p peer)
   where
     by_place : ((p ≡ peer) ⊎ (p ≡ peer → ⊥)) → Quiet (old p) (new p)

@@ -14,7 +14,7 @@ on_itself v = record { out = omega arith; come = omega arith; room = omega arith
 pub out_on : (v w : Flow) (ready : Bool) → FlowsOut v w ready → FlowsOn v w
 out_on v w ready f = record { out = f.out; come = omega (arith, f.come); room = f.room; known = omega (arith, f.come, f.known) }
 
-in_on : (v w : Flow) (kept : List (List ℕ)) (r : Result (Unit {0}) LineFault) → FlowsIn v w kept r → FlowsOn v w
+in_on : {A : Type 0} (v w : Flow) (kept : List (List ℕ)) (r : Result A LineFault) → FlowsIn v w kept r → FlowsOn v w
 in_on v w kept r f = record { out = omega (arith, f.out); come = f.come; room = omega (arith, f.out, f.room); known = f.known }
 
 says_itself : (v : Flow) → SaysMoved v v
@@ -40,7 +40,7 @@ says_along u v w a b x y = record { still = still; moved = λ e. by_last (y.move
     by_last (inl e) = by_first (x.moved e)
     by_last (inr m) = inr (moves_along u v w a b (inr m))
 
-in_says : (v w : Flow) (kept : List (List ℕ)) (r : Result (Unit {0}) LineFault) → FlowsIn v w kept r → SaysMoved v w
+in_says : {A : Type 0} (v w : Flow) (kept : List (List ℕ)) (r : Result A LineFault) → FlowsIn v w kept r → SaysMoved v w
 in_says v w kept r f = record { still = λ e. let s = f.still e in (s.0, record { out = f.out; come = s.1 }); moved = λ e. by_line (f.moved e) }
   where
     by_line : ((v.moved ≡ true) ⊎ (v.come < w.come)) → (v.moved ≡ true) ⊎ HasMoved v w
@@ -48,7 +48,7 @@ in_says v w kept r f = record { still = λ e. let s = f.still e in (s.0, record 
     by_line (inr l) = inr (inr l)
 
 -- after a pull from one peer
-pub pulled_says : (peer : ℕ) (old new : ℕ → Flow) (kept : List (List ℕ)) (r : Result (Unit {0}) LineFault) → FlowsIn (old peer) (new peer) kept r → ((p : ℕ) → p ≢ peer → new p ≡ old p) → (p : ℕ) → SaysMoved (old p) (new p)
+pub pulled_says : {A : Type 0} (peer : ℕ) (old new : ℕ → Flow) (kept : List (List ℕ)) (r : Result A LineFault) → FlowsIn (old peer) (new peer) kept r → ((p : ℕ) → p ≢ peer → new p ≡ old p) → (p : ℕ) → SaysMoved (old p) (new p)
 pulled_says peer old new kept r here others p = by_place (same_or_not p peer)
   where
     by_place : ((p ≡ peer) ⊎ (p ≡ peer → ⊥)) → SaysMoved (old p) (new p)
@@ -66,7 +66,7 @@ pumped_moved u v w ready f on s e = by_look (s.moved e)
     by_look (inl m) = inl (omega (arith, f.moved m, on.out))
     by_look (inr m) = moves_along u v w (out_on u v ready f) on (inr m)
 
-pub pulled_on : (peer : ℕ) (old new : ℕ → Flow) (kept : List (List ℕ)) (r : Result (Unit {0}) LineFault) → FlowsIn (old peer) (new peer) kept r → ((p : ℕ) → p ≢ peer → new p ≡ old p) → (p : ℕ) → FlowsOn (old p) (new p)
+pub pulled_on : {A : Type 0} (peer : ℕ) (old new : ℕ → Flow) (kept : List (List ℕ)) (r : Result A LineFault) → FlowsIn (old peer) (new peer) kept r → ((p : ℕ) → p ≢ peer → new p ≡ old p) → (p : ℕ) → FlowsOn (old p) (new p)
 pulled_on peer old new kept r here others p = by_place (same_or_not p peer)
   where
     by_place : ((p ≡ peer) ⊎ (p ≡ peer → ⊥)) → FlowsOn (old p) (new p)
@@ -78,7 +78,7 @@ not_ready : (a b : Bool) → (a ≡ true → b ≡ true) → b ≡ false → a �
 not_ready true b keeps is = absurd (let x : b ≡ true = keeps refl in cc)
 not_ready false b keeps is = refl
 
-pub pulled_full : (peer : ℕ) (v w : ℕ → LinkView) (old new : ℕ → Flow) (kept : List (List ℕ)) (r : Result (Unit {0}) LineFault) → Pulled (v peer) (w peer) r → ((p : ℕ) → p ≢ peer → w p ≡ v p)
+pub pulled_full : {A : Type 0} (peer : ℕ) (v w : ℕ → LinkView) (old new : ℕ → Flow) (kept : List (List ℕ)) (r : Result A LineFault) → Pulled (v peer) (w peer) r → ((p : ℕ) → p ≢ peer → w p ≡ v p)
     → FlowsIn (old peer) (new peer) kept r → ((p : ℕ) → p ≢ peer → new p ≡ old p) → ((p : ℕ) → (v p).ready ≡ false → (old p).room ≡ 0) → (p : ℕ) → (w p).ready ≡ false → (new p).room ≡ 0
 pulled_full peer v w old new kept r pulled others here flows full p blocked = by_place (same_or_not p peer)
   where

@@ -14,5 +14,4 @@ pub mod Silent
 pub mod Answering
 pub mod Receipting
 pub mod Flowing
-pub mod Waking
 pub mod Unread

@@ -1,7 +1,5 @@
 -- Links over rings that nothing has gone through.
-use Rattle.std.proofs.Common.{false, ◌≡◌, ◌⊎◌, inl, inr, ℕ, Option, None, Some, [], refl, sym, subst}
-use Rattle.ump_ring.specs.declared.sender.Sender.{Sender}
-use Rattle.ump_ring.specs.declared.receiver.Receiver.{Receiver}
+use Rattle.std.proofs.Common.{◌≡◌, ◌⊎◌, inl, inr, ℕ, Option, None, Some, [], refl, sym, subst}
 use Rattle.ump_ring.specs.Senders.{messages_offered}
 use Rattle.ump_ring.specs.Receivers.{messages_taken}
 use Rattle.core_links.specs.declared.ring_links.Link.{Link}
@@ -19,10 +17,10 @@ pub silent_empty : (r : RingLinks) → ((p : ℕ) → link_to r p ≡ None) → 
 silent_empty r none p = silent_slot (link_to r p) None (none p) (refl, refl)
 
 -- so they are with one more, by rings that nothing has gone through
-pub silent_more : (old new : RingLinks) (peer : ℕ) (sender : Sender) (receiver : Receiver) → ((p : ℕ) → IsSilent (ring_view old p)) → link_to new peer ≡ Some (record { sender = sender; receiver = receiver; moved = false })
-    → ((p : ℕ) → (p ≡ peer → ⊥) → link_to new p ≡ link_to old p) → messages_offered sender ≡ [] → messages_taken receiver ≡ [] → (p : ℕ) → IsSilent (ring_view new p)
-silent_more old new peer sender receiver silent here others sent taken p = by_place (same_or_not p peer)
+pub silent_more : (old new : RingLinks) (peer : ℕ) (l : Link) → ((p : ℕ) → IsSilent (ring_view old p)) → link_to new peer ≡ Some l
+    → ((p : ℕ) → (p ≡ peer → ⊥) → link_to new p ≡ link_to old p) → messages_offered l.sender ≡ [] → messages_taken l.receiver ≡ [] → (p : ℕ) → IsSilent (ring_view new p)
+silent_more old new peer l silent here others sent taken p = by_place (same_or_not p peer)
   where
     by_place : ((p ≡ peer) ⊎ (p ≡ peer → ⊥)) → IsSilent (ring_view new p)
-    by_place (inl e) = subst (λ (n : ℕ). IsSilent (ring_view new n)) (sym e) (silent_slot (link_to new peer) (Some (record { sender = sender; receiver = receiver; moved = false })) here (sent, taken))
+    by_place (inl e) = subst (λ (n : ℕ). IsSilent (ring_view new n)) (sym e) (silent_slot (link_to new peer) (Some l) here (sent, taken))
     by_place (inr ne) = silent_slot (link_to new p) (link_to old p) (others p ne) (silent p)

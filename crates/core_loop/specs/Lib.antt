@@ -18,4 +18,3 @@ pub mod Receiving
 pub mod Answering
 pub mod Owning
 pub mod Resting
-pub mod Waking

@@ -135,6 +135,20 @@ fn accepting_into(
     if count > room.len() {
         return Err(NotReceived::NoRoom(count));
     }
-    room[..count].copy_from_slice(&scratch.kept);
+    write_front(room, &scratch.kept);
     Ok(count)
+}
+
+// Writes what is kept to the front of the room. Most packets go to one endpoint or none: these need no call that copies memory.
+fn write_front(room: &mut [Kept], kept: &[Kept])
+    requires { length kept.now ≤ length room.old }
+    ensures front { take (length kept.now) room.new ≡ kept.now }
+    ensures rest { drop (length kept.now) room.new ≡ drop (length kept.now) room.old }
+    ensures room { length room.new ≡ length room.old }
+{
+    match kept {
+        [] => {}
+        [only] => room[0] = *only,
+        _ => room[..kept.len()].copy_from_slice(kept),
+    }
 }

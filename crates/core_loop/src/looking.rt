@@ -9,7 +9,6 @@ ghost use Rattle.core_loop.specs.Carrying.{Quiet};
 ghost use Rattle.core_loop.specs.Receipts.{IsReceivable};
 ghost use Rattle.core_loop.specs.Turning.{HasRequest};
 ghost use Rattle.core_loop.specs.Choosing.{ShowsNothing, IsLeastShowing};
-ghost use Rattle.core_loop.specs.Waking.{bits_below};
 
 use crate::core0::waiting_after;
 use crate::part::Part;
@@ -18,7 +17,8 @@ use filter_table::Op;
 use rx_queue::Intake;
 use std::collections::VecDeque;
 
-/// The least peer that shows a message. Peers after it are not looked at, and a link that has stopped ends the search.
+/// The least peer that shows a message. Peers after it are not looked at, and a link that has stopped ends the search. Where nothing can have
+/// come, no link is looked at.
 pub(crate) fn least_showing<L: Links>(links: &mut L, cores: u16) -> Result<Option<u16>, LineFault>
     ensures links { L.same links.old links.new }
     ensures quiet { (p : ℕ) → Quiet (L.view links.old p) (L.view links.new p) }
@@ -30,32 +30,35 @@ pub(crate) fn least_showing<L: Links>(links: &mut L, cores: u16) -> Result<Optio
     ensures dry { IfOk result (λ shown. IfNone shown ((p : ℕ) → p < cores → (L.flow links.new p).known ≡ 0)) }
     ensures fault { IfErr result (λ fault. (peer : ℕ) × (peer < cores) × ((p : ℕ) → p < peer → ShowsNothing (L.view links.new p)) × ((L.view links.new peer).stopped ≡ Some fault)) }
 {
-    for peer in 0..cores {
-        links.pull(peer)?;
-        if has_message(links, peer) {
+    if links.is_calm() {
+        return Ok(None);
+    }
+    let shown = first_showing(links, cores)?;
+    if shown.is_none() {
+        links.calm_down(cores);
+    }
+    Ok(shown)
+}
+
+/// The same, by a look at each link in turn.
+fn first_showing<L: Links>(links: &mut L, cores: u16) -> Result<Option<u16>, LineFault>
+    ensures links { L.same links.old links.new }
+    ensures quiet { (p : ℕ) → Quiet (L.view links.old p) (L.view links.new p) }
+    ensures least { IfOk result (λ shown. IfSome shown (IsLeastShowing cores (L.view links.new))) }
+    ensures none { IfOk result (λ shown. IfNone shown ((p : ℕ) → p < cores → ShowsNothing (L.view links.new p))) }
+    ensures lines { (p : ℕ) → FlowsOn (L.flow links.old p) (L.flow links.new p) }
+    ensures moved { (p : ℕ) → SaysMoved (L.flow links.old p) (L.flow links.new p) }
+    ensures full { ((p : ℕ) → (L.view links.old p).ready ≡ false → (L.flow links.old p).room ≡ 0) → (p : ℕ) → (L.view links.new p).ready ≡ false → (L.flow links.new p).room ≡ 0 }
+    ensures dry { IfOk result (λ shown. IfNone shown ((p : ℕ) → p < cores → (L.flow links.new p).known ≡ 0)) }
+    ensures fault { IfErr result (λ fault. (peer : ℕ) × (peer < cores) × ((p : ℕ) → p < peer → ShowsNothing (L.view links.new p)) × ((L.view links.new peer).stopped ≡ Some fault)) }
+{
+    let end = cores.min(links.span());
+    for peer in 0..end {
+        if links.shows(peer)? {
             return Ok(Some(peer));
         }
     }
     Ok(None)
-}
-
-fn has_message<L: Links>(links: &L, peer: u16) -> bool
-    ensures some { IsTrue result → (L.view links.now peer).kept ≢ [] }
-    ensures none { IsFalse result → (L.view links.now peer).kept ≡ [] }
-{
-    links.shown(peer).is_some()
-}
-
-/// A bit for each peer over whose link a line moved, the least for core 0.
-pub(crate) fn moved_bits<L: Links>(links: &L, cores: u16) -> u64
-    requires { cores ≤ 64 }
-    ensures { result ≡ bits_below cores (λ p. (L.flow links.now p).moved) }
-{
-    let mut bits = 0u64;
-    for peer in (0..cores).rev() {
-        bits = bits * 2 + u64::from(links.moved(peer));
-    }
-    bits
 }
 
 /// Whether the core has a request of its own, or core 0 has one waiting.
@@ -68,7 +71,9 @@ pub(crate) fn has_request(part: &Part, cores: u16, requests: &VecDeque<Op>) -> b
         return true;
     }
     match part {
-        Part::Core0(core) => waiting_after(core, 0, cores - 1).is_some(),
+        Part::Core0(core) => {
+            core.coordinator.has_waiting() && waiting_after(core, 0, cores - 1).is_some()
+        }
         Part::OtherCore(_) => false,
     }
 }

@@ -5,7 +5,6 @@ ghost use Rattle.std.specs.Prelude.{◌≡◌, ◌<◌, ◌≤◌, ℕ};
 use crate::cause::{Cause, Turn};
 use crate::context::Context;
 use crate::deciding::decision_of;
-use crate::looking::moved_bits;
 use crate::noting::{last_begun_with, noted};
 use crate::part::Part;
 use crate::refusal::Halt;
@@ -95,7 +94,7 @@ impl<L: Links> Core<L> {
     ghost use Rattle.core_loop.specs.Turning.{StopsFirst, HasStopped, IsSpent, LacksMemory, HasWork};
     ghost use Rattle.core_loop.specs.Receipts.{receives};
     ghost use Rattle.core_loop.specs.Answering.{decisions};
-    ghost use Rattle.core_loop.specs.Waking.{bits_below};
+    ghost use Rattle.core_links.specs.Waking.{bits_below};
     ghost use Rattle.filter_table.specs.declared.decision.Decision.{Decision as GhostDecision};
     ghost use Rattle.core_loop.specs.Keeping.{replica_of};
     ghost use Rattle.core_loop.specs.Standing.{IsSilent};
@@ -229,7 +228,7 @@ impl<L: Links> Core<L> {
     pub fn woken(&self) -> u64
         ensures { result ≡ bits_below self.now.cores (λ p. (L.flow self.now.links p).moved) }
     {
-        moved_bits(&self.links, self.cores)
+        self.links.moved_below(self.cores)
     }
 
     /// Whether lines went to this peer in the last turn, or came from it, as `woken` says of all.

@@ -6,8 +6,8 @@ use Rattle.world_events.specs.declared.event.Event.{Event}
 use Rattle.world_events.specs.declared.event.Event.TheVariants.{Start, Submit}
 use Rattle.world_histories.specs.declared.history.Stamped.{Stamped}
 use Rattle.world_histories.specs.Histories.{unstamped, Core0State, OtherState, Computation}
-use Rattle.world_liveness.specs.Remaining.{is_request, steps, requests, total, per_request}
-use Rattle.world_liveness.proofs.Histories.{computation_bounded}
+use Rattle.world_progress.specs.Remaining.{is_request, steps, requests, total, per_request}
+use Rattle.world_progress.proofs.Histories.{computation_bounded}
 use Rattle.core_loop.specs.Cores.{begins, begun}
 use Rattle.core_join.specs.Machines.{RingCore}
 use Rattle.core_join.specs.Conclusions.{histories_of}

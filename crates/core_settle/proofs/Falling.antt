@@ -8,7 +8,7 @@ use Rattle.filter_table.specs.declared.operation.Op.{Op}
 use Rattle.monitor_2pc.specs.Coordinators.{CoordinatorPlace, Idle}
 use Rattle.world_model.specs.Cases.{outgoing}
 use Rattle.world_histories.specs.Histories.{unstamped, OtherState, sent_to, sent_by}
-use Rattle.world_liveness.specs.Remaining.{steps, total}
+use Rattle.world_progress.specs.Remaining.{steps, total}
 use Rattle.core_links.specs.Views.{LinkView}
 use Rattle.core_links.specs.Slots.{place_view}
 use Rattle.core_links.specs.declared.ring_links.Link.{Link}
@@ -25,8 +25,8 @@ use Rattle.core_loop.specs.Choosing.{ShowsNothing, IsLeastShowing, NoMessageNow}
 use Rattle.core_loop.specs.Beginning.{CanBegin0, CanBeginNext, HasNothingUnderWay}
 use Rattle.core_loop.specs.Keeping.{IsCore0, IsOtherCore, replica_of}
 use Rattle.core_loop.specs.Resting.{AreResting}
-use Rattle.core_sound.specs.Beside.{Waits0, Idles0, IdlesOther, IsFront, AreKnown, IsStillRing, IsStillCore, NothingIsLeft}
-use Rattle.core_sound.proofs.Still.{still_rests}
+use Rattle.core_join.specs.Beside.{Waits0, Idles0, IdlesOther, IsFront, AreKnown, IsStillRing, IsStillCore, NothingIsLeft}
+use Rattle.core_join.proofs.Still.{still_rests}
 use Rattle.core_join.specs.Machines.{RingCore, AreMachine, IsPeer}
 use Rattle.core_join.specs.Looking.{IsLookedAt, AreLookedAt, EachIsExact}
 use Rattle.core_join.specs.Conclusions.{histories_of, views_of, StandsAt0, StandsAtOther, Concludes}

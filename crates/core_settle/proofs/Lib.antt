@@ -5,5 +5,6 @@ pub mod Falling
 pub mod Rounding
 pub mod Answering
 pub mod Listing
+pub mod Seeing
 pub mod Ending
 pub mod Naming

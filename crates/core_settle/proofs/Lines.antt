@@ -8,7 +8,7 @@ use Rattle.world_events.specs.declared.event.Answer.{Answer}
 use Rattle.world_model.specs.Cases.{Outgoing, nothing, to_all, to_one, sent_up}
 use Rattle.world_histories.specs.declared.history.Stamped.{Stamped}
 use Rattle.world_histories.specs.Histories.{unstamped, Stamping, Sending, for_entry, with_stamp, sent_to, sent_by, Core0State, Does0, History0, OtherState, DoesOther, HistoryOther}
-use Rattle.world_liveness.specs.Remaining.{is_step, steps}
+use Rattle.world_progress.specs.Remaining.{is_step, steps}
 use Rattle.core_links.specs.declared.ring_links.RingLinks.{RingLinks}
 use Rattle.core_links.specs.RingSlots.{ring_view}
 use Rattle.core_links.specs.Flows.{ring_flow}

@@ -1,12 +1,11 @@
 -- Turns of the cores that have something to do.
-use Rattle.std.proofs.Common.{◌≡◌, ◌≢◌, ◌∙◌, ◌==◌, ◌+◌, ◌*◌, ◌<◌, ◌≤◌, ◌⊎◌, inl, inr, ℕ, zero, suc, Bool, true, false, cond, Option, Some, None, List, [], ◌∷◌, ◌++◌, length, length-append, slice_get, slice_set, refl, sym, ap, subst, arith}
+use Rattle.std.proofs.Common.{◌≡◌, ◌≢◌, ◌∙◌, ◌+◌, ◌*◌, ◌<◌, ◌≤◌, ◌⊎◌, inl, inr, ℕ, zero, suc, Bool, true, false, cond, Option, Some, List, [], ◌∷◌, ◌++◌, length, length-append, slice_get, slice_set, refl, sym, ap, subst, arith}
 use Rattle.std.proofs.lemmas.Option.{slice_get_within}
 use Rattle.std.proofs.lemmas.Bool.{cases_lt}
 use Rattle.table_replica.proofs.Shared.{get_at}
 use Rattle.world_model.proofs.Lists.{get-set_same, get-set_other, length-slice_set, same_or_not}
 use Rattle.world_model.proofs.Submissions.{eq_self, eq_other}
 use Rattle.filter_table.specs.Limits.{TableLimits}
-use Rattle.filter_table.specs.declared.operation.Op.{Op}
 use Rattle.world_histories.specs.declared.history.Stamped.{Stamped}
 use Rattle.core_links.specs.declared.ring_links.Link.{Link}
 use Rattle.core_links.specs.declared.ring_links.RingLinks.{RingLinks}
@@ -25,7 +24,8 @@ use Rattle.core_settle.specs.Naming.{Awake, names, NamedTurn, IsAsked, NamedTurn
 use Rattle.core_settle.proofs.Turning.{Passed, Stayed, Went, keeps_itself, went_once, went_passed}
 use Rattle.core_settle.proofs.Counting.{AllWent}
 use Rattle.core_settle.proofs.Lines.{AllStill, LinkStill}
-use Rattle.core_settle.proofs.Falling.{KnownRing, KnownPair, EachIsKnown, DidNothing, times, pair_of, hold_pair, falls_or_not, all_rest}
+use Rattle.core_settle.proofs.Falling.{KnownRing, EachIsKnown, DidNothing, times, pair_of, hold_pair, falls_or_not, all_rest}
+use Rattle.core_settle.proofs.Listing.{one_set}
 use Rattle.core_settle.proofs.Rounding.{all_looked, kept_same}
 
 -- Cores that face each other: core 0 and another. The link of each to the other is at the other's place.
@@ -97,21 +97,17 @@ stays_idle old new i = record {
   dry = i.dry;
 }
 
+-- a core with no turn
+went_none : (c : RingCore) → Went Passed c c
+went_none c = record {
+  keeps = keeps_itself c;
+  either = inr (record { history = refl; sent = λ p. refl; lines = λ p. record { out = omega arith; come = omega arith; room = omega arith; known = omega arith } });
+}
+
 -- Lists of which one core changed
 
 set_same : (old : List RingCore) (place : ℕ) (core becomes : RingCore) → slice_get old place ≡ Some core → SameCore SameLinks core becomes → AreSameCores old (slice_set old place becomes)
-set_same old place core becomes at k = record { all = length-slice_set old place becomes; each = λ i c d at_c at_d. by_place i c d at_c at_d (same_or_not place i) }
-  where
-    by_place : (i : ℕ) (c d : RingCore) → slice_get old i ≡ Some c → slice_get (slice_set old place becomes) i ≡ Some d → (place ≡ i) ⊎ (place ≡ i → ⊥) → SameCore SameLinks c d
-    by_place i c d at_c at_d (inl e) =
-        let same_c : core ≡ c = cc (at, at_c, e) in
-        let set = get-set_same old place becomes core at in
-        let same_d : becomes ≡ d = cc (set, at_d, e) in
-        subst (λ (x : RingCore). SameCore SameLinks x d) same_c (subst (λ (x : RingCore). SameCore SameLinks core x) same_d k)
-    by_place i c d at_c at_d (inr ne) =
-        let there = get-set_other old place i becomes ne in
-        let same : c ≡ d = cc (at_c, at_d, there) in
-        subst (λ (x : RingCore). SameCore SameLinks c x) same (same_itself c)
+set_same old place core becomes at k = record { all = length-slice_set old place becomes; each = one_set (SameCore SameLinks) old place core becomes at k same_itself }
 
 -- A named turn
 
@@ -233,22 +229,10 @@ module _ (limits : TableLimits) (budget : ℕ) (budgets : List ℕ) (awake awake
   -- All went on, of which one turned
 
   all_went : AllWent Passed old mid
-  all_went = record { all = length-slice_set old t.place t.becomes; each = λ i c d at at'. by_place i c d at at' (same_or_not t.place i) }
-    where
-      by_place : (i : ℕ) (c d : RingCore) → slice_get old i ≡ Some c → slice_get mid i ≡ Some d → (t.place ≡ i) ⊎ (t.place ≡ i → ⊥) → Went Passed c d
-      by_place i c d at at' (inl e) =
-          let set = get-set_same old t.place t.becomes t.core t.there in
-          let there = t.there in
-          let same_c : t.core ≡ c = cc (at, there, e) in
-          let same_d : t.becomes ≡ d = cc (set, at', e) in
-          subst (λ (x : RingCore). Went Passed x d) same_c (subst (λ (x : RingCore). Went Passed t.core x) same_d (went_passed t.core t.becomes (went_once t.core t.becomes t.turn.goes_on)))
-      by_place i c d at at' (inr ne) =
-          let there = get-set_other old t.place i t.becomes ne in
-          let same : c ≡ d = cc (at, at', there) in
-          subst (λ (x : RingCore). Went Passed c x) same (record {
-            keeps = keeps_itself c;
-            either = inr (record { history = refl; sent = λ p. refl; lines = λ p. record { out = omega arith; come = omega arith; room = omega arith; known = omega arith } });
-          })
+  all_went = record {
+    all = length-slice_set old t.place t.becomes;
+    each = one_set (Went Passed) old t.place t.core t.becomes t.there (went_passed t.core t.becomes (went_once t.core t.becomes t.turn.goes_on)) went_none;
+  }
 
   -- Where the turn did nothing, it named none
 

@@ -6,7 +6,7 @@ use Rattle.world_events.specs.declared.event.Event.{Event}
 use Rattle.world_events.specs.declared.event.Event.TheVariants.{Rx}
 use Rattle.world_histories.specs.declared.history.Stamped.{Stamped}
 use Rattle.world_histories.specs.Histories.{unstamped}
-use Rattle.world_liveness.specs.Remaining.{is_step, steps}
+use Rattle.world_progress.specs.Remaining.{is_step, steps}
 use Rattle.core_links.specs.RingSlots.{ring_view}
 use Rattle.core_links.specs.Flows.{FlowsOn, ring_flow}
 use Rattle.core_loop.specs.Receipts.{receives}

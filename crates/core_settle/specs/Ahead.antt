@@ -1,7 +1,7 @@
 -- What the cores of a machine have ahead of them, in events and in lines.
 use Rattle.std.specs.Prelude.{◌+◌, ◌-◌, ◌*◌, ◌++◌, ℕ, suc, List, [], ◌∷◌, length}
 use Rattle.filter_table.specs.declared.operation.Op.{Op}
-use Rattle.world_liveness.specs.Remaining.{per_request, steps, total}
+use Rattle.world_progress.specs.Remaining.{per_request, steps, total}
 use Rattle.core_links.specs.declared.ring_links.RingLinks.{RingLinks}
 use Rattle.core_links.specs.RingSlots.{ring_view}
 use Rattle.core_links.specs.Flows.{ring_flow}

@@ -38,12 +38,8 @@ fn look_at_all<T: Member>(first: &mut T, others: &mut [T])
     ensures exact { EachIsExact (T.core first.new) (map T.core others.new) }
     ensures only { LooksOnlyAt (map T.core others.old) (T.core first.old) (T.core first.new) }
 {
-    match others.split_first_mut() {
-        None => {}
-        Some((other, rest)) => {
-            look_at(first, other);
-            look_at_all(first, rest);
-        }
+    for other in others.iter_mut() {
+        look_at(first, other);
     }
 }
 

@@ -5,7 +5,7 @@ ghost use Rattle.filter_table.specs.Limits.{TableLimits};
 ghost use Rattle.core_join.specs.Machines.{RingCore, IsMachine, AreSameCores};
 ghost use Rattle.core_join.specs.Looking.{AreExactMachine};
 ghost use Rattle.core_join.specs.Conclusions.{Conclude};
-ghost use Rattle.core_settle.specs.Rounds.{AllGoOn, HaltsAmong, IsEndOf, NoneStops, Round, AllKeep, CoreRests, AreAtRest, HasAllDecided, EndsFor, EndsRound, TakesRounds};
+ghost use Rattle.core_settle.specs.Rounds.{Keeps, GoesOn, Halts, AllGoOn, HaltsAmong, IsEndOf, NoneStops, Round, AllKeep, CoreRests, AreAtRest, HasAllDecided, EndsFor, EndsRound, TakesRounds};
 
 use crate::halt::Halt;
 use crate::looking::look_at_machine;
@@ -88,13 +88,22 @@ fn turn_each<T: Member>(cores: &mut [T]) -> Option<(u16, Halt)>
     ensures none { IfNone result (AllGoOn (map T.core cores.old) (map T.core cores.new)) }
     ensures some { IfSome result (λ halted. HaltsAmong T.lists halted.0 halted.1 (map T.core cores.new)) }
 {
-    match cores.split_first_mut() {
-        None => None,
-        Some((core, rest)) => match core.turn_once() {
-            Some(halt) => Some((core.core().number(), halt)),
-            None => turn_each(rest),
-        },
+    for core in cores.iter_mut() {
+        if let Some(halted) = turn_one(core) {
+            return Some(halted);
+        }
     }
+    None
+}
+
+// Gives a core a turn: its number, and why, where it halts.
+fn turn_one<T: Member>(core: &mut T) -> Option<(u16, Halt)>
+    ensures keeps { Keeps (T.core core.old) (T.core core.new) }
+    ensures none { IfNone result (GoesOn (T.core core.old) (T.core core.new)) }
+    ensures some { IfSome result (λ halted. ((T.core core.new).number ≡ halted.0) × Halts T.lists halted.1 (T.core core.new)) }
+{
+    let halt = core.turn_once()?;
+    Some((core.core().number(), halt))
 }
 
 /// Whether all cores are at rest, as far as they were looked at. Then each of their requests is decided.
@@ -102,10 +111,12 @@ pub fn at_rest<T: Member>(cores: &[T]) -> bool
     ensures rests { IsTrue result ↔ AreAtRest (map T.core cores.now) }
     ensures decided { IsTrue result → All HasAllDecided (map T.core cores.now) }
 {
-    match cores.split_first() {
-        None => true,
-        Some((core, rest)) => rests(core.core()) && at_rest(rest),
+    for core in cores {
+        if !rests(core.core()) {
+            return false;
+        }
     }
+    true
 }
 
 // Whether a core is at rest.

@@ -109,8 +109,9 @@ fn joined_links(alloc: Global) -> Result<(RingLinks, RingLinks), AllocError>
     let (to_first, from_second) = ring(alloc, 64)?;
     let mut first = RingLinks::new(alloc, 0, 2)?;
     let mut second = RingLinks::new(alloc, 1, 2)?;
-    first.join(1, to_second, from_second);
-    second.join(0, to_first, from_first);
+    let (bell, its_bell) = (first.bell()?, second.bell()?);
+    first.join(1, to_second, from_second, its_bell);
+    second.join(0, to_first, from_first, bell);
     Ok((first, second))
 }
 

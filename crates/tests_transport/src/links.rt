@@ -1,10 +1,10 @@
 //! Links of both kinds, and lines written by hand.
 
 ghost use Rattle.std.specs.Prelude.{◌≡◌, ◌≤◌, length, vec_len};
-ghost use Rattle.core_links.specs.RingSlots.{AreJoinedLinks};
+ghost use Rattle.core_links.specs.RingSlots.{AreJoinedLinks, SameLinks};
 
 use crate::facts::{equal, holds};
-use core_links::{LineFault, Links, ListLinks, RingLinks};
+use core_links::{Bell, LineFault, Links, ListLinks, RingLinks};
 use rtrb::RingBuffer;
 use seq::Shared;
 use std::alloc::Global;
@@ -86,8 +86,10 @@ fn joined(rt: &impl Abort, alloc: Global, capacity: usize) -> (RingLinks, RingLi
     let (to_first, from_second) = ring(alloc, capacity).expect(rt, "there is memory");
     let mut first = RingLinks::new(alloc, 0, 2).expect(rt, "there is memory");
     let mut second = RingLinks::new(alloc, 1, 2).expect(rt, "there is memory");
-    first.join(1, to_second, from_second);
-    second.join(0, to_first, from_first);
+    let bell = first.bell().expect(rt, "a bell has room for owners");
+    let its_bell = second.bell().expect(rt, "a bell has room for owners");
+    first.join(1, to_second, from_second, its_bell);
+    second.join(0, to_first, from_first, bell);
     (first, second)
 }
 
@@ -194,13 +196,21 @@ fn one_message_goes_to_several_peers(rt: HostRuntime) {
     }
 }
 
+// A message of one byte goes from the second core to the first.
+fn goes(rt: &impl Abort, alloc: Global, first: &mut RingLinks, second: &mut RingLinks)
+    ensures first { SameLinks first.old first.new }
+    ensures second { SameLinks second.old second.new }
+{
+    holds(rt, sends(second, 0, message(rt, alloc, 1, 1)));
+    second.pump();
+    holds(rt, takes(first, 1, &[1]));
+}
+
 #[test]
 fn what_is_taken_begins_what_was_sent(rt: HostRuntime) {
     let alloc = rt.alloc();
     let (mut first, mut second) = joined(&rt, alloc, 64);
-    holds(&rt, sends(&mut second, 0, message(&rt, alloc, 1, 1)));
-    second.pump();
-    holds(&rt, takes(&mut first, 1, &[1]));
+    goes(&rt, alloc, &mut first, &mut second);
     first.beside(&mut second);
     holds(&rt, sends(&mut second, 0, message(&rt, alloc, 2, 1)));
     second.pump();
@@ -246,7 +256,8 @@ fn received(rt: &impl Abort, alloc: Global, heads: &[(u64, u64)]) -> Receiver {
 fn given_lines(rt: &impl Abort, alloc: Global, heads: &[(u64, u64)]) -> RingLinks {
     let (sender, _) = ring(alloc, 1).expect(rt, "there is memory");
     let mut links = RingLinks::new(alloc, 1, 2).expect(rt, "there is memory");
-    links.join(0, sender, received(rt, alloc, heads));
+    let bell = Bell::new(alloc).expect(rt, "there is memory");
+    links.join(0, sender, received(rt, alloc, heads), bell);
     links
 }
 

@@ -86,6 +86,28 @@ impl Receiver {
         if self.kept {
             return Ok(());
         }
+        if self.consumer.slots() == 0 {
+            return Ok(());
+        }
+        self.pull_lines()
+    }
+
+    // Receives lines until a message is whole, or there are none. It stands apart, so that a look at an empty ring stays short.
+    #[inline(never)]
+    fn pull_lines(&mut self) -> Result<(), LineFault>
+        requires runs { stopped self.old ≡ None }
+        requires none_kept { self.old.kept ≡ false }
+        requires none_moved { has_moved self.old ≡ false }
+        ensures ring { SameReceiver self.old self.new }
+        ensures lines { IsPrefix (lines_received self.old) (lines_received self.new) }
+        ensures known { length (lines_received self.old) + length (lines_known self.old) ≤ length (lines_received self.new) + length (lines_known self.new) }
+        ensures taken { messages_taken self.new ≡ messages_taken self.old }
+        ensures ok { OnOk result (stopped self.new ≡ None) }
+        ensures spent { OnOk result (message_kept self.new ≡ None → lines_known self.new ≡ []) }
+        ensures err { IfErr result (λ fault. (stopped self.new ≡ Some fault) × StopsAt fault (lines_received self.new)) }
+        ensures still { has_moved self.new ≡ false → lines_received self.new ≡ lines_received self.old }
+        ensures moved { has_moved self.new ≡ true → length (lines_received self.old) < length (lines_received self.new) }
+    {
         for _ in 0..LINES_MOST {
             let Ok(line) = self.consumer.pop() else {
                 break;

@@ -6,6 +6,7 @@ ghost use Rattle.core_loop.specs.Standing.{IsSilent};
 
 use crate::facts::equal;
 use core_join::{Recorded, RecordedTurn};
+use core_links::Bell;
 use core_loop::{Cause, Core, LineFault, RingLinks};
 use rtrb::RingBuffer;
 use rx_queue::{Port, queue};
@@ -26,7 +27,7 @@ fn given_links(alloc: Global, heads: &[(u64, u64)]) -> Result<RingLinks, AllocEr
     }
     let (sender, _) = ring(alloc, 1)?;
     let mut links = RingLinks::new(alloc, 1, 2)?;
-    links.join(0, sender, receiver);
+    links.join(0, sender, receiver, Bell::new(alloc)?);
     Ok(links)
 }
 

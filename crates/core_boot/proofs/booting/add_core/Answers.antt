@@ -5,11 +5,11 @@ use Rattle.core_boot.proofs.booting.add_core.Goals as goal
 pub returns : goal.returns
 returns c =
     let core = c.in_ok-core.core in
-    let port = c.in_ok-core.port in
+    let last = c.in_ok-core.ensures in
     record {
       core = core;
-      port = port;
-      comes_up = subst (λ (n : ℕ). ComesUp n c.args.count c.args.limits c.args.budget c.args.links c.args.requests.items core port) (c.len-number.ensures ∙ c.args.cores.now.ok.0) c.in_ok-core.ensures;
+      port = last.port;
+      comes_up = subst (λ (n : ℕ). ComesUp n c.args.count c.args.limits c.args.budget c.args.links c.args.requests.items core last.port) (c.len-number.ensures ∙ c.args.cores.now.ok.0) last.comes_up;
       pushed = c.in_ok-push.ensures.items;
-      pushed_port = c.in_ok-push-2.ensures.items;
+      pushed_port = last.pushed;
     }

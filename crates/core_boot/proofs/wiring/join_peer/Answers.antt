@@ -8,9 +8,9 @@ returns-clause-silent c =
     let down = c.in_ok-to_peer in
     let first = c.join.new.self in
     let links = c.join-2.new.self in (
-      silent_link first c.args.peer (record { sender = down.to_peer; receiver = up.from_peer; moved = false }) c.join.ensures.joined down.ensures.sender.0 up.ensures.receiver.0,
+      silent_link first c.args.peer (record { sender = down.to_peer; receiver = up.from_peer; moved = false; bell = c.in_ok-its_bell.its_bell }) c.join.ensures.joined down.ensures.sender.0 up.ensures.receiver.0,
       silent_alone c.in_ok-links.links links 0 c.in_ok-links.ensures.empty c.join-2.ensures.others
-          (silent_link links 0 (record { sender = up.to_first; receiver = down.from_first; moved = false }) c.join-2.ensures.joined up.ensures.sender.0 down.ensures.receiver.0),
+          (silent_link links 0 (record { sender = up.to_first; receiver = down.from_first; moved = false; bell = c.in_ok-bell.bell }) c.join-2.ensures.joined up.ensures.sender.0 down.ensures.receiver.0),
     )
 
 pub returns-clause-no_other : goal.returns-clause-no_other
@@ -22,5 +22,5 @@ returns-clause-holds c =
     let down = c.in_ok-to_peer in
     let first = c.join.new.self in
     let links = c.join-2.new.self in
-    holding first links (record { sender = down.to_peer; receiver = up.from_peer; moved = false }) (record { sender = up.to_first; receiver = down.from_first; moved = false })
+    holding first links (record { sender = down.to_peer; receiver = up.from_peer; moved = false; bell = c.in_ok-its_bell.its_bell }) (record { sender = up.to_first; receiver = down.from_first; moved = false; bell = c.in_ok-bell.bell })
     (search rules) (search rules) down.ensures.capacity.0 up.ensures.capacity.0

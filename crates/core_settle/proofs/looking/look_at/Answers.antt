@@ -1,5 +1,4 @@
 use Rattle.core_links.specs.RingSlots.{own_of}
-use Rattle.core_join.specs.Looking.{IsLookedAt}
 use Rattle.core_join.proofs.Agreeing.{looked_lines, took_before}
 use Rattle.core_settle.proofs.looking.look_at.Goals as goal
 

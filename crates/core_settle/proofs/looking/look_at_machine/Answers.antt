@@ -1,4 +1,4 @@
-use Rattle.std.proofs.Common.{◌≡◌, ◌∷◌, List, map, subst, sym, rules}
+use Rattle.std.proofs.Common.{◌∷◌, List, map, subst, sym, rules}
 use Rattle.core_join.specs.Machines.{RingCore, IsMachine}
 use Rattle.core_join.specs.Looking.{AreLookedAt}
 use Rattle.core_join.proofs.Agreeing.{all_joined, all_own, agrees, more_looked}

@@ -10,7 +10,7 @@ returns-then-not-give_up c = (
   (
     refl,
     (λ _. tt),
-    taken_at SameLinks ring_view c.args.peer c.args.self.now c.pull.new.self c.give_up.new.self None SameLinks-along c.in_ok-pull.ensures.pulled c.give_up.ensures.given
+    taken_at _ SameLinks ring_view c.args.peer c.args.self.now c.shows.new.self c.give_up.new.self None SameLinks-along c.in_ok-shows.ensures.pulled c.give_up.ensures.given
         (ap first_of (sym (c.if-not-give_up.ensures.none (search rules)))),
   ),
   record { taken = tt },
@@ -21,7 +21,7 @@ returns c = (
   (
     refl,
     (λ _. tt),
-    taken_at SameLinks ring_view c.args.peer c.args.self.now c.pull.new.self c.give_up.new.self c.last.result SameLinks-along c.in_ok-pull.ensures.pulled c.give_up.ensures.given
+    taken_at _ SameLinks ring_view c.args.peer c.args.self.now c.shows.new.self c.give_up.new.self c.last.result SameLinks-along c.in_ok-shows.ensures.pulled c.give_up.ensures.given
         (c.last.ensures ∙ c.if-not-give_up.ensures.last (search rules)),
   ),
   record { taken = tt },

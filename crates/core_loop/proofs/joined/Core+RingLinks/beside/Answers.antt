@@ -1,3 +1,7 @@
+use Rattle.std.proofs.Common.{ℕ, subst}
+use Rattle.core_links.specs.declared.ring_links.RingLinks.{RingLinks}
+use Rattle.core_links.specs.Views.{IsSameView}
+use Rattle.core_loop.specs.Cores.{CoreState}
 use Rattle.core_links.specs.RingSlots.{ring_view}
 use Rattle.core_loop.proofs.Resting.{stands_same}
 use Rattle.core_loop.proofs.Stopped.{seen_stopped}
@@ -30,3 +34,9 @@ invariant_of-other c =
       seen_stopped i.cores i.clock i.part (ring_view i.links) (ring_view c.beside.new.other) i.stopped same v.5,
       v.6,
     )
+
+pub returns-clause-here : goal.returns-clause-here
+returns-clause-here c = subst (λ (s : CoreState RingLinks). (p : ℕ) → IsSameView (ring_view s.links p) (ring_view c.beside.new.self p)) c.self.view_is c.beside.ensures.here
+
+pub returns-clause-there : goal.returns-clause-there
+returns-clause-there c = subst (λ (s : CoreState RingLinks). (p : ℕ) → IsSameView (ring_view s.links p) (ring_view c.beside.new.other p)) c.other.view_is c.beside.ensures.there

@@ -1,0 +1,45 @@
+//! What a core hears of its peers before it looks at any link.
+
+use crossbeam_utils::CachePadded;
+use std::alloc::{AllocError, Global};
+use std::sync::Arc;
+use std::sync::atomic::{AtomicU64, Ordering};
+
+/// A core's bell, which its peers ring: a count, on a cache line of its own, that each of its owners sees. A peer rings once its lines
+/// lie in the ring, and a core reads the count before it looks for lines. So where the count is the one that was read before a look
+/// that found nothing, nothing has come since. (As with the rings themselves, that one thread sees what another wrote is
+/// trusted: no contract speaks of the count.)
+pub struct Bell {
+    rung: Arc<CachePadded<AtomicU64>, Global>,
+}
+
+// By hand, so that the proofs of its owners have one call and not a drop of each part.
+impl Drop for Bell {
+    fn drop(self) {
+        let Bell { rung: _ } = self;
+    }
+}
+
+impl Bell {
+    /// A bell that was never rung.
+    pub fn new(alloc: Global) -> Result<Bell, AllocError> {
+        let rung = Arc::new(alloc, CachePadded::new(AtomicU64::new(0)))?;
+        Ok(Bell { rung })
+    }
+
+    /// One more owner. Takes no memory.
+    pub fn share(&self) -> Result<Bell, AllocError> {
+        let rung = Arc::try_clone(&self.rung)?;
+        Ok(Bell { rung })
+    }
+
+    /// Rings.
+    pub(crate) fn ring(&self) {
+        self.rung.fetch_add(1, Ordering::SeqCst);
+    }
+
+    /// How often it was rung, by a count that goes on from 0 after its greatest number.
+    pub(crate) fn count(&self) -> u64 {
+        self.rung.load(Ordering::SeqCst)
+    }
+}
