@@ -1,6 +1,7 @@
 //! The order of programs, by which one is found.
 
-ghost use Rattle.std.specs.Prelude.{◌≡◌, ◌<◌, ◌≤◌, ℕ, IfOk, Some, length, map, slice_get};
+ghost use Rattle.std.specs.Prelude.{◌≡◌, ◌<◌, ◌≤◌, ℕ, IfOk, IsTrue, IsFalse, Some, length, map, slice_get};
+ghost use Rattle.std.specs.declared.cmp.Ordering.TheVariants.{Equal};
 ghost use Rattle.std.specs.List.{insert, remove};
 ghost use Rattle.filter_group.specs.Order.{IsOrder, IsRank, place_once_taken, program_cmp, shape_cmp};
 
@@ -20,6 +21,15 @@ fn shape_order(a: Insn, b: Insn) -> Ordering
         .then(a.jt.cmp(&b.jt).then(a.jf.cmp(&b.jf)))
 }
 
+/// Whether two instructions differ at most in their constants. Most that are compared do: this takes less than their order.
+#[inline(always)]
+fn is_alike(a: Insn, b: Insn) -> bool
+    ensures same { IsTrue result → shape_cmp a b ≡ Equal }
+    ensures other { IsFalse result → shape_cmp a b ≡ Equal → ⊥ }
+{
+    a.code == b.code && a.jt == b.jt && a.jf == b.jf
+}
+
 /// How two programs are ordered: by the first instructions that differ in more than the constant, then by length, then by the
 /// first constants that differ.
 fn program_order(a: &[Insn], b: &[Insn]) -> Ordering
@@ -29,9 +39,8 @@ fn program_order(a: &[Insn], b: &[Insn]) -> Ordering
     for place in 0..a.len().min(b.len()) {
         let one = a[place];
         let other = b[place];
-        let shape = shape_order(one, other);
-        if shape.is_ne() {
-            return shape;
+        if !is_alike(one, other) {
+            return shape_order(one, other);
         }
         constants = constants.then(one.k.cmp(&other.k));
     }
