@@ -5,6 +5,7 @@ ghost use Rattle.filter_verify.specs.Breaches.{IsBreach};
 ghost use Rattle.filter_verify.specs.Rules.{IsWellShaped, Sound};
 
 use crate::dataflow::first_unwritten;
+use crate::rules::UNWRITTEN_RULE;
 use crate::shape::check_shape;
 use crate::words::Words;
 use bpf_insn::{Insn, MAX_INSNS};
@@ -85,7 +86,7 @@ fn load_breach(written: &mut [Words], code: &[Insn]) -> Result<(), Breach>
     match first_unwritten(code, written) {
         None => Ok(()),
         Some((pc, _word)) => Err(Breach {
-            rule: 10,
+            rule: UNWRITTEN_RULE,
             pc: pc as u32,
         }),
     }

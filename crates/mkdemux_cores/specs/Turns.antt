@@ -7,7 +7,7 @@ use Rattle.core_loop.specs.declared.cause.Cause.{Cause}
 use Rattle.core_loop.specs.Answering.{AreDecided, decisions}
 use Rattle.core_loop.specs.Beginning.{CanBeginNext}
 use Rattle.core_links.specs.Flows.{IsLooked, HasMoved, ring_flow}
-use Rattle.core_loop.specs.Waking.{bits_below}
+use Rattle.core_links.specs.Waking.{bits_below}
 use Rattle.core_loop.specs.Choosing.{ShowsNothing, NoMessageNow}
 use Rattle.core_loop.specs.Cores.{SameCore, DidOne, NothingDone, begun}
 use Rattle.core_loop.specs.Receipts.{receives}

@@ -29,7 +29,9 @@ pub extern "C" fn mkdemux_boot_cores(
     ensures same { result ≢ DONE → cores_of cores.new ≡ cores_of cores.old }
     ensures count { result ≡ NOT_CORES ↔ ((length budgets.now ≡ 0) ⊎ (8 < length budgets.now)) }
     ensures room { result ≡ NO_ROOM → length cores.old ≢ length budgets.now }
+    ensures room_first { (result ≡ DONE) ⊎ ((result ≡ OPEN) ⊎ (result ≡ NO_MEMORY)) → length cores.old ≡ length budgets.now }
     ensures open { result ≡ OPEN → AreClosed cores.old → ⊥ }
+    ensures open_first { result ≡ NO_MEMORY → AreClosed cores.old }
     ensures were_closed { result ≡ DONE → AreClosed cores.old }
     ensures answers { (result ≡ DONE) ⊎ ((result ≡ NOT_CORES) ⊎ ((result ≡ NO_ROOM) ⊎ ((result ≡ OPEN) ⊎ (result ≡ NO_MEMORY)))) }
 {
@@ -58,8 +60,11 @@ pub extern "C" fn mkdemux_boot_limits_cores(
     ensures count { result ≡ NOT_CORES ↔ ((length budgets.now ≡ 0) ⊎ (64 < length budgets.now)) }
     ensures bad_limits { result ≡ BAD_LIMITS → AreLimits caps filters domain_caps domain_filters → ⊥ }
     ensures good_limits { result ≡ DONE → AreLimits caps filters domain_caps domain_filters }
+    ensures limits_first { (result ≡ NO_ROOM) ⊎ ((result ≡ OPEN) ⊎ (result ≡ NO_MEMORY)) → AreLimits caps filters domain_caps domain_filters }
     ensures room { result ≡ NO_ROOM → length cores.old ≢ length budgets.now }
+    ensures room_first { (result ≡ DONE) ⊎ ((result ≡ OPEN) ⊎ (result ≡ NO_MEMORY)) → length cores.old ≡ length budgets.now }
     ensures open { result ≡ OPEN → AreClosed cores.old → ⊥ }
+    ensures open_first { result ≡ NO_MEMORY → AreClosed cores.old }
     ensures were_closed { result ≡ DONE → AreClosed cores.old }
     ensures answers { (result ≡ DONE) ⊎ ((result ≡ NOT_CORES) ⊎ ((result ≡ BAD_LIMITS) ⊎ ((result ≡ NO_ROOM) ⊎ ((result ≡ OPEN) ⊎ (result ≡ NO_MEMORY))))) }
 {
@@ -107,7 +112,9 @@ fn open_all(alloc: Global, limits: Limits, budgets: &[u32], cores: &mut [CoreHan
     ensures opened { result ≡ DONE → AreOpened limits budgets.now cores.new }
     ensures same { result ≢ DONE → cores_of cores.new ≡ cores_of cores.old }
     ensures room { result ≡ NO_ROOM → length cores.old ≢ length budgets.now }
+    ensures room_first { (result ≡ DONE) ⊎ ((result ≡ OPEN) ⊎ (result ≡ NO_MEMORY)) → length cores.old ≡ length budgets.now }
     ensures open { result ≡ OPEN → AreClosed cores.old → ⊥ }
+    ensures open_first { result ≡ NO_MEMORY → AreClosed cores.old }
     ensures were_closed { result ≡ DONE → AreClosed cores.old }
     ensures answers { (result ≡ DONE) ⊎ ((result ≡ NO_ROOM) ⊎ ((result ≡ OPEN) ⊎ (result ≡ NO_MEMORY))) }
 {
