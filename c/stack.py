@@ -14,11 +14,11 @@ import sys
 
 # Bytes that a call may take; all that aren't named take at most 2,048.
 MOST = {
-    "mkdemux_boot_cores": 15744,
-    "mkdemux_boot_limits_cores": 15744,
-    "mkdemux_turn": 9216,
-    "mkdemux_settle": 25728,
-    "mkdemux_close_core": 3072,
+    "mkdemux_boot_cores": 16576,
+    "mkdemux_boot_limits_cores": 16576,
+    "mkdemux_turn": 9600,
+    "mkdemux_settle": 9600,
+    "mkdemux_close_core": 3840,
     "mkdemux_assemble": 6656,
 }
 OTHERS = 2048
@@ -28,9 +28,6 @@ TIMES = {
     "core::slice::sort::unstable::quicksort": 32,
     "core::slice::sort::pivot::median_of_medians": 4,
     "filter_asm::operands::operands_at": 10,
-    "core_settle::settling::turn_each": 65,
-    "core_settle::looking::look_at_all": 64,
-    "core_settle::settling::at_rest": 65,
     "mkdemux_cores::settling::fault_of": 65,
     "mkdemux_cores::settling::take_all": 65,
     "mkdemux_cores::booting::put_all": 65,
