@@ -23,7 +23,7 @@ refuse() {
 usage='usage: dist/install.sh [--uninstall] [PREFIX]; DESTDIR in the environment is put before PREFIX'
 act=put
 case ${1-} in
---help)
+--help | -h)
     echo "$usage"
     exit 0
     ;;
