@@ -2,8 +2,8 @@
 # Takes the program that `rt ci` has just built for `./mkdemux`, and compares it with dist/mkdemux where both are from the same sources:
 # another byte is a failure. A program of older sources in dist/ is none. The last line is `N passed, M failed`.
 #
-#   dist/check.sh --libraries TOP   the same of the C libraries, which are built over what `rt ci` has just proved in the checkout TOP; and
-#                                   dist/include has the headers of c/
+#   dist/check.sh --libraries TOP FOLDER   the same of the C libraries, which are built into the folder over what `rt ci` has just proved
+#                                   in the checkout TOP; and dist/include has the headers of c/
 #   dist/check.sh --built           takes and compares nothing: dist/mkdemux must say by --version that it is of these sources, and so
 #                                   must the .pc files of the C libraries that are there
 unset CDPATH
@@ -70,9 +70,20 @@ look_at_kit() {
     fi
 }
 
+# The version of c/mkdemux.h is the one that the program, the other header and the words for pkg-config and CMake have.
+look_at_version() {
+    version=$(sed -n 's/^#define MKDEMUX_VERSION "\(.*\)"$/\1/p' c/mkdemux.h)
+    for words in "c/mkdemux_cores.h:#define MKDEMUX_VERSION \"$version\"" "crates/command_line/src/texts.rt:\"$version (sources " \
+        "libmkdemux:Version: $version" "dist/share/cmake/mkdemux/mkdemux-config-version.cmake:set(PACKAGE_VERSION \"$version\")"; do
+        grep -qF "${words#*:}" "${words%%:*}" || { count 1 "${words%%:*} has another version than c/mkdemux.h"; return; }
+    done
+    count 0 "version $version stands wherever one is named"
+}
+
 case ${1-} in
 --built)
     look_at_kit
+    look_at_version
     digest=$(dist/digest.sh)
     case $(dist/mkdemux --version) in
     *" (sources $digest)") count 0 "dist/mkdemux says that it is of these sources" ;;
@@ -83,8 +94,7 @@ case ${1-} in
     end
     ;;
 --libraries)
-    built=$(mktemp -d) || exit 2
-    trap 'rm -rf "$built"' EXIT
+    built=$3
     if ./libmkdemux --over "$2" "$built"; then
         compare_library mkdemux mkdemux_c
         compare_library mkdemux_cores mkdemux_cores
@@ -103,6 +113,7 @@ dist/stamp.sh crates/mkdemux/out/mkdemux $built "$digest" || {
 }
 echo "$digest" > ${built%/*}/sources
 look_at_kit
+look_at_version
 if [ "$digest" != "$(cat dist/sources 2> /dev/null)" ]; then
     echo "dist: there is no dist/mkdemux of these sources to compare"
 elif [ "$(rt version)" != "$(cat dist/KIT)" ]; then
