@@ -16,7 +16,6 @@ of lines `old: TEXT` and `new: TEXT`.
 
 The last line is `N passed, M failed`."""
 import collections
-import concurrent.futures
 import importlib
 import pathlib
 import re
@@ -170,7 +169,8 @@ def try_file(prover, specs, file, edits):
         return [try_edit(prover, specs, file, edit, before, room) for edit in edits]
 
 
-def main(built, *names):
+def jobs(built, names=()):
+    """What is to be done for these edits, or for all: each job with its size. The files with the most edits come first."""
     prover = tries.Prover(pathlib.Path(built))
     direct, kind = prover.below[EXAMPLES]
     specs = specs_below(direct)
@@ -182,18 +182,9 @@ def main(built, *names):
     for file in files:
         edit = Edit(file)
         edits[edit.changes[0][0]].append(edit)
-    passed = failed = 0
-    with concurrent.futures.ThreadPoolExecutor(tries.lanes()) as pool:
-        # The file with the most edits first, so that none is left alone at the end.
-        running = [pool.submit(try_file, prover, specs, file, found) for file, found in sorted(edits.items(), key=lambda item: -len(item[1]))]
-        for ended in concurrent.futures.as_completed(running):
-            for is_refused, line in ended.result():
-                print(line, flush=True)
-                passed += is_refused
-                failed += not is_refused
-    print(f"{passed} passed, {failed} failed")
-    return 1 if failed else 0
+    sized = [(len(found), try_file, prover, specs, file, found) for file, found in edits.items()]
+    return sorted(sized, key=lambda job: job[0], reverse=True)
 
 
 if __name__ == "__main__":
-    sys.exit(main(*sys.argv[1:]))
+    sys.exit(tries.run(jobs(sys.argv[1], sys.argv[2:])))

@@ -21,6 +21,7 @@ import shutil
 import subprocess
 import sys
 import tempfile
+import time
 
 sys.dont_write_bytecode = True
 
@@ -205,6 +206,8 @@ def try_together(prover, crate, edits, folder):
 
 
 def try_all(prover, crate, edits):
+    """Tries the edits of a crate, and says how long that took."""
+    begin = time.monotonic()
     with tempfile.TemporaryDirectory(prefix="edits-") as room:
         folder = pathlib.Path(room) / "crate"
         folder.mkdir()
@@ -212,7 +215,8 @@ def try_all(prover, crate, edits):
         while left:
             more, left = try_together(prover, crate, left, folder)
             results += more
-        return results
+    print(f"must-fail {crate}: {len(edits)} edits took {time.monotonic() - begin:.0f} s", flush=True)
+    return results
 
 
 def edits_of(crate):
@@ -233,14 +237,19 @@ def size(crate):
     return sum(file.stat().st_size for part in PARTS for file in (CRATES / crate / part).rglob("*") if file.is_file())
 
 
-def main(built, *names):
+def jobs(built, names=()):
+    """What is to be done for these crates, or for all: each job with its size. The longest come first."""
     prover = Prover(pathlib.Path(built))
-    # The longest first, so that none is left alone at the end.
-    crates = sorted(names or prover.below, key=size, reverse=True)
-    edits = {crate: found for crate in crates if (found := edits_of(crate))}
+    found = ((crate, edits_of(crate)) for crate in names or prover.below)
+    sized = [(size(crate), try_all, prover, crate, edits) for crate, edits in found if edits]
+    return sorted(sized, key=lambda job: job[0], reverse=True)
+
+
+def run(*lists):
+    """Does these jobs side by side, begun in this order, and counts what they come to."""
     passed = failed = 0
     with concurrent.futures.ThreadPoolExecutor(lanes()) as pool:
-        running = [pool.submit(try_all, prover, crate, found) for crate, found in edits.items()]
+        running = [pool.submit(call, *given) for jobs in lists for _, call, *given in jobs]
         for ended in concurrent.futures.as_completed(running):
             for is_refused, line in ended.result():
                 print(line, flush=True)
@@ -251,4 +260,4 @@ def main(built, *names):
 
 
 if __name__ == "__main__":
-    sys.exit(main(*sys.argv[1:]))
+    sys.exit(run(jobs(sys.argv[1], sys.argv[2:])))
