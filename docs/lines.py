@@ -2,8 +2,8 @@
 """Compares the lines of crates.txt with the crates that the files of each crate cite. A line names these and no others, since each name
 more makes the crate wait for another one's proof.
 
-And counts the ways through crates.txt, from each library down to each crate below it: `rt` reads a crate once for each way that leads to it,
-so a crate put between two others can double the time of the gate. Programs and static libraries begin no way.
+And counts the ways through crates.txt, from each library down to each crate below it: `rt` up to kit 13b reads a crate once for each way
+that leads to it, so a crate put between two others can double the time of the gate. Programs and static libraries begin no way.
 
   docs/lines.py          says which names a line lacks or needn't have; the last line is `N passed, M failed`
   docs/lines.py --write  writes crates.txt anew
