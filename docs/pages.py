@@ -9,7 +9,7 @@ import re
 import sys
 
 TOP = pathlib.Path(__file__).resolve().parent.parent
-PAGES = [TOP / "README.md", TOP / "CHANGELOG.md", TOP / "bench/README.md", TOP / "examples/commands.md", *sorted(TOP.glob("docs/*.md"))]
+PAGES = sorted(page for folder in (".", "*", "examples/*") for page in TOP.glob(f"{folder}/*.md"))
 MOST_BYTES = 10_000
 MOST_COLUMNS = 120
 LINK = re.compile(r"\[[^\]]+\]\(([^)\s]+)\)")
