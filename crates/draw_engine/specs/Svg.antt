@@ -1,6 +1,6 @@
 -- The picture of a trace as an SVG file: a message sequence diagram. A column is a core, and a row an event, with its line.
-use Rattle.std.specs.Prelude.{ℕ, ◌+◌, ◌*◌, ◌==◌, if◌then◌else◌, min, max, Bool, List, [], ◌∷◌, ◌++◌, length, take, codes, Option, Some, None}
-use Rattle.std.specs.List.{flat_map}
+use Rattle.std.specs.Prelude.{ℕ, ◌+◌, ◌*◌, ◌==◌, if◌then◌else◌, max, Bool, List, [], ◌∷◌, ◌++◌, length, codes, Option, Some, None}
+use Rattle.std.specs.List.{flat_map, range_with_len}
 use Rattle.std.specs.Fmt.{decimal}
 use Rattle.trace_lines.specs.declared.event.Act.{Act}
 use Rattle.trace_lines.specs.declared.event.Act.TheVariants as act
@@ -51,12 +51,16 @@ text_tag class x y = codes "<text class='" ++ class ++ codes "' x='" ++ decimal 
 abbrev pub label : List ℕ → ℕ → ℕ → List ℕ → List ℕ
 label class x y words = text_tag class x y ++ words ++ codes "</text>\n"
 
+-- all cores up to the highest
+abbrev pub cores : ℕ → List ℕ
+cores highest = range_with_len 0 (highest + 1)
+
 -- a core: its name, and its line down to the end
 abbrev pub column : ℕ → ℕ → List ℕ
 column bottom core = label (codes "c") (x_of core) 56 (codes "core " ++ decimal core) ++ stroke (codes "l") (x_of core) 64 (x_of core) bottom
 
 abbrev pub columns : ℕ → ℕ → List ℕ
-columns bottom highest = flat_map (column bottom) (take (min (highest + 1) 8) (0 ∷ 1 ∷ 2 ∷ 3 ∷ 4 ∷ 5 ∷ 6 ∷ 7 ∷ []))
+columns bottom highest = flat_map (column bottom) (cores highest)
 
 -- the message that an event takes: from the row of its sender to the event's
 abbrev pub arrow_class : Bool → List ℕ

@@ -1,5 +1,5 @@
 -- The picture of a trace as text, for a terminal: a column is a core, and a row an event, with its number and its line.
-use Rattle.std.specs.Prelude.{ℕ, ◌+◌, ◌-◌, ◌==◌, if◌then◌else◌, min, Bool, List, [], ◌∷◌, ◌++◌, length, take, codes, Option, Some, None}
+use Rattle.std.specs.Prelude.{ℕ, ◌+◌, ◌-◌, ◌==◌, if◌then◌else◌, Bool, List, [], ◌++◌, length, take, codes, Option, Some, None}
 use Rattle.std.specs.List.{flat_map}
 use Rattle.std.specs.Fmt.{decimal}
 use Rattle.trace_lines.specs.declared.event.Act.{Act}
@@ -7,7 +7,7 @@ use Rattle.trace_lines.specs.declared.event.Act.TheVariants as act
 use Rattle.trace_lines.specs.declared.messages.TraceMessage.{TraceMessage}
 use Rattle.trace_lines.specs.Lines.{Shown}
 use Rattle.trace_lines.specs.Links.{Drawn, drawn_of, left_of, highest_of}
-use Rattle.draw_engine.specs.Svg.{core_of, kind_word}
+use Rattle.draw_engine.specs.Svg.{core_of, cores, kind_word}
 
 -- a column's words, with spaces up to the next column
 unfoldable pub cell : List ℕ → List ℕ → List ℕ
@@ -27,9 +27,6 @@ own_cell d = if length d.shown.version == 0 then cell (sign d.shown.no d.shown.e
 
 abbrev pub core_cell : Drawn → ℕ → List ℕ
 core_cell d core = if core == core_of d.shown.event.act then own_cell d else cell (codes "|") []
-
-abbrev pub cores : ℕ → List ℕ
-cores highest = take (min (highest + 1) 8) (0 ∷ 1 ∷ 2 ∷ 3 ∷ 4 ∷ 5 ∷ 6 ∷ 7 ∷ [])
 
 -- the row of the event that sent the message, from 1
 abbrev pub sender_words : Option ℕ → List ℕ

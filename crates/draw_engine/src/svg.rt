@@ -10,8 +10,6 @@ use itoa::Buffer;
 use std::alloc::{AllocError, Global};
 use trace_lines::{Act, MessageKind, Picture, Row, TraceMessage};
 
-pub(crate) const CORES: [u16; 8] = [0, 1, 2, 3, 4, 5, 6, 7];
-
 const HEAD_END: &[u8] =
     b"' font-family='monospace' font-size='11'>\n<title>Messages between cores</title>\n";
 
@@ -133,9 +131,8 @@ fn push_column(text: &mut Vec<u8>, bottom: u128, core: u16) -> Result<(), AllocE
 fn push_columns(text: &mut Vec<u8>, bottom: u128, highest: u16) -> Result<(), AllocError>
     ensures { OnOk result (text.new.items ≡ text.old.items ++ spec.columns bottom highest) }
 {
-    let count = (usize::from(highest) + 1).min(8);
-    for core in &CORES[..count] {
-        push_column(text, bottom, *core)?;
+    for core in 0..=highest {
+        push_column(text, bottom, core)?;
     }
     Ok(())
 }

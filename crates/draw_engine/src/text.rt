@@ -3,9 +3,10 @@
 ghost use Rattle.std.specs.Prelude.{◌≡◌, ◌++◌, map, codes, IfOk, OnOk};
 ghost use Rattle.std.specs.List.{flat_map};
 ghost use Rattle.trace_lines.specs.Views.{drawn};
+ghost use Rattle.draw_engine.specs.Svg.{cores};
 ghost use Rattle.draw_engine.specs.Text as spec;
 
-use crate::svg::{CORES, core_of, kind_word, push_number};
+use crate::svg::{core_of, kind_word, push_number};
 use itoa::Buffer;
 use std::alloc::{AllocError, Global};
 use trace_lines::{Act, Picture, Row, TraceMessage};
@@ -57,11 +58,10 @@ fn push_core_cell(text: &mut Vec<u8>, row: &Row<'_>, core: u16) -> Result<(), Al
 }
 
 fn push_cells(text: &mut Vec<u8>, highest: u16, row: &Row<'_>) -> Result<(), AllocError>
-    ensures { OnOk result (text.new.items ≡ text.old.items ++ flat_map (spec.core_cell (drawn row.now)) (spec.cores highest)) }
+    ensures { OnOk result (text.new.items ≡ text.old.items ++ flat_map (spec.core_cell (drawn row.now)) (cores highest)) }
 {
-    let count = (usize::from(highest) + 1).min(8);
-    for core in &CORES[..count] {
-        push_core_cell(text, row, *core)?;
+    for core in 0..=highest {
+        push_core_cell(text, row, core)?;
     }
     Ok(())
 }
@@ -127,11 +127,10 @@ fn push_name(text: &mut Vec<u8>, core: u16) -> Result<(), AllocError>
 }
 
 fn push_names(text: &mut Vec<u8>, highest: u16) -> Result<(), AllocError>
-    ensures { OnOk result (text.new.items ≡ text.old.items ++ flat_map spec.name_cell (spec.cores highest)) }
+    ensures { OnOk result (text.new.items ≡ text.old.items ++ flat_map spec.name_cell (cores highest)) }
 {
-    let count = (usize::from(highest) + 1).min(8);
-    for core in &CORES[..count] {
-        push_name(text, *core)?;
+    for core in 0..=highest {
+        push_name(text, core)?;
     }
     Ok(())
 }

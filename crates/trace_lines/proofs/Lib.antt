@@ -1,3 +1,4 @@
 pub mod Fronts
 pub mod Linking
 pub mod Outcomes
+pub mod Ranges

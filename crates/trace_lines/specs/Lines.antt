@@ -1,5 +1,5 @@
 -- Which event a line tells of, as `sim` and `run` print it: what is done, `:`, and the answer.
-use Rattle.std.specs.Prelude.{ℕ, ◌==◌, ◌-◌, ◌&&◌, ◌||◌, nat_lt, nat_le, if◌then◌else◌, Bool, List, [], ◌∷◌, length, codes, Option, Some, None}
+use Rattle.std.specs.Prelude.{ℕ, ◌==◌, ◌+◌, ◌*◌, ◌-◌, ◌&&◌, ◌||◌, nat_lt, nat_le, if◌then◌else◌, Bool, List, [], ◌∷◌, length, codes, Option, Some, None}
 use Rattle.std.specs.List.{list_all, list_any, before_first, after_first}
 use Rattle.std.specs.Str.{bytes_eq}
 use Rattle.bpf_insn.specs.Texts.{words_of}
@@ -11,9 +11,15 @@ use Rattle.trace_lines.specs.declared.event.TraceEvent.{TraceEvent}
 use Rattle.trace_lines.specs.Words.{is_number, says, says_number, is_plain, is_no, is_other}
 use Rattle.line_words.specs.Words.{word_at}
 
--- one of the eight cores that a machine may have
+-- one of the 64 cores that a machine may have
+abbrev pub core_below : ℕ → Option ℕ
+core_below number = if nat_lt number 64 then Some number else None
+
+-- its number in decimal, with no zero in front
 abbrev pub core_of : List ℕ → Option ℕ
-core_of (digit ∷ []) = if nat_le 48 digit && nat_lt digit 56 then Some (digit - 48) else None
+core_of (ones ∷ []) = if nat_le 48 ones && nat_le ones 57 then Some (ones - 48) else None
+core_of (tens ∷ ones ∷ []) =
+    if nat_le 49 tens && nat_le tens 57 && nat_le 48 ones && nat_le ones 57 then core_below (10 * (tens - 48) + (ones - 48)) else None
 core_of _ = None
 
 abbrev pub act_at : List ℕ → Option ℕ → Option Act

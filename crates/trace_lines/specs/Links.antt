@@ -1,7 +1,7 @@
 -- Which event sent the message that an event takes. Two-phase commit (Baumann et al., "The Multikernel", SOSP 2009) with
 -- requests of other cores: all messages go to or from core 0, and between two cores first in, first out.
 use Rattle.std.specs.Prelude.{ℕ, ◌+◌, ◌==◌, ◌&&◌, not, nat_le, if◌then◌else◌, min, max, Bool, false, List, [], ◌∷◌, ◌++◌, length, map, filter, take, slice_get, Option, Some, None, option_map}
-use Rattle.std.specs.List.{flat_map, enumerate_from}
+use Rattle.std.specs.List.{flat_map, enumerate_from, range_with_len}
 use Rattle.trace_lines.specs.declared.event.Act.{Act}
 use Rattle.trace_lines.specs.declared.event.Act.TheVariants as act
 use Rattle.trace_lines.specs.declared.event.TraceAnswer.{TraceAnswer}
@@ -42,7 +42,7 @@ message k row from to = record { kind = k; from = from; to = to; row = row }
 
 -- to each core but core 0
 abbrev pub to_others : ℕ → MessageKind → ℕ → List TraceMessage
-to_others highest k row = map (λ core. message k row 0 core) (take (min highest 7) (1 ∷ 2 ∷ 3 ∷ 4 ∷ 5 ∷ 6 ∷ 7 ∷ []))
+to_others highest k row = map (λ core. message k row 0 core) (range_with_len 1 highest)
 
 -- Lists of events that are past have the latest event first.
 

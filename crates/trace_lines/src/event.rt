@@ -1,6 +1,6 @@
 //! The events of a trace, as far as a picture shows them.
 
-/// What is done. Cores are below 8.
+/// What is done. Cores are below 64.
 #[derive(Clone, Copy, Debug, PartialEq, Eq)]
 pub enum Act {
     /// Core 0 begins a request of its own.

@@ -33,11 +33,28 @@ pub enum Read<'a> {
     Done(Line<'a>),
 }
 
+/// The most cores of a machine: a script has at most as many after `limits`.
+const MOST_CORES: u16 = 64;
+
+fn core_below(number: u16) -> Option<u16>
+    ensures { result ≡ spec.core_below number }
+{
+    if number < MOST_CORES {
+        Some(number)
+    } else {
+        None
+    }
+}
+
+/// A core, as `sim` prints it: one digit, or two of which the first is no zero.
 fn core_of(word: &[u8]) -> Option<u16>
     ensures { result ≡ spec.core_of word.now }
 {
     match word {
-        [digit] if b'0' <= *digit && *digit < b'8' => Some(u16::from(*digit - b'0')),
+        [ones] if b'0' <= *ones && *ones <= b'9' => Some(u16::from(*ones - b'0')),
+        [tens, ones] if b'1' <= *tens && *tens <= b'9' && b'0' <= *ones && *ones <= b'9' => {
+            core_below(10 * u16::from(*tens - b'0') + u16::from(*ones - b'0'))
+        }
         _ => None,
     }
 }

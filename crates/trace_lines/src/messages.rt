@@ -47,9 +47,6 @@ pub struct TraceMessage {
     pub row: usize,
 }
 
-/// The cores but core 0.
-const OTHERS: [u16; 7] = [1, 2, 3, 4, 5, 6, 7];
-
 /// How far the messages between two cores were taken.
 #[derive(Clone, Copy)]
 pub(crate) struct Front {
@@ -206,12 +203,11 @@ fn send_to_others(
 ) -> Result<(), AllocError>
     ensures { OnOk result (messages.new.items ≡ messages.old.items ++ spec.to_others highest kind row) }
 {
-    let count = usize::from(highest).min(7);
-    for to in &OTHERS[..count] {
+    for to in 1..=highest {
         messages.push(TraceMessage {
             kind,
             from: 0,
-            to: *to,
+            to,
             row,
         })?;
     }

@@ -1,7 +1,9 @@
-use Rattle.std.proofs.Common.{◌≡◌, ◌++◌, drop}
-use Rattle.std.specs.List.{flat_map}
-use Rattle.draw_engine.specs.Svg.{column}
+use Rattle.std.proofs.Common.{◌≡◌, ◌+◌, ◌-◌, ◌++◌}
+use Rattle.std.specs.List.{flat_map, range_with_len}
+use Rattle.draw_engine.specs.Svg.{column, cores}
 use Rattle.draw_engine.proofs.svg.push_columns.Given as goal
 
 abbrev pub invariant-loop-core : goal.invariant-loop-core
-invariant-loop-core l = l.text.items ++ flat_map (column l.bottom) (drop l.core-index l.core-items) ≡ l.fn.text.items ++ flat_map (column l.bottom) l.core-items
+invariant-loop-core l =
+    l.text.items ++ flat_map (column l.bottom) (range_with_len l.core (l.highest + 1 - l.core))
+    ≡ l.fn.text.items ++ flat_map (column l.bottom) (cores l.highest)

@@ -1,7 +1,10 @@
-use Rattle.std.proofs.Common.{◌≡◌, ◌++◌, drop}
-use Rattle.std.specs.List.{flat_map}
+use Rattle.std.proofs.Common.{◌≡◌, ◌+◌, ◌-◌, ◌++◌}
+use Rattle.std.specs.List.{flat_map, range_with_len}
+use Rattle.draw_engine.specs.Svg.{cores}
 use Rattle.draw_engine.specs.Text.{name_cell}
 use Rattle.draw_engine.proofs.text.push_names.Given as goal
 
 abbrev pub invariant-loop-core : goal.invariant-loop-core
-invariant-loop-core l = l.text.items ++ flat_map name_cell (drop l.core-index l.core-items) ≡ l.fn.text.items ++ flat_map name_cell l.core-items
+invariant-loop-core l =
+    l.text.items ++ flat_map name_cell (range_with_len l.core (l.highest + 1 - l.core))
+    ≡ l.fn.text.items ++ flat_map name_cell (cores l.highest)
