@@ -2,17 +2,22 @@
 
 use core_join::RecordedTurn;
 use core_loop::Turn;
+use thiserror::Error;
 
 /// Why a turn halted its core.
-#[derive(Clone, Copy, PartialEq, Eq, Debug)]
+#[derive(Clone, Copy, PartialEq, Eq, Debug, Error)]
 pub enum Halt {
     /// No number or stamp is left for what it would do next.
+    #[error("the next number or stamp would be too great")]
     Spent,
     /// Memory was refused for what it would do next.
+    #[error("out of memory")]
     NoMemory,
     /// Memory was refused for one event more in the list of what it did.
+    #[error("out of memory for one event more")]
     NoRoom,
     /// It is stopped for good, which no core of a machine ever is.
+    #[error("it is stopped for good")]
     Stopped,
 }
 
