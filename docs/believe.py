@@ -73,7 +73,7 @@ COMMANDS = [
     Part("`dump`", ["console::run_dump"], 510),
     Part("`keep`", ["keep_engine::run_keep"], 800),
     Part("`sim`", ["sim_engine::run_sim"], 2780),
-    Part("`run`", ["run_engine::run_run"], 3620),
+    Part("`run`", ["run_engine::run_script"], 3620),
     Part("`draw`", ["draw_engine::run_draw"], 460),
     Part("the words of the command line", ["command_line::request_of"], 150),
     Part("all of them", ["commands::perform"], 4030),

@@ -14,7 +14,7 @@ use draw_engine::run_draw;
 use engine_io::{EngineFault, INPUT_READS, Sink, Source};
 use graph_engine::{run_explain, run_graph};
 use keep_engine::{Wanted, run_keep};
-use run_engine::{Gate, RunFailure, run_run};
+use run_engine::{Gate, RunFailure, run_script};
 use sim_engine::run_sim;
 use std::alloc::Global;
 use std::io::{Read, Write};
@@ -71,7 +71,7 @@ pub fn perform<T: Threads + Wait + Clock + Sync, G: Gate + Sync, R: Read, F: Rea
 {
     match request {
         Request::Sim { .. } => Ok(run_sim(alloc, captures, reader, writer)?),
-        Request::Run { .. } => run_run(rt, alloc, gate, captures, reader, writer),
+        Request::Run { .. } => run_script(rt, alloc, gate, captures, reader, writer),
         _ => Ok(perform_alone(alloc, request, link, reader, writer, complaint, links)?),
     }
 }
@@ -135,7 +135,7 @@ fn perform_alone<R: Read, W: Write>(
         Request::Graph => run_graph(alloc, reader, writer),
         Request::Dump => run_dump(alloc, link, reader, writer),
         Request::Draw { text } => run_draw(alloc, *text, reader, writer),
-        Request::Sim { .. } | Request::Run { .. } => Err(EngineFault::NoMemory),
+        Request::Sim { .. } | Request::Run { .. } => unreachable!(),
     }
 }
 

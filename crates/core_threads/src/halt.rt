@@ -8,19 +8,25 @@ use std::alloc::AllocError;
 use thiserror::Error;
 
 /// Why a core halted.
-#[derive(Clone, Copy, PartialEq, Eq, Debug)]
+#[derive(Clone, Copy, PartialEq, Eq, Debug, Error)]
 pub enum Halt {
     /// The core is stopped for good, which no core of a machine ever is.
+    #[error("it is stopped for good")]
     Cause(Cause),
     /// The next number or stamp would be too great.
+    #[error("the next number or stamp would be too great")]
     Spent,
     /// Memory was refused in a turn.
+    #[error("out of memory")]
     NoMemory,
     /// Memory was refused for one event more in the list of what the core did.
+    #[error("out of memory for one event more")]
     NoRoom,
     /// As many turns in a row as the limit says did nothing.
+    #[error("it did nothing for too long")]
     Limit,
     /// No core halted, but there is work left: a request that was not begun or not answered, or a job that may be received.
+    #[error("there is work left")]
     Early,
 }
 

@@ -14,7 +14,7 @@ use crate::flags::Flags;
 use crate::gate::Gate;
 use crate::halt::{Halt, RunFault};
 use crate::leaving::leave_all;
-use crate::threads::{Joined, run_cores};
+use crate::threads::{Joined, run_in_threads};
 use crate::turning::Bounds;
 use core_boot::by_core;
 use core_join::Recorded;
@@ -132,7 +132,7 @@ pub fn run_machine<R: Threads + Wait + Clock + Sync, G: Gate + Sync>(
         limit,
         submitted: submitted(&cores),
     };
-    let joined = run_cores(rt, alloc, cores, outlets, &flags, gate, bounds)?;
+    let joined = run_in_threads(rt, alloc, cores, outlets, &flags, gate, bounds)?;
     let ended = finish(alloc, joined)?;
     Ok(ended)
 }

@@ -102,7 +102,7 @@ fn join_last(rest: Result<Joined, RunFault>, ran: Ran) -> Result<Joined, RunFaul
 
 /// Runs each core in a thread of its own, and puts the jobs in this one. All threads are joined, also where one could not be
 /// started.
-pub(crate) fn run_cores<R: Threads + Wait + Clock + Sync, G: Gate + Sync>(
+pub(crate) fn run_in_threads<R: Threads + Wait + Clock + Sync, G: Gate + Sync>(
     rt: &R,
     alloc: Global,
     cores: Vec<Recorded<RingLinks>>,
@@ -140,7 +140,7 @@ pub(crate) fn run_cores<R: Threads + Wait + Clock + Sync, G: Gate + Sync>(
                     return Err(RunFault::Spawn);
                 }
             };
-            let rest = run_cores(rt, alloc, cores, outlets, flags, gate, bounds);
+            let rest = run_in_threads(rt, alloc, cores, outlets, flags, gate, bounds);
             join_last(rest, child.join(rt))
         },
     )

@@ -62,13 +62,13 @@ pub fn threads<R: Threads + Wait + Clock + Sync>(
     // A core that is named is one of the machine's.
     ensures halted { (core : ℕ) → result ≡ Err (Halted core) → core < length budgets.now }
 {
-    let (cores, left) = run_cores(rt, alloc, limits, budgets, requests, jobs, limit)?;
+    let (cores, left) = run_machine_to_rest(rt, alloc, limits, budgets, requests, jobs, limit)?;
     let did = conclude_all(alloc, cores)?;
     Ok((did, left))
 }
 
 // Runs the cores, and gives them with the jobs that are left.
-fn run_cores<R: Threads + Wait + Clock + Sync>(
+fn run_machine_to_rest<R: Threads + Wait + Clock + Sync>(
     rt: &R,
     alloc: Global,
     limits: Limits,

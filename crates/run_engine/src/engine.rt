@@ -25,17 +25,21 @@ use std::io::{Read, Write};
 use std::sync::Wait;
 use std::thread::Threads;
 use std::time::Clock;
+use thiserror::Error;
 
 /// Why a run has no status.
-#[derive(Clone, Copy, PartialEq, Eq, Debug)]
+#[derive(Clone, Copy, PartialEq, Eq, Debug, Error)]
 pub enum RunFailure {
     /// An input, the output or memory failed.
+    #[error(transparent)]
     Engine(EngineFault),
     /// A thread could not be started.
+    #[error("a thread can't be started")]
     Spawn,
     /// The work isn't done, for this core: the machine was settled once its threads were joined, and the core had no
     /// memory or no number left for what it would do next. Or all requests are decided, and a job is left that can be
     /// received, since this core had halted.
+    #[error("core {0} halted: {1}")]
     Halted(u16, Halt),
 }
 
@@ -85,7 +89,7 @@ impl From<RunFault> for RunFailure {
 /// Where a core halts, since memory ran out in its thread, the machine is settled once the threads are joined, so that each
 /// request is decided. Nothing is written before the run has ended, and nothing where its work isn't done, or where an input or
 /// memory failed. Where a write fails, a front of the text may have been written.
-pub fn run_run<T: Threads + Wait + Clock + Sync, G: Gate + Sync, R: Read, F: Read, W: Write>(
+pub fn run_script<T: Threads + Wait + Clock + Sync, G: Gate + Sync, R: Read, F: Read, W: Write>(
     rt: &T,
     alloc: Global,
     gate: &G,
@@ -130,13 +134,13 @@ fn run_text<T: Threads + Wait + Clock + Sync, G: Gate + Sync, W: Write>(
     ensures silent { IfErr result (λ failure. (failure ≡ RunFailure.Engine EngineFault.WriteFailed) ⊎ (writer.new ≡ writer.old)) }
 {
     match read_script(alloc, input, files, true) {
-        Ok(script) => run_script(rt, alloc, gate, script, writer),
+        Ok(script) => print_run(rt, alloc, gate, script, writer),
         Err(fault) => Ok(refuse(alloc, fault, writer)?),
     }
 }
 
 /// Runs a script, and prints what its cores did.
-fn run_script<T: Threads + Wait + Clock + Sync, G: Gate + Sync, W: Write>(
+fn print_run<T: Threads + Wait + Clock + Sync, G: Gate + Sync, W: Write>(
     rt: &T,
     alloc: Global,
     gate: &G,
@@ -175,7 +179,7 @@ fn text_of_run<T: Threads + Wait + Clock + Sync, G: Gate + Sync>(
         items,
     } = script;
     let items = items.into_vec();
-    let rested = run_cores(rt, alloc, gate, limits, budgets.as_slice(), items)?;
+    let rested = run_items(rt, alloc, gate, limits, budgets.as_slice(), items)?;
     let Rested { cores, left, .. } = rested;
     let histories = conclude(alloc, cores)?;
     let events = in_order(alloc, &histories)?;
@@ -186,7 +190,7 @@ fn text_of_run<T: Threads + Wait + Clock + Sync, G: Gate + Sync>(
 }
 
 /// Runs cores with these limits and budgets until they have done what the items give them.
-fn run_cores<T: Threads + Wait + Clock + Sync, G: Gate + Sync>(
+fn run_items<T: Threads + Wait + Clock + Sync, G: Gate + Sync>(
     rt: &T,
     alloc: Global,
     gate: &G,

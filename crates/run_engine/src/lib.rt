@@ -6,4 +6,4 @@ mod lines;
 mod work;
 
 pub use core_threads::Gate;
-pub use engine::{RunFailure, run_run};
+pub use engine::{RunFailure, run_script};

@@ -115,7 +115,7 @@ pub fn run_sim<C: Channel, R: Read, F: Read + Drop, W: Write>(
     sim_engine::run_sim_over::<C, &mut R, F, &mut W>(alloc, &mut files, &mut source, &mut sink)
 }
 
-pub fn run_run<T: Threads + Wait + Clock + Sync, R: Read, W: Write>(
+pub fn run_script<T: Threads + Wait + Clock + Sync, R: Read, W: Write>(
     threads: &T,
     alloc: Global,
     reader: &mut R,
@@ -125,5 +125,5 @@ pub fn run_run<T: Threads + Wait + Clock + Sync, R: Read, W: Write>(
     let mut files = sources(alloc, files)?;
     let mut source = Source::new(reader, INPUT_READS);
     let mut sink = Sink::new(writer);
-    run_engine::run_run(threads, alloc, &Free, &mut files, &mut source, &mut sink)
+    run_engine::run_script(threads, alloc, &Free, &mut files, &mut source, &mut sink)
 }

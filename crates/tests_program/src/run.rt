@@ -1,7 +1,7 @@
 //! A run of two cores over readers and writers that fail, and `sim` after it.
 
 use crate::devices::{Pieces, Taker};
-use crate::engines::{run_run, run_sim};
+use crate::engines::{run_script, run_sim};
 use crate::facts::{equal, equal_at, holds};
 use engine_io::EngineFault;
 use run_engine::RunFailure;
@@ -43,7 +43,7 @@ fn with_reader<R: Threads + Wait + Clock + Sync>(
     out: &mut Vec<u8>,
 ) -> Result<u8, RunFailure> {
     let mut reader = Pieces::new(SCRIPT.as_bytes(), 1, fails_at);
-    run_run(rt, alloc, &mut reader, out)
+    run_script(rt, alloc, &mut reader, out)
 }
 
 #[test]
@@ -71,7 +71,7 @@ fn with_writer<R: Threads + Wait + Clock + Sync>(
 ) -> (Result<u8, RunFailure>, usize) {
     let mut taker = Taker::new(fails_at);
     let mut reader = Pieces::new(SCRIPT.as_bytes(), 64, 0);
-    let answer = run_run(rt, alloc, &mut reader, &mut taker);
+    let answer = run_script(rt, alloc, &mut reader, &mut taker);
     (answer, taker.taken)
 }
 

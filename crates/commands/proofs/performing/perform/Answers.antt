@@ -8,7 +8,7 @@ pub returns-in_ok-run_sim-in-Sim-clause-shown : goal.returns-in_ok-run_sim-in-Si
 returns-in_ok-run_sim-in-Sim-clause-shown g c = let s = c.in_ok-run_sim-in-Sim.ensures.shown in (s.0, s.1, [], sym (append-nil _), rw c.in-Sim.is (refl, s.2))
 
 pub returns-in-Run-clause-shown : goal.returns-in-Run-clause-shown
-returns-in-Run-clause-shown g c = rw c.in-Run.is (shows_script c.run_run.result _ _ _ _ _ c.run_run.ensures.shown)
+returns-in-Run-clause-shown g c = rw c.in-Run.is (shows_script c.run_script.result _ _ _ _ _ c.run_script.ensures.shown)
 
 pub returns-in_ok-perform_alone-in_default-clause-shown : goal.returns-in_ok-perform_alone-in_default-clause-shown
 returns-in_ok-perform_alone-in_default-clause-shown g c =

@@ -2,7 +2,7 @@ use Rattle.std.proofs.Common.{◌<◌, All, ℕ, length, sym, subst}
 use Rattle.rx_queue.specs.declared.job.Job.{Job}
 use Rattle.run_engine.proofs.Runs.{have_done, has_halted}
 use Rattle.run_engine.proofs.Works.{requests_inside, requests_givable, jobs_inside}
-use Rattle.run_engine.proofs.engine.run_cores.Goals as goal
+use Rattle.run_engine.proofs.engine.run_items.Goals as goal
 
 pub boot_with_limits-requires-clause-inside : goal.boot_with_limits-requires-clause-inside
 boot_with_limits-requires-clause-inside g c =

@@ -1,6 +1,6 @@
 use Rattle.std.proofs.Common.{inl, IfOk, Result}
 use Rattle.std.proofs.lemmas.Result.{IfOk-weaker}
-use Rattle.run_engine.proofs.engine.run_run.Goals as goal
+use Rattle.run_engine.proofs.engine.run_script.Goals as goal
 
 answered : {T E : Type 0} {P Q : T → Type 0} (r : Result T E) → IfOk r P → ((x : T) → P x → Q x) → IfOk r Q
 answered r h f = IfOk-weaker r _ _ f h

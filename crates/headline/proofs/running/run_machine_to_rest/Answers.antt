@@ -1,7 +1,7 @@
 use Rattle.std.proofs.Common.{◌<◌, All, ℕ, sym, subst}
 use Rattle.rx_queue.specs.declared.job.Job.{Job}
 use Rattle.headline.proofs.Ending.{givable, have_ended}
-use Rattle.headline.proofs.running.run_cores.Goals as goal
+use Rattle.headline.proofs.running.run_machine_to_rest.Goals as goal
 
 pub boot_with_limits-requires-clause-short : goal.boot_with_limits-requires-clause-short
 boot_with_limits-requires-clause-short g c = givable c.args.requests.items c.requires.short
