@@ -85,7 +85,7 @@ ROWS = {
     "filter_verify": 210,
     "filter_vm": 260,
     "filter_predecode": 330,
-    "filter_group": 220,
+    "filter_group": 225,
     "filter_asm": 530,
     "mkdemux_c": 260,
     "pcap_reader": 360,

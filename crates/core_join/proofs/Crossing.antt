@@ -11,18 +11,12 @@ use Rattle.std.proofs.collections.VecDeque.TheSendSync as deque
 use Rattle.std.specs.contracts.snapshot.Snapshot as snapshot
 use Rattle.endpoint_caps.proofs.table.Caps.TheSendSync as caps
 use Rattle.filter_table.proofs.limits.Limits.TheSendSync as limits
-use Rattle.table_replica.proofs.programs.KeptPrograms.TheSendSync as programs
-use Rattle.table_replica.proofs.filters.Row.TheSendSync as row
-use Rattle.table_replica.proofs.reaches.Reach.TheSendSync as reach
-use Rattle.table_replica.proofs.reaches.Chains.TheSendSync as chains
-use Rattle.table_replica.proofs.filters.Scratch.TheSendSync as scratch
+use Rattle.installed_filters.proofs.receiving.Scratch.TheSendSync as scratch
+use Rattle.table_replica.proofs.boxed.BoxedFilters.TheSendSync as boxed
 use Rattle.table_replica.proofs.Op.TheSendSync as op
 use Rattle.table_replica.proofs.Room.TheSendSync as room
-use Rattle.table_replica.specs.contracts.filters.Filters as filters
-use Rattle.table_replica.specs.contracts.boxed.BoxedFilters as boxed
 use Rattle.table_replica.specs.contracts.contents.Contents as contents
 use Rattle.table_replica.specs.contracts.plan.Plan as plan
-use Rattle.table_replica.specs.contracts.remaining.Under as under
 use Rattle.table_replica.specs.contracts.replica.Replica as replica
 use Rattle.monitor_2pc.proofs.coordinator.Coordinator.TheSendSync as coordinator
 use Rattle.monitor_2pc.proofs.participant.Participant.TheSendSync as participant
@@ -46,20 +40,11 @@ use Rattle.core_join.specs.contracts.recorded.Recorded.TheInside as recorded_ins
 snapshot_send : (R : RattleType) → IsSend (snapshot.the_row R)
 snapshot_send R = record { owned = λ d vs. ((λ vss. (tt, ((λ uss. (tt, tt)), tt))), tt); leaving = λ k f vs. tt }
 
-under_send : IsSend under.the_row
-under_send = search (sendable, crosses, snapshot_send) depth 14
-
-filters_send : IsSend filters.the_row
-filters_send = search (sendable, heap.the_send, blocks.the_frees, vec.the_send, under_send, programs.the_field_send, row.the_send, reach.the_send, chains.the_send) depth 14
-
-boxed_send : IsSend boxed.the_row
-boxed_send = search (sendable, crosses, under_send, filters_send) depth 20
-
 plan_send : IsSend plan.the_row
-plan_send = search (sendable, crosses, snapshot_send, boxed_send) depth 20
+plan_send = search (sendable, crosses, snapshot_send) depth 20
 
 contents_send : IsSend contents.the_row
-contents_send = search (sendable, crosses, limits.the_send, caps.the_send, boxed_send, plan_send) depth 14
+contents_send = search (sendable, crosses, limits.the_send, caps.the_send, boxed.the_send, plan_send) depth 24
 
 replica_send : IsSend replica.the_row
 replica_send = search (sendable, contents_send) depth 14

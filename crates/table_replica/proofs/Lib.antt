@@ -1,15 +1,9 @@
 pub mod Refusals
 pub mod Shared
-pub mod Without
-pub mod Chained
-pub mod Filing
 pub mod Places
-pub mod Ordered
-pub mod Receivers
-pub mod Reaching
 pub mod Gone
 pub mod Soundness
-pub mod Marking
-pub mod Boxes
+pub mod Counting
+pub mod NextFilters
 pub mod Planned
 pub mod OfDomain

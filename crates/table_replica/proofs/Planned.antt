@@ -1,24 +1,26 @@
 -- What a plan makes of the table is what its operation does.
-use Rattle.std.proofs.Common.{◌≡◌, ◌+◌, ◌≤◌, ℕ, Option, Some, None, List, refl, sym, ap, ◌∙◌, subst}
+use Rattle.std.proofs.Common.{◌≡◌, ◌+◌, ◌<◌, ◌≤◌, ℕ, Option, Some, None, List, refl, sym, ap, ◌∙◌, subst}
 use Rattle.std.specs.Prelude.{MatchOption, IfSome, IfNone}
-use Rattle.endpoint_caps.specs.Capabilities.{CapTable}
+use Rattle.endpoint_caps.specs.Capabilities.{CapTable, first}
 use Rattle.endpoint_caps.specs.Holding.{Holding}
 use Rattle.endpoint_caps.specs.declared.Rights.{Rights}
-use Rattle.filter_table.specs.Listed.{ListedFilter, FilterTable}
+use Rattle.filter_table.specs.Listed.{ListedFilter}
 use Rattle.filter_table.specs.Soundness.{IsSoundTable, IdsGrow}
 use Rattle.filter_table.specs.declared.operation.Made.{Made}
 use Rattle.filter_table.proofs.Changes.{fits_after}
 use Rattle.filter_table.proofs.Soundness.{sound_next, ids_stay, ids_after}
 use Rattle.filter_table.proofs.Tables.{limits-after}
-use Rattle.filter_table.specs.Tables.{TableState, after, made, instructions_of}
+use Rattle.filter_table.specs.Tables.{TableState, after, made, instructions_of, tests}
 use Rattle.filter_table.specs.declared.operation.Op.{Op}
 use Rattle.filter_table.specs.declared.operation.Op.TheVariants.{Create, Mint, Revoke, DropCap, Install, Remove, Replace}
 use Rattle.table_replica.specs.declared.plan.Plan.{Plan}
-use Rattle.table_replica.specs.Keeping.{AreHeldAlike}
-use Rattle.table_replica.specs.Plans.{change_of, caps_after, AreNextFilters, IsPlan}
+use Rattle.installed_filters.specs.Installed.{Installed, Standing, AreHeldBy}
+use Rattle.installed_filters.specs.Lent.{listed}
+use Rattle.table_replica.specs.Changing.{IsNext}
+use Rattle.table_replica.specs.Plans.{change_of, caps_after, AreNextFilters, IsKept, IsPlan, IsReady}
+use Rattle.table_replica.proofs.NextFilters.{next_is}
 use Rattle.table_replica.specs.Replicas.{AllowsStaged}
 use Rattle.table_replica.specs.Shown.{Staging}
-use Rattle.table_replica.proofs.Soundness.{created_alike, minted_alike}
 
 pub caps_changed : (s : TableState) (op : Op) → (after s op).caps ≡ caps_after s.caps (change_of op)
 unfolding after
@@ -45,51 +47,45 @@ pub is_after : (s : TableState) (op : Op) (caps : CapTable) (listed : List Liste
 is_after s op caps listed next c f n = λ j. record { limits = sym (limits-after s op) j; version = sym (version_after s op) j; caps = c j; filters = f j; next_filter = n j }
 
 -- the capabilities once they are changed as planned
-pub plan_caps : (s : TableState) (held : Holding) (plan : Plan) (new : CapTable) → IsPlan s held plan → new ≡ caps_after s.caps plan.caps → new ≡ (after s plan.op.value).caps
-plan_caps s held plan new p is = is ∙ (ap (caps_after s.caps) p.change ∙ sym (caps_changed s plan.op.value))
+pub plan_caps : (s : TableState) (held : Holding) (filters : Standing) (plan : Plan) (new : CapTable) → IsPlan s held filters plan → new ≡ caps_after s.caps plan.caps → new ≡ (after s plan.op.value).caps
+plan_caps s held filters plan new p is = is ∙ (ap (caps_after s.caps) p.change ∙ sym (caps_changed s plan.op.value))
 
-module _ (s : TableState) (held : Holding) (plan : Plan) (p : IsPlan s held plan) (next : Option FilterTable) (is : next ≡ plan.filters) where
-  planned_next : AreNextFilters s (after s plan.op.value).filters (after s plan.op.value).caps next
-  planned_next = subst (AreNextFilters s (after s plan.op.value).filters (after s plan.op.value).caps) (sym is) p.filters
+-- the filters once they are changed as planned
+pub plan_filters : (s : TableState) (held : Holding) (filters : Standing) (plan : Plan) (new : List Installed) → IsPlan s held filters plan → MatchOption filters.next (new ≡ filters.now) (λ next. new ≡ next)
+    → (listed new ≡ (after s plan.op.value).filters) × AreHeldBy (after s plan.op.value).caps.held new
+plan_filters s held filters plan new p = by_next filters.next p.filters_after
+  where
+    by_next : (o : Option (List Installed)) → MatchOption o ((listed filters.now ≡ (after s plan.op.value).filters) × AreHeldBy (after s plan.op.value).caps.held filters.now) (λ next. (listed next ≡ (after s plan.op.value).filters) × AreHeldBy (after s plan.op.value).caps.held next)
+        → MatchOption o (new ≡ filters.now) (λ next. new ≡ next) → (listed new ≡ (after s plan.op.value).filters) × AreHeldBy (after s plan.op.value).caps.held new
+    by_next None h is = (ap listed is ∙ h.0, subst (AreHeldBy (after s plan.op.value).caps.held) (sym is) h.1)
+    by_next (Some next) h is = (ap listed is ∙ h.0, subst (AreHeldBy (after s plan.op.value).caps.held) (sym is) h.1)
 
-  -- the filters may follow
-  pub plan_follows : (under caps : CapTable) → under ≡ s.caps → caps ≡ (after s plan.op.value).caps → MatchOption next (AreHeldAlike under caps s.filters) (λ filters. filters.under ≡ caps)
-  plan_follows under caps u c =
-      subst (λ (t : CapTable). MatchOption next (AreHeldAlike under t s.filters) (λ filters. filters.under ≡ t)) (sym c)
-      (subst (λ (t : CapTable). MatchOption next (AreHeldAlike t (after s plan.op.value).caps s.filters) (λ filters. filters.under ≡ (after s plan.op.value).caps)) (sym u) (by_next next planned_next))
-    where
-      by_next : (o : Option FilterTable) → AreNextFilters s (after s plan.op.value).filters (after s plan.op.value).caps o
-          → MatchOption o (AreHeldAlike s.caps (after s plan.op.value).caps s.filters) (λ filters. filters.under ≡ (after s plan.op.value).caps)
-      by_next None h = h.1
-      by_next (Some filters) h = ap (λ (t : FilterTable). t.under) h
+-- what is planned for an operation that no test refuses
+pub plan_kept : (s : TableState) (held : Holding) (before filters : Standing) (instructions budget : ℕ) (op : Op) (plan : Plan) → IsSoundTable s → listed before.now ≡ s.filters → AreHeldBy s.caps.held before.now
+    → instructions ≡ instructions_of (listed before.now) → first (tests s budget op) ≡ None → held.table ≡ s.caps → filters.now ≡ before.now → IsNext s.caps s.next_filter before.now op filters.next
+    → plan.op.value ≡ op → plan.caps ≡ change_of op → IsReady held plan.caps → plan.instructions ≡ instructions_of (after s op).filters → plan.next_filter ≡ (after s op).next_filter → plan.made ≡ made s op
+    → s.version < 18446744073709551615
+    → IsKept (record { limits = s.limits; version = s.version; caps = held.table; filters = listed filters.now; next_filter = s.next_filter }) held filters instructions (Some plan)
+plan_kept s held before filters instructions budget op plan sound same under total none table now next op_is change ready count number id room = subst (λ (t : TableState). IsKept t held filters instructions (Some plan)) (sym state) (record {
+  held = subst (λ (t : CapTable). AreHeldBy t.held filters.now) (sym table) (subst (AreHeldBy s.caps.held) (sym now) under);
+  total = total ∙ ap (λ (fs : List Installed). instructions_of (listed fs)) (sym now);
+  planned = record {
+    change = change ∙ ap change_of (sym op_is);
+    ready = ready;
+    filters_after = subst (λ (o : Op). AreNextFilters (after s o).caps.held (after s o).filters filters) (sym op_is)
+        (subst (λ (fs : List Installed). AreNextFilters (after s op).caps.held (after s op).filters (record { now = fs; next = filters.next })) (sym now) (next_is s sound before.now same under budget op filters.next none next));
+    instructions_after = count ∙ ap (λ (o : Op). instructions_of (after s o).filters) (sym op_is);
+    next_filter = number ∙ ap (λ (o : Op). (after s o).next_filter) (sym op_is);
+    made = id ∙ ap (made s) (sym op_is);
+    version = room;
+  };
+})
+  where
+    listed_is : listed filters.now ≡ s.filters
+    listed_is = ap listed now ∙ same
 
-  -- and are then those of the next table
-  pub plan_listed : (listed : List ListedFilter) → MatchOption next (listed ≡ s.filters) (λ filters. listed ≡ filters.listed) → listed ≡ (after s plan.op.value).filters
-  plan_listed listed = by_next next planned_next
-    where
-      by_next : (o : Option FilterTable) → AreNextFilters s (after s plan.op.value).filters (after s plan.op.value).caps o
-          → MatchOption o (listed ≡ s.filters) (λ filters. listed ≡ filters.listed) → listed ≡ (after s plan.op.value).filters
-      by_next None h same = same ∙ sym h.0
-      by_next (Some filters) h same = same ∙ ap (λ (t : FilterTable). t.listed) h
-
--- these are the next filters
-pub next_are : (s : TableState) (listed : List ListedFilter) (caps : CapTable) (next : Option FilterTable) → next ≡ Some (record { listed = listed; under = caps }) → AreNextFilters s listed caps next
-next_are s listed caps next is = subst (AreNextFilters s listed caps) (sym is) refl
-
--- a new capability leaves the filters as they are
-pub stay_created : (s : TableState) (op : Op) (domain endpoint : ℕ) → IsSoundTable s → op ≡ Create domain endpoint → AreNextFilters s (after s op).filters (after s op).caps None
-unfolding after
-stay_created s op domain endpoint sound is = subst (λ (o : Op). AreNextFilters s (after s o).filters (after s o).caps None) (sym is) (refl, created_alike s domain endpoint sound)
-
-pub stay_minted : (s : TableState) (op : Op) (domain cap to : ℕ) (rights : Rights) → IsSoundTable s → op ≡ Mint domain cap to rights → AreNextFilters s (after s op).filters (after s op).caps None
-unfolding after
-stay_minted s op domain cap to rights sound is = subst (λ (o : Op). AreNextFilters s (after s o).filters (after s o).caps None) (sym is) (refl, minted_alike s cap to rights sound)
-
--- the filters once capabilities have gone
-pub left_next : (s : TableState) (left caps : CapTable) → left ≡ caps → (next : Option FilterTable)
-    → MatchOption next (AreHeldAlike s.caps left s.filters) (λ filters. filters ≡ record { listed = s.filters; under = left }) → AreNextFilters s s.filters caps next
-left_next s left caps e None h = (refl, subst (λ (t : CapTable). AreHeldAlike s.caps t s.filters) e h)
-left_next s left caps e (Some filters) h = h ∙ ap (λ (t : CapTable). record { listed = s.filters; under = t }) e
+    state : record { limits = s.limits; version = s.version; caps = held.table; filters = listed filters.now; next_filter = s.next_filter } ≡ s
+    state = λ j. record { limits = s.limits; version = s.version; caps = table j; filters = listed_is j; next_filter = s.next_filter }
 
 -- A table that has performed what was staged, or had nothing staged
 

@@ -1,10 +1,7 @@
 pub mod Lent
-pub mod Distinct
-pub mod Chains
-pub mod Keeping
 pub mod Shown
 pub mod Remaining
+pub mod Changing
 pub mod Plans
 pub mod Replicas
-pub mod Receiving
 pub mod Boxed

@@ -1,16 +1,18 @@
 -- What is ready for a staged operation, so that to perform it takes no memory and can't fail.
 -- No public clause cites these.
-use Rattle.std.specs.Prelude.{◌≡◌, ◌<◌, IsTrue, Option, Some, None, List}
+use Rattle.std.specs.Prelude.{◌≡◌, ◌<◌, ℕ, IsTrue, MatchOption, Option, Some, None, List}
+use Rattle.endpoint_caps.specs.declared.Cap.{Cap}
 use Rattle.endpoint_caps.specs.Capabilities.{CapBounds, CapTable, created, minted_from, revoked, dropped, first, create_tests, mint_tests}
 use Rattle.endpoint_caps.specs.Holding.{Holding}
-use Rattle.filter_table.specs.Listed.{ListedFilter, FilterTable}
-use Rattle.filter_table.specs.Tables.{TableState, after, made}
+use Rattle.filter_table.specs.Listed.{ListedFilter}
+use Rattle.filter_table.specs.Tables.{TableState, after, instructions_of, made}
 use Rattle.filter_table.specs.declared.operation.Op.{Op}
 use Rattle.filter_table.specs.declared.operation.Op.TheVariants as ops
 use Rattle.table_replica.specs.declared.plan.CapChange.{CapChange}
 use Rattle.table_replica.specs.declared.plan.CapChange.TheVariants.{Nothing, Create, Mint, Revoke, DropCap}
 use Rattle.table_replica.specs.declared.plan.Plan.{Plan}
-use Rattle.table_replica.specs.Keeping.{AreHeldAlike}
+use Rattle.installed_filters.specs.Installed.{AreHeldBy, Standing}
+use Rattle.installed_filters.specs.Lent.{listed}
 
 -- what an operation does to the capabilities
 abbrev pub change_of : Op → CapChange
@@ -33,16 +35,16 @@ IsReady caps (Create domain endpoint) = IsTrue caps.ready × (limits : CapBounds
 IsReady caps (Mint domain cap to rights) = IsTrue caps.ready × (limits : CapBounds) × (first (mint_tests limits caps.table domain cap rights) ≡ None)
 IsReady caps change = Unit {0}
 
--- the filters of the next table, whose capabilities these are: those of this table may stay, or here are others
-abbrev pub AreNextFilters : TableState → List ListedFilter → CapTable → Option FilterTable → Type 0
-AreNextFilters s listed caps None = (listed ≡ s.filters) × AreHeldAlike s.caps caps s.filters
-AreNextFilters s listed caps (Some filters) = filters ≡ record { listed = listed; under = caps }
+-- these filters are listed after it, and stand under these capabilities: those of now, if no others are planned
+abbrev pub AreNextFilters : List Cap → List ListedFilter → Standing → Type 0
+AreNextFilters caps after filters = MatchOption filters.next ((listed filters.now ≡ after) × AreHeldBy caps filters.now) (λ next. (listed next ≡ after) × AreHeldBy caps next)
 
 -- the plan is that of its operation
-pub record IsPlan (s : TableState) (caps : Holding) (plan : Plan) : Type 0 where
+pub record IsPlan (s : TableState) (caps : Holding) (filters : Standing) (plan : Plan) : Type 0 where
   pub change : plan.caps ≡ change_of plan.op.value
   pub ready : IsReady caps plan.caps
-  pub filters : AreNextFilters s (after s plan.op.value).filters (after s plan.op.value).caps plan.filters
+  pub filters_after : AreNextFilters (after s plan.op.value).caps.held (after s plan.op.value).filters filters
+  pub instructions_after : plan.instructions ≡ instructions_of (after s plan.op.value).filters
   pub next_filter : plan.next_filter ≡ (after s plan.op.value).next_filter
   pub made : plan.made ≡ made s plan.op.value
   pub version : s.version < 18446744073709551615
@@ -51,6 +53,12 @@ abbrev pub staged_op : Option Plan → Option Op
 staged_op None = None
 staged_op (Some plan) = Some plan.op.value
 
-abbrev pub IsPlanned : TableState → Holding → Option Plan → Type 0
-IsPlanned s caps None = Unit {0}
-IsPlanned s caps (Some plan) = IsPlan s caps plan
+abbrev pub IsPlanned : TableState → Holding → Standing → Option Plan → Type 0
+IsPlanned s caps filters None = filters.next ≡ None
+IsPlanned s caps filters (Some plan) = IsPlan s caps filters plan
+
+-- what is kept beside the table: its filters stand under its capabilities, and their instructions are counted
+pub record IsKept (s : TableState) (caps : Holding) (filters : Standing) (instructions : ℕ) (plan : Option Plan) : Type 0 where
+  pub held : AreHeldBy caps.table.held filters.now
+  pub total : instructions ≡ instructions_of (listed filters.now)
+  pub planned : IsPlanned s caps filters plan

@@ -1,10 +1,9 @@
 -- The capabilities that are held once some have gone.
 -- No public clause cites these.
-use Rattle.std.specs.Prelude.{ℕ, Option, Some, None, is_some, not, List, filter}
+use Rattle.std.specs.Prelude.{ℕ, is_some, not, List, filter}
 use Rattle.chunked.specs.Maps.{value_at}
 use Rattle.endpoint_caps.specs.Capabilities.{CapTable}
 
--- the table without the capabilities of some ids, if any go
-abbrev pub remaining : {V : Type 0} → CapTable → Option (List (ℕ × V)) → CapTable
-remaining table None = table
-remaining table (Some gone) = record { held = filter (λ c. not (is_some (value_at gone c.id))) table.held; next = table.next }
+-- the table without the capabilities of some ids
+abbrev pub remaining : {V : Type 0} → CapTable → List (ℕ × V) → CapTable
+remaining table gone = record { held = filter (λ c. not (is_some (value_at gone c.id))) table.held; next = table.next }

@@ -1,5 +1,5 @@
 //! The table, changed in place: what an operation does to it is planned before, and then done.
-ghost use Rattle.std.specs.Prelude.{◌≡◌, ◌==◌, ◌+◌, ◌<◌, ◌≤◌, ℕ, [], None, Some, is_some, not, filter, length, IfSome, IfNone, IfOk, IfErr, OnOk, OnErr};
+ghost use Rattle.std.specs.Prelude.{◌≡◌, ◌==◌, ◌+◌, ◌<◌, ◌≤◌, ℕ, [], None, Some, is_none, is_some, false, leb, not, filter, length, IfSome, IfNone, IfOk, IfErr, OnOk, OnErr};
 ghost use Rattle.std.specs.Option.{option_map};
 ghost use Rattle.std.specs.Result.{result_err};
 ghost use Rattle.endpoint_caps.specs.Capabilities.{first, cap_at, mint_tests, revoked, dropped};
@@ -11,13 +11,15 @@ ghost use Rattle.table_replica.specs.Replicas.{RefusesAs};
 ghost use Rattle.filter_table.specs.Loading.{load_op};
 ghost use Rattle.filter_table.specs.Soundness.{IsSoundTable};
 ghost use Rattle.filter_table.specs.declared.operation.Op.{Op as GhostOp};
-ghost use Rattle.table_replica.specs.Plans.{AreNextFilters};
+ghost use Rattle.installed_filters.specs.Installed.{AreHeldBy};
+ghost use Rattle.installed_filters.specs.Lent.{listed};
+ghost use Rattle.table_replica.specs.Changing.{program_at};
 
 use crate::boxed::BoxedFilters;
+use crate::changing::prepare_filters;
 use crate::plan::{Plan, change_caps, prepare_caps};
-use crate::remaining::Remaining;
 use crate::shares::{exceed, owned_fit_with, owns_as_many};
-use crate::{Filter, Limits, Load, Made, Op, OpFault, StageFault};
+use crate::{Limits, Load, Made, Op, OpFault, StageFault};
 use bpf_insn::Insn;
 use endpoint_caps::{CapFault, Caps, Right};
 use filter_verify::{Refusal, Room, Verified, verify};
@@ -31,6 +33,8 @@ pub(crate) struct Contents {
     version: u64,
     caps: Caps,
     filters: BoxedFilters,
+    /// Of all filters.
+    instructions: u32,
     next_filter: u32,
     plan: Option<Plan>,
 }
@@ -43,6 +47,7 @@ impl Drop for Contents {
             version: _,
             caps: _,
             filters: _,
+            instructions: _,
             next_filter: _,
             plan: _,
         } = self;
@@ -53,13 +58,14 @@ impl Model for Contents {
     ghost use Rattle.std.specs.Prelude.{◌≡◌};
     ghost use Rattle.filter_table.specs.Tables.{TableState};
     ghost use Rattle.table_replica.specs.Shown.{Staging};
-    ghost use Rattle.table_replica.specs.Plans.{staged_op, IsPlanned};
+    ghost use Rattle.table_replica.specs.Plans.{staged_op, IsKept};
+    ghost use Rattle.installed_filters.specs.Lent.{listed};
 
     ghost Value = { Staging };
 
-    ghost view = { λ a. record { table = record { limits = a.limits; version = a.version; caps = a.caps.table; filters = a.filters.listed; next_filter = a.next_filter }; staged = staged_op a.plan } };
+    ghost view = { λ a. record { table = record { limits = a.limits; version = a.version; caps = a.caps.table; filters = listed a.filters.now; next_filter = a.next_filter }; staged = staged_op a.plan } };
 
-    ghost invariant = { λ a. (a.filters.under ≡ a.caps.table) × IsPlanned (record { limits = a.limits; version = a.version; caps = a.caps.table; filters = a.filters.listed; next_filter = a.next_filter }) a.caps a.plan };
+    ghost invariant = { λ a. IsKept (record { limits = a.limits; version = a.version; caps = a.caps.table; filters = listed a.filters.now; next_filter = a.next_filter }) a.caps a.filters a.instructions a.plan };
 }
 
 /// The fault of the capabilities as a reason not to stage.
@@ -91,13 +97,12 @@ impl Contents {
     ) -> Contents
         ensures { result ≡ record { table = record { limits = limits; version = version; caps = record { held = []; next = next_cap }; filters = []; next_filter = next_filter }; staged = None } }
     {
-        let caps = Caps::resume(alloc, next_cap);
-        let filters = BoxedFilters::new(&Remaining::all(&caps));
         Contents {
             limits,
             version,
-            caps,
-            filters,
+            caps: Caps::resume(alloc, next_cap),
+            filters: BoxedFilters::new(),
+            instructions: 0,
             next_filter,
             plan: None,
         }
@@ -122,10 +127,17 @@ impl Contents {
     }
 
     pub(crate) fn filters(&self) -> &BoxedFilters
-        ensures listed { result.now.listed ≡ self.now.table.filters }
-        ensures under { result.now.under ≡ self.now.table.caps }
+        ensures listed { listed result.now.now ≡ self.now.table.filters }
+        ensures held { AreHeldBy self.now.table.caps.held result.now.now }
     {
         &self.filters
+    }
+
+    /// The instructions of all filters.
+    pub(crate) fn instructions(&self) -> u32
+        ensures { result ≡ instructions_of self.now.table.filters }
+    {
+        self.instructions
     }
 
     /// Whether an operation is staged.
@@ -137,7 +149,8 @@ impl Contents {
 
     /// The first refusal, the verifier's aside.
     pub(crate) fn refusal(&self, budget: u32, op: &Op) -> Result<(), StageFault>
-        requires { instructions_of self.now.table.filters ≤ budget }
+        requires fits { instructions_of self.now.table.filters ≤ budget }
+        requires sound { IsSoundTable self.now.table }
         ensures { result_err result ≡ first (tests self.now.table budget op.now) }
     {
         if self.version == u64::MAX {
@@ -184,7 +197,8 @@ impl Contents {
     /// The first refusal, the verifier's aside, as what stands in the way of staging. Takes no memory.
     #[tactic(auto, using(filter_table::proofs::Changes::cannot_first, filter_table::proofs::Changes::never_memory))]
     fn tested(&self, budget: u32, op: &Op) -> Result<(), StageFault>
-        requires { instructions_of self.now.table.filters ≤ budget }
+        requires fits { instructions_of self.now.table.filters ≤ budget }
+        requires sound { IsSoundTable self.now.table }
         ensures ok { OnOk result (first (tests self.now.table budget op.now) ≡ None) }
         ensures err { IfErr result (CannotStage self.now.table budget op.now None) }
         ensures memory { result ≡ Err StageFault.NoMemory → ⊥ }
@@ -198,7 +212,8 @@ impl Contents {
     /// The same of an operation whose program lies elsewhere.
     #[tactic(auto, using(filter_table::proofs::Changes::cannot_first, filter_table::proofs::Changes::never_memory))]
     fn tested_load(&self, budget: u32, load: Load, program: &[Insn]) -> Result<(), StageFault>
-        requires { instructions_of self.now.table.filters ≤ budget }
+        requires fits { instructions_of self.now.table.filters ≤ budget }
+        requires sound { IsSoundTable self.now.table }
         ensures ok { OnOk result (first (tests self.now.table budget (load_op load program.now)) ≡ None) }
         ensures err { IfErr result (CannotStage self.now.table budget (load_op load program.now) None) }
         ensures memory { result ≡ Err StageFault.NoMemory → ⊥ }
@@ -210,7 +225,8 @@ impl Contents {
     }
 
     fn refusal_of_load(&self, budget: u32, load: Load, program: &[Insn]) -> Result<(), StageFault>
-        requires { instructions_of self.now.table.filters ≤ budget }
+        requires fits { instructions_of self.now.table.filters ≤ budget }
+        requires sound { IsSoundTable self.now.table }
         ensures { result_err result ≡ first (tests self.now.table budget (load_op load program.now)) }
     {
         if self.version == u64::MAX {
@@ -241,13 +257,19 @@ impl Contents {
         if owns_as_many(&self.filters, domain, self.limits.domain_filters()) {
             return Err(StageFault::Rule(OpFault::DomainFull));
         }
-        if exceed(&self.filters, domain, program, self.limits.domain_insns()) {
+        if exceed(
+            &self.filters,
+            self.instructions,
+            domain,
+            program,
+            self.limits.domain_insns(),
+        ) {
             return Err(StageFault::Rule(OpFault::DomainFull));
         }
         if self.next_filter == u32::MAX {
             return Err(StageFault::Rule(OpFault::FilterIdsSpent));
         }
-        if program.len() > (budget - self.filters.instructions()) as usize {
+        if program.len() > (budget - self.instructions) as usize {
             return Err(StageFault::Budget);
         }
         Ok(())
@@ -258,7 +280,7 @@ impl Contents {
         ensures fault { result_err result ≡ first (owner_tests self.now.table.filters domain id) }
         ensures cap { IfOk result (λ cap. cap ≡ cap_of (filter_at self.now.table.filters id)) }
     {
-        match self.filters.find(id) {
+        match self.filters.get(id) {
             None => Err(StageFault::Rule(OpFault::NoFilter)),
             Some(filter) => {
                 if filter.owner == domain {
@@ -277,6 +299,7 @@ impl Contents {
         id: u32,
         program: &[Insn],
     ) -> Result<(), StageFault>
+        requires { IsSoundTable self.now.table }
         ensures { result_err result ≡ first (replace_tests self.now.table budget domain id program.now) }
     {
         let cap = self.owned(domain, id)?;
@@ -285,17 +308,50 @@ impl Contents {
         if !owned_fit_with(&self.filters, domain, id, program, limit) {
             return Err(StageFault::Rule(OpFault::DomainFull));
         }
-        if self.filters.fit_with(id, program, budget) {
+        if self.fit_with(id, program, budget) {
             Ok(())
         } else {
             Err(StageFault::Budget)
         }
     }
 
+    /// Whether the filters are within a budget, once the program of one that is listed is replaced by this.
+    fn fit_with(&self, id: u32, program: &[Insn], budget: u32) -> bool
+        requires sound { IsSoundTable self.now.table }
+        requires there { is_none (filter_at self.now.table.filters id) ≡ false }
+        ensures { result ≡ leb (instructions_of (replaced self.now.table.filters id program.now)) budget }
+    {
+        let left = self.instructions_without(id);
+        if left > budget {
+            return false;
+        }
+        program.len() <= (budget - left) as usize
+    }
+
+    /// How many instructions the program of a filter has; 0 where none has this id.
+    fn length_of(&self, id: u32) -> u32
+        requires { IsSoundTable self.now.table }
+        ensures { result ≡ length (program_at self.now.table.filters id) }
+    {
+        match self.filters.get(id) {
+            Some(filter) => filter.program.code().len() as u32,
+            None => 0,
+        }
+    }
+
+    /// The instructions of the filters but one.
+    fn instructions_without(&self, id: u32) -> u32
+        requires { IsSoundTable self.now.table }
+        ensures { result ≡ instructions_of (filter (λ f. not (f.id == id)) self.now.table.filters) }
+    {
+        self.instructions - self.length_of(id)
+    }
+
     /// What `prepare` would answer, memory aside. Takes no memory.
     #[tactic(auto, using(filter_table::proofs::Changes::allowed_if, crate::proofs::Refusals::cannot_program))]
     pub(crate) fn check(&self, room: &mut Room, budget: u32, op: &Op) -> Result<(), StageFault>
-        requires { instructions_of self.now.table.filters ≤ budget }
+        requires fits { instructions_of self.now.table.filters ≤ budget }
+        requires sound { IsSoundTable self.now.table }
         ensures ok { OnOk result (Allowed self.now.table budget op.now None) }
         ensures err { IfErr result (CannotStage self.now.table budget op.now None) }
         ensures memory { result ≡ Err StageFault.NoMemory → ⊥ }
@@ -313,7 +369,8 @@ impl Contents {
         load: Load,
         program: &[Insn],
     ) -> Result<(), StageFault>
-        requires { instructions_of self.now.table.filters ≤ budget }
+        requires fits { instructions_of self.now.table.filters ≤ budget }
+        requires sound { IsSoundTable self.now.table }
         ensures ok { OnOk result (Allowed self.now.table budget (load_op load program.now) None) }
         ensures err { IfErr result (CannotStage self.now.table budget (load_op load program.now) None) }
         ensures memory { result ≡ Err StageFault.NoMemory → ⊥ }
@@ -373,13 +430,22 @@ impl Contents {
         ensures staged { OnOk result (self.new.staged ≡ Some op.now) }
         ensures free { OnErr result (self.new.staged ≡ None) }
     {
-        let filters = self.filters_after(alloc, budget, op, program)?;
+        let _ = budget;
         let made = self.made(op);
         let next_filter = self.next_filter_after(op);
+        let instructions = self.instructions_after(op);
         let caps = prepare_caps(&mut self.caps, self.limits.caps(), op)?;
+        prepare_filters(
+            alloc,
+            &mut self.filters,
+            &self.caps,
+            self.next_filter,
+            op,
+            program,
+        )?;
         self.plan = Some(Plan {
             caps,
-            filters,
+            instructions,
             next_filter,
             made,
             op: Snapshot::of(op),
@@ -395,13 +461,14 @@ impl Contents {
     {
         let Plan {
             caps,
-            filters,
+            instructions,
             next_filter,
             made,
             op: _op,
         } = self.plan.take()?;
         change_caps(&mut self.caps, caps);
-        self.filters.follow(filters, &Remaining::all(&self.caps));
+        self.filters.perform();
+        self.instructions = instructions;
         self.next_filter = next_filter;
         self.version += 1;
         Some(made)
@@ -413,6 +480,7 @@ impl Contents {
     {
         self.plan = None;
         self.caps.forget();
+        self.filters.forget();
     }
 
     /// The id that the next filter gets after an operation.
@@ -427,111 +495,23 @@ impl Contents {
         }
     }
 
-    /// The filters after an operation that no test refuses, where those of the table don't stay.
-    #[tactic(auto, unfolding(filter_table::specs::Tables::after), using(filter_table::proofs::Changes::install_room, filter_table::proofs::Changes::replace_room))]
-    fn filters_after(
-        &self,
-        alloc: Global,
-        budget: u32,
-        op: &Op,
-        program: Option<Verified>,
-    ) -> Result<Option<BoxedFilters>, AllocError>
-        requires allowed { first (tests self.now.table budget op.now) ≡ None }
-        requires program { program ≡ program_of op.now }
-        requires sound { IsSoundTable self.now.table }
-        ensures { IfOk result (λ next. AreNextFilters self.now.table (after self.now.table op.now).filters (after self.now.table op.now).caps next) }
-    {
-        let _ = budget;
-        match op {
-            Op::Create { .. } | Op::Mint { .. } => Ok(None),
-            Op::Revoke { cap, .. } => self.once_revoked(alloc, *cap),
-            Op::DropCap { cap, .. } => self.once_dropped(alloc, *cap),
-            Op::Install { domain, cap, .. } => match program {
-                Some(program) => self.installed(alloc, *domain, *cap, &program),
-                None => unreachable!(),
-            },
-            Op::Remove { filter, .. } => self.removed(alloc, *filter),
-            Op::Replace { filter, .. } => match program {
-                Some(program) => self.replaced(alloc, *filter, &program),
-                None => unreachable!(),
-            },
-        }
-    }
-
-    /// The filters once a capability is revoked, where those of the table don't stay.
-    #[inline(never)]
-    fn once_revoked(&self, alloc: Global, cap: u32) -> Result<Option<BoxedFilters>, AllocError>
-        ensures { IfOk result (λ next. AreNextFilters self.now.table self.now.table.filters (revoked self.now.table.caps cap) next) }
-    {
-        let gone = self.caps.revoked_ids(alloc, cap)?;
-        self.filters.once_gone(alloc, &self.caps, &gone)
-    }
-
-    /// The filters once a capability is dropped, where those of the table don't stay.
-    #[inline(never)]
-    fn once_dropped(&self, alloc: Global, cap: u32) -> Result<Option<BoxedFilters>, AllocError>
-        ensures { IfOk result (λ next. AreNextFilters self.now.table self.now.table.filters (dropped self.now.table.caps cap) next) }
-    {
-        let gone = self.caps.dropped_ids(alloc, cap)?;
-        self.filters.once_gone(alloc, &self.caps, &gone)
-    }
-
-    /// The filters once one is installed.
-    #[inline(never)]
+    /// The instructions of all filters after an operation that no test refuses.
     #[tactic(auto, unfolding(filter_table::specs::Tables::after))]
-    fn installed(
-        &self,
-        alloc: Global,
-        domain: u16,
-        cap: u32,
-        program: &Verified,
-    ) -> Result<Option<BoxedFilters>, AllocError>
-        requires { instructions_of self.now.table.filters + length program.now < 4294967296 }
-        ensures { IfOk result (λ next. next ≡ Some (record { listed = (after self.now.table (Op.Install domain cap program.now)).filters; under = self.now.table.caps })) }
+    fn instructions_after(&self, op: &Op) -> u32
+        requires allowed { (budget : ℕ) × (budget < 4294967296) × (first (tests self.now.table budget op.now) ≡ None) }
+        requires sound { IsSoundTable self.now.table }
+        ensures { result ≡ instructions_of (after self.now.table op.now).filters }
     {
-        let endpoint = match self.caps.get(cap) {
-            Some(cap) => cap.endpoint,
-            None => 0,
-        };
-        let filter = Filter {
-            id: self.next_filter,
-            owner: domain,
-            cap,
-            endpoint,
-            program,
-        };
-        let next = self
-            .filters
-            .with(alloc, &Remaining::all(&self.caps), filter)?;
-        Ok(Some(next))
-    }
-
-    /// The filters without one.
-    #[inline(never)]
-    fn removed(&self, alloc: Global, id: u32) -> Result<Option<BoxedFilters>, AllocError>
-        ensures { IfOk result (λ next. next ≡ Some (record { listed = filter (λ f. not (f.id == id)) self.now.table.filters; under = self.now.table.caps })) }
-    {
-        let next = self
-            .filters
-            .without(alloc, &Remaining::all(&self.caps), id)?;
-        Ok(Some(next))
-    }
-
-    /// The filters once the program of one is replaced.
-    #[inline(never)]
-    fn replaced(
-        &self,
-        alloc: Global,
-        id: u32,
-        program: &Verified,
-    ) -> Result<Option<BoxedFilters>, AllocError>
-        requires { instructions_of (replaced self.now.table.filters id program.now) < 4294967296 }
-        ensures { IfOk result (λ next. next ≡ Some (record { listed = replaced self.now.table.filters id program.now; under = self.now.table.caps })) }
-    {
-        let next = self
-            .filters
-            .replacing(alloc, &Remaining::all(&self.caps), id, program)?;
-        Ok(Some(next))
+        match op {
+            Op::Install { program, .. } => self.instructions + program.as_slice().len() as u32,
+            Op::Remove { filter, .. } => self.instructions_without(*filter),
+            Op::Replace {
+                filter,
+                program,
+                ..
+            } => self.instructions_without(*filter) + program.as_slice().len() as u32,
+            _ => self.instructions,
+        }
     }
 }
 

@@ -5,22 +5,18 @@
 #![tactic(auto)]
 
 mod boxed;
+mod changing;
 mod contents;
-mod filters;
 mod plan;
-mod programs;
-mod reaches;
-mod remaining;
 mod replica;
-mod settling;
 mod shares;
-mod shifts;
 
+pub use boxed::FilterIter;
 pub use bpf_insn::Insn;
 use contents::Contents;
 pub use filter_table::{Kept, Limits, Load, Made, Op, OpFault, Program, StageFault};
 pub use filter_verify::Room;
-pub use filters::{Filter, FilterIter, Scratch};
+pub use installed_filters::{Filter, Scratch};
 pub use replica::Replica;
 
 /// Nothing is staged.

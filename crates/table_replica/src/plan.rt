@@ -2,7 +2,6 @@
 ghost use Rattle.std.specs.Prelude.{◌≡◌, IfOk};
 ghost use Rattle.table_replica.specs.Plans.{change_of, caps_after, IsReady};
 
-use crate::boxed::BoxedFilters;
 use crate::{Made, Op};
 use endpoint_caps::{CapLimits, Caps, Rights};
 use std::alloc::AllocError;
@@ -30,12 +29,12 @@ pub(crate) enum CapChange {
     },
 }
 
-/// What a staged operation will do to the table.
+/// What a staged operation will do to the table. What it does to the filters is planned with these.
 #[derive(Drop)]
 pub(crate) struct Plan {
     pub(crate) caps: CapChange,
-    /// The filters after it, where those of the table don't stay.
-    pub(crate) filters: Option<BoxedFilters>,
+    /// The instructions of all filters after it.
+    pub(crate) instructions: u32,
     pub(crate) next_filter: u32,
     pub(crate) made: Made,
     pub(crate) op: Snapshot<Op>,

@@ -129,7 +129,7 @@ impl Replica {
     pub fn total_instructions(&self) -> u32
         ensures { result ≡ instructions_of self.now.shown.filters }
     {
-        self.contents.filters().instructions()
+        self.contents.instructions()
     }
 
     /// How many different programs the listed filters have.
@@ -168,10 +168,7 @@ impl Replica {
         ensures filters { result ≡ self.now.shown.filters }
         ensures sound { IsSoundTable self.now.shown }
     {
-        FilterIter {
-            filters: self.contents.filters(),
-            next: 0,
-        }
+        self.contents.filters().iter()
     }
 
     /// The endpoints that get a packet by the shown table: those of the listed filters that accept it and whose capability
@@ -185,7 +182,9 @@ impl Replica {
     ) -> Result<Vec<Kept>, AllocError>
         ensures { IfOk result (λ kept. Accepting self.now.shown (record { bytes = bytes.now; original = original }) kept.items) }
     {
-        self.contents.filters().accepting(alloc, bytes, original)
+        let mut scratch = Scratch::new(alloc);
+        self.accepting_with(&mut scratch, bytes, original)?;
+        Ok(scratch.into_kept())
     }
 
     /// The same, in place of what the scratch kept. Takes memory only where the scratch was never as long as the packet needs.

@@ -4,6 +4,7 @@ pub mod SameRuns
 pub mod NotRefused
 pub mod Once
 pub mod Outcomes
+pub mod Growing
 pub mod Accepted
 pub mod Tallied
 pub mod Spending

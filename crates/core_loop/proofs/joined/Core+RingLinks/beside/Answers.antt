@@ -2,7 +2,8 @@ use Rattle.std.proofs.Common.{ℕ, subst}
 use Rattle.core_links.specs.declared.ring_links.RingLinks.{RingLinks}
 use Rattle.core_links.specs.Views.{IsSameView}
 use Rattle.core_loop.specs.Cores.{CoreState}
-use Rattle.core_links.specs.RingSlots.{ring_view}
+use Rattle.core_links.specs.Flows.{LooksAt}
+use Rattle.core_links.specs.RingSlots.{own_of, ring_view}
 use Rattle.core_loop.proofs.Resting.{stands_same}
 use Rattle.core_loop.proofs.Stopped.{seen_stopped}
 use Rattle.core_loop.proofs.joined.Core+RingLinks.beside.Goals as goal
@@ -40,3 +41,8 @@ returns-clause-here c = subst (λ (s : CoreState RingLinks). (p : ℕ) → IsSam
 
 pub returns-clause-there : goal.returns-clause-there
 returns-clause-there c = subst (λ (s : CoreState RingLinks). (p : ℕ) → IsSameView (ring_view s.links p) (ring_view c.beside.new.other p)) c.other.view_is c.beside.ensures.there
+
+pub returns-clause-still : goal.returns-clause-still
+returns-clause-still c =
+    subst (λ (s : CoreState RingLinks). LooksAt (own_of c.args.other.now.links) s.links c.beside.new.self × LooksAt (own_of s.links) c.args.other.now.links c.beside.new.other) c.self.view_is
+    (subst (λ (s : CoreState RingLinks). LooksAt (own_of s.links) c.self.inside.links c.beside.new.self × LooksAt (own_of c.self.inside.links) s.links c.beside.new.other) c.other.view_is c.beside.ensures.still)

@@ -1,0 +1,14 @@
+use Rattle.std.proofs.Common.{◌≡◌, List, ap, nat_eq, subst, sym, ℕ}
+use Rattle.std.specs.Map.{remove_entry, set_value}
+use Rattle.chunked.specs.Maps.{SortedMap}
+use Rattle.installed_filters.specs.declared.books.Row.{Row}
+use Rattle.installed_filters.specs.Books.{Adds, lapsed_row}
+use Rattle.installed_filters.proofs.Rows.{adds_removed, adds_set}
+use Rattle.installed_filters.proofs.changes.lapse_one.Goals as goal
+
+pub returns-clause-booked : goal.returns-clause-booked
+returns-clause-booked c = λ booked.
+    let rows = c.args.rows.now.entries in
+    let is : c.set.new.self.entries ≡ set_value (nat_eq c.args.id) rows (lapsed_row c.args.row) = ap (λ (m : SortedMap Row). m.entries) c.set.ensures.entries in
+    c.lapse.ensures.booked rows (remove_entry (nat_eq c.args.id) rows) c.set.new.self.entries booked (adds_removed rows c.args.id c.args.row c.requires.there)
+    (subst (λ (es : List (ℕ × Row)). Adds (remove_entry (nat_eq c.args.id) rows) (lapsed_row c.args.row) es) (sym is) (adds_set rows c.args.id c.args.row (lapsed_row c.args.row) c.requires.there))

@@ -1,0 +1,29 @@
+use Rattle.std.proofs.Common.{List, ap, length, map, subst, sym}
+use Rattle.bpf_insn.specs.Machine.{Packet}
+use Rattle.filter_group.specs.declared.lockstep.Hit.{Hit}
+use Rattle.filter_table.specs.Tables.{AreReceivers}
+use Rattle.installed_filters.specs.Counts.{AreWithin}
+use Rattle.installed_filters.specs.Keeping.{AreApart, AreKept, GetsBy}
+use Rattle.installed_filters.specs.Installed.{AreHeldBy, Installed, Standing}
+use Rattle.installed_filters.proofs.Received.{hits_apart, hits_within, received}
+use Rattle.installed_filters.proofs.filters.Filters.accepting_with.Goals as goal
+
+pub receive-requires-clause-inside : goal.receive-requires-clause-inside
+receive-requires-clause-inside c =
+    let packet : Packet = record { bytes = c.args.bytes.now; original = c.args.original } in
+    subst (λ (hs : List Hit). AreWithin c.self.inside.reaches.ends hs) (sym c.deref.ensures.value)
+    (hits_within c.self.inside.rows.entries c.self.inside.slots.slots c.self.inside.reaches.ends c.self.inside.lists c.self.invariant.0 packet c.run.new.lists.hits.items c.in_ok-run.ensures)
+
+pub receive-requires-clause-apart : goal.receive-requires-clause-apart
+receive-requires-clause-apart c =
+    let packet : Packet = record { bytes = c.args.bytes.now; original = c.args.original } in
+    subst AreApart (sym c.deref.ensures.value)
+    (hits_apart c.self.inside.rows.entries c.self.inside.slots.slots c.self.inside.reaches.ends c.self.inside.lists c.self.invariant.0 packet c.run.new.lists.hits.items c.in_ok-run.ensures)
+
+pub returns : goal.returns
+returns c = λ caps.
+    let packet : Packet = record { bytes = c.args.bytes.now; original = c.args.original } in
+    let ends = c.self.inside.reaches.ends in
+    let h = subst (λ (hs : List Hit). AreKept (GetsBy ends hs) (length c.args.bytes.now) c.receive.new.kept.items) c.deref.ensures.value c.in_ok-receive.ensures in
+    subst (λ (fs : List Installed). AreHeldBy caps fs → AreReceivers caps (map (λ f. f.filter) fs) packet c.receive.new.kept.items) (ap (λ (s : Standing). s.now) c.self.view_is)
+    (λ held. received c.self.inside.rows.entries c.self.inside.slots.slots ends c.self.inside.lists c.self.invariant.0 packet c.run.new.lists.hits.items c.in_ok-run.ensures caps held c.receive.new.kept.items h)

@@ -1,0 +1,16 @@
+use Rattle.std.proofs.Common.{◌∙◌, List, ℕ, ap, map, subst, sym}
+use Rattle.installed_filters.specs.declared.books.Row.{Row}
+use Rattle.installed_filters.specs.Installed.{Standing}
+use Rattle.installed_filters.specs.Lent.{AreLendable, listed, listed_row}
+use Rattle.installed_filters.proofs.Different.{lendable, listed_rows}
+use Rattle.installed_filters.proofs.filters.Filters.iter.Goals as goal
+
+pub invariant_of-result : goal.invariant_of-result
+invariant_of-result c =
+    let i = c.self.inside in
+    subst (λ (es : List (ℕ × Row)). AreLendable i.slots.slots es) (sym c.iter.ensures.entries) (lendable i.rows.entries i.slots.slots i.reaches.ends i.lists c.self.invariant.0)
+
+pub returns : goal.returns
+returns c =
+    let i = c.self.inside in
+    ap (map (listed_row i.slots.slots)) c.iter.ensures.entries ∙ (sym (listed_rows i.slots.slots i.rows.entries) ∙ ap (λ (s : Standing). listed s.now) c.self.view_is)

@@ -1,0 +1,37 @@
+use Rattle.std.proofs.Common.{◌≡◌, ◌≢◌, ◌<◌, ◌+◌, ◌-◌, ◌∙◌, ◌↔◌, List, ℕ, ap, arith, get_or, length, subst}
+use Rattle.std.proofs.lemmas.Option.{slice_get_within}
+use Rattle.bpf_insn.specs.declared.insn.Insn.{Insn}
+use Rattle.installed_filters.specs.Numbering.{Has, Numbering}
+use Rattle.installed_filters.proofs.Numbers.{numbered_less, has_left}
+use Rattle.installed_filters.proofs.numbered.Numbered.less.Goals as goal
+
+pub invariant_of-result : goal.invariant_of-result
+invariant_of-result c =
+    let taken = c.in-Some.place in
+    let before : Numbering = record { programs = c.self.inside.programs; numbers = c.self.inside.numbers.items } in
+    let w = c.in_ok-programs.ensures in
+    let inside = slice_get_within c.self.inside.programs taken c.args.program.now c.in-Some.ensures in
+    let ok = c.self.inside.numbers.ok.0 in
+    let ok' = c.swap_remove.new.self.ok.0 in
+    let len = c.swap_remove.ensures.len in
+    let moved : taken + 1 < length before.numbers → get_or c.swap_remove.new.self.items taken 0 ≡ get_or before.numbers (length before.numbers - 1) 0 =
+    λ low. c.swap_remove.ensures.by_index.0 0 (omega (arith, low, ok)) ∙ ap (λ (n : ℕ). get_or before.numbers (n - 1) 0) ok in
+    let others : (k : ℕ) → k ≢ taken → k + 1 < length before.numbers → get_or c.swap_remove.new.self.items k 0 ≡ get_or before.numbers k 0 =
+    λ k off low. c.swap_remove.ensures.by_index.1 k 0 off (omega (arith, low, ok)) in
+    numbered_less before taken c.in_ok-programs.programs c.swap_remove.new.self.items c.self.invariant w inside moved others (omega (arith, ok, ok', len))
+
+pub returns : goal.returns
+returns c =
+    let taken = c.in-Some.place in
+    let before : Numbering = record { programs = c.self.inside.programs; numbers = c.self.inside.numbers.items } in
+    let w = c.in_ok-programs.ensures in
+    let inside = slice_get_within c.self.inside.programs taken c.args.program.now c.in-Some.ensures in
+    let ok = c.self.inside.numbers.ok.0 in
+    let ok' = c.swap_remove.new.self.ok.0 in
+    let len = c.swap_remove.ensures.len in
+    let moved : taken + 1 < length before.numbers → get_or c.swap_remove.new.self.items taken 0 ≡ get_or before.numbers (length before.numbers - 1) 0 =
+    λ low. c.swap_remove.ensures.by_index.0 0 (omega (arith, low, ok)) ∙ ap (λ (n : ℕ). get_or before.numbers (n - 1) 0) ok in
+    let others : (k : ℕ) → k ≢ taken → k + 1 < length before.numbers → get_or c.swap_remove.new.self.items k 0 ≡ get_or before.numbers k 0 =
+    λ k off low. c.swap_remove.ensures.by_index.1 k 0 off (omega (arith, low, ok)) in
+    subst (λ (n : Numbering). (number : ℕ) (other : List Insn) → Has (record { programs = c.in_ok-programs.programs; numbers = c.swap_remove.new.self.items }) number other ↔ (Has n number other × (other ≡ c.args.program.now → ⊥))) c.self.view_is
+    (has_left before taken c.in_ok-programs.programs c.swap_remove.new.self.items c.self.invariant w inside moved others (omega (arith, ok, ok', len)) c.args.program.now c.in-Some.ensures)

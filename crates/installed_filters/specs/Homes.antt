@@ -1,0 +1,34 @@
+-- Where the program of a filter that comes is kept.
+use Rattle.std.specs.Prelude.{◌≡◌, ◌==◌, ◌<◌, ℕ, true, Option, Some, None, List, [], length, if◌then◌else◌}
+use Rattle.bpf_insn.specs.declared.insn.Insn.{Insn}
+use Rattle.installed_filters.specs.declared.slots.Slot.{Slot}
+use Rattle.installed_filters.specs.Slotting.{slot_at, one_more}
+use Rattle.installed_filters.specs.declared.homes.Home.{Home}
+use Rattle.installed_filters.specs.declared.lists.Lists.{Lists}
+use Rattle.installed_filters.specs.Books.{Begins, base_slot}
+use Rattle.installed_filters.specs.Listing.{AreListed}
+
+-- no two numbers have one program
+abbrev pub AreProgramsApart : List (Option Slot) → Type 0
+AreProgramsApart slots = (i j : ℕ) (s t : Slot) → slot_at slots i ≡ Some s → slot_at slots j ≡ Some t → s.program ≡ t.program → i ≡ j
+
+abbrev pub program_in : Option Slot → List Insn
+program_in None = []
+program_in (Some s) = s.program
+
+-- the lists afterwards, if they are others
+abbrev pub lists_after : Option Lists → Lists → Lists
+lists_after None lists = lists
+lists_after (Some others) lists = others
+
+-- the slots once a filter came whose capability is held
+abbrev pub slots_with : List (Option Slot) → ℕ → Option (List Insn) → ℕ → Option Slot
+slots_with slots number program m = (if m == number then one_more true (base_slot slots number program) else slot_at slots m)
+
+-- the program is kept there, or will be
+pub record IsHome (slots : List (Option Slot)) (ends : ℕ) (lists : Lists) (program : List Insn) (home : Home) : Type 0 where
+  pub begins : Begins slots home.number home.program
+  pub own : program_in (base_slot slots home.number home.program) ≡ program
+  pub inside : home.number < length slots
+  pub number : home.number < ends
+  pub listed : AreListed (slots_with slots home.number home.program) (lists_after home.lists lists).running (lists_after home.lists lists).resting

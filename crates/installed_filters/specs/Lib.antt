@@ -1,0 +1,12 @@
+pub mod Books
+pub mod Listing
+pub mod Homes
+pub mod Leaving
+pub mod Lapsing
+pub mod Installed
+pub mod Planning
+pub mod Counts
+pub mod Keeping
+pub mod Numbering
+pub mod Slotting
+pub mod Lent

@@ -1,0 +1,298 @@
+//! The filters, and what is planned of them.
+ghost use Rattle.std.specs.Prelude.{◌≡◌, ◌==◌, ◌<◌, ◌++◌, ◌∷◌, [], ℕ, None, Some, IsSome, true, not, filter, length, IfOk, OnOk, OnErr};
+ghost use Rattle.installed_filters.specs.Homes.{lists_after};
+ghost use Rattle.installed_filters.specs.Leaving.{IsListedBy, IsOneOf};
+ghost use Rattle.installed_filters.specs.Planning.{IsExchange};
+ghost use Rattle.std.specs.List.{Contains};
+ghost use Rattle.installed_filters.specs.Installed.{Installed, AreHeldBy, lapsed_under, replaced_by};
+ghost use Rattle.std.specs.Prelude.{List, map};
+ghost use Rattle.endpoint_caps.specs.declared.Cap.{Cap as AnyCap};
+ghost use Rattle.filter_table.specs.Tables.{AreReceivers};
+
+use crate::books::Row;
+use crate::changes::{Change, carry_out};
+use crate::homes::{Home, home_of};
+use crate::lapsing::{lapsing_under, lists_lapsed};
+use crate::leaving::{lists_swapped, lists_without};
+use crate::lists::Lists;
+use crate::reaches::Reaches;
+use crate::receiving::Scratch;
+use crate::slots::{Slot, Slots};
+use chunked::Sorted;
+use filter_group::Shared;
+use filter_verify::Verified;
+use std::alloc::{AllocError, Global};
+use std::marker::Model;
+
+/// Filters in order of installation. Each program is kept once, and a packet is run on those of the filters whose capability is held.
+/// A change is planned first, which takes all memory, and then done, which takes none and can't fail.
+pub struct Filters {
+    pub(crate) rows: Sorted<Row>,
+    pub(crate) slots: Slots,
+    pub(crate) reaches: Reaches,
+    pub(crate) lists: Lists,
+    pub(crate) change: Option<Change>,
+}
+
+// By hand, so that the proofs of its owners have one call and not a drop of each part.
+impl Drop for Filters {
+    fn drop(self) {
+        let Filters {
+            rows: _,
+            slots: _,
+            reaches: _,
+            lists: _,
+            change: _,
+        } = self;
+    }
+}
+
+impl Model for Filters {
+    ghost use Rattle.installed_filters.specs.Installed.{Standing, installed};
+    ghost use Rattle.installed_filters.specs.Planning.{next_of, IsKept, IsPlanned};
+
+    ghost Value = { Standing };
+
+    ghost view = { λ a. record { now = installed a.slots.slots a.rows.entries; next = next_of a.slots.slots a.rows.entries a.change } };
+
+    ghost invariant = { λ a. IsKept a.rows.entries a.slots.slots a.reaches.ends a.lists × IsPlanned a.rows a.slots a.reaches a.lists a.change };
+}
+
+impl Filters {
+    /// No filter. Takes no memory.
+    pub fn new(alloc: Global) -> Filters
+        ensures { result ≡ record { now = []; next = None } }
+    {
+        Filters {
+            rows: Sorted::new(alloc),
+            slots: Slots::new(alloc),
+            reaches: Reaches::new(alloc),
+            lists: Lists::new(alloc),
+            change: None,
+        }
+    }
+
+    /// How many filters there are.
+    pub fn len(&self) -> usize
+        ensures { result ≡ length self.now.now }
+    {
+        self.rows.len()
+    }
+
+    /// Plans a filter more, which comes last and whose capability is held. The filters stay, whatever the result.
+    pub fn prepare_install(
+        &mut self,
+        alloc: Global,
+        id: u32,
+        owner: u16,
+        cap: u32,
+        endpoint: u16,
+        program: &Verified,
+    ) -> Result<(), AllocError>
+        requires free { self.old.next ≡ None }
+        requires last { (f : Installed) → Contains self.old.now f → f.filter.id < id }
+        requires below { id < 4294967295 }
+        ensures now { self.new.now ≡ self.old.now }
+        ensures planned { OnOk result (self.new.next ≡ Some (self.old.now ++ record { filter = record { id = id; owner = owner; cap = cap; endpoint = endpoint; program = program.now }; held = true } ∷ [])) }
+        ensures free { OnErr result (self.new.next ≡ None) }
+    {
+        let program = Shared::new(alloc, program.clone()?)?;
+        let _count = self.rows.len();
+        self.rows.reserve()?;
+        let home = home_of(
+            alloc,
+            &mut self.slots,
+            &mut self.reaches,
+            &self.lists,
+            program,
+        )?;
+        self.reaches.reserve(alloc, home.number, endpoint)?;
+        self.change = Some(coming(id, owner, cap, endpoint, home));
+        Ok(())
+    }
+
+    /// Plans that a filter goes. The filters stay, whatever the result.
+    pub fn prepare_remove(&mut self, alloc: Global, id: u32) -> Result<(), AllocError>
+        requires free { self.old.next ≡ None }
+        requires there { (f : Installed) × Contains self.old.now f × (f.filter.id ≡ id) }
+        ensures now { self.new.now ≡ self.old.now }
+        ensures planned { OnOk result (self.new.next ≡ Some (filter (λ f. not (f.filter.id == id)) self.old.now)) }
+        ensures free { OnErr result (self.new.next ≡ None) }
+    {
+        let row = match self.rows.get(u64::from(id)) {
+            Some(row) => *row,
+            None => unreachable!(),
+        };
+        self.slots.reserve()?;
+        let slot = match self.slots.get(row.number) {
+            Some(slot) => slot,
+            None => unreachable!(),
+        };
+        let lists = lists_without(alloc, &self.lists, row, slot)?;
+        self.change = Some(Change::Remove {
+            id,
+            row,
+            next: lists,
+        });
+        Ok(())
+    }
+
+    /// Plans that a filter gets another program. The filters stay, whatever the result.
+    pub fn prepare_replace(
+        &mut self,
+        alloc: Global,
+        id: u32,
+        program: &Verified,
+    ) -> Result<(), AllocError>
+        requires free { self.old.next ≡ None }
+        requires there { (f : Installed) × Contains self.old.now f × (f.filter.id ≡ id) }
+        requires held { (f : Installed) → Contains self.old.now f → f.filter.id ≡ id → f.held ≡ true }
+        requires few { length self.old.now < 4294967295 }
+        ensures now { self.new.now ≡ self.old.now }
+        ensures planned { OnOk result (self.new.next ≡ Some (map (replaced_by id program.now) self.old.now)) }
+        ensures free { OnErr result (self.new.next ≡ None) }
+    {
+        let program = Shared::new(alloc, program.clone()?)?;
+        let _count = self.rows.len();
+        let old = match self.rows.get(u64::from(id)) {
+            Some(row) => *row,
+            None => unreachable!(),
+        };
+        let home = home_of(
+            alloc,
+            &mut self.slots,
+            &mut self.reaches,
+            &self.lists,
+            program,
+        )?;
+        if home.number == old.number {
+            self.change = Some(Change::Stay);
+            return Ok(());
+        }
+        self.slots.reserve()?;
+        self.reaches.reserve(alloc, home.number, old.endpoint)?;
+        let slot = match self.slots.get(old.number) {
+            Some(slot) => slot,
+            None => unreachable!(),
+        };
+        let change = exchanging(alloc, &self.lists, id, old, slot, home)?;
+        self.change = Some(change);
+        Ok(())
+    }
+
+    /// Plans that the capabilities with these ids are not held any more. The filters stay, whatever the result.
+    pub fn prepare_lapse(&mut self, alloc: Global, gone: &Sorted<()>) -> Result<(), AllocError>
+        requires free { self.old.next ≡ None }
+        ensures now { self.new.now ≡ self.old.now }
+        ensures planned { OnOk result (self.new.next ≡ Some (map (lapsed_under gone.now.entries) self.old.now)) }
+        ensures free { OnErr result (self.new.next ≡ None) }
+    {
+        let _count = self.rows.len();
+        let lapsing = lapsing_under(alloc, &self.rows, gone)?;
+        let lists = lists_lapsed(alloc, &self.slots, &self.lists, &lapsing)?;
+        self.change = Some(Change::Lapse {
+            lapsing,
+            next: lists,
+        });
+        Ok(())
+    }
+
+    /// Does what is planned. Takes no memory.
+    pub fn perform(&mut self)
+        requires { IsSome self.old.next }
+        ensures now { (next : List Installed) → self.old.next ≡ Some next → self.new.now ≡ next }
+        ensures free { self.new.next ≡ None }
+    {
+        match self.change.take() {
+            Some(change) => carry_out(
+                &mut self.rows,
+                &mut self.slots,
+                &mut self.reaches,
+                &mut self.lists,
+                change,
+            ),
+            None => unreachable!(),
+        }
+    }
+
+    /// Gives up what is planned. Takes no memory.
+    pub fn forget(&mut self)
+        ensures { self.new ≡ record { now = self.old.now; next = None } }
+    {
+        self.change = None;
+    }
+
+    /// The endpoints that get a packet, in increasing order, each with the number of bytes that it keeps, in place of what the scratch
+    /// kept. Takes memory only where the scratch was never as long as the packet needs.
+    pub fn accepting_with(
+        &self,
+        scratch: &mut Scratch,
+        bytes: &[u8],
+        original: u32,
+    ) -> Result<(), AllocError>
+        ensures { OnOk result ((caps : List AnyCap) → AreHeldBy caps self.now.now → AreReceivers caps (map (λ f. f.filter) self.now.now) (record { bytes = bytes.now; original = original }) scratch.new.kept.items) }
+    {
+        let _count = self.rows.len();
+        self.lists.running.run(&mut scratch.lists, bytes, original)?;
+        self.reaches.receive(
+            &scratch.lists.hits,
+            bytes.len(),
+            &mut scratch.verdicts,
+            &mut scratch.kept,
+        )?;
+        Ok(())
+    }
+}
+
+/// A filter comes whose capability is held.
+fn coming(id: u32, owner: u16, cap: u32, endpoint: u16, home: Home) -> Change
+    ensures { result ≡ Change.Install id (record { owner = owner; cap = cap; endpoint = endpoint; held = true; number = home.number }) home.program home.lists }
+{
+    let Home {
+        number,
+        program,
+        lists,
+    } = home;
+    let row = Row {
+        owner,
+        cap,
+        endpoint,
+        held: true,
+        number,
+    };
+    Change::Install {
+        id,
+        row,
+        program,
+        next: lists,
+    }
+}
+
+/// A filter gets the program of a home, and leaves that of a slot.
+fn exchanging(
+    alloc: Global,
+    lists: &Lists,
+    id: u32,
+    old: Row,
+    slot: &Slot,
+    home: Home,
+) -> Result<Change, AllocError>
+    requires one { IsOneOf (Some slot.now) old.held }
+    requires listed { IsListedBy (lists_after home.lists lists.now) old.number slot.now }
+    ensures { IfOk result (IsExchange lists.now id old slot.now home) }
+{
+    let Home {
+        number,
+        program,
+        lists: next,
+    } = home;
+    let lists = lists_swapped(alloc, lists, next, old, slot)?;
+    let row = Row { number, ..old };
+    Ok(Change::Replace {
+        id,
+        old,
+        row,
+        program,
+        next: lists,
+    })
+}
