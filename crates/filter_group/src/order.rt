@@ -48,7 +48,7 @@ fn program_order(a: &[Insn], b: &[Insn]) -> Ordering
 }
 
 /// How many of the ordered programs come before one.
-pub(crate) fn rank_of(placed: &Placements, order: &[usize], program: &[Insn]) -> usize
+pub(crate) fn rank_of(placed: &Placements, order: &[u32], program: &[Insn]) -> usize
     requires { IsOrder placed.now order.now }
     ensures { IsRank placed.now order.now program.now result }
 {
@@ -56,7 +56,7 @@ pub(crate) fn rank_of(placed: &Placements, order: &[usize], program: &[Insn]) ->
     let mut high = order.len();
     while low < high {
         let middle = low + (high - low) / 2;
-        let place = order[middle];
+        let place = order[middle] as usize;
         let other = placed.at(place).verified().code();
         if program_order(other, program).is_lt() {
             low = middle + 1;
@@ -70,7 +70,7 @@ pub(crate) fn rank_of(placed: &Placements, order: &[usize], program: &[Insn]) ->
 /// The place of a program of this one's shape, which is a neighbour of this one's rank if there is any.
 pub(crate) fn near_to(
     placed: &Placements,
-    order: &[usize],
+    order: &[u32],
     rank: usize,
     program: &Verified,
 ) -> Option<usize>
@@ -85,10 +85,10 @@ pub(crate) fn near_to(
 }
 
 /// The place of the program of this rank, if it has this one's shape.
-fn alike_at(placed: &Placements, order: &[usize], rank: usize, program: &Verified) -> Option<usize>
+fn alike_at(placed: &Placements, order: &[u32], rank: usize, program: &Verified) -> Option<usize>
     requires { IsOrder placed.now order.now }
 {
-    let place = *order.get(rank)?;
+    let place = *order.get(rank)? as usize;
     if are_one_shape(placed.at(place).verified(), program) {
         Some(place)
     } else {
@@ -99,32 +99,47 @@ fn alike_at(placed: &Placements, order: &[usize], rank: usize, program: &Verifie
 /// The order once a place is put into it.
 pub(crate) fn order_with(
     alloc: Global,
-    order: &[usize],
+    order: &[u32],
     rank: usize,
     place: usize,
-) -> Result<Vec<usize>, AllocError>
+) -> Result<Vec<u32>, AllocError>
     requires { rank ≤ length order.now }
     ensures { IfOk result (λ after. after.items ≡ insert order.now rank place) }
 {
+    let place = in_half(place)?;
     let mut after = Vec::with_capacity(alloc, order.len() + 1)?;
     after.extend_from_slice(order)?;
     after.insert(rank, place)?;
     Ok(after)
 }
 
-/// The order once the program at a place is taken out, and the last has its place.
-pub(crate) fn order_without(mut order: Vec<usize>, taken: usize, last: usize) -> Vec<usize>
-    requires { (rank : ℕ) × (slice_get order.items rank ≡ Some taken) }
-    ensures { (rank : ℕ) × (slice_get order.items rank ≡ Some taken) × (result.items ≡ map (place_once_taken taken last) (remove order.items rank)) }
+/// A place in half the room: an order is copied by each change.
+fn in_half(place: usize) -> Result<u32, AllocError>
+    ensures { IfOk result (λ half. half ≡ place) }
 {
+    // No list is that long.
+    u32::try_from(place).ok().ok_or(AllocError)
+}
+
+/// The order once the program at a place is taken out, and the last has its place.
+pub(crate) fn order_without(
+    mut order: Vec<u32>,
+    taken: usize,
+    last: usize,
+) -> Result<Vec<u32>, AllocError>
+    requires { (rank : ℕ) × (slice_get order.items rank ≡ Some taken) }
+    ensures { IfOk result (λ left. (rank : ℕ) × (slice_get order.items rank ≡ Some taken) × (left.items ≡ map (place_once_taken taken last) (remove order.items rank))) }
+{
+    let taken = in_half(taken)?;
+    let last = in_half(last)?;
     let rank = rank_at(&order, taken);
     order.remove(rank);
     rename(order.as_mut_slice(), taken, last);
-    order
+    Ok(order)
 }
 
 /// Where a place is in the order.
-fn rank_at(order: &[usize], place: usize) -> usize
+fn rank_at(order: &[u32], place: u32) -> usize
     requires { (rank : ℕ) × (slice_get order.now rank ≡ Some place) }
     ensures { slice_get order.now result ≡ Some place }
 {
@@ -137,7 +152,7 @@ fn rank_at(order: &[usize], place: usize) -> usize
 }
 
 /// Gives the last place the number of the one that was taken.
-fn rename(order: &mut [usize], taken: usize, last: usize)
+fn rename(order: &mut [u32], taken: u32, last: u32)
     ensures { order.new ≡ map (place_once_taken taken last) order.old }
 {
     for rank in 0..order.len() {
@@ -146,7 +161,7 @@ fn rename(order: &mut [usize], taken: usize, last: usize)
 }
 
 /// A place once the last has the one that was taken.
-fn once_taken(taken: usize, last: usize, place: usize) -> usize
+fn once_taken(taken: u32, last: u32, place: u32) -> u32
     ensures { result ≡ place_once_taken taken last place }
 {
     if place == last { taken } else { place }
