@@ -24,8 +24,10 @@ use Rattle.mk_script.specs.Words.{number_below}
 use Rattle.sim_lines.specs.Events.{event_words, answer_words, done_line, left_line}
 use Rattle.trace_text.specs.Traces.{item_of, trace_item, IsNamedIn}
 use Rattle.world_events.specs.Memory.{lacked_memory}
-use Rattle.trace_text.proofs.AnswerLemmas.{answer_lf, answer_short}
-use Rattle.trace_text.proofs.LineLemmas.{before_colon, after_colon, IsAlone, stands_alone}
+use Rattle.trace_text.proofs.AnswerLemmas.{answer_short}
+use Rattle.trace_text.proofs.DrawLemmas.{event_words_are, words_colon, told_line_is, line_lf}
+use Rattle.trace_text.proofs.LineLemmas.{before_at, after_at, IsAlone, stands_alone}
+use Rattle.trace_text.proofs.ToldLemmas.{event_parts}
 use Rattle.trace_text.proofs.TextLemmas.{is_lf, is_colon, Lacks, lacks_append, decimal_lf, decimal_colon, decimal_blank, decimal_some, decimal_is_number, decimal_below, words_then, words_one}
 
 -- The text of a line, without its LF
@@ -36,11 +38,8 @@ event_text d = event_words d.event ++ 58 ∷ 32 ∷ answer_words d.answer
 abbrev pub left_text : ℕ → ℕ → List ℕ
 left_text core number = codes "left " ++ decimal core ++ codes " " ++ decimal number
 
-regroup : (a b c d more : List ℕ) → a ++ b ++ c ++ d ++ more ≡ a ++ (b ++ c) ++ (d ++ more)
-regroup a b c d more = simp append_assoc
-
 pub event_line_is : (d : Done) (more : List ℕ) → done_line d ++ more ≡ event_text d ++ 10 ∷ more
-event_line_is d more = regroup (event_words d.event) (58 ∷ 32 ∷ []) (answer_words d.answer) (10 ∷ []) more
+event_line_is d more = ap (λ l. l ++ more) (told_line_is d.event (Ok d.answer)) ∙ append_assoc (event_text d) (10 ∷ []) more
 
 pub left_line_is : (core number : ℕ) (more : List ℕ) → left_line core number ++ more ≡ left_text core number ++ 10 ∷ more
 left_line_is core number more = append_assoc (left_text core number) (10 ∷ []) more
@@ -50,22 +49,8 @@ left_line_is core number more = append_assoc (left_text core number) (10 ∷ [])
 two_lack : (p : ℕ → Bool) (n m : ℕ) → p 32 ≡ false → Lacks p (decimal n) → Lacks p (decimal m) → Lacks p (decimal n ++ codes " " ++ decimal m)
 two_lack p n m blank first second = lacks_append p (decimal n ++ 32 ∷ []) (decimal m) (lacks_append p (decimal n) (32 ∷ []) first (rw blank refl)) second
 
-words_lf : (e : Event) → Lacks is_lf (event_words e)
-words_lf (Start op) = refl
-words_lf (Submit core op) = decimal_lf core
-words_lf (StartFor core) = decimal_lf core
-words_lf (Take to from short) = two_lack is_lf to from refl (decimal_lf to) (decimal_lf from)
-words_lf (Rx core number packet floor) = two_lack is_lf core number refl (decimal_lf core) (decimal_lf number)
-
-words_colon : (e : Event) → Lacks is_colon (event_words e)
-words_colon (Start op) = refl
-words_colon (Submit core op) = decimal_colon core
-words_colon (StartFor core) = decimal_colon core
-words_colon (Take to from short) = two_lack is_colon to from refl (decimal_colon to) (decimal_colon from)
-words_colon (Rx core number packet floor) = two_lack is_colon core number refl (decimal_colon core) (decimal_colon number)
-
 pub event_lf : (d : Done) → Lacks is_lf (event_text d)
-event_lf d = lacks_append is_lf (event_words d.event) (58 ∷ 32 ∷ answer_words d.answer) (words_lf d.event) (answer_lf d.answer)
+event_lf d = line_lf d.event (Ok d.answer)
 
 pub left_lf : (core number : ℕ) → Lacks is_lf (left_text core number)
 left_lf core number = two_lack is_lf core number refl (decimal_lf core) (decimal_lf number)
@@ -98,20 +83,6 @@ two_numbers word n m some none =
     words_then word (decimal n ++ codes " " ++ decimal m) some none
     ∙ ap (λ l. word ∷ words_of l) (append_assoc (decimal n) (32 ∷ []) (decimal m))
     ∙ ap (λ l. word ∷ l) (one_number (decimal n) m (decimal_some n) (decimal_blank n))
-
-abbrev event_parts : Event → List (List ℕ)
-event_parts (Start op) = codes "start" ∷ []
-event_parts (Submit core op) = codes "submit" ∷ decimal core ∷ []
-event_parts (StartFor core) = codes "startfor" ∷ decimal core ∷ []
-event_parts (Take to from short) = codes "take" ∷ decimal to ∷ decimal from ∷ []
-event_parts (Rx core number packet floor) = codes "rx" ∷ decimal core ∷ decimal number ∷ []
-
-words_are : (e : Event) → words_of (event_words e) ≡ event_parts e
-words_are (Start op) = refl
-words_are (Submit core op) = one_number (codes "submit") core (omega arith) refl
-words_are (StartFor core) = one_number (codes "startfor") core (omega arith) refl
-words_are (Take to from short) = two_numbers (codes "take") to from (omega arith) refl
-words_are (Rx core number packet floor) = two_numbers (codes "rx") core number (omega arith) refl
 
 -- What the words ask for
 
@@ -160,8 +131,8 @@ event_asks : (jobs : List Event) (d : Done) → IsNamedIn jobs d.event → trace
 event_asks jobs d is =
     let front = event_words d.event in
     let more = 32 ∷ answer_words d.answer in
-    line_asks jobs (event_text d) front more (has_colon front more) (before_colon front more (words_colon d.event)) (after_colon front more (words_colon d.event))
-    ∙ ap (λ w. event_draft jobs w (words_of more)) (words_are d.event)
+    line_asks jobs (event_text d) front more (has_colon front more) (before_at is_colon 58 front more refl (words_colon d.event)) (after_at is_colon 58 front more refl (words_colon d.event))
+    ∙ ap (λ w. event_draft jobs w (words_of more)) (event_words_are d.event)
     ∙ parts_ask jobs d.event (words_of more) d.answer is (answer_short d.answer)
 
 left_is : (word first second : List ℕ) → word ≡ codes "left" → (n m : ℕ) → first ≡ decimal n → second ≡ decimal m → is_left (word ∷ first ∷ second ∷ []) ≡ true

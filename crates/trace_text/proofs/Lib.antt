@@ -1,5 +1,10 @@
 pub mod TextLemmas
 pub mod LineLemmas
+pub mod WordLemmas
+pub mod DigitLemmas
+pub mod ToldLemmas
+pub mod DrawLemmas
+pub mod PrintedLemmas
 pub mod AnswerLemmas
 pub mod EventLemmas
 pub mod TraceLemmas

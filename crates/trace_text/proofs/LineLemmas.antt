@@ -8,7 +8,7 @@ use Rattle.bpf_insn.specs.Texts.{is_blank, words_of}
 use Rattle.filter_asm.specs.Program.{ended, text_lines}
 use Rattle.filter_asm.proofs.LineLemmas.{parts_some}
 use Rattle.mk_script.specs.Statements.{is_skipped, opens_block}
-use Rattle.trace_text.proofs.TextLemmas.{is_lf, is_colon, Lacks, lacks_all, not_empty}
+use Rattle.trace_text.proofs.TextLemmas.{is_lf, Lacks, lacks_all, not_empty}
 
 -- Lines
 
@@ -47,13 +47,13 @@ line_then line more lacks =
     let first = parts_some more in
     ap ended (slice_split_at is_lf line 10 more (lacks_all is_lf line lacks) refl) ∙ ap (λ l. ended (line ∷ l)) first.1.1 ∙ ap (λ l. line ∷ ended l) (sym first.1.1)
 
--- What is before a colon, and after it
+-- What is before a byte, and after it
 
-pub colon_place : (front more : List ℕ) → Lacks is_colon front → position_or_len is_colon (front ++ 58 ∷ more) ≡ length front
-colon_place [] more lacks = refl
-colon_place (x ∷ front) more lacks = elim (cases_Bool (is_colon x)) [
+first_place : (p : ℕ → Bool) (x : ℕ) (front more : List ℕ) → p x ≡ true → Lacks p front → position_or_len p (front ++ x ∷ more) ≡ length front
+first_place p x [] more is lacks = rw is refl
+first_place p x (y ∷ front) more is lacks = elim (cases_Bool (p y)) [
   | inl passes ↦ let never = rw passes at lacks in absurd (cc)
-  | inr fails ↦ let rest = rw fails at lacks in rw (fails, colon_place front more rest) (omega arith)
+  | inr fails ↦ let rest = rw fails at lacks in rw (fails, first_place p x front more is rest) (omega arith)
 ]
 
 take_front : (front : List ℕ) (x : ℕ) (more : List ℕ) → take (length front) (front ++ x ∷ more) ≡ front
@@ -64,13 +64,13 @@ drop_front : (front : List ℕ) (x : ℕ) (more : List ℕ) → drop (suc (lengt
 drop_front [] x more = refl
 drop_front (y ∷ front) x more = drop_front front x more
 
-pub before_colon : (front more : List ℕ) → Lacks is_colon front → before_first is_colon (front ++ 58 ∷ more) ≡ front
-before_colon front more lacks = ap (λ n. take n (front ++ 58 ∷ more)) (colon_place front more lacks) ∙ take_front front 58 more
+pub before_at : (p : ℕ → Bool) (x : ℕ) (front more : List ℕ) → p x ≡ true → Lacks p front → before_first p (front ++ x ∷ more) ≡ front
+before_at p x front more is lacks = ap (λ n. take n (front ++ x ∷ more)) (first_place p x front more is lacks) ∙ take_front front x more
 
-pub after_colon : (front more : List ℕ) → Lacks is_colon front → after_first is_colon (front ++ 58 ∷ more) ≡ more
-after_colon front more lacks =
-    let next : position_or_len is_colon (front ++ 58 ∷ more) + 1 ≡ suc (length front) = omega (arith, colon_place front more lacks) in
-    ap (λ n. drop n (front ++ 58 ∷ more)) next ∙ drop_front front 58 more
+pub after_at : (p : ℕ → Bool) (x : ℕ) (front more : List ℕ) → p x ≡ true → Lacks p front → after_first p (front ++ x ∷ more) ≡ more
+after_at p x front more is lacks =
+    let next : position_or_len p (front ++ x ∷ more) + 1 ≡ suc (length front) = omega (arith, first_place p x front more is lacks) in
+    ap (λ n. drop n (front ++ x ∷ more)) next ∙ drop_front front x more
 
 -- The first word
 

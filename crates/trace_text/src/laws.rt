@@ -1,7 +1,7 @@
-//! What holds of a script, and of what its run printed.
+//! What holds of a script, of what its run printed, and of what `draw` reads of that.
 
-ghost use Rattle.std.specs.Prelude.{◌≡◌, ◌≤◌, ◌<◌, ◌^◌, ◌++◌, ◌∷◌, ℕ, List, [], length, slice_get, Ok, Some};
-ghost use Rattle.std.specs.List.{All};
+ghost use Rattle.std.specs.Prelude.{◌≡◌, ◌≤◌, ◌<◌, ◌^◌, ◌++◌, ◌∷◌, ℕ, List, [], length, map, slice_get, Ok, Some};
+ghost use Rattle.std.specs.List.{All, flat_map};
 ghost use Rattle.mk_script.specs.declared.script.Script.{Script};
 ghost use Rattle.mk_script.specs.Bodies.{Means};
 ghost use Rattle.mk_script.specs.Drafts.{Settings};
@@ -11,6 +11,8 @@ ghost use Rattle.mk_script.specs.Statements.{plain};
 ghost use Rattle.mk_script.specs.Threads.{IsScriptForThreads, for_simulation, for_threads, received};
 ghost use Rattle.pcap_reader.specs.declared.capture.CapturedPacket.{CapturedPacket};
 ghost use Rattle.sim_lines.specs.Events.{done_line, left_line};
+ghost use Rattle.trace_lines.specs.Traces as drawn;
+ghost use Rattle.trace_text.specs.Reading.{CanDrawDone, CanDrawPrinted, Printed, drawn_of, printed_text, shown_done};
 ghost use Rattle.trace_text.specs.Traces.{EndsInLf, IsNamed, IsNamedIn, trace_item, trace_of, traced_script};
 ghost use Rattle.world_events.specs.declared.event.Done.{Done};
 ghost use Rattle.world_events.specs.declared.event.Event.{Event};
@@ -41,4 +43,17 @@ pub fn traces_are_read_back()
     ensures { (files : List (List ℕ)) (text : List ℕ) (script : Script) (events : List Done) (left : List (ℕ × ℕ)) →
         Stands (for_threads files) text (Ok script) → EndsInLf text → All (IsNamed script.items) events →
         Stands (for_simulation files) (text ++ trace_of events left) (Ok (traced_script script events)) }
+{}
+
+/// What `sim` and `run` print is what `draw` reads. Of each event that was done it reads what was done and what was answered,
+/// whether that is a refusal, the version that the core comes to, and the line: all in order, and nothing of packets that were
+/// left.
+///
+/// So too among all that is printed: an event that wasn't done is read as such a one, and no line of a table or of a core that
+/// isn't there is read as an event or refused. The cores of an event have to be below 64, and its answer one to such an event. One
+/// line that `sim` prints isn't among these, and `draw` refuses it: `submit C: fault Nothing`, where C is 64 or more.
+pub fn printed_lines_are_drawn()
+    ensures events { (events : List Done) (left : List (ℕ × ℕ)) → All CanDrawDone events →
+        drawn.trace_of (flat_map done_line events ++ flat_map (λ l. left_line l.0 l.1) left) ≡ Ok (map shown_done events) }
+    ensures all { (printed : List Printed) → All CanDrawPrinted printed → drawn.trace_of (flat_map printed_text printed) ≡ Ok (flat_map drawn_of printed) }
 {}
