@@ -5,6 +5,7 @@ pub mod DigitLemmas
 pub mod ToldLemmas
 pub mod DrawLemmas
 pub mod PrintedLemmas
+pub mod RunLemmas
 pub mod AnswerLemmas
 pub mod EventLemmas
 pub mod TraceLemmas

@@ -9,6 +9,7 @@ ghost use Rattle.mk_script.specs.Meanings.{Does, Known, Named, Nothing};
 ghost use Rattle.mk_script.specs.Scripts.{Stands};
 ghost use Rattle.mk_script.specs.Statements.{plain};
 ghost use Rattle.mk_script.specs.Threads.{IsScriptForThreads, for_simulation, for_threads, received};
+ghost use Rattle.filter_table.specs.Limits.{TableLimits};
 ghost use Rattle.pcap_reader.specs.declared.capture.CapturedPacket.{CapturedPacket};
 ghost use Rattle.sim_lines.specs.Events.{done_line, left_line};
 ghost use Rattle.trace_lines.specs.Traces as drawn;
@@ -17,6 +18,7 @@ ghost use Rattle.trace_text.specs.Traces.{EndsInLf, IsNamed, IsNamedIn, trace_it
 ghost use Rattle.world_events.specs.declared.event.Done.{Done};
 ghost use Rattle.world_events.specs.declared.event.Event.{Event};
 ghost use Rattle.world_events.specs.declared.event.Event.TheVariants.{Rx};
+ghost use Rattle.world_model.specs.Worlds.{Run, World};
 
 /// After `trace`, the line that was printed of an event means that event, and the line of a packet that was left means nothing.
 ///
@@ -50,10 +52,16 @@ pub fn traces_are_read_back()
 /// left.
 ///
 /// So too among all that is printed: an event that wasn't done is read as such a one, and no line of a table or of a core that
-/// isn't there is read as an event or refused. The cores of an event have to be below 64, and its answer one to such an event. One
-/// line that `sim` prints isn't among these, and `draw` refuses it: `submit C: fault Nothing`, where C is 64 or more.
+/// isn't there is read as an event or refused. The cores of an event have to be below 64, and its answer one to such an event, as in
+/// every run. One line that `sim` prints isn't among these, and `draw` refuses it: `submit C: fault Nothing`, where C is 64 or more.
 pub fn printed_lines_are_drawn()
     ensures events { (events : List Done) (left : List (ℕ × ℕ)) → All CanDrawDone events →
         drawn.trace_of (flat_map done_line events ++ flat_map (λ l. left_line l.0 l.1) left) ≡ Ok (map shown_done events) }
     ensures all { (printed : List Printed) → All CanDrawPrinted printed → drawn.trace_of (flat_map printed_text printed) ≡ Ok (flat_map drawn_of printed) }
+{}
+
+/// `draw` reads every event of every run of a machine of at most 64 cores from the line that is printed of it.
+pub fn runs_are_drawn()
+    ensures { (limits : TableLimits) (budget : ℕ) (budgets : List ℕ) (events : List Done) (left : List (ℕ × ℕ)) (w : World) → length budgets < 64 →
+        Run limits budget budgets events w → drawn.trace_of (flat_map done_line events ++ flat_map (λ l. left_line l.0 l.1) left) ≡ Ok (map shown_done events) }
 {}

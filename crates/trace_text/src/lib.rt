@@ -7,5 +7,6 @@
 mod laws;
 
 pub use laws::{
-    lines_are_read_back, packets_are_named, printed_lines_are_drawn, traces_are_read_back,
+    lines_are_read_back, packets_are_named, printed_lines_are_drawn, runs_are_drawn,
+    traces_are_read_back,
 };
