@@ -3,6 +3,7 @@ use Rattle.std.specs.Prelude.{◌≡◌, ◌≢◌, ◌⊎◌, ◌+◌, ◌*◌,
 use mathlib.Core.List.{IsPrefix}
 use Rattle.core_links.specs.Views.{LinkView}
 use Rattle.ump_ring.specs.declared.fault.LineFault.{LineFault}
+use Rattle.ump_ring.specs.Lines.{lines_most}
 use Rattle.ump_ring.specs.Senders.{lines_sent, room_known, sender_capacity}
 use Rattle.ump_ring.specs.Receivers.{lines_received, lines_known}
 use Rattle.core_links.specs.declared.ring_links.Link.{Link}
@@ -89,8 +90,8 @@ pub record IsExact (capacity : ℕ) (from to : LinkView) (out come : Flow) : Typ
   pub going : from.ready ≡ false → length (to.taken ++ to.kept) < length from.sent
   -- where nothing is going out and all lines were received, it is all
   pub all : from.ready ≡ true → out.out ≡ come.come → to.taken ++ to.kept ≡ from.sent
-  -- a message has at most 587 lines
-  pub within : out.out ≤ 587 * length from.sent
+  -- no message is longer than the longest
+  pub within : out.out ≤ lines_most * length from.sent
   pub sound : to.stopped ≡ None
 
 -- no line moved

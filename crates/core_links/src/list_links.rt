@@ -10,9 +10,9 @@ use ump_ring::{Busy, LineFault};
 
 /// What a core and one peer hand each other.
 pub struct ListLink {
-    // What was sent to the peer, as far as it was collected.
+    /// What was sent to the peer, as far as it was collected.
     sent: MessageList,
-    // What was given as the peer's, as far as it was taken.
+    /// What was given as the peer's, as far as it was taken.
     given: MessageList,
 }
 
@@ -142,7 +142,7 @@ impl ListLinks {
         }
     }
 
-    // The message that was taken last from a peer.
+    /// The message that was taken last from a peer.
     fn last(&self, peer: u16) -> Option<&[u8]>
         ensures { shown_items result ≡ last_in (list_view self.now peer).taken }
     {
@@ -173,7 +173,7 @@ impl Links for ListLinks {
         }
     }
 
-    // Lists have no lines.
+    /// Lists have no lines.
     fn moved(&self, _peer: u16) -> bool {
         false
     }

@@ -11,9 +11,9 @@ pub(crate) const MARKED: usize = 64;
 /// Two bits for each of the first 64 peers.
 #[derive(Clone, Copy)]
 pub(crate) struct Marks {
-    // A line moved over the link, either way, since the last `pump` began.
+    /// A line moved over the link, either way, since the last `pump` began.
     pub(crate) moved: u64,
-    // The next `pump` has something to do for the link.
+    /// The next `pump` has something to do for the link.
     pub(crate) due: u64,
 }
 
@@ -50,7 +50,7 @@ impl Marks {
     }
 }
 
-// The bits with that of a peer set, if it has one.
+/// The bits with that of a peer set, if it has one.
 fn with_bit(bits: u64, peer: usize) -> u64
     ensures here { peer < 64 → bit_at result peer ≡ 1 }
     ensures others { (p : ℕ) → p ≢ peer → bit_at result p ≡ bit_at bits p }

@@ -9,7 +9,7 @@ use ump_ring::{Busy, Piece};
 /// Messages, at most `capacity` over its life, of which the first ones were read. It keeps them all.
 pub(crate) struct MessageList {
     messages: Vec<Piece>,
-    // How many of them were read.
+    /// How many of them were read.
     read: usize,
     capacity: usize,
     ghost most: { vec_len messages ≤ capacity },

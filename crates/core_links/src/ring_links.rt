@@ -16,9 +16,9 @@ use ump_ring::{Busy, LineFault, Receiver, Sender, beside};
 pub struct Link {
     sender: Sender,
     receiver: Receiver,
-    // A line moved, either way, since the last `pump` began.
+    /// A line moved, either way, since the last `pump` began.
     moved: bool,
-    // The peer's.
+    /// The peer's.
     bell: Bell,
 }
 
@@ -38,13 +38,13 @@ impl Drop for Link {
 pub struct RingLinks {
     own: u16,
     slots: Vec<Option<Link>>,
-    // No link is to this peer or one above it.
+    /// No link is to this peer or one above it.
     span: u16,
     marks: Marks,
     bell: Bell,
-    // What the bell counted when it was asked last.
+    /// What the bell counted when it was asked last.
     heard: u64,
-    // Since then all links were looked at, and nothing was there.
+    /// Since then all links were looked at, and nothing was there.
     calm: bool,
     // Peers have numbers of 16 bits.
     ghost most: { vec_len slots ≤ 65535 },
@@ -155,7 +155,7 @@ impl RingLinks {
         }
     }
 
-    // The message that was read last from a peer.
+    /// The message that was read last from a peer.
     fn last(&self, peer: u16) -> Option<&[u8]>
         ensures { shown_items result ≡ last_of (link_to self.now peer) }
     {
@@ -286,7 +286,7 @@ impl RingLinks {
     ghost use Rattle.core_links.specs.Marks.{TellMoved, TellDue};
     ghost use Rattle.core_links.specs.Pumping.{MovesOn, MovesOnAt};
 
-    // Moves on each link that is due, and marks what it then has to do. Links to peers with no bit are all due.
+    /// Moves on each link that is due, and marks what it then has to do. Links to peers with no bit are all due.
     fn pump_due(slots: &mut [Option<Link>], due: u64) -> Marks
         requires { TellDue due slots.old }
         ensures each { (p : ℕ) → MovesOn (slice_index_or slots.old p None) (slice_index_or slots.new p None) }
@@ -306,7 +306,7 @@ impl RingLinks {
         marks
     }
 
-    // Moves on the link to a peer, if there is one, and marks what it then has to do.
+    /// Moves on the link to a peer, if there is one, and marks what it then has to do.
     fn pump_at(slots: &mut [Option<Link>], peer: usize, marks: &mut Marks)
         ensures { MovesOnAt peer slots.old slots.new marks.old marks.new }
     {

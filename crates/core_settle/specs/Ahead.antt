@@ -5,6 +5,7 @@ use Rattle.world_progress.specs.Remaining.{per_request, steps, total}
 use Rattle.core_links.specs.declared.ring_links.RingLinks.{RingLinks}
 use Rattle.core_links.specs.RingSlots.{ring_view}
 use Rattle.core_links.specs.Flows.{ring_flow}
+use Rattle.ump_ring.specs.Lines.{lines_most}
 use Rattle.core_loop.specs.Cores.{begun}
 use Rattle.core_join.specs.Machines.{RingCore}
 use Rattle.core_join.specs.Conclusions.{histories_of}
@@ -30,9 +31,9 @@ events_ahead cores = events_in_all cores - total steps (histories_of cores)
 
 -- Lines
 
--- of so many messages, of at most 587 lines each
+-- of so many messages, each a longest one
 abbrev pub lines_of : ℕ → ℕ
-lines_of messages = 587 * messages
+lines_of messages = lines_most * messages
 
 -- the lines that are to be pushed into the ring from the one core to the other, and those to be received from it: at most so many
 abbrev pub ring_ahead : RingLinks → ℕ → RingLinks → ℕ → ℕ

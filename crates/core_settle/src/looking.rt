@@ -28,7 +28,7 @@ pub fn look_at_machine<T: Member>(cores: &mut [T])
     }
 }
 
-// Looks at each of these cores beside core 0.
+/// Looks at each of these cores beside core 0.
 fn look_at_all<T: Member>(first: &mut T, others: &mut [T])
     requires joined { (k : ℕ) (c : RingCore) → slice_get (map T.core others.old) k ≡ Some c → AreJoinedLinks (T.core first.old).links c.links }
     requires own { HaveOwnLinks (map T.core others.old) }
@@ -43,7 +43,7 @@ fn look_at_all<T: Member>(first: &mut T, others: &mut [T])
     }
 }
 
-// Looks at one core beside core 0.
+/// Looks at one core beside core 0.
 fn look_at<T: Member>(first: &mut T, other: &mut T)
     requires { AreJoinedLinks (T.core first.old).links (T.core other.old).links }
     ensures first { IsLookedAt (T.core first.old) (T.core first.new) }
@@ -56,7 +56,7 @@ fn look_at<T: Member>(first: &mut T, other: &mut T)
     stands_alone(other);
 }
 
-// What a core shows by itself.
+/// What a core shows by itself.
 fn stands_alone<T: Member>(member: &T)
     ensures stands { Stands ring_view (T.core member.now) }
     ensures stopped { let core = T.core member.now in HasStopped core.cores core.clock core.part (ring_view core.links) core.stopped }

@@ -102,7 +102,7 @@ impl Member for Recorded<RingLinks> {
     }
 }
 
-// One turn, which receives no packet, and why it halted its core, if it did.
+/// One turn, which receives no packet, and why it halted its core, if it did.
 fn turn(core: &mut Core<RingLinks>) -> Option<Halt>
     ensures keeps { Keeps core.old core.new }
     ensures none { IfNone result (GoesOn core.old core.new) }

@@ -50,7 +50,7 @@ pub fn settle<T: Member>(cores: &mut [T]) -> Settled
     }
 }
 
-// A round: a turn of each core, in order, until one halts, and a look at all. It answers where settling ends.
+/// A round: a turn of each core, in order, until one halts, and a look at all. It answers where settling ends.
 fn round<T: Member>(cores: &mut [T]) -> Option<Settled>
     requires machine { (limits : TableLimits) × (budget : ℕ) × (budgets : List ℕ) × IsMachine limits budget budgets (map T.core cores.old) }
     ensures machine { AreSameCores (map T.core cores.old) (map T.core cores.new) }
@@ -65,7 +65,7 @@ fn round<T: Member>(cores: &mut [T]) -> Option<Settled>
     ended(halted, cores)
 }
 
-// Whether settling ends with a round in which this core halted, or none.
+/// Whether settling ends with a round in which this core halted, or none.
 fn ended<T: Member>(halted: Option<(u16, Halt)>, cores: &[T]) -> Option<Settled>
     requires { NoneStops halted }
     ensures none { IfNone result ((halted ≡ None) × (AreAtRest (map T.core cores.now) → ⊥)) }
@@ -81,7 +81,7 @@ fn ended<T: Member>(halted: Option<(u16, Halt)>, cores: &[T]) -> Option<Settled>
     }
 }
 
-// Gives each core a turn, in order, until one halts: its number, and why.
+/// Gives each core a turn, in order, until one halts: its number, and why.
 fn turn_each<T: Member>(cores: &mut [T]) -> Option<(u16, Halt)>
     ensures all { length (map T.core cores.new) ≡ length (map T.core cores.old) }
     ensures keeps { AllKeep (map T.core cores.old) (map T.core cores.new) }
@@ -96,7 +96,7 @@ fn turn_each<T: Member>(cores: &mut [T]) -> Option<(u16, Halt)>
     None
 }
 
-// Gives a core a turn: its number, and why, where it halts.
+/// Gives a core a turn: its number, and why, where it halts.
 fn turn_one<T: Member>(core: &mut T) -> Option<(u16, Halt)>
     ensures keeps { Keeps (T.core core.old) (T.core core.new) }
     ensures none { IfNone result (GoesOn (T.core core.old) (T.core core.new)) }
@@ -119,7 +119,7 @@ pub fn at_rest<T: Member>(cores: &[T]) -> bool
     true
 }
 
-// Whether a core is at rest.
+/// Whether a core is at rest.
 fn rests(core: &Core<RingLinks>) -> bool
     ensures rests { IsTrue result ↔ CoreRests core.now }
     ensures decided { IsTrue result → HasAllDecided core.now }

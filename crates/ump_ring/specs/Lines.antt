@@ -46,10 +46,17 @@ abbrev pub stream : ℕ → List (List ℕ) → List (List ℕ)
 stream before [] = []
 stream before (m ∷ ms) = lines_of m before ++ stream (before + line_count (length m)) ms
 
+-- the bytes of the longest message, and its lines
+abbrev pub message_most : ℕ
+message_most = 32832
+
+abbrev pub lines_most : ℕ
+lines_most = 587
+
 -- a byte string that lines can carry
 pub record IsMessage (m : List ℕ) : Type 0 where
   pub least : 1 ≤ length m
-  pub most : length m ≤ 32832
+  pub most : length m ≤ message_most
   pub bytes : (k : ℕ) → slice_index m k < 256
 
 -- the length that a line states, and its number

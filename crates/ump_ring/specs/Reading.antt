@@ -4,7 +4,7 @@ use Rattle.std.specs.Prelude.{◌≡◌, ℕ, ◌-◌, ◌*◌, ◌<◌, ◌≤�
 use Rattle.std.specs.List.{list_all}
 use Rattle.ump_ring.specs.declared.fault.LineFault.{LineFault}
 use Rattle.ump_ring.specs.declared.fault.LineFault.TheVariants.{OutOfSequence, BadLength}
-use Rattle.ump_ring.specs.Lines.{IsMessage, line_count, lines_below, length_of, number_of, messages_in, number_after, payload, stream}
+use Rattle.ump_ring.specs.Lines.{message_most, IsMessage, line_count, lines_below, length_of, number_of, messages_in, number_after, payload, stream}
 
 -- some bytes of the message, of `size` bytes, have not come
 abbrev pub is_open : ℕ → List ℕ → Bool
@@ -24,7 +24,7 @@ bytes_with size bytes line = (if is_open size bytes then bytes else []) ++ take 
 -- a first line states a length, a later one none, and what lies past the message's end is 0
 abbrev pub is_well_sized : ℕ → List ℕ → List ℕ → Bool
 is_well_sized size bytes line =
-    (if is_open size bytes then length_of line == 0 else nat_le 1 (length_of line) && nat_le (length_of line) 32832)
+    (if is_open size bytes then length_of line == 0 else nat_le 1 (length_of line) && nat_le (length_of line) message_most)
     && list_all (λ b. b == 0) (drop (room_for size bytes line) (payload line))
 
 -- what is wrong with a line that follows
@@ -42,7 +42,7 @@ pub record HasRead (number size : ℕ) (bytes : List ℕ) (lines : List (List �
   pub whole : closed bytes lines ≡ stream 0 (messages_in (closed bytes lines))
   pub messages : All IsMessage (messages_in (closed bytes lines))
   pub split : lines ≡ closed bytes lines ++ lines_below size bytes (length (closed bytes lines)) (line_count (length bytes))
-  pub most : size ≤ 32832
+  pub most : size ≤ message_most
   pub filled : length bytes ≤ size
   pub rows : length bytes < size → (1 ≤ length bytes) × (56 * line_count (length bytes) ≡ length bytes)
   pub bytes_fit : (k : ℕ) → slice_index bytes k < 256

@@ -7,7 +7,7 @@ use crate::fault::LineFault;
 use crate::line::{LINE_NUMBERS, Line, MESSAGE_MOST};
 use std::alloc::{AllocError, Global};
 
-// The bytes that a line holds.
+/// The bytes that a line holds.
 fn payload(line: &Line) -> [u8; 56]
     ensures { result ≡ spec.payload line.now }
 {
@@ -18,14 +18,14 @@ fn payload(line: &Line) -> [u8; 56]
     bytes
 }
 
-// Whether there are only zeros.
+/// Whether there are only zeros.
 fn are_zeros(bytes: &[u8]) -> bool
     ensures { result ≡ list_all (λ b. b == 0) bytes.now }
 {
     bytes.iter().all(|byte| *byte == 0)
 }
 
-// Whether there are only zeros from a place on.
+/// Whether there are only zeros from a place on.
 fn ends_in_zeros(bytes: &[u8], from: usize) -> bool
     ensures { result ≡ list_all (λ b. b == 0) (drop from bytes.now) }
 {
@@ -35,7 +35,7 @@ fn ends_in_zeros(bytes: &[u8], from: usize) -> bool
     }
 }
 
-// Appends bytes, for which there is room, so that no memory is taken.
+/// Appends bytes, for which there is room, so that no memory is taken.
 fn append(message: &mut Vec<u8>, bytes: &[u8])
     requires { vec_len message.old + length bytes.now ≤ vec_capacity message.old }
     ensures items { message.new.items ≡ message.old.items ++ bytes.now }
@@ -47,15 +47,15 @@ fn append(message: &mut Vec<u8>, bytes: &[u8])
 /// Reads lines, and says where they make up a message.
 #[derive(Drop)]
 pub struct Joiner {
-    // The message that was begun last, as far as it has come.
+    /// The message that was begun last, as far as it has come.
     bytes: Vec<u8>,
-    // Its length.
+    /// Its length.
     size: usize,
-    // The number of the next line.
+    /// The number of the next line.
     number: u32,
     fault: Option<LineFault>,
-    ghost room: { 32832 ≤ vec_capacity bytes },
-    ghost most: { size ≤ 32832 },
+    ghost room: { spec.message_most ≤ vec_capacity bytes },
+    ghost most: { size ≤ spec.message_most },
     ghost filled: { length bytes.items ≤ size },
 }
 
@@ -115,7 +115,7 @@ impl Joiner {
         self.fault
     }
 
-    // Takes a line to the message, or says what is wrong with it.
+    /// Takes a line to the message, or says what is wrong with it.
     fn join(&mut self, line: &Line) -> Result<(), LineFault>
         requires { fault_of self.old ≡ None }
         ensures ok { OnOk result ((line_fault (number_next self.old) (size_begun self.old) (bytes_come self.old) line.now ≡ None) × IsJoined self.old self.new line.now) }

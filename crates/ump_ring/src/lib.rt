@@ -28,7 +28,7 @@ mod sender;
 
 pub use fault::LineFault;
 pub use joiner::Joiner;
-pub use line::{Line, MESSAGE_MOST, line_at};
+pub use line::{LINES_MOST, Line, MESSAGE_MOST, line_at};
 pub use piece::{Piece, SHORT_MOST};
 pub use receiver::Receiver;
 pub use rings::{beside, ring};

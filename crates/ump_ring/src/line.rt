@@ -8,7 +8,10 @@ pub type Line = [u64; 8];
 /// The bytes of the longest message.
 pub const MESSAGE_MOST: usize = 32_832;
 
-// How many numbers lines have, before they begin again.
+/// The lines of the longest message.
+pub const LINES_MOST: usize = 587;
+
+/// How many numbers lines have, before they begin again.
 pub(crate) const LINE_NUMBERS: u64 = 0x1_0000_0000;
 
 fn byte_at(bytes: &[u8], at: usize) -> u8
@@ -20,7 +23,7 @@ fn byte_at(bytes: &[u8], at: usize) -> u8
     }
 }
 
-// The eight bytes from a place on, the first one lowest. There are zeros past the end.
+/// The eight bytes from a place on, the first one lowest. There are zeros past the end.
 fn word_at(bytes: &[u8], at: usize) -> u64
     requires { at < 2 ^ 32 }
     ensures { result ≡ spec.word_at bytes.now at }

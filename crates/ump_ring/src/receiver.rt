@@ -5,16 +5,16 @@ ghost use Rattle.ump_ring.specs.Receiving.{IsReceiving, KeepsMessage};
 
 use crate::fault::LineFault;
 use crate::joiner::Joiner;
-use crate::line::Line;
+use crate::line::{LINES_MOST, Line};
 use rtrb::Consumer;
 
 /// The end of a ring that receives messages, one at a time.
 pub struct Receiver {
     pub(crate) consumer: Consumer<Line>,
     joiner: Joiner,
-    // A whole message was read and is not given up.
+    /// A whole message was read and is not given up.
     kept: bool,
-    // The last `pull` received a line.
+    /// The last `pull` received a line.
     moved: bool,
     ghost receiving: { IsReceiving joiner (received consumer) },
     ghost keeps: { KeepsMessage kept joiner },
@@ -31,9 +31,6 @@ impl Drop for Receiver {
         } = self;
     }
 }
-
-// A message has at most so many lines.
-const LINES_MOST: u32 = 587;
 
 impl Receiver {
     ghost use Rattle.std.specs.Prelude.{◌≡◌, ◌≢◌, ◌<◌, ◌≤◌, ◌+◌, ◌++◌, [], true, false, None, Some, Err, IsTrue, IsFalse, IfErr, OnOk, length};
@@ -92,7 +89,7 @@ impl Receiver {
         self.pull_lines()
     }
 
-    // Receives lines until a message is whole, or there are none. It stands apart, so that a look at an empty ring stays short.
+    /// Receives lines until a message is whole, or there are none. It stands apart, so that a look at an empty ring stays short.
     #[inline(never)]
     fn pull_lines(&mut self) -> Result<(), LineFault>
         requires runs { stopped self.old ≡ None }

@@ -10,15 +10,16 @@ use crate::line::{Line, MESSAGE_MOST, line_at};
 use crate::piece::{Piece, SHORT_MOST};
 use rtrb::Producer;
 use seq::Shared;
+use thiserror::Error;
 
 /// The end of a ring that sends messages, one at a time.
 pub struct Sender {
     pub(crate) producer: Producer<Line>,
-    // The message that goes out, or nothing.
+    /// The message that goes out, or nothing.
     message: Option<Piece>,
-    // How many of its lines are out.
+    /// How many of its lines are out.
     out: u32,
-    // The number of the next line.
+    /// The number of the next line.
     number: u32,
     ghost sending: { IsSending (going message) out number (sent producer) },
 }
@@ -36,7 +37,8 @@ impl Drop for Sender {
 }
 
 /// A message is still going out. The new one is handed back.
-#[derive(Drop)]
+#[derive(Debug, Drop, Error)]
+#[error("a message is still going out")]
 pub struct Busy(pub Vec<u8>);
 
 /// How far the sender got.
@@ -48,7 +50,7 @@ pub struct Pushed {
     pub whole: bool,
 }
 
-// Pushes the lines of a message from a place on, until none is left or the ring is full. The result is how many.
+/// Pushes the lines of a message from a place on, until none is left or the ring is full. The result is how many.
 fn push_lines(producer: &mut Producer<Line>, message: &[u8], out: u32, number: u32) -> u32
     requires length { length message.now ≤ MESSAGE_MOST }
     requires out { out ≤ line_count (length message.now) }
@@ -74,7 +76,7 @@ fn push_lines(producer: &mut Producer<Line>, message: &[u8], out: u32, number: u
     pushed
 }
 
-// What a slice of bytes has is bytes, which a list of any items doesn't say of itself. A law: nothing is done.
+/// What a slice of bytes has is bytes, which a list of any items doesn't say of itself. A law: nothing is done.
 #[inline(always)]
 fn are_bytes(bytes: &[u8])
     ensures { (i : ℕ) → slice_index bytes.now i < 256 }
@@ -89,7 +91,7 @@ impl Sender {
     ghost use Rattle.ump_ring.specs.Lines.{stream};
     ghost use Rattle.ump_ring.specs.Senders.{lines_sent, current, messages_offered, room_known, SameSender};
 
-    // The sending end of a ring to which nothing was pushed.
+    /// The sending end of a ring to which nothing was pushed.
     pub(crate) fn new(producer: Producer<Line>) -> Sender
         requires { sent producer ≡ [] }
         ensures ring { result.producer ≡ producer }
@@ -114,7 +116,7 @@ impl Sender {
     /// Takes a message to be sent, of 1 to 32,832 bytes, or hands it back where one is still going out. Takes no
     /// memory.
     pub fn offer(&mut self, message: Vec<u8>) -> Result<(), Busy>
-        requires length { (1 ≤ vec_len message) × (vec_len message ≤ 32832) }
+        requires length { (1 ≤ vec_len message) × (vec_len message ≤ MESSAGE_MOST) }
         ensures ring { SameSender self.old self.new × (lines_sent self.new ≡ lines_sent self.old) }
         ensures room { room_known self.new ≡ room_known self.old }
         ensures ok { OnOk result ((current self.old ≡ None) × (current self.new ≡ Some message.items) × (messages_offered self.new ≡ messages_offered self.old ++ message.items ∷ [])) }
@@ -148,7 +150,7 @@ impl Sender {
     /// Takes a message of 1 to 32,832 bytes that is sent to others, too, and says whether it did: not where one is still going
     /// out. Takes no memory.
     pub fn offer_shared(&mut self, message: Shared<u8>) -> bool
-        requires length { (1 ≤ length message) × (length message ≤ 32832) }
+        requires length { (1 ≤ length message) × (length message ≤ MESSAGE_MOST) }
         ensures ring { SameSender self.old self.new × (lines_sent self.new ≡ lines_sent self.old) }
         ensures room { room_known self.new ≡ room_known self.old }
         ensures taken { IsTrue result → (current self.old ≡ None) × (current self.new ≡ Some message) × (messages_offered self.new ≡ messages_offered self.old ++ message ∷ []) }

@@ -5,7 +5,7 @@ use Rattle.monitor_messages.specs.declared.message.Message.{Message}
 use Rattle.monitor_messages.specs.declared.message.Message.TheVariants.{Ack}
 use Rattle.monitor_messages.specs.Coding.{coded, Coded}
 use Rattle.monitor_messages.specs.Reading.{message_in}
-use Rattle.ump_ring.specs.Lines.{IsMessage, lines_of, messages_in}
+use Rattle.ump_ring.specs.Lines.{IsMessage, lines_most, lines_of, messages_in}
 
 -- the lines of a message
 abbrev pub lines_for : Message → List (List ℕ)
@@ -43,6 +43,6 @@ pub record LineChannel : Type 0 where
   pub held : List Message
   pub spare : ℕ
 
--- the longest message has 587 lines
+-- as many messages are sure to fit as longest ones do
 abbrev pub seen_channel : List (List ℕ) → ℕ → ℕ → LineChannel
-seen_channel lines capacity len = record { held = messages_of lines; spare = (capacity - len) / 587 }
+seen_channel lines capacity len = record { held = messages_of lines; spare = (capacity - len) / lines_most }

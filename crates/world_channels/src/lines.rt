@@ -13,13 +13,10 @@ use monitor_messages::{DecodeFault, Message, decode, encode};
 use std::alloc::{AllocError, Global};
 use std::collections::VecDeque;
 use std::marker::Model;
-use ump_ring::{Joiner, Line, line_at};
+use ump_ring::{Joiner, LINES_MOST, Line, line_at};
 
 /// The bytes of a message that a line carries.
 const LINE_BYTES: usize = 56;
-
-/// The lines of the longest message.
-const LINES_MOST: usize = 587;
 
 /// A channel that keeps the lines of messages, and joins them to read a message.
 ///
