@@ -11,7 +11,7 @@ use Rattle.std.proofs.collections.VecDeque.TheSendSync as deque
 use Rattle.std.specs.contracts.snapshot.Snapshot as snapshot
 use Rattle.endpoint_caps.proofs.table.Caps.TheSendSync as caps
 use Rattle.filter_table.proofs.limits.Limits.TheSendSync as limits
-use Rattle.installed_filters.proofs.receiving.Scratch.TheSendSync as scratch
+use Rattle.installed_filters.proofs.receiving.Workspace.TheSendSync as workspace
 use Rattle.table_replica.proofs.boxed.BoxedFilters.TheSendSync as boxed
 use Rattle.table_replica.proofs.Op.TheSendSync as op
 use Rattle.table_replica.proofs.Room.TheSendSync as room
@@ -83,7 +83,7 @@ inside_send =
                         (
                           search sendable depth 14,
                           (
-                            scratch.the_field_send,
+                            workspace.the_field_send,
                             (
                               search (sendable, cause.the_send) depth 14,
                               tt,

@@ -27,7 +27,7 @@ pub fn agree(first: &mut Core<RingLinks>, others: &mut [Core<RingLinks>])
     first.has_stopped();
 }
 
-// Looks at each of these cores beside core 0.
+/// Looks at each of these cores beside core 0.
 fn look_at_all(first: &mut Core<RingLinks>, others: &mut [Core<RingLinks>])
     requires joined { (k : ℕ) (c : RingCore) → slice_get others.old k ≡ Some c → AreJoinedLinks first.old.links c.links }
     requires own { HaveOwnLinks others.old }
@@ -46,7 +46,7 @@ fn look_at_all(first: &mut Core<RingLinks>, others: &mut [Core<RingLinks>])
     }
 }
 
-// Looks at one core beside core 0.
+/// Looks at one core beside core 0.
 fn look_at(first: &mut Core<RingLinks>, other: &mut Core<RingLinks>)
     requires { AreJoinedLinks first.old.links other.old.links }
     ensures first { IsLookedAt first.old first.new }

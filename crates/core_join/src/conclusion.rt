@@ -23,14 +23,14 @@ impl Drop for Histories {
     }
 }
 
-// Cores, each without its list, and the lists.
+/// Cores, each without its list, and the lists.
 #[derive(Drop)]
 struct Parted {
     cores: Vec<Core<RingLinks>>,
     histories: Vec<Vec<Stamped>>,
 }
 
-// Takes each core from its list.
+/// Takes each core from its list.
 fn part(alloc: Global, recorded: Vec<Recorded<RingLinks>>) -> Result<Parted, AllocError>
     ensures cores { IfOk result (λ r. r.cores.items ≡ recorded.items) }
     ensures histories { IfOk result (λ r. listed_histories r.histories.items ≡ histories_of recorded.items) }

@@ -46,7 +46,7 @@ pub fn merge(alloc: Global, histories: &Histories) -> Result<Vec<Done>, AllocErr
     copy_listed(alloc, &events)
 }
 
-// The events as the list has them.
+/// The events as the list has them.
 fn copy_listed(alloc: Global, events: &[&Stamped]) -> Result<Vec<Done>, AllocError>
     ensures { IfOk result (λ list. list.items ≡ shown_list events.now) }
 {
@@ -57,7 +57,7 @@ fn copy_listed(alloc: Global, events: &[&Stamped]) -> Result<Vec<Done>, AllocErr
     Ok(copies)
 }
 
-// The core whose first event comes first of all: the least stamp, and of equal stamps the least core.
+/// The core whose first event comes first of all: the least stamp, and of equal stamps the least core.
 fn least(left: &[&[Stamped]]) -> Option<usize>
     ensures some { IfSome result (λ core. IsLeast (shown_histories left.now) core) }
     ensures none { IfNone result (NoneLeft (shown_histories left.now)) }
@@ -76,21 +76,21 @@ fn least(left: &[&[Stamped]]) -> Option<usize>
     Some(core)
 }
 
-// The clone of an event is equal to it.
+/// The clone of an event is equal to it.
 fn equal_event(event: &Event) -> Result<Event, AllocError>
     ensures { IfOk result (λ equal. equal ≡ event.now) }
 {
     event.clone()
 }
 
-// The clone of an answer is equal to it.
+/// The clone of an answer is equal to it.
 fn equal_answer(answer: &Answer) -> Result<Answer, AllocError>
     ensures { IfOk result (λ equal. equal ≡ answer.now) }
 {
     answer.clone()
 }
 
-// The event as the list has it.
+/// The event as the list has it.
 fn listed_copy(stamped: &Stamped) -> Result<Done, AllocError>
     ensures { IfOk result (λ done. done ≡ listed stamped.now) }
 {

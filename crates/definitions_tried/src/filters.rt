@@ -48,7 +48,7 @@ pub fn loads()
     ensures ldx_msh_one_past { Stops (BPF_STMT (BPF_LDX + BPF_B + BPF_MSH) 5) cut 7 9 0 }
 {}
 
-/// Scratch words and transfers, as in McCanne and Jacobson (1993), section 3.3. There are sixteen words, `BPF_MEMWORDS`
+/// Workspace words and transfers, as in McCanne and Jacobson (1993), section 3.3. There are sixteen words, `BPF_MEMWORDS`
 /// of bpf(4) and of Linux' filter.h. What an unwritten word holds is left open there: here no step loads it.
 pub fn words()
     ensures st_the_last_word { Step (BPF_STMT (BPF_ST) 15 ∷ []) nothing (record { pc = 0; a = 7; x = 9; memory = empty }) (record { pc = 1; a = 7; x = 9; memory = (insert empty 15 7) }) }

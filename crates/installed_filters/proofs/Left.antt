@@ -1,5 +1,5 @@
 -- Lists without a filter.
-use Rattle.std.proofs.Common.{◌≡◌, ◌<◌, ◌-◌, ℕ, zero, suc, Option, Some, None, List, refl, ap, sym, ◌∙◌, subst, arith}
+use Rattle.std.proofs.Common.{◌≡◌, ◌<◌, ◌-◌, ℕ, zero, suc, Bool, true, false, not, Option, Some, None, List, refl, ap, sym, ◌∙◌, subst, arith}
 use Rattle.bpf_insn.specs.declared.insn.Insn.{Insn}
 use Rattle.installed_filters.specs.Numbering.{Numbering, Has, IsFresh}
 use Rattle.installed_filters.specs.declared.slots.Slot.{Slot}
@@ -8,7 +8,7 @@ use Rattle.installed_filters.specs.declared.books.Row.{Row}
 use Rattle.installed_filters.specs.Listing.{IsWith, IsWithout, AreListed}
 use Rattle.installed_filters.specs.Homes.{AreProgramsApart}
 use Rattle.installed_filters.specs.declared.lists.Lists.{Lists}
-use Rattle.installed_filters.specs.Leaving.{IsListedBy, slots_without}
+use Rattle.installed_filters.specs.Leaving.{IsListedBy, IsOneOf, Leaves, Stays, slots_without}
 use Rattle.installed_filters.proofs.Booked.{eq_yes, eq_no}
 use Rattle.installed_filters.proofs.Listed.{IsEdited, edited_with, edited_without, edited_same, listed_after, own_runs, own_rests}
 
@@ -129,3 +129,55 @@ listed_by slots row lists h apart s at = record {
   runs = λ some. (runs_there slots row lists.running lists.resting h apart s at some, runs_fresh slots row lists.running lists.resting h apart s at some);
   rests = λ none. rests_there slots row lists.running lists.resting h apart s at none;
 }
+
+-- the program of a filter that goes stays in its list
+stays_several : (held : Bool) (s : Slot) → IsOneOf (Some s) held → Stays held s → s.filters ≡ 1 → ⊥
+stays_several true s one_of stays single = let least = one_of.0 in let most = one_of.1 in omega arith
+stays_several false s one_of stays single = omega arith
+
+stays_held : (held : Bool) (s : Slot) → Stays held s → 0 < s.held → 0 < s.held - one held
+stays_held true s stays some = omega arith
+stays_held false s stays some = omega arith
+
+pub leaves_same : (row : Row) (lists : Lists) (s : Slot) → IsOneOf (Some s) row.held → Stays row.held s → Leaves lists row s lists
+leaves_same row lists s one_of stays = λ slots h apart at.
+    listed_still slots row lists.running lists.resting h apart s at (stays_several row.held s one_of stays) (stays_held row.held s stays)
+
+pub is_no : (b : Bool) → not b ≡ true → b ≡ false
+is_no true e = absurd cc
+is_no false e = refl
+
+pub is_yes : (b : Bool) → not b ≡ false → b ≡ true
+is_yes true e = refl
+is_yes false e = absurd cc
+
+-- it goes with the last filter that has it, or goes to rest with the last one whose capability is held
+last_rests : (held : Bool) (s : Slot) → held ≡ false → IsOneOf (Some s) held → (Stays held s → ⊥) → (s.held ≡ 0) × (s.filters ≡ 1)
+last_rests true s e one_of goes = absurd cc
+last_rests false s e one_of goes = let most = one_of.1 in let some = one_of.2 in (omega arith, omega arith)
+
+last_runs : (held : Bool) (s : Slot) → held ≡ true → IsOneOf (Some s) held → (Stays held s → ⊥) → (0 < s.held) × (s.held - one held ≡ 0)
+last_runs true s e one_of goes = let least = one_of.0 in (omega arith, omega arith)
+last_runs false s e one_of goes = absurd cc
+
+pub is_last : (row : Row) (s : Slot) → row.held ≡ false → IsOneOf (Some s) row.held → (Stays row.held s → ⊥) → (s.held ≡ 0) × (s.filters ≡ 1)
+is_last row s e one_of goes = last_rests row.held s e one_of goes
+
+pub is_last_held : (row : Row) (s : Slot) → row.held ≡ true → IsOneOf (Some s) row.held → (Stays row.held s → ⊥) → (0 < s.held) × (s.held - one row.held ≡ 0)
+is_last_held row s e one_of goes = last_runs row.held s e one_of goes
+
+pub leaves_left : (row : Row) (lists after : Lists) (s : Slot) → row.held ≡ false → IsOneOf (Some s) row.held → (Stays row.held s → ⊥) → after.running ≡ lists.running → IsWithout lists.resting s.program after.resting → Leaves lists row s after
+leaves_left row lists after s e one_of goes same less = λ slots h apart at.
+    let last = is_last row s e one_of goes in
+    listed_left slots row lists.running lists.resting h apart s at last.1 after.running after.resting last.0 same less
+
+pub leaves_rested : (row : Row) (lists after : Lists) (s : Slot) → row.held ≡ true → IsOneOf (Some s) row.held → (Stays row.held s → ⊥) → (s.filters ≡ 1 → ⊥) → IsWithout lists.running s.program after.running
+    → IsWith lists.resting row.number s.program after.resting → Leaves lists row s after
+leaves_rested row lists after s e one_of goes more less with' = λ slots h apart at.
+    let last = is_last_held row s e one_of goes in
+    listed_rested slots row lists.running lists.resting h apart s at more after.running after.resting last.0 last.1 less with'
+
+pub leaves_stopped : (row : Row) (lists after : Lists) (s : Slot) → row.held ≡ true → IsOneOf (Some s) row.held → (Stays row.held s → ⊥) → s.filters ≡ 1 → IsWithout lists.running s.program after.running → after.resting ≡ lists.resting → Leaves lists row s after
+leaves_stopped row lists after s e one_of goes single less same = λ slots h apart at.
+    let last = is_last_held row s e one_of goes in
+    listed_stopped slots row lists.running lists.resting h apart s at single after.running after.resting last.0 less same

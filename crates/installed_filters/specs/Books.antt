@@ -1,4 +1,5 @@
 -- What is counted of filters.
+-- No public clause cites these.
 use Rattle.std.specs.Prelude.{◌≡◌, ◌==◌, ◌&&◌, ◌<◌, ℕ, suc, Bool, true, false, cond, Option, Some, None, List, [], ◌∷◌, length}
 use Rattle.bpf_insn.specs.declared.insn.Insn.{Insn}
 use Rattle.chunked.specs.Maps.{SortedMap}

@@ -1,4 +1,5 @@
 -- How many filters with which program have which endpoint.
+-- No public clause cites these.
 use Rattle.std.specs.Prelude.{◌≡◌, ◌+◌, ◌*◌, ◌/◌, ◌%◌, ◌<◌, ◌≤◌, ℕ, zero, suc, Bool, true, false, IsTrue, Option, Some, None, is_some, List, [], ◌∷◌, length, slice_get, slice_index_or}
 use Rattle.std.specs.Box.{box_value}
 use Rattle.chunked.specs.Maps.{SortedMap, value_at}

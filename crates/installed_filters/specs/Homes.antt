@@ -1,4 +1,5 @@
 -- Where the program of a filter that comes is kept.
+-- No public clause cites these.
 use Rattle.std.specs.Prelude.{◌≡◌, ◌==◌, ◌<◌, ℕ, true, Option, Some, None, List, [], length, if◌then◌else◌}
 use Rattle.bpf_insn.specs.declared.insn.Insn.{Insn}
 use Rattle.installed_filters.specs.declared.slots.Slot.{Slot}

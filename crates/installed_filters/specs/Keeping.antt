@@ -1,4 +1,5 @@
 -- How much of a packet which endpoints keep.
+-- No public clause cites these.
 use Rattle.std.specs.Prelude.{◌≡◌, ◌==◌, ◌<◌, ◌≤◌, ◌↔◌, ◌⊎◌, ◌%◌, ◌/◌, ℕ, true, Some, is_some, cond, ltb, max, min, List, [], ◌∷◌, slice_get, slice_index}
 use Rattle.std.specs.List.{Contains}
 use Rattle.chunked.specs.Maps.{SortedMap, value_at}

@@ -1,4 +1,5 @@
 -- Filters whose capability isn't held any more.
+-- No public clause cites these.
 use Rattle.std.specs.Prelude.{◌≡◌, ◌&&◌, ◌-◌, ◌<◌, ◌≤◌, ℕ, Bool, true, Option, Some, None, is_some, List}
 use Rattle.std.specs.List.{Contains}
 use Rattle.std.specs.List.Sorted.{IsStrictlyIncreasing}

@@ -1,6 +1,9 @@
 -- The programs once a filter goes.
-use Rattle.std.specs.Prelude.{◌≡◌, ◌==◌, ◌+◌, ◌<◌, ◌≤◌, ℕ, Bool, not, Option, Some, None, List, if◌then◌else◌}
+-- No public clause cites these.
+use Rattle.std.specs.Prelude.{◌≡◌, ◌==◌, ◌+◌, ◌<◌, ◌≤◌, ℕ, Bool, true, false, not, Option, Some, None, List, if◌then◌else◌}
 use Rattle.installed_filters.specs.declared.slots.Slot.{Slot}
+use Rattle.installed_filters.specs.Homes.{AreProgramsApart}
+use Rattle.installed_filters.specs.Listing.{AreListed}
 use Rattle.installed_filters.specs.Slotting.{slot_at, one, one_less}
 use Rattle.installed_filters.specs.Numbering.{Has, IsFresh}
 use Rattle.installed_filters.specs.declared.books.Row.{Row}
@@ -19,3 +22,13 @@ IsOneOf (Some s) held = (one held ≤ s.held) × (s.held + one (not held) ≤ s.
 pub record IsListedBy (lists : Lists) (number : ℕ) (s : Slot) : Type 0 where
   pub runs : 0 < s.held → Has lists.running number s.program × IsFresh lists.resting number s.program
   pub rests : s.held ≡ 0 → Has lists.resting number s.program
+
+-- a filter goes whose capability is held, or isn't, and the program of its slot stays in its list: others have it
+abbrev pub Stays : Bool → Slot → Type 0
+Stays true s = 1 < s.held
+Stays false s = 1 < s.filters
+
+-- the lists are right for the slots without a filter, if they were for the slots with it
+abbrev pub Leaves : Lists → Row → Slot → Lists → Type 0
+Leaves lists row s after = (slots : List (Option Slot)) → AreListed (slot_at slots) lists.running lists.resting → AreProgramsApart slots → slot_at slots row.number ≡ Some s
+    → AreListed (slots_without slots row) after.running after.resting

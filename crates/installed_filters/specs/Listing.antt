@@ -1,4 +1,5 @@
 -- The programs that run and those that rest.
+-- No public clause cites these.
 use Rattle.std.specs.Prelude.{◌≡◌, ◌<◌, ◌↔◌, ◌⊎◌, ℕ, List, Option, Some}
 use Rattle.bpf_insn.specs.declared.insn.Insn.{Insn}
 use Rattle.installed_filters.specs.Numbering.{Numbering, Has}

@@ -1,4 +1,5 @@
 -- Programs with numbers.
+-- No public clause cites these.
 use Rattle.std.specs.Prelude.{◌≡◌, ◌<◌, ◌⊎◌, ℕ, List, Some, length, slice_get, slice_index}
 use Rattle.std.specs.List.{Contains}
 use Rattle.bpf_insn.specs.declared.insn.Insn.{Insn}

@@ -1,4 +1,5 @@
 -- How the filters are kept, and what is ready for a change that is planned.
+-- No public clause cites these.
 use Rattle.std.specs.Prelude.{◌≡◌, ◌==◌, ◌<◌, ◌++◌, ◌∷◌, [], ℕ, true, not, Option, Some, None, List, IsTrue, if◌then◌else◌, filter, length, map}
 use Rattle.std.specs.List.{Contains}
 use Rattle.bpf_insn.specs.declared.insn.Insn.{Insn}
@@ -14,7 +15,7 @@ use Rattle.installed_filters.specs.Books.{AreBooked, Begins, HasReachRoom, base_
 use Rattle.installed_filters.specs.Listing.{AreListed}
 use Rattle.installed_filters.specs.declared.homes.Home.{Home}
 use Rattle.installed_filters.specs.Homes.{AreProgramsApart, lists_after, program_in, slots_with}
-use Rattle.installed_filters.specs.Leaving.{slots_without}
+use Rattle.installed_filters.specs.Leaving.{Leaves, slots_without}
 use Rattle.installed_filters.specs.Lapsing.{AreHeldRows, slots_lapsed}
 use Rattle.installed_filters.specs.Installed.{Installed, installed, lapsed_by, replaced_by, with_program}
 
@@ -91,5 +92,4 @@ IsPlanned rows slots reaching lists (Some Stay) = Unit {0}
 -- a filter that is exchanged gets the program of a home, and leaves that of a slot
 abbrev pub IsExchange : Lists → ℕ → Row → Slot → Home → Change → Type 0
 IsExchange lists id old slot home change = (next : Option Lists) × (change ≡ Replace id old (record old { number = home.number }) home.program next)
-    × ((slots : List (Option Slot)) → AreListed (slot_at slots) (lists_after home.lists lists).running (lists_after home.lists lists).resting → AreProgramsApart slots → slot_at slots old.number ≡ Some slot
-    → AreListed (slots_without slots old) (lists_after next lists).running (lists_after next lists).resting)
+    × Leaves (lists_after home.lists lists) old slot (lists_after next lists)

@@ -1,4 +1,5 @@
 -- Of each number its program, and how many filters have it.
+-- No public clause cites these.
 use Rattle.std.specs.Prelude.{◌≡◌, ◌+◌, ◌-◌, ◌<◌, ◌≤◌, ℕ, Bool, true, false, IsTrue, Option, Some, None, is_some, List, length, slice_index_or, ◌==◌, if◌then◌else◌}
 use Rattle.bpf_insn.specs.declared.insn.Insn.{Insn}
 use Rattle.chunked.specs.Maps.{value_at}

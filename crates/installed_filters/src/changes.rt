@@ -13,7 +13,7 @@ ghost use Rattle.installed_filters.specs.Planning.{IsKept, IsPlanned, next_of, s
 ghost use Rattle.installed_filters.specs.declared.books.Row.{Row as GhostRow};
 
 use crate::books::{Row, lapse, put, swap, take};
-use crate::lists::Lists;
+use crate::lists::{Lists, NextLists};
 use crate::reaches::Reaches;
 use crate::slots::Slots;
 use chunked::Sorted;
@@ -28,13 +28,13 @@ pub(crate) enum Change {
         row: Row,
         /// Its program, if no filter has it yet.
         program: Option<Shared>,
-        next: Option<Lists>,
+        next: Option<NextLists>,
     },
     /// A filter goes.
     Remove {
         id: u32,
         row: Row,
-        next: Option<Lists>,
+        next: Option<NextLists>,
     },
     /// A filter gets a program whose number is another.
     Replace {
@@ -43,13 +43,13 @@ pub(crate) enum Change {
         row: Row,
         /// Its program, if no filter has it yet.
         program: Option<Shared>,
-        next: Option<Lists>,
+        next: Option<NextLists>,
     },
     /// The capability of filters isn't held any more.
     Lapse {
         /// The filters that were held, each with its id.
         lapsing: Vec<(u64, Row)>,
-        next: Option<Lists>,
+        next: Option<NextLists>,
     },
     /// A filter gets the program that it has.
     Stay,
@@ -204,11 +204,11 @@ fn lapse_one(rows: &mut Sorted<Row>, slots: &mut Slots, reaches: &mut Reaches, i
 }
 
 /// The next lists, if they are others.
-fn follow(lists: &mut Lists, next: Option<Lists>)
+fn follow(lists: &mut Lists, next: Option<NextLists>)
     ensures { lists.new ≡ lists_after next lists.old }
 {
     match next {
-        Some(next) => *lists = next,
+        Some(next) => next.follow(lists),
         None => {}
     }
 }

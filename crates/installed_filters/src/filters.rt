@@ -11,12 +11,12 @@ ghost use Rattle.filter_table.specs.Tables.{AreReceivers};
 
 use crate::books::Row;
 use crate::changes::{Change, carry_out};
-use crate::homes::{Home, home_of};
+use crate::homes::{Home, home_of, planned_home};
 use crate::lapsing::{lapsing_under, lists_lapsed};
 use crate::leaving::{lists_swapped, lists_without};
 use crate::lists::Lists;
 use crate::reaches::Reaches;
-use crate::receiving::Scratch;
+use crate::receiving::Workspace;
 use crate::slots::{Slot, Slots};
 use chunked::Sorted;
 use filter_group::Shared;
@@ -99,7 +99,7 @@ impl Filters {
         let program = Shared::new(alloc, program.clone()?)?;
         let _count = self.rows.len();
         self.rows.reserve()?;
-        let home = home_of(
+        let home = planned_home(
             alloc,
             &mut self.slots,
             &mut self.reaches,
@@ -222,23 +222,25 @@ impl Filters {
         self.change = None;
     }
 
-    /// The endpoints that get a packet, in increasing order, each with the number of bytes that it keeps, in place of what the scratch
-    /// kept. Takes memory only where the scratch was never as long as the packet needs.
+    /// The endpoints that get a packet, in increasing order, each with the number of bytes that it keeps, in place of what the workspace
+    /// kept. Takes memory only where the workspace was never as long as the packet needs.
     pub fn accepting_with(
         &self,
-        scratch: &mut Scratch,
+        workspace: &mut Workspace,
         bytes: &[u8],
         original: u32,
     ) -> Result<(), AllocError>
-        ensures { OnOk result ((caps : List AnyCap) → AreHeldBy caps self.now.now → AreReceivers caps (map (λ f. f.filter) self.now.now) (record { bytes = bytes.now; original = original }) scratch.new.kept.items) }
+        ensures { OnOk result ((caps : List AnyCap) → AreHeldBy caps self.now.now → AreReceivers caps (map (λ f. f.filter) self.now.now) (record { bytes = bytes.now; original = original }) workspace.new.kept.items) }
     {
         let _count = self.rows.len();
-        self.lists.running.run(&mut scratch.lists, bytes, original)?;
+        self.lists
+            .running
+            .run(&mut workspace.lists, bytes, original)?;
         self.reaches.receive(
-            &scratch.lists.hits,
+            &workspace.lists.hits,
             bytes.len(),
-            &mut scratch.verdicts,
-            &mut scratch.kept,
+            &mut workspace.verdicts,
+            &mut workspace.kept,
         )?;
         Ok(())
     }

@@ -8,7 +8,7 @@ ghost use Rattle.installed_filters.specs.Counts.{reach_at};
 ghost use Rattle.installed_filters.specs.Listing.{AreListed};
 ghost use Rattle.installed_filters.specs.Homes.{IsHome, AreProgramsApart};
 
-use crate::lists::Lists;
+use crate::lists::{Lists, NextLists};
 use crate::reaches::Reaches;
 use crate::slots::Slots;
 use filter_group::Shared;
@@ -21,7 +21,29 @@ pub(crate) struct Home {
     /// The program, if no filter has it yet.
     pub(crate) program: Option<Shared>,
     /// The lists afterwards, if they are others.
-    pub(crate) lists: Option<Lists>,
+    pub(crate) lists: Option<NextLists>,
+}
+
+impl Home {
+    /// The same home, where a plan says on which programs a packet is run.
+    fn planned(self, alloc: Global) -> Result<Home, AllocError>
+        ensures { IfOk result (λ home. home ≡ self) }
+    {
+        let Home {
+            number,
+            program,
+            lists,
+        } = self;
+        let lists = match lists {
+            None => None,
+            Some(lists) => Some(lists.planned(alloc)?),
+        };
+        Ok(Home {
+            number,
+            program,
+            lists,
+        })
+    }
 }
 
 /// The number of a program for one filter more, whose capability is held. What is kept stays, whatever the result.
@@ -50,6 +72,27 @@ pub(crate) fn home_of(
         }),
         None => other_home(alloc, slots, reaches, lists, program),
     }
+}
+
+/// The same, where a plan says on which programs a packet is run.
+pub(crate) fn planned_home(
+    alloc: Global,
+    slots: &mut Slots,
+    reaches: &mut Reaches,
+    lists: &Lists,
+    program: Shared,
+) -> Result<Home, AllocError>
+    requires listed { AreListed (slot_at slots.old.slots) lists.now.running lists.now.resting }
+    requires apart { AreProgramsApart slots.old.slots }
+    requires numbers { (m : ℕ) (s : AnySlot) → slot_at slots.old.slots m ≡ Some s → m < length reaches.old.ends }
+    ensures slots { (m : ℕ) → slot_at slots.new.slots m ≡ slot_at slots.old.slots m }
+    ensures counts { (m q : ℕ) → reach_at reaches.new.ends m q ≡ reach_at reaches.old.ends m q }
+    ensures more { length reaches.old.ends ≤ length reaches.new.ends }
+    ensures home { IfOk result (λ home. IsHome slots.new.slots (length reaches.new.ends) lists.now program home) }
+{
+    let home = home_of(alloc, slots, reaches, lists, program)?;
+    let planned = home.planned(alloc)?;
+    Ok(planned)
 }
 
 /// The home of a program that doesn't run.
@@ -92,7 +135,7 @@ fn woken_home(
     ensures { IfOk result (λ home. (ends : ℕ) → number < ends → IsHome slots.now.slots ends lists.now program home) }
 {
     let _count = slots.len();
-    let lists = lists.woken(alloc, &program, number)?;
+    let lists = NextLists::woken(alloc, lists, &program, number)?;
     Ok(Home {
         number,
         program: None,
@@ -117,7 +160,7 @@ fn new_home(
 {
     let number = slots.fresh()?;
     grow_to(reaches, number)?;
-    let lists = lists.started(alloc, &program, number)?;
+    let lists = NextLists::started(alloc, lists, &program, number)?;
     Ok(Home {
         number,
         program: Some(program),

@@ -8,7 +8,7 @@ ghost use Rattle.installed_filters.specs.Homes.{AreProgramsApart, lists_after};
 ghost use Rattle.installed_filters.specs.Lapsing.{lapses as does_lapse, AreCountedHeld, HoldsMore, slots_counted, slots_lapsed};
 
 use crate::books::Row;
-use crate::lists::Lists;
+use crate::lists::{Lists, NextLists};
 use crate::slots::Slots;
 use chunked::Sorted;
 use std::alloc::{AllocError, Global};
@@ -43,7 +43,7 @@ pub(crate) fn lists_lapsed(
     slots: &Slots,
     lists: &Lists,
     lapsing: &[(u64, Row)],
-) -> Result<Option<Lists>, AllocError>
+) -> Result<Option<NextLists>, AllocError>
     requires listed { AreListed (slot_at slots.now.slots) lists.now.running lists.now.resting }
     requires apart { AreProgramsApart slots.now.slots }
     requires held { AreCountedHeld slots.now.slots lapsing.now }
@@ -67,9 +67,9 @@ fn one_fewer(
     slots: &Slots,
     lists: &Lists,
     counts: &mut Sorted<u32>,
-    next: Option<Lists>,
+    next: Option<NextLists>,
     number: u32,
-) -> Result<Option<Lists>, AllocError>
+) -> Result<Option<NextLists>, AllocError>
     requires listed { AreListed (slots_counted slots.now.slots counts.old.entries) (lists_after next lists.now).running (lists_after next lists.now).resting }
     requires apart { AreProgramsApart slots.now.slots }
     requires more { HoldsMore (slot_at slots.now.slots number) (number_of (value_at counts.old.entries number)) }
@@ -83,7 +83,7 @@ fn one_fewer(
         return Ok(next);
     }
     let before = own_lists(alloc, lists, next)?;
-    let after = before.rest(alloc, &slot.program, number)?;
+    let after = before.rested(alloc, &slot.program, number)?;
     Ok(Some(after))
 }
 
@@ -109,11 +109,11 @@ fn count_up(counts: &mut Sorted<u32>, number: u32, most: u32) -> Result<bool, Al
 }
 
 /// The next lists, or a copy of the first.
-fn own_lists(alloc: Global, lists: &Lists, next: Option<Lists>) -> Result<Lists, AllocError>
+fn own_lists(alloc: Global, lists: &Lists, next: Option<NextLists>) -> Result<NextLists, AllocError>
     ensures { IfOk result (λ own. own ≡ lists_after next lists.now) }
 {
     match next {
         Some(next) => Ok(next),
-        None => lists.copy(alloc),
+        None => NextLists::copy(alloc, lists),
     }
 }

@@ -1,13 +1,11 @@
 //! The lists of programs once a filter goes.
-ghost use Rattle.std.specs.Prelude.{◌≡◌, List, Option, Some, true, false, IfOk};
-ghost use Rattle.installed_filters.specs.Slotting.{slot_at};
+ghost use Rattle.std.specs.Prelude.{◌≡◌, Option, Some, false, IfOk, IsTrue, IsFalse};
 ghost use Rattle.installed_filters.specs.declared.slots.Slot.{Slot as AnySlot};
-ghost use Rattle.installed_filters.specs.Listing.{AreListed};
-ghost use Rattle.installed_filters.specs.Homes.{AreProgramsApart, lists_after};
-ghost use Rattle.installed_filters.specs.Leaving.{IsListedBy, IsOneOf, slots_without};
+ghost use Rattle.installed_filters.specs.Homes.{lists_after};
+ghost use Rattle.installed_filters.specs.Leaving.{IsListedBy, IsOneOf, Leaves, Stays};
 
 use crate::books::Row;
-use crate::lists::Lists;
+use crate::lists::{Lists, NextLists};
 use crate::slots::Slot;
 use std::alloc::{AllocError, Global};
 
@@ -17,91 +15,97 @@ pub(crate) fn lists_without(
     lists: &Lists,
     row: Row,
     slot: &Slot,
-) -> Result<Option<Lists>, AllocError>
+) -> Result<Option<NextLists>, AllocError>
     requires one { IsOneOf (Some slot.now) row.held }
     requires listed { IsListedBy lists.now row.number slot.now }
-    ensures { IfOk result (λ after. (slots : List (Option AnySlot)) → AreListed (slot_at slots) lists.now.running lists.now.resting → AreProgramsApart slots → slot_at slots row.number ≡ Some slot.now
-        → AreListed (slots_without slots row) (lists_after after lists.now).running (lists_after after lists.now).resting) }
+    ensures { IfOk result (λ after. Leaves lists.now row slot.now (lists_after after lists.now)) }
 {
-    if row.held {
-        without_held(alloc, lists, row, slot)
-    } else {
-        without_lapsed(alloc, lists, row, slot)
+    if stays(row, slot) {
+        return Ok(None);
     }
+    let next = NextLists::copy(alloc, lists)?;
+    let after = next_without(alloc, next, row, slot)?;
+    Ok(Some(after))
 }
 
 /// The next lists without one of the filters with a program, if they are others than the first.
 pub(crate) fn lists_swapped(
     alloc: Global,
     lists: &Lists,
-    next: Option<Lists>,
+    next: Option<NextLists>,
     row: Row,
     slot: &Slot,
-) -> Result<Option<Lists>, AllocError>
+) -> Result<Option<NextLists>, AllocError>
     requires one { IsOneOf (Some slot.now) row.held }
     requires listed { IsListedBy (lists_after next lists.now) row.number slot.now }
-    ensures { IfOk result (λ after. (slots : List (Option AnySlot)) → AreListed (slot_at slots) (lists_after next lists.now).running (lists_after next lists.now).resting → AreProgramsApart slots → slot_at slots row.number ≡ Some slot.now
-        → AreListed (slots_without slots row) (lists_after after lists.now).running (lists_after after lists.now).resting) }
+    ensures { IfOk result (λ after. Leaves (lists_after next lists.now) row slot.now (lists_after after lists.now)) }
 {
     match next {
         None => lists_without(alloc, lists, row, slot),
         Some(next) => {
-            let after = lists_without(alloc, &next, row, slot)?;
-            Ok(Some(or_same(next, after)))
+            let next = next_without(alloc, next, row, slot)?;
+            Ok(Some(next))
         }
     }
 }
 
-/// The lists afterwards.
-fn or_same(lists: Lists, after: Option<Lists>) -> Lists
-    ensures { result ≡ lists_after after lists }
+/// These lists without one of the filters with a program, and with a plan.
+// Not in line, so that its room on the stack isn't there while other lists are made.
+#[inline(never)]
+fn next_without(
+    alloc: Global,
+    next: NextLists,
+    row: Row,
+    slot: &Slot,
+) -> Result<NextLists, AllocError>
+    requires one { IsOneOf (Some slot.now) row.held }
+    requires listed { IsListedBy next row.number slot.now }
+    ensures { IfOk result (λ after. Leaves next row slot.now after) }
 {
-    match after {
-        Some(after) => after,
-        None => lists,
+    let after = without(alloc, next, row, slot)?;
+    let planned = after.planned(alloc)?;
+    Ok(planned)
+}
+
+/// These lists without one of the filters with a program.
+fn without(alloc: Global, next: NextLists, row: Row, slot: &Slot) -> Result<NextLists, AllocError>
+    requires one { IsOneOf (Some slot.now) row.held }
+    requires listed { IsListedBy next row.number slot.now }
+    ensures { IfOk result (λ after. Leaves next row slot.now after) }
+{
+    if stays(row, slot) {
+        return Ok(next);
+    }
+    taken_out(alloc, next, row, slot)
+}
+
+/// Whether a program stays in its list when one of its filters goes.
+fn stays(row: Row, slot: &Slot) -> bool
+    ensures yes { IsTrue result → Stays row.held slot.now }
+    ensures no { IsFalse result → Stays row.held slot.now → ⊥ }
+{
+    if row.held {
+        slot.held > 1
+    } else {
+        slot.filters > 1
     }
 }
 
-/// The same for a filter whose capability is held.
-fn without_held(
-    alloc: Global,
-    lists: &Lists,
-    row: Row,
-    slot: &Slot,
-) -> Result<Option<Lists>, AllocError>
-    requires one { IsOneOf (Some slot.now) true }
-    requires listed { IsListedBy lists.now row.number slot.now }
-    requires held { row.held ≡ true }
-    ensures { IfOk result (λ after. (slots : List (Option AnySlot)) → AreListed (slot_at slots) lists.now.running lists.now.resting → AreProgramsApart slots → slot_at slots row.number ≡ Some slot.now
-        → AreListed (slots_without slots row) (lists_after after lists.now).running (lists_after after lists.now).resting) }
+/// These lists without a program, or with one that rests from now on.
+fn taken_out(alloc: Global, next: NextLists, row: Row, slot: &Slot) -> Result<NextLists, AllocError>
+    requires one { IsOneOf (Some slot.now) row.held }
+    requires listed { IsListedBy next row.number slot.now }
+    requires goes { Stays row.held slot.now → ⊥ }
+    ensures { IfOk result (λ after. Leaves next row slot.now after) }
 {
-    if slot.held > 1 {
-        return Ok(None);
+    if !row.held {
+        let after = next.left(alloc, &slot.program)?;
+        return Ok(after);
     }
     if slot.filters > 1 {
-        let after = lists.rested(alloc, &slot.program, row.number)?;
-        return Ok(Some(after));
+        let after = next.rested(alloc, &slot.program, row.number)?;
+        return Ok(after);
     }
-    let after = lists.stopped(alloc, &slot.program)?;
-    Ok(Some(after))
-}
-
-/// The same for a filter whose capability isn't held any more.
-fn without_lapsed(
-    alloc: Global,
-    lists: &Lists,
-    row: Row,
-    slot: &Slot,
-) -> Result<Option<Lists>, AllocError>
-    requires one { IsOneOf (Some slot.now) false }
-    requires listed { IsListedBy lists.now row.number slot.now }
-    requires held { row.held ≡ false }
-    ensures { IfOk result (λ after. (slots : List (Option AnySlot)) → AreListed (slot_at slots) lists.now.running lists.now.resting → AreProgramsApart slots → slot_at slots row.number ≡ Some slot.now
-        → AreListed (slots_without slots row) (lists_after after lists.now).running (lists_after after lists.now).resting) }
-{
-    if slot.filters > 1 {
-        return Ok(None);
-    }
-    let after = lists.left(alloc, &slot.program)?;
-    Ok(Some(after))
+    let after = next.stopped(alloc, &slot.program)?;
+    Ok(after)
 }

@@ -18,4 +18,4 @@ mod slots;
 
 pub use filters::Filters;
 pub use queries::{Filter, InstalledIter};
-pub use receiving::Scratch;
+pub use receiving::Workspace;

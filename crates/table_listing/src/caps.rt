@@ -38,7 +38,7 @@ pub fn list_caps(caps: &Caps, from: u32, room: &mut [CapRow]) -> usize
     count
 }
 
-// The row of a capability.
+/// The row of a capability.
 fn row_of(cap: Cap) -> CapRow
     ensures { result ≡ cap_row cap }
 {
@@ -51,7 +51,7 @@ fn row_of(cap: Cap) -> CapRow
     }
 }
 
-// The id of a parent, or 0.
+/// The id of a parent, or 0.
 fn parent_number(parent: Option<u32>) -> u32
     ensures { result ≡ parent_number parent }
 {
@@ -61,7 +61,7 @@ fn parent_number(parent: Option<u32>) -> u32
     }
 }
 
-// The number of a set of rights.
+/// The number of a set of rights.
 fn rights_number(rights: Rights) -> u8
     ensures { result ≡ rights_number rights }
 {

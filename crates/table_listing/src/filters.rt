@@ -41,7 +41,7 @@ pub fn list_filters(replica: &Replica, from: u32, room: &mut [FilterRow]) -> usi
     count
 }
 
-// The row of a filter.
+/// The row of a filter.
 fn row_of(filter: Filter<'_>) -> FilterRow
     requires { length filter.program.now ≤ 4096 }
     ensures { result ≡ filter_row (shown_filter filter.entry) }

@@ -11,7 +11,7 @@ ghost use Rattle.table_replica.specs.Boxed.{IsLapse};
 
 use chunked::Sorted;
 use filter_verify::Verified;
-use installed_filters::{Filter, Filters, InstalledIter, Scratch};
+use installed_filters::{Filter, Filters, InstalledIter, Workspace};
 use std::alloc::{AllocError, Global};
 use std::marker::Model;
 
@@ -97,20 +97,20 @@ impl BoxedFilters {
         }
     }
 
-    /// The endpoints that get a packet, in increasing order, each with the number of bytes that it keeps, in place of what the scratch
+    /// The endpoints that get a packet, in increasing order, each with the number of bytes that it keeps, in place of what the workspace
     /// kept.
     pub(crate) fn accepting_with(
         &self,
-        scratch: &mut Scratch,
+        workspace: &mut Workspace,
         bytes: &[u8],
         original: u32,
     ) -> Result<(), AllocError>
-        ensures { OnOk result ((caps : List AnyCap) → AreHeldBy caps self.now.now → AreReceivers caps (listed self.now.now) (record { bytes = bytes.now; original = original }) scratch.new.kept.items) }
+        ensures { OnOk result ((caps : List AnyCap) → AreHeldBy caps self.now.now → AreReceivers caps (listed self.now.now) (record { bytes = bytes.now; original = original }) workspace.new.kept.items) }
     {
         match &self.filters {
-            Some(filters) => filters.accepting_with(scratch, bytes, original),
+            Some(filters) => filters.accepting_with(workspace, bytes, original),
             None => {
-                scratch.kept.clear();
+                workspace.kept.clear();
                 Ok(())
             }
         }

@@ -16,9 +16,11 @@ pub use bpf_insn::Insn;
 use contents::Contents;
 pub use filter_table::{Kept, Limits, Load, Made, Op, OpFault, Program, StageFault};
 pub use filter_verify::Room;
-pub use installed_filters::{Filter, Scratch};
+pub use installed_filters::{Filter, Workspace};
 pub use replica::Replica;
+use thiserror::Error;
 
 /// Nothing is staged.
-#[derive(Clone, Copy, PartialEq, Eq, Debug, Drop)]
+#[derive(Clone, Copy, PartialEq, Eq, Debug, Drop, Error)]
+#[error("nothing is staged")]
 pub struct NothingStaged;

@@ -9,8 +9,8 @@ ghost use Rattle.filter_table.specs.Soundness.{IsSoundTable, IdsGrow};
 ghost use Rattle.filter_table.specs.declared.operation.Op.{Op as GhostOp};
 
 use crate::{
-    Contents, FilterIter, Insn, Kept, Limits, Load, Made, NothingStaged, Op, Room, Scratch,
-    StageFault,
+    Contents, FilterIter, Insn, Kept, Limits, Load, Made, NothingStaged, Op, Room, StageFault,
+    Workspace,
 };
 use endpoint_caps::Caps;
 use std::alloc::{AllocError, Global};
@@ -182,23 +182,23 @@ impl Replica {
     ) -> Result<Vec<Kept>, AllocError>
         ensures { IfOk result (λ kept. Accepting self.now.shown (record { bytes = bytes.now; original = original }) kept.items) }
     {
-        let mut scratch = Scratch::new(alloc);
-        self.accepting_with(&mut scratch, bytes, original)?;
-        Ok(scratch.into_kept())
+        let mut workspace = Workspace::new(alloc);
+        self.accepting_with(&mut workspace, bytes, original)?;
+        Ok(workspace.into_kept())
     }
 
-    /// The same, in place of what the scratch kept. Takes memory only where the scratch was never as long as the packet needs.
+    /// The same, in place of what the workspace kept. Takes memory only where the workspace was never as long as the packet needs.
     pub fn accepting_with(
         &self,
-        scratch: &mut Scratch,
+        workspace: &mut Workspace,
         bytes: &[u8],
         original: u32,
     ) -> Result<(), AllocError>
-        ensures { OnOk result (Accepting self.now.shown (record { bytes = bytes.now; original = original }) scratch.new.kept.items) }
+        ensures { OnOk result (Accepting self.now.shown (record { bytes = bytes.now; original = original }) workspace.new.kept.items) }
     {
         self.contents
             .filters()
-            .accepting_with(scratch, bytes, original)
+            .accepting_with(workspace, bytes, original)
     }
 
     /// What `stage` would answer, memory aside. Nothing changes. A program is verified in the room: no memory is taken.

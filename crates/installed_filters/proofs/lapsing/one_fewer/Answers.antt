@@ -19,16 +19,16 @@ returns-then-not-branch-clause-listed c =
     counted_on c.args.slots.now.slots counts c.count_up.new.counts.entries _ _ c.args.number s (sym c.in-Some.ensures) more c.requires.listed
     c.in_ok-count_up.ensures.counts still
 
-pub rest-requires-clause-runs : goal.rest-requires-clause-runs
-rest-requires-clause-runs c =
+pub rested-requires-clause-runs : goal.rested-requires-clause-runs
+rested-requires-clause-runs c =
     let counts = c.args.counts.now.entries in
     let s = c.in-Some.slot.now in
     let more = more_here c.args.slots.now.slots c.args.number (number_of (value_at counts c.args.number)) s c.in-Some.ensures c.requires.more in
     let listed = subst (λ (l : Lists). AreListed (slots_counted c.args.slots.now.slots counts) l.running l.resting) (sym c.in_ok-before.ensures) c.requires.listed in
     counted_runs c.args.slots.now.slots counts c.count_up.new.counts.entries c.in_ok-before.before.running c.in_ok-before.before.resting c.args.number s (sym c.in-Some.ensures) more listed c.requires.apart
 
-pub rest-requires-clause-fresh : goal.rest-requires-clause-fresh
-rest-requires-clause-fresh c =
+pub rested-requires-clause-fresh : goal.rested-requires-clause-fresh
+rested-requires-clause-fresh c =
     let counts = c.args.counts.now.entries in
     let s = c.in-Some.slot.now in
     let more = more_here c.args.slots.now.slots c.args.number (number_of (value_at counts c.args.number)) s c.in-Some.ensures c.requires.more in

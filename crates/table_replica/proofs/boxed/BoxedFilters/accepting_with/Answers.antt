@@ -10,5 +10,5 @@ use Rattle.table_replica.proofs.boxed.BoxedFilters.accepting_with.Goals as goal
 pub returns-in-Some : goal.returns-in-Some
 returns-in-Some c =
     let own : c.deref.result.now ≡ c.args.self.now = c.deref.ensures ∙ (sym (ap standing_in c.in-Some.is) ∙ c.self.view_is) in
-    subst (λ (s : Standing). OnOk c.accepting_with.result ((caps : List Cap) → AreHeldBy caps s.now → AreReceivers caps (listed s.now) (record { bytes = c.args.bytes.now; original = c.args.original }) c.accepting_with.new.scratch.kept.items))
+    subst (λ (s : Standing). OnOk c.accepting_with.result ((caps : List Cap) → AreHeldBy caps s.now → AreReceivers caps (listed s.now) (record { bytes = c.args.bytes.now; original = c.args.original }) c.accepting_with.new.workspace.kept.items))
     own c.accepting_with.ensures
