@@ -13,6 +13,7 @@ pub mod Turning
 pub mod Receipts
 pub mod Cores
 pub mod Consuming
+pub mod Attempts
 pub mod Passing
 pub mod Receiving
 pub mod Answering

@@ -6,6 +6,7 @@ use Rattle.monitor_messages.specs.declared.message.Message.TheVariants.{Vote, Ac
 use Rattle.monitor_messages.specs.Coding.{Coded}
 use Rattle.world_model.specs.Cases.{Outgoing, nothing, to_all, to_one}
 use Rattle.core_links.specs.Views.{LinkView}
+use Rattle.ump_ring.specs.Lines.{message_most}
 use Rattle.core_loop.specs.declared.refusal.Refusal.{Refusal}
 use Rattle.core_loop.specs.declared.refusal.Refusal.TheVariants as refusal
 use Rattle.core_loop.specs.declared.sending.Ready.{Ready}
@@ -13,7 +14,7 @@ use Rattle.core_loop.specs.declared.sending.Ready.TheVariants as ready
 
 -- these bytes can be sent over a link
 abbrev pub FitLink : List ℕ → Type 0
-FitLink bytes = (1 ≤ length bytes) × (length bytes ≤ 32832)
+FitLink bytes = (1 ≤ length bytes) × (length bytes ≤ message_most)
 
 -- these bytes fit in one line
 abbrev pub FitOneLine : List ℕ → Type 0

@@ -2,9 +2,8 @@
 
 ghost use Rattle.std.specs.Prelude.{◌≡◌, ◌≢◌, ◌≤◌, ◌<◌, ◌++◌, [], ℕ, false, IfOk, IfErr, IfSome, IfNone, IsTrue, OnErr, OnOk};
 ghost use Rattle.world_events.specs.declared.event.Event.TheVariants.{Take};
-ghost use Rattle.rx_queue.specs.Queue.{SameIntake};
-ghost use Rattle.core_loop.specs.Turning.{IsUnshortened, HaltsFor};
-ghost use Rattle.core_loop.specs.Consuming.{Consumes, ConsumesNone, HasNothingNow};
+ghost use Rattle.core_loop.specs.Attempts.{Attempts};
+ghost use Rattle.core_loop.specs.Turning.{IsUnshortened};
 ghost use Rattle.core_loop.specs.Events.{Acts};
 ghost use Rattle.core_loop.specs.Outcomes.{OnEvent, OnNone, OnIdle};
 ghost use Rattle.core_loop.specs.Cores.{begins, AreShort};
@@ -12,7 +11,7 @@ ghost use Rattle.core_loop.specs.Receipts.{receives};
 ghost use Rattle.core_loop.specs.Beginning.{CanBeginNext, CannotBegin, IsFitting};
 ghost use Rattle.core_loop.specs.Taking.{CannotTake, IsUnread, TakeHalts};
 ghost use Rattle.core_loop.specs.Carrying.{IsFirst};
-ghost use Rattle.core_loop.specs.Choosing.{ShowsNothing, IsLeastShowing, IsKnownAnswered, MustWait, NoMessageNow, IsNextRequest, IsNext};
+ghost use Rattle.core_loop.specs.Choosing.{ShowsNothing, IsLeastShowing, IsKnownAnswered, MustWait, NoMessageNow, IsNextRequest};
 
 use crate::cause::Cause;
 use crate::context::Context;
@@ -26,6 +25,7 @@ use filter_table::Op;
 use monitor_messages::{DecodeFault, Message, decode};
 use rx_queue::Intake;
 use std::collections::VecDeque;
+use table_replica::Workspace;
 use world_histories::Stamped;
 
 /// Begins the next request of a core of this number, if it can.
@@ -206,6 +206,7 @@ pub(crate) fn begin_or_receive<L: Links>(
     links: &mut L,
     requests: &mut VecDeque<Op>,
     intake: &mut Intake,
+    workspace: &mut Workspace,
     context: Context,
     rx: bool,
 ) -> Result<Option<Stamped>, Halt>
@@ -213,16 +214,10 @@ pub(crate) fn begin_or_receive<L: Links>(
     requires fits { IsFitting context.number context.cores part.old }
     requires short { AreShort context.number requests.old.items }
     requires no_message { NoMessageNow context.cores part.old (L.view links.old) }
-    ensures acts { OnEvent result (Acts context.number context.cores context.clock (L.view links.old) (L.view links.new) part.old part.new) }
-    ensures next { OnEvent result (λ s. IsNext context.cores context.begun_last part.old requests.old.items (L.view links.old) s.done.event) }
-    ensures consumes { OnEvent result (Consumes requests.old.items requests.new.items intake.old intake.new rx) }
-    ensures links { OnEvent result (λ _. L.same links.old links.new) }
-    ensures lines { (p : ℕ) → L.flow links.new p ≡ L.flow links.old p }
-    ensures queue { SameIntake intake.old intake.new }
-    ensures same { OnNone result ((part.new ≡ part.old) × (links.new ≡ links.old)) }
-    ensures none { OnNone result (ConsumesNone requests.old.items requests.new.items intake.old intake.new) }
-    ensures idle { OnIdle result (HasNothingNow context.cores part.old requests.old.items (L.view links.old) rx intake.new) }
-    ensures why { IfErr result (HaltsFor context.cores context.clock part.old requests.old.items (L.view links.old) rx intake.new) }
+    ensures { Attempts L.view L.flow L.same context rx
+        (record { part = part.old; links = links.old; requests = requests.old.items; intake = intake.old })
+        (record { part = part.new; links = links.new; requests = requests.new.items; intake = intake.new })
+        result }
 {
     match begin(part, links, requests, context) {
         Ok(Some(stamped)) => Ok(Some(stamped)),
@@ -232,7 +227,7 @@ pub(crate) fn begin_or_receive<L: Links>(
             if !rx {
                 return Ok(None);
             }
-            match receive(part.replica(), intake, context) {
+            match receive(part.replica(), intake, workspace, context) {
                 Ok(None) => Ok(None),
                 Ok(Some(stamped)) => Ok(Some(stamped)),
                 Err(Refusal::Spent) => Err(Halt::Spent),
@@ -248,6 +243,7 @@ pub(crate) fn first_event<L: Links>(
     links: &mut L,
     requests: &mut VecDeque<Op>,
     intake: &mut Intake,
+    workspace: &mut Workspace,
     shown: Option<u16>,
     context: Context,
     rx: bool,
@@ -257,23 +253,17 @@ pub(crate) fn first_event<L: Links>(
     requires short { AreShort context.number requests.old.items }
     requires least { IfSome shown (IsLeastShowing context.cores (L.view links.old)) }
     requires none { IfNone shown ((p : ℕ) → p < context.cores → ShowsNothing (L.view links.old p)) }
-    ensures acts { OnEvent result (Acts context.number context.cores context.clock (L.view links.old) (L.view links.new) part.old part.new) }
-    ensures next { OnEvent result (λ s. IsNext context.cores context.begun_last part.old requests.old.items (L.view links.old) s.done.event) }
-    ensures consumes { OnEvent result (Consumes requests.old.items requests.new.items intake.old intake.new rx) }
-    ensures links { OnEvent result (λ _. L.same links.old links.new) }
-    ensures lines { (p : ℕ) → L.flow links.new p ≡ L.flow links.old p }
-    ensures queue { SameIntake intake.old intake.new }
-    ensures same { OnNone result ((part.new ≡ part.old) × (links.new ≡ links.old)) }
-    ensures none { OnNone result (ConsumesNone requests.old.items requests.new.items intake.old intake.new) }
-    ensures idle { OnIdle result (HasNothingNow context.cores part.old requests.old.items (L.view links.old) rx intake.new) }
-    ensures why { IfErr result (HaltsFor context.cores context.clock part.old requests.old.items (L.view links.old) rx intake.new) }
+    ensures { Attempts L.view L.flow L.same context rx
+        (record { part = part.old; links = links.old; requests = requests.old.items; intake = intake.old })
+        (record { part = part.new; links = links.new; requests = requests.new.items; intake = intake.new })
+        result }
 {
     let Some(peer) = shown else {
-        return begin_or_receive(part, links, requests, intake, context, rx);
+        return begin_or_receive(part, links, requests, intake, workspace, context, rx);
     };
     match take_kept(part, links, peer, context) {
         Ok(Some(stamped)) => Ok(Some(stamped)),
         Err(halt) => Err(halt),
-        Ok(None) => begin_or_receive(part, links, requests, intake, context, rx),
+        Ok(None) => begin_or_receive(part, links, requests, intake, workspace, context, rx),
     }
 }

@@ -6,13 +6,14 @@ use core_links::{Busy, ListLinks};
 impl Core<ListLinks> {
     ghost use Rattle.std.specs.Prelude.{◌≡◌, ◌≢◌, ◌≤◌, [], ℕ, None, IfErr, OnOk, IsTrue, IsFalse, length, vec_len};
     ghost use Rattle.ump_ring.specs.Joiners.{shown_items};
+    ghost use Rattle.ump_ring.specs.Lines.{message_most};
     ghost use Rattle.core_links.specs.Views.{AtPeer, last_in};
     ghost use Rattle.core_links.specs.ListSlots.{list_view, messages_given, messages_collected, messages_uncollected, give_capacity, SameLists, GivesMessage, CollectsMessage};
 
     /// Gives a message of 1 to 32,832 bytes as a peer's, which the core can take then, or hands it back where as many were
     /// given as the links keep. Takes no memory.
     pub fn give(&mut self, peer: u16, message: Vec<u8>) -> Result<(), Busy>
-        requires length { (1 ≤ vec_len message) × (vec_len message ≤ 32832) }
+        requires length { (1 ≤ vec_len message) × (vec_len message ≤ message_most) }
         ensures core { self.new ≡ record self.old { links = self.new.links } }
         ensures ok { OnOk result (GivesMessage self.old.links self.new.links peer message.items) }
         ensures busy { IfErr result (λ back. (back.0 ≡ message) × (length (messages_given self.old.links peer) ≡ give_capacity self.old.links peer)) }

@@ -11,7 +11,7 @@ use crate::running::Core;
 use core_links::Links;
 use filter_table::{Kept, Op};
 use std::alloc::AllocError;
-use table_replica::{Replica, Scratch};
+use table_replica::{Replica, Workspace};
 use thiserror::Error;
 
 /// Why a packet isn't received. Nothing has changed.
@@ -98,7 +98,7 @@ impl<L: Links> Core<L> {
             return Err(NotReceived::Spent);
         };
         let replica = self.part.replica();
-        let count = accepting_into(replica, &mut self.scratch, bytes, original, room)?;
+        let count = accepting_into(replica, &mut self.workspace, bytes, original, room)?;
         let version = replica.version();
         self.history = noted_receipt(
             &self.history,
@@ -117,7 +117,7 @@ impl<L: Links> Core<L> {
 // The endpoints that get a packet by the shown table, at the front of the room.
 fn accepting_into(
     replica: &Replica,
-    scratch: &mut Scratch,
+    workspace: &mut Workspace,
     bytes: &[u8],
     original: u32,
     room: &mut [Kept],
@@ -128,14 +128,14 @@ fn accepting_into(
     ensures why { IfErr result (LacksRoom replica.now.shown bytes.now original (length room.old)) }
     ensures same_room { OnErr result (room.new ≡ room.old) }
 {
-    if replica.accepting_with(scratch, bytes, original).is_err() {
+    if replica.accepting_with(workspace, bytes, original).is_err() {
         return Err(NotReceived::NoMemory);
     }
-    let count = scratch.kept.len();
+    let count = workspace.kept.len();
     if count > room.len() {
         return Err(NotReceived::NoRoom(count));
     }
-    write_front(room, &scratch.kept);
+    write_front(room, &workspace.kept);
     Ok(count)
 }
 

@@ -1,24 +1,29 @@
 //! The receipt of a packet.
 
-ghost use Rattle.std.specs.Prelude.{◌≡◌, ◌++◌, ℕ, IfErr, OnErr};
+ghost use Rattle.std.specs.Prelude.{◌≡◌, ◌≤◌, ◌++◌, ℕ, IfOk, IfErr, OnErr};
 ghost use mathlib.Core.List.{IsPrefix};
 ghost use Rattle.rx_queue.specs.declared.job.Job.{Job as GhostJob};
 ghost use Rattle.rx_queue.specs.Queue.{jobs_seen, jobs_taken, SameIntake};
+ghost use Rattle.world_model.specs.Cases.{ReceivesAt};
 ghost use Rattle.core_loop.specs.Outcomes.{OnEvent, OnNone, OnIdle};
 ghost use Rattle.core_loop.specs.Receipts.{IsReceivable, Receives, receives, CannotReceive};
 
 use crate::context::Context;
 use crate::looking::can_receive;
 use crate::refusal::{Refusal, next_stamp};
+use filter_table::KeptList;
+use pcap_reader::SharedPacket;
 use rx_queue::Intake;
-use table_replica::Replica;
-use world_events::{Done, Event};
+use std::alloc::{AllocError, Global};
+use table_replica::{Replica, Workspace};
+use world_events::{Answer, Done, Event};
 use world_histories::Stamped;
 
 /// Receives the front job of a core, if it has one whose floor is at most its version.
 pub(crate) fn receive(
     replica: &Replica,
     intake: &mut Intake,
+    workspace: &mut Workspace,
     context: Context,
 ) -> Result<Option<Stamped>, Refusal>
     ensures receives { OnEvent result (Receives context.number context.clock replica.now) }
@@ -40,7 +45,7 @@ pub(crate) fn receive(
     let Some(stamp) = next_stamp(context.clock, 0) else {
         return Err(Refusal::Spent);
     };
-    let Ok(answer) = core_steps::receive(replica, context.alloc, &job.packet) else {
+    let Ok(answer) = delivery(replica, workspace, context.alloc, &job.packet) else {
         return Err(Refusal::NoMemory);
     };
     let Some(job) = intake.next() else {
@@ -56,4 +61,22 @@ pub(crate) fn receive(
         stamp,
         done: Done { event, answer },
     }))
+}
+
+/// What a replica answers to a packet. It works with the lists of the workspace. Memory is taken once, for the list that the answer keeps, and
+/// none where no endpoint gets the packet.
+fn delivery(
+    replica: &Replica,
+    workspace: &mut Workspace,
+    alloc: Global,
+    packet: &SharedPacket,
+) -> Result<Answer, AllocError>
+    ensures { (floor : ℕ) → floor ≤ replica.now.shown.version → IfOk result (ReceivesAt replica.now.shown replica.now.shown.version packet.now floor) }
+{
+    replica.accepting_with(workspace, packet.bytes(), packet.original())?;
+    let kept = Vec::from_slice(alloc, &workspace.kept)?;
+    Ok(Answer::Delivered {
+        version: replica.version(),
+        kept: KeptList::from_vec(kept),
+    })
 }

@@ -17,7 +17,7 @@ use rx_queue::{Intake, Job, Port};
 use std::alloc::{AllocError, Global};
 use std::collections::VecDeque;
 use std::marker::Model;
-use table_replica::{Replica, Scratch};
+use table_replica::{Replica, Workspace};
 use world_histories::Stamped;
 
 /// A core. Its history is a list that only proofs read, so its memory doesn't grow with what it does.
@@ -35,8 +35,8 @@ pub struct Core<L: Links> {
     pub(crate) history: Log<Stamped>,
     // The core whose request core 0 began last.
     pub(crate) begun_last: u16,
-    // What a receipt writes before it is known whether there is room, and its working lists.
-    pub(crate) scratch: Scratch,
+    // What a receipt works with, and writes before it is kept or handed out.
+    pub(crate) workspace: Workspace,
     pub(crate) stopped: Option<Cause>,
 }
 
@@ -55,7 +55,7 @@ impl<L: Links> Drop for Core<L> {
             intake: _,
             history: _,
             begun_last: _,
-            scratch: _,
+            workspace: _,
             stopped: _,
         } = self;
     }
@@ -137,7 +137,7 @@ impl<L: Links> Core<L> {
             intake,
             history: Log::new(),
             begun_last: 0,
-            scratch: Scratch::new(alloc),
+            workspace: Workspace::new(alloc),
             stopped: None,
         })
     }
@@ -200,6 +200,7 @@ impl<L: Links> Core<L> {
             &mut self.links,
             &mut self.requests,
             &mut self.intake,
+            &mut self.workspace,
             context,
             rx,
         ) {
