@@ -128,7 +128,7 @@ impl Core0 {
         Ok(Outgoing::ToAll(self.prepare(op)?))
     }
 
-    // The message that asks the other cores for their votes on a request.
+    /// The message that asks the other cores for their votes on a request.
     fn prepare(&self, op: &Op) -> Result<Message, AllocError>
         requires { self.now.coordinator.last < 18446744073709551615 }
         ensures { IfOk result (λ m. m ≡ message.Prepare (self.now.coordinator.last + 1) op.now) }
@@ -223,8 +223,8 @@ impl Core0 {
         ensures same { OnErr result (self.new ≡ self.old) }
     {
         match message {
-            Message::Vote { txn, vote } => self.vote(from, txn, vote),
-            Message::Ack { txn } => self.ack(from, txn),
+            Message::Vote { txn, vote } => self.hear_vote(from, txn, vote),
+            Message::Ack { txn } => self.hear_ack(from, txn),
             Message::Submit { op } => self.keep(from, op),
             Message::Prepare { .. }
             | Message::Commit { .. }
@@ -233,13 +233,15 @@ impl Core0 {
         }
     }
 
-    fn vote(&mut self, from: u16, txn: u64, vote: Vote) -> Result<Told, Stranger>
+    fn hear_vote(&mut self, from: u16, txn: u64, vote: Vote) -> Result<Told, Stranger>
         requires { BetweenSteps self.old }
         ensures taken { IfOk result (TakesUp self.old from (message.Vote txn vote) self.new) }
         ensures stranger { OnErr result ((entry : ℕ) → from ≡ suc entry → Expects (core0_place self.old) self.old.coordinator.requests entry (message.Vote txn vote) → ⊥) }
         ensures same { OnErr result (self.new ≡ self.old) }
     {
-        let step = self.coordinator.vote(&mut self.replica, from, txn, vote)?;
+        let step = self
+            .coordinator
+            .hear_vote(&mut self.replica, from, txn, vote)?;
         Ok(Told {
             step,
             answer: Answer::TookVote {
@@ -250,13 +252,13 @@ impl Core0 {
         })
     }
 
-    fn ack(&mut self, from: u16, txn: u64) -> Result<Told, Stranger>
+    fn hear_ack(&mut self, from: u16, txn: u64) -> Result<Told, Stranger>
         requires { BetweenSteps self.old }
         ensures taken { IfOk result (TakesUp self.old from (message.Ack txn) self.new) }
         ensures stranger { OnErr result ((entry : ℕ) → from ≡ suc entry → Expects (core0_place self.old) self.old.coordinator.requests entry (message.Ack txn) → ⊥) }
         ensures same { OnErr result (self.new ≡ self.old) }
     {
-        let step = self.coordinator.ack(from, txn)?;
+        let step = self.coordinator.hear_ack(from, txn)?;
         Ok(Told {
             step,
             answer: Answer::TookAck { txn },
@@ -282,7 +284,7 @@ impl Core0 {
     }
 }
 
-// What a start answers.
+/// What a start answers.
 fn answer_to_start(step: &Step) -> Answer
     ensures { result ≡ start_told step.now.txn step.now.decided }
 {

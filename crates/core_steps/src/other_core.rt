@@ -119,7 +119,7 @@ impl OtherCore {
         ensures takes { (op : GhostOp) (short : Bool) (before : GhostCore) → IsBetweenSteps before → Considers short before (message.Prepare txn op) (Some (message.Vote txn vote)) self.old → TakesDown short before (message.Prepare txn op) self.new result }
         ensures sent { (short : Bool) → sent_up (Take 0 0 short) result ≡ Some (message.Vote txn vote) }
     {
-        self.participant.vote(txn, vote);
+        self.participant.cast(txn, vote);
         Answer::TookPrepare { txn, vote }
     }
 

@@ -13,6 +13,7 @@ use monitor_messages::{Carrier, Loaded, decode_into};
 use std::alloc::{AllocError, Global};
 use std::marker::Model;
 use table_replica::Replica;
+use thiserror::Error;
 
 /// How a core votes on the operation of a Prepare with this stamp and this number.
 #[derive(Clone, Copy, PartialEq, Eq, Debug)]
@@ -23,11 +24,13 @@ pub struct Ballot {
 }
 
 /// Why it doesn't vote.
-#[derive(Clone, Copy, PartialEq, Eq, Debug)]
+#[derive(Clone, Copy, PartialEq, Eq, Debug, Error)]
 pub enum Unread {
     /// The bytes are no message's.
+    #[error("the bytes are no message's")]
     BadMessage,
     /// The message fits no phase of the protocol.
+    #[error("the message fits no phase of the protocol")]
     Stranger,
 }
 
@@ -89,7 +92,7 @@ impl Spare {
     }
 }
 
-// The same once it is read.
+/// The same once it is read.
 fn loaded_ballot(
     room: &mut Room,
     participant: &Participant,

@@ -206,7 +206,7 @@ impl Coordinator {
         Ok(self.begin_for(replica, from, refusal))
     }
 
-    // Whether a request can be started.
+    /// Whether a request can be started.
     fn ready(&self) -> Result<(), StartFault>
         ensures idle { OnOk result (self.now.phase ≡ Idle) }
         ensures unspent { OnOk result (self.now.last < 18446744073709551615) }
@@ -285,7 +285,7 @@ impl Coordinator {
     }
 
     /// Takes a vote. With the last one the operation is decided. A stranger changes nothing. Takes no memory.
-    pub fn vote(
+    pub fn hear_vote(
         &mut self,
         replica: &mut Replica,
         from: u16,
@@ -353,7 +353,7 @@ impl Coordinator {
         reply_of(self.asker, self.decided)
     }
 
-    // Waits until every other core has acknowledged the decision.
+    /// Waits until every other core has acknowledged the decision.
     fn decide(&mut self, decided: Option<Decision>)
         ensures { self.new ≡ record self.old { phase = Acking (replicate self.old.others false); requests = with_decided self.old.requests decided } }
     {
@@ -364,7 +364,7 @@ impl Coordinator {
 
     /// Takes an acknowledgement; the last one sends the decision to the core that asked. A stranger changes nothing. Takes no
     /// memory.
-    pub fn ack(&mut self, from: u16, txn: u64) -> Result<Step, Stranger>
+    pub fn hear_ack(&mut self, from: u16, txn: u64) -> Result<Step, Stranger>
         ensures heard { IfOk result (λ told. (entry : ℕ) × (from ≡ suc entry)
             × HearsAck (coordinator_place self.old None) self.old.requests entry txn (coordinator_place self.new None) self.new.requests told) }
         ensures others { self.new.others ≡ self.old.others }
@@ -396,7 +396,7 @@ impl Coordinator {
     }
 }
 
-// The decision for the core that asked.
+/// The decision for the core that asked.
 fn reply_of(asker: Option<u16>, decided: Option<Decision>) -> Option<(u16, Decision)>
     ensures { result ≡ reply_of asker decided }
 {
@@ -417,7 +417,7 @@ pub fn veto_of(fault: StageFault) -> Veto
     }
 }
 
-// Why a core refuses that voted so.
+/// Why a core refuses that voted so.
 fn veto_by(vote: Vote) -> Veto
     ensures { result ≡ veto_by vote }
 {
@@ -427,7 +427,7 @@ fn veto_by(vote: Vote) -> Veto
     }
 }
 
-// Commits what is staged, and tells so.
+/// Commits what is staged, and tells so.
 fn committed_step(txn: u64, say: Option<Say>, replica: &mut Replica) -> Step
     requires { IsSome replica.old.staged }
     ensures { (op : GhostOp) × (replica.old.staged ≡ Some op) × (result ≡ step txn say (Some (Committed (replica.old.shown.version + 1) (made replica.old.shown op))))
@@ -448,7 +448,7 @@ fn committed_step(txn: u64, say: Option<Say>, replica: &mut Replica) -> Step
     }
 }
 
-// Refuses what could not be staged, and tells so.
+/// Refuses what could not be staged, and tells so.
 fn refused_step(txn: u64, fault: StageFault) -> Step
     ensures { result ≡ step txn None (Some (Refused 0 (veto_of fault))) }
 {
@@ -463,7 +463,7 @@ fn refused_step(txn: u64, fault: StageFault) -> Step
     }
 }
 
-// Gives up what is staged, and tells so.
+/// Gives up what is staged, and tells so.
 fn aborted_step(txn: u64, core: u16, against: Vote, replica: &mut Replica) -> Step
     ensures told { result ≡ step txn (Some Abort) (Some (Refused core (veto_by against))) }
     ensures replica { replica.new ≡ record replica.old { staged = None } }

@@ -165,7 +165,7 @@ impl Participant {
         ensures same_staged { OnErr result (replica.new.staged ≡ replica.old.staged) }
     {
         let vote = self.ballot(alloc, room, replica, txn, op, short)?;
-        self.vote(txn, vote);
+        self.cast(txn, vote);
         Ok(Message::Vote { txn, vote })
     }
 
@@ -226,7 +226,7 @@ impl Participant {
     }
 
     /// Casts the vote on an operation.
-    pub fn vote(&mut self, txn: u64, vote: Vote)
+    pub fn cast(&mut self, txn: u64, vote: Vote)
         ensures { self.new ≡ record self.old { last = txn; voted = Some vote } }
     {
         self.last = txn;
@@ -278,7 +278,7 @@ impl Participant {
     }
 }
 
-// The vote on an operation, which stays staged where it is Yes. A rule that refuses it makes it a stranger.
+/// The vote on an operation, which stays staged where it is Yes. A rule that refuses it makes it a stranger.
 fn staged_vote(
     alloc: Global,
     room: &mut Room,
@@ -303,7 +303,7 @@ fn staged_vote(
     }
 }
 
-// The vote on an operation that isn't staged.
+/// The vote on an operation that isn't staged.
 #[tactic(auto, using(filter_table::proofs::Tables::over_budget))]
 fn unstaged_vote(room: &mut Room, replica: &Replica, op: &Op) -> Result<Vote, Stranger>
     requires { replica.now.staged ≡ None }
@@ -319,7 +319,7 @@ fn unstaged_vote(room: &mut Room, replica: &Replica, op: &Op) -> Result<Vote, St
     }
 }
 
-// The same where the program lies elsewhere.
+/// The same where the program lies elsewhere.
 #[tactic(auto, using(filter_table::proofs::Tables::over_budget))]
 fn loaded_vote(
     room: &mut Room,

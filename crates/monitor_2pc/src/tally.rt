@@ -102,7 +102,7 @@ impl VoteList {
     }
 }
 
-// What votes come to, none of which is missing.
+/// What votes come to, none of which is missing.
 fn outcome_of(votes: &[Option<Vote>]) -> Tally
     requires few { length votes.now < MOST_CORES }
     requires full { (i : ℕ) → slice_get votes.now i ≢ Some None }
@@ -118,7 +118,7 @@ fn outcome_of(votes: &[Option<Vote>]) -> Tally
     Tally::AllYes
 }
 
-// What core 0 says on these votes, with this one at the entry.
+/// What core 0 says on these votes, with this one at the entry.
 fn verdict_of(votes: &[Option<Vote>], entry: usize, vote: Vote) -> Option<Say>
     ensures { SaysOn (slice_set votes.now entry (Some vote)) result }
 {

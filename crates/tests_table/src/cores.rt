@@ -56,11 +56,11 @@ impl Core0 {
 
     /// What it says when it hears a vote; none where the vote fits nothing.
     pub fn hears(&mut self, from: u16, txn: u64, vote: Vote) -> Option<Step> {
-        self.core.vote(&mut self.table, from, txn, vote).ok()
+        self.core.hear_vote(&mut self.table, from, txn, vote).ok()
     }
 
     pub fn hears_end(&mut self, from: u16, txn: u64) -> Option<Step> {
-        self.core.ack(from, txn).ok()
+        self.core.hear_ack(from, txn).ok()
     }
 }
 
