@@ -14,7 +14,7 @@ use draw_engine::run_draw;
 use engine_io::{EngineFault, INPUT_READS, Sink, Source};
 use graph_engine::{run_explain, run_graph};
 use keep_engine::{Wanted, run_keep};
-use run_engine::{Gate, RunFailure, run_script};
+use run_engine::{RunFailure, Watcher, run_script};
 use sim_engine::run_sim;
 use std::alloc::Global;
 use std::io::{Read, Write};
@@ -42,12 +42,12 @@ pub fn most_reads(request: &Request) -> u64
 /// several and none was named. No clause speaks of it.
 ///
 /// Only `sim` and `run` take captures, which they read after the input and in order, and only `run` starts threads, whose receipts
-/// ask the gate. After a failure a front of the text may have been written; where a read failed, only by a stream. The records of
+/// ask the watcher. After a failure a front of the text may have been written; where a read failed, only by a stream. The records of
 /// the sources and of the sink say which of them failed.
-pub fn perform<T: Threads + Wait + Clock + Sync, G: Gate + Sync, R: Read, F: Read, W: Write>(
+pub fn perform<T: Threads + Wait + Clock + Sync, G: Watcher + Sync, R: Read, F: Read, W: Write>(
     rt: &T,
     alloc: Global,
-    gate: &G,
+    watcher: &G,
     request: &Request,
     link: Option<u32>,
     captures: &mut [Source<F>],
@@ -71,7 +71,7 @@ pub fn perform<T: Threads + Wait + Clock + Sync, G: Gate + Sync, R: Read, F: Rea
 {
     match request {
         Request::Sim { .. } => Ok(run_sim(alloc, captures, reader, writer)?),
-        Request::Run { .. } => run_script(rt, alloc, gate, captures, reader, writer),
+        Request::Run { .. } => run_script(rt, alloc, watcher, captures, reader, writer),
         _ => Ok(perform_alone(alloc, request, link, reader, writer, complaint, links)?),
     }
 }

@@ -9,6 +9,6 @@ pub mod Finishes
 pub mod Loads
 pub mod Recording
 pub mod Turns
-pub mod Gates
+pub mod Watchers
 pub mod Runs
 pub mod Resting

@@ -10,4 +10,4 @@ pub mod Searching
 pub mod Finishing
 pub mod Loading
 pub mod Recording
-pub mod Gates
+pub mod Watchers

@@ -1,6 +1,9 @@
 -- A run whose cores were settled after their threads were joined, where its work was not done.
 use Rattle.std.specs.Prelude.{◌≡◌, ◌≤◌, ◌∷◌, ℕ, List, Option, Some, None, slice_get, IfNone, IfSome}
+use Rattle.filter_table.specs.Limits.{TableLimits}
+use Rattle.filter_table.specs.declared.operation.Op.{Op}
 use Rattle.rx_queue.specs.declared.job.Job.{Job}
+use Rattle.core_boot.specs.Booting.{IsMachineOf, HaveRequests}
 use Rattle.core_boot.specs.Lanes.{items_for}
 use Rattle.core_join.specs.Machines.{RingCore, AreSameCores}
 use Rattle.core_join.specs.Conclusions.{AreRunning, version_of_core}
@@ -58,3 +61,13 @@ pub record StaysUndone (machine : List RingCore) (jobs : List (ℕ × Job)) (cor
 abbrev pub RunsToRest : List RingCore → List (ℕ × Job) → List RingCore → List (ℕ × Job) → Option (ℕ × Halt) → Type 0
 RunsToRest machine jobs cores left None = EndsRightly machine jobs cores left None
 RunsToRest machine jobs cores left (Some why) = StaysUndone machine jobs cores left why
+
+-- Cores that were booted with these limits, these budgets and these requests ran with these jobs, and were settled. The work isn't done, for
+-- this core, and this.
+pub record HasHalted (limits : TableLimits) (budgets : List ℕ) (requests : List (ℕ × Op)) (jobs : List (ℕ × Job)) (core : ℕ) (why : Halt) : Type 0 where
+  pub machine : List RingCore
+  pub cores : List RingCore
+  pub left : List (ℕ × Job)
+  pub is_machine : IsMachineOf limits budgets machine
+  pub has_requests : HaveRequests requests machine
+  pub rests : RunsToRest machine jobs cores left (Some (core, why))

@@ -3,10 +3,10 @@
 use std::thread;
 use std::time::{Clock, Duration};
 
-// So many times in a row a thread yields before it sleeps.
+/// So many times in a row a thread yields before it sleeps.
 const YIELDS: u64 = 256;
 
-// A sleep, in microseconds.
+/// A sleep, in microseconds.
 const SLEEP: u64 = 50;
 
 /// Counts how often in a row a thread found nothing to do.

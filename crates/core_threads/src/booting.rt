@@ -15,7 +15,7 @@ use filter_table::{Limits, Op};
 use monitor_2pc::DEFAULT_MOST_CORES;
 use std::alloc::{AllocError, Global};
 
-// Each core with an empty list.
+/// Each core with an empty list.
 fn record_all(
     alloc: Global,
     cores: Vec<Core<RingLinks>>,

@@ -13,7 +13,7 @@ use core_loop::{Core, RingLinks};
 use rx_queue::Job;
 use std::alloc::{AllocError, Global};
 
-// The least core that halted, and why.
+/// The least core that halted, and why.
 fn first_halt(ran: &[Ran]) -> Option<(u16, Halt)>
     requires { AreInPlace ran.now }
     ensures { MatchOption result (NoneHalted ran.now) (λ halted. HaltedAt ran.now halted.0 halted.1) }
@@ -27,7 +27,7 @@ fn first_halt(ran: &[Ran]) -> Option<(u16, Halt)>
     None
 }
 
-// The floor of a core's first job.
+/// The floor of a core's first job.
 fn first_floor(number: u16, left: &[(u16, Job)]) -> Option<u64>
     ensures { MatchOption result (items_for number left.now ≡ []) (IsFirstFloor (items_for number left.now)) }
 {
@@ -54,7 +54,7 @@ pub(crate) fn is_at_end(core: &Core<RingLinks>, left: &[(u16, Job)]) -> bool
     }
 }
 
-// The least core that has something to do, where these are the jobs that are left.
+/// The least core that has something to do, where these are the jobs that are left.
 fn first_unfinished(ran: &[Ran], left: &[(u16, Job)]) -> Option<u16>
     requires { AreInPlace ran.now }
     ensures { MatchOption result (AreDone ran.now left.now) (UnfinishedAt ran.now left.now) }
@@ -90,7 +90,7 @@ pub(crate) fn cores_of(alloc: Global, ran: Vec<Ran>) -> Result<Vec<Recorded<Ring
     ran.into_iter().map(|ran| ran.core).collect(alloc)
 }
 
-// Why a core halted, if it did.
+/// Why a core halted, if it did.
 fn halt_of(ran: &Ran) -> Option<Halt>
     ensures { result ≡ ran.now.halted }
 {

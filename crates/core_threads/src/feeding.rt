@@ -19,24 +19,24 @@ const BATCH: usize = 16;
 #[derive(Drop)]
 pub(crate) struct Outlet {
     pub(crate) port: Port,
-    // The job that the queue had no place for.
+    /// The job that the queue had no place for.
     pub(crate) held: Option<Job>,
-    // The jobs after it.
+    /// The jobs after it.
     pub(crate) later: VecDeque<Job>,
 }
 
-// What a try to put jobs led to.
+/// What a try to put jobs led to.
 #[derive(Clone, Copy)]
 enum Fed {
-    // Jobs were put.
+    /// Jobs were put.
     Moved,
-    // There are jobs, and no queue took one.
+    /// There are jobs, and no queue took one.
     Stuck,
-    // No job is left to put, or its core has ended.
+    /// No job is left to put, or its core has ended.
     Done,
 }
 
-// What two tries led to.
+/// What two tries led to.
 fn both(first: Fed, second: Fed) -> Fed {
     match (first, second) {
         (Fed::Moved, _) | (_, Fed::Moved) => Fed::Moved,
@@ -45,7 +45,7 @@ fn both(first: Fed, second: Fed) -> Fed {
     }
 }
 
-// Puts the next job of one core, and says whether the queue took it.
+/// Puts the next job of one core, and says whether the queue took it.
 fn put_next(outlet: &mut Outlet) -> bool
     ensures { SameOutlet outlet.old outlet.new }
 {
@@ -65,7 +65,7 @@ fn put_next(outlet: &mut Outlet) -> bool
     }
 }
 
-// Puts some jobs of one core that has not ended, as far as there is room.
+/// Puts some jobs of one core that has not ended, as far as there is room.
 fn put_batch(outlet: &mut Outlet) -> Fed
     ensures { SameOutlet outlet.old outlet.new }
 {
@@ -83,7 +83,7 @@ fn put_batch(outlet: &mut Outlet) -> Fed
     }
 }
 
-// Puts some jobs of one core.
+/// Puts some jobs of one core.
 fn put_for(core: usize, outlet: &mut Outlet, flags: &Flags) -> Fed
     ensures { SameOutlet outlet.old outlet.new }
 {
@@ -93,7 +93,7 @@ fn put_for(core: usize, outlet: &mut Outlet, flags: &Flags) -> Fed
     put_batch(outlet)
 }
 
-// Puts some jobs of each core.
+/// Puts some jobs of each core.
 fn put_some(outlets: &mut [Outlet], flags: &Flags) -> Fed
     ensures { AllZip SameOutlet outlets.old outlets.new }
 {

@@ -4,7 +4,7 @@ use crossbeam_utils::CachePadded;
 use std::alloc::{AllocError, Global};
 use std::sync::atomic::{AtomicBool, Ordering};
 
-// A flag alone on its cache line.
+/// A flag alone on its cache line.
 type Flag = CachePadded<AtomicBool>;
 
 /// The flags of one run. Each is set once at most.

@@ -13,7 +13,7 @@ use rx_queue::{Job, Port};
 use std::alloc::{AllocError, Global};
 use std::collections::VecDeque;
 
-// Leaves what was put for a core and not received.
+/// Leaves what was put for a core and not received.
 fn leave_put(
     number: u16,
     core: &mut Recorded<RingLinks>,
@@ -30,7 +30,7 @@ fn leave_put(
     Ok(())
 }
 
-// Leaves the job that the queue had no place for.
+/// Leaves the job that the queue had no place for.
 fn leave_held(
     number: u16,
     held: &mut Option<Job>,
@@ -44,7 +44,7 @@ fn leave_held(
     Ok(())
 }
 
-// Leaves the jobs after it.
+/// Leaves the jobs after it.
 fn leave_later(
     number: u16,
     later: &mut VecDeque<Job>,
@@ -58,7 +58,7 @@ fn leave_later(
     Ok(())
 }
 
-// Leaves the jobs of a core that it has not received, in order.
+/// Leaves the jobs of a core that it has not received, in order.
 fn leave_jobs(
     core: &mut Recorded<RingLinks>,
     outlet: &mut Outlet,

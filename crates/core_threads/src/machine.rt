@@ -11,11 +11,11 @@ ghost use Rattle.core_threads.specs.Loading.{AreLoaded};
 use crate::ending::{cores_of, halts_of, why_halted};
 use crate::feeding::{Outlet, outlets_of};
 use crate::flags::Flags;
-use crate::gate::Gate;
 use crate::halt::{Halt, RunFault};
 use crate::leaving::leave_all;
 use crate::threads::{Joined, run_in_threads};
 use crate::turning::Bounds;
+use crate::watcher::Watcher;
 use core_boot::by_core;
 use core_join::Recorded;
 use core_loop::RingLinks;
@@ -57,7 +57,7 @@ pub struct Ended {
     pub halted: Option<(u16, Halt)>,
 }
 
-// What the joined threads came to.
+/// What the joined threads came to.
 fn finish(alloc: Global, joined: Joined) -> Result<Ended, AllocError>
     requires { CanFinish joined.ran.items joined.outlets.items }
     ensures finishes { IfOk result (λ ended. Finishes joined.ran.items joined.outlets.items ended.cores.items ended.left.items ended.halted) }
@@ -80,7 +80,7 @@ fn finish(alloc: Global, joined: Joined) -> Result<Ended, AllocError>
     })
 }
 
-// The cores of a machine, and the outlets with all jobs.
+/// The cores of a machine, and the outlets with all jobs.
 fn load(
     alloc: Global,
     machine: Machine,
@@ -97,7 +97,7 @@ fn load(
     Ok((cores, outlets))
 }
 
-// How many requests the cores other than core 0 have.
+/// How many requests the cores other than core 0 have.
 fn submitted(cores: &[Recorded<RingLinks>]) -> u64 {
     let mut count = 0u64;
     for core in cores {
@@ -112,12 +112,12 @@ fn submitted(cores: &[Recorded<RingLinks>]) -> u64 {
 /// Runs each core of a machine in a thread of its own, until all requests are decided and all jobs are received that can be. The
 /// calling thread puts the jobs, each in the queue of its core. A core halts after `limit` turns in a row that did nothing;
 /// where one halts, all end. No core stops, so none halts for a `Halt::Cause`. After an error the machine and the jobs are gone.
-pub fn run_machine<R: Threads + Wait + Clock + Sync, G: Gate + Sync>(
+pub fn run_machine<R: Threads + Wait + Clock + Sync, G: Watcher + Sync>(
     rt: &R,
     alloc: Global,
     machine: Machine,
     jobs: Vec<(u16, Job)>,
-    gate: &G,
+    watcher: &G,
     limit: u64,
 ) -> Result<Ended, RunFault>
     requires { All (λ j. j.0 < length machine.cores) jobs.items }
@@ -132,7 +132,7 @@ pub fn run_machine<R: Threads + Wait + Clock + Sync, G: Gate + Sync>(
         limit,
         submitted: submitted(&cores),
     };
-    let joined = run_in_threads(rt, alloc, cores, outlets, &flags, gate, bounds)?;
+    let joined = run_in_threads(rt, alloc, cores, outlets, &flags, watcher, bounds)?;
     let ended = finish(alloc, joined)?;
     Ok(ended)
 }

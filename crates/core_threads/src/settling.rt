@@ -8,9 +8,9 @@ ghost use Rattle.core_threads.specs.Searching.{EachIsAtEnd};
 ghost use Rattle.core_threads.specs.Settling.{HaveSettled, IsUndone, SettlesWhere, RunsToRest};
 
 use crate::ending::is_at_end;
-use crate::gate::Gate;
 use crate::halt::{Halt, RunFault};
 use crate::machine::{Ended, Machine, run_machine};
+use crate::watcher::Watcher;
 use core_join::Recorded;
 use core_loop::RingLinks;
 use core_settle::{Settled, settle};
@@ -36,12 +36,12 @@ pub struct Rested {
 /// halted, the machine is settled once the threads are joined: the cores are turned in this thread until all requests
 /// are decided, or a core lacks memory or a number. So the work is done, or `undone` says why not. After an error the
 /// machine and the jobs are gone.
-pub fn run_to_rest<R: Threads + Wait + Clock + Sync, G: Gate + Sync>(
+pub fn run_to_rest<R: Threads + Wait + Clock + Sync, G: Watcher + Sync>(
     rt: &R,
     alloc: Global,
     machine: Machine,
     jobs: Vec<(u16, Job)>,
-    gate: &G,
+    watcher: &G,
     limit: u64,
 ) -> Result<Rested, RunFault>
     requires { All (λ j. j.0 < length machine.cores) jobs.items }
@@ -50,7 +50,7 @@ pub fn run_to_rest<R: Threads + Wait + Clock + Sync, G: Gate + Sync>(
     ensures count { IfOk result (λ rested. length rested.cores.items ≡ length machine.cores) }
     ensures named { IfOk result (λ rested. IfSome rested.undone (λ why. why.0 < length rested.cores.items)) }
 {
-    let ended = run_machine(rt, alloc, machine, jobs, gate, limit)?;
+    let ended = run_machine(rt, alloc, machine, jobs, watcher, limit)?;
     let Ended {
         mut cores,
         left,
@@ -65,7 +65,7 @@ pub fn run_to_rest<R: Threads + Wait + Clock + Sync, G: Gate + Sync>(
     })
 }
 
-// Settles the cores of a machine whose threads were joined, where one had halted.
+/// Settles the cores of a machine whose threads were joined, where one had halted.
 fn settle_where_halted(
     cores: &mut [Recorded<RingLinks>],
     left: &[(u16, Job)],
@@ -80,8 +80,8 @@ fn settle_where_halted(
     }
 }
 
-// Settles the cores of a machine whose threads were joined after this one had halted. It answers for which core the work is
-// not done, and why, where it isn't.
+/// Settles the cores of a machine whose threads were joined after this one had halted. It answers for which core the work is
+/// not done, and why, where it isn't.
 fn settle_halted(
     cores: &mut [Recorded<RingLinks>],
     left: &[(u16, Job)],
@@ -101,7 +101,7 @@ fn settle_halted(
     }
 }
 
-// Whether all cores have nothing to do, where these are the jobs that are left.
+/// Whether all cores have nothing to do, where these are the jobs that are left.
 fn are_at_end(cores: &[Recorded<RingLinks>], left: &[(u16, Job)]) -> bool
     ensures { IsTrue result ↔ EachIsAtEnd cores.now left.now }
 {

@@ -9,9 +9,9 @@ ghost use Rattle.core_threads.specs.Runs.{ThreadRan};
 
 use crate::feeding::{Outlet, put_jobs};
 use crate::flags::Flags;
-use crate::gate::{Gate, Notes};
 use crate::halt::{Halt, RunFault};
 use crate::turning::{Bounds, run_core};
+use crate::watcher::{Notes, Watcher};
 use core_join::Recorded;
 use core_loop::RingLinks;
 use std::alloc::Global;
@@ -28,7 +28,7 @@ pub(crate) struct Ran {
     pub(crate) halted: Option<Halt>,
 }
 
-// The promise of a core's thread: it ran this core.
+/// The promise of a core's thread: it ran this core.
 #[derive(Drop)]
 struct Runs(Snapshot<Recorded<RingLinks>>);
 
@@ -43,19 +43,19 @@ pub(crate) struct Joined {
     pub(crate) outlets: Vec<Outlet>,
 }
 
-// A core's thread.
-fn run_thread<R: Wait + Clock, G: Gate>(
+/// A core's thread.
+fn run_thread<R: Wait + Clock, G: Watcher>(
     rt: &R,
     core: Recorded<RingLinks>,
     flags: &Flags,
-    gate: &G,
+    watcher: &G,
     bounds: Bounds,
 ) -> Ran
     ensures { ThreadRan core result.core result.halted }
 {
     let mut core = core;
     let mut notes = Notes::new();
-    let halted = run_core(rt, &mut core, flags, gate, &mut notes, bounds);
+    let halted = run_core(rt, &mut core, flags, watcher, &mut notes, bounds);
     if halted.is_some() {
         flags.halt();
     }
@@ -63,7 +63,7 @@ fn run_thread<R: Wait + Clock, G: Gate>(
     Ran { core, halted }
 }
 
-// Puts the jobs, while all cores run.
+/// Puts the jobs, while all cores run.
 fn feed<R: Wait + Clock>(rt: &R, alloc: Global, outlets: Vec<Outlet>, flags: &Flags) -> Joined
     ensures cores { result.ran.items ≡ [] }
     ensures outlets { SameOutlets outlets.items result.outlets.items }
@@ -77,7 +77,7 @@ fn feed<R: Wait + Clock>(rt: &R, alloc: Global, outlets: Vec<Outlet>, flags: &Fl
     }
 }
 
-// What the threads of all cores give back, where those of the cores before the last one gave back the rest.
+/// What the threads of all cores give back, where those of the cores before the last one gave back the rest.
 fn join_last(rest: Result<Joined, RunFault>, ran: Ran) -> Result<Joined, RunFault>
     ensures cores { (cores : List RingCore) (core : RingCore) → IfOk rest (λ joined. HaveRan cores joined.ran.items) → ThreadRan core ran.core ran.halted →
         IfOk result (λ joined. HaveRan (cores ++ core ∷ []) joined.ran.items) }
@@ -102,13 +102,13 @@ fn join_last(rest: Result<Joined, RunFault>, ran: Ran) -> Result<Joined, RunFaul
 
 /// Runs each core in a thread of its own, and puts the jobs in this one. All threads are joined, also where one could not be
 /// started.
-pub(crate) fn run_in_threads<R: Threads + Wait + Clock + Sync, G: Gate + Sync>(
+pub(crate) fn run_in_threads<R: Threads + Wait + Clock + Sync, G: Watcher + Sync>(
     rt: &R,
     alloc: Global,
     cores: Vec<Recorded<RingLinks>>,
     outlets: Vec<Outlet>,
     flags: &Flags,
-    gate: &G,
+    watcher: &G,
     bounds: Bounds,
 ) -> Result<Joined, RunFault>
     ensures cores { IfOk result (λ joined. HaveRan cores.items joined.ran.items) }
@@ -130,7 +130,7 @@ pub(crate) fn run_in_threads<R: Threads + Wait + Clock + Sync, G: Gate + Sync>(
             let promise = Runs(Snapshot::of(&core));
             let child = match scope.spawn_with(
                 promise,
-                move || run_thread(rt, core, flags, gate, bounds),
+                move || run_thread(rt, core, flags, watcher, bounds),
             ) {
                 Ok(child) => child,
                 // The error has the thread's code, and so the core: it is dropped by a call, as in `join_last`.
@@ -140,7 +140,7 @@ pub(crate) fn run_in_threads<R: Threads + Wait + Clock + Sync, G: Gate + Sync>(
                     return Err(RunFault::Spawn);
                 }
             };
-            let rest = run_in_threads(rt, alloc, cores, outlets, flags, gate, bounds);
+            let rest = run_in_threads(rt, alloc, cores, outlets, flags, watcher, bounds);
             join_last(rest, child.join(rt))
         },
     )

@@ -4,13 +4,13 @@ ghost use Rattle.std.specs.Prelude.{◌≡◌, ◌≢◌, ◌++◌, ◌∷◌, [
 ghost use Rattle.rx_queue.specs.Queue.{jobs_seen};
 ghost use Rattle.world_histories.specs.declared.history.Stamped.{Stamped as GhostStamped};
 ghost use Rattle.core_join.specs.declared.recorded.RecordedTurn.TheVariants.{Did};
-ghost use Rattle.core_threads.specs.Gates.{HasLooked, AsksOfFront, AsksLeave, receipt_of, receipts_of};
+ghost use Rattle.core_threads.specs.Watchers.{HasLooked, AsksOfFront, AsksLeave, receipt_of, receipts_of};
 ghost use Rattle.core_threads.specs.Runs.{CoreRan, AfterTurn, StandsSo, HasSettled, HasDone};
 
 use crate::backoff::Backoff;
 use crate::flags::Flags;
-use crate::gate::{Gate, Notes};
 use crate::halt::Halt;
+use crate::watcher::{Notes, Watcher};
 use core_join::{Recorded, RecordedTurn};
 use core_loop::Links;
 use std::sync::Wait;
@@ -26,8 +26,8 @@ pub(crate) struct Bounds {
     pub(crate) submitted: u64,
 }
 
-// Whether the core has a job in front that the gate lets through.
-fn may_receive<L: Links, G: Gate>(core: &mut Recorded<L>, gate: &G, notes: &mut Notes) -> bool
+/// Whether the core has a job in front that the watcher lets through.
+fn may_receive<L: Links, G: Watcher>(core: &mut Recorded<L>, watcher: &G, notes: &mut Notes) -> bool
     ensures ran { CoreRan L.same core.old core.new }
     ensures core { core.new ≡ record core.old { intake = core.new.intake } }
     ensures looked { HasLooked core.old.intake core.new.intake }
@@ -37,13 +37,17 @@ fn may_receive<L: Links, G: Gate>(core: &mut Recorded<L>, gate: &G, notes: &mut 
     core.look();
     let core = core.core();
     match core.seen() {
-        Some(job) => gate.may(notes, core.number(), job.number),
+        Some(job) => watcher.may(notes, core.number(), job.number),
         None => false,
     }
 }
 
-// Takes one turn. It may receive the job in front where the gate says so.
-fn take_turn<L: Links, G: Gate>(core: &mut Recorded<L>, gate: &G, notes: &mut Notes) -> RecordedTurn
+/// Takes one turn. It may receive the job in front where the watcher says so.
+fn take_turn<L: Links, G: Watcher>(
+    core: &mut Recorded<L>,
+    watcher: &G,
+    notes: &mut Notes,
+) -> RecordedTurn
     ensures ran { CoreRan L.same core.old core.new }
     ensures stopped { core.old.stopped ≡ None → AfterTurn L.view result core.new }
     ensures did { result ≡ Did → (s : GhostStamped) × (core.new.history ≡ core.old.history ++ s ∷ []) }
@@ -51,12 +55,12 @@ fn take_turn<L: Links, G: Gate>(core: &mut Recorded<L>, gate: &G, notes: &mut No
     ensures leave { AsksLeave core.old core.new notes.old.asked.items notes.new.asked.items }
     ensures told { notes.new.told.items ≡ notes.old.told.items }
 {
-    let rx = may_receive(core, gate, notes);
+    let rx = may_receive(core, watcher, notes);
     core.turn(rx)
 }
 
-// Tells the gate of an event that is a receipt, and says whether the event began a request of another core.
-fn note<G: Gate>(event: &Event, gate: &G, notes: &mut Notes) -> bool
+/// Tells the watcher of an event that is a receipt, and says whether the event began a request of another core.
+fn note<G: Watcher>(event: &Event, watcher: &G, notes: &mut Notes) -> bool
     ensures told { notes.new.told.items ≡ notes.old.told.items ++ receipt_of event.now }
 {
     match event {
@@ -66,7 +70,7 @@ fn note<G: Gate>(event: &Event, gate: &G, notes: &mut Notes) -> bool
             packet: _,
             floor: _,
         } => {
-            gate.did(notes, *core, *number);
+            watcher.did(notes, *core, *number);
             false
         }
         Event::StartFor { core: _ } => true,
@@ -74,20 +78,20 @@ fn note<G: Gate>(event: &Event, gate: &G, notes: &mut Notes) -> bool
     }
 }
 
-// Notes the core's last event.
-fn note_last<L: Links, G: Gate>(core: &Recorded<L>, gate: &G, notes: &mut Notes) -> bool
+/// Notes the core's last event.
+fn note_last<L: Links, G: Watcher>(core: &Recorded<L>, watcher: &G, notes: &mut Notes) -> bool
     ensures told { (before : List GhostStamped) (s : GhostStamped) → core.now.history ≡ before ++ s ∷ [] → notes.new.told.items ≡ notes.old.told.items ++ receipt_of s.done.event }
 {
     match core.events().last() {
-        Some(last) => note(&last.done.event, gate, notes),
+        Some(last) => note(&last.done.event, watcher, notes),
         None => false,
     }
 }
 
-// Takes one turn, tells the gate of its event, and counts the requests of other cores that were begun.
-fn take_noted_turn<L: Links, G: Gate>(
+/// Takes one turn, tells the watcher of its event, and counts the requests of other cores that were begun.
+fn take_noted_turn<L: Links, G: Watcher>(
     core: &mut Recorded<L>,
-    gate: &G,
+    watcher: &G,
     notes: &mut Notes,
     began: &mut u64,
 ) -> RecordedTurn
@@ -95,17 +99,17 @@ fn take_noted_turn<L: Links, G: Gate>(
     ensures stopped { core.old.stopped ≡ None → AfterTurn L.view result core.new }
     ensures told { notes.old.told.items ≡ receipts_of core.old.history → notes.new.told.items ≡ receipts_of core.new.history }
 {
-    let turn = take_turn(core, gate, notes);
+    let turn = take_turn(core, watcher, notes);
     if let RecordedTurn::Did = turn {
-        if note_last(core, gate, notes) {
+        if note_last(core, watcher, notes) {
             *began = began.saturating_add(1);
         }
     }
     turn
 }
 
-// Whether every request is decided: core 0 has nothing under way, no request of its own left, and began this many of the others.
-// What an idle core 0 began is decided.
+/// Whether every request is decided: core 0 has nothing under way, no request of its own left, and began this many of the others.
+/// What an idle core 0 began is decided.
 fn is_settled<L: Links>(core: &Recorded<L>, began: u64, bounds: Bounds) -> bool
     ensures { IsTrue result → HasSettled L.view core.now }
 {
@@ -113,7 +117,7 @@ fn is_settled<L: Links>(core: &Recorded<L>, began: u64, bounds: Bounds) -> bool
     core.number() == 0 && began == bounds.submitted && core.pending() == 0 && core.idle()
 }
 
-// Whether nothing is left for the core to do. The flags are read before the queue is looked at.
+/// Whether nothing is left for the core to do. The flags are read before the queue is looked at.
 fn is_done<L: Links>(core: &mut Recorded<L>, flags: &Flags) -> bool
     ensures ran { CoreRan L.same core.old core.new }
     ensures core { core.new ≡ record core.old { intake = core.new.intake } }
@@ -131,12 +135,12 @@ fn is_done<L: Links>(core: &mut Recorded<L>, flags: &Flags) -> bool
     }
 }
 
-/// Takes turns until the core ends, and says why it halted, if it did. The gate is told of each receipt once.
-pub(crate) fn run_core<L: Links, R: Wait + Clock, G: Gate>(
+/// Takes turns until the core ends, and says why it halted, if it did. The watcher is told of each receipt once.
+pub(crate) fn run_core<L: Links, R: Wait + Clock, G: Watcher>(
     rt: &R,
     core: &mut Recorded<L>,
     flags: &Flags,
-    gate: &G,
+    watcher: &G,
     notes: &mut Notes,
     bounds: Bounds,
 ) -> Option<Halt>
@@ -150,7 +154,7 @@ pub(crate) fn run_core<L: Links, R: Wait + Clock, G: Gate>(
         if flags.is_halted() {
             break;
         }
-        match take_noted_turn(core, gate, notes, &mut began) {
+        match take_noted_turn(core, watcher, notes, &mut began) {
             RecordedTurn::Did => backoff.reset(),
             RecordedTurn::Idle => {
                 if is_done(core, flags) {

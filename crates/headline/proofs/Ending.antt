@@ -29,8 +29,9 @@ use Rattle.core_boot.specs.Booting.{HaveRequests, AreGivable, IsMachineOf}
 use Rattle.core_boot.specs.Lanes.{items_for}
 use Rattle.core_threads.specs.declared.halt.Halt.{Halt}
 use Rattle.core_threads.specs.Ending.{EndsRightly, AreAllDone}
-use Rattle.core_threads.specs.Settling.{RunsToRest}
+use Rattle.core_threads.specs.Settling.{HasHalted, RunsToRest}
 use Rattle.core_loop.specs.Answering.{decisions}
+use Rattle.headline.specs.declared.fault.Fault.TheVariants.{Halted}
 use Rattle.headline.specs.Decided.{decided_in}
 use Rattle.headline.specs.Headline.{ShowTables, begun_in, received_in}
 use Rattle.world_model.specs.Committed.{log_of}
@@ -193,3 +194,22 @@ looked_replicas (c ∷ cs) [] l = absurd (let e = l.all in cc)
 looked_replicas (c ∷ cs) (d ∷ ds) l =
     let first : replica_of d.part ≡ replica_of c.part = ap (λ (x : RingCore). replica_of x.part) (l.each 0 c d refl refl).core in
     rw (first, looked_replicas cs ds (record { all = (let e = l.all in omega (arith, e)); each = λ i x y at at'. l.each (suc i) x y at at' })) refl
+
+-- cores that were booted and ran, and their work is not done
+pub has_halted : (limits : TableLimits) (budgets : List ℕ) (requests : List (ℕ × Op)) (jobs : List (ℕ × Job)) (machine cores : List RingCore) (left : List (ℕ × Job)) (named : Option (ℕ × Halt)) (core : ℕ) (why : Halt)
+    → named ≡ Some (core, why) → IsMachineOf limits budgets machine → HaveRequests requests machine → RunsToRest machine jobs cores left named → HasHalted limits budgets requests jobs core why
+has_halted limits budgets requests jobs machine cores left named core why is machine_is have rests = record {
+  machine = machine;
+  cores = cores;
+  left = left;
+  is_machine = machine_is;
+  has_requests = have;
+  rests = subst (RunsToRest machine jobs cores left) is rests;
+}
+
+-- what holds of a core and a reason holds of those that are named
+pub halted_as : (P : ℕ → Halt → Type 0) (core named : ℕ) (why for : Halt) → Halted core why ≡ Halted named for → P core why → P named for
+halted_as P core named why for e here =
+    let is : core ≡ named = cc in
+    let same : why ≡ for = cc in
+    subst (λ (n : ℕ). P n for) is (subst (P core) same here)

@@ -3,7 +3,7 @@
 ghost use Rattle.std.specs.Prelude.{◌≡◌};
 ghost use Rattle.headline.specs.declared.fault.Fault.TheVariants as fault;
 
-use core_threads::RunFault;
+use core_threads::{Halt, RunFault};
 use std::alloc::AllocError;
 use thiserror::Error;
 use world_core::WorldFault;
@@ -17,9 +17,9 @@ pub enum Fault {
     /// A core can't do its event, for this.
     #[error(transparent)]
     Refused(WorldFault),
-    /// This core has no memory or no number for what it would do next, or it halted before a job that can be received was.
-    #[error("core {0} halted with work left")]
-    Halted(u16),
+    /// This core has no memory or no number for what it would do next, or it halted before a job that can be received was; and why.
+    #[error("core {0} halted with work left: {1}")]
+    Halted(u16, Halt),
     /// A thread could not be started.
     #[error("a thread could not be started")]
     Spawn,

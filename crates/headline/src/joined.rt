@@ -13,14 +13,14 @@ use core_join::{Histories, Recorded, agree, merge};
 use core_loop::{Core, RingLinks};
 use std::alloc::{AllocError, Global};
 
-// Cores, each without its list, and the lists.
+/// Cores, each without its list, and the lists.
 #[derive(Drop)]
 struct Parted {
     cores: Vec<Core<RingLinks>>,
     histories: Histories,
 }
 
-// Takes each core from its list.
+/// Takes each core from its list.
 fn part(alloc: Global, recorded: Vec<Recorded<RingLinks>>) -> Result<Parted, AllocError>
     ensures cores { IfOk result (λ r. r.cores.items ≡ recorded.items) }
     ensures histories { IfOk result (λ r. listed_histories r.histories.cores.items ≡ histories_of recorded.items) }
@@ -37,7 +37,7 @@ fn part(alloc: Global, recorded: Vec<Recorded<RingLinks>>) -> Result<Parted, All
     Ok(Parted { cores, histories })
 }
 
-// The first of the cores and the others agree.
+/// The first of the cores and the others agree.
 fn agree_all(cores: &mut [Core<RingLinks>])
     requires { (limits : TableLimits) × (budget : ℕ) × (budgets : List ℕ) × IsMachine limits budget budgets cores.old }
     ensures concludes { OfMachine cores.old Concludes }

@@ -13,6 +13,7 @@ mod running;
 mod serving;
 
 pub use core_drive::{CoreStep, StepOutcome, Task};
+pub use core_threads::Halt;
 pub use fault::Fault;
 pub use filter_verify::Refusal;
 pub use filter_vm::Outcome;

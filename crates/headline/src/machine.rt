@@ -63,7 +63,7 @@ pub fn one_by_one(
     }
 }
 
-// Does these events in order.
+/// Does these events in order.
 fn apply_all(alloc: Global, world: &mut World, events: Vec<Event>) -> Result<Vec<Done>, Fault>
     requires short { All (λ event. (core : ℕ) (op : GhostOp) → event ≡ Submit core op → HasShortProgram op) events.items }
     ensures fault { result ≡ Err CoreCount → ⊥ }

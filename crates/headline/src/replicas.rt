@@ -52,7 +52,7 @@ impl Replicas {
     }
 }
 
-// The replica of the core in this place.
+/// The replica of the core in this place.
 fn replica_at(cores: &[Core<RingLinks>], core: u16) -> Option<&Replica>
     ensures { option_copied result ≡ slice_get (replicas_of_cores cores.now) core }
 {

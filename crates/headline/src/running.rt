@@ -7,6 +7,8 @@ ghost use Rattle.rx_queue.specs.declared.job.Job.{Job as GhostJob};
 ghost use Rattle.core_boot.specs.Lanes.{items_for};
 ghost use Rattle.headline.specs.declared.fault.Fault.TheVariants.{CoreCount, Halted};
 ghost use Rattle.headline.specs.Decided.{decided_in};
+ghost use Rattle.core_threads.specs.Settling.{HasHalted};
+ghost use Rattle.core_threads.specs.declared.halt.Halt.{Halt};
 ghost use Rattle.headline.specs.Headline.{ShowTables, AreEqualByVersion, begun_in, received_in};
 ghost use Rattle.world_model.specs.Committed.{log_of};
 ghost use Rattle.headline.specs.Ended.{HaveEnded};
@@ -31,7 +33,7 @@ use std::time::Clock;
 ///
 /// Where a core halts, the cores are settled once the threads are joined, so that each request is decided. It gives what the
 /// cores did in one order, that of their clocks, and the jobs that are left, which wait for a later version. Else it names the
-/// core that has no memory or no number for what it would do next, or that halted before a job which can be received was.
+/// core that has no memory or no number for what it would do next, or that halted before a job which can be received was, and why.
 pub fn threads<R: Threads + Wait + Clock + Sync>(
     rt: &R,
     alloc: Global,
@@ -60,14 +62,14 @@ pub fn threads<R: Threads + Wait + Clock + Sync>(
     ensures left { IfOk result (λ ran. (core : ℕ) (job : GhostJob) (later : List GhostJob) → items_for core ran.1.items ≡ job ∷ later → length (log_of ran.0.events.items) < job.floor) }
 
     // A core that is named is one of the machine's.
-    ensures halted { (core : ℕ) → result ≡ Err (Halted core) → core < length budgets.now }
+    ensures halted { (core : ℕ) (why : Halt) → result ≡ Err (Halted core why) → core < length budgets.now }
 {
     let (cores, left) = run_machine_to_rest(rt, alloc, limits, budgets, requests, jobs, limit)?;
     let did = conclude_all(alloc, cores)?;
     Ok((did, left))
 }
 
-// Runs the cores, and gives them with the jobs that are left.
+/// Runs the cores, and gives them with the jobs that are left. What is said of a core that is named is what the work isn't done for.
 fn run_machine_to_rest<R: Threads + Wait + Clock + Sync>(
     rt: &R,
     alloc: Global,
@@ -82,7 +84,8 @@ fn run_machine_to_rest<R: Threads + Wait + Clock + Sync>(
     requires jobs { All (λ j. j.0 < length budgets.now) jobs.items }
     ensures count { result ≡ Err CoreCount ↔ ((length budgets.now ≡ 0) ⊎ (64 < length budgets.now)) }
     ensures ended { IfOk result (λ r. HaveEnded limits budgets.now requests.items jobs.items r.0.items r.1.items) }
-    ensures halted { (core : ℕ) → result ≡ Err (Halted core) → core < length budgets.now }
+    ensures halted { (core : ℕ) (why : Halt) → result ≡ Err (Halted core why) → core < length budgets.now }
+    ensures why { (core : ℕ) (why : Halt) → result ≡ Err (Halted core why) → HasHalted limits budgets.now requests.items jobs.items core why }
 {
     let machine = match boot_with_limits(alloc, limits, budgets, requests) {
         Ok(machine) => machine,
@@ -91,7 +94,7 @@ fn run_machine_to_rest<R: Threads + Wait + Clock + Sync>(
     };
     let rested = run_to_rest(rt, alloc, machine, jobs, &Free, limit)?;
     match rested.undone {
-        Some((core, _)) => Err(Fault::Halted(core)),
+        Some((core, why)) => Err(Fault::Halted(core, why)),
         None => Ok((rested.cores, rested.left)),
     }
 }

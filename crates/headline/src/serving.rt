@@ -108,7 +108,7 @@ pub fn serve(
     }
 }
 
-// What was done: the turns after the steps, what came of the steps and of these, and the core that halted.
+/// What was done: the turns after the steps, what came of the steps and of these, and the core that halted.
 #[derive(Drop)]
 struct Work {
     turns: Vec<CoreStep>,
@@ -116,7 +116,7 @@ struct Work {
     halted: Option<u16>,
 }
 
-// Does the steps, and then turns the cores until nothing is left to do.
+/// Does the steps, and then turns the cores until nothing is left to do.
 fn serve_all(
     alloc: Global,
     cores: &mut [Core<RingLinks>],
@@ -137,8 +137,8 @@ fn serve_all(
     settle_each(alloc, cores, outcomes)
 }
 
-// Does the steps, each by a call of its own, so that the cores are looked at after each step. That shows that core 0 starts a
-// request after its core has submitted it, where one call for all steps shows the order of each core's own events alone.
+/// Does the steps, each by a call of its own, so that the cores are looked at after each step. That shows that core 0 starts a
+/// request after its core has submitted it, where one call for all steps shows the order of each core's own events alone.
 fn drive_each(
     alloc: Global,
     cores: &mut [Core<RingLinks>],
@@ -158,7 +158,7 @@ fn drive_each(
     Ok(outcomes)
 }
 
-// Turns the cores that have something to do until none has, or one halts, after steps with these outcomes.
+/// Turns the cores that have something to do until none has, or one halts, after steps with these outcomes.
 fn settle_each(
     alloc: Global,
     cores: &mut [Core<RingLinks>],
@@ -201,7 +201,7 @@ fn settle_each(
     })
 }
 
-// A turn of this core that receives no packet.
+/// A turn of this core that receives no packet.
 fn turn_of(core: u16) -> CoreStep
     ensures { result ≡ turn_of_core core }
 {
@@ -211,7 +211,7 @@ fn turn_of(core: u16) -> CoreStep
     }
 }
 
-// The first core that has something to do.
+/// The first core that has something to do.
 fn first_awake(awake: &[bool]) -> Option<u16>
     requires few { length awake.now ≤ 64 }
     ensures some { IfSome result (λ core. (core < length awake.now) × (awake_of awake.now core ≡ true)) }
@@ -225,7 +225,7 @@ fn first_awake(awake: &[bool]) -> Option<u16>
     None
 }
 
-// Whether a turn halted its core.
+/// Whether a turn halted its core.
 fn is_halt(answer: &Turn) -> bool
     ensures halts { IsTrue result → Halts answer.now }
     ensures goes_on { IsFalse result → halt_of answer.now ≡ None }
@@ -233,7 +233,7 @@ fn is_halt(answer: &Turn) -> bool
     !matches!(answer, Turn::Did { .. } | Turn::Idle)
 }
 
-// Whether a turn did an event.
+/// Whether a turn did an event.
 fn is_event(answer: &Turn) -> bool
     ensures did { IsTrue result → (s : GhostStamped) × (d : Option GhostDecision) × (answer.now ≡ Did s d) }
     ensures none { IsFalse result → (s : GhostStamped) (d : Option GhostDecision) → answer.now ≢ Did s d }
@@ -241,8 +241,8 @@ fn is_event(answer: &Turn) -> bool
     matches!(answer, Turn::Did { .. })
 }
 
-// A core that has something to do takes a turn, and then all are looked at. Unless that halted the core, `awake` says which cores have
-// something to do now.
+/// A core that has something to do takes a turn, and then all are looked at. Unless that halted the core, `awake` says which cores have
+/// something to do now.
 fn turn_named(cores: &mut [Core<RingLinks>], awake: &mut [bool], core: u16) -> Turn
     requires machine { (limits : TableLimits) × (budget : ℕ) × (budgets : List ℕ) × IsMachine limits budget budgets cores.old }
     requires few { length cores.old ≤ 64 }
@@ -264,7 +264,7 @@ fn turn_named(cores: &mut [Core<RingLinks>], awake: &mut [bool], core: u16) -> T
     answer
 }
 
-// The cores that this one names have something to do.
+/// The cores that this one names have something to do.
 fn wake(awake: &mut [bool], named_by: &Core<RingLinks>, core: u16)
     requires few { length awake.old ≤ 64 }
     ensures each { length awake.new ≡ length awake.old }

@@ -1,6 +1,6 @@
 //! How far a run is.
 
-use core_threads::{Gate, Notes};
+use core_threads::{Notes, Watcher};
 use std::sync::atomic::{AtomicU64, Ordering};
 use std::time::Instant;
 
@@ -35,7 +35,7 @@ impl<'a> Progress<'a> {
         }
     }
 
-    // Says how many packets were received, where a second more has gone by.
+    /// Says how many packets were received, where a second more has gone by.
     fn tell(&self, received: u64) {
         let Some(start) = self.start else {
             return;
@@ -50,7 +50,7 @@ impl<'a> Progress<'a> {
     }
 }
 
-impl Gate for Progress<'_> {
+impl Watcher for Progress<'_> {
     fn may(&self, notes: &mut Notes, core: u16, number: u64) -> bool {
         notes.ask(core, number, true);
         true

@@ -18,7 +18,7 @@ pub fn with_input(alloc: Global, error: &Error) -> Result<String, AllocError> {
     Ok(shown)
 }
 
-// The text up to the end of its usage line, and what follows that line.
+/// The text up to the end of its usage line, and what follows that line.
 fn parts(text: &str) -> Option<(&str, &str)> {
     let start = text.find("Usage: ")?;
     let length = text.get(start..)?.find("\n")?;
@@ -26,7 +26,7 @@ fn parts(text: &str) -> Option<(&str, &str)> {
     Some((text.get(..end)?, text.get(end..)?.strip_prefix("\n")?))
 }
 
-// What the command of a usage line reads. The line is the last of the text.
+/// What the command of a usage line reads. The line is the last of the text.
 fn input_of(text: &str) -> &'static str {
     let (_, usage) = text.rsplit_once("Usage: ").unwrap_or(("", ""));
     match usage.split(' ').nth(1) {

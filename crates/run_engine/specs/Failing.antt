@@ -1,12 +1,9 @@
 -- Why a run of threads has no status, and what the records of its readers and its writer say then.
-use Rattle.std.specs.Prelude.{◌≡◌, ⊤, ℕ, List, Option, Some, Ok, false}
-use Rattle.rx_queue.specs.declared.job.Job.{Job}
-use Rattle.core_join.specs.Machines.{RingCore}
-use Rattle.core_boot.specs.Booting.{IsMachineOf, HaveRequests}
+use Rattle.std.specs.Prelude.{◌≡◌, ⊤, ℕ, List, Option, Ok, false}
 use Rattle.core_threads.specs.declared.halt.Halt.{Halt}
 use Rattle.core_threads.specs.declared.halt.RunFault.{RunFault}
 use Rattle.core_threads.specs.declared.halt.RunFault.TheVariants as run_fault
-use Rattle.core_threads.specs.Settling.{RunsToRest}
+use Rattle.core_threads.specs.Settling.{HasHalted as HasHaltedOn}
 use Rattle.mk_script.specs.declared.script.Item.{Item}
 use Rattle.mk_script.specs.declared.script.Script.{Script}
 use Rattle.mk_script.specs.Scripts.{Stands}
@@ -26,15 +23,9 @@ abbrev pub IsFault : RunFault → RunFailure → Type 0
 IsFault run_fault.Spawn failure = failure ≡ Spawn
 IsFault run_fault.NoMemory failure = failure ≡ Engine NoMemory
 
--- cores that were booted with these limits, these budgets and the requests of these items ran with their jobs, and were settled; the work isn't done, for this
--- core, and this
-pub record HasHalted (limits : TableLimits) (budgets : List ℕ) (items : List Item) (core : ℕ) (why : Halt) : Type 0 where
-  pub machine : List RingCore
-  pub cores : List RingCore
-  pub left : List (ℕ × Job)
-  pub is_machine : IsMachineOf limits budgets machine
-  pub has_requests : HaveRequests (requests_of items) machine
-  pub rests : RunsToRest machine (jobs_of items) cores left (Some (core, why))
+-- the cores of these items ran, and the work isn't done, for this core, and this
+abbrev pub HasHalted : TableLimits → List ℕ → List Item → ℕ → Halt → Type 0
+HasHalted limits budgets items core why = HasHaltedOn limits budgets (requests_of items) (jobs_of items) core why
 
 -- A run of cores reads nothing and writes nothing: of an engine's faults it has NoMemory alone. No public clause cites this,
 -- nor the next.

@@ -14,7 +14,7 @@ ghost use Rattle.run_engine.specs.Showing.{Shows, ShowsRun, ShowsRunScript};
 use crate::lines::{push_all_left, push_events};
 use crate::work::{Work, work_of};
 use core_join::{conclude, in_order};
-use core_threads::{BootFault, Gate, Halt, Rested, RunFault, boot_with_limits, run_to_rest};
+use core_threads::{BootFault, Halt, Rested, RunFault, Watcher, boot_with_limits, run_to_rest};
 use engine_io::{EngineFault, Sink, Source, refuse_long, write_bytes};
 use filter_table::Limits;
 use mk_script::{Item, Script, read_script};
@@ -83,16 +83,16 @@ impl From<RunFault> for RunFailure {
 /// each event, by stamp and then by core, and then one for each job that is left, by its number. Answers the status.
 ///
 /// The script is read to its end, then each file in order. Its first fault is printed as `line N: NAME`, status 1. Of a script
-/// or a file of more than 64 MiB only `fault InputTooLong` is printed, status 1. The gate is asked before each receipt, and told
+/// or a file of more than 64 MiB only `fault InputTooLong` is printed, status 1. The watcher is asked before each receipt, and told
 /// after it.
 ///
 /// Where a core halts, since memory ran out in its thread, the machine is settled once the threads are joined, so that each
 /// request is decided. Nothing is written before the run has ended, and nothing where its work isn't done, or where an input or
 /// memory failed. Where a write fails, a front of the text may have been written.
-pub fn run_script<T: Threads + Wait + Clock + Sync, G: Gate + Sync, R: Read, F: Read, W: Write>(
+pub fn run_script<T: Threads + Wait + Clock + Sync, G: Watcher + Sync, R: Read, F: Read, W: Write>(
     rt: &T,
     alloc: Global,
-    gate: &G,
+    watcher: &G,
     files: &mut [Source<F>],
     reader: &mut Source<R>,
     writer: &mut Sink<W>,
@@ -113,14 +113,14 @@ pub fn run_script<T: Threads + Wait + Clock + Sync, G: Gate + Sync, R: Read, F: 
     let Some(inputs) = read_inputs(alloc, reader, files)? else {
         return Ok(refuse_long(writer)?);
     };
-    run_text(rt, alloc, gate, &inputs.script, &inputs.files, writer)
+    run_text(rt, alloc, watcher, &inputs.script, &inputs.files, writer)
 }
 
 /// Runs a script that was read, with its files.
-fn run_text<T: Threads + Wait + Clock + Sync, G: Gate + Sync, W: Write>(
+fn run_text<T: Threads + Wait + Clock + Sync, G: Watcher + Sync, W: Write>(
     rt: &T,
     alloc: Global,
-    gate: &G,
+    watcher: &G,
     input: &[u8],
     files: &[Shared<u8>],
     writer: &mut Sink<W>,
@@ -134,16 +134,16 @@ fn run_text<T: Threads + Wait + Clock + Sync, G: Gate + Sync, W: Write>(
     ensures silent { IfErr result (λ failure. (failure ≡ RunFailure.Engine EngineFault.WriteFailed) ⊎ (writer.new ≡ writer.old)) }
 {
     match read_script(alloc, input, files, true) {
-        Ok(script) => print_run(rt, alloc, gate, script, writer),
+        Ok(script) => print_run(rt, alloc, watcher, script, writer),
         Err(fault) => Ok(refuse(alloc, fault, writer)?),
     }
 }
 
 /// Runs a script, and prints what its cores did.
-fn print_run<T: Threads + Wait + Clock + Sync, G: Gate + Sync, W: Write>(
+fn print_run<T: Threads + Wait + Clock + Sync, G: Watcher + Sync, W: Write>(
     rt: &T,
     alloc: Global,
-    gate: &G,
+    watcher: &G,
     script: Script,
     writer: &mut Sink<W>,
 ) -> Result<u8, RunFailure>
@@ -156,16 +156,16 @@ fn print_run<T: Threads + Wait + Clock + Sync, G: Gate + Sync, W: Write>(
     ensures halted { IfErr result (HaltsOf script) }
     ensures silent { IfErr result (λ failure. (failure ≡ RunFailure.Engine EngineFault.WriteFailed) ⊎ (writer.new ≡ writer.old)) }
 {
-    let text = text_of_run(rt, alloc, gate, script)?;
+    let text = text_of_run(rt, alloc, watcher, script)?;
     write_bytes(writer, text.as_bytes())?;
     Ok(0)
 }
 
 /// What the cores of a script did.
-fn text_of_run<T: Threads + Wait + Clock + Sync, G: Gate + Sync>(
+fn text_of_run<T: Threads + Wait + Clock + Sync, G: Watcher + Sync>(
     rt: &T,
     alloc: Global,
-    gate: &G,
+    watcher: &G,
     script: Script,
 ) -> Result<String, RunFailure>
     requires limits { HasLimits script }
@@ -179,7 +179,7 @@ fn text_of_run<T: Threads + Wait + Clock + Sync, G: Gate + Sync>(
         items,
     } = script;
     let items = items.into_vec();
-    let rested = run_items(rt, alloc, gate, limits, budgets.as_slice(), items)?;
+    let rested = run_items(rt, alloc, watcher, limits, budgets.as_slice(), items)?;
     let Rested { cores, left, .. } = rested;
     let histories = conclude(alloc, cores)?;
     let events = in_order(alloc, &histories)?;
@@ -190,10 +190,10 @@ fn text_of_run<T: Threads + Wait + Clock + Sync, G: Gate + Sync>(
 }
 
 /// Runs cores with these limits and budgets until they have done what the items give them.
-fn run_items<T: Threads + Wait + Clock + Sync, G: Gate + Sync>(
+fn run_items<T: Threads + Wait + Clock + Sync, G: Watcher + Sync>(
     rt: &T,
     alloc: Global,
-    gate: &G,
+    watcher: &G,
     limits: Limits,
     budgets: &[u32],
     items: Vec<Item>,
@@ -210,7 +210,7 @@ fn run_items<T: Threads + Wait + Clock + Sync, G: Gate + Sync>(
         Err(BootFault::CoreCount) => unreachable!(),
         Err(BootFault::NoMemory) => return Err(RunFailure::Engine(EngineFault::NoMemory)),
     };
-    let rested = run_to_rest(rt, alloc, machine, jobs, gate, u64::MAX)?;
+    let rested = run_to_rest(rt, alloc, machine, jobs, watcher, u64::MAX)?;
     match rested.undone {
         Some((core, why)) => Err(RunFailure::Halted(core, why)),
         None => Ok(rested),

@@ -5,5 +5,5 @@ mod engine;
 mod lines;
 mod work;
 
-pub use core_threads::Gate;
+pub use core_threads::Watcher;
 pub use engine::{RunFailure, run_script};

@@ -52,7 +52,7 @@ fn lists(rt: &impl Abort, list: &[Done], wanted: &[(Asked, EventWords)]) {
     }
 }
 
-// A creation of a capability, and an installation of a filter under it.
+/// A creation of a capability, and an installation of a filter under it.
 fn installation(alloc: Global) -> Result<VecDeque<Op>, TextFault> {
     let program = program(alloc, ARP)?;
     let mut requests = VecDeque::new(alloc);
@@ -74,7 +74,7 @@ fn creation() -> Op
     }
 }
 
-// A creation that a core other than 0 asks for.
+/// A creation that a core other than 0 asks for.
 fn submission(alloc: Global) -> Result<VecDeque<Op>, AllocError>
     ensures { IfOk result (λ requests. AreShort 1 requests.items) }
 {
@@ -83,7 +83,7 @@ fn submission(alloc: Global) -> Result<VecDeque<Op>, AllocError>
     Ok(requests)
 }
 
-// A queue with one job of this number, for version 2 or a later one.
+/// A queue with one job of this number, for version 2 or a later one.
 fn intake(alloc: Global, number: u64) -> Result<Intake, AllocError>
     ensures { IfOk result (λ intake. jobs_taken intake ≡ []) }
 {
@@ -97,7 +97,7 @@ fn intake(alloc: Global, number: u64) -> Result<Intake, AllocError>
     Ok(intake)
 }
 
-// The links of cores 0 and 1, which two rings of 64 lines join.
+/// The links of cores 0 and 1, which two rings of 64 lines join.
 fn joined_links(alloc: Global) -> Result<(RingLinks, RingLinks), AllocError>
     ensures own { IfOk result (λ r. (own_of r.0 ≡ 0) × (own_of r.1 ≡ 1)) }
     ensures joined { IfOk result (λ r. AreJoinedLinks r.0 r.1) }
@@ -115,7 +115,7 @@ fn joined_links(alloc: Global) -> Result<(RingLinks, RingLinks), AllocError>
     Ok((first, second))
 }
 
-// A core among so many, with a job of this number.
+/// A core among so many, with a job of this number.
 fn core(
     alloc: Global,
     links: RingLinks,
@@ -144,7 +144,7 @@ fn core(
     Ok(Recorded::new(alloc, core))
 }
 
-// Cores 0 and 1 of a machine.
+/// Cores 0 and 1 of a machine.
 fn two_cores(
     alloc: Global,
     first: VecDeque<Op>,
@@ -164,7 +164,7 @@ fn two_cores(
     }
 }
 
-// Lets the two take turns.
+/// Lets the two take turns.
 fn take_turns(first: &mut Recorded<RingLinks>, second: &mut Recorded<RingLinks>)
     ensures { (budget : ℕ) (budgets : List ℕ) → IsMachine default_limits budget budgets (first.old ∷ second.old ∷ []) → IsMachine default_limits budget budgets (first.new ∷ second.new ∷ []) }
 {
@@ -174,7 +174,7 @@ fn take_turns(first: &mut Recorded<RingLinks>, second: &mut Recorded<RingLinks>)
     }
 }
 
-// Lets a core that is alone take turns.
+/// Lets a core that is alone take turns.
 fn take_turns_alone(core: &mut Recorded<RingLinks>)
     ensures { (budget : ℕ) (budgets : List ℕ) → IsMachine default_limits budget budgets (core.old ∷ []) → IsMachine default_limits budget budgets (core.new ∷ []) }
 {
@@ -183,7 +183,7 @@ fn take_turns_alone(core: &mut Recorded<RingLinks>)
     }
 }
 
-// What a core alone does, in one list.
+/// What a core alone does, in one list.
 fn run_alone(alloc: Global, requests: VecDeque<Op>) -> Result<Vec<Done>, AllocError> {
     let links = RingLinks::new(alloc, 0, 1)?;
     let mut first = core(alloc, links, 0, 1, requests, 7)?;
@@ -192,7 +192,7 @@ fn run_alone(alloc: Global, requests: VecDeque<Op>) -> Result<Vec<Done>, AllocEr
     merge(alloc, &conclude(alloc, cores)?)
 }
 
-// What the two do, in one list.
+/// What the two do, in one list.
 fn run_of(
     alloc: Global,
     requests: VecDeque<Op>,
@@ -255,7 +255,7 @@ static SUBMITTED: [(Asked, EventWords); 8] = [
     (("take", 1, 0, 0), EventWords::TookReply(CAP)),
 ];
 
-// Two cores install and receive; then core 0 decides a request of core 1.
+/// Two cores install and receive; then core 0 decides a request of core 1.
 #[test]
 fn two_cores_beside_each_other(rt: HostRuntime) {
     let alloc = rt.alloc();

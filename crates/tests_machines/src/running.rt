@@ -31,7 +31,7 @@ pub(crate) fn creation(rt: &impl Abort, alloc: Global) -> VecDeque<Op> {
     requests
 }
 
-// A core other than 0 has no requests.
+/// A core other than 0 has no requests.
 pub(crate) fn core_of(
     rt: &impl Abort,
     alloc: Global,
@@ -71,7 +71,7 @@ pub(crate) fn has_turned(core: &mut Recorded<ListLinks>) -> bool {
     )
 }
 
-// Gives what a core sent to a peer to that peer. A copy that is refused memory once is tried again, so that no message is lost.
+/// Gives what a core sent to a peer to that peer. A copy that is refused memory once is tried again, so that no message is lost.
 pub(crate) fn carry(
     alloc: Global,
     from: &mut Recorded<ListLinks>,

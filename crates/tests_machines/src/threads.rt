@@ -10,7 +10,7 @@ use crate::words::job;
 use core_join::{Recorded, conclude, merge};
 use core_loop::RingLinks;
 use core_threads::{
-    BootFault, Ended, Free, Gate, Halt, Machine, Notes, RunFault, boot, boot_with_limits,
+    BootFault, Ended, Free, Halt, Machine, Notes, RunFault, Watcher, boot, boot_with_limits,
     run_machine,
 };
 use rx_queue::Job;
@@ -24,10 +24,10 @@ use table_replica::{Limits, Op};
 use test_words::{ALL, EventWords, is_for_memory, program, tells};
 use world_model::{Done, Event};
 
-// A limit that is never met.
+/// A limit that is never met.
 const LIMIT: u64 = 50_000_000;
 
-// On core 0 of so many, domain 1 creates endpoint 7 and installs a filter that accepts every packet.
+/// On core 0 of so many, domain 1 creates endpoint 7 and installs a filter that accepts every packet.
 fn requests(rt: &impl Abort, alloc: Global, cores: usize) -> Vec<(u16, Op)>
     requires { 1 ≤ cores }
     ensures inside { All (λ r. r.0 < cores) result.items }
@@ -47,7 +47,7 @@ fn requests(rt: &impl Abort, alloc: Global, cores: usize) -> Vec<(u16, Op)>
     vec![in alloc; (0, create), (0, install)].expect(rt, "there is memory")
 }
 
-// Job 1 of core 1, among so many, waits for version 2, and its job 2 for version 9.
+/// Job 1 of core 1, among so many, waits for version 2, and its job 2 for version 9.
 fn waiting_jobs(rt: &impl Abort, alloc: Global, cores: usize) -> Vec<(u16, Job)>
     requires { 2 ≤ cores }
     ensures { All (λ j. j.0 < cores) result.items }
@@ -58,7 +58,7 @@ fn waiting_jobs(rt: &impl Abort, alloc: Global, cores: usize) -> Vec<(u16, Job)>
     vec![in alloc; (1, first), (1, second)].expect(rt, "there is memory")
 }
 
-// Runs a machine with these budgets.
+/// Runs a machine with these budgets.
 fn worked_run<R: Abort + Threads + Wait + Clock + Sync>(
     rt: &R,
     alloc: Global,
@@ -73,7 +73,7 @@ fn worked_run<R: Abort + Threads + Wait + Clock + Sync>(
     run_machine(rt, alloc, machine, jobs, &Free, LIMIT).expect(rt, "threads start")
 }
 
-// The last event of a core where that is a receipt: the job's number, and what is told.
+/// The last event of a core where that is a receipt: the job's number, and what is told.
 fn last_receipt(ended: &Ended, place: usize) -> Option<(u64, EventWords)> {
     let last = ended.cores.get(place)?.events().last()?;
     match &last.done.event {
@@ -82,7 +82,7 @@ fn last_receipt(ended: &Ended, place: usize) -> Option<(u64, EventWords)> {
     }
 }
 
-// The core and the number of the first job that was left, and how many were left.
+/// The core and the number of the first job that was left, and how many were left.
 fn left(ended: &Ended) -> Option<(u16, u64, usize)> {
     let (core, job) = ended.left.first()?;
     Some((*core, job.number, ended.left.len()))
@@ -100,7 +100,7 @@ fn ends_as_worked(rt: &impl Abort, ended: &Ended, cores: usize) {
     equal(rt, left(ended), Some((1, 2, 1)));
 }
 
-// What two cores did is one run, of so many events.
+/// What two cores did is one run, of so many events.
 #[test]
 fn two_cores_commit_and_receive(rt: HostRuntime) {
     let ended = worked_run(&rt, rt.alloc(), &[100, 100]);
@@ -118,10 +118,10 @@ fn eight_cores_commit_and_receive(rt: HostRuntime) {
     drop(ended);
 }
 
-// Lets no job through.
+/// Lets no job through.
 struct Never;
 
-impl Gate for Never {
+impl Watcher for Never {
     fn may(&self, notes: &mut Notes, core: u16, number: u64) -> bool {
         notes.ask(core, number, false);
         false
@@ -132,7 +132,7 @@ impl Gate for Never {
     }
 }
 
-// Runs one core, which has a job that it may never receive.
+/// Runs one core, which has a job that it may never receive.
 fn halting_run<R: Abort + Threads + Wait + Clock + Sync>(rt: &R, alloc: Global) -> Ended {
     let machine = boot(alloc, &[100], Vec::new(alloc)).expect(rt, "there is memory");
     let job = job(alloc, 1, 0).expect(rt, "there is memory");
@@ -148,14 +148,14 @@ fn a_core_halts_at_its_limit(rt: HostRuntime) {
     drop(ended);
 }
 
-// Each core's first question sets its flag, and then looks for the other core's.
+/// Each core's first question sets its flag, and then looks for the other core's.
 #[derive(Drop)]
 struct Meeting {
     here: [AtomicBool; 2],
     met: AtomicU64,
 }
 
-impl Gate for Meeting {
+impl Watcher for Meeting {
     fn may(&self, notes: &mut Notes, core: u16, number: u64) -> bool {
         notes.ask(core, number, true);
         let (own, other) = if core == 0 {
@@ -180,28 +180,28 @@ impl Gate for Meeting {
     }
 }
 
-// Runs two cores with a job each.
+/// Runs two cores with a job each.
 fn meeting_run<R: Abort + Threads + Wait + Clock + Sync>(
     rt: &R,
     alloc: Global,
-    gate: &Meeting,
+    watcher: &Meeting,
 ) -> Ended {
     let machine = boot(alloc, &[100, 100], Vec::new(alloc)).expect(rt, "there is memory");
     let first = job(alloc, 1, 0).expect(rt, "there is memory");
     let second = job(alloc, 2, 0).expect(rt, "there is memory");
     let jobs = vec![in alloc; (0, first), (1, second)].expect(rt, "there is memory");
-    run_machine(rt, alloc, machine, jobs, gate, LIMIT).expect(rt, "threads start")
+    run_machine(rt, alloc, machine, jobs, watcher, LIMIT).expect(rt, "threads start")
 }
 
 #[test]
 fn two_cores_wait_for_each_other(rt: HostRuntime) {
-    let gate = Meeting {
+    let watcher = Meeting {
         here: [AtomicBool::new(false), AtomicBool::new(false)],
         met: AtomicU64::new(0),
     };
-    let ended = meeting_run(&rt, rt.alloc(), &gate);
+    let ended = meeting_run(&rt, rt.alloc(), &watcher);
     equal(&rt, ended.halted, None);
-    equal(&rt, gate.met.load(Ordering::SeqCst), 2);
+    equal(&rt, watcher.met.load(Ordering::SeqCst), 2);
     let nobody = EventWords::Delivered(0, 0, 0, 0);
     equal(&rt, last_receipt(&ended, 0), Some((1, nobody)));
     equal(&rt, last_receipt(&ended, 1), Some((2, nobody)));
@@ -229,7 +229,7 @@ fn a_machine_with_limits_has_1_to_64_cores(rt: HostRuntime) {
     equal(&rt, more.err(), Some(BootFault::CoreCount));
 }
 
-// Runs a machine of two cores that may be refused memory: its end, or why there is none.
+/// Runs a machine of two cores that may be refused memory: its end, or why there is none.
 fn run_within<R: Threads + Wait + Clock + Sync>(
     rt: &R,
     alloc: Global,
@@ -250,14 +250,14 @@ fn run_within<R: Threads + Wait + Clock + Sync>(
     }
 }
 
-// The list of what two cores did, or none where there was no memory for it.
+/// The list of what two cores did, or none where there was no memory for it.
 fn list_of(alloc: Global, cores: Vec<Recorded<RingLinks>>) -> Result<Vec<Done>, AllocError>
     requires { (budget : ℕ) × (rest : List ℕ) × IsMachine default_limits budget rest cores.items }
 {
     merge(alloc, &conclude(alloc, cores)?)
 }
 
-// An end with ample memory has all events. Else a core halted, voted or decided that there was none.
+/// An end with ample memory has all events. Else a core halted, voted or decided that there was none.
 fn ends_within<A: Abort>(rt: &A, alloc: Global, ended: Ended)
     requires { (budget : ℕ) × (rest : List ℕ) × IsMachine default_limits budget rest ended.cores.items }
 {

@@ -83,7 +83,7 @@ static SENDS: [Step; 2] = [
     Step::Turns(true, RecordedTurn::Idle),
 ];
 
-// The one core of a machine commits, receives what it may, and then rests.
+/// The one core of a machine commits, receives what it may, and then rests.
 fn commits_and_receives(
     rt: &impl Abort,
     alloc: Global,
@@ -113,7 +113,7 @@ fn a_core_sends_one_request_and_waits(rt: HostRuntime) {
     drop((core, events, port));
 }
 
-// A core that is given this as core 0's stands still at it, whatever it is asked.
+/// A core that is given this as core 0's stands still at it, whatever it is asked.
 fn stops_at(rt: &impl Abort, core: &mut Recorded<ListLinks>, message: Vec<u8>, turn: RecordedTurn)
     requires length { (1 ≤ vec_len message) × (vec_len message ≤ 32832) }
 {
@@ -123,7 +123,7 @@ fn stops_at(rt: &impl Abort, core: &mut Recorded<ListLinks>, message: Vec<u8>, t
     equal(rt, (core.core().version(), core.events().len()), (0, 0));
 }
 
-// So does core 1 of two.
+/// So does core 1 of two.
 fn stands_still(rt: &impl Abort, alloc: Global, message: Vec<u8>, turn: RecordedTurn)
     requires length { (1 ≤ vec_len message) × (vec_len message ≤ 32832) }
 {
@@ -132,7 +132,7 @@ fn stands_still(rt: &impl Abort, alloc: Global, message: Vec<u8>, turn: Recorded
     drop((core, port));
 }
 
-// A message that is none, one that comes too early, and the last stamp.
+/// A message that is none, one that comes too early, and the last stamp.
 #[test]
 fn messages_that_stop_a_core(rt: HostRuntime) {
     let alloc = rt.alloc();
@@ -150,7 +150,7 @@ fn messages_that_stop_a_core(rt: HostRuntime) {
     );
 }
 
-// A turn; one that is refused memory changes nothing.
+/// A turn; one that is refused memory changes nothing.
 fn turn(rt: &impl Abort, core: &mut Recorded<ListLinks>) {
     let before = place(core);
     if !has_turned(core) {
@@ -158,7 +158,7 @@ fn turn(rt: &impl Abort, core: &mut Recorded<ListLinks>) {
     }
 }
 
-// Turns that commit the request, or refuse it where it lacked memory.
+/// Turns that commit the request, or refuse it where it lacked memory.
 fn settles(rt: &impl Abort, core: &mut Recorded<ListLinks>) {
     for _ in 0..4 {
         turn(rt, core);

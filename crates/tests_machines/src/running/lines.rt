@@ -16,7 +16,7 @@ use std::process::Abort;
 use table_replica::Limits;
 use ump_ring::{Joiner, Line, Receiver, ring};
 
-// The links of core 1 of two, over which these lines have come: their first two words, where all others are 0.
+/// The links of core 1 of two, over which these lines have come: their first two words, where all others are 0.
 fn given_links(alloc: Global, heads: &[(u64, u64)]) -> Result<RingLinks, AllocError>
     ensures { IfOk result (λ r. (p : ℕ) → IsSilent (ring_view r p)) }
 {
@@ -31,7 +31,7 @@ fn given_links(alloc: Global, heads: &[(u64, u64)]) -> Result<RingLinks, AllocEr
     Ok(links)
 }
 
-// That core, with the port of its queue.
+/// That core, with the port of its queue.
 fn given_core(rt: &impl Abort, alloc: Global, heads: &[(u64, u64)]) -> (Recorded<RingLinks>, Port) {
     let (port, intake) = queue(alloc, 1).expect(rt, "there is memory");
     let links = given_links(alloc, heads).expect(rt, "there is memory");
@@ -49,14 +49,14 @@ fn given_core(rt: &impl Abort, alloc: Global, heads: &[(u64, u64)]) -> (Recorded
     (Recorded::new(alloc, core), port)
 }
 
-// What two turns answer, and what the core has done and knows then.
+/// What two turns answer, and what the core has done and knows then.
 fn two_turns(core: &mut Recorded<RingLinks>) -> (RecordedTurn, RecordedTurn, u64, usize) {
     let first = core.turn(true);
     let second = core.turn(true);
     (first, second, core.core().version(), core.events().len())
 }
 
-// What two turns of that core come to.
+/// What two turns of that core come to.
 fn turns_at(
     rt: &impl Abort,
     alloc: Global,

@@ -15,7 +15,7 @@ use std::process::Abort;
 use table_replica::{Limits, Op};
 use test_words::{ALL, CAP, EventWords, FILTER, is_for_memory, program, tells};
 
-// Requests to create endpoint 7 and to install a filter that accepts every packet.
+/// Requests to create endpoint 7 and to install a filter that accepts every packet.
 fn installation(rt: &impl Abort, alloc: Global) -> VecDeque<Op> {
     let mut requests = creation(rt, alloc);
     let install = Op::Install {
@@ -27,7 +27,7 @@ fn installation(rt: &impl Abort, alloc: Global) -> VecDeque<Op> {
     requests
 }
 
-// Core 0 of two, which has both requests.
+/// Core 0 of two, which has both requests.
 fn core_0(rt: &impl Abort, alloc: Global, capacity: usize) -> (Recorded<ListLinks>, Port) {
     let (port, intake) = queue(alloc, 4).expect(rt, "there is memory");
     let links = ListLinks::new(alloc, 0, 2, capacity).expect(rt, "there is memory");
@@ -45,7 +45,7 @@ fn core_0(rt: &impl Abort, alloc: Global, capacity: usize) -> (Recorded<ListLink
     (Recorded::new(alloc, core), port)
 }
 
-// The history has just these stamps and answers.
+/// The history has just these stamps and answers.
 fn has(rt: &impl Abort, history: &[Stamped], wanted: &[(u64, EventWords)]) {
     equal(rt, history.len(), wanted.len());
     for (event, wanted) in history.iter().zip(wanted) {
@@ -69,7 +69,7 @@ static OTHER: [(u64, EventWords); 4] = [
     (9, EventWords::TookCommit(2, 2)),
 ];
 
-// A turn; one that is refused memory changes nothing, and the next is as the first would have been.
+/// A turn; one that is refused memory changes nothing, and the next is as the first would have been.
 fn sure_turn(rt: &impl Abort, core: &mut Recorded<ListLinks>) {
     let before = place(core);
     if !has_turned(core) {
@@ -78,7 +78,7 @@ fn sure_turn(rt: &impl Abort, core: &mut Recorded<ListLinks>) {
     }
 }
 
-// Turns both cores, one after the other, and carries what they send; one of them may be refused memory once.
+/// Turns both cores, one after the other, and carries what they send; one of them may be refused memory once.
 fn run(
     rt: &impl Abort,
     alloc: Global,
@@ -94,13 +94,13 @@ fn run(
     Ok(())
 }
 
-// The number of the job in front.
+/// The number of the job in front.
 fn front(core: &mut Recorded<ListLinks>) -> Option<u64> {
     core.look();
     Some(core.core().seen()?.number)
 }
 
-// The two commit, and core 1 receives the job that it can.
+/// The two commit, and core 1 receives the job that it can.
 fn commit_and_receive(
     rt: &impl Abort,
     alloc: Global,
@@ -116,7 +116,7 @@ fn commit_and_receive(
     equal(rt, front(other), Some(2));
 }
 
-// Core 1 of two, with a job for version 2 and one for version 9.
+/// Core 1 of two, with a job for version 2 and one for version 9.
 fn busy_core(rt: &impl Abort, alloc: Global) -> (Recorded<ListLinks>, Port) {
     let (core, mut port) = core_of(rt, alloc, 1, 2, 8);
     for (number, floor) in [(1, 2), (2, 9)] {
@@ -134,7 +134,7 @@ fn two_cores_commit_and_receive(rt: HostRuntime) {
     drop((first, port, other, other_port));
 }
 
-// Whether core 0 starts its request, is given this as core 1's, and then waits with it.
+/// Whether core 0 starts its request, is given this as core 1's, and then waits with it.
 fn waits_with(core: &mut Recorded<ListLinks>, message: Vec<u8>) -> bool
     requires length { (1 ≤ vec_len message) × (vec_len message ≤ 32832) }
 {
@@ -145,7 +145,7 @@ fn waits_with(core: &mut Recorded<ListLinks>, message: Vec<u8>) -> bool
         && core.events().len() == 1
 }
 
-// A link of one message holds the Prepare, so core 0 could not send the Commit that answers the vote.
+/// A link of one message holds the Prepare, so core 0 could not send the Commit that answers the vote.
 #[test]
 fn a_vote_waits_for_a_full_link(rt: HostRuntime) {
     let vote = Vote::Yes;
@@ -158,15 +158,15 @@ fn a_vote_waits_for_a_full_link(rt: HostRuntime) {
     drop((first, port));
 }
 
-// Whether the core voted, or decided, that there was no memory.
+/// Whether the core voted, or decided, that there was no memory.
 fn lacked_memory(history: &[Stamped]) -> bool {
     history
         .iter()
         .any(|event| is_for_memory(&event.done.answer))
 }
 
-// Both cores come to be done and agree. They did what they do with ample memory, unless one of them voted, or decided, that there was
-// none.
+/// Both cores come to be done and agree. They did what they do with ample memory, unless one of them voted, or decided, that there was
+/// none.
 fn agree(
     rt: &impl Abort,
     alloc: Global,

@@ -1,5 +1,5 @@
 use Rattle.std.proofs.Common.{◌≡◌, None}
-use Rattle.core_threads.specs.Gates.{receipts_of}
+use Rattle.core_threads.specs.Watchers.{receipts_of}
 use Rattle.core_threads.specs.Runs.{CoreRan}
 use Rattle.core_threads.proofs.turning.run_core.Given as goal
 

@@ -2,8 +2,8 @@ use Rattle.std.proofs.Common.{◌∷◌, [], ◌++◌, ℕ, List, ap, ◌∙◌,
 use Rattle.rx_queue.specs.Queue.{jobs_seen}
 use Rattle.world_histories.specs.declared.history.Stamped.{Stamped}
 use Rattle.core_loop.specs.Cores.{CoreState}
-use Rattle.core_threads.specs.Gates.{AsksOfFront}
-use Rattle.core_threads.proofs.Gates.{obeyed, takes_asked}
+use Rattle.core_threads.specs.Watchers.{AsksOfFront}
+use Rattle.core_threads.proofs.Watchers.{obeyed, takes_asked}
 use Rattle.core_threads.proofs.Turns.{after_turn}
 use Rattle.core_threads.proofs.turning.take_turn.Goals as goal
 
