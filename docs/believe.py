@@ -42,8 +42,8 @@ HEADLINE = [
         "headline::one_by_one",
         "headline::threads",
         "headline::Replicas::get",
-    ], 630),
-    Part("The same of cores that serve in one thread, step by step", ["headline::serve"], 620),
+    ], 645),
+    Part("The same of cores that serve in one thread, step by step", ["headline::serve"], 625),
 ]
 WHOLE = Part("All parts of the headline", [root for part in HEADLINE for root in part.roots], 0)
 # What the program's own calls say beside the headline: each case of the protocol, and what rings and their ends show.
@@ -61,7 +61,7 @@ CALLS = [
         "core_join::agree[agree]",
         "core_join::conclude",
         "core_join::merge",
-    ], 2145),
+    ], 2147),
 ]
 COMMANDS = [
     Part("`match`", ["console::run_match"], 930),

@@ -34,7 +34,7 @@ pub(crate) fn command<'a>(alloc: Global) -> Result<Command<'a>, AllocError>
     with_command(command, drawing(alloc))
 }
 
-// A command line with one more command, where that could be made.
+/// A command line with one more command, where that could be made.
 fn with_command<'a>(
     line: Command<'a>,
     made: Result<Command<'a>, AllocError>,
@@ -51,7 +51,7 @@ fn with_command<'a>(
     }
 }
 
-// `match CODE [--stream] [--number | --count | --quiet] [--pcap [--link N]] [FILE]`, `match CODE --explain [FILE]`
+/// `match CODE [--stream] [--number | --count | --quiet] [--pcap [--link N]] [FILE]`, `match CODE --explain [FILE]`
 fn matching<'a>(alloc: Global) -> Result<Command<'a>, AllocError>
     ensures { IfOk result (IsCommand (codes "match") (code ∷ flag (codes "pcap") ∷ flag (codes "stream") ∷ flag (codes "number")
         ∷ lone_flag (codes "count") ∷ lone_flag (codes "quiet") ∷ lone_flag (codes "explain") ∷ bound_link ∷ file ∷ [])) }
@@ -67,7 +67,7 @@ fn matching<'a>(alloc: Global) -> Result<Command<'a>, AllocError>
     with_argument(command, bound_link(alloc))?.arg(file(alloc, PACKETS_HELP))
 }
 
-// `check [--asm] [FILE]`, `check --graph [FILE]`
+/// `check [--asm] [FILE]`, `check --graph [FILE]`
 fn checking<'a>(alloc: Global) -> Result<Command<'a>, AllocError>
     ensures { IfOk result (IsCommand (codes "check") (flag (codes "asm") ∷ lone_flag (codes "graph") ∷ file ∷ [])) }
 {
@@ -78,7 +78,7 @@ fn checking<'a>(alloc: Global) -> Result<Command<'a>, AllocError>
     command.arg(file(alloc, FILTER_HELP))
 }
 
-// A command with the texts of its help, and no argument yet.
+/// A command with the texts of its help, and no argument yet.
 fn described<'a>(
     alloc: Global,
     name: &'a str,
@@ -94,7 +94,7 @@ fn described<'a>(
         .after_help(example)
 }
 
-// A command with one more argument, where that could be made.
+/// A command with one more argument, where that could be made.
 fn with_argument<'a>(
     command: Command<'a>,
     made: Result<Arg<'a>, AllocError>,
@@ -111,7 +111,7 @@ fn with_argument<'a>(
     }
 }
 
-// `dump [--link N] [FILE]`
+/// `dump [--link N] [FILE]`
 fn dumping<'a>(alloc: Global) -> Result<Command<'a>, AllocError>
     ensures { IfOk result (IsCommand (codes "dump") (link ∷ file ∷ [])) }
 {
@@ -120,7 +120,7 @@ fn dumping<'a>(alloc: Global) -> Result<Command<'a>, AllocError>
         .arg(file(alloc, CAPTURE_HELP))
 }
 
-// `keep CODE [--not] [--link N] [FILE]`
+/// `keep CODE [--not] [--link N] [FILE]`
 fn keeping<'a>(alloc: Global) -> Result<Command<'a>, AllocError>
     ensures { IfOk result (IsCommand (codes "keep") (code ∷ flag (codes "not") ∷ link ∷ file ∷ [])) }
 {
@@ -131,21 +131,21 @@ fn keeping<'a>(alloc: Global) -> Result<Command<'a>, AllocError>
         .arg(file(alloc, CAPTURE_HELP))
 }
 
-// `sim [FILE]...`
+/// `sim [FILE]...`
 fn simulating<'a>(alloc: Global) -> Result<Command<'a>, AllocError>
     ensures { IfOk result (IsCommand (codes "sim") (files ∷ [])) }
 {
     described(alloc, "sim", SIM_ABOUT, SIM_DETAILS, SIM_EXAMPLE).arg(files(alloc))
 }
 
-// `run [FILE]...`
+/// `run [FILE]...`
 fn running<'a>(alloc: Global) -> Result<Command<'a>, AllocError>
     ensures { IfOk result (IsCommand (codes "run") (files ∷ [])) }
 {
     described(alloc, "run", RUN_ABOUT, RUN_DETAILS, RUN_EXAMPLE).arg(files(alloc))
 }
 
-// `draw [--text] [FILE]`
+/// `draw [--text] [FILE]`
 fn drawing<'a>(alloc: Global) -> Result<Command<'a>, AllocError>
     ensures { IfOk result (IsCommand (codes "draw") (flag (codes "text") ∷ file ∷ [])) }
 {
@@ -154,7 +154,7 @@ fn drawing<'a>(alloc: Global) -> Result<Command<'a>, AllocError>
         .arg(file(alloc, TRACE_HELP))
 }
 
-// `CODE`, which must be given.
+/// `CODE`, which must be given.
 fn code<'a>(alloc: Global) -> Arg<'a>
     ensures rule { rule_of result ≡ code }
     ensures local { result.global ≡ false }
@@ -165,7 +165,7 @@ fn code<'a>(alloc: Global) -> Arg<'a>
         .required(true)
 }
 
-// `--count`
+/// `--count`
 fn count<'a>(alloc: Global) -> Result<Arg<'a>, AllocError>
     ensures rule { IfOk result (λ a. rule_of a ≡ lone_flag (codes "count")) }
     ensures local { IfOk result (λ a. a.global ≡ false) }
@@ -173,7 +173,7 @@ fn count<'a>(alloc: Global) -> Result<Arg<'a>, AllocError>
     lone_flag(alloc, "count", COUNT_HELP, "number")
 }
 
-// `--quiet`
+/// `--quiet`
 fn quiet<'a>(alloc: Global) -> Result<Arg<'a>, AllocError>
     ensures rule { IfOk result (λ a. rule_of a ≡ lone_flag (codes "quiet")) }
     ensures local { IfOk result (λ a. a.global ≡ false) }
@@ -182,7 +182,7 @@ fn quiet<'a>(alloc: Global) -> Result<Arg<'a>, AllocError>
     also_lone(quiet, "count")
 }
 
-// `--explain`
+/// `--explain`
 fn explain<'a>(alloc: Global) -> Result<Arg<'a>, AllocError>
     ensures rule { IfOk result (λ a. rule_of a ≡ lone_flag (codes "explain")) }
     ensures local { IfOk result (λ a. a.global ≡ false) }
@@ -195,7 +195,7 @@ fn explain<'a>(alloc: Global) -> Result<Arg<'a>, AllocError>
     also_lone(explain, "link")
 }
 
-// A flag that is refused beside one more, where it could be made.
+/// A flag that is refused beside one more, where it could be made.
 fn also_lone<'a>(made: Result<Arg<'a>, AllocError>, other: &'a str) -> Result<Arg<'a>, AllocError>
     ensures rule { (name : Text) → IfOk made.entry (λ a. rule_of a ≡ lone_flag name) → IfOk result (λ a. rule_of a ≡ lone_flag name) }
     ensures local { IfOk made.entry (λ a. a.global ≡ false) → IfOk result (λ a. a.global ≡ false) }
@@ -206,7 +206,7 @@ fn also_lone<'a>(made: Result<Arg<'a>, AllocError>, other: &'a str) -> Result<Ar
     }
 }
 
-// A flag `--NAME`.
+/// A flag `--NAME`.
 fn flag<'a>(alloc: Global, name: &'a str, help: &'a str) -> Arg<'a>
     ensures rule { rule_of result ≡ flag name.entry.now }
     ensures local { result.global ≡ false }
@@ -217,7 +217,7 @@ fn flag<'a>(alloc: Global, name: &'a str, help: &'a str) -> Arg<'a>
         .action(ArgAction::SetTrue)
 }
 
-// A flag `--NAME` that is refused beside another.
+/// A flag `--NAME` that is refused beside another.
 fn lone_flag<'a>(
     alloc: Global,
     name: &'a str,
@@ -230,7 +230,7 @@ fn lone_flag<'a>(
     flag(alloc, name, help).conflicts_with(other)
 }
 
-// `--link N`
+/// `--link N`
 fn link<'a>(alloc: Global, help: &'a str) -> Arg<'a>
     ensures rule { rule_of result ≡ link }
     ensures local { result.global ≡ false }
@@ -242,7 +242,7 @@ fn link<'a>(alloc: Global, help: &'a str) -> Arg<'a>
         .value_parser(value_parser!(u32))
 }
 
-// `--link N` beside `--pcap`
+/// `--link N` beside `--pcap`
 fn bound_link<'a>(alloc: Global) -> Result<Arg<'a>, AllocError>
     ensures rule { IfOk result (λ a. rule_of a ≡ bound_link) }
     ensures local { IfOk result (λ a. a.global ≡ false) }
@@ -250,7 +250,7 @@ fn bound_link<'a>(alloc: Global) -> Result<Arg<'a>, AllocError>
     link(alloc, LINK_HELP).requires_arg("pcap")
 }
 
-// `FILE`, which is read in place of standard input.
+/// `FILE`, which is read in place of standard input.
 fn file<'a>(alloc: Global, help: &'a str) -> Arg<'a>
     ensures rule { rule_of result ≡ file }
     ensures local { result.global ≡ false }
@@ -258,7 +258,7 @@ fn file<'a>(alloc: Global, help: &'a str) -> Arg<'a>
     Arg::new(alloc, "file").value_name("FILE").help(help)
 }
 
-// The captures of a script.
+/// The captures of a script.
 fn files<'a>(alloc: Global) -> Arg<'a>
     ensures rule { rule_of result ≡ files }
     ensures local { result.global ≡ false }

@@ -127,7 +127,7 @@ pub fn request_of<'a, S: AsStr>(
     parsed(alloc, words)
 }
 
-// What these words ask for.
+/// What these words ask for.
 fn parsed<'a, S: AsStr>(alloc: Global, words: &'a [S]) -> Result<Option<Invocation<'a>>, Error>
     ensures asked { IfOk result (AsksBy (subcommand_of program (map S.text words.entry.now))) }
     ensures taken { IfErr result (λ e. takes program (map S.text words.entry.now) ≡ true → kind_of e ≡ ErrorKind.OutOfMemory) }
@@ -142,7 +142,7 @@ fn parsed<'a, S: AsStr>(alloc: Global, words: &'a [S]) -> Result<Option<Invocati
     }
 }
 
-// What the command among these words asks for.
+/// What the command among these words asks for.
 fn chosen<'a>(alloc: Global, matches: &ArgMatches<'a>) -> Result<Option<Invocation<'a>>, AllocError>
     ensures { IfOk result (AsksBy (subcommand_rows_of matches.now)) }
 {
@@ -152,7 +152,7 @@ fn chosen<'a>(alloc: Global, matches: &ArgMatches<'a>) -> Result<Option<Invocati
     }
 }
 
-// What a command of this name and these arguments asks for, and where its input is.
+/// What a command of this name and these arguments asks for, and where its input is.
 fn invoked<'a>(
     alloc: Global,
     name: &str,
@@ -170,7 +170,7 @@ fn invoked<'a>(
     }
 }
 
-// The file that is the input; none where it is standard input, which `-` names too.
+/// The file that is the input; none where it is standard input, which `-` names too.
 fn input_of<'a>(found: &ArgMatches<'a>) -> Option<&'a str>
     ensures { IsInput (rows_of (found_of found.now)) result }
 {
@@ -183,14 +183,14 @@ fn input_of<'a>(found: &ArgMatches<'a>) -> Option<&'a str>
     }
 }
 
-// The link type that is named, if one is.
+/// The link type that is named, if one is.
 fn link_of(found: &ArgMatches) -> Option<u32>
     ensures { IsLink (rows_of (found_of found.now)) result }
 {
     found.get_one("link")
 }
 
-// What a command of this name and these arguments asks for.
+/// What a command of this name and these arguments asks for.
 fn asked<'a>(
     alloc: Global,
     name: &str,
@@ -240,7 +240,7 @@ fn asked<'a>(
     }))
 }
 
-// What `match` shows, by its flags, if not a line for each packet.
+/// What `match` shows, by its flags, if not a line for each packet.
 fn view_of(found: &ArgMatches) -> Option<MatchView>
     ensures { IsView (rows_of (found_of found.now)) result }
 {
@@ -255,7 +255,7 @@ fn view_of(found: &ArgMatches) -> Option<MatchView>
     }
 }
 
-// The names of the captures.
+/// The names of the captures.
 fn files<'a>(alloc: Global, found: &ArgMatches<'a>) -> Result<Vec<&'a str>, AllocError>
     ensures { IfOk result (λ f. IsFiles (rows_of (found_of found.now)) f.items) }
 {

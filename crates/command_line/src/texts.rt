@@ -1,6 +1,6 @@
 //! The texts of help.
 
-// The version, and the digest of the sources. dist/stamp.sh puts it in place of the text after `sources`.
+/// The version, and the digest of the sources. dist/stamp.sh puts it in place of the text after `sources`.
 pub(crate) const VERSION: &str =
     "0.1.0 (sources no digest: this program was built without dist/stamp.sh ........)";
 

@@ -21,10 +21,10 @@ use std::collections::VecDeque;
 use std::mem;
 use world_core::BootFault;
 
-// The jobs that a core's queue holds.
+/// The jobs that a core's queue holds.
 const QUEUE_JOBS: usize = 16;
 
-// A core that has done nothing. The port of its queue is put with the others, so that a core isn't moved with one.
+/// A core that has done nothing. The port of its queue is put with the others, so that a core isn't moved with one.
 #[inline(never)]
 fn start_core(
     alloc: Global,
@@ -49,7 +49,7 @@ fn start_core(
     )
 }
 
-// One more core comes up.
+/// One more core comes up.
 #[inline(never)]
 fn add_core(
     alloc: Global,
@@ -73,7 +73,7 @@ fn add_core(
     Ok(())
 }
 
-// The cores over these links come up, each with its budget and its requests.
+/// The cores over these links come up, each with its budget and its requests.
 #[inline(never)]
 fn start_cores(
     alloc: Global,
@@ -108,7 +108,7 @@ fn start_cores(
     Ok((cores, ports))
 }
 
-// The cores of a machine of so many, and the ports of their queues.
+/// The cores of a machine of so many, and the ports of their queues.
 fn assemble(
     alloc: Global,
     limits: Limits,

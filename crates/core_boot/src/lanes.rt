@@ -23,7 +23,7 @@ pub fn by_core<T: Drop>(
     Ok(lanes)
 }
 
-// A lane for each core, with nothing in it.
+/// A lane for each core, with nothing in it.
 fn empty_lanes<T: Drop>(alloc: Global, cores: usize) -> Result<Vec<VecDeque<T>>, AllocError>
     ensures count { IfOk result (λ lanes. length lanes.items ≡ cores) }
     ensures empty { IfOk result (λ lanes. All (λ lane. lane.items ≡ []) lanes.items) }

@@ -10,10 +10,10 @@ use core_loop::RingLinks;
 use std::alloc::{AllocError, Global};
 use ump_ring::ring;
 
-// The lines of a ring.
+/// The lines of a ring.
 const RING_LINES: usize = 64;
 
-// The links of another core, joined to those of core 0 by two rings.
+/// The links of another core, joined to those of core 0 by two rings.
 fn join_peer(
     alloc: Global,
     first: &mut RingLinks,

@@ -41,7 +41,7 @@ pub fn drive(
     Ok(outcomes)
 }
 
-// Does one step.
+/// Does one step.
 fn do_step(alloc: Global, cores: &mut [Core<RingLinks>], step: CoreStep) -> StepOutcome
     requires step { IsStep (length cores.old) step }
     requires place { (i : ℕ) (c : RingCore) → slice_get cores.old i ≡ Some c → c.number ≡ i }
@@ -53,7 +53,7 @@ fn do_step(alloc: Global, cores: &mut [Core<RingLinks>], step: CoreStep) -> Step
     do_task(alloc, &mut cores[usize::from(core)], task)
 }
 
-// Does one task of a core.
+/// Does one task of a core.
 fn do_task(alloc: Global, core: &mut Core<RingLinks>, task: Task) -> StepOutcome
     requires { IsGivable core.old.number task }
     ensures answered { IsOf task result }
@@ -71,7 +71,7 @@ fn do_task(alloc: Global, core: &mut Core<RingLinks>, task: Task) -> StepOutcome
     }
 }
 
-// Has a core receive a packet, in a room that is always enough: an endpoint that gets one has a capability that is held.
+/// Has a core receive a packet, in a room that is always enough: an endpoint that gets one has a capability that is held.
 fn receive(alloc: Global, core: &mut Core<RingLinks>, packet: SharedPacket) -> StepOutcome
     ensures answered { IsOf (GhostTask.Receive packet) result }
     ensures drives { CoreDrives (did core.old.number (GhostTask.Receive packet) result) [] [] core.old core.new }

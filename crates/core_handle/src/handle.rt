@@ -44,7 +44,7 @@ impl CoreHandle {
         }
     }
 
-    // The core, which the handle has from now on.
+    /// The core, which the handle has from now on.
     fn of(core: Loose<Core<RingLinks>, Global>) -> CoreHandle
         ensures { result.core ≡ Some core.value }
     {
@@ -54,7 +54,7 @@ impl CoreHandle {
         }
     }
 
-    // The core that the handle had, if it had one.
+    /// The core that the handle had, if it had one.
     fn into_loose(self, alloc: Global) -> Option<Loose<Core<RingLinks>, Global>>
         ensures { MatchOption result (self.core ≡ None) (λ loose. self.core ≡ Some loose.value) }
     {

@@ -45,7 +45,7 @@ pub fn keep_one(
     Ok(())
 }
 
-// A packet that isn't run would have an outcome too. This does nothing.
+/// A packet that isn't run would have an outcome too. This does nothing.
 #[inline(always)]
 fn has_outcomes(program: &Predecoded)
     ensures { (packet : Packet) → HasEnd program.now packet }

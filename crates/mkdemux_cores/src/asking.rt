@@ -175,7 +175,7 @@ pub extern "C" fn mkdemux_ask_replace(
     }
 }
 
-// Puts a request after those of the core.
+/// Puts a request after those of the core.
 fn ask(alloc: Global, core: &mut CoreHandle, op: Op) -> u32
     requires short { (c : RingCore) → core.old.core ≡ Some c → AreShort c.number (op ∷ []) }
     ensures closed { result ≡ CLOSED ↔ core.old.core ≡ None }
@@ -194,7 +194,7 @@ fn ask(alloc: Global, core: &mut CoreHandle, op: Op) -> u32
     }
 }
 
-// A copy of a program that this core can be asked for, or what is to be answered.
+/// A copy of a program that this core can be asked for, or what is to be answered.
 fn program_for(alloc: Global, core: &mut CoreHandle, code: &[Insn]) -> Result<Program, u32>
     ensures same { core.new.core ≡ core.old.core }
     ensures copy { IfOk result (λ program. program ≡ code.now) }
@@ -218,14 +218,14 @@ fn program_for(alloc: Global, core: &mut CoreHandle, code: &[Insn]) -> Result<Pr
     }
 }
 
-// A copy of a program.
+/// A copy of a program.
 fn copied(alloc: Global, code: &[Insn]) -> Result<Program, AllocError>
     ensures { IfOk result (λ program. program ≡ code.now) }
 {
     Program::from_vec(alloc, Vec::from_slice(alloc, code)?)
 }
 
-// The rights of a number.
+/// The rights of a number.
 fn rights_of(number: u8) -> Option<Rights>
     ensures { MatchOption result ((r : GhostRights) → rights_number r ≢ number) (λ r. rights_number r ≡ number) }
 {

@@ -77,7 +77,7 @@ pub extern "C" fn mkdemux_boot_limits_cores(
     }
 }
 
-// The limits that these numbers give, if a machine may have them.
+/// The limits that these numbers give, if a machine may have them.
 fn limits_of(
     caps: u32,
     filters: u32,
@@ -98,14 +98,14 @@ fn limits_of(
     )
 }
 
-// A domain's share, where 0 stands for all.
+/// A domain's share, where 0 stands for all.
 fn share_of(total: u32, share: u32) -> u32
     ensures { result ≡ spec.share_of total share }
 {
     if share == 0 { total } else { share }
 }
 
-// Opens the cores of one machine of 1 to 64, where there are as many closed handles.
+/// Opens the cores of one machine of 1 to 64, where there are as many closed handles.
 fn open_all(alloc: Global, limits: Limits, budgets: &[u32], cores: &mut [CoreHandle]) -> u32
     requires some { 0 < length budgets.now }
     requires few { length budgets.now ≤ 64 }
@@ -133,7 +133,7 @@ fn open_all(alloc: Global, limits: Limits, budgets: &[u32], cores: &mut [CoreHan
     }
 }
 
-// The cores of a machine of 1 to 64, each in a block of its own.
+/// The cores of a machine of 1 to 64, each in a block of its own.
 fn boot_boxed(
     alloc: Global,
     limits: Limits,
@@ -149,7 +149,7 @@ fn boot_boxed(
     }
 }
 
-// Each core in a block of its own.
+/// Each core in a block of its own.
 #[inline(never)]
 fn boxed(
     alloc: Global,
@@ -164,7 +164,7 @@ fn boxed(
     Ok(boxes)
 }
 
-// A core in a block of its own. Not in line, so that the stack has one core at a time.
+/// A core in a block of its own. Not in line, so that the stack has one core at a time.
 #[inline(never)]
 fn block_of(alloc: Global, core: Core<RingLinks>) -> Result<Box<Core<RingLinks>>, AllocError>
     ensures { IfOk result (λ b. b.value ≡ core) }
@@ -175,7 +175,7 @@ fn block_of(alloc: Global, core: Core<RingLinks>) -> Result<Box<Core<RingLinks>>
     }
 }
 
-// Whether one of these is open.
+/// Whether one of these is open.
 fn is_any_open(alloc: Global, cores: &mut [CoreHandle]) -> bool
     ensures open { IsTrue result → AreClosed cores.old → ⊥ }
     ensures closed { IsFalse result → AreClosed cores.old }

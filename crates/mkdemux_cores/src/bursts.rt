@@ -48,7 +48,7 @@ pub extern "C" fn mkdemux_receive_packets(
     answer
 }
 
-// The receipts of packets by a core, until one isn't received.
+/// The receipts of packets by a core, until one isn't received.
 fn receive_each(
     core: &mut Core<RingLinks>,
     packets: &[Packet<'_>],
@@ -75,7 +75,7 @@ fn receive_each(
     DONE
 }
 
-// The number of why a packet isn't received.
+/// The number of why a packet isn't received.
 fn number_of(why: NotReceived) -> u32
     ensures { result ≡ why_number why }
 {

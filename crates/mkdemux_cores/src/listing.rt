@@ -91,7 +91,7 @@ pub extern "C" fn mkdemux_filter_code(
     answer
 }
 
-// Puts a program at the front of a room, if it has room for it.
+/// Puts a program at the front of a room, if it has room for it.
 fn lay_code(code: &[Insn], room: &mut [Insn]) -> u32
     ensures laid { result ≡ DONE → room.new ≡ laid code.now room.old }
     ensures fits { result ≡ DONE ↔ (length code.now ≤ length room.old) }

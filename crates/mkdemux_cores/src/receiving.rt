@@ -42,7 +42,7 @@ pub extern "C" fn mkdemux_receive(
     answer
 }
 
-// The receipt of a packet by a core.
+/// The receipt of a packet by a core.
 fn receive_at(
     core: &mut Core<RingLinks>,
     packet: &[u8],

@@ -41,7 +41,7 @@ pub extern "C" fn mkdemux_settle(alloc: Global, cores: &mut [CoreHandle]) -> u32
     answer_of(settled)
 }
 
-// How settling ended, as a number.
+/// How settling ended, as a number.
 fn answer_of(settled: Settled) -> u32
     ensures { result ≡ answer_of settled }
 {
@@ -52,7 +52,7 @@ fn answer_of(settled: Settled) -> u32
     }
 }
 
-// Why these aren't the cores of a machine of so many, the first in this place, if they aren't.
+/// Why these aren't the cores of a machine of so many, the first in this place, if they aren't.
 fn fault_of(alloc: Global, cores: &mut [CoreHandle], place: usize, count: usize) -> Option<u32>
     requires { place + length cores.old ≤ count }
     ensures same { cores_of cores.new ≡ cores_of cores.old }
@@ -73,14 +73,14 @@ fn fault_of(alloc: Global, cores: &mut [CoreHandle], place: usize, count: usize)
     fault_of(alloc, rest, place + 1, count)
 }
 
-// Whether this is the core in this place of a machine of so many.
+/// Whether this is the core in this place of a machine of so many.
 fn is_of(core: &Core<RingLinks>, place: usize, count: usize) -> bool
     ensures { IsTrue result ↔ IsOf place count core.now }
 {
     usize::from(core.number()) == place && usize::from(core.count()) == count
 }
 
-// Takes each core out of its handle, after those that were taken.
+/// Takes each core out of its handle, after those that were taken.
 fn take_all(alloc: Global, cores: &mut [CoreHandle], taken: &mut Vec<Box<Core<RingLinks>>>)
     requires room { length taken.old.items + length cores.old ≤ vec_capacity taken.old }
     ensures closed { AreClosed cores.new }
@@ -94,7 +94,7 @@ fn take_all(alloc: Global, cores: &mut [CoreHandle], taken: &mut Vec<Box<Core<Ri
     take_all(alloc, rest, taken);
 }
 
-// Takes a core out of its handle, after those that were taken.
+/// Takes a core out of its handle, after those that were taken.
 fn take_one(alloc: Global, handle: &mut CoreHandle, taken: &mut Vec<Box<Core<RingLinks>>>)
     requires room { length taken.old.items < vec_capacity taken.old }
     ensures closed { handle.new.core ≡ None }

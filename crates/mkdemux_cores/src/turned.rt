@@ -72,7 +72,7 @@ pub fn report(decision: Option<Decision>, request: u64) -> Turned
     }
 }
 
-// A decision that no core makes the change.
+/// A decision that no core makes the change.
 fn refusal(core: u16, why: Veto) -> Turned
     ensures { result ≡ refused core why }
 {
@@ -91,7 +91,7 @@ fn refusal(core: u16, why: Veto) -> Turned
     }
 }
 
-// The id of what was made.
+/// The id of what was made.
 fn id_of(made: Made) -> u32
     ensures { result ≡ made_id made }
 {
@@ -101,7 +101,7 @@ fn id_of(made: Made) -> u32
     }
 }
 
-// The number of a rule.
+/// The number of a rule.
 fn number_of(fault: OpFault) -> u32
     ensures { result ≡ rule_number fault }
 {
@@ -123,7 +123,7 @@ fn number_of(fault: OpFault) -> u32
     }
 }
 
-// The place of the instruction for which a program is refused.
+/// The place of the instruction for which a program is refused.
 fn place_of(fault: OpFault) -> u32
     ensures { result ≡ rule_place fault }
 {

@@ -29,7 +29,7 @@ pub extern "C" fn mkdemux_turn(alloc: Global, core: &mut CoreHandle, turned: &mu
     answer
 }
 
-// One turn of a core. No job is ever put into its queue.
+/// One turn of a core. No job is ever put into its queue.
 fn turn_core(core: &mut Core<RingLinks>, turned: &mut Turned) -> u32
     ensures open { result ≢ CLOSED }
     ensures turned { HasTurned result turned.new core.old core.new }
@@ -53,7 +53,7 @@ fn turn_core(core: &mut Core<RingLinks>, turned: &mut Turned) -> u32
     answer
 }
 
-// Whether a further turn may do something by itself: one did, or lacked memory, which may come.
+/// Whether a further turn may do something by itself: one did, or lacked memory, which may come.
 fn more_after(answer: u32) -> u32
     ensures { result ≡ cond ((answer == DONE) || (answer == NO_MEMORY)) 1 0 }
 {
@@ -63,7 +63,7 @@ fn more_after(answer: u32) -> u32
     }
 }
 
-// How many requests of a core have their decision. No count is above 2^64 - 1.
+/// How many requests of a core have their decision. No count is above 2^64 - 1.
 fn decided(core: &Core<RingLinks>) -> u64
     ensures { IsNumber result core.now }
 {

@@ -205,7 +205,7 @@ fn op_of(alloc: Global, kind: u8, domain: u16, bytes: &[u8]) -> Result<Op, Decod
     }
 }
 
-// An operation that brings a program.
+/// An operation that brings a program.
 #[tactic(auto, unfolding(crate::specs::Reading::op_in))]
 fn load_into(room: &mut [Insn], bytes: &[u8]) -> Result<(Load, usize), DecodeFault>
     requires room { length room.old ≡ MAX_INSNS }
@@ -269,7 +269,7 @@ fn rights_in(bytes: &[u8]) -> Result<Rights, DecodeFault>
     }
 }
 
-// An id and a program.
+/// An id and a program.
 #[tactic(auto, unfolding(crate::specs::Reading::loaded_in))]
 fn loaded_in(alloc: Global, bytes: &[u8]) -> Result<(u32, Program), DecodeFault>
     ensures { Gives ⊤ (λ loaded. loaded) result (spec.loaded_in bytes.now) }
@@ -293,7 +293,7 @@ fn program_in(alloc: Global, bytes: &[u8]) -> Result<Program, DecodeFault>
     Ok(Program::from_vec(alloc, code)?)
 }
 
-// A program, which goes to the front of the room.
+/// A program, which goes to the front of the room.
 #[tactic(auto, unfolding(crate::specs::Reading::program_in))]
 fn program_into(room: &mut [Insn], bytes: &[u8]) -> Result<usize, DecodeFault>
     requires { length room.old ≡ MAX_INSNS }
@@ -310,7 +310,7 @@ fn program_into(room: &mut [Insn], bytes: &[u8]) -> Result<usize, DecodeFault>
     Ok(count)
 }
 
-// As many instructions as there is room for, with nothing after them.
+/// As many instructions as there is room for, with nothing after them.
 fn fill_insns(code: &mut [Insn], bytes: &[u8]) -> Result<(), DecodeFault>
     ensures found { Gives ⊥ (λ _. code.new) result (spec.insns_in (length code.old) bytes.now) }
     ensures room { length code.new ≡ length code.old }

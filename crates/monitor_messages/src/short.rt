@@ -63,7 +63,7 @@ pub(crate) fn numbered(kind: u8, stamp: u64, txn: u64) -> ShortBytes
     out
 }
 
-// Bytes more, for which there is room.
+/// Bytes more, for which there is room.
 fn put(out: &mut ShortBytes, bytes: &[u8])
     requires { array_vec_len out.old + length bytes.now ≤ MOST }
     ensures bytes { out.new.items ≡ out.old.items ++ bytes.now }

@@ -102,7 +102,7 @@ fn put_op(out: &mut Vec<u8>, op: &Op) -> Result<(), AllocError>
     }
 }
 
-// The kind of an operation, the domain, and the id of what it is about.
+/// The kind of an operation, the domain, and the id of what it is about.
 fn put_ids(out: &mut Vec<u8>, kind: u8, domain: u16, id: u32) -> Result<(), AllocError>
     ensures { OnOk result (out.new.items ≡ out.old.items ++ (kind ∷ to_le_bytes w16 domain ++ to_le_bytes w32 id)) }
 {

@@ -89,7 +89,8 @@ impl<T: Drop> From<AllocFailed<T>> for CaptureFault {
 }
 
 /// A capture that ends at a fault, and what stands before it.
-#[derive(Debug, Drop)]
+#[derive(Debug, Drop, Error)]
+#[error("{fault}")]
 pub struct Stop {
     /// What the header says, where there is a whole one.
     pub header: Option<Header>,

@@ -89,7 +89,7 @@ pub fn share_capture(alloc: Global, file: &Shared<u8>) -> Result<SharedPackets, 
     Ok(Seq::from_vec(packets))
 }
 
-// Feeds the file, and takes its packets.
+/// Feeds the file, and takes its packets.
 fn share_all(
     alloc: Global,
     file: &Shared<u8>,
@@ -108,7 +108,7 @@ fn share_all(
     Ok(())
 }
 
-// Takes the packets of the whole records at the front of what is left of the file.
+/// Takes the packets of the whole records at the front of what is left of the file.
 fn share_whole(
     file: &Shared<u8>,
     feed: &mut Feed,
@@ -124,7 +124,7 @@ fn share_whole(
     Ok(())
 }
 
-// The packet that ends where the rest of the file begins.
+/// The packet that ends where the rest of the file begins.
 fn shared(file: &Shared<u8>, rest: &[u8], seen: Seen<'_>) -> Result<SharedPacket, AllocError>
     requires { (front : List ℕ) × (file.now ≡ front ++ (seen.bytes.now ++ rest.now)) }
     ensures { IfOk result (λ packet. packet ≡ seen_packet seen.entry) }
@@ -134,7 +134,7 @@ fn shared(file: &Shared<u8>, rest: &[u8], seen: Seen<'_>) -> Result<SharedPacket
     Ok(SharedPacket::new(file.window(start, count)?, seen.original))
 }
 
-// Adds packets that have memory of their own.
+/// Adds packets that have memory of their own.
 fn push_shared(
     alloc: Global,
     packets: &mut Vec<SharedPacket>,

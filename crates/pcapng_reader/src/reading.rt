@@ -13,12 +13,14 @@ use crate::front::Front;
 use crate::seen::Block;
 use seq::Seq;
 use std::alloc::Global;
+use thiserror::Error;
 
 /// Blocks that lie in the bytes of a capture, in order.
 pub type Blocks<'b> = Seq<Block<'b>>;
 
 /// A capture that ends at a fault, and what stands before it.
-#[derive(Debug, Drop)]
+#[derive(Debug, Drop, Error)]
+#[error("{fault}")]
 pub struct Stop<'b> {
     /// The whole blocks before the fault.
     pub before: Blocks<'b>,

@@ -2,6 +2,7 @@
 
 use crate::job::Job;
 use rtrb::{Producer, PushError};
+use thiserror::Error;
 
 /// The end of a queue that puts jobs.
 pub struct Port {
@@ -16,7 +17,8 @@ impl Drop for Port {
 }
 
 /// The queue had no free place for the job, which is handed back.
-#[derive(Debug, Drop)]
+#[derive(Debug, Drop, Error)]
+#[error("the queue is full")]
 pub struct Full(pub Job);
 
 impl Port {

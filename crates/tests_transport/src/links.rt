@@ -11,14 +11,14 @@ use std::alloc::Global;
 use std::process::Abort;
 use ump_ring::{Joiner, Line, Receiver, ring};
 
-// A message of this many bytes, all the same.
+/// A message of this many bytes, all the same.
 fn message(rt: &impl Abort, alloc: Global, byte: u8, size: usize) -> Vec<u8>
     ensures { vec_len result ≡ size }
 {
     vec![in alloc; byte; size].expect(rt, "there is memory")
 }
 
-// Whether the link to a peer takes a message of this many bytes.
+/// Whether the link to a peer takes a message of this many bytes.
 fn sends<L: Links>(links: &mut L, peer: u16, bytes: Vec<u8>) -> bool
     requires length { (1 ≤ vec_len bytes) × (vec_len bytes ≤ 32832) }
     ensures { L.same links.old links.new }
@@ -26,7 +26,7 @@ fn sends<L: Links>(links: &mut L, peer: u16, bytes: Vec<u8>) -> bool
     links.send(peer, bytes).is_ok()
 }
 
-// Whether the link to a peer takes this short message.
+/// Whether the link to a peer takes this short message.
 fn sends_short<L: Links>(links: &mut L, peer: u16, bytes: &[u8]) -> bool
     requires length { (1 ≤ length bytes.now) × (length bytes.now ≤ 56) }
     ensures { L.same links.old links.new }
@@ -34,7 +34,7 @@ fn sends_short<L: Links>(links: &mut L, peer: u16, bytes: &[u8]) -> bool
     links.send_short(peer, bytes)
 }
 
-// Whether these bytes are shown.
+/// Whether these bytes are shown.
 fn shows<L: Links>(links: &mut L, peer: u16, wanted: &[u8]) -> bool
     ensures { L.same links.old links.new }
 {
@@ -44,7 +44,7 @@ fn shows<L: Links>(links: &mut L, peer: u16, wanted: &[u8]) -> bool
     }
 }
 
-// Whether these bytes are taken.
+/// Whether these bytes are taken.
 fn takes<L: Links>(links: &mut L, peer: u16, wanted: &[u8]) -> bool
     ensures { L.same links.old links.new }
 {
@@ -54,7 +54,7 @@ fn takes<L: Links>(links: &mut L, peer: u16, wanted: &[u8]) -> bool
     }
 }
 
-// Whether there is no fault, and nothing is shown.
+/// Whether there is no fault, and nothing is shown.
 fn shows_none<L: Links>(links: &mut L, peer: u16) -> bool
     ensures { L.same links.old links.new }
 {
@@ -64,7 +64,7 @@ fn shows_none<L: Links>(links: &mut L, peer: u16) -> bool
     }
 }
 
-// Whether each call that receives from the peer answers the fault.
+/// Whether each call that receives from the peer answers the fault.
 fn stopped_at<L: Links>(links: &mut L, peer: u16, wanted: LineFault) -> bool {
     let looked = match links.look(peer) {
         Err(fault) => fault == wanted,
@@ -77,7 +77,7 @@ fn stopped_at<L: Links>(links: &mut L, peer: u16, wanted: LineFault) -> bool {
     looked && took && links.pull(peer) == Err(wanted) && !links.give_up(peer)
 }
 
-// The links of cores 0 and 1, which rings of so many lines join.
+/// The links of cores 0 and 1, which rings of so many lines join.
 fn joined(rt: &impl Abort, alloc: Global, capacity: usize) -> (RingLinks, RingLinks)
     requires { 1 ≤ capacity }
     ensures { AreJoinedLinks result.0 result.1 }
@@ -93,7 +93,7 @@ fn joined(rt: &impl Abort, alloc: Global, capacity: usize) -> (RingLinks, RingLi
     (first, second)
 }
 
-// The link to core 1 hands this message back.
+/// The link to core 1 hands this message back.
 fn hands_back(rt: &impl Abort, links: &mut RingLinks, message: Vec<u8>)
     requires { (1 ≤ vec_len message) × (vec_len message ≤ 32832) }
 {
@@ -104,7 +104,7 @@ fn hands_back(rt: &impl Abort, links: &mut RingLinks, message: Vec<u8>)
     }
 }
 
-// Core 0 is ready for one message, which is to go to core 1.
+/// Core 0 is ready for one message, which is to go to core 1.
 fn sent_once(rt: &impl Abort, alloc: Global, first: &mut RingLinks) {
     holds(rt, first.ready(1));
     holds(rt, sends(first, 1, message(rt, alloc, 7, 57)));
@@ -112,7 +112,7 @@ fn sent_once(rt: &impl Abort, alloc: Global, first: &mut RingLinks) {
     hands_back(rt, first, message(rt, alloc, 8, 3));
 }
 
-// The message of core 0 is shown in steps, and taken.
+/// The message of core 0 is shown in steps, and taken.
 fn shown_in_steps(rt: &impl Abort, second: &mut RingLinks, wanted: &[u8]) {
     holds(rt, second.shown(0).is_none());
     holds(rt, second.pull(0).is_ok());
@@ -158,7 +158,7 @@ fn a_short_message_over_links_of_both_kinds(rt: HostRuntime) {
     }
 }
 
-// Whether the link to a peer takes a message that others get, too.
+/// Whether the link to a peer takes a message that others get, too.
 fn sends_shared<L: Links>(links: &mut L, peer: u16, bytes: Shared<u8>) -> bool
     requires { (1 ≤ length bytes) × (length bytes ≤ 32832) }
     ensures { L.same links.old links.new }
@@ -166,7 +166,7 @@ fn sends_shared<L: Links>(links: &mut L, peer: u16, bytes: Shared<u8>) -> bool
     links.send_shared(peer, bytes)
 }
 
-// A message of this many bytes whose memory is shared.
+/// A message of this many bytes whose memory is shared.
 fn shared(rt: &impl Abort, alloc: Global, byte: u8, size: usize) -> Shared<u8>
     ensures { length result ≡ size }
 {
@@ -196,7 +196,7 @@ fn one_message_goes_to_several_peers(rt: HostRuntime) {
     }
 }
 
-// A message of one byte goes from the second core to the first.
+/// A message of one byte goes from the second core to the first.
 fn goes(rt: &impl Abort, alloc: Global, first: &mut RingLinks, second: &mut RingLinks)
     ensures first { SameLinks first.old first.new }
     ensures second { SameLinks second.old second.new }
@@ -219,7 +219,7 @@ fn what_is_taken_begins_what_was_sent(rt: HostRuntime) {
     holds(&rt, shows_none(&mut first, 1));
 }
 
-// There is no link to the peer: none is ready, shows anything or takes a message.
+/// There is no link to the peer: none is ready, shows anything or takes a message.
 fn has_no_link<L: Links>(rt: &impl Abort, alloc: Global, links: &mut L, peer: u16) {
     holds(rt, !links.ready(peer));
     holds(rt, shows_none(links, peer));
@@ -241,7 +241,7 @@ fn no_link_to_a_core_that_was_not_joined(rt: HostRuntime) {
     }
 }
 
-// The end of a ring that holds lines that were written by hand, by their words 0 and 1.
+/// The end of a ring that holds lines that were written by hand, by their words 0 and 1.
 fn received(rt: &impl Abort, alloc: Global, heads: &[(u64, u64)]) -> Receiver {
     let slots = RingBuffer::<Line>::new(alloc, 8);
     let (mut producer, consumer) = slots.expect(rt, "there is memory");
@@ -252,7 +252,7 @@ fn received(rt: &impl Abort, alloc: Global, heads: &[(u64, u64)]) -> Receiver {
     Receiver::new(consumer, joiner)
 }
 
-// A link to core 0 from which these lines come.
+/// A link to core 0 from which these lines come.
 fn given_lines(rt: &impl Abort, alloc: Global, heads: &[(u64, u64)]) -> RingLinks {
     let (sender, _) = ring(alloc, 1).expect(rt, "there is memory");
     let mut links = RingLinks::new(alloc, 1, 2).expect(rt, "there is memory");
@@ -289,7 +289,7 @@ fn a_faulty_line_after_a_message(rt: HostRuntime) {
     holds(&rt, stopped_at(&mut links, 0, LineFault::OutOfSequence));
 }
 
-// The list of core 1 hands this message back.
+/// The list of core 1 hands this message back.
 fn is_given_back(rt: &impl Abort, links: &mut ListLinks, message: Vec<u8>)
     requires { (1 ≤ vec_len message) × (vec_len message ≤ 32832) }
 {
@@ -318,12 +318,12 @@ fn lists_of_two_messages(rt: HostRuntime) {
     taken_in_order(&rt, &mut links);
 }
 
-// Whether these bytes are there.
+/// Whether these bytes are there.
 fn are(got: Option<&[u8]>, wanted: &[u8]) -> bool {
     got == Some(wanted)
 }
 
-// Collects what was sent to core 2.
+/// Collects what was sent to core 2.
 fn collected_in_order(rt: &impl Abort, links: &mut ListLinks) {
     holds(rt, are(links.collect(2), &[1]));
     holds(rt, are(links.last_collected(2), &[1]));
@@ -334,7 +334,7 @@ fn collected_in_order(rt: &impl Abort, links: &mut ListLinks) {
     holds(rt, !links.ready(2));
 }
 
-// Takes what was given as core 1's.
+/// Takes what was given as core 1's.
 fn taken_in_order(rt: &impl Abort, links: &mut ListLinks) {
     holds(rt, shows(links, 1, &[1, 1, 1]));
     holds(rt, takes(links, 1, &[1, 1, 1]));

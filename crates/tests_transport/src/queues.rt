@@ -9,7 +9,7 @@ use std::process::Abort;
 use std::sync::Wait;
 use std::thread;
 
-// A job with this number, whose packet has no byte.
+/// A job with this number, whose packet has no byte.
 fn job(rt: &impl Abort, alloc: Global, number: u64) -> Job {
     let bytes = Shared::from_vec(alloc, Vec::new(alloc)).expect(rt, "there is memory");
     Job {
@@ -23,14 +23,14 @@ fn number(job: Option<&Job>) -> Option<u64> {
     Some(job?.number)
 }
 
-// Whether the port takes the job of this number.
+/// Whether the port takes the job of this number.
 fn puts(rt: &impl Abort, alloc: Global, port: &mut Port, number: u64) -> bool
     ensures { SamePort port.old port.new }
 {
     port.put(job(rt, alloc, number)).is_ok()
 }
 
-// The port hands this job back.
+/// The port hands this job back.
 fn hands_back(rt: &impl Abort, port: &mut Port, refused: Job, wanted: Job)
     ensures { SamePort port.old port.new }
 {
@@ -40,7 +40,7 @@ fn hands_back(rt: &impl Abort, port: &mut Port, refused: Job, wanted: Job)
     }
 }
 
-// The job of this number is left, and is taken.
+/// The job of this number is left, and is taken.
 fn is_left(rt: &impl Abort, alloc: Global, port: &mut Port, intake: &mut Intake, number: u64)
     requires { AreEnds port.old intake.old }
     ensures { AreEnds port.new intake.new }
@@ -48,7 +48,7 @@ fn is_left(rt: &impl Abort, alloc: Global, port: &mut Port, intake: &mut Intake,
     equal(rt, intake.rest(port), Some(job(rt, alloc, number)));
 }
 
-// The first job is taken at once; the second finds the queue full.
+/// The first job is taken at once; the second finds the queue full.
 fn first_of_two(rt: &impl Abort, alloc: Global, port: &mut Port, intake: &mut Intake)
     ensures { SamePort port.old port.new × SameIntake intake.old intake.new }
 {
@@ -60,7 +60,7 @@ fn first_of_two(rt: &impl Abort, alloc: Global, port: &mut Port, intake: &mut In
     equal(rt, intake.next(), None);
 }
 
-// A third job is seen as soon as it is looked for.
+/// A third job is seen as soon as it is looked for.
 fn third(rt: &impl Abort, alloc: Global, port: &mut Port, intake: &mut Intake)
     ensures { SamePort port.old port.new × SameIntake intake.old intake.new }
 {
@@ -82,7 +82,7 @@ fn a_queue_of_one(rt: HostRuntime) {
     equal(&rt, intake.rest(&mut port), None);
 }
 
-// Puts jobs with the numbers from 0 on, and waits where the queue is full.
+/// Puts jobs with the numbers from 0 on, and waits where the queue is full.
 fn put_all<R: Wait + Abort>(rt: &R, alloc: Global, port: Port, count: u64) -> Port
     ensures { SamePort port result }
 {
@@ -101,14 +101,14 @@ fn put_all<R: Wait + Abort>(rt: &R, alloc: Global, port: Port, count: u64) -> Po
     unreachable!()
 }
 
-// The number of the next job, which is taken.
+/// The number of the next job, which is taken.
 fn next_number(intake: &mut Intake) -> Option<u64>
     ensures { SameIntake intake.old intake.new }
 {
     number(intake.next().as_ref())
 }
 
-// Takes jobs with the numbers from 0 on, and says how many came in this order.
+/// Takes jobs with the numbers from 0 on, and says how many came in this order.
 fn take_all(rt: &impl Wait, intake: Intake, count: u64) -> (Intake, u64)
     ensures { SameIntake intake result.0 }
 {

@@ -12,7 +12,7 @@ use std::sync::atomic::{AtomicBool, Ordering};
 use std::thread;
 use ump_ring::{Joiner, Line, LineFault, Pushed, Receiver, Sender, beside, line_at, ring};
 
-// A message whose bytes differ.
+/// A message whose bytes differ.
 fn message(rt: &impl Abort, alloc: Global, size: usize) -> Vec<u8>
     requires { size ≤ 32832 }
     ensures { vec_len result ≡ size }
@@ -24,7 +24,7 @@ fn message(rt: &impl Abort, alloc: Global, size: usize) -> Vec<u8>
     bytes
 }
 
-// Whether the receiver shows these bytes.
+/// Whether the receiver shows these bytes.
 fn shows(receiver: &mut Receiver, wanted: &[u8]) -> bool
     ensures { SameReceiver receiver.old receiver.new }
 {
@@ -34,7 +34,7 @@ fn shows(receiver: &mut Receiver, wanted: &[u8]) -> bool
     }
 }
 
-// Whether the receiver gives these bytes.
+/// Whether the receiver gives these bytes.
 fn takes(receiver: &mut Receiver, wanted: &[u8]) -> bool
     ensures { SameReceiver receiver.old receiver.new }
 {
@@ -44,7 +44,7 @@ fn takes(receiver: &mut Receiver, wanted: &[u8]) -> bool
     }
 }
 
-// Whether the receiver has no fault and no whole message.
+/// Whether the receiver has no fault and no whole message.
 fn shows_none(receiver: &mut Receiver) -> bool
     ensures { SameReceiver receiver.old receiver.new }
 {
@@ -54,7 +54,7 @@ fn shows_none(receiver: &mut Receiver) -> bool
     }
 }
 
-// Pushes and looks by turns until the receiver shows something. Gives the lines and the turns.
+/// Pushes and looks by turns until the receiver shows something. Gives the lines and the turns.
 fn by_turns(sender: &mut Sender, receiver: &mut Receiver) -> (u64, u32) {
     let mut lines = 0u64;
     for turn in 1..600 {
@@ -66,7 +66,7 @@ fn by_turns(sender: &mut Sender, receiver: &mut Receiver) -> (u64, u32) {
     (lines, 600)
 }
 
-// Nine full rings and ten lines, and then the message, which is taken once.
+/// Nine full rings and ten lines, and then the message, which is taken once.
 fn through_a_ring(rt: &impl Abort, alloc: Global, wanted: &[u8], sent: Vec<u8>)
     requires { (1 ≤ vec_len sent) × (vec_len sent ≤ 32832) }
 {
@@ -80,7 +80,7 @@ fn through_a_ring(rt: &impl Abort, alloc: Global, wanted: &[u8], sent: Vec<u8>)
     holds(rt, shows_none(&mut receiver));
 }
 
-// Line 1 of a message comes twice.
+/// Line 1 of a message comes twice.
 fn one_line_twice(rt: &impl Abort, alloc: Global, bytes: &[u8])
     requires { length bytes.now ≤ 32832 }
 {
@@ -100,7 +100,7 @@ fn a_long_message(rt: HostRuntime) {
     one_line_twice(&rt, alloc, &wanted);
 }
 
-// The longest message: that of a Prepare.
+/// The longest message: that of a Prepare.
 #[test]
 fn the_longest_message(rt: HostRuntime) {
     let alloc = rt.alloc();
@@ -123,12 +123,12 @@ fn the_line_of_a_message(rt: HostRuntime) {
     equal(&rt, line_at(&message, 0, 0), words);
 }
 
-// A line of these words 0 and 1, which has nothing else.
+/// A line of these words 0 and 1, which has nothing else.
 fn line(head: u64, word: u64) -> Line {
     [head, word, 0, 0, 0, 0, 0, 0]
 }
 
-// The first line has this fault, and so has each line after it.
+/// The first line has this fault, and so has each line after it.
 fn stops_at(rt: &impl Abort, alloc: Global, first: &Line, fault: LineFault) {
     let mut joiner = Joiner::new(alloc).expect(rt, "there is memory");
     equal(rt, joiner.line(first), Err(fault));
@@ -137,7 +137,7 @@ fn stops_at(rt: &impl Abort, alloc: Global, first: &Line, fault: LineFault) {
     holds(rt, joiner.message().is_none());
 }
 
-// A first line that is a whole message of one byte.
+/// A first line that is a whole message of one byte.
 fn one_byte(rt: &impl Abort, alloc: Global) {
     let mut joiner = Joiner::new(alloc).expect(rt, "there is memory");
     equal(rt, joiner.line(&line(4294967296, 5)), Ok(true));
@@ -159,14 +159,14 @@ fn faults_of_a_first_line(rt: HostRuntime) {
     }
 }
 
-// Nothing is there.
+/// Nothing is there.
 fn is_empty(rt: &impl Abort, receiver: &mut Receiver) {
     holds(rt, receiver.pull().is_ok());
     holds(rt, receiver.shown().is_none());
     holds(rt, !receiver.give_up());
 }
 
-// The first message is shown until it is given up.
+/// The first message is shown until it is given up.
 fn given_up_once(rt: &impl Abort, receiver: &mut Receiver) {
     holds(rt, receiver.pull().is_ok());
     holds(rt, receiver.pull().is_ok());
@@ -176,7 +176,7 @@ fn given_up_once(rt: &impl Abort, receiver: &mut Receiver) {
     holds(rt, receiver.last() == Some(&[5]));
 }
 
-// A line is out of sequence, and nothing is there.
+/// A line is out of sequence, and nothing is there.
 fn is_stopped(rt: &impl Abort, receiver: &mut Receiver) {
     equal(rt, receiver.pull(), Err(LineFault::OutOfSequence));
     equal(rt, receiver.pull(), Err(LineFault::OutOfSequence));
@@ -198,14 +198,14 @@ fn a_look_and_a_take_in_steps(rt: HostRuntime) {
     is_stopped(&rt, &mut receiver);
 }
 
-// The sender pushes so many lines, and says whether the message has gone out whole.
+/// The sender pushes so many lines, and says whether the message has gone out whole.
 fn pushes(rt: &impl Abort, sender: &mut Sender, lines: u32, whole: bool)
     ensures { SameSender sender.old sender.new }
 {
     equal(rt, sender.push_some(), Pushed { lines, whole });
 }
 
-// The sender hands this message back.
+/// The sender hands this message back.
 fn hands_back(rt: &impl Abort, sender: &mut Sender, message: Vec<u8>)
     requires { (1 ≤ vec_len message) × (vec_len message ≤ 32832) }
 {
@@ -230,7 +230,7 @@ fn a_ring_of_one(rt: HostRuntime) {
     holds(&rt, shows(&mut receiver, &wanted));
 }
 
-// How long message number `number` is: most take one line to three, some take 587.
+/// How long message number `number` is: most take one line to three, some take 587.
 fn size_of(number: u64) -> usize
     ensures least { 1 ≤ result }
     ensures most { result ≤ 32832 }
@@ -242,7 +242,7 @@ fn size_of(number: u64) -> usize
     }
 }
 
-// Whether the sender takes message number `number`, of bytes that are its number modulo 251.
+/// Whether the sender takes message number `number`, of bytes that are its number modulo 251.
 fn offers(alloc: Global, sender: &mut Sender, number: u64) -> bool
     ensures { SameSender sender.old sender.new }
 {
@@ -252,8 +252,8 @@ fn offers(alloc: Global, sender: &mut Sender, number: u64) -> bool
     }
 }
 
-// Sends messages with the numbers from 0 on, and says how many went out.
-// It ends where the other thread has.
+/// Sends messages with the numbers from 0 on, and says how many went out.
+/// It ends where the other thread has.
 fn send_all(
     rt: &impl Wait,
     alloc: Global,
@@ -285,7 +285,7 @@ fn send_all(
     (sender, number)
 }
 
-// Takes message number `number`, if it has come, and says whether it was right.
+/// Takes message number `number`, if it has come, and says whether it was right.
 fn take_one(receiver: &mut Receiver, number: u64) -> Option<bool>
     ensures { SameReceiver receiver.old receiver.new }
 {
@@ -306,7 +306,7 @@ fn are_all(bytes: &[u8], wanted: u8) -> bool {
     true
 }
 
-// Takes messages with the numbers from 0 on, and says how many were right. It ends where the other thread has.
+/// Takes messages with the numbers from 0 on, and says how many were right. It ends where the other thread has.
 fn take_all(rt: &impl Wait, receiver: Receiver, count: u64, ended: &AtomicBool) -> (Receiver, u64)
     ensures { SameReceiver receiver result.0 }
 {

@@ -87,7 +87,7 @@ impl LoggedCore0 {
         told
     }
 
-    // Keeps the operation as begun, or enters it into the log where it is committed at once.
+    /// Keeps the operation as begun, or enters it into the log where it is committed at once.
     fn note(&mut self, op: Snapshot<Op>, decided: Option<Decision>)
         ensures log { self.new.log.items ≡ logged self.old.log.items op.value decided }
         ensures begun { begun_op self.new.begun ≡ begun_by (begun_op self.old.begun) op.value decided }
@@ -113,7 +113,7 @@ impl LoggedCore0 {
         told
     }
 
-    // Enters the operation under vote into the log where it is committed.
+    /// Enters the operation under vote into the log where it is committed.
     fn enter(&mut self, decided: Option<Decision>)
         ensures log { self.new.log.items ≡ entered self.old.log.items (begun_op self.old.begun) decided }
         ensures begun { begun_op self.new.begun ≡ still_begun (begun_op self.old.begun) decided }

@@ -96,7 +96,7 @@ impl<C: Channel> Peer<C> {
         }
     }
 
-    // Takes this message, and sends what follows.
+    /// Takes this message, and sends what follows.
     fn take_in(
         &mut self,
         alloc: Global,
@@ -126,7 +126,7 @@ impl<C: Channel> Peer<C> {
         Ok(answer)
     }
 
-    // Makes what this core sends to core 0 ready to be put.
+    /// Makes what this core sends to core 0 ready to be put.
     fn ready_up(&mut self, reply: &Option<Message>) -> Result<Option<C::Piece>, AllocError>
         requires { (short : Bool) × (before : GhostCore) × (m : GhostMessage) × (after : GhostCore) × Considers short before m reply.now after }
         ensures ready { IfOk result (IsReadyUp C.spare C.made_for reply.now self.new.up) }
@@ -140,7 +140,7 @@ impl<C: Channel> Peer<C> {
         }
     }
 
-    // Puts it.
+    /// Puts it.
     fn put_up(&mut self, ready: Option<C::Piece>)
         requires { (reply : Option GhostMessage) × IsReadyUp C.spare C.made_for reply self.old.up ready }
         ensures up { (reply : Option GhostMessage) → IsReadyUp C.spare C.made_for reply self.old.up ready → C.messages self.new.up ≡ C.messages self.old.up ++ option_to_list reply }
@@ -152,7 +152,7 @@ impl<C: Channel> Peer<C> {
         }
     }
 
-    // Makes a message to this core ready to be put.
+    /// Makes a message to this core ready to be put.
     fn ready_down(&mut self, message: &Message) -> Result<C::Piece, AllocError>
         requires short { IsShort message.now }
         requires numbered { IsNumbered message.now }
@@ -163,7 +163,7 @@ impl<C: Channel> Peer<C> {
         self.down.prepare(message)
     }
 
-    // Puts a message to this core.
+    /// Puts a message to this core.
     fn put_down(&mut self, piece: C::Piece)
         requires { HasRoom C.spare self.old }
         ensures { IsSent C.messages (C.made_for piece) self.old self.new }

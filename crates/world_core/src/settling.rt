@@ -31,7 +31,7 @@ impl<C: Channel> WorldOver<C> {
         }
     }
 
-    // Takes the message that comes next, if there is one.
+    /// Takes the message that comes next, if there is one.
     fn take_next(&mut self) -> Result<Option<Done>, AllocError>
         ensures taken { IfOk result (TakenNext self.old self.new) }
         ensures same { OnErr result (self.new ≡ self.old) }
@@ -43,7 +43,7 @@ impl<C: Channel> WorldOver<C> {
         self.take_to_core_0(cores)
     }
 
-    // Takes the oldest message from core 0 to the least of these cores that has one.
+    /// Takes the oldest message from core 0 to the least of these cores that has one.
     fn take_from_core_0(&mut self, cores: u16) -> Result<Option<Done>, AllocError>
         requires { cores ≡ length self.old.peers + 1 }
         ensures taken { IfOk result (TakenDown self.old self.new) }
@@ -66,7 +66,7 @@ impl<C: Channel> WorldOver<C> {
         Ok(None)
     }
 
-    // Takes the oldest message to core 0 from the least of these cores that has one.
+    /// Takes the oldest message to core 0 from the least of these cores that has one.
     fn take_to_core_0(&mut self, cores: u16) -> Result<Option<Done>, AllocError>
         requires cores { cores ≡ length self.old.peers + 1 }
         requires none_down { NoneDown self.old }

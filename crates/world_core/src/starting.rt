@@ -43,7 +43,7 @@ pub(crate) fn begin<C: Channel>(
     Ok(told.answer)
 }
 
-// Makes ready what a start sends.
+/// Makes ready what a start sends.
 fn ready_start<C: Channel>(
     core: &Core0,
     peers: &mut [Peer<C>],
@@ -90,7 +90,7 @@ pub(crate) fn begin_for<C: Channel>(
     Ok(told.answer)
 }
 
-// Makes ready what a start for a core sends.
+/// Makes ready what a start for a core sends.
 fn ready_start_for<C: Channel>(
     core0: &Core0,
     peers: &mut [Peer<C>],

@@ -96,7 +96,7 @@ impl<C: Channel> WorldOver<C> {
         Ok(WorldOver::assemble(alloc, limits, *budget, others)?)
     }
 
-    // Core 0 with this budget, and the others with theirs.
+    /// Core 0 with this budget, and the others with theirs.
     fn assemble(
         alloc: Global,
         limits: Limits,
@@ -183,7 +183,7 @@ impl<C: Channel> WorldOver<C> {
         self.perform(event)
     }
 
-    // Does one event.
+    /// Does one event.
     fn perform(&mut self, event: &Event) -> Result<Answer, WorldFault>
         requires { IsShortEvent event.now }
         ensures happens { IfOk result (worlds.Happens self.old event.now self.new) }
@@ -205,7 +205,7 @@ impl<C: Channel> WorldOver<C> {
         }
     }
 
-    // Core 0 starts a request of its own.
+    /// Core 0 starts a request of its own.
     fn start(&mut self, op: &Op) -> Result<Answer, WorldFault>
         ensures happens { IfOk result (worlds.Happens self.old (Start op.now) self.new) }
         ensures fault { IfErr result (WorldRefuses self.old (Start op.now)) }
@@ -220,7 +220,7 @@ impl<C: Channel> WorldOver<C> {
         Ok(begin(&mut self.core0, &mut self.peers, self.alloc, op)?)
     }
 
-    // Core 0 starts the request that another core has waiting.
+    /// Core 0 starts the request that another core has waiting.
     fn start_for(&mut self, core: u16) -> Result<Answer, WorldFault>
         ensures happens { IfOk result (worlds.Happens self.old (StartFor core) self.new) }
         ensures joined { OnOk result (channel self.old 0 core ≢ None) }
@@ -239,7 +239,7 @@ impl<C: Channel> WorldOver<C> {
         begin_for(&mut self.core0, &mut self.peers, self.alloc, core)
     }
 
-    // A core receives a packet.
+    /// A core receives a packet.
     fn receive(&self, core: u16, packet: &SharedPacket, floor: u64) -> Result<Answer, WorldFault>
         ensures happens { (number : ℕ) → IfOk result (worlds.Happens self.now (Rx core number packet.now floor) self.now) }
         ensures fault { (number : ℕ) → IfErr result (WorldRefuses self.now (Rx core number packet.now floor)) }
@@ -253,7 +253,7 @@ impl<C: Channel> WorldOver<C> {
         Ok(receive(replica, self.alloc, packet)?)
     }
 
-    // Another core than core 0 submits a request.
+    /// Another core than core 0 submits a request.
     fn submit(&mut self, core: u16, op: &Op) -> Result<Answer, WorldFault>
         requires { HasShortProgram op.now }
         ensures happens { IfOk result (worlds.Happens self.old (Submit core op.now) self.new) }
@@ -267,7 +267,7 @@ impl<C: Channel> WorldOver<C> {
         submit_at(&mut self.peers, entry, op)
     }
 
-    // A core takes its oldest message from another.
+    /// A core takes its oldest message from another.
     fn take(&mut self, to: u16, from: u16, short: bool) -> Result<Answer, WorldFault>
         ensures happens { IfOk result (worlds.Happens self.old (Take to from short) self.new) }
         ensures fault { IfErr result (WorldRefuses self.old (Take to from short)) }
@@ -282,7 +282,7 @@ impl<C: Channel> WorldOver<C> {
         }
     }
 
-    // Another core than core 0 takes its oldest message.
+    /// Another core than core 0 takes its oldest message.
     pub(crate) fn take_down(&mut self, core: u16, short: bool) -> Result<Answer, WorldFault>
         ensures happens { IfOk result (worlds.Happens self.old (Take core 0 short) self.new) }
         ensures fault { IfErr result (WorldRefuses self.old (Take core 0 short)) }
@@ -295,7 +295,7 @@ impl<C: Channel> WorldOver<C> {
         take_at(&mut self.peers, self.alloc, entry, short)
     }
 
-    // Core 0 takes the oldest message of another core.
+    /// Core 0 takes the oldest message of another core.
     pub(crate) fn take_up(&mut self, core: u16) -> Result<Answer, WorldFault>
         ensures happens { (short : Bool) → IfOk result (worlds.Happens self.old (Take 0 core short) self.new) }
         ensures fault { (short : Bool) → IfErr result (WorldRefuses self.old (Take 0 core short)) }
@@ -312,7 +312,7 @@ impl<C: Channel> WorldOver<C> {
     }
 }
 
-// Cores other than core 0 that have done nothing yet.
+/// Cores other than core 0 that have done nothing yet.
 fn new_peers<C: Channel>(
     alloc: Global,
     limits: Limits,
@@ -328,14 +328,14 @@ fn new_peers<C: Channel>(
     Ok(peers)
 }
 
-// The core with this entry.
+/// The core with this entry.
 fn peer_at<C: Channel>(peers: &[Peer<C>], entry: usize) -> Option<&Peer<C>>
     ensures { option_copied result ≡ slice_get peers.now entry }
 {
     peers.get(entry)
 }
 
-// A copy of the oldest message of the core with this entry, if there is one.
+/// A copy of the oldest message of the core with this entry, if there is one.
 fn oldest_at<C: Channel>(peers: &[Peer<C>], entry: usize) -> Result<Option<Message>, AllocError>
     requires { entry < length peers.now }
     ensures ok { IfOk result (λ message. option_map (λ peer. first_of (C.messages peer.up)) (slice_get peers.now entry) ≡ Some message) }

@@ -62,7 +62,7 @@ fn slow(alloc: Global, fails_at: [usize; 3]) -> Result<Seen, AllocError> {
 
 const FAILED: Result<u8, EngineFault> = Err(EngineFault::ReadFailed);
 
-// The script is read to its end, and then each file.
+/// The script is read to its end, and then each file.
 #[test]
 fn an_input_that_fails_to_be_read_shows_nothing(rt: HostRuntime) {
     let (script, _, shown) = TWO_PHASE;
@@ -149,7 +149,7 @@ fn a_file_has_a_limit(rt: HostRuntime) {
     }
 }
 
-// An input that would be read then fails, but for the last: a file that fails comes before one that is too long.
+/// An input that would be read then fails, but for the last: a file that fails comes before one that is too long.
 #[test]
 fn nothing_is_read_after_an_input_that_is_too_long(rt: HostRuntime) {
     let alloc = rt.alloc();
