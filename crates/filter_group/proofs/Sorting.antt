@@ -1,5 +1,5 @@
 -- The order of programs, and their places in it.
-use Rattle.std.proofs.Common.{◌≡◌, ◌<◌, ◌≤◌, ◌+◌, ◌⊎◌, inl, inr, ℕ, true, false, zero, suc, List, [], ◌∷◌, ◌++◌, length, map, drop, min, Some, slice_get, get_or, refl, ap, sym, ◌∙◌, subst, arith}
+use Rattle.std.proofs.Common.{◌≡◌, ◌<◌, ◌≤◌, ◌+◌, ◌⊎◌, inl, inr, ℕ, Bool, true, false, zero, suc, List, [], ◌∷◌, ◌++◌, length, map, drop, min, Some, slice_get, slice_set, get_or, refl, ap, sym, ◌∙◌, subst, arith}
 use Rattle.std.specs.List.{insert, remove}
 use Rattle.std.specs.Cmp.{IsTotalOrder}
 use Rattle.std.specs.Cmp.Lexicographic.{slice_cmp}
@@ -16,6 +16,7 @@ use Rattle.filter_group.specs.Order.{IsOrder, IsRank, constant_cmp, place_once_t
 use Rattle.filter_group.specs.Programs.{AreWithout, IsAmong, place_before}
 use Rattle.filter_group.proofs.Edits.{insert_below, insert_here, insert_above, remove_below, remove_above, IsPut, put_before, put_it, put_after, is_put, IsLeft, left_before, left_after, is_left, pushed_below, pushed_here}
 use Rattle.filter_group.proofs.Indexed.{mapped, is_mapped, map_at}
+use Rattle.filter_group.proofs.Moving.{map_same, set_mapped}
 use Rattle.filter_group.proofs.Sides.{one_thing}
 
 -- What an order says
@@ -462,3 +463,48 @@ module _ (programs left : List (List Insn)) (order : List ℕ) (taken last rank 
         let was' = was_at j b at' in
         h.rising was.old was'.old was.place was'.place p q (same_order i j was.old was'.old up was.from was'.from) was.at was'.at (source i a was p there') (source j b was' q there'');
   }
+
+-- the last place is renamed, and then the one that was taken goes
+
+map_remove : (f : ℕ → ℕ) (xs : List ℕ) (i : ℕ) → remove (map f xs) i ≡ map f (remove xs i)
+map_remove f [] zero = refl
+map_remove f [] (suc i) = refl
+map_remove f (x ∷ xs) zero = refl
+map_remove f (x ∷ xs) (suc i) = ap (λ (ys : List ℕ). f x ∷ ys) (map_remove f xs i)
+
+module _ (order : List ℕ) (taken last renamed : ℕ) (once : (i j : ℕ) → slice_get order i ≡ Some last → slice_get order j ≡ Some last → i ≡ j) (at_last : slice_get order renamed ≡ Some last) where
+  other_kept : (j y : ℕ) → (j ≡ renamed → ⊥) → slice_get order j ≡ Some y → y ≡ place_once_taken taken last y
+  other_kept j y apart at =
+      let other : y ≡ last → ⊥ = λ e. apart (once j renamed (at ∙ ap Some e) at_last) in
+      grind (arith, nat_tests)
+
+  last_renamed : slice_set order renamed taken ≡ map (place_once_taken taken last) order
+  last_renamed =
+      let is : taken ≡ place_once_taken taken last last = grind (arith, nat_tests) in
+      ap (λ (xs : List ℕ). slice_set xs renamed taken) (sym (map_same (λ (y : ℕ). y) order (λ i x at. refl)))
+      ∙ (ap (slice_set (map (λ (y : ℕ). y) order) renamed) is
+      ∙ set_mapped (λ (y : ℕ). y) (place_once_taken taken last) order renamed last at_last other_kept)
+
+  pub order_renamed : (rank : ℕ) → remove (slice_set order renamed taken) rank ≡ map (place_once_taken taken last) (remove order rank)
+  order_renamed rank = ap (λ (xs : List ℕ). remove xs rank) last_renamed ∙ map_remove (place_once_taken taken last) order rank
+
+-- how far a place was looked for
+
+pub record IsFound (order : List ℕ) (place first end : ℕ) (found : Bool) : Type 0 where
+  pub there : found ≡ true → (rank : ℕ) × (rank < end) × (first ≤ rank) × (slice_get order rank ≡ Some place)
+  pub none : found ≡ false → (rank : ℕ) → first ≤ rank → rank < end → slice_get order rank ≡ Some place → ⊥
+
+pub found_none : (order : List ℕ) (place first : ℕ) → IsFound order place first first false
+found_none order place first = record { there = λ e. absurd cc; none = λ e rank from below. absurd (omega arith) }
+
+pub found_here : (order : List ℕ) (place first rank : ℕ) → first ≤ rank → slice_get order rank ≡ Some place → IsFound order place first (rank + 1) true
+found_here order place first rank from at = record { there = λ e. (rank, omega arith, from, at); none = λ e. absurd cc }
+
+pub found_next : (order : List ℕ) (place first rank : ℕ) (found : Bool) → IsFound order place first rank found → (slice_get order rank ≡ Some place → ⊥) → IsFound order place first (rank + 1) found
+found_next order place first rank found h other = record {
+  there = λ e. let t = h.there e in (t.0, let low = t.1 in omega arith, t.2, t.3);
+  none = λ e i from below at. elim (cases_lt i rank) [
+    | inl before ↦ h.none e i from before at
+    | inr past ↦ other (subst (λ (n : ℕ). slice_get order n ≡ Some place) (let here : i ≡ rank = omega arith in here) at)
+  ];
+}

@@ -122,47 +122,58 @@ fn in_half(place: usize) -> Result<u32, AllocError>
 }
 
 /// The order once the program at a place is taken out, and the last has its place.
+// Not in line: what it needs of the stack is free again before the deeper calls.
+#[inline(never)]
 pub(crate) fn order_without(
     mut order: Vec<u32>,
     taken: usize,
     last: usize,
 ) -> Result<Vec<u32>, AllocError>
-    requires { (rank : ℕ) × (slice_get order.items rank ≡ Some taken) }
+    requires taken { (rank : ℕ) × (slice_get order.items rank ≡ Some taken) }
+    requires last { (rank : ℕ) × (slice_get order.items rank ≡ Some last) }
+    requires once { (i j : ℕ) → slice_get order.items i ≡ Some last → slice_get order.items j ≡ Some last → i ≡ j }
     ensures { IfOk result (λ left. (rank : ℕ) × (slice_get order.items rank ≡ Some taken) × (left.items ≡ map (place_once_taken taken last) (remove order.items rank))) }
 {
     let taken = in_half(taken)?;
-    let last = in_half(last)?;
     let rank = rank_at(&order, taken);
+    let renamed = rank_at(&order, in_half(last)?);
+    order[renamed] = taken;
     order.remove(rank);
-    rename(order.as_mut_slice(), taken, last);
     Ok(order)
 }
 
 /// Where a place is in the order.
+// By halving, and not by its program: to compare programs takes longer than to look at many places at once.
 fn rank_at(order: &[u32], place: u32) -> usize
     requires { (rank : ℕ) × (slice_get order.now rank ≡ Some place) }
     ensures { slice_get order.now result ≡ Some place }
 {
-    for rank in 0..order.len() {
-        if order[rank] == place {
-            return rank;
+    let mut first = 0;
+    let mut end = order.len();
+    while end - first > 1 {
+        let middle = first + (end - first) / 2;
+        if is_among(order, first, middle, place) {
+            end = middle;
+        } else {
+            first = middle;
         }
     }
-    0
+    first
 }
 
-/// Gives the last place the number of the one that was taken.
-fn rename(order: &mut [u32], taken: u32, last: u32)
-    ensures { order.new ≡ map (place_once_taken taken last) order.old }
+/// Whether a place is in the order from one rank to another.
+// To the end whatever is found: so it takes several places at once.
+fn is_among(order: &[u32], first: usize, end: usize, place: u32) -> bool
+    requires first { first ≤ end }
+    requires end { end ≤ length order.now }
+    ensures found { IsTrue result → (rank : ℕ) × (rank < end) × (first ≤ rank) × (slice_get order.now rank ≡ Some place) }
+    ensures none { IsFalse result → (rank : ℕ) → first ≤ rank → rank < end → slice_get order.now rank ≡ Some place → ⊥ }
 {
-    for rank in 0..order.len() {
-        order[rank] = once_taken(taken, last, order[rank]);
+    let mut found = false;
+    for rank in first..end {
+        if order[rank] == place {
+            found = true;
+        }
     }
-}
-
-/// A place once the last has the one that was taken.
-fn once_taken(taken: u32, last: u32, place: u32) -> u32
-    ensures { result ≡ place_once_taken taken last place }
-{
-    if place == last { taken } else { place }
+    found
 }
