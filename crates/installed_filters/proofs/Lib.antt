@@ -19,3 +19,5 @@ pub mod Freeing
 pub mod Ids
 pub mod Positions
 pub mod Different
+pub mod Keys
+pub mod Under

@@ -1,4 +1,5 @@
 pub mod Books
+pub mod Under
 pub mod Listing
 pub mod Homes
 pub mod Leaving

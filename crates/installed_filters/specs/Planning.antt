@@ -14,7 +14,7 @@ use Rattle.installed_filters.specs.declared.changes.Change.TheVariants.{Install,
 use Rattle.installed_filters.specs.Books.{AreBooked, Begins, HasReachRoom, base_slot}
 use Rattle.installed_filters.specs.Listing.{AreListed}
 use Rattle.installed_filters.specs.declared.homes.Home.{Home}
-use Rattle.installed_filters.specs.Homes.{AreProgramsApart, lists_after, program_in, slots_with}
+use Rattle.installed_filters.specs.Homes.{lists_after, program_in, slots_with}
 use Rattle.installed_filters.specs.Leaving.{Leaves, slots_without}
 use Rattle.installed_filters.specs.Lapsing.{AreHeldRows, slots_lapsed}
 use Rattle.installed_filters.specs.Installed.{Installed, installed, lapsed_by, replaced_by, with_program}

@@ -13,10 +13,10 @@ ghost use Rattle.installed_filters.specs.Planning.{IsKept, IsPlanned, next_of, s
 ghost use Rattle.installed_filters.specs.declared.books.Row.{Row as GhostRow};
 
 use crate::books::{Row, lapse, put, swap, take};
+use crate::by_id::Rows;
 use crate::lists::{Lists, NextLists};
 use crate::reaches::Reaches;
 use crate::slots::Slots;
-use chunked::Sorted;
 use filter_group::Shared;
 
 /// What is planned.
@@ -57,7 +57,7 @@ pub(crate) enum Change {
 
 /// Does what is planned. Takes no memory.
 pub(crate) fn carry_out(
-    rows: &mut Sorted<Row>,
+    rows: &mut Rows,
     slots: &mut Slots,
     reaches: &mut Reaches,
     lists: &mut Lists,
@@ -103,7 +103,7 @@ pub(crate) fn carry_out(
 
 /// A filter comes last. Takes no memory.
 fn install(
-    rows: &mut Sorted<Row>,
+    rows: &mut Rows,
     slots: &mut Slots,
     reaches: &mut Reaches,
     id: u32,
@@ -126,7 +126,7 @@ fn install(
 }
 
 /// A filter goes. Takes no memory.
-fn remove(rows: &mut Sorted<Row>, slots: &mut Slots, reaches: &mut Reaches, id: u32, row: Row)
+fn remove(rows: &mut Rows, slots: &mut Slots, reaches: &mut Reaches, id: u32, row: Row)
     requires there { value_at rows.old.entries id ≡ Some row }
     requires slot { row.number < length slots.old.slots }
     requires number { row.number < length reaches.old.ends }
@@ -141,7 +141,7 @@ fn remove(rows: &mut Sorted<Row>, slots: &mut Slots, reaches: &mut Reaches, id: 
 
 /// A filter gets another program, whose number is another. Takes no memory.
 fn replace(
-    rows: &mut Sorted<Row>,
+    rows: &mut Rows,
     slots: &mut Slots,
     reaches: &mut Reaches,
     id: u32,
@@ -150,6 +150,7 @@ fn replace(
     program: Option<Shared>,
 )
     requires there { value_at rows.old.entries id ≡ Some old }
+    requires cap { old.cap ≡ row.cap }
     requires other { old.number ≡ row.number → ⊥ }
     requires old_held { old.held ≡ true }
     requires held { row.held ≡ true }
@@ -170,12 +171,7 @@ fn replace(
 }
 
 /// Filters aren't held any more. Takes no memory.
-fn lapse_all(
-    rows: &mut Sorted<Row>,
-    slots: &mut Slots,
-    reaches: &mut Reaches,
-    lapsing: &[(u64, Row)],
-)
+fn lapse_all(rows: &mut Rows, slots: &mut Slots, reaches: &mut Reaches, lapsing: &[(u64, Row)])
     requires booked { AreBooked rows.old.entries slots.old.slots reaches.old.ends }
     requires held { AreHeldRows rows.old.entries lapsing.now }
     requires order { IsStrictlyIncreasing (keys_of rows.old.entries) }
@@ -189,7 +185,7 @@ fn lapse_all(
 }
 
 /// A filter isn't held any more. Takes no memory.
-fn lapse_one(rows: &mut Sorted<Row>, slots: &mut Slots, reaches: &mut Reaches, id: u64, row: Row)
+fn lapse_one(rows: &mut Rows, slots: &mut Slots, reaches: &mut Reaches, id: u64, row: Row)
     requires there { value_at rows.old.entries id ≡ Some row }
     requires held { row.held ≡ true }
     requires slot { row.number < length slots.old.slots }

@@ -10,9 +10,10 @@ ghost use Rattle.endpoint_caps.specs.declared.Cap.{Cap as AnyCap};
 ghost use Rattle.filter_table.specs.Tables.{AreReceivers};
 
 use crate::books::Row;
+use crate::by_id::Rows;
 use crate::changes::{Change, carry_out};
 use crate::homes::{Home, home_of, planned_home};
-use crate::lapsing::{lapsing_under, lists_lapsed};
+use crate::lapsing::lists_lapsed;
 use crate::leaving::{lists_swapped, lists_without};
 use crate::lists::Lists;
 use crate::reaches::Reaches;
@@ -27,7 +28,7 @@ use std::marker::Model;
 /// Filters in order of installation. Each program is kept once, and a packet is run on those of the filters whose capability is held.
 /// A change is planned first, which takes all memory, and then done, which takes none and can't fail.
 pub struct Filters {
-    pub(crate) rows: Sorted<Row>,
+    pub(crate) rows: Rows,
     pub(crate) slots: Slots,
     pub(crate) reaches: Reaches,
     pub(crate) lists: Lists,
@@ -64,7 +65,7 @@ impl Filters {
         ensures { result ≡ record { now = []; next = None } }
     {
         Filters {
-            rows: Sorted::new(alloc),
+            rows: Rows::new(alloc),
             slots: Slots::new(alloc),
             reaches: Reaches::new(alloc),
             lists: Lists::new(alloc),
@@ -188,7 +189,7 @@ impl Filters {
         ensures free { OnErr result (self.new.next ≡ None) }
     {
         let _count = self.rows.len();
-        let lapsing = lapsing_under(alloc, &self.rows, gone)?;
+        let lapsing = self.rows.lapsing_under(alloc, gone)?;
         let lists = lists_lapsed(alloc, &self.slots, &self.lists, &lapsing)?;
         self.change = Some(Change::Lapse {
             lapsing,

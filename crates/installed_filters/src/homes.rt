@@ -6,7 +6,7 @@ ghost use Rattle.installed_filters.specs.Numbering.{Has};
 ghost use Rattle.installed_filters.specs.declared.slots.Slot.{Slot as AnySlot};
 ghost use Rattle.installed_filters.specs.Counts.{reach_at};
 ghost use Rattle.installed_filters.specs.Listing.{AreListed};
-ghost use Rattle.installed_filters.specs.Homes.{IsHome, AreProgramsApart};
+ghost use Rattle.installed_filters.specs.Homes.{IsHome, AreHoused, AreProgramsApart, HaveGrown};
 
 use crate::lists::{Lists, NextLists};
 use crate::reaches::Reaches;
@@ -56,12 +56,8 @@ pub(crate) fn home_of(
     lists: &Lists,
     program: Shared,
 ) -> Result<Home, AllocError>
-    requires listed { AreListed (slot_at slots.old.slots) lists.now.running lists.now.resting }
-    requires apart { AreProgramsApart slots.old.slots }
-    requires numbers { (m : ℕ) (s : AnySlot) → slot_at slots.old.slots m ≡ Some s → m < length reaches.old.ends }
-    ensures slots { (m : ℕ) → slot_at slots.new.slots m ≡ slot_at slots.old.slots m }
-    ensures counts { (m q : ℕ) → reach_at reaches.new.ends m q ≡ reach_at reaches.old.ends m q }
-    ensures more { length reaches.old.ends ≤ length reaches.new.ends }
+    requires housed { AreHoused slots.old.slots reaches.old.ends lists.now }
+    ensures grown { HaveGrown slots.old.slots slots.new.slots reaches.old.ends reaches.new.ends }
     ensures home { IfOk result (λ home. IsHome slots.new.slots (length reaches.new.ends) lists.now program home) }
 {
     match lists.running.number_of(&program) {
@@ -82,12 +78,8 @@ pub(crate) fn planned_home(
     lists: &Lists,
     program: Shared,
 ) -> Result<Home, AllocError>
-    requires listed { AreListed (slot_at slots.old.slots) lists.now.running lists.now.resting }
-    requires apart { AreProgramsApart slots.old.slots }
-    requires numbers { (m : ℕ) (s : AnySlot) → slot_at slots.old.slots m ≡ Some s → m < length reaches.old.ends }
-    ensures slots { (m : ℕ) → slot_at slots.new.slots m ≡ slot_at slots.old.slots m }
-    ensures counts { (m q : ℕ) → reach_at reaches.new.ends m q ≡ reach_at reaches.old.ends m q }
-    ensures more { length reaches.old.ends ≤ length reaches.new.ends }
+    requires housed { AreHoused slots.old.slots reaches.old.ends lists.now }
+    ensures grown { HaveGrown slots.old.slots slots.new.slots reaches.old.ends reaches.new.ends }
     ensures home { IfOk result (λ home. IsHome slots.new.slots (length reaches.new.ends) lists.now program home) }
 {
     let home = home_of(alloc, slots, reaches, lists, program)?;
@@ -103,13 +95,9 @@ fn other_home(
     lists: &Lists,
     program: Shared,
 ) -> Result<Home, AllocError>
-    requires listed { AreListed (slot_at slots.old.slots) lists.now.running lists.now.resting }
-    requires apart { AreProgramsApart slots.old.slots }
-    requires numbers { (m : ℕ) (s : AnySlot) → slot_at slots.old.slots m ≡ Some s → m < length reaches.old.ends }
+    requires housed { AreHoused slots.old.slots reaches.old.ends lists.now }
     requires none { (m : ℕ) → Has lists.now.running m program → ⊥ }
-    ensures slots { (m : ℕ) → slot_at slots.new.slots m ≡ slot_at slots.old.slots m }
-    ensures counts { (m q : ℕ) → reach_at reaches.new.ends m q ≡ reach_at reaches.old.ends m q }
-    ensures more { length reaches.old.ends ≤ length reaches.new.ends }
+    ensures grown { HaveGrown slots.old.slots slots.new.slots reaches.old.ends reaches.new.ends }
     ensures home { IfOk result (λ home. IsHome slots.new.slots (length reaches.new.ends) lists.now program home) }
 {
     match lists.resting.number_of(&program) {
@@ -153,9 +141,7 @@ fn new_home(
 ) -> Result<Home, AllocError>
     requires listed { AreListed (slot_at slots.old.slots) lists.now.running lists.now.resting }
     requires absent { (m : ℕ) (s : AnySlot) → slot_at slots.old.slots m ≡ Some s → s.program ≡ program → ⊥ }
-    ensures slots { (m : ℕ) → slot_at slots.new.slots m ≡ slot_at slots.old.slots m }
-    ensures counts { (m q : ℕ) → reach_at reaches.new.ends m q ≡ reach_at reaches.old.ends m q }
-    ensures more { length reaches.old.ends ≤ length reaches.new.ends }
+    ensures grown { HaveGrown slots.old.slots slots.new.slots reaches.old.ends reaches.new.ends }
     ensures home { IfOk result (λ home. IsHome slots.new.slots (length reaches.new.ends) lists.now program home) }
 {
     let number = slots.fresh()?;

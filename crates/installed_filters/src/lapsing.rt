@@ -1,41 +1,17 @@
 //! Filters whose capability isn't held any more.
-ghost use Rattle.std.specs.Prelude.{◌≡◌, ◌==◌, ◌+◌, ◌<◌, ◌↔◌, ℕ, filter, if◌then◌else◌, IsTrue, IfOk, OnOk};
+ghost use Rattle.std.specs.Prelude.{◌≡◌, ◌==◌, ◌+◌, ◌<◌, ◌↔◌, ℕ, if◌then◌else◌, IsTrue, IfOk, OnOk};
 ghost use Rattle.chunked.specs.Maps.{value_at};
 ghost use Rattle.installed_filters.specs.Slotting.{slot_at};
 ghost use Rattle.installed_filters.specs.Counts.{number_of};
 ghost use Rattle.installed_filters.specs.Listing.{AreListed};
 ghost use Rattle.installed_filters.specs.Homes.{AreProgramsApart, lists_after};
-ghost use Rattle.installed_filters.specs.Lapsing.{lapses as does_lapse, AreCountedHeld, HoldsMore, slots_counted, slots_lapsed};
+ghost use Rattle.installed_filters.specs.Lapsing.{AreCountedHeld, HoldsMore, slots_counted, slots_lapsed};
 
 use crate::books::Row;
 use crate::lists::{Lists, NextLists};
 use crate::slots::Slots;
 use chunked::Sorted;
 use std::alloc::{AllocError, Global};
-
-/// The filters that are held and whose capability goes, each with its id.
-pub(crate) fn lapsing_under(
-    alloc: Global,
-    rows: &Sorted<Row>,
-    gone: &Sorted<()>,
-) -> Result<Vec<(u64, Row)>, AllocError>
-    ensures { IfOk result (λ lapsing. lapsing.items ≡ filter (λ e. does_lapse gone.now.entries e.1) rows.now.entries) }
-{
-    let mut lapsing = Vec::new(alloc);
-    for entry in rows.iter() {
-        if lapses(&entry.1, gone) {
-            lapsing.push(*entry)?;
-        }
-    }
-    Ok(lapsing)
-}
-
-/// Whether a filter is held whose capability goes.
-fn lapses(row: &Row, gone: &Sorted<()>) -> bool
-    ensures { result ≡ does_lapse gone.now.entries row.now }
-{
-    row.held && gone.contains(u64::from(row.cap))
-}
 
 /// The lists once these filters aren't held any more, if they are others.
 pub(crate) fn lists_lapsed(

@@ -2,6 +2,7 @@
 #![tactic(auto)]
 
 mod books;
+mod by_id;
 mod changes;
 mod endpoints;
 mod filters;

@@ -1,5 +1,5 @@
 //! The programs that run and those that rest, as filters come and go.
-ghost use Rattle.std.specs.Prelude.{◌≡◌, ℕ, [], IfOk};
+ghost use Rattle.std.specs.Prelude.{◌≡◌, ℕ, [], IfOk, OnOk};
 ghost use Rattle.installed_filters.specs.Numbering.{Has, IsFresh};
 ghost use Rattle.installed_filters.specs.Listing.{IsWith, IsWithout};
 
@@ -7,6 +7,7 @@ use crate::numbered::Numbered;
 use filter_group::Shared;
 use std::alloc::{AllocError, Global};
 use std::marker::Model;
+use std::mem;
 
 /// The programs that a packet is run on, and the others.
 pub(crate) struct Lists {
@@ -17,6 +18,8 @@ pub(crate) struct Lists {
 
 // By hand, so that the proofs of its owners have one call and not a drop of each part.
 impl Drop for Lists {
+    // In line, so that the lists are not copied to be dropped.
+    #[inline(always)]
     fn drop(self) {
         let Lists {
             running: _,
@@ -46,72 +49,59 @@ impl Lists {
         Ok(Lists { running, resting })
     }
 
-    /// The same lists, where a plan says on which programs a packet is run.
-    fn planned(self, alloc: Global) -> Result<Lists, AllocError>
-        ensures { IfOk result (λ lists. lists ≡ self) }
+    /// A program that runs goes to rest. Those that run then have no plan. Without memory the lists are of no use any more.
+    fn rest(&mut self, alloc: Global, program: &Shared, number: u32) -> Result<(), AllocError>
+        requires runs { Has self.old.running number program.now }
+        requires fresh { IsFresh self.old.resting number program.now }
+        ensures running { OnOk result (IsWithout self.old.running program.now self.new.running) }
+        ensures resting { OnOk result (IsWith self.old.resting number program.now self.new.resting) }
     {
-        let Lists { running, resting } = self;
-        let running = running.planned(alloc)?;
-        Ok(Lists { running, resting })
+        take_out(&mut self.running, alloc, program)?;
+        put_in(&mut self.resting, alloc, program, number)?;
+        Ok(())
     }
+}
 
-    /// A program that runs goes to rest. Those that run then have no plan.
-    fn rested(self, alloc: Global, program: &Shared, number: u32) -> Result<Lists, AllocError>
-        requires runs { Has self.running number program.now }
-        requires fresh { IsFresh self.resting number program.now }
-        ensures running { IfOk result (λ lists. IsWithout self.running program.now lists.running) }
-        ensures resting { IfOk result (λ lists. IsWith self.resting number program.now lists.resting) }
-    {
-        let Lists { running, resting } = self;
-        let running = running.less(alloc, program)?;
-        let resting = resting.with(alloc, program, number)?;
-        Ok(Lists { running, resting })
-    }
+/// Programs get one more. Without memory they stay.
+// Not in line, so that its room on the stack isn't there while others are made.
+#[inline(never)]
+fn put_in(
+    programs: &mut Numbered,
+    alloc: Global,
+    program: &Shared,
+    number: u32,
+) -> Result<(), AllocError>
+    requires { IsFresh programs.old number program.now }
+    ensures { OnOk result (IsWith programs.old number program.now programs.new) }
+{
+    let more = programs.with(alloc, program, number)?;
+    *programs = more;
+    Ok(())
+}
 
-    /// A program that runs goes. Those that run then have no plan.
-    fn stopped(self, alloc: Global, program: &Shared) -> Result<Lists, AllocError>
-        requires { (number : ℕ) × Has self.running number program.now }
-        ensures running { IfOk result (λ lists. IsWithout self.running program.now lists.running) }
-        ensures resting { IfOk result (λ lists. lists.resting ≡ self.resting) }
-    {
-        let Lists { running, resting } = self;
-        let running = running.less(alloc, program)?;
-        Ok(Lists { running, resting })
-    }
+/// Programs lose one, and have no plan then. Without memory none is left.
+// Not in line, so that its room on the stack isn't there while others are made.
+#[inline(never)]
+fn take_out(programs: &mut Numbered, alloc: Global, program: &Shared) -> Result<(), AllocError>
+    requires { (number : ℕ) × Has programs.old number program.now }
+    ensures { OnOk result (IsWithout programs.old program.now programs.new) }
+{
+    let old = mem::replace(programs, Numbered::new(alloc));
+    let less = old.less(alloc, program)?;
+    *programs = less;
+    Ok(())
+}
 
-    /// A program that rests goes.
-    fn left(self, alloc: Global, program: &Shared) -> Result<Lists, AllocError>
-        requires { (number : ℕ) × Has self.resting number program.now }
-        ensures running { IfOk result (λ lists. lists.running ≡ self.running) }
-        ensures resting { IfOk result (λ lists. IsWithout self.resting program.now lists.resting) }
-    {
-        let Lists { running, resting } = self;
-        let resting = resting.less(alloc, program)?;
-        Ok(Lists { running, resting })
-    }
-
-    /// A new program runs. Those that run then have no plan.
-    fn started(&self, alloc: Global, program: &Shared, number: u32) -> Result<Lists, AllocError>
-        requires { IsFresh self.now.running number program.now }
-        ensures running { IfOk result (λ lists. IsWith self.now.running number program.now lists.running) }
-        ensures resting { IfOk result (λ lists. lists.resting ≡ self.now.resting) }
-    {
-        let running = self.running.with(alloc, program, number)?;
-        let resting = self.resting.copy(alloc)?;
-        Ok(Lists { running, resting })
-    }
-
-    /// A program that rests runs again. Those that run then have no plan.
-    fn woken(&self, alloc: Global, program: &Shared, number: u32) -> Result<Lists, AllocError>
-        requires fresh { IsFresh self.now.running number program.now }
-        requires rests { Has self.now.resting number program.now }
-        ensures running { IfOk result (λ lists. IsWith self.now.running number program.now lists.running) }
-        ensures resting { IfOk result (λ lists. IsWithout self.now.resting program.now lists.resting) }
-    {
-        let running = self.running.with(alloc, program, number)?;
-        let resting = self.resting.without(alloc, program)?;
-        Ok(Lists { running, resting })
-    }
+/// Programs get a plan of which of them a packet is run on. Without memory none is left.
+// Not in line, so that its room on the stack isn't there while others are made.
+#[inline(never)]
+fn plan(programs: &mut Numbered, alloc: Global) -> Result<(), AllocError>
+    ensures { OnOk result (programs.new ≡ programs.old) }
+{
+    let old = mem::replace(programs, Numbered::new(alloc));
+    let planned = old.planned(alloc)?;
+    *programs = planned;
+    Ok(())
 }
 
 /// The lists after a change that is planned. They lie on the heap, so that what holds them is small.
@@ -121,6 +111,8 @@ pub(crate) struct NextLists {
 
 // By hand, so that the proofs of its owners have one call and not a drop of each part.
 impl Drop for NextLists {
+    // Not in line, so that its room on the stack isn't there while other lists are dropped.
+    #[inline(never)]
     fn drop(self) {
         let NextLists { lists: _ } = self;
     }
@@ -152,6 +144,8 @@ impl NextLists {
     }
 
     /// The lists once a new program runs. Those that run then have no plan.
+    // Not in line, so that its room on the stack isn't there for what follows.
+    #[inline(never)]
     pub(crate) fn started(
         alloc: Global,
         lists: &Lists,
@@ -162,8 +156,20 @@ impl NextLists {
         ensures running { IfOk result (λ next. IsWith lists.now.running number program.now next.running) }
         ensures resting { IfOk result (λ next. next.resting ≡ lists.now.resting) }
     {
-        let started = lists.started(alloc, program, number)?;
-        NextLists::of(alloc, started)
+        let running = lists.running.with(alloc, program, number)?;
+        let next = NextLists::beside(alloc, running, &lists.resting)?;
+        Ok(next)
+    }
+
+    /// These programs run, and others rest.
+    // Not in line, so that its room on the stack isn't there while those that run are made.
+    #[inline(never)]
+    fn beside(alloc: Global, running: Numbered, resting: &Numbered) -> Result<NextLists, AllocError>
+        ensures running { IfOk result (λ next. next.running ≡ running) }
+        ensures resting { IfOk result (λ next. next.resting ≡ resting.now) }
+    {
+        let resting = resting.copy(alloc)?;
+        NextLists::of(alloc, Lists { running, resting })
     }
 
     /// The lists once a program that rests runs again. Those that run then have no plan.
@@ -178,8 +184,9 @@ impl NextLists {
         ensures running { IfOk result (λ next. IsWith lists.now.running number program.now next.running) }
         ensures resting { IfOk result (λ next. IsWithout lists.now.resting program.now next.resting) }
     {
-        let woken = lists.woken(alloc, program, number)?;
-        NextLists::of(alloc, woken)
+        let started = NextLists::started(alloc, lists, program, number)?;
+        let woken = started.left(alloc, program)?;
+        Ok(woken)
     }
 
     /// Takes the place of the lists before the change. Takes no memory.
@@ -194,8 +201,9 @@ impl NextLists {
     pub(crate) fn planned(self, alloc: Global) -> Result<NextLists, AllocError>
         ensures { IfOk result (λ next. next ≡ self) }
     {
-        let NextLists { lists } = self;
-        NextLists::of(alloc, Box::into_inner(lists).planned(alloc)?)
+        let NextLists { mut lists } = self;
+        plan(&mut lists.running, alloc)?;
+        Ok(NextLists { lists })
     }
 
     /// A program that runs goes to rest. Those that run then have no plan.
@@ -210,9 +218,9 @@ impl NextLists {
         ensures running { IfOk result (λ lists. IsWithout self.running program.now lists.running) }
         ensures resting { IfOk result (λ lists. IsWith self.resting number program.now lists.resting) }
     {
-        let NextLists { lists } = self;
-        let lists = Box::into_inner(lists).rested(alloc, program, number)?;
-        NextLists::of(alloc, lists)
+        let NextLists { mut lists } = self;
+        lists.rest(alloc, program, number)?;
+        Ok(NextLists { lists })
     }
 
     /// A program that runs goes. Those that run then have no plan.
@@ -221,8 +229,9 @@ impl NextLists {
         ensures running { IfOk result (λ lists. IsWithout self.running program.now lists.running) }
         ensures resting { IfOk result (λ lists. lists.resting ≡ self.resting) }
     {
-        let NextLists { lists } = self;
-        NextLists::of(alloc, Box::into_inner(lists).stopped(alloc, program)?)
+        let NextLists { mut lists } = self;
+        take_out(&mut lists.running, alloc, program)?;
+        Ok(NextLists { lists })
     }
 
     /// A program that rests goes.
@@ -231,7 +240,8 @@ impl NextLists {
         ensures running { IfOk result (λ lists. lists.running ≡ self.running) }
         ensures resting { IfOk result (λ lists. IsWithout self.resting program.now lists.resting) }
     {
-        let NextLists { lists } = self;
-        NextLists::of(alloc, Box::into_inner(lists).left(alloc, program)?)
+        let NextLists { mut lists } = self;
+        take_out(&mut lists.resting, alloc, program)?;
+        Ok(NextLists { lists })
     }
 }

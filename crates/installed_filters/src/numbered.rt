@@ -94,15 +94,6 @@ impl Numbered {
         Ok(Numbered { programs, numbers })
     }
 
-    /// The programs without one, in a copy.
-    pub(crate) fn without(&self, alloc: Global, program: &Shared) -> Result<Numbered, AllocError>
-        requires { (number : ℕ) × Has self.now number program.now }
-        ensures { IfOk result (λ left. (number : ℕ) (other : List AnyInsn) → Has left number other ↔ (Has self.now number other × (other ≡ program.now → ⊥))) }
-    {
-        let copy = self.copy(alloc)?;
-        copy.less(alloc, program)
-    }
-
     /// The programs without one. They have no plan.
     pub(crate) fn less(self, alloc: Global, program: &Shared) -> Result<Numbered, AllocError>
         requires { (number : ℕ) × Has self number program.now }

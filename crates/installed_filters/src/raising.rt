@@ -28,13 +28,16 @@ pub(crate) fn raise_within(
             Ok(())
         }
         None => {
-            kept.insert(
-                place,
-                Kept {
-                    endpoint,
-                    kept: bytes,
-                },
-            )?;
+            let keeps = Kept {
+                endpoint,
+                kept: bytes,
+            };
+            // Mostly it comes last, and none has to make room for it.
+            if place == kept.len() {
+                kept.push(keeps)?;
+                return Ok(());
+            }
+            kept.insert(place, keeps)?;
             Ok(())
         }
     }

@@ -1,10 +1,15 @@
-use Rattle.std.proofs.Common.{◌≡◌, List, ap, nat_eq, subst, sym, ℕ}
+use Rattle.std.proofs.Common.{◌≡◌, List, ap, nat_eq, subst, sym, ℕ, refl, ◌∙◌}
 use Rattle.std.specs.Map.{remove_entry, set_value}
 use Rattle.chunked.specs.Maps.{SortedMap}
 use Rattle.installed_filters.specs.declared.books.Row.{Row}
 use Rattle.installed_filters.specs.Books.{Adds, lapsed_row}
+use Rattle.installed_filters.specs.Under.{is_under}
+use Rattle.installed_filters.proofs.Booked.{eq_yes}
 use Rattle.installed_filters.proofs.Rows.{adds_removed, adds_set}
 use Rattle.installed_filters.proofs.changes.lapse_one.Goals as goal
+
+pub set-requires : goal.set-requires
+set-requires c = ap (is_under c.args.row.cap) c.requires.there ∙ eq_yes c.args.row.cap c.args.row.cap refl
 
 pub returns-clause-booked : goal.returns-clause-booked
 returns-clause-booked c = λ booked.

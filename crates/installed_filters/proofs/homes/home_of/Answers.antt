@@ -8,11 +8,11 @@ returns-in-Some-clause-home c =
     let slots = c.args.slots.now.slots in
     let number = c.in-Some.number in
     let lists = c.args.lists.now in
-    let o = (c.requires.listed.run number c.args.program).0 c.in-Some.ensures in
+    let o = (c.requires.housed.listed.run number c.args.program).0 c.in-Some.ensures in
     record {
       begins = (o.0, o.1);
       own = ap program_in o.1 ∙ o.2;
       inside = slot_inside slots number o.0 o.1;
-      number = c.requires.numbers number o.0 o.1;
-      listed = listed_again slots lists.running lists.resting number c.args.program c.requires.listed c.in-Some.ensures o.0 o.1 o.2 o.3;
+      number = c.requires.housed.numbers number o.0 o.1;
+      listed = listed_again slots lists.running lists.resting number c.args.program c.requires.housed.listed c.in-Some.ensures o.0 o.1 o.2 o.3;
     }

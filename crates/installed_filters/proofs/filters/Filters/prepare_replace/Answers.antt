@@ -27,15 +27,15 @@ unreachable-requires c =
 pub invariant_of-self : goal.invariant_of-self
 invariant_of-self c =
     let none = planned_none c.self.inside.slots.slots c.self.inside.rows.entries c.self.inside.change (ap (λ (s : Standing). s.next) c.self.view_is ∙ c.requires.free) in (
-      kept_same c.self.inside.rows.entries c.self.inside.rows.entries c.self.inside.slots.slots c.home_of.new.slots.slots c.self.inside.reaches.ends c.home_of.new.reaches.ends c.self.inside.lists refl c.home_of.ensures.slots c.home_of.ensures.counts c.home_of.ensures.more c.self.invariant.0,
+      kept_same c.self.inside.rows.entries c.self.inside.rows.entries c.self.inside.slots.slots c.home_of.new.slots.slots c.self.inside.reaches.ends c.home_of.new.reaches.ends c.self.inside.lists refl c.home_of.ensures.grown.programs c.home_of.ensures.grown.counts c.home_of.ensures.grown.more c.self.invariant.0,
       planned_free c.self.inside.rows c.home_of.new.slots c.home_of.new.reaches c.self.inside.lists c.self.inside.change none,
     )
 
 pub invariant_of-self-then-home-old : goal.invariant_of-self-then-home-old
-invariant_of-self-then-home-old c = (kept_same c.self.inside.rows.entries c.self.inside.rows.entries c.self.inside.slots.slots c.home_of.new.slots.slots c.self.inside.reaches.ends c.home_of.new.reaches.ends c.self.inside.lists refl c.home_of.ensures.slots c.home_of.ensures.counts c.home_of.ensures.more c.self.invariant.0, tt)
+invariant_of-self-then-home-old c = (kept_same c.self.inside.rows.entries c.self.inside.rows.entries c.self.inside.slots.slots c.home_of.new.slots.slots c.self.inside.reaches.ends c.home_of.new.reaches.ends c.self.inside.lists refl c.home_of.ensures.grown.programs c.home_of.ensures.grown.counts c.home_of.ensures.grown.more c.self.invariant.0, tt)
 
 pub returns-then-home-old-clause-now : goal.returns-then-home-old-clause-now
-returns-then-home-old-clause-now c = installed_slots c.self.inside.slots.slots c.home_of.new.slots.slots c.self.inside.rows.entries c.home_of.ensures.slots ∙ ap (λ (s : Standing). s.now) c.self.view_is
+returns-then-home-old-clause-now c = installed_slots c.self.inside.slots.slots c.home_of.new.slots.slots c.self.inside.rows.entries c.home_of.ensures.grown.programs ∙ ap (λ (s : Standing). s.now) c.self.view_is
 
 pub returns-then-home-old-clause-planned : goal.returns-then-home-old-clause-planned
 returns-then-home-old-clause-planned c =
@@ -44,10 +44,10 @@ returns-then-home-old-clause-planned c =
     let at : value_at rows c.args.id ≡ Some old = ap (λ (k : ℕ). value_at rows k) (sym c.from.ensures) ∙ sym c.in-Some.ensures in
     let h = c.in_ok-home.ensures.home in
     let s = booked_slot rows c.self.inside.slots.slots c.self.inside.reaches.ends c.self.invariant.0.booked (c.args.id, old) (found_in rows c.args.id old at) in
-    let there : slot_at c.home_of.new.slots.slots c.in_ok-home.home.number ≡ Some s.0 = ap (slot_at c.home_of.new.slots.slots) c.if-home-old.true ∙ (c.home_of.ensures.slots old.number ∙ s.1) in
+    let there : slot_at c.home_of.new.slots.slots c.in_ok-home.home.number ≡ Some s.0 = ap (slot_at c.home_of.new.slots.slots) c.if-home-old.true ∙ (c.home_of.ensures.grown.programs old.number ∙ s.1) in
     let own : program_in (slot_at c.home_of.new.slots.slots old.number) ≡ c.in_ok-program.program =
     ap (λ (m : ℕ). program_in (slot_at c.home_of.new.slots.slots m)) (sym c.if-home-old.true) ∙ (sym (ap program_in (base_there c.home_of.new.slots.slots c.in_ok-home.home.number c.in_ok-home.home.program s.0 h.begins there)) ∙ h.own) in
-    let now = installed_slots c.self.inside.slots.slots c.home_of.new.slots.slots c.self.inside.rows.entries c.home_of.ensures.slots ∙ ap (λ (s : Standing). s.now) c.self.view_is in
+    let now = installed_slots c.self.inside.slots.slots c.home_of.new.slots.slots c.self.inside.rows.entries c.home_of.ensures.grown.programs ∙ ap (λ (s : Standing). s.now) c.self.view_is in
     let is : c.in_ok-program.program ≡ c.args.program.now = c.in_ok-program.ensures ∙ c.in_ok-clone.ensures.cases in
     ap (λ (fs : List Installed). Some fs)
     (replaced_same rows c.home_of.new.slots.slots c.args.id old c.in_ok-program.program c.len-count.ensures.order at own
@@ -56,12 +56,12 @@ returns-then-home-old-clause-planned c =
 pub invariant_of-self-in_err-reserve : goal.invariant_of-self-in_err-reserve
 invariant_of-self-in_err-reserve c =
     let none = planned_none c.self.inside.slots.slots c.self.inside.rows.entries c.self.inside.change (ap (λ (s : Standing). s.next) c.self.view_is ∙ c.requires.free) in (
-      kept_same c.self.inside.rows.entries c.self.inside.rows.entries c.self.inside.slots.slots c.reserve.new.self.slots c.self.inside.reaches.ends c.home_of.new.reaches.ends c.self.inside.lists refl (λ m. ap (λ (ss : List (Option Slot)). slot_at ss m) c.reserve.ensures.slots ∙ c.home_of.ensures.slots m) c.home_of.ensures.counts c.home_of.ensures.more c.self.invariant.0,
+      kept_same c.self.inside.rows.entries c.self.inside.rows.entries c.self.inside.slots.slots c.reserve.new.self.slots c.self.inside.reaches.ends c.home_of.new.reaches.ends c.self.inside.lists refl (λ m. ap (λ (ss : List (Option Slot)). slot_at ss m) c.reserve.ensures.slots ∙ c.home_of.ensures.grown.programs m) c.home_of.ensures.grown.counts c.home_of.ensures.grown.more c.self.invariant.0,
       planned_free c.self.inside.rows c.reserve.new.self c.home_of.new.reaches c.self.inside.lists c.self.inside.change none,
     )
 
 pub returns-in_err-reserve-clause-now : goal.returns-in_err-reserve-clause-now
-returns-in_err-reserve-clause-now c = installed_slots c.self.inside.slots.slots c.reserve.new.self.slots c.self.inside.rows.entries (λ m. ap (λ (ss : List (Option Slot)). slot_at ss m) c.reserve.ensures.slots ∙ c.home_of.ensures.slots m) ∙ ap (λ (s : Standing). s.now) c.self.view_is
+returns-in_err-reserve-clause-now c = installed_slots c.self.inside.slots.slots c.reserve.new.self.slots c.self.inside.rows.entries (λ m. ap (λ (ss : List (Option Slot)). slot_at ss m) c.reserve.ensures.slots ∙ c.home_of.ensures.grown.programs m) ∙ ap (λ (s : Standing). s.now) c.self.view_is
 
 pub returns-in_err-reserve-clause-free : goal.returns-in_err-reserve-clause-free
 returns-in_err-reserve-clause-free c =
@@ -71,12 +71,12 @@ returns-in_err-reserve-clause-free c =
 pub invariant_of-self-in_err-reserve-2 : goal.invariant_of-self-in_err-reserve-2
 invariant_of-self-in_err-reserve-2 c =
     let none = planned_none c.self.inside.slots.slots c.self.inside.rows.entries c.self.inside.change (ap (λ (s : Standing). s.next) c.self.view_is ∙ c.requires.free) in (
-      kept_same c.self.inside.rows.entries c.self.inside.rows.entries c.self.inside.slots.slots c.reserve.new.self.slots c.self.inside.reaches.ends c.reserve-2.new.self.ends c.self.inside.lists refl (λ m. ap (λ (ss : List (Option Slot)). slot_at ss m) c.reserve.ensures.slots ∙ c.home_of.ensures.slots m) (λ m q. c.reserve-2.ensures.counts m q ∙ c.home_of.ensures.counts m q) (let more = c.home_of.ensures.more in let long = c.reserve-2.ensures.numbers in omega arith) c.self.invariant.0,
+      kept_same c.self.inside.rows.entries c.self.inside.rows.entries c.self.inside.slots.slots c.reserve.new.self.slots c.self.inside.reaches.ends c.reserve-2.new.self.ends c.self.inside.lists refl (λ m. ap (λ (ss : List (Option Slot)). slot_at ss m) c.reserve.ensures.slots ∙ c.home_of.ensures.grown.programs m) (λ m q. c.reserve-2.ensures.counts m q ∙ c.home_of.ensures.grown.counts m q) (let more = c.home_of.ensures.grown.more in let long = c.reserve-2.ensures.numbers in omega arith) c.self.invariant.0,
       planned_free c.self.inside.rows c.reserve.new.self c.reserve-2.new.self c.self.inside.lists c.self.inside.change none,
     )
 
 pub returns-in_err-reserve-2-clause-now : goal.returns-in_err-reserve-2-clause-now
-returns-in_err-reserve-2-clause-now c = installed_slots c.self.inside.slots.slots c.reserve.new.self.slots c.self.inside.rows.entries (λ m. ap (λ (ss : List (Option Slot)). slot_at ss m) c.reserve.ensures.slots ∙ c.home_of.ensures.slots m) ∙ ap (λ (s : Standing). s.now) c.self.view_is
+returns-in_err-reserve-2-clause-now c = installed_slots c.self.inside.slots.slots c.reserve.new.self.slots c.self.inside.rows.entries (λ m. ap (λ (ss : List (Option Slot)). slot_at ss m) c.reserve.ensures.slots ∙ c.home_of.ensures.grown.programs m) ∙ ap (λ (s : Standing). s.now) c.self.view_is
 
 pub returns-in_err-reserve-2-clause-free : goal.returns-in_err-reserve-2-clause-free
 returns-in_err-reserve-2-clause-free c =
@@ -88,7 +88,7 @@ unreachable-requires-in-None-get c =
     let old = c.in-Some.row.now in
     let rows = c.self.inside.rows.entries in
     let at : value_at rows c.args.id ≡ Some old = ap (λ (k : ℕ). value_at rows k) (sym c.from.ensures) ∙ sym c.in-Some.ensures in
-    let kept = kept_same c.self.inside.rows.entries c.self.inside.rows.entries c.self.inside.slots.slots c.reserve.new.self.slots c.self.inside.reaches.ends c.reserve-2.new.self.ends c.self.inside.lists refl (λ m. ap (λ (ss : List (Option Slot)). slot_at ss m) c.reserve.ensures.slots ∙ c.home_of.ensures.slots m) (λ m q. c.reserve-2.ensures.counts m q ∙ c.home_of.ensures.counts m q) (let more = c.home_of.ensures.more in let long = c.reserve-2.ensures.numbers in omega arith) c.self.invariant.0 in
+    let kept = kept_same c.self.inside.rows.entries c.self.inside.rows.entries c.self.inside.slots.slots c.reserve.new.self.slots c.self.inside.reaches.ends c.reserve-2.new.self.ends c.self.inside.lists refl (λ m. ap (λ (ss : List (Option Slot)). slot_at ss m) c.reserve.ensures.slots ∙ c.home_of.ensures.grown.programs m) (λ m q. c.reserve-2.ensures.counts m q ∙ c.home_of.ensures.grown.counts m q) (let more = c.home_of.ensures.grown.more in let long = c.reserve-2.ensures.numbers in omega arith) c.self.invariant.0 in
     subst (λ (o : Option Slot). IsOneOf o old.held) (sym c.in-None-get.ensures) (one_of rows c.reserve.new.self.slots c.reserve-2.new.self.ends c.args.id old kept.booked at)
 
 pub exchanging-requires-clause-one : goal.exchanging-requires-clause-one
@@ -97,7 +97,7 @@ exchanging-requires-clause-one c =
     let rows = c.self.inside.rows.entries in
     let at : value_at rows c.args.id ≡ Some old = ap (λ (k : ℕ). value_at rows k) (sym c.from.ensures) ∙ sym c.in-Some.ensures in
     let there : slot_at c.reserve.new.self.slots old.number ≡ Some c.in-Some-get.slot.now = sym c.in-Some-get.ensures in
-    let kept = kept_same c.self.inside.rows.entries c.self.inside.rows.entries c.self.inside.slots.slots c.reserve.new.self.slots c.self.inside.reaches.ends c.reserve-2.new.self.ends c.self.inside.lists refl (λ m. ap (λ (ss : List (Option Slot)). slot_at ss m) c.reserve.ensures.slots ∙ c.home_of.ensures.slots m) (λ m q. c.reserve-2.ensures.counts m q ∙ c.home_of.ensures.counts m q) (let more = c.home_of.ensures.more in let long = c.reserve-2.ensures.numbers in omega arith) c.self.invariant.0 in
+    let kept = kept_same c.self.inside.rows.entries c.self.inside.rows.entries c.self.inside.slots.slots c.reserve.new.self.slots c.self.inside.reaches.ends c.reserve-2.new.self.ends c.self.inside.lists refl (λ m. ap (λ (ss : List (Option Slot)). slot_at ss m) c.reserve.ensures.slots ∙ c.home_of.ensures.grown.programs m) (λ m q. c.reserve-2.ensures.counts m q ∙ c.home_of.ensures.grown.counts m q) (let more = c.home_of.ensures.grown.more in let long = c.reserve-2.ensures.numbers in omega arith) c.self.invariant.0 in
     subst (λ (o : Option Slot). IsOneOf o old.held) there (one_of rows c.reserve.new.self.slots c.reserve-2.new.self.ends c.args.id old kept.booked at)
 
 pub exchanging-requires-clause-listed : goal.exchanging-requires-clause-listed
@@ -106,7 +106,7 @@ exchanging-requires-clause-listed c =
     let rows = c.self.inside.rows.entries in
     let at : value_at rows c.args.id ≡ Some old = ap (λ (k : ℕ). value_at rows k) (sym c.from.ensures) ∙ sym c.in-Some.ensures in
     let there : slot_at c.reserve.new.self.slots old.number ≡ Some c.in-Some-get.slot.now = sym c.in-Some-get.ensures in
-    let kept = kept_same c.self.inside.rows.entries c.self.inside.rows.entries c.self.inside.slots.slots c.reserve.new.self.slots c.self.inside.reaches.ends c.reserve-2.new.self.ends c.self.inside.lists refl (λ m. ap (λ (ss : List (Option Slot)). slot_at ss m) c.reserve.ensures.slots ∙ c.home_of.ensures.slots m) (λ m q. c.reserve-2.ensures.counts m q ∙ c.home_of.ensures.counts m q) (let more = c.home_of.ensures.more in let long = c.reserve-2.ensures.numbers in omega arith) c.self.invariant.0 in
+    let kept = kept_same c.self.inside.rows.entries c.self.inside.rows.entries c.self.inside.slots.slots c.reserve.new.self.slots c.self.inside.reaches.ends c.reserve-2.new.self.ends c.self.inside.lists refl (λ m. ap (λ (ss : List (Option Slot)). slot_at ss m) c.reserve.ensures.slots ∙ c.home_of.ensures.grown.programs m) (λ m q. c.reserve-2.ensures.counts m q ∙ c.home_of.ensures.grown.counts m q) (let more = c.home_of.ensures.grown.more in let long = c.reserve-2.ensures.numbers in omega arith) c.self.invariant.0 in
     let h0 = c.in_ok-home.ensures.home in
     let number = c.in_ok-home.home.number in
     let start = c.in_ok-home.home.program in
@@ -121,12 +121,12 @@ exchanging-requires-clause-listed c =
 pub invariant_of-self-in_err-change : goal.invariant_of-self-in_err-change
 invariant_of-self-in_err-change c =
     let none = planned_none c.self.inside.slots.slots c.self.inside.rows.entries c.self.inside.change (ap (λ (s : Standing). s.next) c.self.view_is ∙ c.requires.free) in (
-      kept_same c.self.inside.rows.entries c.self.inside.rows.entries c.self.inside.slots.slots c.reserve.new.self.slots c.self.inside.reaches.ends c.reserve-2.new.self.ends c.self.inside.lists refl (λ m. ap (λ (ss : List (Option Slot)). slot_at ss m) c.reserve.ensures.slots ∙ c.home_of.ensures.slots m) (λ m q. c.reserve-2.ensures.counts m q ∙ c.home_of.ensures.counts m q) (let more = c.home_of.ensures.more in let long = c.reserve-2.ensures.numbers in omega arith) c.self.invariant.0,
+      kept_same c.self.inside.rows.entries c.self.inside.rows.entries c.self.inside.slots.slots c.reserve.new.self.slots c.self.inside.reaches.ends c.reserve-2.new.self.ends c.self.inside.lists refl (λ m. ap (λ (ss : List (Option Slot)). slot_at ss m) c.reserve.ensures.slots ∙ c.home_of.ensures.grown.programs m) (λ m q. c.reserve-2.ensures.counts m q ∙ c.home_of.ensures.grown.counts m q) (let more = c.home_of.ensures.grown.more in let long = c.reserve-2.ensures.numbers in omega arith) c.self.invariant.0,
       planned_free c.self.inside.rows c.reserve.new.self c.reserve-2.new.self c.self.inside.lists c.self.inside.change none,
     )
 
 pub returns-in_err-change-clause-now : goal.returns-in_err-change-clause-now
-returns-in_err-change-clause-now c = installed_slots c.self.inside.slots.slots c.reserve.new.self.slots c.self.inside.rows.entries (λ m. ap (λ (ss : List (Option Slot)). slot_at ss m) c.reserve.ensures.slots ∙ c.home_of.ensures.slots m) ∙ ap (λ (s : Standing). s.now) c.self.view_is
+returns-in_err-change-clause-now c = installed_slots c.self.inside.slots.slots c.reserve.new.self.slots c.self.inside.rows.entries (λ m. ap (λ (ss : List (Option Slot)). slot_at ss m) c.reserve.ensures.slots ∙ c.home_of.ensures.grown.programs m) ∙ ap (λ (s : Standing). s.now) c.self.view_is
 
 pub invariant_of-self-2 : goal.invariant_of-self-2
 invariant_of-self-2 c =
@@ -134,7 +134,7 @@ invariant_of-self-2 c =
     let rows = c.self.inside.rows.entries in
     let at : value_at rows c.args.id ≡ Some old = ap (λ (k : ℕ). value_at rows k) (sym c.from.ensures) ∙ sym c.in-Some.ensures in
     let there : slot_at c.reserve.new.self.slots old.number ≡ Some c.in-Some-get.slot.now = sym c.in-Some-get.ensures in
-    let kept = kept_same c.self.inside.rows.entries c.self.inside.rows.entries c.self.inside.slots.slots c.reserve.new.self.slots c.self.inside.reaches.ends c.reserve-2.new.self.ends c.self.inside.lists refl (λ m. ap (λ (ss : List (Option Slot)). slot_at ss m) c.reserve.ensures.slots ∙ c.home_of.ensures.slots m) (λ m q. c.reserve-2.ensures.counts m q ∙ c.home_of.ensures.counts m q) (let more = c.home_of.ensures.more in let long = c.reserve-2.ensures.numbers in omega arith) c.self.invariant.0 in
+    let kept = kept_same c.self.inside.rows.entries c.self.inside.rows.entries c.self.inside.slots.slots c.reserve.new.self.slots c.self.inside.reaches.ends c.reserve-2.new.self.ends c.self.inside.lists refl (λ m. ap (λ (ss : List (Option Slot)). slot_at ss m) c.reserve.ensures.slots ∙ c.home_of.ensures.grown.programs m) (λ m q. c.reserve-2.ensures.counts m q ∙ c.home_of.ensures.grown.counts m q) (let more = c.home_of.ensures.grown.more in let long = c.reserve-2.ensures.numbers in omega arith) c.self.invariant.0 in
     let h0 = c.in_ok-home.ensures.home in
     let number = c.in_ok-home.home.number in
     let start = c.in_ok-home.home.program in
@@ -171,13 +171,13 @@ invariant_of-self-2 c =
     )
 
 pub returns-clause-now : goal.returns-clause-now
-returns-clause-now c = installed_slots c.self.inside.slots.slots c.reserve.new.self.slots c.self.inside.rows.entries (λ m. ap (λ (ss : List (Option Slot)). slot_at ss m) c.reserve.ensures.slots ∙ c.home_of.ensures.slots m) ∙ ap (λ (s : Standing). s.now) c.self.view_is
+returns-clause-now c = installed_slots c.self.inside.slots.slots c.reserve.new.self.slots c.self.inside.rows.entries (λ m. ap (λ (ss : List (Option Slot)). slot_at ss m) c.reserve.ensures.slots ∙ c.home_of.ensures.grown.programs m) ∙ ap (λ (s : Standing). s.now) c.self.view_is
 
 pub returns-clause-planned : goal.returns-clause-planned
 returns-clause-planned c =
     let x = c.in_ok-change.ensures in
     let h = c.in_ok-home.ensures.home in
-    let now = installed_slots c.self.inside.slots.slots c.reserve.new.self.slots c.self.inside.rows.entries (λ m. ap (λ (ss : List (Option Slot)). slot_at ss m) c.reserve.ensures.slots ∙ c.home_of.ensures.slots m) ∙ ap (λ (s : Standing). s.now) c.self.view_is in
+    let now = installed_slots c.self.inside.slots.slots c.reserve.new.self.slots c.self.inside.rows.entries (λ m. ap (λ (ss : List (Option Slot)). slot_at ss m) c.reserve.ensures.slots ∙ c.home_of.ensures.grown.programs m) ∙ ap (λ (s : Standing). s.now) c.self.view_is in
     let is : c.in_ok-program.program ≡ c.args.program.now = c.in_ok-program.ensures ∙ c.in_ok-clone.ensures.cases in
     let own : program_in (base_slot c.reserve.new.self.slots c.in_ok-home.home.number c.in_ok-home.home.program) ≡ c.args.program.now =
     ap (λ (ss : List (Option Slot)). program_in (base_slot ss c.in_ok-home.home.number c.in_ok-home.home.program)) c.in_ok-reserve.ensures.slots ∙ (h.own ∙ is) in
