@@ -1,5 +1,5 @@
 -- The instructions of filters of which one goes or gets another program.
-use Rattle.std.proofs.Common.{◌≡◌, ◌<◌, ◌≤◌, ◌+◌, ◌==◌, ℕ, Bool, true, false, not, cond, Option, Some, None, is_none, List, [], ◌∷◌, filter, map, length, refl, ap, sym, ◌∙◌, arith}
+use Rattle.std.proofs.Common.{◌≡◌, ◌<◌, ◌≤◌, ◌+◌, ◌==◌, ℕ, Bool, true, false, not, None, is_none, List, [], ◌∷◌, filter, length, refl, ap, arith}
 use Rattle.std.proofs.lemmas.Bool.Decides.{nat_tests}
 use Rattle.std.proofs.lemmas.List.Sums.{sum_by-cons}
 use Rattle.bpf_insn.specs.declared.insn.Insn.{Insn}
@@ -12,18 +12,18 @@ use Rattle.filter_table.proofs.Lists.{eq_false}
 use Rattle.filter_table.proofs.Tables.{first_none}
 use Rattle.table_replica.specs.Changing.{program_at}
 
-sum_first : (f : ListedFilter) (fs : List ListedFilter) → instructions_of (f ∷ fs) ≡ length f.program + instructions_of fs
+pub sum_first : (f : ListedFilter) (fs : List ListedFilter) → instructions_of (f ∷ fs) ≡ length f.program + instructions_of fs
 sum_first f fs = sum_by-cons (λ (g : ListedFilter). length g.program) f fs
 
 -- a filter after all others
 other : (from id : ℕ) (f : ListedFilter) → id < from → from ≤ f.id → (f.id == id) ≡ false
 other from id f low le = eq_false f.id id (λ same. omega (arith, low, le, same))
 
-gone_before : (from to id : ℕ) (fs : List ListedFilter) → FilterIdsBetween from fs to → id < from → filter (λ g. not (g.id == id)) fs ≡ fs
+pub gone_before : (from to id : ℕ) (fs : List ListedFilter) → FilterIdsBetween from fs to → id < from → filter (λ g. not (g.id == id)) fs ≡ fs
 gone_before from to id [] h low = refl
 gone_before from to id (f ∷ fs) h low = let le = h.0 in rw (other from id f low le) (ap (λ (gs : List ListedFilter). f ∷ gs) (gone_before (f.id + 1) to id fs h.1 (omega (arith, low, le))))
 
-kept_before : (from to id : ℕ) (program : List Insn) (fs : List ListedFilter) → FilterIdsBetween from fs to → id < from → replaced fs id program ≡ fs
+pub kept_before : (from to id : ℕ) (program : List Insn) (fs : List ListedFilter) → FilterIdsBetween from fs to → id < from → replaced fs id program ≡ fs
 kept_before from to id program [] h low = refl
 kept_before from to id program (f ∷ fs) h low = let le = h.0 in rw (other from id f low le) (ap (λ (gs : List ListedFilter). f ∷ gs) (kept_before (f.id + 1) to id program fs h.1 (omega (arith, low, le))))
 

@@ -6,4 +6,4 @@ pub mod Soundness
 pub mod Counting
 pub mod NextFilters
 pub mod Planned
-pub mod OfDomain
+pub mod Owned

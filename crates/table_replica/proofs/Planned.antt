@@ -3,7 +3,6 @@ use Rattle.std.proofs.Common.{◌≡◌, ◌+◌, ◌<◌, ◌≤◌, ℕ, Optio
 use Rattle.std.specs.Prelude.{MatchOption, IfSome, IfNone}
 use Rattle.endpoint_caps.specs.Capabilities.{CapTable, first}
 use Rattle.endpoint_caps.specs.Holding.{Holding}
-use Rattle.endpoint_caps.specs.declared.Rights.{Rights}
 use Rattle.filter_table.specs.Listed.{ListedFilter}
 use Rattle.filter_table.specs.Soundness.{IsSoundTable, IdsGrow}
 use Rattle.filter_table.specs.declared.operation.Made.{Made}
@@ -16,6 +15,10 @@ use Rattle.filter_table.specs.declared.operation.Op.TheVariants.{Create, Mint, R
 use Rattle.table_replica.specs.declared.plan.Plan.{Plan}
 use Rattle.installed_filters.specs.Installed.{Installed, Standing, AreHeldBy}
 use Rattle.installed_filters.specs.Lent.{listed}
+use Rattle.chunked.specs.Maps.{SortedMap, value_at}
+use Rattle.table_replica.specs.declared.shares.Share.{Share}
+use Rattle.table_replica.specs.Shares.{AreShares, HasRoom, IsNewShare, value_with}
+use Rattle.table_replica.proofs.Owned.{shares_put}
 use Rattle.table_replica.specs.Changing.{IsNext}
 use Rattle.table_replica.specs.Plans.{change_of, caps_after, AreNextFilters, IsKept, IsPlan, IsReady}
 use Rattle.table_replica.proofs.NextFilters.{next_is}
@@ -47,33 +50,41 @@ pub is_after : (s : TableState) (op : Op) (caps : CapTable) (listed : List Liste
 is_after s op caps listed next c f n = λ j. record { limits = sym (limits-after s op) j; version = sym (version_after s op) j; caps = c j; filters = f j; next_filter = n j }
 
 -- the capabilities once they are changed as planned
-pub plan_caps : (s : TableState) (held : Holding) (filters : Standing) (plan : Plan) (new : CapTable) → IsPlan s held filters plan → new ≡ caps_after s.caps plan.caps → new ≡ (after s plan.op.value).caps
-plan_caps s held filters plan new p is = is ∙ (ap (caps_after s.caps) p.change ∙ sym (caps_changed s plan.op.value))
+pub plan_caps : (s : TableState) (held : Holding) (filters : Standing) (shares : SortedMap Share) (plan : Plan) (new : CapTable) → IsPlan s held filters shares plan → new ≡ caps_after s.caps plan.caps → new ≡ (after s plan.op.value).caps
+plan_caps s held filters shares plan new p is = is ∙ (ap (caps_after s.caps) p.change ∙ sym (caps_changed s plan.op.value))
 
 -- the filters once they are changed as planned
-pub plan_filters : (s : TableState) (held : Holding) (filters : Standing) (plan : Plan) (new : List Installed) → IsPlan s held filters plan → MatchOption filters.next (new ≡ filters.now) (λ next. new ≡ next)
+pub plan_filters : (s : TableState) (held : Holding) (filters : Standing) (shares : SortedMap Share) (plan : Plan) (new : List Installed) → IsPlan s held filters shares plan → MatchOption filters.next (new ≡ filters.now) (λ next. new ≡ next)
     → (listed new ≡ (after s plan.op.value).filters) × AreHeldBy (after s plan.op.value).caps.held new
-plan_filters s held filters plan new p = by_next filters.next p.filters_after
+plan_filters s held filters shares plan new p = by_next filters.next p.filters_after
   where
     by_next : (o : Option (List Installed)) → MatchOption o ((listed filters.now ≡ (after s plan.op.value).filters) × AreHeldBy (after s plan.op.value).caps.held filters.now) (λ next. (listed next ≡ (after s plan.op.value).filters) × AreHeldBy (after s plan.op.value).caps.held next)
         → MatchOption o (new ≡ filters.now) (λ next. new ≡ next) → (listed new ≡ (after s plan.op.value).filters) × AreHeldBy (after s plan.op.value).caps.held new
     by_next None h is = (ap listed is ∙ h.0, subst (AreHeldBy (after s plan.op.value).caps.held) (sym is) h.1)
     by_next (Some next) h is = (ap listed is ∙ h.0, subst (AreHeldBy (after s plan.op.value).caps.held) (sym is) h.1)
 
+-- the shares once one is changed as planned
+pub plan_shares : (s : TableState) (held : Holding) (filters : Standing) (shares : SortedMap Share) (plan : Plan) (entries : List (ℕ × Share)) (new : List Installed) → IsPlan s held filters shares plan → AreShares shares.entries s.filters
+    → ((domain : ℕ) → value_at entries domain ≡ value_with plan.share shares.entries domain) → listed new ≡ (after s plan.op.value).filters → AreShares entries (listed new)
+plan_shares s held filters shares plan entries new p were put same = subst (AreShares entries) (sym same) (shares_put shares.entries entries s.filters (after s plan.op.value).filters plan.share were p.share put)
+
 -- what is planned for an operation that no test refuses
-pub plan_kept : (s : TableState) (held : Holding) (before filters : Standing) (instructions budget : ℕ) (op : Op) (plan : Plan) → IsSoundTable s → listed before.now ≡ s.filters → AreHeldBy s.caps.held before.now
-    → instructions ≡ instructions_of (listed before.now) → first (tests s budget op) ≡ None → held.table ≡ s.caps → filters.now ≡ before.now → IsNext s.caps s.next_filter before.now op filters.next
-    → plan.op.value ≡ op → plan.caps ≡ change_of op → IsReady held plan.caps → plan.instructions ≡ instructions_of (after s op).filters → plan.next_filter ≡ (after s op).next_filter → plan.made ≡ made s op
+pub plan_kept : (s : TableState) (held : Holding) (before filters : Standing) (old shares : SortedMap Share) (instructions budget : ℕ) (op : Op) (plan : Plan) → IsSoundTable s → listed before.now ≡ s.filters → AreHeldBy s.caps.held before.now
+    → AreShares old.entries (listed before.now) → instructions ≡ instructions_of (listed before.now) → first (tests s budget op) ≡ None → held.table ≡ s.caps → filters.now ≡ before.now → IsNext s.caps s.next_filter before.now op filters.next
+    → shares.entries ≡ old.entries → IsNewShare s.filters (after s op).filters plan.share → HasRoom shares plan.share → plan.op.value ≡ op → plan.caps ≡ change_of op → IsReady held plan.caps → plan.instructions ≡ instructions_of (after s op).filters → plan.next_filter ≡ (after s op).next_filter → plan.made ≡ made s op
     → s.version < 18446744073709551615
-    → IsKept (record { limits = s.limits; version = s.version; caps = held.table; filters = listed filters.now; next_filter = s.next_filter }) held filters instructions (Some plan)
-plan_kept s held before filters instructions budget op plan sound same under total none table now next op_is change ready count number id room = subst (λ (t : TableState). IsKept t held filters instructions (Some plan)) (sym state) (record {
+    → IsKept (record { limits = s.limits; version = s.version; caps = held.table; filters = listed filters.now; next_filter = s.next_filter }) held filters shares instructions (Some plan)
+plan_kept s held before filters old shares instructions budget op plan sound same under were total none table now next kept share has op_is change ready count number id room = subst (λ (t : TableState). IsKept t held filters shares instructions (Some plan)) (sym state) (record {
   held = subst (λ (t : CapTable). AreHeldBy t.held filters.now) (sym table) (subst (AreHeldBy s.caps.held) (sym now) under);
+  shares_kept = subst (λ (es : List (ℕ × Share)). AreShares es (listed filters.now)) (sym kept) (subst (λ (fs : List Installed). AreShares old.entries (listed fs)) (sym now) were);
   total = total ∙ ap (λ (fs : List Installed). instructions_of (listed fs)) (sym now);
   planned = record {
     change = change ∙ ap change_of (sym op_is);
     ready = ready;
     filters_after = subst (λ (o : Op). AreNextFilters (after s o).caps.held (after s o).filters filters) (sym op_is)
         (subst (λ (fs : List Installed). AreNextFilters (after s op).caps.held (after s op).filters (record { now = fs; next = filters.next })) (sym now) (next_is s sound before.now same under budget op filters.next none next));
+    share = subst (λ (o : Op). IsNewShare s.filters (after s o).filters plan.share) (sym op_is) share;
+    room = has;
     instructions_after = count ∙ ap (λ (o : Op). instructions_of (after s o).filters) (sym op_is);
     next_filter = number ∙ ap (λ (o : Op). (after s o).next_filter) (sym op_is);
     made = id ∙ ap (made s) (sym op_is);

@@ -1,6 +1,7 @@
 -- What is ready for a staged operation, so that to perform it takes no memory and can't fail.
 -- No public clause cites these.
 use Rattle.std.specs.Prelude.{◌≡◌, ◌<◌, ℕ, IsTrue, MatchOption, Option, Some, None, List}
+use Rattle.chunked.specs.Maps.{SortedMap}
 use Rattle.endpoint_caps.specs.declared.Cap.{Cap}
 use Rattle.endpoint_caps.specs.Capabilities.{CapBounds, CapTable, created, minted_from, revoked, dropped, first, create_tests, mint_tests}
 use Rattle.endpoint_caps.specs.Holding.{Holding}
@@ -11,6 +12,8 @@ use Rattle.filter_table.specs.declared.operation.Op.TheVariants as ops
 use Rattle.table_replica.specs.declared.plan.CapChange.{CapChange}
 use Rattle.table_replica.specs.declared.plan.CapChange.TheVariants.{Nothing, Create, Mint, Revoke, DropCap}
 use Rattle.table_replica.specs.declared.plan.Plan.{Plan}
+use Rattle.table_replica.specs.declared.shares.Share.{Share}
+use Rattle.table_replica.specs.Shares.{AreShares, HasRoom, IsNewShare}
 use Rattle.installed_filters.specs.Installed.{AreHeldBy, Standing}
 use Rattle.installed_filters.specs.Lent.{listed}
 
@@ -40,10 +43,12 @@ abbrev pub AreNextFilters : List Cap → List ListedFilter → Standing → Type
 AreNextFilters caps after filters = MatchOption filters.next ((listed filters.now ≡ after) × AreHeldBy caps filters.now) (λ next. (listed next ≡ after) × AreHeldBy caps next)
 
 -- the plan is that of its operation
-pub record IsPlan (s : TableState) (caps : Holding) (filters : Standing) (plan : Plan) : Type 0 where
+pub record IsPlan (s : TableState) (caps : Holding) (filters : Standing) (shares : SortedMap Share) (plan : Plan) : Type 0 where
   pub change : plan.caps ≡ change_of plan.op.value
   pub ready : IsReady caps plan.caps
   pub filters_after : AreNextFilters (after s plan.op.value).caps.held (after s plan.op.value).filters filters
+  pub share : IsNewShare s.filters (after s plan.op.value).filters plan.share
+  pub room : HasRoom shares plan.share
   pub instructions_after : plan.instructions ≡ instructions_of (after s plan.op.value).filters
   pub next_filter : plan.next_filter ≡ (after s plan.op.value).next_filter
   pub made : plan.made ≡ made s plan.op.value
@@ -53,12 +58,13 @@ abbrev pub staged_op : Option Plan → Option Op
 staged_op None = None
 staged_op (Some plan) = Some plan.op.value
 
-abbrev pub IsPlanned : TableState → Holding → Standing → Option Plan → Type 0
-IsPlanned s caps filters None = filters.next ≡ None
-IsPlanned s caps filters (Some plan) = IsPlan s caps filters plan
+abbrev pub IsPlanned : TableState → Holding → Standing → SortedMap Share → Option Plan → Type 0
+IsPlanned s caps filters shares None = filters.next ≡ None
+IsPlanned s caps filters shares (Some plan) = IsPlan s caps filters shares plan
 
--- what is kept beside the table: its filters stand under its capabilities, and their instructions are counted
-pub record IsKept (s : TableState) (caps : Holding) (filters : Standing) (instructions : ℕ) (plan : Option Plan) : Type 0 where
+-- what is kept beside the table: its filters stand under its capabilities, and are counted for their domains and together
+pub record IsKept (s : TableState) (caps : Holding) (filters : Standing) (shares : SortedMap Share) (instructions : ℕ) (plan : Option Plan) : Type 0 where
   pub held : AreHeldBy caps.table.held filters.now
+  pub shares_kept : AreShares shares.entries (listed filters.now)
   pub total : instructions ≡ instructions_of (listed filters.now)
-  pub planned : IsPlanned s caps filters plan
+  pub planned : IsPlanned s caps filters shares plan

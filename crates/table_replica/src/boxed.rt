@@ -1,5 +1,5 @@
 //! The filters of a table on the heap.
-ghost use Rattle.std.specs.Prelude.{◌≡◌, ◌==◌, ◌<◌, ◌++◌, [], ◌∷◌, ℕ, None, Some, true, not, filter, map, length, List, OnOk, OnErr, MatchOption};
+ghost use Rattle.std.specs.Prelude.{◌≡◌, ◌==◌, ◌<◌, ◌++◌, [], ◌∷◌, ℕ, None, Some, IsSome, true, not, filter, map, length, List, OnOk, OnErr, MatchOption};
 ghost use Rattle.std.specs.Iterator.{YieldsFirstBy, item_count};
 ghost use Rattle.std.specs.List.{Contains};
 ghost use Rattle.std.specs.Option.{option_map};
@@ -7,13 +7,14 @@ ghost use Rattle.endpoint_caps.specs.declared.Cap.{Cap as AnyCap};
 ghost use Rattle.filter_table.specs.Tables.{filter_at, AreReceivers};
 ghost use Rattle.installed_filters.specs.Installed.{AreHeldBy, Installed, replaced_by};
 ghost use Rattle.installed_filters.specs.Lent.{AreDifferent, held_listed, listed, shown_filter};
-ghost use Rattle.table_replica.specs.Boxed.{IsLapse};
+ghost use Rattle.table_replica.specs.Boxed.{standing_in, IsLapse};
 
 use chunked::Sorted;
 use filter_verify::Verified;
 use installed_filters::{Filter, Filters, InstalledIter, Workspace};
 use std::alloc::{AllocError, Global};
 use std::marker::Model;
+use std::mem;
 
 /// The filters in order of installation. They lie on the heap, so that a table is small and its moves take little of the stack. No
 /// filter takes no memory.
@@ -134,14 +135,10 @@ impl BoxedFilters {
         ensures planned { OnOk result (self.new.next ≡ Some (self.old.now ++ record { filter = record { id = id; owner = owner; cap = cap; endpoint = endpoint; program = program.now }; held = true } ∷ [])) }
         ensures free { OnErr result (self.new.next ≡ None) }
     {
+        make_filters(alloc, &mut self.filters)?;
         match &mut self.filters {
             Some(filters) => filters.prepare_install(alloc, id, owner, cap, endpoint, program),
-            None => {
-                let mut filters = Box::new(alloc, Filters::new(alloc))?;
-                filters.prepare_install(alloc, id, owner, cap, endpoint, program)?;
-                self.filters = Some(filters);
-                Ok(())
-            }
+            None => unreachable!(),
         }
     }
 
@@ -223,6 +220,28 @@ impl BoxedFilters {
     {
         if let Some(filters) = &mut self.filters {
             filters.forget();
+        }
+    }
+}
+
+/// Puts filters on the heap where there are none, of which none is listed. They are made here, so that they lie in no frame that is open
+/// while one more is planned. What is forgotten here holds no memory.
+#[inline(never)]
+fn make_filters(alloc: Global, filters: &mut Option<Box<Filters>>) -> Result<(), AllocError>
+    ensures same { standing_in filters.new ≡ standing_in filters.old }
+    ensures there { OnOk result (IsSome filters.new) }
+{
+    if filters.is_some() {
+        return Ok(());
+    }
+    match Box::new(alloc, Filters::new(alloc)) {
+        Ok(made) => {
+            mem::forget(filters.replace(made));
+            Ok(())
+        }
+        Err(refused) => {
+            mem::forget(refused);
+            Err(AllocError)
         }
     }
 }

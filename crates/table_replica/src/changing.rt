@@ -59,6 +59,7 @@ fn endpoint_of(caps: &Caps, cap: u32) -> u16
 }
 
 /// Plans that the capabilities that were minted from one are not held any more.
+#[inline(never)]
 fn prepare_revoke(
     alloc: Global,
     filters: &mut BoxedFilters,
@@ -76,6 +77,7 @@ fn prepare_revoke(
 }
 
 /// The same of these and the one.
+#[inline(never)]
 fn prepare_drop(
     alloc: Global,
     filters: &mut BoxedFilters,

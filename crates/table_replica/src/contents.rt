@@ -1,9 +1,9 @@
 //! The table, changed in place: what an operation does to it is planned before, and then done.
-ghost use Rattle.std.specs.Prelude.{◌≡◌, ◌==◌, ◌+◌, ◌<◌, ◌≤◌, ℕ, [], None, Some, is_none, is_some, false, leb, not, filter, length, IfSome, IfNone, IfOk, IfErr, OnOk, OnErr};
+ghost use Rattle.std.specs.Prelude.{◌≡◌, ◌==◌, ◌+◌, ◌<◌, ◌≤◌, ℕ, [], None, Some, is_none, is_some, true, false, leb, not, filter, length, IfSome, IfNone, IfOk, IfErr, OnOk, OnErr};
 ghost use Rattle.std.specs.Option.{option_map};
 ghost use Rattle.std.specs.Result.{result_err};
-ghost use Rattle.endpoint_caps.specs.Capabilities.{first, cap_at, mint_tests, revoked, dropped};
-ghost use Rattle.filter_table.specs.Tables.{TableState, Accepting, Allowed, after, made, tests, as_rules, rule_of, instructions, instructions_of, replaced, program_of, endpoint_of, Verifies, owner_tests, install_tests, replace_tests, cap_of, filter_at};
+ghost use Rattle.endpoint_caps.specs.Capabilities.{first, cap_at, is_some_and, mint_tests, revoked, dropped};
+ghost use Rattle.filter_table.specs.Tables.{TableState, Accepting, Allowed, after, made, tests, as_rules, rule_of, instructions, instructions_of, owned_by, replaced, program_of, endpoint_of, Verifies, owner_tests, install_tests, replace_tests, cap_of, filter_at};
 ghost use Rattle.filter_verify.specs.Rules.{Sound, Refuses};
 ghost use Rattle.filter_verify.specs.Numbers.{number_of, place_of};
 ghost use Rattle.filter_table.specs.Staging.{CannotStage};
@@ -14,11 +14,12 @@ ghost use Rattle.filter_table.specs.declared.operation.Op.{Op as GhostOp};
 ghost use Rattle.installed_filters.specs.Installed.{AreHeldBy};
 ghost use Rattle.installed_filters.specs.Lent.{listed};
 ghost use Rattle.table_replica.specs.Changing.{program_at};
+ghost use Rattle.table_replica.specs.Shares.{IsNewShare, owned_share};
 
 use crate::boxed::BoxedFilters;
 use crate::changing::prepare_filters;
 use crate::plan::{Plan, change_caps, prepare_caps};
-use crate::shares::{exceed, owned_fit_with, owns_as_many};
+use crate::shares::{NewShare, Share, Shares, fit};
 use crate::{Limits, Load, Made, Op, OpFault, StageFault};
 use bpf_insn::Insn;
 use endpoint_caps::{CapFault, Caps, Right};
@@ -33,6 +34,8 @@ pub(crate) struct Contents {
     version: u64,
     caps: Caps,
     filters: BoxedFilters,
+    /// Of each domain that has a filter.
+    shares: Shares,
     /// Of all filters.
     instructions: u32,
     next_filter: u32,
@@ -47,6 +50,7 @@ impl Drop for Contents {
             version: _,
             caps: _,
             filters: _,
+            shares: _,
             instructions: _,
             next_filter: _,
             plan: _,
@@ -65,7 +69,7 @@ impl Model for Contents {
 
     ghost view = { λ a. record { table = record { limits = a.limits; version = a.version; caps = a.caps.table; filters = listed a.filters.now; next_filter = a.next_filter }; staged = staged_op a.plan } };
 
-    ghost invariant = { λ a. IsKept (record { limits = a.limits; version = a.version; caps = a.caps.table; filters = listed a.filters.now; next_filter = a.next_filter }) a.caps a.filters a.instructions a.plan };
+    ghost invariant = { λ a. IsKept (record { limits = a.limits; version = a.version; caps = a.caps.table; filters = listed a.filters.now; next_filter = a.next_filter }) a.caps a.filters a.shares a.instructions a.plan };
 }
 
 /// The fault of the capabilities as a reason not to stage.
@@ -102,6 +106,7 @@ impl Contents {
             version,
             caps: Caps::resume(alloc, next_cap),
             filters: BoxedFilters::new(),
+            shares: Shares::new(),
             instructions: 0,
             next_filter,
             plan: None,
@@ -254,16 +259,11 @@ impl Contents {
         if self.filters.len() >= self.limits.filters() as usize {
             return Err(StageFault::Rule(OpFault::TableFull));
         }
-        if owns_as_many(&self.filters, domain, self.limits.domain_filters()) {
+        let share = self.share(domain);
+        if share.filters >= self.limits.domain_filters() {
             return Err(StageFault::Rule(OpFault::DomainFull));
         }
-        if exceed(
-            &self.filters,
-            self.instructions,
-            domain,
-            program,
-            self.limits.domain_insns(),
-        ) {
+        if !fit(share.instructions, program, self.limits.domain_insns()) {
             return Err(StageFault::Rule(OpFault::DomainFull));
         }
         if self.next_filter == u32::MAX {
@@ -279,6 +279,7 @@ impl Contents {
     fn owned(&self, domain: u16, id: u32) -> Result<u32, StageFault>
         ensures fault { result_err result ≡ first (owner_tests self.now.table.filters domain id) }
         ensures cap { IfOk result (λ cap. cap ≡ cap_of (filter_at self.now.table.filters id)) }
+        ensures owned { OnOk result (is_some_and (λ f. f.owner == domain) (filter_at self.now.table.filters id) ≡ true) }
     {
         match self.filters.get(id) {
             None => Err(StageFault::Rule(OpFault::NoFilter)),
@@ -304,8 +305,7 @@ impl Contents {
     {
         let cap = self.owned(domain, id)?;
         ruled(self.caps.may(cap, domain, Right::Receive))?;
-        let limit = self.limits.domain_insns();
-        if !owned_fit_with(&self.filters, domain, id, program, limit) {
+        if !self.owned_fit_with(domain, id, program) {
             return Err(StageFault::Rule(OpFault::DomainFull));
         }
         if self.fit_with(id, program, budget) {
@@ -315,6 +315,16 @@ impl Contents {
         }
     }
 
+    /// Whether the domain's filters are within its limit on instructions, once the program of one that it owns is replaced by this.
+    fn owned_fit_with(&self, domain: u16, id: u32, program: &[Insn]) -> bool
+        requires sound { IsSoundTable self.now.table }
+        requires owned { is_some_and (λ f. f.owner == domain) (filter_at self.now.table.filters id) ≡ true }
+        ensures { result ≡ leb (instructions_of (owned_by domain (replaced self.now.table.filters id program.now))) self.now.table.limits.domain_insns }
+    {
+        let left = self.share_without(domain, id);
+        fit(left.instructions, program, self.limits.domain_insns())
+    }
+
     /// Whether the filters are within a budget, once the program of one that is listed is replaced by this.
     fn fit_with(&self, id: u32, program: &[Insn], budget: u32) -> bool
         requires sound { IsSoundTable self.now.table }
@@ -322,10 +332,7 @@ impl Contents {
         ensures { result ≡ leb (instructions_of (replaced self.now.table.filters id program.now)) budget }
     {
         let left = self.instructions_without(id);
-        if left > budget {
-            return false;
-        }
-        program.len() <= (budget - left) as usize
+        fit(left, program, budget)
     }
 
     /// How many instructions the program of a filter has; 0 where none has this id.
@@ -345,6 +352,26 @@ impl Contents {
         ensures { result ≡ instructions_of (filter (λ f. not (f.id == id)) self.now.table.filters) }
     {
         self.instructions - self.length_of(id)
+    }
+
+    /// What a domain has of the filters. None of them is looked at.
+    fn share(&self, domain: u16) -> Share
+        ensures { result ≡ owned_share self.now.table.filters domain }
+    {
+        self.shares.of(domain)
+    }
+
+    /// The same but for one filter, which is the domain's.
+    fn share_without(&self, domain: u16, id: u32) -> Share
+        requires sound { IsSoundTable self.now.table }
+        requires owned { is_some_and (λ f. f.owner == domain) (filter_at self.now.table.filters id) ≡ true }
+        ensures { result ≡ owned_share (filter (λ f. not (f.id == id)) self.now.table.filters) domain }
+    {
+        let share = self.share(domain);
+        Share {
+            filters: share.filters - 1,
+            instructions: share.instructions - self.length_of(id),
+        }
     }
 
     /// What `prepare` would answer, memory aside. Takes no memory.
@@ -434,6 +461,8 @@ impl Contents {
         let made = self.made(op);
         let next_filter = self.next_filter_after(op);
         let instructions = self.instructions_after(op);
+        let share = self.share_after(op);
+        self.shares.reserve(alloc, share)?;
         let caps = prepare_caps(&mut self.caps, self.limits.caps(), op)?;
         prepare_filters(
             alloc,
@@ -445,6 +474,7 @@ impl Contents {
         )?;
         self.plan = Some(Plan {
             caps,
+            share,
             instructions,
             next_filter,
             made,
@@ -461,12 +491,14 @@ impl Contents {
     {
         let Plan {
             caps,
+            share,
             instructions,
             next_filter,
             made,
             op: _op,
         } = self.plan.take()?;
         change_caps(&mut self.caps, caps);
+        self.shares.change(share);
         self.filters.perform();
         self.instructions = instructions;
         self.next_filter = next_filter;
@@ -511,6 +543,42 @@ impl Contents {
                 ..
             } => self.instructions_without(*filter) + program.as_slice().len() as u32,
             _ => self.instructions,
+        }
+    }
+
+    /// What its domain has after an operation that no test refuses, if it changes that. No other domain has more or less.
+    #[tactic(auto, unfolding(filter_table::specs::Tables::after))]
+    fn share_after(&self, op: &Op) -> Option<NewShare>
+        requires allowed { (budget : ℕ) × (budget < 4294967296) × (first (tests self.now.table budget op.now) ≡ None) }
+        requires sound { IsSoundTable self.now.table }
+        ensures { IsNewShare self.now.table.filters (after self.now.table op.now).filters result }
+    {
+        let _next = self.next_filter;
+        match op {
+            Op::Install {
+                domain,
+                program,
+                ..
+            } => Some(NewShare {
+                domain: *domain,
+                share: self.share(*domain).with_one(program.as_slice()),
+            }),
+            Op::Remove { domain, filter } => Some(NewShare {
+                domain: *domain,
+                share: self.share_without(*domain, *filter),
+            }),
+            Op::Replace {
+                domain,
+                filter,
+                program,
+            } => {
+                let left = self.share_without(*domain, *filter);
+                Some(NewShare {
+                    domain: *domain,
+                    share: left.with_one(program.as_slice()),
+                })
+            }
+            Op::Create { .. } | Op::Mint { .. } | Op::Revoke { .. } | Op::DropCap { .. } => None,
         }
     }
 }

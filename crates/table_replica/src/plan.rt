@@ -2,6 +2,7 @@
 ghost use Rattle.std.specs.Prelude.{◌≡◌, IfOk};
 ghost use Rattle.table_replica.specs.Plans.{change_of, caps_after, IsReady};
 
+use crate::shares::NewShare;
 use crate::{Made, Op};
 use endpoint_caps::{CapLimits, Caps, Rights};
 use std::alloc::AllocError;
@@ -33,6 +34,8 @@ pub(crate) enum CapChange {
 #[derive(Drop)]
 pub(crate) struct Plan {
     pub(crate) caps: CapChange,
+    /// Of the domain whose filters it changes, if it changes any.
+    pub(crate) share: Option<NewShare>,
     /// The instructions of all filters after it.
     pub(crate) instructions: u32,
     pub(crate) next_filter: u32,

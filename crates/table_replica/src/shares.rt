@@ -1,101 +1,168 @@
-//! How much of the filters is one domain's.
-ghost use Rattle.std.specs.Prelude.{◌≡◌, ◌+◌, length, leb, ltb};
-ghost use Rattle.filter_table.specs.Tables.{instructions_of, owned_by, replaced};
-ghost use Rattle.installed_filters.specs.Lent.{listed};
+//! What each domain has of the filters.
+ghost use Rattle.std.specs.Prelude.{◌≡◌, ◌==◌, ◌+◌, ◌<◌, ◌||◌, if◌then◌else◌, ℕ, [], IsSome, IsTrue, OnOk, false, is_some, length, leb};
+ghost use Rattle.chunked.specs.Maps.{value_at};
+ghost use Rattle.table_replica.specs.Shares.{kept_share, share_in, shares_in, value_with, with_one, HasRoom};
 
-use crate::boxed::BoxedFilters;
 use bpf_insn::Insn;
+use chunked::Sorted;
+use std::alloc::{AllocError, Global};
+use std::marker::Model;
 
-/// Whether the domain owns so many filters. None is looked at where fewer are listed.
-#[tactic(auto, using(crate::proofs::OfDomain::few_owned))]
-pub(crate) fn owns_as_many(filters: &BoxedFilters, domain: u16, most: u32) -> bool
-    ensures { result ≡ leb most (length (owned_by domain (listed filters.now.now))) }
-{
-    if filters.len() < most as usize {
-        return false;
-    }
-    owns(filters, domain, most)
+/// How many filters a domain has, and how many instructions these have.
+#[derive(Clone, Copy, Drop)]
+pub(crate) struct Share {
+    pub(crate) filters: u32,
+    pub(crate) instructions: u32,
 }
 
-/// The same. No filter is looked at once so many are found.
-fn owns(filters: &BoxedFilters, domain: u16, most: u32) -> bool
-    ensures { result ≡ leb most (length (owned_by domain (listed filters.now.now))) }
-{
-    let mut missing = most;
-    for filter in filters.iter() {
-        if missing == 0 {
-            return true;
-        }
-        if filter.owner == domain {
-            missing -= 1;
-        }
-    }
-    missing == 0
+/// That of no filter.
+const NONE: Share = Share {
+    filters: 0,
+    instructions: 0,
+};
+
+/// A domain, and what it has once an operation is done.
+#[derive(Clone, Copy, Drop)]
+pub(crate) struct NewShare {
+    pub(crate) domain: u16,
+    pub(crate) share: Share,
 }
 
-/// Whether the domain's filters and this program have more instructions than `most`. No filter is looked at where all have not.
-#[tactic(auto, using(crate::proofs::OfDomain::owned_within))]
-pub(crate) fn exceed(
-    filters: &BoxedFilters,
-    instructions: u32,
-    domain: u16,
-    program: &[Insn],
-    most: u32,
-) -> bool
-    requires { instructions ≡ instructions_of (listed filters.now.now) }
-    ensures { result ≡ ltb most (instructions_of (owned_by domain (listed filters.now.now)) + length program.now) }
-{
-    let most = most as usize;
-    if program.len() > most {
-        return true;
-    }
-    let left = most - program.len();
-    if instructions as usize <= left {
-        return false;
-    }
-    !owned_fit(filters, domain, left)
-}
-
-/// Whether the domain's filters have at most so many instructions.
-fn owned_fit(filters: &BoxedFilters, domain: u16, most: usize) -> bool
-    ensures { result ≡ leb (instructions_of (owned_by domain (listed filters.now.now))) most }
-{
-    let mut left = most;
-    for filter in filters.iter() {
-        if filter.owner == domain {
-            let count = filter.program.code().len();
-            if count > left {
-                return false;
-            }
-            left -= count;
+impl Share {
+    /// With one filter more.
+    pub(crate) fn with_one(self, program: &[Insn]) -> Share
+        requires filters { self.filters < 4294967295 }
+        requires instructions { self.instructions + length program.now < 4294967296 }
+        ensures { result ≡ with_one self program.now }
+    {
+        Share {
+            filters: self.filters + 1,
+            instructions: self.instructions + program.len() as u32,
         }
     }
-    true
 }
 
-/// Whether the domain's filters have at most so many instructions once the program of one is replaced.
-pub(crate) fn owned_fit_with(
-    filters: &BoxedFilters,
-    domain: u16,
-    id: u32,
-    program: &[Insn],
-    most: u32,
-) -> bool
-    ensures { result ≡ leb (instructions_of (owned_by domain (replaced (listed filters.now.now) id program.now))) most }
+/// Whether so many instructions and those of a program are within a limit together.
+pub(crate) fn fit(instructions: u32, program: &[Insn], most: u32) -> bool
+    ensures { result ≡ leb (instructions + length program.now) most }
 {
-    let mut left = most as usize;
-    for filter in filters.iter() {
-        if filter.owner == domain {
-            let count = if filter.id == id {
-                program.len()
-            } else {
-                filter.program.code().len()
-            };
-            if count > left {
-                return false;
-            }
-            left -= count;
+    instructions <= most && program.len() <= (most - instructions) as usize
+}
+
+/// What the domains have that have a filter. It lies on the heap, as the filters do, and takes no memory where there is none.
+pub(crate) struct Shares {
+    by_domain: Option<Box<Sorted<Share>>>,
+}
+
+// By hand, so that the proofs of its owners have one call and not a drop of each part.
+impl Drop for Shares {
+    fn drop(self) {
+        let Shares { by_domain: _ } = self;
+    }
+}
+
+impl Model for Shares {
+    ghost use Rattle.chunked.specs.Maps.{SortedMap};
+    ghost use Rattle.table_replica.specs.declared.shares.Share.{Share};
+    ghost use Rattle.table_replica.specs.Shares.{shares_in};
+
+    ghost Value = { SortedMap Share };
+
+    ghost view = { λ a. shares_in a.by_domain };
+}
+
+impl Shares {
+    /// No domain has a filter.
+    pub(crate) fn new() -> Shares
+        ensures { result ≡ record { entries = []; ready = false } }
+    {
+        Shares { by_domain: None }
+    }
+
+    /// What a domain has. No filter is looked at.
+    pub(crate) fn of(&self, domain: u16) -> Share
+        ensures { result ≡ share_in (value_at self.now.entries domain) }
+    {
+        match &self.by_domain {
+            Some(by_domain) => share_at(by_domain, domain),
+            None => NONE,
         }
     }
-    true
+
+    /// Makes room for what a domain has that had no filter. What they have stays, whatever the result.
+    pub(crate) fn reserve(&mut self, alloc: Global, new: Option<NewShare>) -> Result<(), AllocError>
+        ensures entries { self.new.entries ≡ self.old.entries }
+        ensures room { OnOk result (HasRoom self.new new) }
+    {
+        let Some(new) = new else {
+            return Ok(());
+        };
+        make_map(alloc, &mut self.by_domain)?;
+        match &mut self.by_domain {
+            Some(by_domain) => reserve_for(by_domain, new.domain),
+            None => unreachable!(),
+        }
+    }
+
+    /// Puts what a domain has in place of what it had. A domain with no filter has no entry. Takes no memory.
+    pub(crate) fn change(&mut self, new: Option<NewShare>)
+        requires { HasRoom self.old new }
+        ensures { (q : ℕ) → value_at self.new.entries q ≡ value_with new self.old.entries q }
+    {
+        let Some(new) = new else {
+            return;
+        };
+        match &mut self.by_domain {
+            Some(by_domain) => put_share(by_domain, new.domain, new.share),
+            None => unreachable!(),
+        }
+    }
+}
+
+/// What a domain has; none where it has no entry.
+fn share_at(by_domain: &Sorted<Share>, domain: u16) -> Share
+    ensures { result ≡ share_in (value_at by_domain.now.entries domain) }
+{
+    match by_domain.get(u64::from(domain)) {
+        Some(share) => *share,
+        None => NONE,
+    }
+}
+
+/// Puts an empty map there where there is none.
+#[inline(never)]
+fn make_map(alloc: Global, by_domain: &mut Option<Box<Sorted<Share>>>) -> Result<(), AllocError>
+    ensures same { (shares_in by_domain.new).entries ≡ (shares_in by_domain.old).entries }
+    ensures there { OnOk result (IsSome by_domain.new) }
+{
+    if by_domain.is_none() {
+        *by_domain = Some(Box::new(alloc, Sorted::new(alloc))?);
+    }
+    Ok(())
+}
+
+/// Makes room for the entry of a domain that has none.
+fn reserve_for(by_domain: &mut Sorted<Share>, domain: u16) -> Result<(), AllocError>
+    ensures entries { by_domain.new.entries ≡ by_domain.old.entries }
+    ensures room { OnOk result (IsTrue (by_domain.new.ready || is_some (value_at by_domain.new.entries domain))) }
+{
+    if by_domain.contains(u64::from(domain)) {
+        return Ok(());
+    }
+    by_domain.reserve()
+}
+
+/// Puts the entry of a domain in place of what it had; there is none for no filter.
+fn put_share(by_domain: &mut Sorted<Share>, domain: u16, share: Share)
+    requires { IsTrue (by_domain.old.ready || is_some (value_at by_domain.old.entries domain)) }
+    ensures { (q : ℕ) → value_at by_domain.new.entries q ≡ (if q == domain then kept_share share else value_at by_domain.old.entries q) }
+{
+    let key = u64::from(domain);
+    if share.filters == 0 {
+        by_domain.remove(key);
+    } else if by_domain.contains(key) {
+        by_domain.set(key, share);
+    } else {
+        by_domain.insert_reserved(key, share);
+    }
 }
