@@ -3,7 +3,7 @@ use Rattle.std.proofs.Common.{◌≡◌, ◌≢◌, ◌+◌, ◌≤◌, inl, inr
 use Rattle.world_model.proofs.Lists.{get_more, same_or_not}
 use Rattle.core_links.specs.declared.ring_links.Link.{Link}
 use Rattle.core_links.specs.declared.ring_links.RingLinks.{RingLinks}
-use Rattle.core_links.specs.RingSlots.{own_of, cores_of, link_to, link_view, ring_view, AreJoinedSlots, AreJoinedLinks}
+use Rattle.core_links.specs.RingSlots.{own_of, places_of, link_to, link_view, ring_view, AreJoinedSlots, AreJoinedLinks}
 use Rattle.core_links.specs.Slots.{place_view}
 use Rattle.ump_ring.specs.Senders.{messages_offered, sender_capacity}
 use Rattle.ump_ring.specs.Receivers.{messages_taken}
@@ -11,7 +11,7 @@ use Rattle.core_links.specs.Flows.{HoldLines, place_capacity, ring_capacity}
 use Rattle.core_loop.specs.Standing.{IsSilent}
 use Rattle.core_boot.specs.Wiring.{AreSilent, IsWired, AreWired}
 
-pub wired_first : (cores : ℕ) (first : RingLinks) (others : List RingLinks) → own_of first ≡ 0 → cores_of first ≡ cores → ((p : ℕ) → link_to first p ≡ None) → others ≡ [] → AreWired cores 1 first others
+pub wired_first : (cores : ℕ) (first : RingLinks) (others : List RingLinks) → own_of first ≡ 0 → places_of first ≡ cores → ((p : ℕ) → link_to first p ≡ None) → others ≡ [] → AreWired cores 1 first others
 wired_first cores first others own room empty none = record {
   own = own;
   room = room;
@@ -41,7 +41,7 @@ holding first other a b at_a at_b is_a is_b = (
 )
 
 pub wired_more : (cores peer : ℕ) (first first' other : RingLinks) (others others' : List RingLinks) → AreWired cores peer first others
-    → own_of first' ≡ own_of first → cores_of first' ≡ cores_of first → ((p : ℕ) → p ≢ peer → link_to first' p ≡ link_to first p) → IsSilent (ring_view first' peer)
+    → own_of first' ≡ own_of first → places_of first' ≡ places_of first → ((p : ℕ) → p ≢ peer → link_to first' p ≡ link_to first p) → IsSilent (ring_view first' peer)
     → own_of other ≡ peer → AreSilent other → AreJoinedLinks first' other → HoldLines first' other → ((entry : ℕ) → link_to other (suc entry) ≡ None) → others' ≡ others ++ other ∷ [] → AreWired cores (peer + 1) first' others'
 wired_more cores peer first first' other others others' was own room same silent its_own its_silent joined holds no_other pushed = record {
   own = own ∙ was.own;

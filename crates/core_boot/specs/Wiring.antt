@@ -1,7 +1,8 @@
 -- The links between core 0 and each other core.
+-- No public clause cites these.
 use Rattle.std.specs.Prelude.{◌≡◌, ◌≤◌, ◌+◌, ℕ, suc, List, [], ◌∷◌, length, Some, None, slice_get}
 use Rattle.core_links.specs.declared.ring_links.RingLinks.{RingLinks}
-use Rattle.core_links.specs.RingSlots.{own_of, cores_of, link_to, ring_view, AreJoinedLinks}
+use Rattle.core_links.specs.RingSlots.{own_of, places_of, link_to, ring_view, AreJoinedLinks}
 use Rattle.core_links.specs.Flows.{HoldLines}
 use Rattle.core_loop.specs.Standing.{IsSilent}
 
@@ -20,7 +21,7 @@ pub record IsWired (entry : ℕ) (first other : RingLinks) : Type 0 where
 -- the links of core 0 among so many cores, joined to those of the other cores below this number
 pub record AreWired (cores peer : ℕ) (first : RingLinks) (others : List RingLinks) : Type 0 where
   pub own : own_of first ≡ 0
-  pub room : cores_of first ≡ cores
+  pub room : places_of first ≡ cores
   pub count : length others + 1 ≡ peer
   pub silent : AreSilent first
   pub free : (p : ℕ) → peer ≤ p → link_to first p ≡ None

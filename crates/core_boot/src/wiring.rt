@@ -1,7 +1,7 @@
 //! The rings between core 0 and each other core.
 
 ghost use Rattle.std.specs.Prelude.{◌≡◌, ◌≢◌, ◌<◌, ◌≤◌, ℕ, suc, None, IfOk};
-ghost use Rattle.core_links.specs.RingSlots.{own_of, cores_of, link_to, ring_view, AreJoinedLinks};
+ghost use Rattle.core_links.specs.RingSlots.{own_of, places_of, link_to, ring_view, AreJoinedLinks};
 ghost use Rattle.core_links.specs.Flows.{HoldLines};
 ghost use Rattle.core_loop.specs.Standing.{IsSilent};
 ghost use Rattle.core_boot.specs.Wiring.{AreSilent, IsWiring};
@@ -21,9 +21,9 @@ fn join_peer(
     cores: u16,
 ) -> Result<RingLinks, AllocError>
     requires peer { (0 < peer) × (peer < cores) }
-    requires first { (own_of first.old ≡ 0) × (cores_of first.old ≡ cores) }
+    requires first { (own_of first.old ≡ 0) × (places_of first.old ≡ cores) }
     requires once { link_to first.old peer ≡ None }
-    ensures place { (own_of first.new ≡ own_of first.old) × (cores_of first.new ≡ cores_of first.old) }
+    ensures place { (own_of first.new ≡ own_of first.old) × (places_of first.new ≡ places_of first.old) }
     ensures others { (p : ℕ) → p ≢ peer → link_to first.new p ≡ link_to first.old p }
     ensures silent { IfOk result (λ links. IsSilent (ring_view first.new peer) × AreSilent links) }
     ensures joined { IfOk result (λ links. (own_of links ≡ peer) × AreJoinedLinks first.new links) }
@@ -32,7 +32,8 @@ fn join_peer(
 {
     let (to_peer, from_first) = ring(alloc, RING_LINES)?;
     let (to_first, from_peer) = ring(alloc, RING_LINES)?;
-    let mut links = RingLinks::new(alloc, peer, cores)?;
+    // Core 0 is its one peer.
+    let mut links = RingLinks::new(alloc, peer, 1)?;
     let (bell, its_bell) = (first.bell()?, links.bell()?);
     first.join(peer, to_peer, from_peer, its_bell);
     links.join(0, to_first, from_first, bell);

@@ -13,6 +13,7 @@ use Rattle.endpoint_caps.proofs.table.Caps.TheSendSync as caps
 use Rattle.filter_table.proofs.limits.Limits.TheSendSync as limits
 use Rattle.installed_filters.proofs.receiving.Workspace.TheSendSync as workspace
 use Rattle.table_replica.proofs.boxed.BoxedFilters.TheSendSync as boxed
+use Rattle.table_replica.proofs.shares.Shares.TheSendSync as shares
 use Rattle.table_replica.proofs.Op.TheSendSync as op
 use Rattle.table_replica.proofs.Room.TheSendSync as room
 use Rattle.table_replica.specs.contracts.contents.Contents as contents
@@ -30,6 +31,7 @@ use Rattle.rx_queue.proofs.intake.Intake.TheSendSync as intake
 use Rattle.world_histories.proofs.history.Stamped.TheSendSync as stamped
 use Rattle.ghost_log.proofs.Log.TheSendSync as log
 use Rattle.core_loop.proofs.cause.Cause.TheSendSync as cause
+use Rattle.core_loop.specs.contracts.part.BoxedPart as boxed_part
 use Rattle.core_loop.specs.contracts.part.Part as part
 use Rattle.core_loop.specs.contracts.running.Core as core
 use Rattle.core_loop.specs.contracts.running.Core.TheInside as inside
@@ -44,7 +46,7 @@ plan_send : IsSend plan.the_row
 plan_send = search (sendable, crosses, snapshot_send) depth 20
 
 contents_send : IsSend contents.the_row
-contents_send = search (sendable, crosses, limits.the_send, caps.the_send, boxed.the_send, plan_send) depth 24
+contents_send = search (sendable, crosses, limits.the_send, caps.the_send, boxed.the_send, shares.the_send, plan_send) depth 24
 
 replica_send : IsSend replica.the_row
 replica_send = search (sendable, contents_send) depth 14
@@ -58,6 +60,9 @@ other_core_field_send = search (sendable, replica_send, participant.the_send, ro
 part_send : IsSend part.the_field.row
 part_send = enum_send (enums.shape part.the_type) ((core0_field_send, tt), ((other_core_field_send, tt), tt))
 
+boxed_part_send : IsSend boxed_part.the_row
+boxed_part_send = search (sendable, crosses, part_send) depth 20
+
 inside_send : IsSend (inside.the_row links.the_row links_impl.ghosts)
 inside_send =
     recorded_send _ _ _ (inside.the_type links.the_row links_impl.ghosts).to_one (struct_send (structs.shape (inside.the_type links.the_row links_impl.ghosts)) (
@@ -69,7 +74,7 @@ inside_send =
           (
             search (sendable, ring_links.the_send) depth 14,
             (
-              search (sendable, part_send) depth 14,
+              search (sendable, boxed_part_send) depth 14,
               (
                 search sendable depth 14,
                 (

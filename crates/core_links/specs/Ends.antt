@@ -1,4 +1,5 @@
 -- The ends of rings at which nothing is, as far as they know.
+-- No public clause cites these.
 use Rattle.std.specs.Prelude.{◌≡◌, ◌&&◌, ℕ, Bool, true, false, List, [], ◌∷◌, Option, Some, None, is_none, slice_index_or}
 use Rattle.ump_ring.specs.Receivers.{message_kept, stopped, lines_known}
 use Rattle.core_links.specs.declared.ring_links.Link.{Link}

@@ -1,4 +1,5 @@
 -- Sameness of links over lists is reflexive and transitive, and they tell all and never stop.
+-- No public clause cites these.
 use Rattle.std.specs.Prelude.{◌≡◌, ℕ, true, Option, Some, None, refl}
 use Rattle.std.proofs.Common.{◌∙◌}
 use Rattle.core_links.specs.declared.list_links.ListLink.{ListLink}

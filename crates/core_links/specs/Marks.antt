@@ -1,4 +1,5 @@
 -- What the marks of a core's links over rings say, in a bit for each of the first 64 peers.
+-- No public clause cites these.
 use Rattle.std.specs.Prelude.{◌≡◌, ◌<◌, ◌≤◌, ◌||◌, ℕ, Bool, false, cond, List, Option, Some, None, is_some, slice_index_or}
 use Rattle.std.specs.Int.{bit_at}
 use Rattle.ump_ring.specs.Senders.{current}

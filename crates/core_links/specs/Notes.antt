@@ -1,4 +1,5 @@
 -- What a note changes in the marks.
+-- No public clause cites these.
 use Rattle.std.specs.Prelude.{◌≡◌, ◌≢◌, ◌<◌, ◌||◌, ℕ, Bool, true, false}
 use Rattle.std.specs.Int.{bit_at}
 use Rattle.core_links.specs.declared.marks.Marks.{Marks}

@@ -1,4 +1,5 @@
 -- What a pump does to the links over rings.
+-- No public clause cites these.
 use Rattle.std.specs.Prelude.{◌≡◌, ◌≢◌, ◌<◌, ℕ, false, cond, List, Option, None, slice_index_or}
 use Rattle.std.specs.Int.{bit_at}
 use Rattle.core_links.specs.declared.marks.Marks.{Marks}

@@ -9,12 +9,12 @@ use Rattle.core_links.specs.declared.ring_links.RingLinks.{RingLinks}
 use Rattle.core_links.specs.Views.{LinkView}
 use Rattle.core_links.specs.Slots.{SamePlace, place_view}
 
--- the core that has these links, and the count of cores
+-- the core that has these links, and how many places there are: those of the peers from core 0 on
 abbrev pub own_of : RingLinks → ℕ
 own_of r = r.own
 
-abbrev pub cores_of : RingLinks → ℕ
-cores_of r = vec_len r.slots
+abbrev pub places_of : RingLinks → ℕ
+places_of r = vec_len r.slots
 
 -- the link to a peer, if it was joined
 abbrev pub link_to : RingLinks → ℕ → Option Link
@@ -49,7 +49,7 @@ SameSlot old new = SamePlace SameLink old new
 -- the same links of the same core, before and after a call
 pub record SameLinks (old new : RingLinks) : Type 0 where
   pub own : own_of new ≡ own_of old
-  pub count : cores_of new ≡ cores_of old
+  pub count : places_of new ≡ places_of old
   pub each : (peer : ℕ) → SameSlot (link_to old peer) (link_to new peer)
 
 -- the two links that one pair of rings joins

@@ -75,16 +75,16 @@ impl RingLinks {
     ghost use Rattle.ump_ring.specs.Joiners.{shown_items};
     ghost use Rattle.core_links.specs.Views.{IsSameView};
     ghost use Rattle.core_links.specs.Flows.{IsExactAt, IsResting, LooksAt, ring_flow};
-    ghost use Rattle.core_links.specs.RingSlots.{own_of, cores_of, link_to, last_of, ring_view, SameLinks, AreJoinedLinks};
+    ghost use Rattle.core_links.specs.RingSlots.{own_of, places_of, link_to, last_of, ring_view, SameLinks, AreJoinedLinks};
 
-    /// The links of core `own` among `cores` cores, to no peer yet. The one error is that there is no memory.
-    pub fn new(alloc: Global, own: u16, cores: u16) -> Result<RingLinks, AllocError>
-        requires { own < cores }
-        ensures place { IfOk result (λ r. (own_of r ≡ own) × (cores_of r ≡ cores)) }
+    /// The links of core `own`, with places for those to so many peers, from core 0 on. It has none yet. The one error is that there is
+    /// no memory.
+    pub fn new(alloc: Global, own: u16, places: u16) -> Result<RingLinks, AllocError>
+        ensures place { IfOk result (λ r. (own_of r ≡ own) × (places_of r ≡ places)) }
         ensures empty { IfOk result (λ r. (p : ℕ) → link_to r p ≡ None) }
     {
-        let mut slots = Vec::with_capacity(alloc, usize::from(cores))?;
-        for _ in 0..cores {
+        let mut slots = Vec::with_capacity(alloc, usize::from(places))?;
+        for _ in 0..places {
             slots.push(None)?;
         }
         Ok(RingLinks {
@@ -105,9 +105,9 @@ impl RingLinks {
 
     /// Joins the link to a peer, once, by the sender of one ring and the receiver of another, and with the peer's bell. Takes no memory.
     pub fn join(&mut self, peer: u16, sender: Sender, receiver: Receiver, bell: Bell)
-        requires peer { (peer < cores_of self.old) × (peer ≢ own_of self.old) }
+        requires peer { (peer < places_of self.old) × (peer ≢ own_of self.old) }
         requires once { link_to self.old peer ≡ None }
-        ensures place { (own_of self.new ≡ own_of self.old) × (cores_of self.new ≡ cores_of self.old) }
+        ensures place { (own_of self.new ≡ own_of self.old) × (places_of self.new ≡ places_of self.old) }
         ensures joined { link_to self.new peer ≡ Some (record { sender = sender; receiver = receiver; moved = false; bell = bell }) }
         ensures others { (p : ℕ) → p ≢ peer → link_to self.new p ≡ link_to self.old p }
     {

@@ -1,4 +1,5 @@
 -- What an attempt at one event comes to, each fact by its name.
+-- No public clause cites these.
 use Rattle.std.specs.Prelude.{◌≡◌, ◌<◌, ℕ, Bool, true, false, List, Option, Result, IfErr}
 use Rattle.filter_table.specs.declared.operation.Op.{Op}
 use Rattle.rx_queue.specs.declared.intake.Intake.{Intake}

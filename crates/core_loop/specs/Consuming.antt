@@ -1,4 +1,5 @@
 -- What a core's event takes of its requests and jobs, and when there is no event.
+-- No public clause cites these.
 use Rattle.std.specs.Prelude.{◌≡◌, ◌++◌, [], ℕ, Bool, false, List}
 use mathlib.Core.List.{IsPrefix}
 use Rattle.filter_table.specs.declared.operation.Op.{Op}

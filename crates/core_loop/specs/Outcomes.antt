@@ -1,4 +1,5 @@
 -- What an attempt at an event comes to: the event, nothing to do, or a reason why it is not done now.
+-- No public clause cites these.
 use Rattle.std.specs.Prelude.{Option, Some, None, Result, Ok, Err}
 use Rattle.world_histories.specs.declared.history.Stamped.{Stamped}
 

@@ -1,4 +1,5 @@
 -- Messages that are made ready to be sent.
+-- No public clause cites these.
 use Rattle.std.specs.Prelude.{◌≡◌, ◌≢◌, ◌<◌, ◌≤◌, ℕ, max, true, false, All, List, Option, None, Some, length, Vec}
 use Rattle.std.specs.Global.{Global}
 use Rattle.monitor_messages.specs.declared.message.Message.{Message}

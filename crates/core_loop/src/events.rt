@@ -112,6 +112,8 @@ pub(crate) fn take<L: Links>(
 }
 
 /// Takes the first message that is kept of a peer, which has one, where the links that its answer needs take messages.
+// Not in line, so that a request that is begun instead has its room on the stack.
+#[inline(never)]
 pub(crate) fn take_kept<L: Links>(
     part: &mut Part,
     links: &mut L,

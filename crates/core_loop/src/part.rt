@@ -3,6 +3,7 @@
 use core_steps::{Core0, OtherCore};
 use filter_table::Limits;
 use std::alloc::{AllocError, Global};
+use std::marker::Model;
 use table_replica::Replica;
 
 /// Core 0 coordinates; every other core takes part. Each has its replica of the table.
@@ -17,8 +18,6 @@ impl Part {
     ghost use Rattle.core_links.specs.Views.{LinkView};
     ghost use Rattle.monitor_2pc.specs.declared.most.TheConstants.{MOST_CORES};
     ghost use Rattle.core_loop.specs.Keeping.{IsStanding, replica_of};
-    ghost use Rattle.core_loop.specs.Answering.{count_if, under_way};
-    ghost use Rattle.core_loop.specs.Owning.{asks_itself};
     ghost use Rattle.core_loop.specs.Standing.{IsSilent};
 
     /// The part of a core of this number, which has done nothing yet.
@@ -43,11 +42,58 @@ impl Part {
         }
     }
 
+    /// The core's replica.
+    pub(crate) fn replica(&self) -> &Replica
+        ensures { result.now ≡ replica_of self.now }
+    {
+        match self {
+            Part::Core0(core) => &core.replica,
+            Part::OtherCore(core) => &core.replica,
+        }
+    }
+}
+
+/// A core's part on the heap, so that a core is small and its moves take little of the stack.
+pub(crate) struct BoxedPart {
+    pub(crate) inner: Box<Part>,
+}
+
+// By hand, so that the proofs of its owners have one call and not a drop of each part.
+impl Drop for BoxedPart {
+    fn drop(self) {
+        let BoxedPart { inner: _ } = self;
+    }
+}
+
+impl Model for BoxedPart {
+    ghost use Rattle.std.specs.Box.{box_value};
+    ghost use Rattle.core_loop.specs.declared.part.Part.{Part};
+
+    ghost Value = { Part };
+
+    ghost view = { λ a. box_value a.inner };
+}
+
+impl BoxedPart {
+    ghost use Rattle.std.specs.Prelude.{◌≡◌, IfOk};
+    ghost use Rattle.core_loop.specs.Keeping.{replica_of};
+    ghost use Rattle.core_loop.specs.Answering.{count_if, under_way};
+    ghost use Rattle.core_loop.specs.Owning.{asks_itself};
+
+    /// This part.
+    #[inline(never)]
+    pub(crate) fn of(alloc: Global, part: Part) -> Result<BoxedPart, AllocError>
+        ensures { IfOk result (λ boxed. boxed ≡ part) }
+    {
+        let inner = Box::new(alloc, part)?;
+        Ok(BoxedPart { inner })
+    }
+
     /// Whether core 0 has no request of another core under way.
     pub(crate) fn asks_itself(&self) -> bool
         ensures { result ≡ asks_itself self.now }
     {
-        match self {
+        match &*self.inner {
             Part::Core0(core) => core.coordinator.asker().is_none(),
             Part::OtherCore(_) => false,
         }
@@ -57,7 +103,7 @@ impl Part {
     pub(crate) fn has_under_way(&self) -> bool
         ensures { count_if result ≡ under_way self.now }
     {
-        match self {
+        match &*self.inner {
             Part::Core0(core) => core.coordinator.voting() && core.coordinator.asker().is_none(),
             Part::OtherCore(core) => core.participant.outstanding(),
         }
@@ -67,9 +113,6 @@ impl Part {
     pub(crate) fn replica(&self) -> &Replica
         ensures { result.now ≡ replica_of self.now }
     {
-        match self {
-            Part::Core0(core) => &core.replica,
-            Part::OtherCore(core) => &core.replica,
-        }
+        self.inner.replica()
     }
 }

@@ -20,6 +20,8 @@ use world_events::{Answer, Done, Event};
 use world_histories::Stamped;
 
 /// Receives the front job of a core, if it has one whose floor is at most its version.
+// Not in line, so that a request that is begun instead has its room on the stack.
+#[inline(never)]
 pub(crate) fn receive(
     replica: &Replica,
     intake: &mut Intake,

@@ -6,10 +6,10 @@ use crate::cause::{Cause, Turn};
 use crate::context::Context;
 use crate::deciding::decision_of;
 use crate::noting::{last_begun_with, noted};
-use crate::part::Part;
+use crate::part::{BoxedPart, Part};
 use crate::refusal::Halt;
 use crate::sending::all_ready;
-use crate::turning::next_event;
+use crate::turning::next_event_of;
 use core_links::Links;
 use filter_table::{Limits, Op};
 use ghost_log::Log;
@@ -26,7 +26,7 @@ pub struct Core<L: Links> {
     pub(crate) number: u16,
     pub(crate) cores: u16,
     pub(crate) links: L,
-    pub(crate) part: Part,
+    pub(crate) part: BoxedPart,
     pub(crate) clock: u64,
     pub(crate) requests: VecDeque<Op>,
     // How many requests it was given, no count above 2^64 - 1.
@@ -124,13 +124,14 @@ impl<L: Links> Core<L> {
         ensures requests { IfOk result (λ core. core.pending ≡ requests.items) }
     {
         let part = Part::new(alloc, limits, budget, number, cores)?;
+        let boxed = BoxedPart::of(alloc, part)?;
         let given = requests.len() as u64;
         Ok(Core {
             alloc,
             number,
             cores,
             links,
-            part,
+            part: boxed,
             clock: 0,
             requests,
             given,
@@ -195,7 +196,7 @@ impl<L: Links> Core<L> {
             clock: self.clock,
             begun_last: self.begun_last,
         };
-        match next_event(
+        match next_event_of(
             &mut self.part,
             &mut self.links,
             &mut self.requests,
@@ -278,7 +279,7 @@ impl<L: Links> Core<L> {
     pub fn idle(&self) -> bool
         ensures { IsTrue result ↔ HasNothingUnderWay self.now.cores self.now.part (L.view self.now.links) }
     {
-        match &self.part {
+        match &*self.part.inner {
             Part::Core0(core) => core.coordinator.idle() && all_ready(&self.links, self.cores - 1),
             Part::OtherCore(core) => !core.participant.outstanding(),
         }

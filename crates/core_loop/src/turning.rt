@@ -12,7 +12,7 @@ use crate::cause::Cause;
 use crate::context::Context;
 use crate::events::first_event;
 use crate::looking::{can_receive, has_request, least_showing};
-use crate::part::Part;
+use crate::part::{BoxedPart, Part};
 use crate::refusal::Halt;
 use core_links::Links;
 use filter_table::Op;
@@ -23,7 +23,7 @@ use world_histories::Stamped;
 
 /// Does the next event of a core, if there is one. It takes no memory where there is no message, no request and no job that it
 /// can receive.
-pub(crate) fn next_event<L: Links>(
+fn next_event<L: Links>(
     part: &mut Part,
     links: &mut L,
     requests: &mut VecDeque<Op>,
@@ -49,6 +49,37 @@ pub(crate) fn next_event<L: Links>(
         return Ok(None);
     }
     first_event(part, links, requests, intake, workspace, shown, context, rx)
+}
+
+/// The same of a part that is on the heap.
+// Not in line, so that what a turn does afterwards takes no room on the stack while it works.
+#[inline(never)]
+pub(crate) fn next_event_of<L: Links>(
+    part: &mut BoxedPart,
+    links: &mut L,
+    requests: &mut VecDeque<Op>,
+    intake: &mut Intake,
+    workspace: &mut Workspace,
+    context: Context,
+    rx: bool,
+) -> Result<Option<Stamped>, Halt>
+    requires cores { 1 ≤ context.cores }
+    requires fits { IsFitting context.number context.cores part.old }
+    requires short { AreShort context.number requests.old.items }
+    ensures { LooksAndAttempts L.view L.flow L.same context rx
+        (record { part = part.old; links = links.old; requests = requests.old.items; intake = intake.old })
+        (record { part = part.new; links = links.new; requests = requests.new.items; intake = intake.new })
+        result }
+{
+    next_event(
+        &mut part.inner,
+        links,
+        requests,
+        intake,
+        workspace,
+        context,
+        rx,
+    )
 }
 
 // Whether there is a message, a request, or a job that can be received.

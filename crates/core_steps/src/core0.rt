@@ -52,9 +52,12 @@ impl Core0 {
         ensures coordinator { IfOk result (λ core. core.coordinator ≡ record { others = cores - 1; last = 0; phase = Idle; requests = no_requests (cores - 1) }) }
         ensures between { IfOk result BetweenSteps }
     {
+        // The replica comes last, so that no error path has it to give up: that takes much of the stack.
+        let coordinator = Coordinator::new(alloc, cores, 0)?;
+        let replica = Replica::with_limits(alloc, limits, budget)?;
         Ok(Core0 {
-            replica: Replica::with_limits(alloc, limits, budget)?,
-            coordinator: Coordinator::new(alloc, cores, 0)?,
+            replica,
+            coordinator,
         })
     }
 

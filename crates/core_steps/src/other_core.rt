@@ -50,11 +50,15 @@ impl OtherCore {
         ensures participant { IfOk result (λ core. core.participant ≡ record { last = 0; voted = None; outstanding = false }) }
         ensures between { IfOk result IsBetweenSteps }
     {
+        let room = Room::new(alloc)?;
+        let spare = Spare::new(alloc)?;
+        // The replica comes last, so that no error path has it to give up: that takes much of the stack.
+        let replica = Replica::with_limits(alloc, limits, budget)?;
         Ok(OtherCore {
-            replica: Replica::with_limits(alloc, limits, budget)?,
+            replica,
             participant: Participant::new(0),
-            room: Room::new(alloc)?,
-            spare: Spare::new(alloc)?,
+            room,
+            spare,
         })
     }
 
