@@ -146,7 +146,7 @@ module _ (limits : TableLimits) (budget : ℕ) (budgets : List ℕ) where
   reached_settles : (s s' : Simulation) (text : List ℕ) → Reached limits budget budgets s.world → SettlesAll s s' text → Reached limits budget budgets s'.world
   reached_settles s s' text run settles = reached_drained settles.rest (reached_settled limits budget budgets s.world settles.quiet settles.first.taken run settles.first.settles)
 
-  reached_does : (s s' : Simulation) (i : Item) (text : List ℕ) → Reached limits budget budgets s.world → Does s i s' text → Reached limits budget budgets s'.world
+  pub reached_does : (s s' : Simulation) (i : Item) (text : List ℕ) → Reached limits budget budgets s.world → Does s i s' text → Reached limits budget budgets s'.world
   reached_does s s' (item.Ask home op) text run does = subst (λ (x : Simulation). Reached limits budget budgets x.world) (sym does.0) run
   reached_does s s' item.Begin text run does = reached_begun s s' way.Start text run does
   reached_does s s' (item.Submit core) text run does = reached_begun s s' (way.Submit core) text run does

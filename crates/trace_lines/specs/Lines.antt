@@ -1,5 +1,5 @@
 -- Which event a line tells of, as `sim` and `run` print it: what is done, `:`, and the answer.
-use Rattle.std.specs.Prelude.{ℕ, ◌==◌, ◌+◌, ◌*◌, ◌-◌, ◌&&◌, ◌||◌, nat_lt, nat_le, if◌then◌else◌, Bool, List, [], ◌∷◌, length, codes, Option, Some, None}
+use Rattle.std.specs.Prelude.{ℕ, ◌==◌, ◌+◌, ◌*◌, ◌-◌, ◌&&◌, ◌||◌, nat_lt, nat_le, if◌then◌else◌, Bool, false, List, [], ◌∷◌, length, codes, Option, Some, None}
 use Rattle.std.specs.List.{list_all, list_any, before_first, after_first}
 use Rattle.std.specs.Str.{bytes_eq}
 use Rattle.bpf_insn.specs.Texts.{words_of}
@@ -100,6 +100,11 @@ pub record Shown : Type 0 where
   -- its line
   pub text : List ℕ
 
+-- nothing was asked for at this core
+abbrev pub is_unasked : List (List ℕ) → List (List ℕ) → Bool
+is_unasked (word ∷ core ∷ []) told = (bytes_eq word (codes "submit") && is_number core) && (says (codes "fault") told && bytes_eq (word_at told 1) (codes "Nothing"))
+is_unasked _ told = false
+
 -- what a line is: one that isn't drawn, no line of a trace, or an event's
 pub data Said : Type 0 where
   Skipped : Said
@@ -114,12 +119,13 @@ abbrev pub said_told : List ℕ → List (List ℕ) → Act → Option TraceAnsw
 said_told line words a None = Bad
 said_told line words a (Some t) = Done (record { event = record { act = a; told = t }; no = list_any is_no words; version = version_of t words; text = line })
 
-abbrev pub said_act : List ℕ → List (List ℕ) → Option Act → Said
-said_act line words None = Bad
-said_act line words (Some a) = said_told line words a (told_of a words)
+-- where nothing was asked for at a core that isn't there, nothing is drawn
+abbrev pub said_act : List ℕ → List (List ℕ) → List (List ℕ) → Option Act → Said
+said_act line done words None = if is_unasked done words then Skipped else Bad
+said_act line done words (Some a) = said_told line words a (told_of a words)
 
 abbrev pub said_parts : List ℕ → List ℕ → List ℕ → Said
-said_parts line before behind = said_act line (words_of behind) (act_of (words_of before))
+said_parts line before behind = said_act line (words_of before) (words_of behind) (act_of (words_of before))
 
 abbrev pub said_of : List ℕ → Said
 said_of line =

@@ -221,11 +221,29 @@ fn is_skipped(words: &[&[u8]]) -> bool
         || word_at(words, words.len().saturating_sub(1)) == b"NoSuchCore".as_slice()
 }
 
-fn read_act<'a>(line: &'a [u8], words: &[&'a [u8]], act: Option<Act>) -> Read<'a>
-    ensures { said result ≡ spec.said_act line.now (texts words.now) act }
+/// Whether nothing was asked for at this core, by the words before the colon and those after it.
+fn is_unasked(done: &[&[u8]], told: &[&[u8]]) -> bool
+    ensures { result ≡ spec.is_unasked (texts done.now) (texts told.now) }
+{
+    match done {
+        [word, core] => {
+            (*word == b"submit".as_slice() && is_number(core))
+                && (says(b"fault".as_slice(), told) && word_at(told, 1) == b"Nothing".as_slice())
+        }
+        _ => false,
+    }
+}
+
+/// What the line of an act is, if it is an act. Nothing is drawn where nothing was asked for at a core that isn't there.
+fn read_act<'a>(line: &'a [u8], done: &[&[u8]], words: &[&'a [u8]], act: Option<Act>) -> Read<'a>
+    ensures { said result ≡ spec.said_act line.now (texts done.now) (texts words.now) act }
 {
     let Some(act) = act else {
-        return Read::Bad;
+        return if is_unasked(done, words) {
+            Read::Skipped
+        } else {
+            Read::Bad
+        };
     };
     let Some(told) = told_of(act, words) else {
         return Read::Bad;
@@ -248,7 +266,7 @@ fn read_parts<'a>(
 {
     let before = words(alloc, before)?;
     let after = words(alloc, after)?;
-    Ok(read_act(line, &after, act_of(&before)))
+    Ok(read_act(line, &before, &after, act_of(&before)))
 }
 
 /// What a line is.

@@ -31,10 +31,10 @@ use Rattle.trace_runs.proofs.Counting.{packets_done, a_line_each, left_shown}
 use Rattle.trace_runs.proofs.Shown.{sim_shown, sim_only}
 
 -- a job that is left, by its core and its number
-abbrev by_number : List (ℕ × Job) → List (ℕ × ℕ)
+abbrev pub by_number : List (ℕ × Job) → List (ℕ × ℕ)
 by_number left = map (λ l. (l.0, l.1.number)) left
 
-left_is : (left : List (ℕ × Job)) → left_lines left ≡ flat_map (λ l. left_line l.0 l.1) (by_number left)
+pub left_is : (left : List (ℕ × Job)) → left_lines left ≡ flat_map (λ l. left_line l.0 l.1) (by_number left)
 left_is [] = refl
 left_is (l ∷ left) = ap (λ (t : List ℕ). left_line l.0 l.1.number ++ t) (left_is left)
 

@@ -7,3 +7,4 @@ pub mod Shown
 pub mod Naming
 pub mod Counting
 pub mod Joined
+pub mod Outputs

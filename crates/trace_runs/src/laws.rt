@@ -1,6 +1,6 @@
 //! Laws, each the contract of a function that does nothing.
 
-ghost use Rattle.std.specs.Prelude.{◌≡◌, ◌∷◌, ◌⊎◌, ℕ, All, List, Ok};
+ghost use Rattle.std.specs.Prelude.{◌≡◌, ◌∷◌, ◌⊎◌, ℕ, All, List, Ok, map};
 ghost use Rattle.filter_table.specs.Limits.{TableLimits};
 ghost use Rattle.std.specs.List.{flat_map};
 ghost use Rattle.world_events.specs.declared.event.Done.{Done};
@@ -17,6 +17,9 @@ ghost use Rattle.mk_script.specs.Threads.{for_simulation, for_threads};
 ghost use Rattle.sim_engine.specs.Showing.{ShowsSim};
 ghost use Rattle.sim_engine.specs.Simulations.{Simulation};
 ghost use Rattle.run_engine.specs.Showing.{ShowsRun};
+ghost use Rattle.trace_lines.specs.Lines.{Shown};
+ghost use Rattle.trace_lines.specs.Traces as drawn;
+ghost use Rattle.trace_text.specs.Reading.{shown_done};
 ghost use Rattle.trace_text.specs.Traces.{EndsInLf, traced_script};
 ghost use Rattle.world_events.specs.Memory.{WasNotRefused};
 ghost use Rattle.trace_runs.specs.Printed.{event_lines, events_of, with_trace};
@@ -59,6 +62,13 @@ pub fn sim_shows_the_trace()
         AreFiles files → AllShort input files → script.budgets ≡ budget ∷ budgets → RanScript script.limits budget budgets script.items end ends merged → All WasNotRefused (as_listed merged) →
         Stands (for_simulation files) input (Ok (traced_script script (as_listed merged))) → ShowsSim files input status text →
         (status ≡ 0) × ((text ≡ flat_map done_line (as_listed merged)) ⊎ DiffersByMemory (as_listed merged) text) }
+{}
+
+/// `draw` reads all that `sim` and `run` show of a script that stands: of a run it draws every event, in order, and nothing else.
+pub fn outputs_are_drawn()
+    ensures sim { (files : List (List ℕ)) (input text : List ℕ) → ShowsSim files input 0 text → (shown : List Shown) × (drawn.trace_of text ≡ Ok shown) }
+    ensures run { (files : List (List ℕ)) (input : List ℕ) (script : Script) (text : List ℕ) (run : ShowsRun script text) → AllShort input files → Stands (for_threads files) input (Ok script) →
+        drawn.trace_of text ≡ Ok (map shown_done (events_of run)) }
 {}
 
 /// What `run` printed of a script, given to `sim` after the script and a line `trace`: `sim` can show the lines of the run's events

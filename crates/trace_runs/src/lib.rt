@@ -8,6 +8,6 @@
 mod laws;
 
 pub use laws::{
-    merged_runs_are_done_again, printed_runs_are_done_again, runs_are_done_again,
-    sim_shows_the_trace,
+    merged_runs_are_done_again, outputs_are_drawn, printed_runs_are_done_again,
+    runs_are_done_again, sim_shows_the_trace,
 };

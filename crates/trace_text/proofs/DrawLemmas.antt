@@ -1,5 +1,5 @@
 -- What `draw` reads of a printed line, and of a text of printed lines.
-use Rattle.std.proofs.Common.{◌≡◌, ℕ, ◌<◌, ◌+◌, ◌-◌, Bool, true, false, ◌||◌, List, [], ◌∷◌, ◌++◌, length, Some, Result, Ok, Err, refl, sym, ap, ◌∙◌, arith, append_assoc, append-nil}
+use Rattle.std.proofs.Common.{◌≡◌, ℕ, ◌<◌, ◌+◌, ◌-◌, Bool, true, false, ◌||◌, ◌⊎◌, inl, inr, List, [], ◌∷◌, ◌++◌, length, Option, Some, None, Result, Ok, Err, refl, sym, ap, subst, ◌∙◌, arith, append_assoc, append-nil}
 use Rattle.std.specs.Prelude.{codes, if◌then◌else◌}
 use Rattle.std.specs.Fmt.{decimal}
 use Rattle.std.specs.List.{flat_map, list_all, list_any, slice_split, position_or_len, before_first, after_first}
@@ -9,12 +9,14 @@ use Rattle.std.proofs.lemmas.List.Folds.{list_all-append}
 use Rattle.std.proofs.lemmas.List.Splits.{slice_split_at}
 use Rattle.bpf_insn.specs.Texts.{words_of}
 use Rattle.line_words.specs.Words.{word_at}
+use Rattle.filter_table.specs.declared.operation.Op.{Op}
 use Rattle.world_events.specs.declared.event.Event.{Event}
 use Rattle.world_events.specs.declared.event.Event.TheVariants.{Start, Submit, StartFor, Take, Rx}
 use Rattle.world_events.specs.declared.event.Answer.{Answer}
 use Rattle.world_events.specs.declared.fault.WorldFault.{WorldFault}
-use Rattle.world_events.specs.declared.fault.WorldFault.TheVariants.{NoSuchCore}
+use Rattle.world_events.specs.declared.fault.WorldFault.TheVariants.{NoSuchCore, Nothing}
 use Rattle.trace_lines.specs.declared.event.Act.{Act}
+use Rattle.trace_lines.specs.declared.event.Act.TheVariants as act
 use Rattle.trace_lines.specs.declared.event.TraceAnswer.{TraceAnswer}
 use Rattle.trace_lines.specs.declared.event.TraceAnswer.TheVariants as told
 use Rattle.trace_lines.specs.Lines as lines
@@ -25,6 +27,7 @@ use Rattle.sim_lines.specs.Events.{event_words, told_words, event_line}
 use Rattle.trace_text.specs.Reading.{act_of, told_of, says_no, version_of, text_of, shown_of, IsAtCores, CanDraw}
 use Rattle.trace_text.proofs.TextLemmas.{is_lf, is_colon, Lacks, lacks_append, lacks_all, decimal_colon}
 use Rattle.trace_text.proofs.LineLemmas.{before_at, after_at}
+use Rattle.trace_text.proofs.DigitLemmas.{decimal_number}
 use Rattle.trace_text.proofs.WordLemmas.{is_word, spaced, plains_lf, words_spaced, plain_spaced}
 use Rattle.trace_text.proofs.ToldLemmas.{event_parts, event_spaced, event_are, colon_parts, colon_spaced, colon_are, acts, told_parts, told_spaced, told_are, told_some, ends_missing, last_missing, missing_behind, answer_core, answer_no, tells, comes}
 
@@ -92,23 +95,45 @@ said_line : (line before behind : List ℕ) → is_skipped (words_of line) ≡ f
     → said_of line ≡ lines.said_parts line before behind
 said_line line before behind skipped plain front back = rw (skipped, plain, front, back) refl
 
-said_event : (line : List ℕ) (bs ts : List (List ℕ)) (a : Act) (t : TraceAnswer) (denied : Bool) (version : List ℕ) → lines.act_of bs ≡ Some a → lines.told_of a ts ≡ Some t → list_any is_no ts ≡ denied → lines.version_of t ts ≡ version
-    → lines.said_act line ts (lines.act_of bs) ≡ lines.Done (record { event = record { act = a; told = t }; no = denied; version = version; text = line })
-said_event line bs ts a t denied version is tells' no' comes' =
-    ap (lines.said_act line ts) is ∙ ap (lines.said_told line ts a) tells' ∙ (λ i. lines.Done (record { event = record { act = a; told = t }; no = no' i; version = comes' i; text = line }))
+said_event : (line : List ℕ) (done bs ts : List (List ℕ)) (a : Act) (t : TraceAnswer) (denied : Bool) (version : List ℕ) → lines.act_of bs ≡ Some a → lines.told_of a ts ≡ Some t → list_any is_no ts ≡ denied → lines.version_of t ts ≡ version
+    → lines.said_act line done ts (lines.act_of bs) ≡ lines.Done (record { event = record { act = a; told = t }; no = denied; version = version; text = line })
+said_event line done bs ts a t denied version is tells' no' comes' =
+    ap (lines.said_act line done ts) is ∙ ap (lines.said_told line ts a) tells' ∙ (λ i. lines.Done (record { event = record { act = a; told = t }; no = no' i; version = comes' i; text = line }))
+
+-- what its words say
+words_say : (e : Event) (t : Result Answer WorldFault) → ends_missing (told_parts t) ≡ false
+    → said_of (line_text e t) ≡ lines.said_act (line_text e t) (event_parts e) (told_parts t) (lines.act_of (event_parts e))
+words_say e t ends =
+    let line = line_text e t in
+    let before = event_words e in
+    let behind = 32 ∷ told_words t in
+    said_line line before behind (line_skipped e t false ends) (line_plain e t) (before_at is_colon 58 before behind refl (words_colon e)) (after_at is_colon 58 before behind refl (words_colon e))
+    ∙ ap (λ ts. lines.said_act line (words_of before) ts (lines.act_of (words_of before))) (behind_words t)
+    ∙ ap (λ bs. lines.said_act line bs (told_parts t) (lines.act_of bs)) (event_words_are e)
 
 -- the event that a line tells of
 said_parts_are : (e : Event) (t : Result Answer WorldFault) (told' : TraceAnswer) (denied : Bool) (version : List ℕ) → IsAtCores e → ends_missing (told_parts t) ≡ false
     → lines.told_of (act_of e) (told_parts t) ≡ Some told' → list_any is_no (told_parts t) ≡ denied → lines.version_of told' (told_parts t) ≡ version
     → said_of (line_text e t) ≡ lines.Done (record { event = record { act = act_of e; told = told' }; no = denied; version = version; text = line_text e t })
 said_parts_are e t told' denied version at ends tells' no' comes' =
-    let line = line_text e t in
-    let before = event_words e in
-    let behind = 32 ∷ told_words t in
-    said_line line before behind (line_skipped e t false ends) (line_plain e t) (before_at is_colon 58 before behind refl (words_colon e)) (after_at is_colon 58 before behind refl (words_colon e))
-    ∙ ap (λ ts. lines.said_act line ts (lines.act_of (words_of before))) (behind_words t)
-    ∙ ap (λ bs. lines.said_act line (told_parts t) (lines.act_of bs)) (event_words_are e)
-    ∙ said_event line (event_parts e) (told_parts t) (act_of e) told' denied version (acts e at) tells' no' comes'
+    words_say e t ends ∙ said_event (line_text e t) (event_parts e) (event_parts e) (told_parts t) (act_of e) told' denied version (acts e at) tells' no' comes'
+
+-- Nothing was asked for
+
+-- whichever core it is
+unasked_says : (core : ℕ) (op : Op) (found : Option ℕ) → lines.core_of (decimal core) ≡ found
+    → (said_of (line_text (Submit core op) (Err Nothing)) ≡ lines.Skipped) ⊎ ((x : Shown) × (said_of (line_text (Submit core op) (Err Nothing)) ≡ lines.Done x))
+unasked_says core op None e =
+    let line = line_text (Submit core op) (Err Nothing) in
+    let parts = event_parts (Submit core op) in
+    let skips' : lines.said_act line parts (told_parts (Err Nothing)) (lines.act_of parts) ≡ lines.Skipped = rw (e, decimal_number core) refl in
+    inl (words_say (Submit core op) (Err Nothing) refl ∙ skips')
+unasked_says core op (Some there) e =
+    let line = line_text (Submit core op) (Err Nothing) in
+    let parts = event_parts (Submit core op) in
+    let x : Shown = record { event = record { act = act.Submit there; told = told.Fault }; no = true; version = []; text = line } in
+    let says' : lines.said_act line parts (told_parts (Err Nothing)) (lines.act_of parts) ≡ lines.Done x = rw e refl in
+    inr (x, words_say (Submit core op) (Err Nothing) refl ∙ says')
 
 -- the event's line, and its text
 pub told_line_is : (e : Event) (t : Result Answer WorldFault) → event_line e t ≡ line_text e t ++ 10 ∷ []
@@ -176,3 +201,14 @@ adds_shown line x lacks says rest later is =
 pub adds_skipped : (line : List ℕ) → Lacks is_lf line → said_of line ≡ lines.Skipped → Adds (line ++ 10 ∷ []) []
 adds_skipped line lacks says rest later is =
     line_first line rest lacks ∙ ap (λ s. outcome (s ∷ said_in (slice_split is_lf rest))) says ∙ skipped_first (said_in (slice_split is_lf rest)) later is
+
+-- that nothing was asked for
+pub unasked_adds : (core : ℕ) (op : Op) → (xs : List Shown) × Adds (event_line (Submit core op) (Err Nothing)) xs
+unasked_adds core op =
+    let e = Submit core op in
+    let line = line_text e (Err Nothing) in
+    let adds : (xs : List Shown) → Adds (line ++ 10 ∷ []) xs → Adds (event_line e (Err Nothing)) xs = λ xs a. subst (λ (l : List ℕ). Adds l xs) (sym (told_line_is e (Err Nothing))) a in
+    elim (unasked_says core op (lines.core_of (decimal core)) refl) [
+      | inl skipped ↦ ([], adds [] (adds_skipped line (line_lf e (Err Nothing)) skipped))
+      | inr done ↦ (done.0 ∷ [], adds (done.0 ∷ []) (adds_shown line done.0 (line_lf e (Err Nothing)) done.1))
+    ]

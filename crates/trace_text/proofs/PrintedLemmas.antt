@@ -37,7 +37,7 @@ missing_adds : (e : Event) → Adds (event_line e (Err NoSuchCore)) []
 missing_adds e =
     subst (λ (l : List ℕ). Adds l []) (sym (told_line_is e (Err NoSuchCore))) (adds_skipped (line_text e (Err NoSuchCore)) (line_lf e (Err NoSuchCore)) (missing_line_says e))
 
-told_adds : (e : Event) (t : Result Answer WorldFault) → CanDraw e t → Adds (event_line e t) (drawn_of (Told e t))
+pub told_adds : (e : Event) (t : Result Answer WorldFault) → CanDraw e t → Adds (event_line e t) (drawn_of (Told e t))
 told_adds e (Ok answer) can = done_adds e answer can
 told_adds e (Err NoSuchCore) can = missing_adds e
 told_adds e (Err Nothing) can = event_adds e (Err Nothing) (shown_of e (Err Nothing)) (fault_line_says e Nothing can refl)
@@ -129,12 +129,12 @@ filters_add : (filters : List ListedFilter) → Adds (flat_map filter_line filte
 filters_add [] = adds_none
 filters_add (f ∷ filters) = adds_both (filter_line f) (flat_map filter_line filters) [] [] (filter_adds f) (filters_add filters)
 
-table_adds : (core : ℕ) (s : TableState) → Adds (table_text core s) []
+pub table_adds : (core : ℕ) (s : TableState) → Adds (table_text core s) []
 table_adds core s =
     adds_both (total_line core s ++ flat_map cap_line s.caps.held) (flat_map filter_line s.filters) [] []
     (adds_both (total_line core s) (flat_map cap_line s.caps.held) [] [] (total_adds core s) (caps_add s.caps.held)) (filters_add s.filters)
 
-no_table_adds : (core : ℕ) → Adds (printed_text (NoTable core)) []
+pub no_table_adds : (core : ℕ) → Adds (printed_text (NoTable core)) []
 no_table_adds core =
     let fault = codes ": fault NoSuchCore" in
     subst (λ (l : List ℕ). Adds l []) (append_assoc (codes "show " ++ decimal core) fault (10 ∷ []))

@@ -60,11 +60,11 @@ mapped : (o : Option Peer) (version : ℕ) → option_map (λ (p : Peer). p.vers
 mapped None version e = absurd (cc)
 mapped (Some p) version e = (p, refl)
 
-at_version : (w : World) (core version : ℕ) → length w.peers < 64 → version_at w core ≡ Some version → core < 64
+pub at_version : (w : World) (core version : ℕ) → length w.peers < 64 → version_at w core ≡ Some version → core < 64
 at_version w zero version few e = omega arith
 at_version w (suc entry) version few e = let p = mapped (slice_get w.peers entry) version e in omega (arith, few, slice_get_within w.peers entry p.0 p.1)
 
-can_draw : (w w' : World) (event : Event) (answer : Answer) → length w.peers < 64 → length w.requests.waiting ≡ length w.peers → Happens w event w' answer → CanDraw event (Ok answer)
+pub can_draw : (w w' : World) (event : Event) (answer : Answer) → length w.peers < 64 → length w.requests.waiting ≡ length w.peers → Happens w event w' answer → CanDraw event (Ok answer)
 can_draw w w' (Start op) answer few long h = (tt, subst (IsAnswered (Start op)) (sym h.here.is_answer) (started op h.told.txn h.told.decided))
 can_draw w w' (Submit (suc entry) op) answer few long h =
     (omega (arith, few, slice_get_within w.peers entry h.peer h.is_peer), subst (IsAnswered (Submit (suc entry) op)) (sym h.here.is_answer) tt)

@@ -53,7 +53,7 @@ pub fn traces_are_read_back()
 ///
 /// So too among all that is printed: an event that wasn't done is read as such a one, and no line of a table or of a core that
 /// isn't there is read as an event or refused. The cores of an event have to be below 64, and its answer one to such an event, as in
-/// every run. One line that `sim` prints isn't among these, and `draw` refuses it: `submit C: fault Nothing`, where C is 64 or more.
+/// every run. Nothing is drawn of `submit C: fault Nothing` where C is 64 or more.
 pub fn printed_lines_are_drawn()
     ensures events { (events : List Done) (left : List (ℕ × ℕ)) → All CanDrawDone events →
         drawn.trace_of (flat_map done_line events ++ flat_map (λ l. left_line l.0 l.1) left) ≡ Ok (map shown_done events) }
