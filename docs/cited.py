@@ -166,6 +166,7 @@ class Sources:
         self.models = {}  # crate and type -> the text of the model's value, and its scope
         self.functions = {}  # crate and name -> function
         self.passed_on = {}  # crate and type -> the crate whose type it passes on
+        self.shared = {}  # crate and the modules' names -> the names that the file passes on, as a scope has imports
         for path in sorted(self.top.glob("crates/*/specs/**/*.antt")):
             self.read_specs(path)
         for path in sorted(self.top.glob("crates/*/src/**/*.rt")):
@@ -181,7 +182,10 @@ class Sources:
         heads, indent = [], ""
         for at, line in enumerate(bare):
             if re.match(r"(pub )?(use|mod) ", line):
-                scope.imports.update(imports_of(joined_statement(bare, at, lambda text: text.count("{") == text.count("}"))[0]))
+                brought = imports_of(joined_statement(bare, at, lambda text: text.count("{") == text.count("}"))[0])
+                scope.imports.update(brought)
+                if line.startswith("pub use "):
+                    self.shared.setdefault((crate, modules), {}).update(brought)
             elif line.startswith("module "):
                 indent = "  "
                 heads.append((at, None))
@@ -439,6 +443,9 @@ class Cited:
         if names[0] in ("declared", "contracts"):
             return self.made_of_code(crate, names[1:], path)
         key = self.sources.modules.get((crate, names[:-1]), {}).get(names[-1])
+        shared = self.sources.shared.get((crate, names[:-1]), {})
+        if key is None and names[-1] in shared:
+            return self.resolve(*shared[names[-1]], rest)
         if key is None and (crate, names) not in self.sources.modules:
             raise Unknown(f"{'.'.join(path)}: there is no such definition")
         return key

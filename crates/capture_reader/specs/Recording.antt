@@ -1,5 +1,4 @@
--- What a feed holds of the bytes of a savefile (pcap-savefile(5) of libpcap, cut anywhere). No public clause cites these but through
--- Holding.
+-- What a feed holds of the bytes of a savefile (pcap-savefile(5) of libpcap, cut anywhere).
 use Rattle.std.specs.Prelude.{◌≡◌, ℕ, ◌+◌, ◌-◌, ◌<◌, ◌≤◌, ◌⊎◌, Bool, List, [], ◌++◌, length, drop, take, Option, Some, None, Result, Ok, Err, ⊤}
 use Rattle.std.specs.List.{AllZip, concat}
 use Rattle.pcap_reader.specs.declared.capture.Header.{Header}

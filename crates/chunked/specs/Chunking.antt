@@ -1,4 +1,5 @@
 -- The value that contracts see of the chunks of a list.
+-- No public clause cites these.
 use Rattle.std.specs.Prelude.{List, Bool}
 
 -- the chunks, and whether one more item takes no memory

@@ -1,4 +1,5 @@
 -- Lists that lie in chunks.
+-- No public clause cites these.
 use Rattle.std.specs.Prelude.{◌≡◌, ◌+◌, ◌<◌, ◌≤◌, ◌++◌, ◌⊎◌, ℕ, List, [], ◌∷◌, Bool, true, false, length, map, take, suc, slice_set, slice_index_or, vec_len, vec_capacity}
 use Rattle.std.specs.List.{All, flat_map, insert, remove}
 use Rattle.std.specs.Global.{Vec}

@@ -1,4 +1,5 @@
 -- Entries in the order of their keys, as a list.
+-- No public clause cites these.
 use Rattle.std.specs.Prelude.{◌≡◌, ◌+◌, ◌<◌, ◌≤◌, ◌^◌, ℕ, List, [], ◌∷◌, true, Some, None, length, map, take, drop, slice_get, vec_len, vec_capacity}
 use Rattle.std.specs.Global.{Vec}
 use Rattle.chunked.specs.Chunks.{whole, before, chunk_at}

@@ -1,4 +1,5 @@
 -- Where the chunks of a list begin.
+-- No public clause cites these.
 use Rattle.std.specs.Prelude.{◌≡◌, ◌+◌, ◌-◌, ◌<◌, ◌++◌, ◌^◌, ℕ, suc, List, [], ◌∷◌, true, length, map, take, drop, vec_len, vec_capacity}
 use Rattle.std.specs.List.{remove}
 use Rattle.std.specs.Global.{Vec}

@@ -1,4 +1,5 @@
 -- What was run of a capture that comes in pieces: the packets that are whole so far.
+-- No public clause cites these.
 use Rattle.std.specs.Prelude.{◌≡◌, ℕ, ◌<◌, ◌≤◌, ◌^◌, List, [], ◌++◌, length, All, ◌∷◌, Option, Some, None, Bool, true, false, if◌then◌else◌}
 use Rattle.std.specs.List.{AllZip}
 use Rattle.std.specs.Io.KnownBytes.{IsAtEnd}

@@ -1,4 +1,5 @@
 -- What the thread that puts the jobs does to the outlets.
+-- No public clause cites these.
 use Rattle.std.specs.Prelude.{◌≡◌, ◌++◌, List, None, option_to_list}
 use Rattle.std.specs.Global.{Global}
 use Rattle.std.specs.declared.collections.VecDeque.{VecDeque}

@@ -1,4 +1,5 @@
 -- What the joined threads come to.
+-- No public clause cites these.
 use Rattle.std.specs.Prelude.{◌≡◌, ◌<◌, ◌++◌, ℕ, All, List, map, length, Option, Some, slice_get}
 use Rattle.rx_queue.specs.declared.job.Job.{Job}
 use Rattle.rx_queue.specs.Queue.{jobs_taken}

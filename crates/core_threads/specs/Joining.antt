@@ -1,4 +1,5 @@
 -- What all threads give back.
+-- No public clause cites these.
 use Rattle.std.specs.Prelude.{List}
 use Rattle.std.specs.List.{AllZip}
 use Rattle.core_join.specs.Machines.{RingCore}

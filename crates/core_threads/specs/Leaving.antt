@@ -1,4 +1,5 @@
 -- The jobs that are left when all threads are joined.
+-- No public clause cites these.
 use Rattle.std.specs.Prelude.{◌≡◌, ◌<◌, ◌++◌, ℕ, All, List, map, length, Some, slice_get}
 use Rattle.rx_queue.specs.declared.job.Job.{Job}
 use Rattle.rx_queue.specs.Queue.{AreEnds, SameIntake, jobs_taken}

@@ -1,4 +1,5 @@
 -- The outlets before a run.
+-- No public clause cites these.
 use Rattle.std.specs.Prelude.{◌≡◌, ℕ, List, length, Some, slice_get}
 use Rattle.rx_queue.specs.declared.job.Job.{Job}
 use Rattle.rx_queue.specs.declared.port.Port.{Port}

@@ -1,4 +1,5 @@
 -- Cores before their lists.
+-- No public clause cites these.
 use Rattle.std.specs.Prelude.{◌≡◌, ℕ, List, [], Some, slice_get}
 use Rattle.core_join.specs.Machines.{RingCore}
 

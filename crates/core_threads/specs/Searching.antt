@@ -1,4 +1,5 @@
 -- Which core halted, and which has something to do.
+-- No public clause cites these.
 use Rattle.std.specs.Prelude.{◌≡◌, ◌⊎◌, ◌<◌, ℕ, List, ◌∷◌, Some, None, slice_get}
 use Rattle.rx_queue.specs.declared.job.Job.{Job}
 use Rattle.core_join.specs.Machines.{RingCore}

@@ -1,4 +1,5 @@
 -- What a watcher is asked, and what it is told.
+-- No public clause cites these.
 use Rattle.std.specs.Prelude.{◌≡◌, ◌⊎◌, ◌++◌, ℕ, Bool, false, true, List, [], ◌∷◌, flat_map}
 use mathlib.Core.List.{IsPrefix}
 use Rattle.rx_queue.specs.declared.job.Job.{Job}

@@ -1,5 +1,4 @@
 -- What settling does one take at a time, and what it brings to an end.
--- No public clause cites these.
 use Rattle.std.specs.Prelude.{◌≡◌, ◌+◌, ◌*◌, ◌<◌, ℕ, Option, None, Some, List, [], ◌∷◌, slice_get}
 use Rattle.monitor_messages.specs.declared.message.Message.{Message}
 use Rattle.monitor_messages.specs.declared.message.Message.TheVariants as message
