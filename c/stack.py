@@ -14,11 +14,11 @@ import sys
 
 # Bytes that a call may take; all that aren't named take at most 2,048.
 MOST = {
-    "mkdemux_boot_cores": 17280,
-    "mkdemux_boot_limits_cores": 17280,
-    "mkdemux_turn": 9344,
-    "mkdemux_settle": 9344,
-    "mkdemux_close_core": 4960,
+    "mkdemux_boot_cores": 10080,
+    "mkdemux_boot_limits_cores": 10080,
+    "mkdemux_turn": 6368,
+    "mkdemux_settle": 6368,
+    "mkdemux_close_core": 3328,
     "mkdemux_assemble": 6656,
 }
 OTHERS = 2048

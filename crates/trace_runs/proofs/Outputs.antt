@@ -128,9 +128,9 @@ module _ (limits : TableLimits) (budget : ℕ) (budgets : List ℕ) (few : lengt
 
   settled_read : (w w' : World) (taken : List Done) → Reached limits budget budgets w → Settles w taken w' → IsRead (flat_map done_line taken)
   settled_read w w' [] run settles = none_read
-  settled_read w w' (done ∷ taken) run settles =
-      both_read (done_line done) (flat_map done_line taken) (told_read w settles.0 done.event (Ok done.answer) (done_line done) run settles.2 refl)
-      (settled_read settles.0 w' taken (reached_more limits budget budgets w settles.0 done.event done.answer run settles.2) settles.3)
+  settled_read w w' (d ∷ taken) run settles =
+      both_read (done_line d) (flat_map done_line taken) (told_read w settles.0 d.event (Ok d.answer) (done_line d) run settles.2 refl)
+      (settled_read settles.0 w' taken (reached_more limits budget budgets w settles.0 d.event d.answer run settles.2) settles.3)
 
   quiets_read : (w w' : World) (text : List ℕ) → Reached limits budget budgets w → Quiets w w' text → IsRead text
   quiets_read w w' text run quiets = subst IsRead (sym quiets.printed) (settled_read w w' quiets.taken run quiets.settles)
