@@ -13,11 +13,10 @@ use Rattle.world_events.specs.declared.event.Answer.{Answer}
 use Rattle.world_events.specs.declared.event.Done.{Done}
 use Rattle.world_events.specs.declared.fault.WorldFault.{WorldFault}
 use Rattle.world_events.specs.declared.fault.WorldFault.TheVariants.{NoSuchCore, Nothing, NotReady, NotIdle, Spent, Outstanding, NoneWaiting, NoMemory}
-use Rattle.world_model.specs.Worlds.{Peer, World, boot, Happens, version_at}
+use Rattle.world_model.specs.Worlds.{Peer, World, boot}
 use Rattle.world_model.proofs.Known.{run_known}
 use Rattle.world_core.specs.Refusals.{Reached, Settles, WorldRefuses, channel}
 use Rattle.sim_lines.specs.Events.{event_line, done_line, event_words, told_words}
-use Rattle.sim_lines.specs.Tables.{table_text}
 use Rattle.mk_script.specs.declared.script.Script.{Script}
 use Rattle.mk_script.specs.Limits.{HasLimits}
 use Rattle.mk_script.specs.Scripts.{Stands}
@@ -31,11 +30,10 @@ use Rattle.trace_runs.specs.Printed.{events_of}
 use Rattle.trace_runs.proofs.Joined.{by_number, left_is}
 use Rattle.mk_script.specs.declared.script.Item.{Item}
 use Rattle.mk_script.specs.declared.script.Item.TheVariants as item
-use Rattle.sim_engine.specs.declared.requests.PendingRequest.{PendingRequest}
 use Rattle.sim_engine.specs.declared.way.Way.{Way}
 use Rattle.sim_engine.specs.declared.way.Way.TheVariants as way
 use Rattle.sim_engine.specs.Ways.{event_of}
-use Rattle.sim_engine.specs.Simulations.{Simulation, Tells, Applies, Begins, nothing, done, refused, nothing_line, Quiets, Drains, ends, stops, goes_on, SettlesAll, Shows, no_core_line, Does, Performs, just}
+use Rattle.sim_engine.specs.Simulations.{Simulation, Tells, Begins, nothing, done, refused, nothing_line, Quiets, Drains, ends, stops, goes_on, SettlesAll, Shows, Does, Performs, just}
 use Rattle.sim_engine.specs.Showing.{ShowsItems, ShowsScript, ShowsSim}
 use Rattle.sim_engine.proofs.Twice.{reached_told, reached_more, reached_settled}
 use Rattle.sim_engine.proofs.Items.{reached_does}
@@ -176,7 +174,7 @@ pub items_drawn : (limits : TableLimits) (budgets : List ℕ) (items : List Item
     → (drawn : List Shown) × (trace_of text ≡ Ok drawn)
 items_drawn limits budgets items text few shows =
     let fewer : length shows.1 < 64 = omega (arith, few, ap (λ (bs : List ℕ). length bs) shows.2) in
-    let read = performed_read limits shows.0 shows.1 fewer (just (boot limits shows.0 shows.1)) shows.3 items text ([], refl) shows.4 in
+    let read = performed_read limits shows.0 shows.1 fewer (just (boot limits shows.0 shows.1)) shows.3.0 items text ([], refl) shows.3.1 in
     (read.0, adds_all text read.0 read.1)
 
 -- all that `sim` shows of a script
