@@ -32,8 +32,11 @@ nat_same a b e = ranked a b Equal (sym e)
 shape_total : IsTotalOrder shape_cmp
 shape_total = then_total (on_total (λ (i : Insn). i.code) nat_cmp_total) (then_total (on_total (λ (i : Insn). i.jt) nat_cmp_total) (on_total (λ (i : Insn). i.jf) nat_cmp_total))
 
+constant_total : IsTotalOrder constant_cmp
+constant_total = on_total (λ (i : Insn). i.k) nat_cmp_total
+
 pub program_total : IsTotalOrder program_cmp
-program_total = then_total (lists_total shape_total) (lists_total (on_total (λ (i : Insn). i.k) nat_cmp_total))
+program_total = then_total (lists_total shape_total) (lists_total constant_total)
 
 insn_same : (a b : Insn) → shape_cmp a b ≡ Equal → constant_cmp a b ≡ Equal → a ≡ b
 insn_same a b shape constant = λ j. record { code = code j; jt = jt j; jf = jf j; k = k j }
@@ -92,6 +95,11 @@ tied_of : (o : Ordering) → is_gt o ≡ false → (o ≡ Less → ⊥) → o �
 tied_of Less most not = absurd (not refl)
 tied_of Equal most not = refl
 tied_of Greater most not = absurd cc
+
+then_nothing : (a : Ordering) → ordering_then a Equal ≡ a
+then_nothing Less = refl
+then_nothing Equal = refl
+then_nothing Greater = refl
 
 then_three : (a b c : Ordering) → ordering_then (ordering_then a b) c ≡ ordering_then a (ordering_then b c)
 then_three Less b c = refl
@@ -191,6 +199,13 @@ module _ (p q : List Insn) (i end : ℕ) (constants : Ordering) (h : Compared p 
           ∙ (ap (λ (c : Ordering). ordering_then constants (ordering_then c (slice_cmp constant_cmp (drop (i + 1) p) (drop (i + 1) q)))) is'
           ∙ (ap (ordering_then constants) (sym (begun p q i x y at at' constant_cmp)) ∙ h.constants));
     }
+
+    pub compared_same : x ≡ y → i < end → Compared p q (i + 1) end constants
+    compared_same same low = subst (λ (o : Ordering). Compared p q (i + 1) end o) (then_nothing constants)
+        (compared_more Equal Equal (sym (alike shape_cmp shape_total)) refl (sym (alike constant_cmp constant_total)) low)
+      where
+        alike : (R : Insn → Insn → Ordering) → IsTotalOrder R → R x y ≡ Equal
+        alike R total = subst (λ (z : Insn). R x z ≡ Equal) same (tied_itself total x)
 
 -- The order
 

@@ -21,7 +21,7 @@ fn shape_order(a: Insn, b: Insn) -> Ordering
         .then(a.jt.cmp(&b.jt).then(a.jf.cmp(&b.jf)))
 }
 
-/// Whether two instructions differ at most in their constants. Most that are compared do: this takes less than their order.
+/// Whether two instructions differ at most in their constants.
 #[inline(always)]
 fn is_alike(a: Insn, b: Insn) -> bool
     ensures same { IsTrue result → shape_cmp a b ≡ Equal }
@@ -39,10 +39,13 @@ fn program_order(a: &[Insn], b: &[Insn]) -> Ordering
     for place in 0..a.len().min(b.len()) {
         let one = a[place];
         let other = b[place];
-        if !is_alike(one, other) {
-            return shape_order(one, other);
+        // Most that are compared are the same: this takes less than their order.
+        if one != other {
+            if !is_alike(one, other) {
+                return shape_order(one, other);
+            }
+            constants = constants.then(one.k.cmp(&other.k));
         }
-        constants = constants.then(one.k.cmp(&other.k));
     }
     a.len().cmp(&b.len()).then(constants)
 }
